@@ -1,0 +1,100 @@
+-- Worked examples of the definitions.
+use Rattle.std.proofs.Common.{◌≡◌, ℕ, List, [], ◌∷◌, ◌++◌, refl, Option, Some, None, ℤ, pos, negsuc, codes, subst, sym, true}
+use Rattle.mail_core.specs.Calendar.{days_before_year, days_of_months}
+use Rattle.mbox_core.specs.Written.{heading, time_text, date_after, year_after, month_after, written}
+use Rattle.mbox_core.specs.Lines.{lines, content}
+use Rattle.mbox_core.specs.Separator.{Envelope, tokens, day_of, clock_of, year_of, month_of, is_weekday, instant_of, dated, six_tokens, separator_of}
+use Rattle.mbox_core.specs.Division.{Item, Split, Divides, items_of, split_lines, body, whole}
+
+two_lines : lines (codes "ab\n\nc") ≡ codes "ab\n" ∷ codes "\n" ∷ codes "c" ∷ []
+unfolding lines
+two_lines = refl
+
+crlf : content (codes "ab\r\n") ≡ codes "ab"
+unfolding content
+crlf = refl
+
+separator_one : separator_of (codes "From a@b Tue Mar  4 10:00:00 2003") ≡ Some (record { sender = codes "a@b"; arrival = pos 1046772000 })
+unfolding separator_of six_tokens dated instant_of is_weekday month_of year_of clock_of day_of tokens days_before_year days_of_months
+separator_one = refl
+
+-- no seconds, and a dash for a sender
+separator_short : separator_of (codes "From - Tue Mar  4 10:00 2003") ≡ Some (record { sender = codes "-"; arrival = pos 1046772000 })
+unfolding separator_of six_tokens dated instant_of is_weekday month_of year_of clock_of day_of tokens days_before_year days_of_months
+separator_short = refl
+
+-- seven tokens, of which the third is no weekday
+separator_none : separator_of (codes "From a b Tue Mar 4 10:00:00 2003") ≡ None
+unfolding separator_of six_tokens dated instant_of is_weekday month_of year_of clock_of day_of tokens days_before_year days_of_months
+separator_none = refl
+
+-- a day that February lacks
+separator_february : separator_of (codes "From a@b Tue Feb 30 10:00:00 2003") ≡ None
+unfolding separator_of six_tokens dated instant_of is_weekday month_of year_of clock_of day_of tokens days_before_year days_of_months
+separator_february = refl
+
+-- nothing, and blank lines alone
+none_of_nothing : split_lines true (lines []) ≡ record { front = []; items = [] }
+unfolding split_lines lines
+none_of_nothing = refl
+
+none_of_blanks : items_of (codes "\n\n") ≡ []
+unfolding separator_of six_tokens split_lines lines content
+none_of_blanks = refl
+
+-- an empty text
+empty_text : items_of (codes "From a@b Tue Mar  4 10:00:00 2003\n\n") ≡ record { envelope = record { sender = codes "a@b"; arrival = pos 1046772000 }; text = [] } ∷ []
+unfolding separator_of six_tokens dated instant_of is_weekday month_of year_of clock_of day_of tokens days_before_year days_of_months split_lines lines content body
+empty_text = refl
+
+-- two messages
+two_messages : items_of (codes "From anna@example.org Tue Mar  4 10:00:00 2003\nFrom: Anna <anna@example.org>\nSubject: Hello\n\nOne.\n\nFrom bob@example.org Wed Mar 12 10:30:00 2003\nSubject: Re: Hello\n\nTwo.\n\n")
+    ≡ record { envelope = record { sender = codes "anna@example.org"; arrival = pos 1046772000 }; text = codes "From: Anna <anna@example.org>\nSubject: Hello\n\nOne.\n" }
+    ∷ record { envelope = record { sender = codes "bob@example.org"; arrival = pos 1047465000 }; text = codes "Subject: Re: Hello\n\nTwo.\n" } ∷ []
+unfolding separator_of six_tokens dated instant_of is_weekday month_of year_of clock_of day_of tokens days_before_year days_of_months split_lines lines content body
+two_messages = refl
+
+-- lines that look alike and are text
+text_alike : items_of (codes "From a@b Tue Mar  4 10:00:00 2003\n\nFrom here on we sail.\nFrom bob@example.org Wed Mar 12 10:30:00 2003\n\nFrom a b Tue Mar 4 10:00:00 2003\n")
+    ≡ record { envelope = record { sender = codes "a@b"; arrival = pos 1046772000 }; text = codes "\nFrom here on we sail.\nFrom bob@example.org Wed Mar 12 10:30:00 2003\n\nFrom a b Tue Mar 4 10:00:00 2003\n" } ∷ []
+unfolding separator_of six_tokens dated instant_of is_weekday month_of year_of clock_of day_of tokens days_before_year days_of_months split_lines lines content body
+text_alike = refl
+
+-- no LF at the end
+no_end : items_of (codes "From a@b Tue Mar  4 10:00:00 2003\nhello") ≡ record { envelope = record { sender = codes "a@b"; arrival = pos 1046772000 }; text = codes "hello" } ∷ []
+unfolding separator_of six_tokens dated instant_of is_weekday month_of year_of clock_of day_of tokens days_before_year days_of_months split_lines lines content body
+no_end = refl
+
+whole_no_end : whole (codes "hello") ≡ codes "hello\n"
+whole_no_end = refl
+
+-- what stands before the first separator line
+preamble : (split_lines true (lines (codes "\nhi\nFrom a@b Tue Mar  4 10:00:00 2003\n"))).front ≡ codes "\n" ∷ codes "hi\n" ∷ codes "From a@b Tue Mar  4 10:00:00 2003\n" ∷ []
+unfolding separator_of six_tokens dated instant_of is_weekday month_of year_of clock_of day_of tokens days_before_year days_of_months split_lines lines content body
+preamble = refl
+
+-- ---- writing
+
+-- a day of one digit is padded by a space, and the weekday is the right one
+heading_padded : heading (record { sender = codes "a@b"; arrival = pos 1046772000 }) ≡ codes "From a@b Tue Mar  4 10:00:00 2003"
+unfolding time_text date_after year_after month_after days_before_year days_of_months
+heading_padded = refl
+
+-- the first second of the years, and the last
+heading_first : heading (record { sender = codes "-"; arrival = negsuc 2208988799 }) ≡ codes "From - Mon Jan  1 00:00:00 1900"
+unfolding time_text date_after year_after month_after days_before_year days_of_months
+heading_first = refl
+
+heading_last : heading (record { sender = codes "-"; arrival = pos 253370764799 }) ≡ codes "From - Thu Dec 31 23:59:59 9998"
+unfolding time_text date_after year_after month_after days_before_year days_of_months
+heading_last = refl
+
+-- a leap day
+heading_leap : heading (record { sender = codes "-"; arrival = pos 951827696 }) ≡ codes "From - Tue Feb 29 12:34:56 2000"
+unfolding time_text date_after year_after month_after days_before_year days_of_months
+heading_leap = refl
+
+-- a text with no LF at its end is written whole, and an empty line follows
+written_no_end : written (record { envelope = record { sender = codes "a@b"; arrival = pos 1046772000 }; text = codes "hello" } ∷ []) ≡ codes "From a@b Tue Mar  4 10:00:00 2003\nhello\n\n"
+unfolding time_text date_after year_after month_after days_before_year days_of_months
+written_no_end = refl

@@ -1,0 +1,107 @@
+-- What an mbox is made of (RFC 4155).
+use Rattle.std.specs.Prelude.{◌≡◌, ◌≢◌, ℕ, ◌+◌, ◌-◌, ◌==◌, Bool, true, false, not, ◌&&◌, ◌||◌, ◌⊎◌, List, [], ◌∷◌, ◌++◌, length, take, slice_index, if◌then◌else◌, Option, Some, None, is_some, ℤ, flat_map}
+use Rattle.std.specs.List.{concat, AllByRecursion}
+use Rattle.mbox_core.specs.Lines.{lines, content, is_blank, ends_in}
+use Rattle.mbox_core.specs.Separator.{Envelope, IsSeparator, separator_of}
+
+-- a message as it stands in the file
+pub record Item : Type 0 where
+  pub envelope : Envelope
+  pub text : List ℕ
+
+abbrev pub IsBlank : List ℕ → Type 0
+IsBlank line = content line ≡ []
+
+-- a line that says some envelope
+abbrev pub IsSeparatorLine : List ℕ → Type 0
+IsSeparatorLine line = (e : Envelope) × IsSeparator (content line) e
+
+-- no separator line follows an empty line
+abbrev pub NoneSeparates : List (List ℕ) → Type 0
+NoneSeparates [] = Unit {0}
+NoneSeparates (l ∷ []) = Unit {0}
+NoneSeparates (l ∷ m ∷ ls) = (IsBlank l → ¬ IsSeparatorLine m) × NoneSeparates (m ∷ ls)
+
+-- the last of some lines is not empty
+abbrev pub EndsUnblank : List (List ℕ) → Type 0
+EndsUnblank [] = Unit {0}
+EndsUnblank (l ∷ []) = ¬ IsBlank l
+EndsUnblank (l ∷ m ∷ ls) = EndsUnblank (m ∷ ls)
+
+-- The lines are, for each item, a separator line, the lines of its text, and one empty line.
+-- For the last item that empty line is missing where the last line is not empty.
+abbrev pub AreBlocks : List Item → List (List ℕ) → Type 0
+AreBlocks [] ls = ls ≡ []
+AreBlocks (i ∷ is) ls = (heading : List ℕ) × IsSeparator (content heading) i.envelope × NoneSeparates (lines i.text) × (
+    ((is ≡ []) × (ls ≡ heading ∷ lines i.text) × EndsUnblank ls)
+    ⊎ ((blank : List ℕ) × (rest : List (List ℕ)) × IsBlank blank × (ls ≡ heading ∷ lines i.text ++ blank ∷ rest) × AreBlocks is rest))
+
+-- The division of some bytes into items: the lines are empty lines, and then those of the items.
+abbrev pub Divides : List ℕ → List Item → Type 0
+Divides bytes items = (blanks : List (List ℕ)) × (rest : List (List ℕ))
+    × (lines bytes ≡ blanks ++ rest) × AllByRecursion IsBlank blanks × AreBlocks items rest
+
+-- The first line that is not empty begins at this offset, and is no separator line.
+pub record IsPreamble (bytes : List ℕ) (offset : ℕ) : Type 0 where
+  pub blanks : List (List ℕ)
+  pub line : List ℕ
+  pub rest : List (List ℕ)
+  pub are_lines : lines bytes ≡ blanks ++ line ∷ rest
+  pub all_blank : AllByRecursion IsBlank blanks
+  pub some : ¬ IsBlank line
+  pub none : ¬ IsSeparatorLine line
+  pub at : offset ≡ length (concat blanks)
+
+-- the text is empty or ends in LF
+abbrev pub is_whole : List ℕ → Bool
+is_whole text = length text == 0 || ends_in 10 text
+
+-- the whole text of a message
+abbrev pub whole : List ℕ → List ℕ
+whole text = if is_whole text then text else text ++ 10 ∷ []
+
+-- ---- the division, computed: a fold over the lines from the last to the first
+
+-- the text of the lines after a separator line: an empty line at their end is left out
+unfoldable pub body : List (List ℕ) → List ℕ
+body [] = []
+body (l ∷ []) = if is_blank l then [] else l
+body (l ∷ m ∷ ls) = l ++ body (m ∷ ls)
+
+-- the lines before the first separating line, and the items from there on
+pub record Split : Type 0 where
+  pub front : List (List ℕ)
+  pub items : List Item
+
+abbrev pub with_line : List ℕ → Split → Split
+with_line l s = record { front = l ∷ s.front; items = s.items }
+
+abbrev pub with_item : Envelope → Split → Split
+with_item e s = record { front = []; items = record { envelope = e; text = body s.front } ∷ s.items }
+
+-- what a line does that may separate
+abbrev pub headed : Option Envelope → List ℕ → (Bool → Split) → Split
+headed None l go = with_line l (go (is_blank l))
+headed (Some e) l go = with_item e (go false)
+
+-- `after_blank`: the lines follow an empty line, or are the first
+unfoldable pub split_lines : Bool → List (List ℕ) → Split
+split_lines after_blank [] = record { front = []; items = [] }
+split_lines after_blank (l ∷ ls) = headed (if after_blank then separator_of (content l) else None) l (λ b. split_lines b ls)
+
+-- the items of a file that begins with blank lines and a separator line, or has blank lines alone
+abbrev pub items_of : List ℕ → List Item
+items_of bytes = (split_lines true (lines bytes)).items
+
+-- what follows a separator line of this envelope, or nothing where there was none
+abbrev pub items_after : Option Envelope → List ℕ → List Item
+items_after None bytes = []
+items_after (Some e) bytes = (with_item e (split_lines false (lines bytes))).items
+
+-- the text before the first separating line
+abbrev pub text_in : List ℕ → List ℕ
+text_in bytes = body (split_lines false (lines bytes)).front
+
+-- the items from the first separating line on
+abbrev pub items_in : List ℕ → List Item
+items_in bytes = (split_lines false (lines bytes)).items
