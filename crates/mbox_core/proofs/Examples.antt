@@ -5,6 +5,7 @@ use Rattle.mbox_core.specs.Written.{heading, time_text, date_after, year_after, 
 use Rattle.mbox_core.specs.Lines.{lines, content}
 use Rattle.mbox_core.specs.Separator.{Envelope, tokens, day_of, clock_of, year_of, month_of, is_weekday, instant_of, dated, six_tokens, separator_of}
 use Rattle.mbox_core.specs.Division.{Item, Split, Divides, items_of, split_lines, body, whole}
+use Rattle.mbox_core.proofs.DivisionLaws.{front_divides}
 
 two_lines : lines (codes "ab\n\nc") ≡ codes "ab\n" ∷ codes "\n" ∷ codes "c" ∷ []
 unfolding lines
@@ -72,6 +73,13 @@ whole_no_end = refl
 preamble : (split_lines true (lines (codes "\nhi\nFrom a@b Tue Mar  4 10:00:00 2003\n"))).front ≡ codes "\n" ∷ codes "hi\n" ∷ codes "From a@b Tue Mar  4 10:00:00 2003\n" ∷ []
 unfolding separator_of six_tokens dated instant_of is_weekday month_of year_of clock_of day_of tokens days_before_year days_of_months split_lines lines content body
 preamble = refl
+
+-- the relation itself, by the law that what is computed is a division
+alike_divides : Divides (codes "From a@b Tue Mar  4 10:00:00 2003\n\nFrom here on we sail.\nFrom bob@example.org Wed Mar 12 10:30:00 2003\n\nFrom a b Tue Mar 4 10:00:00 2003\n")
+    (record { envelope = record { sender = codes "a@b"; arrival = pos 1046772000 }; text = codes "\nFrom here on we sail.\nFrom bob@example.org Wed Mar 12 10:30:00 2003\n\nFrom a b Tue Mar 4 10:00:00 2003\n" } ∷ [])
+unfolding separator_of six_tokens dated instant_of is_weekday month_of year_of clock_of day_of tokens days_before_year days_of_months split_lines lines content body
+alike_divides = subst (Divides (codes "From a@b Tue Mar  4 10:00:00 2003\n\nFrom here on we sail.\nFrom bob@example.org Wed Mar 12 10:30:00 2003\n\nFrom a b Tue Mar 4 10:00:00 2003\n")) text_alike
+    (front_divides (codes "From a@b Tue Mar  4 10:00:00 2003\n\nFrom here on we sail.\nFrom bob@example.org Wed Mar 12 10:30:00 2003\n\nFrom a b Tue Mar 4 10:00:00 2003\n") tt)
 
 -- ---- writing
 

@@ -2,3 +2,5 @@ pub mod Lines
 pub mod Separator
 pub mod Division
 pub mod Written
+pub mod Senders
+pub mod Faults

@@ -1,2 +1,20 @@
 //! Mbox files (RFC 4155): separator lines, cutting a file into its messages, writing messages.
+//!
+//! Reading allocates nothing: each item's text is a slice of the file's own bytes. What is proved of all files stands
+//! in the contracts of `laws`.
 #![tactic(auto)]
+
+pub use cutting::{Messages, cut};
+pub use faults::MboxFault;
+pub use items::Item;
+pub use senders::Sender;
+pub use separators::{Envelope, separator};
+
+mod cutting;
+mod faults;
+mod items;
+pub mod laws;
+mod lines;
+mod senders;
+mod separators;
+mod tokens;

@@ -1,0 +1,215 @@
+-- The date that comes so many days after 1900-01-01, and the number of a date: there and back.
+use Rattle.std.proofs.Common.{◌≡◌, ◌≢◌, ℕ, zero, suc, ◌+◌, ◌-◌, ◌*◌, ◌/◌, ◌%◌, ◌<◌, ◌≤◌, Bool, true, false, ◌==◌, ◌&&◌, nat_lt, nat_le, refl, arith, ap, ◌∙◌, sym, if◌then◌else◌, Option, Some, None, ℤ, pos, negsuc, ◌+ℤ◌, ◌-ℤ◌, unsigned_abs, inl, inr, ◌⊎◌, subst}
+use Rattle.std.proofs.lemmas.Bool.{le-leb, cases_lt}
+use Rattle.std.proofs.lemmas.Bool.Decides.{nat_tests}
+use Rattle.std.proofs.lemmas.Int.{ints}
+use Rattle.mail_core.specs.Calendar.{is_leap, year_days, month_days, days_before_year, days_of_months, days_before, day_number, is_date, day_number_of}
+use Rattle.mbox_core.specs.Written.{Date, year_after, month_after, date_after, days_since_1900}
+
+next_days : (y : ℕ) → days_before_year (suc y) ≡ days_before_year y + year_days y
+unfolding days_before_year
+next_days y = refl
+
+next_month : (y m : ℕ) → days_of_months y (suc m) ≡ days_of_months y m + month_days y (suc m)
+unfolding days_of_months
+next_month y m = refl
+
+no_month : (y : ℕ) → days_of_months y 0 ≡ 0
+unfolding days_of_months
+no_month y = refl
+
+-- what comes n days after 1 January of the year y
+pub record IsYear (y k n : ℕ) (p : ℕ × ℕ) : Type 0 where
+  pub low : y ≤ p.0
+  pub high : p.0 ≤ y + k
+  pub same : days_before_year p.0 + p.1 ≡ days_before_year y + n
+  pub within : p.1 < year_days p.0
+
+less : (a b : ℕ) → nat_lt a b ≡ true → a < b
+less a b h = grind (arith, nat_tests)
+
+no_less : (a b : ℕ) → nat_lt a b ≡ false → b ≤ a
+no_less a b h = grind (arith, nat_tests)
+
+pub year_is : (k y n : ℕ) → days_before_year y + n < days_before_year (suc (y + k)) → IsYear y k n (year_after k y n)
+unfolding year_after
+year_is zero y n h =
+    let e : suc (y + zero) ≡ suc y = omega arith in
+    let g : days_before_year y + n < days_before_year y + year_days y = rw (ap days_before_year e, next_days y) at h in
+    record { low = omega arith; high = omega arith; same = refl; within = omega (arith, g) }
+year_is (suc k) y n h = cases (nat_lt n (year_days y)) refl (λ g. year_is k (suc y) (n - year_days y) g)
+  where
+    further : nat_lt n (year_days y) ≡ false → days_before_year (suc y) + (n - year_days y) < days_before_year (suc (suc y + k))
+    further t =
+        let e : suc (y + suc k) ≡ suc (suc y + k) = omega arith in
+        let low = no_less n (year_days y) t in
+        let g = rw (ap days_before_year e) at h in
+        omega (arith, next_days y, g, low)
+
+    cases : (t : Bool) → nat_lt n (year_days y) ≡ t → (days_before_year (suc y) + (n - year_days y) < days_before_year (suc (suc y + k))
+        → IsYear (suc y) k (n - year_days y) (year_after k (suc y) (n - year_days y)))
+        → IsYear y (suc k) n (if t then (y, n) else year_after k (suc y) (n - year_days y))
+    cases true t later = record { low = omega arith; high = omega arith; same = refl; within = less n (year_days y) t }
+    cases false t later =
+        let r = later (further t) in
+        let low = no_less n (year_days y) t in
+        record {
+          low = omega (arith, r.low);
+          high = omega (arith, r.high);
+          same = omega (arith, r.same, next_days y, low);
+          within = r.within;
+        }
+
+-- what comes n days after the first of the month after m
+pub record IsMonth (y m k n : ℕ) (p : ℕ × ℕ) : Type 0 where
+  pub before : ℕ
+  pub is : p.0 ≡ suc before
+  pub low : m ≤ before
+  pub high : before ≤ m + k
+  pub same : days_of_months y before + p.1 ≡ days_of_months y m + n
+  pub within : p.1 < month_days y (suc before)
+
+pub month_is : (k y m n : ℕ) → days_of_months y m + n < days_of_months y (suc (m + k)) → IsMonth y m k n (month_after k y (suc m) n)
+unfolding month_after
+month_is zero y m n h =
+    let e : suc (m + zero) ≡ suc m = omega arith in
+    let g : days_of_months y m + n < days_of_months y m + month_days y (suc m) = rw (ap (days_of_months y) e, next_month y m) at h in
+    record { before = m; is = refl; low = omega arith; high = omega arith; same = refl; within = omega (arith, g) }
+month_is (suc k) y m n h = cases (nat_lt n (month_days y (suc m))) refl (λ g. month_is k y (suc m) (n - month_days y (suc m)) g)
+  where
+    further : nat_lt n (month_days y (suc m)) ≡ false → days_of_months y (suc m) + (n - month_days y (suc m)) < days_of_months y (suc (suc m + k))
+    further t =
+        let e : suc (m + suc k) ≡ suc (suc m + k) = omega arith in
+        let low = no_less n (month_days y (suc m)) t in
+        let g = rw (ap (days_of_months y) e) at h in
+        omega (arith, next_month y m, g, low)
+
+    cases : (t : Bool) → nat_lt n (month_days y (suc m)) ≡ t → (days_of_months y (suc m) + (n - month_days y (suc m)) < days_of_months y (suc (suc m + k))
+        → IsMonth y (suc m) k (n - month_days y (suc m)) (month_after k y (suc (suc m)) (n - month_days y (suc m))))
+        → IsMonth y m (suc k) n (if t then (suc m, n) else month_after k y (suc (suc m)) (n - month_days y (suc m)))
+    cases true t later = record { before = m; is = refl; low = omega arith; high = omega arith; same = refl; within = less n (month_days y (suc m)) t }
+    cases false t later =
+        let r = later (further t) in
+        let low = no_less n (month_days y (suc m)) t in
+        record {
+          before = r.before;
+          is = r.is;
+          low = omega (arith, r.low);
+          high = omega (arith, r.high);
+          same = omega (arith, r.same, next_month y m, low);
+          within = r.within;
+        }
+
+-- a year's months are the year
+pub all_months : (y : ℕ) → days_of_months y 12 ≡ year_days y
+unfolding days_of_months
+all_months y = cases (is_leap y) refl
+  where
+    cases : (t : Bool) → is_leap y ≡ t → days_of_months y 12 ≡ (if is_leap y then 366 else 365)
+    cases true t = rw t refl
+    cases false t = rw t refl
+
+first_year : days_before_year 1900 ≡ 693961
+unfolding days_before_year
+first_year = refl
+
+past_years : days_before_year 9999 ≡ 3652060
+unfolding days_before_year
+past_years = refl
+
+epoch : days_before 1970 1 1 ≡ 719528
+unfolding days_before_year days_of_months
+epoch = refl
+
+all_true : (b c d e f : Bool) → b ≡ true → c ≡ true → d ≡ true → e ≡ true → f ≡ true → (b && (c && d) && (e && f)) ≡ true
+all_true b c d e f hb hc hd he hf = rw (hb, hc, hd, he, hf) refl
+
+-- a date that the calendar has
+pub record IsFound (n : ℕ) (date : Date) : Type 0 where
+  pub first : 1900 ≤ date.year
+  pub last : date.year ≤ 9998
+  pub some_month : 1 ≤ date.month
+  pub in_year : date.month ≤ 12
+  pub some_day : 1 ≤ date.day
+  pub in_month : date.day ≤ month_days date.year date.month
+  pub number : days_before date.year date.month date.day ≡ 693961 + n
+
+pub date_is : (n : ℕ) → 693961 + n < 3652060 → IsFound n (date_after n)
+unfolding date_after
+date_is n h =
+    let y = year_is 8098 1900 n (rw (first_year, past_years) h) in
+    let year = (year_after 8098 1900 n).0 in
+    let rest = (year_after 8098 1900 n).1 in
+    let m = month_is 11 year 0 rest (rw (no_month year, all_months year) (omega (arith, y.within))) in
+    let month = (month_after 11 year 1 rest).0 in
+    let day = (month_after 11 year 1 rest).1 in
+    let months : days_of_months year (month - 1) ≡ days_of_months year m.before = ap (days_of_months year) (omega (arith, m.is)) in
+    record {
+      first = y.low;
+      last = omega (arith, y.high);
+      some_month = omega (arith, m.is);
+      in_year = omega (arith, m.is, m.high);
+      some_day = omega arith;
+      in_month = rw m.is (omega (arith, m.within));
+      number = omega (arith, months, m.same, y.same, first_year, no_month year);
+    }
+
+-- the number of the date is the day
+pub found_number : (n : ℕ) (day : ℤ) (date : Date) → IsFound n date → pos n ≡ day +ℤ pos 25567 → day_number_of date.year date.month date.day ≡ Some day
+found_number n day date f e =
+    let is : is_date date.year date.month date.day ≡ true = all_true _ _ _ _ _
+        (le-leb date.year 9999 (omega (arith, f.last))) (le-leb 1 date.month f.some_month) (le-leb date.month 12 f.in_year)
+        (le-leb 1 date.day f.some_day) (le-leb date.day (month_days date.year date.month) f.in_month) in
+    let same : day_number date.year date.month date.day ≡ day = rw (f.number, epoch) (omega (arith, ints, e)) in
+    rw (is, same) refl
+
+-- the years rise
+more_days : (k y : ℕ) → days_before_year y ≤ days_before_year (y + k)
+more_days zero y = omega (arith, ap days_before_year (let z : y + zero ≡ y = omega arith in z))
+more_days (suc k) y =
+    let e : y + suc k ≡ suc (y + k) = omega arith in
+    omega (arith, ap days_before_year e, next_days (y + k), more_days k y)
+
+more_months : (k y m : ℕ) → days_of_months y m ≤ days_of_months y (m + k)
+more_months zero y m = omega (arith, ap (days_of_months y) (let z : m + zero ≡ m = omega arith in z))
+more_months (suc k) y m =
+    let e : m + suc k ≡ suc (m + k) = omega arith in
+    omega (arith, ap (days_of_months y) e, next_month y (m + k), more_months k y m)
+
+cases_eq : (a b : ℕ) → (a < b) ⊎ ((b < a) ⊎ (a ≡ b))
+cases_eq a b = first (cases_lt a b)
+  where
+    first : (a < b) ⊎ (b ≤ a) → (a < b) ⊎ ((b < a) ⊎ (a ≡ b))
+    first (inl lt) = inl lt
+    first (inr le) = second (cases_lt b a)
+      where
+        second : (b < a) ⊎ (a ≤ b) → (a < b) ⊎ ((b < a) ⊎ (a ≡ b))
+        second (inl lt) = inr (inl lt)
+        second (inr ge) = inr (inr (omega (arith, le, ge)))
+
+-- a later year comes after all days of an earlier one
+below_year : (y z r s : ℕ) → y < z → r < year_days y → days_before_year y + r ≡ days_before_year z + s → ⊥
+below_year y z r s lt w e =
+    let d : suc y + (z - suc y) ≡ z = omega (arith, lt) in
+    omega (arith, w, e, next_days y, more_days (z - suc y) (suc y), ap days_before_year d)
+
+below_month : (y l m r s : ℕ) → l < m → r < month_days y (suc l) → days_of_months y l + r ≡ days_of_months y m + s → ⊥
+below_month y l m r s lt w e =
+    let d : suc l + (m - suc l) ≡ m = omega (arith, lt) in
+    omega (arith, w, e, next_month y l, more_months (m - suc l) y (suc l), ap (days_of_months y) d)
+
+same_year : (y z r s : ℕ) → r < year_days y → s < year_days z → days_before_year y + r ≡ days_before_year z + s → y ≡ z
+same_year y z r s w v e = cases (cases_eq y z)
+  where
+    cases : (y < z) ⊎ ((z < y) ⊎ (y ≡ z)) → y ≡ z
+    cases (inl lt) = absurd (below_year y z r s lt w e)
+    cases (inr (inl lt)) = absurd (below_year z y s r lt v (sym e))
+    cases (inr (inr same)) = same
+
+same_month : (y l m r s : ℕ) → r < month_days y (suc l) → s < month_days y (suc m) → days_of_months y l + r ≡ days_of_months y m + s → l ≡ m
+same_month y l m r s w v e = cases (cases_eq l m)
+  where
+    cases : (l < m) ⊎ ((m < l) ⊎ (l ≡ m)) → l ≡ m
+    cases (inl lt) = absurd (below_month y l m r s lt w e)
+    cases (inr (inl lt)) = absurd (below_month y m l s r lt v (sym e))
+    cases (inr (inr same)) = same
