@@ -1,9 +1,10 @@
 -- The date that comes so many days after 1900-01-01, and the number of a date: there and back.
-use Rattle.std.proofs.Common.{◌≡◌, ◌≢◌, ℕ, zero, suc, ◌+◌, ◌-◌, ◌*◌, ◌/◌, ◌%◌, ◌<◌, ◌≤◌, Bool, true, false, ◌==◌, ◌&&◌, nat_lt, nat_le, refl, arith, ap, ◌∙◌, sym, if◌then◌else◌, Option, Some, None, ℤ, pos, negsuc, ◌+ℤ◌, ◌-ℤ◌, unsigned_abs, inl, inr, ◌⊎◌, subst}
+use Rattle.std.proofs.Common.{◌≡◌, ◌≢◌, ℕ, zero, suc, ◌+◌, ◌-◌, ◌*◌, ◌/◌, ◌%◌, ◌<◌, ◌≤◌, Bool, true, false, ◌==◌, ◌&&◌, nat_lt, nat_le, refl, arith, ap, ◌∙◌, sym, if◌then◌else◌, Option, Some, None, ℤ, pos, negsuc, ◌+ℤ◌, ◌-ℤ◌, ◌*ℤ◌, unsigned_abs, neg_ℤ, int_le, inl, inr, ◌⊎◌, subst}
 use Rattle.std.proofs.lemmas.Bool.{le-leb, cases_lt}
 use Rattle.std.proofs.lemmas.Bool.Decides.{nat_tests}
 use Rattle.std.proofs.lemmas.Int.{ints}
-use Rattle.mail_core.specs.Calendar.{is_leap, year_days, month_days, days_before_year, days_of_months, days_before, day_number, is_date, day_number_of}
+use Rattle.std.specs.Int.{int_rem_euclid}
+use Rattle.mail_core.specs.Calendar.{is_leap, year_days, month_days, days_before_year, days_of_months, days_before, day_number, is_date, day_number_of, is_instant, day_of_instant}
 use Rattle.mbox_core.specs.Written.{Date, year_after, month_after, date_after, days_since_1900}
 
 next_days : (y : ℕ) → days_before_year (suc y) ≡ days_before_year y + year_days y
@@ -213,3 +214,36 @@ same_month y l m r s w v e = cases (cases_eq l m)
     cases (inl lt) = absurd (below_month y l m r s lt w e)
     cases (inr (inl lt)) = absurd (below_month y m l s r lt v (sym e))
     cases (inr (inr same)) = same
+
+-- ---- instants
+
+-- the day of an instant, and the seconds in it
+pub record IsSplit (z : ℤ) : Type 0 where
+  pub low : pos (days_since_1900 (day_of_instant z)) ≡ day_of_instant z +ℤ pos 25567
+  pub high : 693961 + days_since_1900 (day_of_instant z) < 3652060
+  pub seconds : unsigned_abs (int_rem_euclid z (pos 86400)) < 86400
+  pub same : day_of_instant z *ℤ pos 86400 +ℤ pos (unsigned_abs (int_rem_euclid z (pos 86400))) ≡ z
+
+pub both : (a b : Bool) → (a && b) ≡ true → (a ≡ true) × (b ≡ true)
+both true b h = (refl, h)
+both false b h = absurd (cc)
+
+pub split_is : (z : ℤ) → is_instant z ≡ true → IsSplit z
+split_is (pos a) h =
+    let r = both (int_le (neg_ℤ (pos 2208988800)) (pos a)) (int_le (pos a) (pos 253370764799)) h in
+    let high : a ≤ 253370764799 = grind (arith, ints, nat_tests, r.1) in
+    record {
+      low = refl;
+      high = omega arith;
+      seconds = omega arith;
+      same = omega (arith, ints);
+    }
+split_is (negsuc a) h =
+    let r = both (int_le (neg_ℤ (pos 2208988800)) (negsuc a)) (int_le (negsuc a) (pos 253370764799)) h in
+    let low : suc a ≤ 2208988800 = grind (arith, ints, nat_tests, r.0) in
+    record {
+      low = omega (arith, ints);
+      high = omega (arith, ints);
+      seconds = omega arith;
+      same = omega (arith, ints);
+    }

@@ -64,71 +64,17 @@ not_both bytes offset is p (blanks, rest, e, b, blocks) =
     subst (λ (x : List (List ℕ)). AllByRecursion IsBlank x) (sym (fronts ∙ append-nil blanks)) b in
     p.some (all_back p.blanks (p.line ∷ (split_lines (is_blank p.line) p.rest).front) all).0
 
--- ---- what is written is cut again
+same_blanks : (cs bs : List (List ℕ)) (l m : List ℕ) (r s : List (List ℕ)) → cs ++ l ∷ r ≡ bs ++ m ∷ s
+    → AllByRecursion IsBlank cs → AllByRecursion IsBlank bs → ¬ IsBlank l → ¬ IsBlank m → cs ≡ bs
+same_blanks [] [] l m r s e h g u v = refl
+same_blanks [] (b ∷ bs) l m r s e h g u v = let first : l ≡ b = cc in absurd (u (subst IsBlank (sym first) g.0))
+same_blanks (a ∷ cs) [] l m r s e h g u v = let first : a ≡ m = cc in absurd (v (subst IsBlank first h.0))
+same_blanks (a ∷ cs) (b ∷ bs) l m r s e h g u v =
+    let first : a ≡ b = cc in
+    let later : cs ++ l ∷ r ≡ bs ++ m ∷ s = cc in
+    let same = same_blanks cs bs l m r s later h.1 g.1 u v in cc
 
-abbrev pub whole_item : Item → Item
-whole_item i = record { envelope = i.envelope; text = whole i.text }
-
-pub never : (n : ℕ) → (suc n == 0) ≡ false
-never n = grind (arith, nat_tests)
-
--- a text that is empty or ends in LF
-ends_split : (t : List ℕ) → is_whole t ≡ true → (t ≡ []) ⊎ ((u : List ℕ) × (t ≡ u ++ 10 ∷ []))
-ends_split [] h = inl refl
-ends_split (b ∷ t) h =
-    let n = length t in
-    let at : get_or (b ∷ t) n 0 ≡ 10 = eqb-true (get_or (b ∷ t) n 0) 10 (rw (never (length t), sub_one (length t)) at h) in
-    inr (take n (b ∷ t), sym (take_all (n + 1) (b ∷ t) (omega arith)) ∙ take_more (b ∷ t) n 0 (omega arith) ∙ ap (λ x. take n (b ∷ t) ++ x ∷ []) at)
-  where
-    sub_one : (n : ℕ) → suc n - 1 ≡ n
-    sub_one n = omega arith
-
-after_whole : (t x : List ℕ) → (t ≡ []) ⊎ ((u : List ℕ) × (t ≡ u ++ 10 ∷ [])) → lines (t ++ x) ≡ lines t ++ lines x
-after_whole t x (inl e) = ap (λ u. lines (u ++ x)) e ∙ ap (λ ls. ls ++ lines x) (sym lines-nil) ∙ ap (λ u. lines u ++ lines x) (sym e)
-after_whole t x (inr (u, e)) = ap (λ v. lines (v ++ x)) e ∙ ap lines (append_assoc u (10 ∷ []) x) ∙ lines-append u x ∙ ap (λ v. lines v ++ lines x) (sym e)
-
-whole_ends : (t : List ℕ) (w : Bool) → is_whole t ≡ w → (whole t ≡ []) ⊎ ((u : List ℕ) × (whole t ≡ u ++ 10 ∷ []))
-whole_ends t true k = let e : whole t ≡ t = rw k refl in subst (λ (x : List ℕ). (x ≡ []) ⊎ ((u : List ℕ) × (x ≡ u ++ 10 ∷ []))) (sym e) (ends_split t k)
-whole_ends t false k = inr (t, rw k refl)
-
-pub whole_then : (t x : List ℕ) → lines (whole t ++ 10 ∷ x) ≡ lines (whole t) ++ (10 ∷ []) ∷ lines x
-whole_then t x = after_whole (whole t) (10 ∷ x) (whole_ends t (is_whole t) refl) ∙ ap (λ ls. lines (whole t) ++ ls) (lf_first x)
-
-lf_blank : IsBlank (10 ∷ [])
-unfolding content
-lf_blank = refl
-
--- the separator line as it is written is a line, and says the envelope
-pub record IsHeading (text : List ℕ) (e : Envelope) : Type 0 where
-  pub ended : IsEnded (text ++ 10 ∷ [])
-  pub says : IsSeparator (content (text ++ 10 ∷ [])) e
-
-module _ (heading : Envelope → List ℕ) where
-  abbrev pub written : List Item → List ℕ
-  written [] = []
-  written (i ∷ is) = heading i.envelope ++ (10 ∷ (whole i.text ++ 10 ∷ written is))
-
-  abbrev pub AreItems : List Item → Type 0
-  AreItems [] = Unit {0}
-  AreItems (i ∷ is) = IsHeading (heading i.envelope) i.envelope × NoneSeparates (lines (whole i.text)) × AreItems is
-
-  blocks_written : (is : List Item) → AreItems is → AreBlocks (map whole_item is) (lines (written is))
-  blocks_written [] h = lines-nil
-  blocks_written (i ∷ is) h = (
-    heading i.envelope ++ 10 ∷ [],
-    h.0.says,
-    h.1,
-    inr (
-      10 ∷ [],
-      lines (written is),
-      lf_blank,
-      ap lines (sym (append_assoc (heading i.envelope) (10 ∷ []) (whole i.text ++ 10 ∷ written is)))
-          ∙ h.0.ended (whole i.text ++ 10 ∷ written is)
-          ∙ ap (λ ls. (heading i.envelope ++ 10 ∷ []) ∷ ls) (whole_then i.text (written is)),
-      blocks_written is h.2,
-    ),
-  )
-
-  -- the division of what is written has the same envelopes, and the whole texts
-  pub written_is_cut : (is : List Item) → AreItems is → Divides (written is) (map whole_item is)
-  written_is_cut is h = ([], lines (written is), refl, tt, blocks_written is h)
+-- the first line that is not empty has one offset
+pub one_preamble : (bytes : List ℕ) (a b : ℕ) → IsPreamble bytes a → IsPreamble bytes b → a ≡ b
+one_preamble bytes a b p q =
+    p.at ∙ ap (λ ls. length (concat ls)) (same_blanks p.blanks q.blanks p.line q.line p.rest q.rest (sym p.are_lines ∙ q.are_lines) p.all_blank q.all_blank p.some q.some) ∙ sym q.at

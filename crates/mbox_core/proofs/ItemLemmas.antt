@@ -1,14 +1,17 @@
 -- What holds of the text of an item.
 use Rattle.std.proofs.Common.{◌≡◌, ◌≢◌, ℕ, zero, suc, ◌+◌, ◌-◌, ◌<◌, ◌≤◌, Bool, true, false, ◌==◌, ◌||◌, List, [], ◌∷◌, ◌++◌, length, take, drop, get_or, refl, arith, ap, ◌∙◌, sym, if◌then◌else◌, Option, Some, None, append_assoc, append-nil, inl, inr, ◌⊎◌, subst, length-append}
 use Rattle.std.proofs.lemmas.List.{get_or_at, take_at}
+use Rattle.std.proofs.lemmas.Bool.Decides.{nat_tests}
 use Rattle.std.specs.List.{concat}
 use Rattle.std.specs.Option.{is_some}
 use Rattle.mbox_core.specs.Lines.{lines, before_first, content, is_blank, ends_in, without_end}
 use Rattle.mbox_core.specs.Separator.{Envelope, IsSeparator, separator_of}
 use Rattle.mbox_core.specs.Division.{Item, Split, IsBlank, IsSeparatorLine, NoneSeparates, AreBlocks, body, split_lines, is_whole, whole, text_in, items_in, items_after}
-use Rattle.mbox_core.proofs.DivisionLaws.{never}
 use Rattle.mbox_core.proofs.LineLemmas.{lines_are, AreLines, are_front, lines-concat, lines-nil, concat-lines}
 use Rattle.mbox_core.proofs.SplitLemmas.{Quiet, none_separates, quiet_false, quiet_front, reads, Reads, split-quiet, split-nil, last_blank, with_lines, nothing, last_line, body-blank, body-some, body-nil, concat_snoc}
+
+pub never : (n : ℕ) → (suc n == 0) ≡ false
+never n = grind (arith, nat_tests)
 
 -- a text in which no item begins
 pub none_in : (t : List ℕ) → items_in t ≡ [] → NoneSeparates (lines t)
@@ -90,7 +93,7 @@ open_cons l [] h = absurd h
 open_cons l (m ∷ ls) h = h
 
 -- the last byte of a longer text
-ends_cons : (x y : ℕ) (t : List ℕ) (b : ℕ) → ends_in b (x ∷ y ∷ t) ≡ ends_in b (y ∷ t)
+pub ends_cons : (x y : ℕ) (t : List ℕ) (b : ℕ) → ends_in b (x ∷ y ∷ t) ≡ ends_in b (y ∷ t)
 ends_cons x y t b =
     let p : suc (suc (length t)) - 1 ≡ suc (length t) = omega arith in
     let q : suc (length t) - 1 ≡ length t = omega arith in
@@ -125,7 +128,7 @@ lines-lf x (y ∷ t) h =
     cases false e s = ap (before_first x) e ∙ sym (last_before x (lines (y ∷ t)) s)
 
 -- an LF more says nothing
-content-lf : (l : List ℕ) → ends_in 10 l ≡ false → content (l ++ 10 ∷ []) ≡ content l
+pub content-lf : (l : List ℕ) → ends_in 10 l ≡ false → content (l ++ 10 ∷ []) ≡ content l
 unfolding content
 content-lf l h =
     let n : length (l ++ 10 ∷ []) - 1 ≡ length l = omega (arith, length-append l (10 ∷ [])) in

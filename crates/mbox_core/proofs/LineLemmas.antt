@@ -48,7 +48,7 @@ pub are_cons : (l : List ℕ) (ls : List (List ℕ)) → IsEnded l → AreLines 
 are_cons l [] h g = ended_one l h
 are_cons l (m ∷ ls) h g = (h, g)
 
-lf_ended : IsEnded (10 ∷ [])
+pub lf_ended : IsEnded (10 ∷ [])
 unfolding lines
 lf_ended x = refl
 
@@ -56,7 +56,7 @@ pub lf_first : (x : List ℕ) → lines (10 ∷ x) ≡ (10 ∷ []) ∷ lines x
 unfolding lines
 lf_first x = refl
 
-more_ended : (b : ℕ) (l : List ℕ) → (b == 10) ≡ false → IsEnded l → IsEnded (b ∷ l)
+pub more_ended : (b : ℕ) (l : List ℕ) → (b == 10) ≡ false → IsEnded l → IsEnded (b ∷ l)
 unfolding lines
 more_ended b l n h x = rw (n, h x) refl
 

@@ -45,9 +45,9 @@ as_day_digits n = if nat_lt n 10 then 32 ∷ (48 + n) ∷ [] else as_two_digits 
 abbrev pub as_four_digits : ℕ → List ℕ
 as_four_digits n = as_two_digits (n / 100) ++ as_two_digits (n % 100)
 
--- `hh:mm:ss`
+-- `hh:mm:ss`, of the seconds in a day
 abbrev pub clock_text : ℕ → List ℕ
-clock_text s = as_two_digits (s / 3600) ++ codes ":" ++ as_two_digits (s / 60 % 60) ++ codes ":" ++ as_two_digits (s % 60)
+clock_text s = as_two_digits (s / 3600) ++ 58 ∷ (as_two_digits (s / 60 % 60) ++ 58 ∷ as_two_digits (s % 60))
 
 -- the n-th of some names of three letters
 abbrev pub name_at : ℕ → List ℕ → List ℕ
@@ -59,11 +59,17 @@ weekday_names = codes "MonTueWedThuFriSatSun"
 abbrev pub month_names : List ℕ
 month_names = codes "JanFebMarAprMayJunJulAugSepOctNovDec"
 
+-- words with one space between them
+abbrev pub spaced : List (List ℕ) → List ℕ
+spaced [] = []
+spaced (word ∷ []) = word
+spaced (word ∷ next ∷ words) = word ++ 32 ∷ spaced (next ∷ words)
+
 -- `Www Mmm dd hh:mm:ss yyyy`
 abbrev pub date_text : ℕ → Date → ℕ → List ℕ
-date_text weekday date seconds =
-    name_at weekday weekday_names ++ codes " " ++ name_at (date.month - 1) month_names ++ codes " " ++ as_day_digits date.day
-    ++ codes " " ++ clock_text seconds ++ codes " " ++ as_four_digits date.year
+date_text weekday date seconds = spaced (
+    name_at weekday weekday_names ∷ name_at (date.month - 1) month_names ∷ as_day_digits date.day
+    ∷ clock_text seconds ∷ as_four_digits date.year ∷ [])
 
 unfoldable pub time_text : ℤ → List ℕ
 time_text instant =
@@ -72,11 +78,15 @@ time_text instant =
 
 -- what the canonical separator line of an envelope says
 abbrev pub heading : Envelope → List ℕ
-heading envelope = codes "From " ++ envelope.sender ++ codes " " ++ time_text envelope.arrival
+heading envelope = spaced (codes "From" ∷ envelope.sender ∷ time_text envelope.arrival ∷ [])
 
--- a message, and messages, as they are written
+-- a text, and the LF that ends a line
+abbrev pub ended : List ℕ → List ℕ
+ended text = text ++ codes "\n"
+
+-- a message as it is written: its separator line, its whole text, and an empty line
 abbrev pub written_item : Item → List ℕ
-written_item item = heading item.envelope ++ codes "\n" ++ whole item.text ++ codes "\n"
+written_item item = ended (heading item.envelope) ++ ended (whole item.text)
 
 abbrev pub written : List Item → List ℕ
 written [] = []

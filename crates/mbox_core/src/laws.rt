@@ -1,6 +1,8 @@
-//! What holds of every division.
+//! What holds of all mbox files: each contract is a law over the definitions of `specs/` alone, and no call does anything.
 ghost use Rattle.std.specs.Prelude.{◌≡◌, ◌⊎◌, ℕ, List, map};
+ghost use Rattle.std.specs.List.{All};
 ghost use Rattle.mbox_core.specs.Division.{Item, Divides, IsPreamble};
+ghost use Rattle.mbox_core.specs.Written.{IsItem, written, whole_item};
 
 /// No bytes have two divisions.
 pub fn one_division()
@@ -10,4 +12,25 @@ pub fn one_division()
 /// Bytes have a division, or their first line that is not empty is no separator line.
 pub fn some_division()
     ensures { (bytes : List ℕ) → ((is : List Item) × Divides bytes is) ⊎ ((offset : ℕ) × IsPreamble bytes offset) }
+{}
+
+/// Bytes whose first line that is not empty is no separator line have no division.
+pub fn never_both()
+    ensures { (bytes : List ℕ) (is : List Item) (offset : ℕ) → Divides bytes is → ¬ IsPreamble bytes offset }
+{}
+
+/// The first line that is not empty has one offset.
+pub fn one_preamble()
+    ensures { (bytes : List ℕ) (a b : ℕ) → IsPreamble bytes a → IsPreamble bytes b → a ≡ b }
+{}
+
+/// Each message of a division is one that can be written: its sender is a written form, its arrival lies in the years
+/// 1900 to 9998, and its whole text holds no separator line that follows an empty line.
+pub fn divided_are_items()
+    ensures { (bytes : List ℕ) (items : List Item) → Divides bytes items → All IsItem items }
+{}
+
+/// What is written is cut again: its division has the same envelopes, and the whole texts as its texts.
+pub fn written_is_cut()
+    ensures { (items : List Item) → All IsItem items → Divides (written items) (map whole_item items) }
 {}

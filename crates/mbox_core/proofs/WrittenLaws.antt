@@ -1,0 +1,177 @@
+-- What is written is cut again.
+use Rattle.std.proofs.Common.{◌≡◌, ◌≢◌, ℕ, zero, suc, ◌+◌, ◌-◌, ◌*◌, ◌/◌, ◌%◌, ◌<◌, ◌≤◌, Bool, true, false, not, ◌==◌, ◌&&◌, ◌||◌, nat_lt, refl, arith, ap, ◌∙◌, sym, if◌then◌else◌, inl, inr, ◌⊎◌, List, [], ◌∷◌, ◌++◌, length, take, take_all, get_or, subst, codes, map, append_assoc, Option, Some, None, ℤ, pos, ◌+ℤ◌, ◌*ℤ◌, unsigned_abs}
+use Rattle.std.specs.List.{All}
+use Rattle.std.specs.Int.{int_rem_euclid}
+use Rattle.std.proofs.lemmas.List.{take_more}
+use Rattle.std.proofs.lemmas.List.Elements.{All-nil, All-cons, All-tail}
+use Rattle.mail_core.specs.Calendar.{weekday, day_of_instant, is_instant, instant_at}
+use Rattle.std.proofs.lemmas.Bool.{eqb-true}
+use Rattle.std.proofs.lemmas.Bool.Decides.{nat_tests}
+use Rattle.mbox_core.specs.Lines.{lines, content, ends_in, without_end}
+use Rattle.mbox_core.specs.Separator.{Envelope, IsSeparator, is_sender_token, instant_of}
+use Rattle.mbox_core.specs.Division.{Item, IsBlank, NoneSeparates, AreBlocks, Divides, is_whole, whole}
+use Rattle.mbox_core.specs.Written.{Date, IsEnvelope, IsItem, heading, ended, written, written_item, whole_item, time_text, date_text, as_day_digits, as_two_digits, as_four_digits, clock_text, name_at, weekday_names, month_names, date_after, days_since_1900}
+use Rattle.mbox_core.proofs.LineLemmas.{lines-nil, lines-append, IsEnded, lf_first, more_ended, lf_ended}
+use Rattle.mbox_core.proofs.ItemLemmas.{ends_cons, content-lf, never, whole_none}
+use Rattle.mbox_core.proofs.DateLemmas.{both}
+use Rattle.mbox_core.proofs.DigitLemmas.{is_run, is_plain, two_plain, one_plain, four_plain, clock_plain, weekday_plain, month_plain}
+use Rattle.mbox_core.proofs.HeadingLemmas.{heading_says, sender_run, plain_inside, rest_small, in_year_after}
+
+-- ---- the separator line is one line
+
+ended_run : (t : List ℕ) → is_run t ≡ true → (x : List ℕ) → IsEnded (x ++ 10 ∷ []) → IsEnded ((t ++ x) ++ 10 ∷ [])
+ended_run [] h x e = e
+ended_run (b ∷ t) h x e =
+    let two = both (is_plain b) (is_run t) h in
+    more_ended b ((t ++ x) ++ 10 ∷ []) (plain_inside b two.0) (ended_run t two.1 x e)
+
+ended_space : (x : List ℕ) → IsEnded (x ++ 10 ∷ []) → IsEnded ((32 ∷ x) ++ 10 ∷ [])
+ended_space x e = more_ended 32 (x ++ 10 ∷ []) refl e
+
+ended_word : (t : List ℕ) → is_run t ≡ true → IsEnded (t ++ 10 ∷ [])
+ended_word [] h = lf_ended
+ended_word (b ∷ t) h =
+    let two = both (is_plain b) (is_run t) h in
+    more_ended b (t ++ 10 ∷ []) (plain_inside b two.0) (ended_word t two.1)
+
+ended_day : (n : ℕ) (x : List ℕ) → IsEnded (x ++ 10 ∷ []) → IsEnded ((as_day_digits n ++ x) ++ 10 ∷ [])
+ended_day n x e = cases (nat_lt n 10)
+  where
+    cases : (t : Bool) → IsEnded (((if t then 32 ∷ (48 + n) ∷ [] else as_two_digits n) ++ x) ++ 10 ∷ [])
+    cases true = ended_space ((48 + n) ∷ x) (ended_run ((48 + n) ∷ []) (one_plain n) x e)
+    cases false = ended_run (as_two_digits n) (two_plain n) x e
+
+date_ended : (w : ℕ) (date : Date) (s : ℕ) → w < 7 → date.month - 1 < 12 → IsEnded (date_text w date s ++ 10 ∷ [])
+date_ended w date s hw hm =
+    let year = as_four_digits date.year in
+    let clock = clock_text s ++ 32 ∷ year in
+    let day = as_day_digits date.day ++ 32 ∷ clock in
+    let month = name_at (date.month - 1) month_names ++ 32 ∷ day in
+    let e4 = ended_space year (ended_word year (four_plain date.year)) in
+    let e3 = ended_space clock (ended_run (clock_text s) (clock_plain s) (32 ∷ year) e4) in
+    let e2 = ended_space day (ended_day date.day (32 ∷ clock) e3) in
+    let e1 = ended_space month (ended_run (name_at (date.month - 1) month_names) (month_plain (date.month - 1) hm) (32 ∷ day) e2) in
+    ended_run (name_at w weekday_names) (weekday_plain w hw) (32 ∷ month) e1
+
+-- a text behind another ends as it does
+ends-append : (b : ℕ) (xs : List ℕ) (y : ℕ) (ys : List ℕ) → ends_in b (xs ++ y ∷ ys) ≡ ends_in b (y ∷ ys)
+ends-append b [] y ys = refl
+ends-append b (x ∷ []) y ys = ends_cons x y ys b
+ends-append b (x ∷ z ∷ xs) y ys = ends_cons x z (xs ++ y ∷ ys) b ∙ ends-append b (z ∷ xs) y ys
+
+other_digit : (n b : ℕ) → b < 48 → (48 + n == b) ≡ false
+other_digit n b h = grind (arith, nat_tests)
+
+year_ends : (n b : ℕ) → b < 48 → ends_in b (as_four_digits n) ≡ false
+year_ends n b h = other_digit (n % 100 % 10) b h
+
+date_ends : (w : ℕ) (date : Date) (s b : ℕ) → b < 48 → ends_in b (32 ∷ date_text w date s) ≡ false
+date_ends w date s b h =
+    let year = as_four_digits date.year in
+    let clock = clock_text s ++ 32 ∷ year in
+    let day = as_day_digits date.day ++ 32 ∷ clock in
+    let month = name_at (date.month - 1) month_names ++ 32 ∷ day in
+    ends-append b (32 ∷ name_at w weekday_names) 32 month
+    ∙ ends-append b (32 ∷ name_at (date.month - 1) month_names) 32 day
+    ∙ ends-append b (32 ∷ as_day_digits date.day) 32 clock
+    ∙ ends-append b (32 ∷ clock_text s) 32 year
+    ∙ ends_cons 32 (48 + date.year / 100 / 10) ((48 + date.year / 100 % 10) ∷ (48 + date.year % 100 / 10) ∷ (48 + date.year % 100 % 10) ∷ []) b
+    ∙ year_ends date.year b h
+
+heading_ends : (e : Envelope) (b : ℕ) → b < 48 → ends_in b (heading e) ≡ false
+unfolding time_text
+heading_ends e b h =
+    let day = day_of_instant e.arrival in
+    ends-append b (codes "From " ++ e.sender) 32 (time_text e.arrival)
+    ∙ date_ends (weekday day) (date_after (days_since_1900 day)) (unsigned_abs (int_rem_euclid e.arrival (pos 86400))) b h
+
+-- what it says is itself
+says_itself : (l : List ℕ) → ends_in 10 l ≡ false → ends_in 13 l ≡ false → content (l ++ 10 ∷ []) ≡ l
+unfolding content
+says_itself l h g = content-lf l h ∙ rw (h, g) refl
+
+heading_content : (e : Envelope) → content (heading e ++ 10 ∷ []) ≡ heading e
+heading_content e = says_itself (heading e) (heading_ends e 10 (omega arith)) (heading_ends e 13 (omega arith))
+
+heading_ended : (e : Envelope) → IsEnvelope e → IsEnded (heading e ++ 10 ∷ [])
+unfolding time_text
+heading_ended e is =
+    let day = day_of_instant e.arrival in
+    ended_run (codes "From") refl (32 ∷ (e.sender ++ 32 ∷ time_text e.arrival))
+    (ended_space (e.sender ++ 32 ∷ time_text e.arrival) (ended_run e.sender (sender_run e.sender is.sender) (32 ∷ time_text e.arrival)
+    (ended_space (time_text e.arrival) (date_ended (weekday day) (date_after (days_since_1900 day)) (unsigned_abs (int_rem_euclid e.arrival (pos 86400))) (rest_small (day +ℤ pos 3)) (in_year_after e is)))))
+
+-- ---- the division of what is written
+
+-- a text that is empty or ends in LF
+ends_split : (t : List ℕ) → is_whole t ≡ true → (t ≡ []) ⊎ ((u : List ℕ) × (t ≡ u ++ 10 ∷ []))
+ends_split [] h = inl refl
+ends_split (b ∷ t) h =
+    let n = length t in
+    let at : get_or (b ∷ t) n 0 ≡ 10 = eqb-true (get_or (b ∷ t) n 0) 10 (rw (never (length t), sub_one (length t)) at h) in
+    inr (take n (b ∷ t), sym (take_all (n + 1) (b ∷ t) (omega arith)) ∙ take_more (b ∷ t) n 0 (omega arith) ∙ ap (λ x. take n (b ∷ t) ++ x ∷ []) at)
+  where
+    sub_one : (n : ℕ) → suc n - 1 ≡ n
+    sub_one n = omega arith
+
+after_whole : (t x : List ℕ) → (t ≡ []) ⊎ ((u : List ℕ) × (t ≡ u ++ 10 ∷ [])) → lines (t ++ x) ≡ lines t ++ lines x
+after_whole t x (inl e) = ap (λ u. lines (u ++ x)) e ∙ ap (λ ls. ls ++ lines x) (sym lines-nil) ∙ ap (λ u. lines u ++ lines x) (sym e)
+after_whole t x (inr (u, e)) = ap (λ v. lines (v ++ x)) e ∙ ap lines (append_assoc u (10 ∷ []) x) ∙ lines-append u x ∙ ap (λ v. lines v ++ lines x) (sym e)
+
+whole_ends : (t : List ℕ) (w : Bool) → is_whole t ≡ w → (whole t ≡ []) ⊎ ((u : List ℕ) × (whole t ≡ u ++ 10 ∷ []))
+whole_ends t true k = let e : whole t ≡ t = rw k refl in subst (λ (x : List ℕ). (x ≡ []) ⊎ ((u : List ℕ) × (x ≡ u ++ 10 ∷ []))) (sym e) (ends_split t k)
+whole_ends t false k = inr (t, rw k refl)
+
+pub whole_then : (t x : List ℕ) → lines (whole t ++ 10 ∷ x) ≡ lines (whole t) ++ (10 ∷ []) ∷ lines x
+whole_then t x = after_whole (whole t) (10 ∷ x) (whole_ends t (is_whole t) refl) ∙ ap (λ ls. lines (whole t) ++ ls) (lf_first x)
+
+lf_blank : IsBlank (10 ∷ [])
+unfolding content
+lf_blank = refl
+
+blocks_written : (items : List Item) → All IsItem items → AreBlocks (map whole_item items) (lines (written items))
+blocks_written [] h = lines-nil
+blocks_written (i ∷ is) h =
+    let item : IsItem i = h 0 i (omega arith) in (
+      heading i.envelope ++ 10 ∷ [],
+      subst (λ (x : List ℕ). IsSeparator x i.envelope) (sym (heading_content i.envelope)) (heading_says i.envelope item.envelope),
+      item.none,
+      inr (
+        10 ∷ [],
+        lines (written is),
+        lf_blank,
+        ap lines (append_assoc (heading i.envelope ++ 10 ∷ []) (whole i.text ++ 10 ∷ []) (written is))
+            ∙ heading_ended i.envelope item.envelope ((whole i.text ++ 10 ∷ []) ++ written is)
+            ∙ ap (λ ls. (heading i.envelope ++ 10 ∷ []) ∷ ls) (ap lines (append_assoc (whole i.text) (10 ∷ []) (written is)) ∙ whole_then i.text (written is)),
+        blocks_written is (All-tail IsItem i is h),
+      ),
+    )
+
+-- the division of what is written has the same envelopes, and the whole texts
+pub written_is_cut : (items : List Item) → All IsItem items → Divides (written items) (map whole_item items)
+written_is_cut items h = ([], lines (written items), refl, tt, blocks_written items h)
+
+-- ---- what is cut
+
+in_range : (z arrival : ℤ) (t : Bool) → is_instant z ≡ t → (if t then Some z else None) ≡ Some arrival → is_instant arrival ≡ true
+in_range z arrival true e h = let same : z ≡ arrival = cc in ap is_instant (sym same) ∙ e
+in_range z arrival false e h = absurd (cc)
+
+said_envelope : (said : List ℕ) (e : Envelope) → IsSeparator said e → IsEnvelope e
+unfolding instant_of
+said_envelope said e s = record {
+  sender = s.sender;
+  arrival = in_range (s.day_number *ℤ pos 86400 +ℤ pos s.seconds) e.arrival (is_instant (s.day_number *ℤ pos 86400 +ℤ pos s.seconds)) refl s.instant;
+}
+
+block_item : (heading : List ℕ) (i : Item) → IsSeparator (content heading) i.envelope → NoneSeparates (lines i.text) → IsItem i
+block_item heading i s n = record { envelope = said_envelope (content heading) i.envelope s; none = whole_none i.text n }
+
+blocks_items : (items : List Item) (ls : List (List ℕ)) → AreBlocks items ls → All IsItem items
+blocks_items [] ls h = All-nil IsItem
+blocks_items (i ∷ is) ls (h, sep, none, inl last) = All-cons IsItem i is (block_item h i sep none) (subst (λ (x : List Item). All IsItem x) (sym last.0) (All-nil IsItem))
+blocks_items (i ∷ is) ls (h, sep, none, inr more) = All-cons IsItem i is (block_item h i sep none) (blocks_items is more.1 more.4)
+
+-- the items of a division are such that they can be written
+pub divided_are_items : (bytes : List ℕ) (items : List Item) → Divides bytes items → All IsItem items
+divided_are_items bytes items (blanks, rest, e, b, blocks) = blocks_items items rest blocks
