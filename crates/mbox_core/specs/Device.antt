@@ -1,5 +1,5 @@
 -- What a call of a device counts as, beside the bytes that it moves.
-use Rattle.std.specs.Prelude.{ℕ, zero, suc, List, [], ◌∷◌, Result, Ok, Err}
+use Rattle.std.specs.Prelude.{◌≡◌, ◌<◌, ℕ, zero, suc, List, [], ◌∷◌, length, Result, Ok, Err}
 
 -- what a read adds to the failures: one where it failed
 abbrev pub read_faults : {E : Type 0} → Result ℕ E → ℕ
@@ -19,3 +19,22 @@ written_faults bytes (Err e) = 1
 written_faults [] (Ok n) = 0
 written_faults (b ∷ bytes) (Ok zero) = 1
 written_faults (b ∷ bytes) (Ok (suc n)) = 0
+
+-- a device that passes so many bytes and then fails
+pub record TapState : Type 0 where
+  -- the bytes that it was made of and those that were written since
+  pub text : List ℕ
+  -- how many of them were read
+  pub at : ℕ
+  -- how many bytes may still pass, in either direction
+  pub left : ℕ
+  -- what was read, and what was written
+  pub read : List ℕ
+  pub written : List ℕ
+  -- how often a read or a write failed, and how often a read met the end
+  pub failures : ℕ
+  pub ends : ℕ
+
+-- a call that asks for some byte while none may pass
+abbrev pub IsStopped : TapState → List ℕ → Type 0
+IsStopped t asked = (t.left ≡ 0) × (0 < length asked)

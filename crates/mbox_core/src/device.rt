@@ -3,10 +3,16 @@ ghost use Rattle.std.specs.Prelude.{◌≡◌, ◌≤◌, ◌+◌, ◌++◌, ℕ
 ghost use Rattle.mbox_core.specs.Device.{read_ends, read_faults, written_faults};
 
 pub use counted::Counted;
+pub use tap::Tap;
 pub use told::Told;
 
 mod counted;
+mod tap;
 mod told;
+
+/// No memory.
+#[derive(Debug, Clone, Copy, PartialEq, Eq, Drop)]
+pub struct Memory;
 
 /// A device failed.
 #[derive(Debug, Clone, Copy, PartialEq, Eq, Drop)]
