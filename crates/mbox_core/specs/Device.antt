@@ -20,6 +20,13 @@ written_faults [] (Ok n) = 0
 written_faults (b ∷ bytes) (Ok zero) = 1
 written_faults (b ∷ bytes) (Ok (suc n)) = 0
 
+-- a reader or a writer, with what it told and what was counted
+pub record CountedState (D : Type 0) : Type 0 where
+  pub inner : D
+  pub told : List ℕ
+  pub failures : ℕ
+  pub ends : ℕ
+
 -- a device that passes so many bytes and then fails
 pub record TapState : Type 0 where
   -- the bytes that it was made of and those that were written since

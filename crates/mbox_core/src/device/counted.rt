@@ -5,6 +5,7 @@ ghost use Rattle.mbox_core.specs.Device.{read_ends, read_faults, written_faults}
 
 use super::{DeviceFailure, Sink, Source, Told};
 use std::io::{ErrorKind, Read, Write};
+use std::marker::Model;
 
 /// A reader or a writer with the bytes that it told, its ends and its failures, which take no room.
 /// A call that a signal interrupted is made again, and is no failure.
@@ -16,13 +17,24 @@ pub struct Counted<D> {
     faults: Told,
 }
 
+impl<D> Model for Counted<D> {
+    ghost use Rattle.std.specs.Prelude.{length};
+    ghost use Rattle.mbox_core.specs.Device.{CountedState};
+
+    ghost Value = { CountedState D };
+
+    ghost view = { λ c. record {
+        inner = c.inner;
+        told = c.told.bytes;
+        failures = length c.faults.bytes;
+        ends = length c.ends.bytes
+    } };
+}
+
 impl<D> Counted<D> {
     /// The device that nothing was read from or written to yet.
     pub fn new(inner: D) -> Counted<D>
-        ensures inner { result.inner ≡ inner }
-        ensures told { result.told.bytes ≡ [] }
-        ensures ends { result.ends.bytes ≡ [] }
-        ensures faults { result.faults.bytes ≡ [] }
+        ensures { result ≡ record { inner = inner; told = []; failures = 0; ends = 0 } }
     {
         Counted {
             inner,
@@ -64,20 +76,20 @@ fn write_through<D: Write>(inner: &mut D, bytes: &[u8]) -> Result<usize, DeviceF
 }
 
 impl<D: Read> Source for Counted<D> {
-    ghost told = { λ s. s.told.bytes };
+    ghost told = { λ c. c.told };
 
-    ghost failures = { λ s. length s.faults.bytes };
+    ghost failures = { λ c. c.failures };
 
-    ghost ends = { λ s. length s.ends.bytes };
+    ghost ends = { λ c. c.ends };
 
     // The last clause is beyond the trait's: where the inner reader states the bytes that it has left, those are the ones told.
     fn read(&mut self, buffer: &mut [u8]) -> Result<usize, DeviceFailure>
         ensures count { IfOk result (λ n. n ≤ length buffer.old) }
         ensures bytes { MatchResult result
-            (λ n. self.new.told.bytes ≡ self.old.told.bytes ++ take n buffer.new)
-            (λ _. self.new.told.bytes ≡ self.old.told.bytes) }
-        ensures faults { length self.new.faults.bytes ≡ length self.old.faults.bytes + read_faults result }
-        ensures end { length self.new.ends.bytes ≡ length self.old.ends.bytes + read_ends buffer.old result }
+            (λ n. self.new.told ≡ self.old.told ++ take n buffer.new)
+            (λ _. self.new.told ≡ self.old.told) }
+        ensures faults { self.new.failures ≡ self.old.failures + read_faults result }
+        ensures end { self.new.ends ≡ self.old.ends + read_ends buffer.old result }
         ensures inner { ReadConsumes (D.remaining self.old.inner) (D.remaining self.new.inner) result buffer.new }
     {
         match read_through(&mut self.inner, buffer) {
@@ -97,17 +109,17 @@ impl<D: Read> Source for Counted<D> {
 }
 
 impl<D: Write> Sink for Counted<D> {
-    ghost told = { λ s. s.told.bytes };
+    ghost told = { λ c. c.told };
 
-    ghost failures = { λ s. length s.faults.bytes };
+    ghost failures = { λ c. c.failures };
 
     // The last clause is beyond the trait's: where the inner writer states the bytes that it holds, it gained those told.
     fn write(&mut self, bytes: &[u8]) -> Result<usize, DeviceFailure>
         ensures count { IfOk result (λ n. n ≤ length bytes.now) }
         ensures bytes { MatchResult result
-            (λ n. self.new.told.bytes ≡ self.old.told.bytes ++ take n bytes.now)
-            (λ _. self.new.told.bytes ≡ self.old.told.bytes) }
-        ensures faults { length self.new.faults.bytes ≡ length self.old.faults.bytes + written_faults bytes.now result }
+            (λ n. self.new.told ≡ self.old.told ++ take n bytes.now)
+            (λ _. self.new.told ≡ self.old.told) }
+        ensures faults { self.new.failures ≡ self.old.failures + written_faults bytes.now result }
         ensures inner { WriteAppends (D.contents self.old.inner) (D.contents self.new.inner) result bytes.now }
     {
         match write_through(&mut self.inner, bytes) {
