@@ -5,10 +5,12 @@ ghost use Rattle.mbox_core.specs.Device.{read_ends, read_faults, written_faults}
 pub use counted::Counted;
 pub use tap::Tap;
 pub use told::Told;
+pub use writing::{WriteFault, write_bytes, write_two};
 
 mod counted;
 mod tap;
 mod told;
+mod writing;
 
 /// No memory.
 #[derive(Debug, Clone, Copy, PartialEq, Eq, Drop)]
