@@ -1,5 +1,6 @@
 -- The civil calendar from the year 0 on, by its rules: which years are leap years, and how long each month is.
-use Rattle.std.specs.Prelude.{ℕ, zero, suc, ◌+◌, ◌-◌, ◌%◌, ◌≤◌, ◌==◌, nat_le, Bool, not, ◌&&◌, ◌||◌, if◌then◌else◌, ℤ, pos, ◌-ℤ◌, Option, Some, None}
+use Rattle.std.specs.Prelude.{ℕ, zero, suc, ◌+◌, ◌-◌, ◌*◌, ◌%◌, ◌≤◌, ◌==◌, nat_le, Bool, not, ◌&&◌, ◌||◌, if◌then◌else◌, ℤ, pos, negsuc, neg_ℤ, ◌+ℤ◌, ◌-ℤ◌, int_le, unsigned_abs, List, [], ◌∷◌, Option, Some, None}
+use Rattle.std.specs.Int.{int_div_euclid, int_rem_euclid}
 
 -- every fourth year, but of the centuries only every fourth
 abbrev pub is_leap : ℕ → Bool
@@ -38,3 +39,52 @@ is_date y m d =
 
 abbrev pub day_number_of : ℕ → ℕ → ℕ → Option ℤ
 day_number_of y m d = if is_date y m d then Some (day_number y m d) else None
+
+-- The days of the archive: 1900-01-01 to 9998-12-31, as numbers of days since 1970-01-01.
+abbrev pub is_day : ℤ → Bool
+is_day z = int_le (neg_ℤ (pos 25_567)) z && int_le z (pos 2_932_531)
+
+-- the day of a date that the calendar has, in the years 1900 to 9998
+abbrev pub day_of_date : ℤ → ℕ → ℕ → Option ℤ
+day_of_date (pos y) m d = if nat_le 1900 y && nat_le y 9998 then day_number_of y m d else None
+day_of_date (negsuc y) m d = None
+
+-- an ASCII digit
+abbrev pub is_digit : ℕ → Bool
+is_digit b = nat_le 48 b && nat_le b 57
+
+-- the number that two digits write
+abbrev pub two_digits : ℕ → ℕ → Option ℕ
+two_digits a b = if is_digit a && is_digit b then Some (10 * (a - 48) + (b - 48)) else None
+
+-- the number that four digits write
+abbrev pub four_digits : ℕ → ℕ → ℕ → ℕ → Option ℕ
+four_digits a b c d =
+    if (is_digit a && is_digit b) && (is_digit c && is_digit d)
+    then Some (1000 * (a - 48) + 100 * (b - 48) + 10 * (c - 48) + (d - 48)) else None
+
+abbrev pub day_of_numbers : Option ℕ → Option ℕ → Option ℕ → Option ℤ
+day_of_numbers (Some y) (Some m) (Some d) = day_of_date (pos y) m d
+day_of_numbers _ _ _ = None
+
+-- the day that a text writes as `yyyy-mm-dd` (45 is the hyphen): RFC 3339 section 5.6, `full-date`
+abbrev pub day_of_text : List ℕ → Option ℤ
+day_of_text (a ∷ b ∷ c ∷ d ∷ dash ∷ e ∷ f ∷ dash' ∷ g ∷ h ∷ []) =
+    if (dash == 45) && (dash' == 45) then day_of_numbers (four_digits a b c d) (two_digits e f) (two_digits g h)
+    else None
+day_of_text _ = None
+
+-- the day of the week, Monday 0 to Sunday 6: day 0, 1970-01-01, was a Thursday
+abbrev pub weekday : ℤ → ℕ
+weekday z = unsigned_abs (int_rem_euclid (z +ℤ pos 3) (pos 7))
+
+-- The instants of the archive: seconds since 1970-01-01 00:00:00 UTC, from 1900-01-01 00:00:00 to 9998-12-31 23:59:59.
+abbrev pub is_instant : ℤ → Bool
+is_instant z = int_le (neg_ℤ (pos 2_208_988_800)) z && int_le z (pos 253_370_764_799)
+
+abbrev pub instant_at : ℤ → Option ℤ
+instant_at z = if is_instant z then Some z else None
+
+-- the day, in UTC, of an instant: whole days of 86,400 seconds, rounded down
+abbrev pub day_of_instant : ℤ → ℤ
+day_of_instant z = int_div_euclid z (pos 86_400)

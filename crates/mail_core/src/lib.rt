@@ -2,3 +2,11 @@
 #![tactic(auto)]
 
 pub mod calendar;
+mod days;
+mod digits;
+mod instants;
+mod refusal;
+
+pub use days::Day;
+pub use instants::Instant;
+pub use refusal::Memory;
