@@ -3,18 +3,16 @@ ghost use Rattle.std.specs.Prelude.{◌≡◌, ◌≤◌, ◌+◌, ◌++◌, ℕ
 ghost use Rattle.mbox_core.specs.Device.{read_ends, read_faults, written_faults};
 
 pub use counted::Counted;
+pub use reading::{ReadStop, read_all};
 pub use tap::Tap;
 pub use told::Told;
 pub use writing::{WriteFault, write_bytes, write_two};
 
 mod counted;
+mod reading;
 mod tap;
 mod told;
 mod writing;
-
-/// No memory.
-#[derive(Debug, Clone, Copy, PartialEq, Eq, Drop)]
-pub struct Memory;
 
 /// A device failed.
 #[derive(Debug, Clone, Copy, PartialEq, Eq, Drop)]

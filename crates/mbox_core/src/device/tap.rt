@@ -2,7 +2,8 @@
 ghost use Rattle.std.specs.Prelude.{◌≡◌, ◌≤◌, ◌+◌, ◌-◌, ◌++◌, ◌↔◌, [], length, take, drop, min, vec_len, vec_capacity, IsErr, IfOk, MatchResult};
 ghost use Rattle.mbox_core.specs.Device.{IsStopped, read_ends, read_faults, written_faults};
 
-use super::{DeviceFailure, Memory, Sink, Source, Told};
+use super::{DeviceFailure, Sink, Source, Told};
+use mail_core::Memory;
 use std::alloc::Global;
 use std::marker::Model;
 
@@ -53,9 +54,8 @@ impl Tap {
         }) }
     {
         let mut held = Vec::new(alloc);
-        if held.extend_from_slice(bytes).is_err() || held.reserve_exact(passes).is_err() {
-            return Err(Memory);
-        }
+        held.extend_from_slice(bytes)?;
+        held.reserve_exact(passes)?;
         Ok(Tap {
             held,
             at: 0,
