@@ -11,6 +11,8 @@ pub use writing::{WriteFault, write_bytes, write_two};
 mod counted;
 mod reading;
 mod tap;
+#[cfg(test)]
+mod tests;
 mod told;
 mod writing;
 

@@ -24,10 +24,10 @@ impl<D> Model for Counted<D> {
     ghost Value = { CountedState D };
 
     ghost view = { λ c. record {
-        inner = c.inner;
-        told = c.told.bytes;
-        failures = length c.faults.bytes;
-        ends = length c.ends.bytes
+      inner = c.inner;
+      told = c.told.bytes;
+      failures = length c.faults.bytes;
+      ends = length c.ends.bytes;
     } };
 }
 

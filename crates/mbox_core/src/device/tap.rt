@@ -27,13 +27,13 @@ impl Model for Tap {
     ghost Value = { TapState };
 
     ghost view = { λ t. record {
-        text = t.held.items;
-        at = t.at;
-        left = t.left;
-        read = t.read.bytes;
-        written = t.written.bytes;
-        failures = length t.faults.bytes;
-        ends = length t.ends.bytes
+      text = t.held.items;
+      at = t.at;
+      left = t.left;
+      read = t.read.bytes;
+      written = t.written.bytes;
+      failures = length t.faults.bytes;
+      ends = length t.ends.bytes;
     } };
 
     ghost invariant = { λ t. (t.at ≤ vec_len t.held) × (vec_len t.held + t.left ≤ vec_capacity t.held) };
@@ -44,13 +44,13 @@ impl Tap {
     /// `passes` more, was refused.
     pub fn new(alloc: Global, bytes: &[u8], passes: usize) -> Result<Tap, Memory>
         ensures { IfOk result (λ t. t ≡ record {
-            text = bytes.now;
-            at = 0;
-            left = passes;
-            read = [];
-            written = [];
-            failures = 0;
-            ends = 0
+          text = bytes.now;
+          at = 0;
+          left = passes;
+          read = [];
+          written = [];
+          failures = 0;
+          ends = 0;
         }) }
     {
         let mut held = Vec::new(alloc);
@@ -140,7 +140,9 @@ impl Sink for Tap {
         ensures ends { self.new.ends ≡ self.old.ends }
     {
         let count = bytes.len().min(self.left);
-        if (count == 0 && !bytes.is_empty()) || self.held.extend_from_slice(&bytes[..count]).is_err() {
+        if (count == 0 && !bytes.is_empty())
+            || self.held.extend_from_slice(&bytes[..count]).is_err()
+        {
             self.faults.note(&[0]);
             return Err(DeviceFailure);
         }

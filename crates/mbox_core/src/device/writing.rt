@@ -20,14 +20,13 @@ pub fn write_bytes<W: Sink>(out: &mut W, bytes: &[u8]) -> Result<(), WriteFault>
 {
     let mut written = 0;
     while written < bytes.len() {
+        let stopped = WriteFault {
+            written: written as u64,
+        };
         match out.write(&bytes[written..]) {
-            Ok(0) => return Err(WriteFault {
-                written: written as u64,
-            }),
+            Ok(0) => return Err(stopped),
             Ok(count) => written += count,
-            Err(_) => return Err(WriteFault {
-                written: written as u64,
-            }),
+            Err(_) => return Err(stopped),
         }
     }
     Ok(())
