@@ -1,4 +1,5 @@
-//! Mbox files (RFC 4155): separator lines, cutting a file into its messages, writing messages.
+//! Mbox files (RFC 4155): separator lines, cutting a file into its messages, writing messages, and the devices that are
+//! read from and written to.
 //!
 //! Reading allocates nothing: each item's text is a slice of the file's own bytes. What is proved of all files stands
 //! in the contracts of `laws`.
@@ -11,6 +12,7 @@ pub use senders::Sender;
 pub use separators::{Envelope, separator};
 
 mod cutting;
+pub mod device;
 mod faults;
 mod items;
 pub mod laws;

@@ -1,0 +1,170 @@
+use super::{Counted, ReadStop, Sink, Source, Tap, WriteFault, read_all, write_bytes, write_two};
+use mail_core::Memory;
+use std::io::{self, ErrorKind, Read, Write};
+use std::test::Fail;
+
+const TEXT: &[u8] = b"From anna@example.org\n";
+
+/// A reader that gives at most three bytes at once, and is interrupted before every other read.
+#[derive(Drop)]
+struct Slow<'a> {
+    rest: &'a [u8],
+    interrupted: bool,
+}
+
+impl<'a> Read for Slow<'a> {
+    fn read(&mut self, buffer: &mut [u8]) -> io::Result<usize> {
+        self.interrupted = !self.interrupted;
+        if self.interrupted {
+            return Err(io::Error::from(ErrorKind::Interrupted));
+        }
+        let count = buffer.len().min(self.rest.len()).min(3);
+        buffer[..count].copy_from_slice(&self.rest[..count]);
+        self.rest = &self.rest[count..];
+        Ok(count)
+    }
+}
+
+/// A writer that takes at most three bytes at once, is interrupted before every other write, and takes none
+/// once it is full.
+#[derive(Drop)]
+struct Narrow {
+    room: usize,
+    interrupted: bool,
+}
+
+impl Write for Narrow {
+    fn write(&mut self, bytes: &[u8]) -> io::Result<usize> {
+        self.interrupted = !self.interrupted;
+        if self.interrupted {
+            return Err(io::Error::from(ErrorKind::Interrupted));
+        }
+        let count = bytes.len().min(self.room).min(3);
+        self.room -= count;
+        Ok(count)
+    }
+
+    fn flush(&mut self) -> io::Result<()> {
+        Ok(())
+    }
+}
+
+#[test]
+fn a_sink_that_fails_after_each_number_of_bytes(rt: HostRuntime) -> Result<(), Fail> {
+    for passes in 0..TEXT.len() + 2 {
+        let mut tap = Tap::new(rt.alloc(), b"kept ", passes)?;
+        let answer = write_bytes(&mut tap, TEXT);
+        let passed = passes.min(TEXT.len());
+        let expected = if passed < TEXT.len() {
+            Err(WriteFault {
+                written: passed as u64,
+            })
+        } else {
+            Ok(())
+        };
+        assert!(rt; answer == expected, "after {passes}");
+        assert!(rt; tap.bytes().len() == 5 + passed, "after {passes}");
+        assert_eq!(rt; &tap.bytes()[5..], &TEXT[..passed], "after {passes}");
+    }
+    Ok(())
+}
+
+#[test]
+fn two_pieces_to_a_sink_that_fails_after_each_number_of_bytes(rt: HostRuntime) -> Result<(), Fail> {
+    for passes in 0..12 {
+        let mut tap = Tap::new(rt.alloc(), b"", passes)?;
+        let answer = write_two(&mut tap, b"From ", b"anna\n");
+        assert!(rt; answer.is_ok() == (passes >= 10), "after {passes}");
+        if let Err(fault) = answer {
+            assert!(rt; fault.written == passes as u64, "after {passes}");
+        }
+        let passed = passes.min(10);
+        assert_eq!(rt; tap.bytes(), &b"From anna\n"[..passed], "after {passes}");
+    }
+    Ok(())
+}
+
+#[test]
+fn a_source_that_fails_after_each_number_of_bytes(rt: HostRuntime) -> Result<(), Fail> {
+    for passes in 0..TEXT.len() + 3 {
+        let mut tap = Tap::new(rt.alloc(), TEXT, passes)?;
+        let answer = read_all(rt.alloc(), &mut tap);
+        match answer {
+            Ok(text) => {
+                assert!(rt; passes > TEXT.len(), "after {passes}");
+                assert_eq!(rt; text.as_slice(), TEXT);
+            }
+            Err(stop) => {
+                assert!(rt; passes <= TEXT.len(), "after {passes}");
+                assert!(rt; stop == ReadStop::Read, "after {passes}");
+            }
+        }
+        assert_eq!(rt; tap.bytes(), TEXT);
+    }
+    Ok(())
+}
+
+#[test]
+fn a_device_that_passes_no_byte_takes_and_gives_nothing(rt: HostRuntime) -> Result<(), Fail> {
+    let mut tap = Tap::new(rt.alloc(), b"ab", 0)?;
+    let mut buffer = [0u8; 4];
+    assert!(rt; Source::read(&mut tap, &mut buffer).is_err());
+    assert!(rt; Source::read(&mut tap, &mut []) == Ok(0));
+    assert!(rt; Sink::write(&mut tap, b"c").is_err());
+    assert!(rt; Sink::write(&mut tap, b"") == Ok(0));
+    assert!(rt; write_bytes(&mut tap, b"").is_ok());
+    assert_eq!(rt; tap.bytes(), b"ab".as_slice());
+    Ok(())
+}
+
+#[test]
+fn a_device_gives_what_was_written_to_it(rt: HostRuntime) -> Result<(), Fail> {
+    let mut tap = Tap::new(rt.alloc(), b"ab", 7)?;
+    assert!(rt; write_bytes(&mut tap, b"cd").is_ok());
+    assert_eq!(rt;
+        read_all(rt.alloc(), &mut tap)?.as_slice(),
+        b"abcd".as_slice()
+    );
+    Ok(())
+}
+
+#[test]
+fn room_that_is_not_there_is_refused(rt: HostRuntime) -> Result<(), Fail> {
+    assert!(rt; Tap::new(rt.alloc(), b"ab", usize::MAX).is_err());
+    Ok(())
+}
+
+#[test]
+fn short_and_interrupted_reads_lose_no_byte(rt: HostRuntime) -> Result<(), Fail> {
+    let mut input = Counted::new(Slow {
+        rest: TEXT,
+        interrupted: false,
+    });
+    assert_eq!(rt; read_all(rt.alloc(), &mut input)?.as_slice(), TEXT);
+    Ok(())
+}
+
+#[test]
+fn short_and_interrupted_writes_lose_no_byte(rt: HostRuntime) -> Result<(), Fail> {
+    for room in 0..TEXT.len() + 2 {
+        let mut out = Counted::new(Narrow {
+            room,
+            interrupted: false,
+        });
+        let answer = write_bytes(&mut out, TEXT);
+        assert!(rt; answer.is_ok() == (room >= TEXT.len()), "room for {room}");
+        if let Err(fault) = answer {
+            assert!(rt; fault.written == room as u64, "room for {room}");
+        }
+    }
+    Ok(())
+}
+
+#[test]
+fn a_text_longer_than_one_read_is_read_whole(rt: HostRuntime) -> Result<(), Fail> {
+    let long = vec![in rt.alloc(); 7u8; 300_000]?;
+    let mut input = Counted::new(long.as_slice());
+    let text = read_all(rt.alloc(), &mut input)?;
+    assert!(rt; text == long);
+    Ok(())
+}
