@@ -4,7 +4,7 @@ use Rattle.std.proofs.lemmas.Bool.{le-leb, cases_lt}
 use Rattle.std.proofs.lemmas.Bool.Decides.{nat_tests}
 use Rattle.std.proofs.lemmas.Int.{ints}
 use Rattle.std.specs.Int.{int_rem_euclid}
-use Rattle.mail_core.specs.Calendar.{is_leap, year_days, month_days, days_before_year, days_of_months, days_before, day_number, is_date, day_number_of, is_instant, day_of_instant}
+use Rattle.mail_core.specs.Calendar.{is_leap, year_days, month_days, days_before_year, days_of_months, days_before, day_number, is_date, day_number_of, day_of_date, is_instant, day_of_instant}
 use Rattle.mbox_core.specs.Written.{Date, year_after, month_after, date_after, days_since_1900}
 
 next_days : (y : ℕ) → days_before_year (suc y) ≡ days_before_year y + year_days y
@@ -247,3 +247,106 @@ split_is (negsuc a) h =
       seconds = omega arith;
       same = omega (arith, ints);
     }
+
+-- ---- the date of a day is the one with its number
+
+-- the days of a year before a date
+in_year : (y m d : ℕ) → 1 ≤ m → m ≤ 12 → 1 ≤ d → d ≤ month_days y m → days_of_months y (m - 1) + d - 1 < year_days y
+in_year y m d some last one in_month =
+    let s : suc (m - 1) ≡ m = omega arith in
+    let k : m + (12 - m) ≡ 12 = omega arith in
+    let n : days_of_months y m ≡ days_of_months y (m - 1) + month_days y m = rw s at (next_month y (m - 1)) in
+    let all : days_of_months y m ≤ days_of_months y 12 = rw k at (more_months (12 - m) y m) in
+    omega (arith, n, all, all_months y)
+
+same_parts : (y m d y' m' d' : ℕ) → y ≡ y' → m ≡ m' → d ≡ d'
+    → let a : Date = record { year = y; month = m; day = d } in let b : Date = record { year = y'; month = m'; day = d' } in a ≡ b
+same_parts y m d y' m' d' e f g = rw (e, f, g) refl
+
+same_date : (a b : Date) (n : ℕ) → IsFound n a → IsFound n b → a ≡ b
+same_date a b n f g =
+    let ra = in_year a.year a.month a.day f.some_month f.in_year f.some_day f.in_month in
+    let rb = in_year b.year b.month b.day g.some_month g.in_year g.some_day g.in_month in
+    let years = same_year a.year b.year (days_of_months a.year (a.month - 1) + a.day - 1) (days_of_months b.year (b.month - 1) + b.day - 1) ra rb (f.number ∙ sym g.number) in
+    by_year a b n f g years
+  where
+    by_day : (a b : Date) (n : ℕ) → IsFound n a → IsFound n b → a.year ≡ b.year → a.month ≡ b.month → a ≡ b
+    by_day a b n f g y m =
+        let d : a.day ≡ b.day =
+            let e = f.number ∙ sym g.number in
+            let h = rw (y, m) at e in
+            omega (arith, h, f.some_day, g.some_day) in
+        same_parts a.year a.month a.day b.year b.month b.day y m d
+
+    by_year : (a b : Date) (n : ℕ) → IsFound n a → IsFound n b → a.year ≡ b.year → a ≡ b
+    by_year a b n f g y =
+        let sa : suc (a.month - 1) ≡ a.month = omega (arith, f.some_month) in
+        let sb : suc (b.month - 1) ≡ b.month = omega (arith, g.some_month) in
+        let wa : a.day - 1 < month_days b.year (suc (a.month - 1)) = rw (sa, ← y) (omega (arith, f.in_month, f.some_day)) in
+        let wb : b.day - 1 < month_days b.year (suc (b.month - 1)) = rw sb (omega (arith, g.in_month, g.some_day)) in
+        let e = f.number ∙ sym g.number in
+        let h = rw y at e in
+        let m = same_month b.year (a.month - 1) (b.month - 1) (a.day - 1) (b.day - 1) wa wb (omega (arith, h, f.some_day, g.some_day)) in
+        by_day a b n f g y (omega (arith, m, f.some_month, g.some_month))
+
+-- what the calendar says of a date
+pub record IsRead (y m d : ℕ) (day : ℤ) : Type 0 where
+  pub first : 1900 ≤ y
+  pub last : y ≤ 9998
+  pub some_month : 1 ≤ m
+  pub in_year : m ≤ 12
+  pub some_day : 1 ≤ d
+  pub in_month : d ≤ month_days y m
+  pub same : day_number y m d ≡ day
+
+guard : {A : Type 0} (b : Bool) (o : Option A) (x : A) → (if b then o else None) ≡ Some x → (b ≡ true) × (o ≡ Some x)
+guard true o x h = (refl, h)
+guard false o x h = absurd (cc)
+
+at_most : (a b : ℕ) → nat_le a b ≡ true → a ≤ b
+at_most a b h = grind (arith, nat_tests)
+
+read_is : (y m d : ℕ) (day : ℤ) → day_of_date (pos y) m d ≡ Some day → IsRead y m d day
+read_is y m d day h =
+    let a = guard (nat_le 1900 y && nat_le y 9998) (day_number_of y m d) day h in
+    let years = both (nat_le 1900 y) (nat_le y 9998) a.0 in
+    let b = guard (is_date y m d) (Some (day_number y m d)) day a.1 in
+    let c = both (nat_le y 9999 && (nat_le 1 m && nat_le m 12)) (nat_le 1 d && nat_le d (month_days y m)) b.0 in
+    let months = both (nat_le y 9999) (nat_le 1 m && nat_le m 12) c.0 in
+    let month = both (nat_le 1 m) (nat_le m 12) months.1 in
+    let days = both (nat_le 1 d) (nat_le d (month_days y m)) c.1 in
+    record {
+      first = at_most 1900 y years.0;
+      last = at_most y 9998 years.1;
+      some_month = at_most 1 m month.0;
+      in_year = at_most m 12 month.1;
+      some_day = at_most 1 d days.0;
+      in_month = at_most d (month_days y m) days.1;
+      same = let e : day_number y m d ≡ day = cc (b.1) in e;
+    }
+
+back : (y m d : ℕ) (day : ℤ) → IsRead y m d day → date_after (days_since_1900 day) ≡ record { year = y; month = m; day = d }
+back y m d day r =
+    let n = days_since_1900 day in
+    let inside = in_year y m d r.some_month r.in_year r.some_day r.in_month in
+    let k : 1900 + (y - 1900) ≡ y = omega (arith, r.first) in
+    let low : days_before_year 1900 ≤ days_before_year y = rw k at (more_days (y - 1900) 1900) in
+    let l : suc y + (9999 - suc y) ≡ 9999 = omega (arith, r.last) in
+    let high : days_before_year (suc y) ≤ days_before_year 9999 = rw l at (more_days (9999 - suc y) (suc y)) in
+    let at : pos (days_before y m d) -ℤ pos 719528 ≡ day = rw (ap (λ e. pos (days_before y m d) -ℤ pos e) (sym epoch)) r.same in
+    let number : days_before y m d ≡ 693961 + n = rw (← at) (omega (arith, ints, low, first_year)) in
+    let found : IsFound n (record { year = y; month = m; day = d }) = record {
+      first = r.first;
+      last = r.last;
+      some_month = r.some_month;
+      in_year = r.in_year;
+      some_day = r.some_day;
+      in_month = r.in_month;
+      number = number;
+    } in
+    same_date (date_after n) (record { year = y; month = m; day = d }) n (date_is n (omega (arith, number, inside, high, past_years, next_days y))) found
+
+-- the date of a day
+pub date_back : (y : ℤ) (m d : ℕ) (day : ℤ) → day_of_date y m d ≡ Some day → date_after (days_since_1900 day) ≡ record { year = unsigned_abs y; month = m; day = d }
+date_back (pos y) m d day h = back y m d day (read_is y m d day h)
+date_back (negsuc y) m d day h = absurd (let e : None ≡ Some day = h in cc)

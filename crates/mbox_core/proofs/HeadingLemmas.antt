@@ -1,5 +1,5 @@
 -- The canonical separator line of an envelope says that envelope.
-use Rattle.std.proofs.Common.{◌≡◌, ◌≢◌, ℕ, zero, suc, ◌+◌, ◌-◌, ◌*◌, ◌<◌, ◌≤◌, Bool, true, false, not, ◌==◌, ◌&&◌, ◌||◌, nat_lt, refl, arith, ap, ◌∙◌, sym, if◌then◌else◌, Option, Some, None, List, [], ◌∷◌, ◌++◌, length, take, get_or, subst, codes, ℤ, pos, negsuc, ◌+ℤ◌, ◌*ℤ◌, unsigned_abs, append_assoc}
+use Rattle.std.proofs.Common.{◌≡◌, ◌≢◌, ℕ, zero, suc, ◌+◌, ◌-◌, ◌*◌, ◌/◌, ◌%◌, ◌<◌, ◌≤◌, Bool, true, false, not, ◌==◌, ◌&&◌, ◌||◌, nat_lt, refl, arith, ap, ◌∙◌, sym, if◌then◌else◌, Option, Some, None, List, [], ◌∷◌, ◌++◌, length, take, drop, length-take, length-drop, get_or, subst, codes, ℤ, pos, negsuc, ◌+ℤ◌, ◌*ℤ◌, unsigned_abs, append_assoc}
 use Rattle.std.proofs.lemmas.Bool.Decides.{nat_tests}
 use Rattle.std.proofs.lemmas.Int.{ints}
 use Rattle.std.specs.Int.{int_rem_euclid}
@@ -195,3 +195,72 @@ heading_says e is =
       exists = ap (λ m. day_number_of date.year m date.day) month ∙ found_number n day date found split.low;
       instant = instant_is z day s is.arrival split.same;
     }
+
+-- ---- the line as the code puts it together
+
+pub list_two : (xs : List ℕ) → length xs ≡ 2 → xs ≡ get_or xs 0 0 ∷ get_or xs 1 0 ∷ []
+list_two [] h = absurd (let e : 0 ≡ 2 = h in omega (arith, e))
+list_two (a ∷ []) h = absurd (let e : 1 ≡ 2 = h in omega (arith, e))
+list_two (a ∷ b ∷ []) h = refl
+list_two (a ∷ b ∷ c ∷ xs) h = absurd (let e : suc (suc (suc (length xs))) ≡ 2 = h in omega (arith, e))
+
+pub list_three : (xs : List ℕ) → length xs ≡ 3 → xs ≡ get_or xs 0 0 ∷ get_or xs 1 0 ∷ get_or xs 2 0 ∷ []
+list_three [] h = absurd (let e : 0 ≡ 3 = h in omega (arith, e))
+list_three (a ∷ []) h = absurd (let e : 1 ≡ 3 = h in omega (arith, e))
+list_three (a ∷ b ∷ []) h = absurd (let e : 2 ≡ 3 = h in omega (arith, e))
+list_three (a ∷ b ∷ c ∷ []) h = refl
+list_three (a ∷ b ∷ c ∷ d ∷ xs) h = absurd (let e : suc (suc (suc (suc (length xs)))) ≡ 3 = h in omega (arith, e))
+
+pub name_length : (n : ℕ) (names : List ℕ) → 3 * n + 2 < length names → length (name_at n names) ≡ 3
+name_length n names h = omega (arith, h, length-take 3 (drop (3 * n) names), length-drop (3 * n) names)
+
+pub day_length : (n : ℕ) → length (as_day_digits n) ≡ 2
+day_length n = cases (nat_lt n 10)
+  where
+    cases : (t : Bool) → length (if t then 32 ∷ (48 + n) ∷ [] else as_two_digits n) ≡ 2
+    cases true = refl
+    cases false = refl
+
+-- the pieces of a line, byte by byte
+by_bytes : (w0 w1 w2 m0 m1 m2 d0 d1 h0 h1 n0 n1 s0 s1 y0 y1 z0 z1 : ℕ) (w m d h n s y z : List ℕ)
+    → w ≡ w0 ∷ w1 ∷ w2 ∷ [] → m ≡ m0 ∷ m1 ∷ m2 ∷ [] → d ≡ d0 ∷ d1 ∷ [] → h ≡ h0 ∷ h1 ∷ [] → n ≡ n0 ∷ n1 ∷ [] → s ≡ s0 ∷ s1 ∷ [] → y ≡ y0 ∷ y1 ∷ [] → z ≡ z0 ∷ z1 ∷ []
+    → (32 ∷ (w ++ 32 ∷ (m ++ 32 ∷ (d ++ 32 ∷ ((h ++ 58 ∷ (n ++ 58 ∷ s)) ++ 32 ∷ (y ++ z)))))) ++ 10 ∷ []
+    ≡ 32 ∷ w0 ∷ w1 ∷ w2 ∷ 32 ∷ m0 ∷ m1 ∷ m2 ∷ 32 ∷ d0 ∷ d1 ∷ 32 ∷ h0 ∷ h1 ∷ 58 ∷ n0 ∷ n1 ∷ 58 ∷ s0 ∷ s1 ∷ 32 ∷ y0 ∷ y1 ∷ z0 ∷ z1 ∷ 10 ∷ []
+by_bytes w0 w1 w2 m0 m1 m2 d0 d1 h0 h1 n0 n1 s0 s1 y0 y1 z0 z1 w m d h n s y z ew em ed eh en es ey ez = rw (ew, em, ed, eh, en, es, ey, ez) refl
+
+three_of : (xs ys : List ℕ) → xs ≡ ys → length ys ≡ 3 → ys ≡ get_or xs 0 0 ∷ get_or xs 1 0 ∷ get_or xs 2 0 ∷ []
+three_of xs ys e h = sym e ∙ list_three xs (ap length e ∙ h)
+
+two_of : (xs ys : List ℕ) → xs ≡ ys → length ys ≡ 2 → ys ≡ get_or xs 0 0 ∷ get_or xs 1 0 ∷ []
+two_of xs ys e h = sym e ∙ list_two xs (ap length e ∙ h)
+
+-- the same, where each piece was made
+pub line_is : (weekday : ℕ) (date : Date) (seconds : ℕ) (w m d h n s y z : List ℕ) → weekday < 7 → date.month - 1 < 12
+    → w ≡ name_at weekday weekday_names → m ≡ name_at (date.month - 1) month_names → d ≡ as_day_digits date.day
+    → h ≡ as_two_digits (seconds / 3600) → n ≡ as_two_digits (seconds / 60 % 60) → s ≡ as_two_digits (seconds % 60)
+    → y ≡ as_two_digits (date.year / 100) → z ≡ as_two_digits (date.year % 100)
+    → 32 ∷ get_or w 0 0 ∷ get_or w 1 0 ∷ get_or w 2 0 ∷ 32 ∷ get_or m 0 0 ∷ get_or m 1 0 ∷ get_or m 2 0 ∷ 32 ∷ get_or d 0 0 ∷ get_or d 1 0
+    ∷ 32 ∷ get_or h 0 0 ∷ get_or h 1 0 ∷ 58 ∷ get_or n 0 0 ∷ get_or n 1 0 ∷ 58 ∷ get_or s 0 0 ∷ get_or s 1 0
+    ∷ 32 ∷ get_or y 0 0 ∷ get_or y 1 0 ∷ get_or z 0 0 ∷ get_or z 1 0 ∷ 10 ∷ []
+    ≡ (32 ∷ date_text weekday date seconds) ++ 10 ∷ []
+line_is weekday date seconds w m d h n s y z hw hm ew em ed eh en es ey ez = sym (by_bytes
+    (get_or w 0 0) (get_or w 1 0) (get_or w 2 0) (get_or m 0 0) (get_or m 1 0) (get_or m 2 0) (get_or d 0 0) (get_or d 1 0)
+    (get_or h 0 0) (get_or h 1 0) (get_or n 0 0) (get_or n 1 0) (get_or s 0 0) (get_or s 1 0) (get_or y 0 0) (get_or y 1 0) (get_or z 0 0) (get_or z 1 0)
+    (name_at weekday weekday_names) (name_at (date.month - 1) month_names) (as_day_digits date.day)
+    (as_two_digits (seconds / 3600)) (as_two_digits (seconds / 60 % 60)) (as_two_digits (seconds % 60)) (as_two_digits (date.year / 100)) (as_two_digits (date.year % 100))
+    (three_of w _ ew (name_length weekday weekday_names (let g : 3 * weekday + 2 < 21 = omega (arith, hw) in g)))
+    (three_of m _ em (name_length (date.month - 1) month_names (let g : 3 * (date.month - 1) + 2 < 36 = omega (arith, hm) in g)))
+    (two_of d _ ed (day_length date.day)) (two_of h _ eh refl) (two_of n _ en refl) (two_of s _ es refl) (two_of y _ ey refl) (two_of z _ ez refl))
+
+-- the time of an instant, from its day, its date and the seconds in the day
+pub time_is : (z day : ℤ) (date : Date) (s : ℕ) → day ≡ day_of_instant z → date_after (days_since_1900 day) ≡ date
+    → unsigned_abs (int_rem_euclid z (pos 86400)) ≡ s → time_text z ≡ date_text (weekday day) date s
+unfolding time_text
+time_is z day date s e f g = rw (← e, f, g) refl
+
+-- a line of the same parts
+pub same_line : (r : List ℕ) (z : ℤ) (w s y m d : ℕ) (w' s' y' m' d' : ℕ)
+    → r ≡ (32 ∷ date_text w (record { year = y; month = m; day = d }) s) ++ 10 ∷ []
+    → time_text z ≡ date_text w' (record { year = y'; month = m'; day = d' }) s' → w ≡ w' → s ≡ s' → y ≡ y' → m ≡ m' → d ≡ d'
+    → r ≡ (32 ∷ time_text z) ++ 10 ∷ []
+same_line r z w s y m d w' s' y' m' d' h t ew es ey em ed = h ∙ rw (t, ew, es, ey, em, ed) refl

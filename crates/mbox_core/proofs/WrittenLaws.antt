@@ -1,5 +1,5 @@
 -- What is written is cut again.
-use Rattle.std.proofs.Common.{◌≡◌, ◌≢◌, ℕ, zero, suc, ◌+◌, ◌-◌, ◌*◌, ◌/◌, ◌%◌, ◌<◌, ◌≤◌, Bool, true, false, not, ◌==◌, ◌&&◌, ◌||◌, nat_lt, refl, arith, ap, ◌∙◌, sym, if◌then◌else◌, inl, inr, ◌⊎◌, List, [], ◌∷◌, ◌++◌, length, take, take_all, get_or, subst, codes, map, append_assoc, Option, Some, None, ℤ, pos, ◌+ℤ◌, ◌*ℤ◌, unsigned_abs}
+use Rattle.std.proofs.Common.{◌≡◌, ◌≢◌, ℕ, zero, suc, ◌+◌, ◌-◌, ◌*◌, ◌/◌, ◌%◌, ◌<◌, ◌≤◌, Bool, true, false, not, ◌==◌, ◌&&◌, ◌||◌, nat_lt, refl, arith, ap, ◌∙◌, sym, if◌then◌else◌, inl, inr, ◌⊎◌, List, [], ◌∷◌, ◌++◌, length, length-append, take, take_all, get_or, subst, codes, map, append_assoc, Option, Some, None, ℤ, pos, ◌+ℤ◌, ◌*ℤ◌, unsigned_abs}
 use Rattle.std.specs.List.{All}
 use Rattle.std.specs.Int.{int_rem_euclid}
 use Rattle.std.proofs.lemmas.List.{take_more}
@@ -15,7 +15,7 @@ use Rattle.mbox_core.proofs.LineLemmas.{lines-nil, lines-append, IsEnded, lf_fir
 use Rattle.mbox_core.proofs.ItemLemmas.{ends_cons, content-lf, never, whole_none}
 use Rattle.mbox_core.proofs.DateLemmas.{both}
 use Rattle.mbox_core.proofs.DigitLemmas.{is_run, is_plain, two_plain, one_plain, four_plain, clock_plain, weekday_plain, month_plain}
-use Rattle.mbox_core.proofs.HeadingLemmas.{heading_says, sender_run, plain_inside, rest_small, in_year_after}
+use Rattle.mbox_core.proofs.HeadingLemmas.{name_length, day_length, heading_says, sender_run, plain_inside, rest_small, in_year_after}
 
 -- ---- the separator line is one line
 
@@ -100,6 +100,30 @@ heading_ended e is =
     ended_run (codes "From") refl (32 ∷ (e.sender ++ 32 ∷ time_text e.arrival))
     (ended_space (e.sender ++ 32 ∷ time_text e.arrival) (ended_run e.sender (sender_run e.sender is.sender) (32 ∷ time_text e.arrival)
     (ended_space (time_text e.arrival) (date_ended (weekday day) (date_after (days_since_1900 day)) (unsigned_abs (int_rem_euclid e.arrival (pos 86400))) (rest_small (day +ℤ pos 3)) (in_year_after e is)))))
+
+-- ---- its length
+
+date_length : (w : ℕ) (date : Date) (s : ℕ) → w < 7 → date.month - 1 < 12 → length (date_text w date s) ≡ 24
+date_length w date s hw hm =
+    let year = as_four_digits date.year in
+    let clock = clock_text s ++ 32 ∷ year in
+    let day = as_day_digits date.day ++ 32 ∷ clock in
+    let month = name_at (date.month - 1) month_names ++ 32 ∷ day in
+    let lw = name_length w weekday_names (let g : 3 * w + 2 < 21 = omega (arith, hw) in g) in
+    let lm = name_length (date.month - 1) month_names (let g : 3 * (date.month - 1) + 2 < 36 = omega (arith, hm) in g) in
+    omega (arith, lw, lm, day_length date.day, length-append (name_at w weekday_names) (32 ∷ month),
+    length-append (name_at (date.month - 1) month_names) (32 ∷ day), length-append (as_day_digits date.day) (32 ∷ clock))
+
+time_length : (e : Envelope) → IsEnvelope e → length (time_text e.arrival) ≡ 24
+unfolding time_text
+time_length e is =
+    let day = day_of_instant e.arrival in
+    date_length (weekday day) (date_after (days_since_1900 day)) (unsigned_abs (int_rem_euclid e.arrival (pos 86400))) (rest_small (day +ℤ pos 3)) (in_year_after e is)
+
+pub heading_length : (e : Envelope) → IsEnvelope e → length (ended (heading e)) ≡ 31 + length e.sender
+heading_length e is =
+    let t = time_text e.arrival in
+    omega (arith, time_length e is, length-append (codes "From " ++ (e.sender ++ 32 ∷ t)) (10 ∷ []), length-append e.sender (32 ∷ t))
 
 -- ---- the division of what is written
 

@@ -1,6 +1,6 @@
 -- Messages as they are written (RFC 4155, appendix A): a separator line with one address, one space, and the time in
 -- UTC in the form of C's `ctime`; the whole text; and an empty line.
-use Rattle.std.specs.Prelude.{◌≡◌, ℕ, zero, suc, ◌+◌, ◌-◌, ◌*◌, ◌/◌, ◌%◌, nat_lt, Bool, true, List, [], ◌∷◌, ◌++◌, take, drop, if◌then◌else◌, ℤ, pos, ◌+ℤ◌, unsigned_abs, codes}
+use Rattle.std.specs.Prelude.{◌≡◌, ℕ, zero, suc, ◌+◌, ◌-◌, ◌*◌, ◌/◌, ◌%◌, ◌≤◌, nat_lt, Bool, true, List, [], ◌∷◌, ◌++◌, length, take, drop, if◌then◌else◌, ℤ, pos, ◌+ℤ◌, unsigned_abs, codes}
 use Rattle.std.specs.Int.{int_rem_euclid}
 use Rattle.std.specs.List.{AllByRecursion}
 use Rattle.mail_core.specs.Calendar.{year_days, month_days, days_before, weekday, is_instant, day_of_instant}
@@ -91,6 +91,10 @@ written_item item = ended (heading item.envelope) ++ ended (whole item.text)
 abbrev pub written : List Item → List ℕ
 written [] = []
 written (item ∷ items) = written_item item ++ written items
+
+-- of some text exactly the first `count` bytes were written
+abbrev pub IsCutShort : List ℕ → List ℕ → List ℕ → ℕ → Type 0
+IsCutShort before after text count = (count ≤ length text) × (after ≡ before ++ take count text)
 
 -- a message whose text is the whole text
 abbrev pub whole_item : Item → Item

@@ -10,13 +10,16 @@ pub use faults::MboxFault;
 pub use items::Item;
 pub use senders::Sender;
 pub use separators::{Envelope, separator};
+pub use writing::write_item;
 
 mod cutting;
 pub mod device;
 mod faults;
+mod heading;
 mod items;
 pub mod laws;
 mod lines;
 mod senders;
 mod separators;
 mod tokens;
+mod writing;

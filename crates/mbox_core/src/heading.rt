@@ -1,0 +1,88 @@
+//! The time of a separator line, as it is written (RFC 4155, appendix A).
+ghost use Rattle.std.specs.Prelude.{◌≡◌, ◌<◌, ◌≤◌, ◌∷◌, ◌++◌, ◌*◌, ◌+◌, [], length};
+ghost use Rattle.mbox_core.specs.Written.{as_two_digits, as_day_digits, name_at, weekday_names, month_names, date_text, time_text};
+
+use mail_core::Instant;
+
+/// A date of the civil calendar.
+#[derive(Clone, Copy)]
+struct Date {
+    year: u16,
+    month: u8,
+    day: u8,
+}
+
+const WEEKDAYS: &[u8] = b"MonTueWedThuFriSatSun";
+
+const MONTHS: &[u8] = b"JanFebMarAprMayJunJulAugSepOctNovDec";
+
+/// The n-th of some names of three letters.
+fn name(n: u8, names: &[u8]) -> [u8; 3]
+    requires { 3 * n + 2 < length names.now }
+    ensures { result ≡ name_at n names.now }
+{
+    let at = 3 * n as usize;
+    [names[at], names[at + 1], names[at + 2]]
+}
+
+/// Two digits.
+fn pair(n: u32) -> [u8; 2]
+    requires { n < 100 }
+    ensures { result ≡ as_two_digits n }
+{
+    [(48 + n / 10) as u8, (48 + n % 10) as u8]
+}
+
+/// A day in two columns.
+fn day_pair(n: u32) -> [u8; 2]
+    requires { n < 100 }
+    ensures { result ≡ as_day_digits n }
+{
+    if n < 10 {
+        [b' ', (48 + n) as u8]
+    } else {
+        pair(n)
+    }
+}
+
+/// A space, `Www Mmm dd hh:mm:ss yyyy`, and an LF.
+fn date_line(weekday: u8, date: Date, seconds: u32) -> [u8; 26]
+    requires weekday { weekday < 7 }
+    requires month { (1 ≤ date.month) × (date.month ≤ 12) }
+    requires day { date.day < 100 }
+    requires year { date.year < 10000 }
+    requires seconds { seconds < 86400 }
+    ensures { result ≡ (32 ∷ date_text weekday (record {
+        year = date.year;
+        month = date.month;
+        day = date.day
+    }) seconds) ++ 10 ∷ [] }
+{
+    let [w0, w1, w2] = name(weekday, WEEKDAYS);
+    let [m0, m1, m2] = name(date.month - 1, MONTHS);
+    let [d0, d1] = day_pair(date.day as u32);
+    let [h0, h1] = pair(seconds / 3600);
+    let [n0, n1] = pair(seconds / 60 % 60);
+    let [s0, s1] = pair(seconds % 60);
+    let [y0, y1] = pair(date.year as u32 / 100);
+    let [y2, y3] = pair(date.year as u32 % 100);
+    [
+        b' ', w0, w1, w2, b' ', m0, m1, m2, b' ', d0, d1, b' ', h0, h1, b':', n0, n1, b':', s0, s1,
+        b' ', y0, y1, y2, y3, b'\n',
+    ]
+}
+
+/// A space, the time of an instant in UTC as `Www Mmm dd hh:mm:ss yyyy`, and an LF.
+pub(crate) fn time_line(arrival: Instant) -> [u8; 26]
+    ensures { result ≡ (32 ∷ time_text arrival) ++ 10 ∷ [] }
+{
+    let day = arrival.day();
+    let (year, month, day_of_month) = day.parts();
+    let date = Date {
+        year: year as u16,
+        month,
+        day: day_of_month,
+    };
+    let seconds = arrival.seconds().rem_euclid(86400) as u32;
+    date_line(day.weekday(), date, seconds)
+}
