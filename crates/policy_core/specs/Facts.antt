@@ -1,0 +1,40 @@
+-- What is asked of a policy: may this reader read this message on this day. (profile: the archive's own rules of access)
+use Rattle.std.specs.Prelude.{ℕ, ℤ, List, Bool, true, false, int_lt, ◌-ℤ◌, Option, Some, None}
+use Rattle.policy_core.specs.declared.access.Standing.{Standing}
+use Rattle.policy_core.specs.declared.access.Standing.TheVariants.{Public, Member, Subscriber, Moderator}
+use Rattle.policy_core.specs.declared.access.Withdrawn.{Withdrawn}
+use Rattle.policy_core.specs.declared.access.Withdrawn.TheVariants.{No, Author, Board}
+
+-- days are day numbers from 1970-01-01
+pub record Facts : Type 0 where
+  pub list : List ℕ
+  pub standing : Standing
+  pub day : ℤ
+  pub arrival_day : ℤ
+  pub withdrawn : Withdrawn
+  pub embargo_until : Option ℤ
+
+-- the embargo is on up to the day before its until day
+abbrev pub is_before_until : ℤ → Option ℤ → Bool
+is_before_until day None = false
+is_before_until day (Some until) = int_lt day until
+
+abbrev pub is_embargoed : Facts → Bool
+is_embargoed f = is_before_until f.day f.embargo_until
+
+-- how old the message is on the reading day, in days; negative where it arrives after that day
+abbrev pub age : Facts → ℤ
+age f = f.day -ℤ f.arrival_day
+
+abbrev pub same_standing : Standing → Standing → Bool
+same_standing Public Public = true
+same_standing Member Member = true
+same_standing Subscriber Subscriber = true
+same_standing Moderator Moderator = true
+same_standing _ _ = false
+
+abbrev pub same_withdrawal : Withdrawn → Withdrawn → Bool
+same_withdrawal No No = true
+same_withdrawal Author Author = true
+same_withdrawal Board Board = true
+same_withdrawal _ _ = false

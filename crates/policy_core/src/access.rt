@@ -1,0 +1,74 @@
+//! What is asked of a policy, and what it answers.
+ghost use Rattle.std.specs.Prelude.{◌≡◌};
+ghost use Rattle.policy_core.specs.Facts.{is_embargoed, age};
+
+use mail_core::Day;
+use std::marker::Model;
+
+/// What a reader is to a list, from the least to the most. Who has no grant on the list is `Public`.
+#[derive(Clone, Copy, Debug, PartialEq, Eq, PartialOrd, Ord, Hash)]
+pub enum Standing {
+    Public,
+    Member,
+    Subscriber,
+    Moderator,
+}
+
+/// Whether a message is withdrawn, and by whom: its author, or the list's board.
+#[derive(Clone, Copy, Debug, PartialEq, Eq, Hash)]
+pub enum Withdrawn {
+    No,
+    Author,
+    Board,
+}
+
+/// A question to a policy: may this reader read this message on this day?
+#[derive(Debug, Drop)]
+pub struct Facts<'a> {
+    /// The name of the message's list.
+    pub list: &'a str,
+    /// The reader's standing on that list, on the reading day.
+    pub standing: Standing,
+    /// The reading day.
+    pub day: Day,
+    /// The day, in UTC, on which the message arrived.
+    pub arrival_day: Day,
+    /// Whether the message is withdrawn.
+    pub withdrawn: Withdrawn,
+    /// The day on which the message's embargo ends, if it has one: it is on before this day.
+    pub embargo_until: Option<Day>,
+}
+
+impl<'a> Model for Facts<'a> {
+    ghost use Rattle.policy_core.specs.Facts.{Facts as Asked};
+
+    ghost Value = { Asked };
+
+    ghost view = { λ f. record { list = f.list.now; standing = f.standing; day = f.day; arrival_day = f.arrival_day; withdrawn = f.withdrawn; embargo_until = f.embargo_until } };
+}
+
+impl<'a> Facts<'a> {
+    /// Whether the embargo is on: on the days before its until day.
+    pub fn is_embargoed(&self) -> bool
+        ensures { result ≡ is_embargoed self.now }
+    {
+        match self.embargo_until {
+            Some(until) => self.day < until,
+            None => false,
+        }
+    }
+
+    /// Days from the arrival to the reading day; negative where the message arrives later.
+    pub fn age(&self) -> i64
+        ensures { result ≡ age self.now }
+    {
+        i64::from(self.day.number()) - i64::from(self.arrival_day.number())
+    }
+}
+
+/// What a policy says, with the name of the first rule that fits; `default` where none fits.
+#[derive(Clone, Copy, Debug, PartialEq, Eq)]
+pub enum Verdict<'a> {
+    Allowed(&'a str),
+    Denied(&'a str),
+}
