@@ -10,7 +10,7 @@ pub use faults::MboxFault;
 pub use items::Item;
 pub use senders::Sender;
 pub use separators::{Envelope, separator};
-pub use writing::write_item;
+pub use writing::{write_item, written_len};
 
 mod cutting;
 pub mod device;

@@ -1,5 +1,5 @@
 //! Writing messages (RFC 4155).
-ghost use Rattle.std.specs.Prelude.{◌≡◌, ◌≤◌, ◌<◌, ◌+◌, ◌^◌, ◌++◌, ◌∷◌, [], length, take, drop, OnOk, IfErr, OnErr, codes};
+ghost use Rattle.std.specs.Prelude.{◌≡◌, ◌≤◌, ◌<◌, ◌+◌, ◌^◌, ◌++◌, ◌∷◌, [], length, min, take, drop, OnOk, IfErr, OnErr, codes};
 ghost use Rattle.mbox_core.specs.Division.{whole};
 ghost use Rattle.mbox_core.specs.Written.{IsCutShort, heading, written_item, ended};
 
@@ -114,4 +114,14 @@ pub fn write_item<W: Sink>(out: &mut W, item: &Item) -> Result<(), WriteFault>
         });
     }
     Ok(())
+}
+
+/// How many bytes `write_item` writes of this message: 2^64 - 1 where there are more.
+pub fn written_len(item: &Item) -> u64
+    ensures { result ≡ min (length (written_item item.now)) 18446744073709551615 }
+{
+    let tail = tail_of(item);
+    heading_len(&item.envelope)
+        .saturating_add(item.text.len() as u64)
+        .saturating_add(tail.len() as u64)
 }
