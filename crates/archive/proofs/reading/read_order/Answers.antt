@@ -1,0 +1,14 @@
+use Rattle.std.proofs.Common.{rules, ◌≡◌, ◌∙◌, codes, Some, None, ap₂, ap, sym}
+use Rattle.clap.specs.Words.{found_of, Text}
+use Rattle.clap.proofs.WalkLemmas.{first_value-rows}
+use Rattle.mail_core.specs.Calendar.{day_of_text}
+use Rattle.archive.specs.Orders.{sift_with, given, age_of_text}
+use Rattle.archive.proofs.OrderLemmas.{pair_up, order_of-sift, order_of-other}
+use Rattle.archive.proofs.reading.read_order.Goals as goal
+
+pub returns-in-sift : goal.returns-in-sift
+returns-in-sift c =
+    let f = found_of c.in-Some.inner.now in
+    let o = pair_up _ _ _ _ c.in-Some.ensures.name c.in-Some.ensures.rows in
+    let e = order_of-sift _ _ _ o (search (rules, c.in-sift.is)) in
+    rw (e, ← first_value-rows f (codes "day"), ← first_value-rows f (codes "min-age")) c.sift_order.ensures

@@ -1,0 +1,4 @@
+pub mod Program
+pub mod Orders
+pub mod Sifting
+pub mod Running

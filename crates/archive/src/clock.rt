@@ -1,0 +1,24 @@
+//! Which day it is.
+use mail_core::{Day, Instant};
+use std::rt::Clock;
+use std::time::{SystemTime, UNIX_EPOCH};
+
+/// Whoever knows which day it is, in UTC. `None`: it does not.
+pub trait DayClock {
+    fn today(&mut self) -> Option<Day>;
+}
+
+/// The system's clock.
+#[derive(Drop)]
+pub struct SystemDay<'a, R> {
+    pub rt: &'a R,
+}
+
+impl<'a, R: Clock> DayClock for SystemDay<'a, R> {
+    fn today(&mut self) -> Option<Day> {
+        let now = SystemTime::now(self.rt).ok()?;
+        let passed = now.duration_since(UNIX_EPOCH).ok()?;
+        let seconds = i64::try_from(passed.as_secs()).ok()?;
+        Some(Instant::new(seconds)?.day())
+    }
+}
