@@ -10,7 +10,7 @@ pub use faults::MboxFault;
 pub use items::Item;
 pub use senders::Sender;
 pub use separators::{Envelope, separator};
-pub use writing::write_item;
+pub use writing::{write_item, written_len};
 
 mod cutting;
 pub mod device;
@@ -19,7 +19,11 @@ mod heading;
 mod items;
 pub mod laws;
 mod lines;
+#[cfg(test)]
+mod plain;
 mod senders;
 mod separators;
+#[cfg(test)]
+mod tests;
 mod tokens;
 mod writing;
