@@ -7,10 +7,12 @@ use std::alloc::Global;
 use std::test::Fail;
 
 /// Two messages; the last line is empty.
-const TWO: &[u8] = b"From anna@example.org Tue Mar  4 10:00:00 2003\nFrom: Anna <anna@example.org>\nSubject: Hello\n\nOne.\n\nFrom bob@example.org Wed Mar 12 10:30:00 2003\nSubject: Re: Hello\n\nTwo.\n\n";
+const TWO: &[u8] =
+    b"From anna@example.org Tue Mar  4 10:00:00 2003\nFrom: Anna <anna@example.org>\nSubject: Hello\n\nOne.\n\nFrom bob@example.org Wed Mar 12 10:30:00 2003\nSubject: Re: Hello\n\nTwo.\n\n";
 
 /// One message, with lines that look like separator lines.
-const ALIKE: &[u8] = b"From a@b Tue Mar  4 10:00:00 2003\n\nFrom here on we sail.\nFrom bob@example.org Wed Mar 12 10:30:00 2003\n\nFrom a b Tue Mar 4 10:00:00 2003\n";
+const ALIKE: &[u8] =
+    b"From a@b Tue Mar  4 10:00:00 2003\n\nFrom here on we sail.\nFrom bob@example.org Wed Mar 12 10:30:00 2003\n\nFrom a b Tue Mar 4 10:00:00 2003\n";
 
 /// The messages of an mbox, written, to a device that passes so many bytes and then fails.
 fn write_all(alloc: Global, bytes: &[u8], passes: usize) -> Result<Tap, Fail> {
@@ -93,9 +95,16 @@ fn a_separator_line_without_seconds_is_written_with_them(rt: HostRuntime) -> Res
 }
 
 #[test]
-fn a_separator_line_of_other_letters_and_spaces_is_written_anew(rt: HostRuntime) -> Result<(), Fail> {
+fn a_separator_line_of_other_letters_and_spaces_is_written_anew(
+    rt: HostRuntime,
+) -> Result<(), Fail> {
     assert_eq!(rt;
-        write_all(rt.alloc(), b"\n\nFrom   x  MON  mar 04  23:59:60  2003  \r\nhi\r\n\r\n", 99)?.bytes(),
+        write_all(
+            rt.alloc(),
+            b"\n\nFrom   x  MON  mar 04  23:59:60  2003  \r\nhi\r\n\r\n",
+            99
+        )?
+        .bytes(),
         b"From x Tue Mar  4 23:59:59 2003\nhi\r\n\n".as_slice()
     );
     Ok(())
@@ -108,7 +117,10 @@ fn a_line_before_the_first_separator_line_is_refused(rt: HostRuntime) -> Result<
         (b"hi".as_slice(), 0),
         (b"\r\n\n>From a@b Tue Mar  4 10:00:00 2003\n".as_slice(), 3),
     ] {
-        assert!(rt; count(bytes) == Err(MboxFault::Preamble(offset)), "at {offset}");
+        assert!(rt;
+            count(bytes) == Err(MboxFault::Preamble(offset)),
+            "at {offset}"
+        );
     }
     Ok(())
 }
@@ -151,13 +163,18 @@ fn contents_that_are_no_separator_lines(rt: HostRuntime) {
 }
 
 #[test]
-fn a_message_may_not_hold_a_separator_line_after_an_empty_line(rt: HostRuntime) -> Result<(), Fail> {
+fn a_message_may_not_hold_a_separator_line_after_an_empty_line(
+    rt: HostRuntime,
+) -> Result<(), Fail> {
     for (text, fits) in [
         (b"".as_slice(), true),
         (b"From a@b Tue Mar  4 10:00:00 2003\n".as_slice(), true),
         (b"\n>From a@b Tue Mar  4 10:00:00 2003\n".as_slice(), true),
         (b"\nFrom a@b Tue Mar  4 10:00:00 2003\n".as_slice(), false),
-        (b"x\n\r\nFrom a@b Tue Mar  4 10:00:00 2003".as_slice(), false),
+        (
+            b"x\n\r\nFrom a@b Tue Mar  4 10:00:00 2003".as_slice(),
+            false,
+        ),
     ] {
         let envelope = Envelope {
             sender: Sender::read(b"a@b").ok_or("no sender")?,
@@ -171,7 +188,12 @@ fn a_message_may_not_hold_a_separator_line_after_an_empty_line(rt: HostRuntime) 
 #[test]
 fn senders_are_read(rt: HostRuntime) {
     assert!(rt; Sender::read(b"a\t@\xffb\r") == Some(Sender::One(b"a\t@\xffb\r")));
-    for text in [b"".as_slice(), b"a b".as_slice(), b"a\n".as_slice(), b" a".as_slice()] {
+    for text in [
+        b"".as_slice(),
+        b"a b".as_slice(),
+        b"a\n".as_slice(),
+        b" a".as_slice(),
+    ] {
         assert!(rt; Sender::read(text).is_none());
     }
 }
