@@ -1,13 +1,13 @@
 -- The loops that cut.
-use Rattle.std.proofs.Common.{◌≡◌, ◌≢◌, ℕ, zero, suc, ◌+◌, ◌-◌, ◌<◌, ◌≤◌, Bool, true, false, ◌==◌, List, [], ◌∷◌, ◌++◌, length, take, drop, get_or, refl, arith, ap, ◌∙◌, sym, if◌then◌else◌, Option, Some, None, append_assoc, append-nil, inl, inr, ◌⊎◌, subst, length-take, length-drop}
+use Rattle.std.proofs.Common.{◌≡◌, ℕ, ◌+◌, ◌≤◌, Bool, true, false, List, [], ◌∷◌, ◌++◌, length, take, drop, refl, arith, ap, ◌∙◌, sym, if◌then◌else◌, Some, None, append_assoc, append-nil, subst}
 use Rattle.std.proofs.lemmas.List.{drop-drop, drop_all, length-take-le}
 use Rattle.std.proofs.Math.Seq.{take-add}
 use Rattle.std.specs.List.{concat, AllByRecursion}
 use Rattle.mbox_core.specs.Lines.{lines, content, is_blank}
-use Rattle.mbox_core.specs.Separator.{Envelope, IsSeparator, separator_of}
-use Rattle.mbox_core.specs.Division.{Item, Split, IsBlank, IsSeparatorLine, AreBlocks, Divides, IsPreamble, body, headed, with_line, with_item, split_lines, items_of, items_after, text_in, items_in}
-use Rattle.mbox_core.proofs.LineLemmas.{concat-lines, blank_says, says_blank, AreLines, are_front, are_back, lines-concat, lines_are, lines-nil}
-use Rattle.mbox_core.proofs.SplitLemmas.{Quiet, last_blank, heads, with_lines, nothing, split-nil, split-none, split-some, split-quiet, body-blank, body-some, body-nil, concat_snoc, reads, Reads, none_is, unblank_not}
+use Rattle.mbox_core.specs.Separator.{Envelope, separator_of}
+use Rattle.mbox_core.specs.Division.{Split, IsBlank, AreBlocks, Divides, IsPreamble, body, with_item, split_lines, items_after, text_in, items_in}
+use Rattle.mbox_core.proofs.LineLemmas.{concat-lines, blank_says, AreLines, are_front, are_back, lines-concat, lines_are, lines-nil}
+use Rattle.mbox_core.proofs.SplitLemmas.{Quiet, last_blank, heads, with_lines, nothing, split-nil, split-some, split-quiet, body-blank, body-some, body-nil, reads, Reads, none_is, unblank_not}
 
 concat_append : (a b : List (List ℕ)) → concat (a ++ b) ≡ concat a ++ concat b
 concat_append [] b = refl

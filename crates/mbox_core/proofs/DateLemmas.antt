@@ -1,5 +1,5 @@
 -- The date that comes so many days after 1900-01-01, and the number of a date: there and back.
-use Rattle.std.proofs.Common.{◌≡◌, ◌≢◌, ℕ, zero, suc, ◌+◌, ◌-◌, ◌*◌, ◌/◌, ◌%◌, ◌<◌, ◌≤◌, Bool, true, false, ◌==◌, ◌&&◌, nat_lt, nat_le, refl, arith, ap, ◌∙◌, sym, if◌then◌else◌, Option, Some, None, ℤ, pos, negsuc, ◌+ℤ◌, ◌-ℤ◌, ◌*ℤ◌, unsigned_abs, neg_ℤ, int_le, inl, inr, ◌⊎◌, subst}
+use Rattle.std.proofs.Common.{◌≡◌, ℕ, zero, suc, ◌+◌, ◌-◌, ◌<◌, ◌≤◌, Bool, true, false, ◌&&◌, nat_lt, nat_le, refl, arith, ap, ◌∙◌, sym, if◌then◌else◌, Option, Some, None, ℤ, pos, negsuc, ◌+ℤ◌, ◌-ℤ◌, ◌*ℤ◌, unsigned_abs, neg_ℤ, int_le, inl, inr, ◌⊎◌}
 use Rattle.std.proofs.lemmas.Bool.{le-leb, cases_lt}
 use Rattle.std.proofs.lemmas.Bool.Decides.{nat_tests}
 use Rattle.std.proofs.lemmas.Int.{ints}
@@ -159,8 +159,8 @@ date_is n h =
 pub found_number : (n : ℕ) (day : ℤ) (date : Date) → IsFound n date → pos n ≡ day +ℤ pos 25567 → day_number_of date.year date.month date.day ≡ Some day
 found_number n day date f e =
     let is : is_date date.year date.month date.day ≡ true = all_true _ _ _ _ _
-        (le-leb date.year 9999 (omega (arith, f.last))) (le-leb 1 date.month f.some_month) (le-leb date.month 12 f.in_year)
-        (le-leb 1 date.day f.some_day) (le-leb date.day (month_days date.year date.month) f.in_month) in
+    (le-leb date.year 9999 (omega (arith, f.last))) (le-leb 1 date.month f.some_month) (le-leb date.month 12 f.in_year)
+    (le-leb 1 date.day f.some_day) (le-leb date.day (month_days date.year date.month) f.in_month) in
     let same : day_number date.year date.month date.day ≡ day = rw (f.number, epoch) (omega (arith, ints, e)) in
     rw (is, same) refl
 
@@ -273,9 +273,9 @@ same_date a b n f g =
     by_day : (a b : Date) (n : ℕ) → IsFound n a → IsFound n b → a.year ≡ b.year → a.month ≡ b.month → a ≡ b
     by_day a b n f g y m =
         let d : a.day ≡ b.day =
-            let e = f.number ∙ sym g.number in
-            let h = rw (y, m) at e in
-            omega (arith, h, f.some_day, g.some_day) in
+        let e = f.number ∙ sym g.number in
+        let h = rw (y, m) at e in
+        omega (arith, h, f.some_day, g.some_day) in
         same_parts a.year a.month a.day b.year b.month b.day y m d
 
     by_year : (a b : Date) (n : ℕ) → IsFound n a → IsFound n b → a.year ≡ b.year → a ≡ b

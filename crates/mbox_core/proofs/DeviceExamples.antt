@@ -1,5 +1,5 @@
 -- Worked examples of what a call of a device counts as.
-use Rattle.std.proofs.Common.{◌≡◌, ℕ, List, [], ◌∷◌, refl, Ok, Err, lit<}
+use Rattle.std.proofs.Common.{◌≡◌, ℕ, [], ◌∷◌, refl, Ok, Err, lit<}
 use Rattle.mbox_core.specs.Device.{read_faults, read_ends, written_faults, TapState, IsStopped}
 
 a_read_of_two_bytes_is_no_end : read_ends {E = ℕ} (0 ∷ 0 ∷ 0 ∷ []) (Ok 2) ≡ 0

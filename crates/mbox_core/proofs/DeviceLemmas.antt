@@ -1,5 +1,5 @@
 -- What devices told, one call after another.
-use Rattle.std.proofs.Common.{◌≡◌, ◌≢◌, ℕ, zero, suc, ◌+◌, ◌-◌, List, [], ◌∷◌, ◌++◌, length, take, drop, refl, arith, append_assoc, ◌∙◌, Ok}
+use Rattle.std.proofs.Common.{◌≡◌, ◌≢◌, ℕ, zero, suc, ◌+◌, ◌-◌, List, [], ◌∷◌, ◌++◌, length, take, drop, refl, arith, append_assoc, sym, ap, ◌∙◌, Ok}
 use Rattle.std.proofs.Math.Seq.{take-add}
 use Rattle.std.proofs.lemmas.Grind.{common_steps}
 use Rattle.mbox_core.specs.Device.{written_faults}
@@ -19,3 +19,9 @@ pub told-more : (before now after bytes : List ℕ) (n k : ℕ)
     → now ≡ before ++ take n bytes → after ≡ now ++ take k (drop n bytes) → after ≡ before ++ take (n + k) bytes
 told-more before now after bytes n k so_far next =
     next ∙ rw (so_far, take-add n k bytes) (append_assoc before (take n bytes) (take k (drop n bytes)))
+
+-- what was told and what waits in a batch, after one piece more: `from` was told at first, and `so_far` was added since
+pub batch-more : (told held told' held' from so_far piece : List ℕ)
+    → told ++ held ≡ from ++ so_far → told' ++ held' ≡ told ++ (held ++ piece) → told' ++ held' ≡ from ++ (so_far ++ piece)
+batch-more told held told' held' from so_far piece before added =
+    added ∙ sym (append_assoc told held piece) ∙ ap (λ l. l ++ piece) before ∙ append_assoc from so_far piece

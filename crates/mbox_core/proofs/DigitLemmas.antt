@@ -1,9 +1,9 @@
 -- Numbers as they are written, and as they are read.
-use Rattle.std.proofs.Common.{◌≡◌, ◌≢◌, ℕ, zero, suc, ◌+◌, ◌-◌, ◌*◌, ◌/◌, ◌%◌, ◌<◌, ◌≤◌, Bool, true, false, not, ◌==◌, ◌&&◌, nat_lt, nat_le, refl, arith, ap, ◌∙◌, sym, if◌then◌else◌, Option, Some, None, List, [], ◌∷◌, ◌++◌, length, take, drop, get_or, subst, codes, min}
+use Rattle.std.proofs.Common.{◌≡◌, ℕ, zero, suc, ◌+◌, ◌-◌, ◌*◌, ◌/◌, ◌%◌, ◌<◌, ◌≤◌, Bool, true, not, ◌==◌, ◌&&◌, refl, arith, ap, ◌∙◌, Some, List, [], ◌∷◌, min}
 use Rattle.std.proofs.lemmas.Bool.{le-leb}
 use Rattle.std.proofs.lemmas.Bool.Decides.{nat_tests}
 use Rattle.mail_core.specs.Calendar.{is_digit, two_digits}
-use Rattle.mbox_core.specs.Separator.{◌>>=◌, two_at, day_of, clock_of, second_of, year_of, month_of, is_weekday}
+use Rattle.mbox_core.specs.Separator.{day_of, clock_of, second_of, year_of, month_of, is_weekday}
 use Rattle.mbox_core.specs.Written.{as_two_digits, as_four_digits, clock_text, name_at, weekday_names, month_names}
 
 digit_is : (n : ℕ) → n ≤ 9 → is_digit (48 + n) ≡ true

@@ -1,14 +1,10 @@
 -- What holds of every division.
-use Rattle.std.proofs.Common.{◌≡◌, ◌≢◌, ℕ, ◌+◌, Bool, true, false, List, [], ◌∷◌, ◌++◌, length, refl, ap, ◌∙◌, sym, Option, Some, None, append_assoc, append-nil, inl, inr, ◌⊎◌, subst, map, if◌then◌else◌, ◌||◌, ◌==◌, take, ◌-◌, get_or, take_all, arith, suc}
-use Rattle.std.proofs.lemmas.List.{take_more}
-use Rattle.std.proofs.lemmas.Bool.{eqb-true}
-use Rattle.std.proofs.lemmas.Bool.Decides.{nat_tests}
+use Rattle.std.proofs.Common.{◌≡◌, ℕ, Bool, true, List, [], ◌∷◌, ◌++◌, length, refl, ap, ◌∙◌, sym, append_assoc, append-nil, inl, inr, ◌⊎◌, subst}
 use Rattle.std.specs.List.{concat, AllByRecursion}
-use Rattle.mbox_core.specs.Lines.{lines, content, is_blank, ends_in}
-use Rattle.mbox_core.specs.Separator.{Envelope, IsSeparator, separator_of}
-use Rattle.mbox_core.specs.Division.{Item, Split, IsBlank, IsSeparatorLine, NoneSeparates, AreBlocks, Divides, IsPreamble, with_line, split_lines, items_of, is_whole, whole}
-use Rattle.mbox_core.proofs.LineLemmas.{lines_are, lines-nil, lines-append, IsEnded, lf_first}
-use Rattle.mbox_core.proofs.SplitLemmas.{Quiet, quiet_back, quiet_blanks, last_blanks, last_blank, split-quiet, split-none, heads_any, with_lines, none_is, divides_items, reads, Reads, first_unblank, Unblank, all_back, blocks_split}
+use Rattle.mbox_core.specs.Lines.{lines, is_blank}
+use Rattle.mbox_core.specs.Division.{Item, Split, IsBlank, Divides, IsPreamble, with_line, split_lines, items_of}
+use Rattle.mbox_core.proofs.LineLemmas.{lines_are}
+use Rattle.mbox_core.proofs.SplitLemmas.{Quiet, quiet_back, quiet_blanks, last_blanks, last_blank, split-quiet, split-none, heads_any, with_lines, none_is, divides_items, reads, first_unblank, Unblank, all_back, blocks_split}
 
 -- no bytes have two divisions
 pub one_division : (bytes : List ℕ) (is js : List Item) → Divides bytes is → Divides bytes js → is ≡ js

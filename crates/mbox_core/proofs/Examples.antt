@@ -1,10 +1,10 @@
 -- Worked examples of the definitions.
-use Rattle.std.proofs.Common.{◌≡◌, ℕ, List, [], ◌∷◌, ◌++◌, refl, Option, Some, None, ℤ, pos, negsuc, codes, subst, sym, true}
+use Rattle.std.proofs.Common.{◌≡◌, [], ◌∷◌, refl, Some, None, pos, negsuc, codes, subst, true}
 use Rattle.mail_core.specs.Calendar.{days_before_year, days_of_months}
 use Rattle.mbox_core.specs.Written.{heading, time_text, date_after, year_after, month_after, written}
 use Rattle.mbox_core.specs.Lines.{lines, content}
-use Rattle.mbox_core.specs.Separator.{Envelope, tokens, day_of, clock_of, year_of, month_of, is_weekday, instant_of, dated, six_tokens, separator_of}
-use Rattle.mbox_core.specs.Division.{Item, Split, Divides, items_of, split_lines, body, whole}
+use Rattle.mbox_core.specs.Separator.{tokens, day_of, clock_of, year_of, month_of, is_weekday, instant_of, dated, six_tokens, separator_of}
+use Rattle.mbox_core.specs.Division.{Divides, items_of, split_lines, body, whole}
 use Rattle.mbox_core.proofs.DivisionLaws.{front_divides}
 
 two_lines : lines (codes "ab\n\nc") ≡ codes "ab\n" ∷ codes "\n" ∷ codes "c" ∷ []

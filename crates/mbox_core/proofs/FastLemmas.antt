@@ -1,16 +1,15 @@
 -- A search for the mark that begins a separator line, beside the fold over lines.
-use Rattle.std.proofs.Common.{◌≡◌, ◌≢◌, ℕ, zero, suc, ◌+◌, ◌-◌, ◌<◌, ◌≤◌, Bool, true, false, ◌==◌, List, [], ◌∷◌, ◌++◌, length, take, drop, get_or, refl, arith, ap, ◌∙◌, sym, if◌then◌else◌, Option, Some, None, append_assoc, append-nil, inl, inr, ◌⊎◌, subst, codes, length-take, length-drop, length-append, get_or-take, get_or-drop, add-one, take_all}
-use Rattle.std.proofs.lemmas.List.{take-append-drop, get_or_append_left, drop-drop, take-take, take_at, drop_all, take_more, drop_more, length-take-le}
+use Rattle.std.proofs.Common.{◌≡◌, ◌≢◌, ℕ, suc, ◌+◌, ◌-◌, ◌<◌, ◌≤◌, Bool, true, false, ◌==◌, List, [], ◌∷◌, ◌++◌, length, take, drop, get_or, refl, arith, ap, ◌∙◌, sym, if◌then◌else◌, Option, Some, None, append_assoc, append-nil, inl, inr, ◌⊎◌, subst, codes, length-take, length-drop, length-append, get_or-take, get_or-drop, take_all}
+use Rattle.std.proofs.lemmas.List.{take-append-drop, get_or_append_left, take-take, drop_all, take_more}
 use Rattle.std.proofs.lemmas.Bool.{eqb-true, cases_lt}
 use Rattle.std.specs.List.{concat, AllByRecursion}
-use Rattle.std.specs.Str.{bytes_eq}
-use Rattle.memchr.specs.Find.{OccursAt, FindsNeedle, Nowhere}
+use Rattle.memchr.specs.Find.{OccursAt, Nowhere}
 use Rattle.mbox_core.specs.Lines.{lines, before_first, content, is_blank, ends_in, without_end}
 use Rattle.mbox_core.specs.Separator.{Envelope, separator_of}
-use Rattle.mbox_core.specs.Division.{Item, Split, IsBlank, body, split_lines, text_in, items_in}
-use Rattle.mbox_core.proofs.LineLemmas.{concat-lines, lines-append, lines-nil, lines_are, AreLines, lines-cut, lines-whole, lf_first}
+use Rattle.mbox_core.specs.Division.{Split, body, split_lines, text_in, items_in}
+use Rattle.mbox_core.proofs.LineLemmas.{concat-lines, lines-append, lines-nil, lines-cut, lines-whole}
 use Rattle.mbox_core.proofs.SeparatorLemmas.{separator_is}
-use Rattle.mbox_core.proofs.SplitLemmas.{Quiet, last_blank, last_append, heads, heads_blank, body-blank, body-some, concat_snoc, with_lines, nothing, split-quiet, split-nil}
+use Rattle.mbox_core.proofs.SplitLemmas.{Quiet, last_blank, last_append, heads, body-blank, body-some, concat_snoc, with_lines, nothing, split-quiet, split-nil}
 use Rattle.mbox_core.proofs.CutLemmas.{Front, front_start, front_more, taken_more, State}
 
 -- the mark: an LF, and what a separator line begins with

@@ -1,16 +1,13 @@
 -- The canonical separator line of an envelope says that envelope.
-use Rattle.std.proofs.Common.{◌≡◌, ◌≢◌, ℕ, zero, suc, ◌+◌, ◌-◌, ◌*◌, ◌/◌, ◌%◌, ◌<◌, ◌≤◌, Bool, true, false, not, ◌==◌, ◌&&◌, ◌||◌, nat_lt, refl, arith, ap, ◌∙◌, sym, if◌then◌else◌, Option, Some, None, List, [], ◌∷◌, ◌++◌, length, take, drop, length-take, length-drop, get_or, subst, codes, ℤ, pos, negsuc, ◌+ℤ◌, ◌*ℤ◌, unsigned_abs, append_assoc}
+use Rattle.std.proofs.Common.{◌≡◌, ◌≢◌, ℕ, zero, suc, ◌+◌, ◌-◌, ◌*◌, ◌/◌, ◌%◌, ◌<◌, ◌≤◌, Bool, true, false, not, ◌==◌, ◌&&◌, ◌||◌, nat_lt, refl, arith, ap, ◌∙◌, sym, if◌then◌else◌, Some, List, [], ◌∷◌, ◌++◌, length, drop, length-take, length-drop, get_or, ℤ, pos, negsuc, ◌+ℤ◌, ◌*ℤ◌, unsigned_abs}
 use Rattle.std.proofs.lemmas.Bool.Decides.{nat_tests}
-use Rattle.std.proofs.lemmas.Int.{ints}
 use Rattle.std.specs.Int.{int_rem_euclid}
 use Rattle.std.specs.List.{list_any}
-use Rattle.mail_core.specs.Calendar.{is_leap, month_days, day_number_of, day_of_instant, weekday, is_instant, instant_at}
-use Rattle.mbox_core.specs.Lines.{lines, content, ends_in, without_end, before_first}
-use Rattle.mbox_core.specs.Separator.{Envelope, IsSeparator, tokens, begins_token, is_sender, is_sender_token, day_of, instant_of}
+use Rattle.mail_core.specs.Calendar.{month_days, day_number_of, day_of_instant, weekday, is_instant, instant_at}
+use Rattle.mbox_core.specs.Lines.{before_first}
+use Rattle.mbox_core.specs.Separator.{Envelope, IsSeparator, tokens, is_sender_token, day_of, instant_of}
 use Rattle.mbox_core.specs.Written.{Date, IsEnvelope, heading, time_text, date_text, date_after, days_since_1900, as_day_digits, as_two_digits, as_four_digits, clock_text, name_at, weekday_names, month_names}
-use Rattle.mbox_core.proofs.LineLemmas.{IsEnded, more_ended, lf_ended}
-use Rattle.mbox_core.proofs.ItemLemmas.{ends_cons, content-lf}
-use Rattle.mbox_core.proofs.DateLemmas.{both, IsFound, date_is, found_number, IsSplit, split_is}
+use Rattle.mbox_core.proofs.DateLemmas.{both, date_is, found_number, split_is}
 use Rattle.mbox_core.proofs.DigitLemmas.{is_plain, is_run, day_one, day_two, clock_read, year_read, weekday_read, month_read, two_plain, one_plain, four_plain, clock_plain, weekday_plain, month_plain}
 
 -- ---- tokens

@@ -1,14 +1,13 @@
 -- What holds of the text of an item.
-use Rattle.std.proofs.Common.{◌≡◌, ◌≢◌, ℕ, zero, suc, ◌+◌, ◌-◌, ◌<◌, ◌≤◌, Bool, true, false, ◌==◌, ◌||◌, List, [], ◌∷◌, ◌++◌, length, take, drop, get_or, refl, arith, ap, ◌∙◌, sym, if◌then◌else◌, Option, Some, None, append_assoc, append-nil, inl, inr, ◌⊎◌, subst, length-append}
+use Rattle.std.proofs.Common.{◌≡◌, ◌≢◌, ℕ, suc, ◌-◌, Bool, true, false, ◌==◌, List, [], ◌∷◌, ◌++◌, length, refl, arith, ap, ◌∙◌, sym, if◌then◌else◌, Option, Some, None, append-nil, inl, inr, ◌⊎◌, subst, length-append}
 use Rattle.std.proofs.lemmas.List.{get_or_at, take_at}
 use Rattle.std.proofs.lemmas.Bool.Decides.{nat_tests}
-use Rattle.std.specs.List.{concat}
 use Rattle.std.specs.Option.{is_some}
 use Rattle.mbox_core.specs.Lines.{lines, before_first, content, is_blank, ends_in, without_end}
-use Rattle.mbox_core.specs.Separator.{Envelope, IsSeparator, separator_of}
+use Rattle.mbox_core.specs.Separator.{Envelope, IsSeparator}
 use Rattle.mbox_core.specs.Division.{Item, Split, IsBlank, IsSeparatorLine, NoneSeparates, AreBlocks, body, split_lines, is_whole, whole, text_in, items_in, items_after}
-use Rattle.mbox_core.proofs.LineLemmas.{lines_are, AreLines, are_front, lines-concat, lines-nil, concat-lines}
-use Rattle.mbox_core.proofs.SplitLemmas.{Quiet, none_separates, quiet_false, quiet_front, reads, Reads, split-quiet, split-nil, last_blank, with_lines, nothing, last_line, body-blank, body-some, body-nil, concat_snoc}
+use Rattle.mbox_core.proofs.LineLemmas.{lines_are, AreLines, are_front, lines-concat, lines-nil}
+use Rattle.mbox_core.proofs.SplitLemmas.{Quiet, none_separates, quiet_false, quiet_front, reads, split-quiet, split-nil, last_blank, with_lines, last_line, body-blank, body-some, body-nil, concat_snoc}
 
 pub never : (n : ℕ) → (suc n == 0) ≡ false
 never n = grind (arith, nat_tests)

@@ -1,10 +1,10 @@
 -- Lines, joined and cut.
-use Rattle.std.proofs.Common.{◌≡◌, ◌≢◌, ℕ, zero, suc, ◌+◌, ◌-◌, ◌<◌, ◌≤◌, Bool, true, false, ◌==◌, List, [], ◌∷◌, ◌++◌, length, take, drop, get_or, refl, arith, ap, ◌∙◌, sym, if◌then◌else◌, append_assoc, append-nil, inl, inr, ◌⊎◌, subst, take_all}
+use Rattle.std.proofs.Common.{◌≡◌, ◌≢◌, ℕ, zero, suc, ◌<◌, Bool, true, false, ◌==◌, List, [], ◌∷◌, ◌++◌, length, take, drop, get_or, refl, arith, ap, ◌∙◌, sym, if◌then◌else◌, append-nil, subst, take_all}
 use Rattle.std.proofs.Math.Seq.{drop-length}
 use Rattle.std.proofs.lemmas.List.{nil_from_length}
-use Rattle.std.proofs.lemmas.Bool.{eqb-true, eq-eqb}
+use Rattle.std.proofs.lemmas.Bool.{eqb-true}
 use Rattle.std.specs.List.{concat}
-use Rattle.mbox_core.specs.Lines.{lines, before_first, content, is_blank, ends_in, without_end}
+use Rattle.mbox_core.specs.Lines.{lines, before_first, content, is_blank}
 use Rattle.mbox_core.specs.Division.{IsBlank}
 
 pub lines-nil : lines [] ≡ []

@@ -1,10 +1,9 @@
 -- The relation and the value.
-use Rattle.std.proofs.Common.{◌≡◌, ◌≢◌, ℕ, zero, suc, ◌+◌, ◌-◌, ◌<◌, ◌≤◌, Bool, true, false, ◌==◌, ◌&&◌, List, [], ◌∷◌, ◌++◌, length, take, drop, get_or, refl, arith, ap, ◌∙◌, sym, if◌then◌else◌, Option, Some, None, ℤ, codes, take-append-drop}
+use Rattle.std.proofs.Common.{◌≡◌, ℕ, ◌+◌, Bool, true, false, ◌&&◌, List, [], ◌∷◌, ◌++◌, take, drop, refl, ap, ◌∙◌, sym, if◌then◌else◌, Option, Some, None, ℤ, codes, take-append-drop}
 use Rattle.std.specs.Str.{bytes_eq}
 use Rattle.std.specs.Option.{MatchOption, IfSome, IfNone, is_some}
 use Rattle.std.proofs.lemmas.Slice.Eq.{bytes_eq-Decides}
 use Rattle.mail_core.specs.Calendar.{day_number_of}
-use Rattle.mbox_core.specs.Lines.{content}
 use Rattle.mbox_core.specs.Separator.{◌>>=◌, Envelope, IsSeparator, separator_of, six_tokens, dated, tokens, is_sender_token, is_weekday, month_of, day_of, clock_of, year_of, instant_of}
 
 pub bind_some : {A B : Type 0} (o : Option A) (f : A → Option B) (y : B) → (o >>= f) ≡ Some y → (x : A) × (o ≡ Some x) × (f x ≡ Some y)

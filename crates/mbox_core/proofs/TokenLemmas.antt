@@ -1,10 +1,9 @@
 -- Tokens, one after the other.
-use Rattle.std.proofs.Common.{◌≡◌, ◌≢◌, ℕ, zero, suc, ◌+◌, ◌-◌, ◌<◌, ◌≤◌, Bool, true, false, not, ◌==◌, List, [], ◌∷◌, ◌++◌, length, take, drop, get_or, refl, arith, ap, ◌∙◌, sym, if◌then◌else◌, drop-cons}
+use Rattle.std.proofs.Common.{◌≡◌, ℕ, zero, suc, ◌+◌, ◌<◌, ◌≤◌, Bool, true, false, ◌==◌, List, [], ◌∷◌, length, take, drop, get_or, refl, arith, ap, ◌∙◌}
 use Rattle.std.proofs.lemmas.List.{drop_more}
 use Rattle.std.proofs.lemmas.Bool.{eq-eqb}
-use Rattle.std.proofs.Math.Seq.{drop-length}
 use Rattle.mbox_core.specs.Lines.{before_first}
-use Rattle.mbox_core.specs.Separator.{tokens, begins_token}
+use Rattle.mbox_core.specs.Separator.{tokens}
 
 not_it : (b : Bool) → (b ≡ true → ⊥) → b ≡ false
 not_it true h = absurd (h refl)

@@ -1,5 +1,5 @@
 -- Pieces of what is written.
-use Rattle.std.proofs.Common.{◌≡◌, ◌≢◌, ℕ, zero, suc, ◌+◌, ◌-◌, ◌^◌, ◌<◌, ◌≤◌, min, List, [], ◌∷◌, ◌++◌, length, take, drop, refl, arith, ap, ◌∙◌, sym, subst, codes, append_assoc, length-append, length-take}
+use Rattle.std.proofs.Common.{◌≡◌, ℕ, zero, suc, ◌+◌, ◌-◌, ◌^◌, ◌<◌, ◌≤◌, min, List, [], ◌∷◌, ◌++◌, length, take, drop, refl, arith, ap, ◌∙◌, sym, codes, append_assoc, length-append, length-take}
 use Rattle.std.proofs.lemmas.List.{take_at}
 use Rattle.mbox_core.specs.Written.{IsCutShort}
 
@@ -21,7 +21,7 @@ short_is s e r a b c len ea eb ec =
     let lb : 5 + length s ≡ length (from ++ s) = omega (arith, length-append from s) in
     let fb : take (5 + length s) b ≡ from ++ s = ap (take (5 + length s)) gb ∙ take_front (from ++ s) (drop (5 + length s) a) (5 + length s) lb in
     let gc : c ≡ ((from ++ s) ++ e) ++ drop (5 + length s + length e) b =
-        ec ∙ ap (λ x. x ++ (e ++ drop (5 + length s + length e) b)) fb ∙ sym (append_assoc (from ++ s) e (drop (5 + length s + length e) b)) in
+    ec ∙ ap (λ x. x ++ (e ++ drop (5 + length s + length e) b)) fb ∙ sym (append_assoc (from ++ s) e (drop (5 + length s + length e) b)) in
     let lc : 31 + length s ≡ length ((from ++ s) ++ e) = omega (arith, len, lb, length-append (from ++ s) e) in
     ap (take (31 + length s)) gc ∙ take_front ((from ++ s) ++ e) (drop (5 + length s + length e) b) (31 + length s) lc ∙ append_assoc from s e
 

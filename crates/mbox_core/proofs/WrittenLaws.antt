@@ -1,16 +1,16 @@
 -- What is written is cut again.
-use Rattle.std.proofs.Common.{◌≡◌, ◌≢◌, ℕ, zero, suc, ◌+◌, ◌-◌, ◌*◌, ◌/◌, ◌%◌, ◌<◌, ◌≤◌, Bool, true, false, not, ◌==◌, ◌&&◌, ◌||◌, nat_lt, refl, arith, ap, ◌∙◌, sym, if◌then◌else◌, inl, inr, ◌⊎◌, List, [], ◌∷◌, ◌++◌, length, length-append, take, take_all, get_or, subst, codes, map, append_assoc, Option, Some, None, ℤ, pos, ◌+ℤ◌, ◌*ℤ◌, unsigned_abs}
+use Rattle.std.proofs.Common.{◌≡◌, ℕ, suc, ◌+◌, ◌-◌, ◌*◌, ◌/◌, ◌%◌, ◌<◌, Bool, true, false, ◌==◌, nat_lt, refl, arith, ap, ◌∙◌, sym, if◌then◌else◌, inl, inr, ◌⊎◌, List, [], ◌∷◌, ◌++◌, length, length-append, take, take_all, get_or, subst, codes, map, append_assoc, Some, None, ℤ, pos, ◌+ℤ◌, ◌*ℤ◌, unsigned_abs}
 use Rattle.std.specs.List.{All}
 use Rattle.std.specs.Int.{int_rem_euclid}
 use Rattle.std.proofs.lemmas.List.{take_more}
 use Rattle.std.proofs.lemmas.List.Elements.{All-nil, All-cons, All-tail}
-use Rattle.mail_core.specs.Calendar.{weekday, day_of_instant, is_instant, instant_at}
+use Rattle.mail_core.specs.Calendar.{weekday, day_of_instant, is_instant}
 use Rattle.std.proofs.lemmas.Bool.{eqb-true}
 use Rattle.std.proofs.lemmas.Bool.Decides.{nat_tests}
-use Rattle.mbox_core.specs.Lines.{lines, content, ends_in, without_end}
-use Rattle.mbox_core.specs.Separator.{Envelope, IsSeparator, is_sender_token, instant_of}
+use Rattle.mbox_core.specs.Lines.{lines, content, ends_in}
+use Rattle.mbox_core.specs.Separator.{Envelope, IsSeparator, instant_of}
 use Rattle.mbox_core.specs.Division.{Item, IsBlank, NoneSeparates, AreBlocks, Divides, is_whole, whole}
-use Rattle.mbox_core.specs.Written.{Date, IsEnvelope, IsItem, heading, ended, written, written_item, whole_item, time_text, date_text, as_day_digits, as_two_digits, as_four_digits, clock_text, name_at, weekday_names, month_names, date_after, days_since_1900}
+use Rattle.mbox_core.specs.Written.{Date, IsEnvelope, IsItem, heading, ended, written, whole_item, time_text, date_text, as_day_digits, as_two_digits, as_four_digits, clock_text, name_at, weekday_names, month_names, date_after, days_since_1900}
 use Rattle.mbox_core.proofs.LineLemmas.{lines-nil, lines-append, IsEnded, lf_first, more_ended, lf_ended}
 use Rattle.mbox_core.proofs.ItemLemmas.{ends_cons, content-lf, never, whole_none}
 use Rattle.mbox_core.proofs.DateLemmas.{both}
@@ -111,8 +111,15 @@ date_length w date s hw hm =
     let month = name_at (date.month - 1) month_names ++ 32 ∷ day in
     let lw = name_length w weekday_names (let g : 3 * w + 2 < 21 = omega (arith, hw) in g) in
     let lm = name_length (date.month - 1) month_names (let g : 3 * (date.month - 1) + 2 < 36 = omega (arith, hm) in g) in
-    omega (arith, lw, lm, day_length date.day, length-append (name_at w weekday_names) (32 ∷ month),
-    length-append (name_at (date.month - 1) month_names) (32 ∷ day), length-append (as_day_digits date.day) (32 ∷ clock))
+    omega (
+      arith,
+      lw,
+      lm,
+      day_length date.day,
+      length-append (name_at w weekday_names) (32 ∷ month),
+      length-append (name_at (date.month - 1) month_names) (32 ∷ day),
+      length-append (as_day_digits date.day) (32 ∷ clock),
+    )
 
 time_length : (e : Envelope) → IsEnvelope e → length (time_text e.arrival) ≡ 24
 unfolding time_text

@@ -1,5 +1,5 @@
 -- What an mbox is made of (RFC 4155).
-use Rattle.std.specs.Prelude.{◌≡◌, ◌≢◌, ℕ, ◌+◌, ◌-◌, ◌==◌, Bool, true, false, not, ◌&&◌, ◌||◌, ◌⊎◌, List, [], ◌∷◌, ◌++◌, length, take, slice_index, if◌then◌else◌, Option, Some, None, is_some, ℤ, flat_map}
+use Rattle.std.specs.Prelude.{◌≡◌, ℕ, ◌==◌, Bool, true, false, ◌||◌, ◌⊎◌, List, [], ◌∷◌, ◌++◌, length, if◌then◌else◌, Option, Some, None}
 use Rattle.std.specs.List.{concat, AllByRecursion}
 use Rattle.mbox_core.specs.Lines.{lines, content, is_blank, ends_in}
 use Rattle.mbox_core.specs.Separator.{Envelope, IsSeparator, separator_of}

@@ -1,9 +1,8 @@
 -- Messages as they are written (RFC 4155, appendix A): a separator line with one address, one space, and the time in
 -- UTC in the form of C's `ctime`; the whole text; and an empty line.
-use Rattle.std.specs.Prelude.{◌≡◌, ℕ, zero, suc, ◌+◌, ◌-◌, ◌*◌, ◌/◌, ◌%◌, ◌≤◌, nat_lt, Bool, true, List, [], ◌∷◌, ◌++◌, length, take, drop, if◌then◌else◌, ℤ, pos, ◌+ℤ◌, unsigned_abs, codes}
+use Rattle.std.specs.Prelude.{◌≡◌, ℕ, zero, suc, ◌+◌, ◌-◌, ◌*◌, ◌/◌, ◌%◌, ◌≤◌, nat_lt, true, List, [], ◌∷◌, ◌++◌, length, take, drop, if◌then◌else◌, ℤ, pos, ◌+ℤ◌, unsigned_abs, codes}
 use Rattle.std.specs.Int.{int_rem_euclid}
-use Rattle.std.specs.List.{AllByRecursion}
-use Rattle.mail_core.specs.Calendar.{year_days, month_days, days_before, weekday, is_instant, day_of_instant}
+use Rattle.mail_core.specs.Calendar.{year_days, month_days, weekday, is_instant, day_of_instant}
 use Rattle.mbox_core.specs.Lines.{lines}
 use Rattle.mbox_core.specs.Separator.{Envelope, is_sender}
 use Rattle.mbox_core.specs.Division.{Item, NoneSeparates, whole}

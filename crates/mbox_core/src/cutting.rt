@@ -33,7 +33,7 @@ impl<'a> Model for Messages<'a> {
 pub(crate) struct Part<'a> {
     pub(crate) text: &'a [u8],
     pub(crate) next: Option<Envelope<'a>>,
-    rest: &'a [u8],
+    pub(crate) rest: &'a [u8],
 }
 
 /// The text of the last message, whose separator line stands before these bytes.
@@ -96,39 +96,6 @@ pub(crate) fn next_part<'a>(bytes: &'a [u8]) -> Part<'a>
         at += lf + 1;
     }
     last_part(bytes)
-}
-
-/// The same, line by line.
-fn first_part<'a>(bytes: &'a [u8]) -> Part<'a>
-    ensures text { result.text.now ≡ text_in bytes.entry.now }
-    ensures items { items_after result.next result.rest.now ≡ items_in bytes.entry.now }
-{
-    let mut at = 0;
-    let mut end = 0;
-    let mut after_blank = false;
-    while at < bytes.len() {
-        let here = &bytes[at..];
-        let len = line_end(here);
-        let (line, rest) = here.split_at(len);
-        let content = said(line);
-        if after_blank {
-            if let Some(envelope) = separator(content) {
-                return Part {
-                    text: &bytes[..end],
-                    next: Some(envelope),
-                    rest,
-                };
-            }
-        }
-        after_blank = content.is_empty();
-        end = if after_blank { at } else { at + len };
-        at += len;
-    }
-    Part {
-        text: &bytes[..end],
-        next: None,
-        rest: &bytes[at..],
-    }
 }
 
 impl<'a> Iterator for Messages<'a> {

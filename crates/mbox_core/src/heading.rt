@@ -53,9 +53,9 @@ fn date_line(weekday: u8, date: Date, seconds: u32) -> [u8; 26]
     requires year { date.year < 10000 }
     requires seconds { seconds < 86400 }
     ensures { result ≡ (32 ∷ date_text weekday (record {
-        year = date.year;
-        month = date.month;
-        day = date.day
+      year = date.year;
+      month = date.month;
+      day = date.day;
     }) seconds) ++ 10 ∷ [] }
 {
     let [w0, w1, w2] = name(weekday, WEEKDAYS);

@@ -19,7 +19,11 @@ mod heading;
 mod items;
 pub mod laws;
 mod lines;
+#[cfg(test)]
+mod plain;
 mod senders;
 mod separators;
+#[cfg(test)]
+mod tests;
 mod tokens;
 mod writing;

@@ -1,5 +1,5 @@
 //! Writing messages (RFC 4155).
-ghost use Rattle.std.specs.Prelude.{◌≡◌, ◌≤◌, ◌<◌, ◌+◌, ◌^◌, ◌++◌, ◌∷◌, [], length, min, take, drop, OnOk, IfErr, OnErr, codes};
+ghost use Rattle.std.specs.Prelude.{◌≡◌, ◌≤◌, ◌<◌, ◌+◌, ◌-◌, ◌^◌, ◌++◌, ◌∷◌, [], length, min, take, drop, OnOk, IfErr, OnErr, codes};
 ghost use Rattle.mbox_core.specs.Division.{whole};
 ghost use Rattle.mbox_core.specs.Written.{IsCutShort, heading, written_item, ended};
 
@@ -94,6 +94,14 @@ fn heading_len(envelope: &Envelope) -> u64
 {
     let Sender::One(token) = envelope.sender;
     line_len(token)
+}
+
+/// How many bytes `write_item` writes of a message: 2^64 - 1 where it is more.
+pub fn written_len(item: &Item) -> u64
+    ensures { result ≡ min (length (written_item item.now)) (2 ^ 64 - 1) }
+{
+    let rest = item.text.len() as u64 + tail_of(item).len() as u64;
+    heading_len(&item.envelope).saturating_add(rest)
 }
 
 /// Writes a message: its separator line, with the time in UTC, its whole text, and an empty line. Where a write fails or

@@ -1,9 +1,8 @@
-use Rattle.std.proofs.Common.{◌≡◌, ◌∷◌, ◌<◌, ◌≤◌, [], length, ℕ, ◌+◌, Bool, true, false, not, ◌==◌, List, take, drop, arith, ap, ◌∙◌, sym, refl, Some, None, length-drop}
+use Rattle.std.proofs.Common.{◌≡◌, ◌≤◌, length, ℕ, ◌+◌, Bool, true, false, not, ◌==◌, List, drop, arith, ap, ◌∙◌, sym, refl, Some, None, length-drop}
 use Rattle.std.proofs.lemmas.List.{take_rest}
-use Rattle.mbox_core.specs.Lines.{lines, content, is_blank}
-use Rattle.mbox_core.specs.Separator.{Envelope, separator_of}
-use Rattle.mbox_core.specs.Division.{Divides, items_after}
-use Rattle.mbox_core.proofs.CutLemmas.{Blanks, blanks_start, blanks_more, divides_here, preamble_here}
+use Rattle.mbox_core.specs.Lines.{content, is_blank}
+use Rattle.mbox_core.specs.Separator.{separator_of}
+use Rattle.mbox_core.proofs.CutLemmas.{blanks_start, blanks_more, divides_here, preamble_here}
 use Rattle.mbox_core.proofs.DivisionLaws.{not_both}
 use Rattle.mbox_core.proofs.cutting.cut.Goals as goal
 

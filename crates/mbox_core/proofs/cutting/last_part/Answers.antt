@@ -1,4 +1,4 @@
-use Rattle.std.proofs.Common.{◌≡◌, ◌∷◌, ◌<◌, ◌≤◌, [], length, ℕ, ◌==◌, Bool, true, false, List, ◌++◌, arith, ap, ◌∙◌, sym, refl, take, drop}
+use Rattle.std.proofs.Common.{◌≡◌, ◌∷◌, [], length, ℕ, ◌==◌, true, false, List, ◌++◌, ap, ◌∙◌, sym, take}
 use Rattle.std.proofs.lemmas.List.{nil_from_length}
 use Rattle.std.proofs.lemmas.Bool.{eqb-true}
 use Rattle.mbox_core.specs.Lines.{lines, is_blank}

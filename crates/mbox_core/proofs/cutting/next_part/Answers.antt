@@ -1,11 +1,11 @@
-use Rattle.std.proofs.Common.{◌≡◌, ◌∷◌, ◌<◌, ◌≤◌, [], length, ℕ, ◌+◌, ◌-◌, ◌==◌, Bool, true, false, List, ◌++◌, arith, ap, ◌∙◌, sym, refl, take, drop, get_or, length-drop, length-take, Some, None, subst, inl, inr, Option}
+use Rattle.std.proofs.Common.{◌≡◌, ◌∷◌, ◌<◌, ◌≤◌, [], length, ℕ, ◌+◌, ◌==◌, true, List, ◌++◌, arith, ap, ◌∙◌, sym, take, drop, get_or, length-drop, Some, None, subst, inl, inr, Option}
 use Rattle.std.proofs.lemmas.List.{take-take, drop_all}
 use Rattle.memchr.specs.Find.{OccursAt, NoneBefore, Nowhere}
 use Rattle.mbox_core.specs.Lines.{lines, content, is_blank}
 use Rattle.mbox_core.specs.Separator.{Envelope, separator_of}
-use Rattle.mbox_core.specs.Division.{body, text_in, items_in, items_after}
-use Rattle.mbox_core.proofs.CutLemmas.{Front, State, text_here, items_here}
-use Rattle.mbox_core.proofs.FastLemmas.{mark, Calm, calm_start, calm_next, front_on, found_state, Refused, no_mark, mark_lf, none_at_all, text_all, items_all}
+use Rattle.mbox_core.specs.Division.{items_after}
+use Rattle.mbox_core.proofs.CutLemmas.{text_here, items_here}
+use Rattle.mbox_core.proofs.FastLemmas.{mark, calm_start, calm_next, front_on, found_state, Refused, no_mark, mark_lf, none_at_all, text_all, items_all}
 use Rattle.mbox_core.proofs.cutting.next_part.Goals.{then-is_empty+in_default, else-is_empty}
 use Rattle.mbox_core.proofs.cutting.next_part.Goals as goal
 

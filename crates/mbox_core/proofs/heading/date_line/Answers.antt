@@ -1,4 +1,4 @@
-use Rattle.std.proofs.Common.{◌<◌, ◌-◌, arith}
+use Rattle.std.proofs.Common.{arith}
 use Rattle.mbox_core.proofs.HeadingLemmas.{line_is}
 use Rattle.mbox_core.proofs.heading.date_line.Goals as goal
 

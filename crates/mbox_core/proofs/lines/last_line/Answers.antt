@@ -1,4 +1,4 @@
-use Rattle.std.proofs.Common.{◌≡◌, ◌∷◌, ◌++◌, [], ◌<◌, ◌≤◌, ◌-◌, length, take, drop, ℕ, ◌+◌, ◌==◌, Bool, true, false, List, get_or, get_or-take, length-take, arith, sym, ap, ◌∙◌, refl, inl, inr}
+use Rattle.std.proofs.Common.{◌≡◌, ◌<◌, ◌-◌, length, take, ℕ, ◌+◌, ◌==◌, true, List, get_or, get_or-take, arith, sym, ap, ◌∙◌, refl, inl, inr}
 use Rattle.std.proofs.lemmas.Bool.{eqb-true}
 use Rattle.mbox_core.proofs.FastLemmas.{last_lines}
 use Rattle.mbox_core.proofs.lines.last_line.Goals as goal

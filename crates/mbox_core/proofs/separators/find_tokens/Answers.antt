@@ -1,5 +1,5 @@
-use Rattle.std.proofs.Common.{rules, ◌≡◌, ◌∷◌, [], length, Some, None, ℕ, ◌+◌, Bool, true, false, List, ◌++◌, ap, ◌∙◌, sym, refl, take, drop}
-use Rattle.mbox_core.specs.Separator.{separator_of, dated, six_tokens, tokens}
+use Rattle.std.proofs.Common.{◌≡◌, ◌∷◌, [], ap, ◌∙◌, sym}
+use Rattle.mbox_core.specs.Separator.{tokens}
 use Rattle.mbox_core.proofs.SeparatorLemmas.{not_begun, begun_by, few_0, few_1, few_2, few_3, few_4, few_5, many, six_dated, empty_from, some_from}
 use Rattle.mbox_core.proofs.separators.find_tokens.Goals as goal
 

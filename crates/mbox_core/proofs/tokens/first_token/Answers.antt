@@ -1,5 +1,4 @@
-use Rattle.std.proofs.Common.{◌≡◌, ◌≢◌, ◌∷◌, ◌<◌, ◌≤◌, ◌==◌, [], length, ℕ, List, ◌+◌, ◌-◌, Bool, true, false, arith, ap, ◌∙◌, sym, refl, take, drop, get_or, get_or-drop, length-drop, zero, suc}
-use Rattle.std.proofs.lemmas.List.{take_rest, drop_all}
+use Rattle.std.proofs.Common.{◌≡◌, ◌≢◌, ◌<◌, ◌==◌, length, ℕ, List, ◌+◌, ◌-◌, true, arith, ap, ◌∙◌, sym, drop, get_or, get_or-drop, length-drop, zero, suc}
 use Rattle.std.proofs.lemmas.Bool.{eqb-true}
 use Rattle.std.proofs.lemmas.Bool.Decides.{nat_tests}
 use Rattle.mbox_core.specs.Separator.{tokens}

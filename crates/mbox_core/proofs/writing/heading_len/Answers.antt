@@ -1,5 +1,4 @@
-use Rattle.std.proofs.Common.{rules, ◌≡◌, ℕ, ap, ◌∙◌, sym, subst}
-use Rattle.mbox_core.specs.Separator.{Envelope}
+use Rattle.std.proofs.Common.{rules, ◌∙◌, sym, subst}
 use Rattle.mbox_core.specs.Written.{IsEnvelope}
 use Rattle.mbox_core.proofs.SenderLemmas.{envelope_is}
 use Rattle.mbox_core.proofs.WrittenLaws.{heading_length}
@@ -8,5 +7,5 @@ use Rattle.mbox_core.proofs.writing.heading_len.Goals as goal
 pub returns : goal.returns
 returns c =
     let is : IsEnvelope c.args.envelope.now =
-        subst IsEnvelope c.envelope.view_is (envelope_is c.envelope.inside.sender c.envelope.inside.arrival c.envelope.invariant.0 c.envelope.invariant.1) in
+    subst IsEnvelope c.envelope.view_is (envelope_is c.envelope.inside.sender c.envelope.inside.arrival c.envelope.invariant.0 c.envelope.invariant.1) in
     c.line_len.ensures ∙ search rules ∙ sym (heading_length c.args.envelope.now is)

@@ -1,4 +1,4 @@
-use Rattle.std.proofs.Common.{◌≡◌, ◌+◌, length, rules, w8}
+use Rattle.std.proofs.Common.{rules}
 use Rattle.mbox_core.proofs.WritingLemmas.{short_is}
 use Rattle.mbox_core.proofs.writing.short_line.Goals as goal
 

@@ -1,4 +1,4 @@
-use Rattle.std.proofs.Common.{◌≡◌, ◌++◌, ◌<◌, ◌^◌, ◌+◌, ℕ, List, length, length-append, length-take, take, arith, ap, ◌∙◌, sym, subst}
+use Rattle.std.proofs.Common.{◌≡◌, ◌++◌, ℕ, List, length, ap, ◌∙◌, subst}
 use Rattle.mbox_core.specs.Separator.{Envelope}
 use Rattle.mbox_core.specs.Division.{Item, whole}
 use Rattle.mbox_core.specs.Written.{IsCutShort, heading, ended}
@@ -25,7 +25,7 @@ returns-in-Err-write_two-clause-fault g c = λ low.
     let first : mid ≡ before ++ line = c.in_default.ensures.ok ∙ ap (λ e. before ++ ended (heading e)) same in
     let P : List ℕ → Type 0 = λ x. IsCutShort mid after x n in
     let second : IsCutShort mid after rest n =
-        subst P (ap (λ x. x ++ c.tail_of.result.now) text ∙ c.tail_of.ensures.value) c.in-Err-write_two.ensures.fault in
+    subst P (ap (λ x. x ++ c.tail_of.result.now) text ∙ c.tail_of.ensures.value) c.in-Err-write_two.ensures.fault in
     let len : c.heading_len.result ≡ length line = c.heading_len.ensures ∙ ap (λ e. length (ended (heading e))) same in
     second_short before mid after line rest n c.saturating_add.result first second
     (exact_count before mid after line rest n c.heading_len.result c.saturating_add.result first second len c.saturating_add.ensures low)

@@ -1,4 +1,4 @@
-use Rattle.std.proofs.Common.{◌≡◌, List, ℕ, sym, subst}
+use Rattle.std.proofs.Common.{List, ℕ, sym, subst}
 use Rattle.mbox_core.specs.Lines.{lines}
 use Rattle.mbox_core.specs.Division.{NoneSeparates, whole}
 use Rattle.mbox_core.proofs.ItemLemmas.{none_in_text, whole_none}
