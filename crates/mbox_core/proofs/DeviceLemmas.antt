@@ -19,9 +19,3 @@ pub told-more : (before now after bytes : List ℕ) (n k : ℕ)
     → now ≡ before ++ take n bytes → after ≡ now ++ take k (drop n bytes) → after ≡ before ++ take (n + k) bytes
 told-more before now after bytes n k so_far next =
     next ∙ rw (so_far, take-add n k bytes) (append_assoc before (take n bytes) (take k (drop n bytes)))
-
--- what was told and what waits in a batch, after one piece more: `from` was told at first, and `so_far` was added since
-pub batch-more : (told held told' held' from so_far piece : List ℕ)
-    → told ++ held ≡ from ++ so_far → told' ++ held' ≡ told ++ (held ++ piece) → told' ++ held' ≡ from ++ (so_far ++ piece)
-batch-more told held told' held' from so_far piece before added =
-    added ∙ sym (append_assoc told held piece) ∙ ap (λ l. l ++ piece) before ∙ append_assoc from so_far piece

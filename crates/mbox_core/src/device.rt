@@ -2,14 +2,12 @@
 ghost use Rattle.std.specs.Prelude.{◌≡◌, ◌≤◌, ◌+◌, ◌++◌, ℕ, List, length, take, IfOk, MatchResult};
 ghost use Rattle.mbox_core.specs.Device.{read_ends, read_faults, written_faults};
 
-pub use batch::Batch;
 pub use counted::Counted;
 pub use reading::{ReadStop, read_all};
 pub use tap::Tap;
 pub use told::Told;
 pub use writing::{WriteFault, write_bytes, write_two};
 
-mod batch;
 mod counted;
 mod reading;
 mod tap;

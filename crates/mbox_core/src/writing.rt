@@ -123,13 +123,3 @@ pub fn write_item<W: Sink>(out: &mut W, item: &Item) -> Result<(), WriteFault>
     }
     Ok(())
 }
-
-/// How many bytes `write_item` writes of this message: 2^64 - 1 where there are more.
-pub fn written_len(item: &Item) -> u64
-    ensures { result ≡ min (length (written_item item.now)) 18446744073709551615 }
-{
-    let tail = tail_of(item);
-    heading_len(&item.envelope)
-        .saturating_add(item.text.len() as u64)
-        .saturating_add(tail.len() as u64)
-}

@@ -1,6 +1,4 @@
-use super::{
-    Batch, Counted, ReadStop, Sink, Source, Tap, WriteFault, read_all, write_bytes, write_two,
-};
+use super::{Counted, ReadStop, Sink, Source, Tap, WriteFault, read_all, write_bytes, write_two};
 use mail_core::Memory;
 use std::io::{self, ErrorKind, Read, Write};
 use std::test::Fail;
@@ -168,49 +166,5 @@ fn a_text_longer_than_one_read_is_read_whole(rt: HostRuntime) -> Result<(), Fail
     let mut input = Counted::new(long.as_slice());
     let text = read_all(rt.alloc(), &mut input)?;
     assert!(rt; text == long);
-    Ok(())
-}
-
-#[test]
-fn a_batch_before_a_sink_that_fails_after_each_number_of_bytes(
-    rt: HostRuntime,
-) -> Result<(), Fail> {
-    for passes in 0..TEXT.len() + 2 {
-        let mut tap = Tap::new(rt.alloc(), b"", passes)?;
-        let mut batch = Batch::new(rt.alloc())?;
-        assert!(rt; batch.add(&mut tap, b"From ").is_ok());
-        assert!(rt; batch.add(&mut tap, b"anna@example.org\n").is_ok());
-        assert!(rt;
-            batch.len() == TEXT.len() && tap.bytes().is_empty(),
-            "after {passes}"
-        );
-        let answer = batch.flush(&mut tap);
-        assert!(rt; answer.is_ok() == (passes >= TEXT.len()), "after {passes}");
-        if let Err(fault) = answer {
-            assert!(rt; fault.written == passes as u64, "after {passes}");
-        }
-        assert_eq!(rt;
-            tap.bytes(),
-            &TEXT[..passes.min(TEXT.len())],
-            "after {passes}"
-        );
-    }
-    Ok(())
-}
-
-#[test]
-fn a_batch_writes_out_what_it_has_no_room_for(rt: HostRuntime) -> Result<(), Fail> {
-    let long = vec![in rt.alloc(); 7u8; 40_000]?;
-    let longer = vec![in rt.alloc(); 8u8; 70_000]?;
-    let mut tap = Tap::new(rt.alloc(), b"", 1_000_000)?;
-    let mut batch = Batch::new(rt.alloc())?;
-    assert!(rt; batch.add(&mut tap, long.as_slice()).is_ok());
-    assert!(rt; batch.len() == 40_000 && tap.bytes().is_empty());
-    assert!(rt; batch.add(&mut tap, long.as_slice()).is_ok());
-    assert!(rt; batch.len() == 40_000 && tap.bytes().len() == 40_000);
-    assert!(rt; batch.add(&mut tap, longer.as_slice()).is_ok());
-    assert!(rt; batch.len() == 0 && tap.bytes().len() == 150_000);
-    assert!(rt; tap.bytes().starts_with(long.as_slice()));
-    assert!(rt; tap.bytes().ends_with(longer.as_slice()));
     Ok(())
 }
