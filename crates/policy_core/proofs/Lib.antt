@@ -1,2 +1,3 @@
 mod RuleLemmas
 mod VerdictExamples
+mod WrittenExamples

@@ -1,4 +1,6 @@
 pub mod Facts
+pub mod Names
 pub mod Rules
 pub mod Seen
 pub mod Verdict
+pub mod Written

@@ -2,7 +2,9 @@
 #![tactic(auto)]
 
 mod access;
+mod faults;
 mod rules;
 
 pub use access::{Facts, Standing, Verdict, Withdrawn};
+pub use faults::PolicyFault;
 pub use rules::Policy;
