@@ -33,11 +33,6 @@ values_in _ = []
 abbrev pub texts_in : Data → List (List ℕ)
 texts_in d = filter_map as_str (values_in d)
 
--- the keys of a table with their values; none for another value
-abbrev pub members_in : Data → Members
-members_in (table ms) = ms
-members_in _ = no_members
-
 -- ---- words
 
 abbrev pub standing_named : List ℕ → Option Standing
@@ -55,7 +50,7 @@ withdrawal_named word =
     else if bytes_eq word (codes "board") then Some Board
     else None
 
--- the effect allows
+-- whether the effect allows
 abbrev pub effect_named : List ℕ → Option Bool
 effect_named word =
     if bytes_eq word (codes "allow") then Some true else if bytes_eq word (codes "deny") then Some false else None
@@ -91,14 +86,21 @@ fails test (Some a) = not (test a)
 abbrev pub is_text : Data → Bool
 is_text d = is_some (as_str d)
 
+abbrev pub is_table : Data → Bool
+is_table d = is_some (as_table d)
+
 abbrev pub is_array_of : (Data → Bool) → Data → Bool
 is_array_of test d = is_some (as_array d) && list_all test (values_in d)
 
+abbrev pub has_member : List Data → Bool
+has_member [] = false
+has_member (d ∷ ds) = true
+
 -- an array of texts has one member or more, and each passes the test
 abbrev pub are_some : (List ℕ → Bool) → Data → Bool
-are_some test d = nat_lt 0 (length (values_in d)) && list_all test (texts_in d)
+are_some test d = has_member (values_in d) && list_all test (texts_in d)
 
-abbrev pub name_refusal : ℕ → List (List ℕ) → Option Data → Option PolicyFault
+unfoldable pub name_refusal : ℕ → List (List ℕ) → Option Data → Option PolicyFault
 name_refusal n earlier given = first_of (
     refuse (WrongType n) (fails is_text given)
     ∷ refuse (BadValue n) (is_none given)
@@ -106,7 +108,7 @@ name_refusal n earlier given = first_of (
     ∷ refuse (DuplicateName n) (some_that (λ d. some_that (λ name. list_any (bytes_eq name) (codes "default" ∷ earlier)) (as_str d)) given)
     ∷ [])
 
-abbrev pub effect_refusal : ℕ → Option Data → Option PolicyFault
+unfoldable pub effect_refusal : ℕ → Option Data → Option PolicyFault
 effect_refusal n given = first_of (
     refuse (WrongType n) (fails is_text given)
     ∷ refuse (BadValue n) (is_none given)
@@ -114,26 +116,26 @@ effect_refusal n given = first_of (
     ∷ [])
 
 -- an array of one text or more, each of which passes the test
-abbrev pub texts_refusal : ℕ → (List ℕ → Bool) → Option Data → Option PolicyFault
+unfoldable pub texts_refusal : ℕ → (List ℕ → Bool) → Option Data → Option PolicyFault
 texts_refusal n test given = first_of (
     refuse (WrongType n) (fails (is_array_of is_text) given)
     ∷ refuse (BadValue n) (fails (are_some test) given)
     ∷ [])
 
-abbrev pub embargo_refusal : ℕ → Option Data → Option PolicyFault
+unfoldable pub embargo_refusal : ℕ → Option Data → Option PolicyFault
 embargo_refusal n given = refuse (WrongType n) (fails (λ d. is_some (as_bool d)) given)
 
 -- whole days, 0 to 36,500
 abbrev pub is_age : ℤ → Bool
 is_age z = int_le (pos 0) z && int_le z (pos 36_500)
 
-abbrev pub age_refusal : ℕ → Option Data → Option PolicyFault
+unfoldable pub age_refusal : ℕ → Option Data → Option PolicyFault
 age_refusal n given = first_of (
     refuse (WrongType n) (fails (λ d. is_some (as_integer d)) given)
     ∷ refuse (BadValue n) (fails (λ d. some_that is_age (as_integer d)) given)
     ∷ [])
 
-abbrev pub day_refusal : ℕ → Option Data → Option PolicyFault
+unfoldable pub day_refusal : ℕ → Option Data → Option PolicyFault
 day_refusal n given = first_of (
     refuse (WrongType n) (fails is_text given)
     ∷ refuse (BadValue n) (fails (λ d. some_that (λ text. is_some (day_of_text text)) (as_str d)) given)
@@ -148,7 +150,7 @@ abbrev pub is_after : Option ℤ → Option ℤ → Bool
 is_after (Some from) (Some until) = int_lt until from
 is_after _ _ = false
 
-abbrev pub rule_refusal : ℕ → List (List ℕ) → Members → Option PolicyFault
+unfoldable pub rule_refusal : ℕ → List (List ℕ) → Members → Option PolicyFault
 rule_refusal n earlier rule = first_of (
     refuse (UnknownKey n) (not (list_all is_rule_key (keys_of rule)))
     ∷ name_refusal n earlier (get_member (codes "name") rule)
@@ -169,10 +171,14 @@ rule_refusal n earlier rule = first_of (
 abbrev pub text_at : List ℕ → Members → List ℕ
 text_at key rule = unwrap_or (option_and_then as_str (get_member key rule)) []
 
-abbrev pub rule_of : Members → Rule
+-- the effect allows
+abbrev pub allows_at : Members → Bool
+allows_at rule = some_that (λ allows. allows) (effect_named (text_at (codes "effect") rule))
+
+unfoldable pub rule_of : Members → Rule
 rule_of rule = record {
   name = text_at (codes "name") rule;
-  allows = some_that (λ allows. allows) (effect_named (text_at (codes "effect") rule));
+  allows = allows_at rule;
   lists = option_map texts_in (get_member (codes "lists") rule);
   standings = option_map (λ d. filter_map standing_named (texts_in d)) (get_member (codes "standings") rule);
   withdrawn = option_map (λ d. filter_map withdrawal_named (texts_in d)) (get_member (codes "withdrawn") rule);
@@ -185,23 +191,26 @@ rule_of rule = record {
 -- ---- the policy
 
 -- the first refusal of some rules, of which the first has the number n and comes after rules of these names
-abbrev pub rules_refusal : ℕ → List (List ℕ) → List Members → Option PolicyFault
+unfoldable pub rules_refusal : ℕ → List (List ℕ) → List Members → Option PolicyFault
 rules_refusal n earlier [] = None
 rules_refusal n earlier (rule ∷ rules) = first_of (
     rule_refusal n earlier rule
     ∷ rules_refusal (suc n) (earlier ++ text_at (codes "name") rule ∷ []) rules
     ∷ [])
 
--- the tables of the array `rule`; none where it is missing
-abbrev pub tables_of : Option Data → List Members
-tables_of None = []
-tables_of (Some d) = map members_in (values_in d)
+-- the values of the array `rule`, and the tables among them; none where it is missing
+abbrev pub rule_values : Option Data → List Data
+rule_values None = []
+rule_values (Some d) = values_in d
 
-abbrev pub tree_refusal : Members → Option PolicyFault
+abbrev pub tables_of : Option Data → List Members
+tables_of given = filter_map as_table (rule_values given)
+
+unfoldable pub tree_refusal : Members → Option PolicyFault
 tree_refusal tree = first_of (
     refuse (UnknownKey 0) (not (list_all (λ key. bytes_eq key (codes "rule")) (keys_of tree)))
-    ∷ refuse (WrongType 0) (fails (is_array_of (λ d. is_some (as_table d))) (get_member (codes "rule") tree))
-    ∷ refuse TooManyRules (nat_lt 200 (length (tables_of (get_member (codes "rule") tree))))
+    ∷ refuse (WrongType 0) (fails (is_array_of is_table) (get_member (codes "rule") tree))
+    ∷ refuse TooManyRules (nat_lt 200 (length (rule_values (get_member (codes "rule") tree))))
     ∷ rules_refusal 1 [] (tables_of (get_member (codes "rule") tree))
     ∷ [])
 

@@ -1,5 +1,8 @@
 //! Why a text is no policy.
 
+ghost use Rattle.policy_core.specs.declared.faults.PolicyFault.TheVariants.{Memory};
+
+use std::alloc::{AllocError, AllocFailed};
 use std::error::Error;
 use std::fmt;
 
@@ -24,6 +27,26 @@ pub enum PolicyFault {
     TooManyRules,
     /// P8: no memory was left.
     Memory,
+}
+
+impl From<AllocError> for PolicyFault {
+    ghost use Rattle.std.specs.Prelude.{◌≡◌};
+
+    ghost from_gives = { λ _ fault. fault ≡ Memory };
+
+    fn from(_error: AllocError) -> PolicyFault {
+        PolicyFault::Memory
+    }
+}
+
+impl<T: Drop> From<AllocFailed<T>> for PolicyFault {
+    ghost use Rattle.std.specs.Prelude.{◌≡◌};
+
+    ghost from_gives = { λ _ fault. fault ≡ Memory };
+
+    fn from(_error: AllocFailed<T>) -> PolicyFault {
+        PolicyFault::Memory
+    }
 }
 
 impl fmt::Display for PolicyFault {
