@@ -1,2 +1,5 @@
+mod ListLemmas
 mod RuleLemmas
+mod TreeLemmas
 mod VerdictExamples
+mod WrittenExamples

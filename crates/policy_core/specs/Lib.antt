@@ -1,4 +1,7 @@
 pub mod Facts
+pub mod Names
+pub mod Reading
 pub mod Rules
 pub mod Seen
 pub mod Verdict
+pub mod Written

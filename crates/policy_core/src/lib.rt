@@ -2,7 +2,17 @@
 #![tactic(auto)]
 
 mod access;
+mod faults;
+mod names;
+mod reading;
+mod rule_reading;
 mod rules;
+mod words;
 
 pub use access::{Facts, Standing, Verdict, Withdrawn};
+pub use faults::PolicyFault;
+pub use names::is_name;
 pub use rules::Policy;
+
+#[cfg(test)]
+mod tests;

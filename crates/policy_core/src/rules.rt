@@ -1,12 +1,16 @@
 //! Policies and their verdicts.
-ghost use Rattle.std.specs.Prelude.{◌≡◌, ◌∷◌, [], ◌&&◌, pos, int_le, bytes_eq};
+ghost use Rattle.std.specs.Prelude.{◌≡◌, ◌≢◌, ◌∷◌, [], ◌&&◌, pos, int_le, bytes_eq, Ok, Err, IfOk, IfErr};
 ghost use Rattle.std.specs.List.{list_any};
 ghost use Rattle.policy_core.specs.Facts.{is_embargoed, age, same_standing, same_withdrawal};
 ghost use Rattle.policy_core.specs.Rules.{open_rule, fits, fits_reader, fits_message, holds, same_bool};
+ghost use Rattle.policy_core.specs.Written.{written_policy, is_after};
 ghost use Rattle.policy_core.specs.Verdict.{ruling, ruling_by, verdict_of};
 
 use crate::access::{Facts, Standing, Verdict, Withdrawn};
+use crate::faults::PolicyFault;
+use crate::reading::read_policy;
 use mail_core::Day;
+use std::alloc::Global;
 use std::marker::Model;
 
 /// A rule with the conditions that it states. `None` is no condition.
@@ -66,6 +70,18 @@ impl Policy {
         Policy { rules: Rules::Open }
     }
 
+    /// The policy that a text writes (docs/POLICY.md), or the first refusal. A refusal for want of memory may come in place
+    /// of any other answer.
+    pub fn read(alloc: Global, text: &str) -> Result<Policy, PolicyFault>
+        ensures ok { IfOk result (λ policy. written_policy text.now ≡ Ok policy) }
+        ensures refused { IfErr result (λ fault. fault ≢ PolicyFault.Memory → written_policy text.now ≡ Err fault) }
+    {
+        let rules = read_policy(alloc, text)?;
+        Ok(Policy {
+            rules: Rules::Written(rules),
+        })
+    }
+
     /// What the first rule that fits says, with its name; where none fits, a denial by `default`.
     pub fn verdict(&self, facts: &Facts) -> Verdict<'_>
         ensures { ruling result ≡ verdict_of self.now facts.now }
@@ -86,6 +102,22 @@ impl Rule {
         ensures { result ≡ fits self.now facts.now }
     {
         self.fits_reader(facts) && self.fits_message(facts) && self.fits_day(facts.day)
+    }
+
+    /// Whether the rule states a first and a last day, and the first is after the last.
+    pub(crate) fn ends_before_it_begins(&self) -> bool
+        ensures { result ≡ is_after self.now.from self.now.until }
+    {
+        match (self.from, self.until) {
+            (Some(from), Some(until)) => until < from,
+            _ => false,
+        }
+    }
+
+    pub(crate) fn is_named(&self, name: &str) -> bool
+        ensures { result ≡ bytes_eq name.now self.now.name }
+    {
+        name == self.name.as_str()
     }
 
     fn fits_reader(&self, facts: &Facts) -> bool

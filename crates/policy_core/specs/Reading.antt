@@ -1,0 +1,35 @@
+-- What a reader of a key's value answers, beside the definitions of `Written`.
+use Rattle.std.specs.Prelude.{◌≡◌, ◌≢◌, ℕ, List, Bool, not, map, option_map, filter_map, Option, Some, None, Result, MatchResult, unwrap_or, option_and_then}
+use Rattle.std.specs.List.{list_all}
+use Rattle.toml.specs.Data.{Data, Members, as_str, as_table}
+use Rattle.toml.specs.View.{view}
+use Rattle.toml.specs.declared.value.Value.{Value}
+use Rattle.policy_core.specs.declared.faults.PolicyFault.{PolicyFault}
+use Rattle.policy_core.specs.declared.faults.PolicyFault.TheVariants.{BadValue, Memory}
+use Rattle.policy_core.specs.Rules.{Rule}
+use Rattle.policy_core.specs.Written.{texts_in, texts_refusal, refuse}
+
+-- the value where nothing is refused, else the refusal
+abbrev pub Reads : {T : Type 0} → Result T PolicyFault → Option PolicyFault → (T → Type 0) → Type 0
+Reads result refusal IsValue = MatchResult result (λ value. (refusal ≡ None) × IsValue value) (λ fault. refusal ≡ Some fault)
+
+-- the same of a reader that takes memory, the want of which may come in place of either
+abbrev pub ReadsInMemory : {T : Type 0} → Result T PolicyFault → Option PolicyFault → (T → Type 0) → Type 0
+ReadsInMemory result refusal IsValue =
+    MatchResult result (λ value. (refusal ≡ None) × IsValue value) (λ fault. fault ≢ Memory → refusal ≡ Some fault)
+
+-- the texts among some values
+abbrev pub texts : List Value → List (List ℕ)
+texts values = filter_map as_str (map view values)
+
+-- the tables among some values
+abbrev pub tables : List Value → List Members
+tables values = filter_map as_table (map view values)
+
+abbrev pub names_of : List Rule → List (List ℕ)
+names_of rules = map (λ r. r.name) rules
+
+-- At a key stands an array of one text or more. Where the test fails of one of them it is refused.
+pub record IsTextArray (number : ℕ) (texts : List (List ℕ)) (given : Option Data) : Type 0 where
+  pub value : option_map texts_in given ≡ Some texts
+  pub refused : (test : List ℕ → Bool) → texts_refusal number test given ≡ refuse (BadValue number) (not (list_all test texts))

@@ -1,0 +1,230 @@
+-- What a written policy says: the rules that the tree of a TOML text (TOML 1.1) holds, or the first refusal.
+-- (profile: the keys, their values and the order of the refusals are this project's, and docs/POLICY.md lists them)
+use Rattle.std.specs.Prelude.{ℕ, suc, ℤ, pos, List, [], ◌∷◌, ◌++◌, length, map, unwrap_or, codes, bytes_eq, nat_lt, int_le, int_lt, unsigned_abs, filter_map, Bool, true, false, not, ◌&&◌, ◌||◌, if◌then◌else◌, Option, Some, None, is_some, is_none, option_map, option_and_then, Result, Ok, Err}
+use Rattle.std.specs.List.{list_all, list_any}
+use Rattle.toml.specs.Data.{Data, Items, no_items, item, Members, no_members, member, get_member, as_str, as_integer, as_bool, as_array, as_table, array, table}
+use Rattle.toml.specs.Parse.{parse_document}
+use Rattle.mail_core.specs.Calendar.{day_of_text}
+use Rattle.policy_core.specs.declared.access.Standing.{Standing}
+use Rattle.policy_core.specs.declared.access.Standing.TheVariants.{Public, Member, Subscriber, Moderator}
+use Rattle.policy_core.specs.declared.access.Withdrawn.{Withdrawn}
+use Rattle.policy_core.specs.declared.access.Withdrawn.TheVariants.{No, Author, Board}
+use Rattle.policy_core.specs.declared.faults.PolicyFault.{PolicyFault}
+use Rattle.policy_core.specs.declared.faults.PolicyFault.TheVariants.{NotToml, UnknownKey, WrongType, BadName, DuplicateName, BadValue, TooManyRules}
+use Rattle.policy_core.specs.Names.{is_name}
+use Rattle.policy_core.specs.Rules.{Rule}
+
+-- ---- the tree
+
+abbrev pub keys_of : Members → List (List ℕ)
+keys_of no_members = []
+keys_of (member key d ms) = key ∷ keys_of ms
+
+abbrev pub values_of : Items → List Data
+values_of no_items = []
+values_of (item d ds) = d ∷ values_of ds
+
+-- the members of an array; none for another value
+abbrev pub values_in : Data → List Data
+values_in (array ds) = values_of ds
+values_in _ = []
+
+-- the texts among the members of an array
+abbrev pub texts_in : Data → List (List ℕ)
+texts_in d = filter_map as_str (values_in d)
+
+-- ---- words
+
+abbrev pub standing_named : List ℕ → Option Standing
+standing_named word =
+    if bytes_eq word (codes "public") then Some Public
+    else if bytes_eq word (codes "member") then Some Member
+    else if bytes_eq word (codes "subscriber") then Some Subscriber
+    else if bytes_eq word (codes "moderator") then Some Moderator
+    else None
+
+abbrev pub withdrawal_named : List ℕ → Option Withdrawn
+withdrawal_named word =
+    if bytes_eq word (codes "no") then Some No
+    else if bytes_eq word (codes "author") then Some Author
+    else if bytes_eq word (codes "board") then Some Board
+    else None
+
+-- whether the effect allows
+abbrev pub effect_named : List ℕ → Option Bool
+effect_named word =
+    if bytes_eq word (codes "allow") then Some true else if bytes_eq word (codes "deny") then Some false else None
+
+abbrev pub is_rule_key : List ℕ → Bool
+is_rule_key key =
+    bytes_eq key (codes "name") || bytes_eq key (codes "effect") || bytes_eq key (codes "lists")
+    || bytes_eq key (codes "standings") || bytes_eq key (codes "withdrawn") || bytes_eq key (codes "embargo")
+    || bytes_eq key (codes "age_min") || bytes_eq key (codes "from") || bytes_eq key (codes "until")
+
+-- ---- refusals: each with what brings it about, in the order in which they are tested
+
+-- a refusal, where what brings it about is there
+abbrev pub refuse : PolicyFault → Bool → Option PolicyFault
+refuse fault found = if found then Some fault else None
+
+-- the first that is there
+abbrev pub first_of : List (Option PolicyFault) → Option PolicyFault
+first_of [] = None
+first_of (None ∷ rest) = first_of rest
+first_of (Some fault ∷ rest) = Some fault
+
+-- there is a value, and it passes the test
+abbrev pub some_that : {A : Type 0} → (A → Bool) → Option A → Bool
+some_that test None = false
+some_that test (Some a) = test a
+
+-- there is a value, and it fails the test
+abbrev pub fails : {A : Type 0} → (A → Bool) → Option A → Bool
+fails test None = false
+fails test (Some a) = not (test a)
+
+abbrev pub is_text : Data → Bool
+is_text d = is_some (as_str d)
+
+abbrev pub is_table : Data → Bool
+is_table d = is_some (as_table d)
+
+abbrev pub is_array_of : (Data → Bool) → Data → Bool
+is_array_of test d = is_some (as_array d) && list_all test (values_in d)
+
+abbrev pub has_member : List Data → Bool
+has_member [] = false
+has_member (d ∷ ds) = true
+
+-- an array of texts has one member or more, and each passes the test
+abbrev pub are_some : (List ℕ → Bool) → Data → Bool
+are_some test d = has_member (values_in d) && list_all test (texts_in d)
+
+unfoldable pub name_refusal : ℕ → List (List ℕ) → Option Data → Option PolicyFault
+name_refusal n earlier given = first_of (
+    refuse (WrongType n) (fails is_text given)
+    ∷ refuse (BadValue n) (is_none given)
+    ∷ refuse (BadName n) (fails (λ d. some_that is_name (as_str d)) given)
+    ∷ refuse (DuplicateName n) (some_that (λ d. some_that (λ name. list_any (bytes_eq name) (codes "default" ∷ earlier)) (as_str d)) given)
+    ∷ [])
+
+unfoldable pub effect_refusal : ℕ → Option Data → Option PolicyFault
+effect_refusal n given = first_of (
+    refuse (WrongType n) (fails is_text given)
+    ∷ refuse (BadValue n) (is_none given)
+    ∷ refuse (BadValue n) (fails (λ d. some_that (λ word. is_some (effect_named word)) (as_str d)) given)
+    ∷ [])
+
+-- an array of one text or more, each of which passes the test
+unfoldable pub texts_refusal : ℕ → (List ℕ → Bool) → Option Data → Option PolicyFault
+texts_refusal n test given = first_of (
+    refuse (WrongType n) (fails (is_array_of is_text) given)
+    ∷ refuse (BadValue n) (fails (are_some test) given)
+    ∷ [])
+
+unfoldable pub embargo_refusal : ℕ → Option Data → Option PolicyFault
+embargo_refusal n given = refuse (WrongType n) (fails (λ d. is_some (as_bool d)) given)
+
+-- whole days, 0 to 36,500
+abbrev pub is_age : ℤ → Bool
+is_age z = int_le (pos 0) z && int_le z (pos 36_500)
+
+unfoldable pub age_refusal : ℕ → Option Data → Option PolicyFault
+age_refusal n given = first_of (
+    refuse (WrongType n) (fails (λ d. is_some (as_integer d)) given)
+    ∷ refuse (BadValue n) (fails (λ d. some_that is_age (as_integer d)) given)
+    ∷ [])
+
+unfoldable pub day_refusal : ℕ → Option Data → Option PolicyFault
+day_refusal n given = first_of (
+    refuse (WrongType n) (fails is_text given)
+    ∷ refuse (BadValue n) (fails (λ d. some_that (λ text. is_some (day_of_text text)) (as_str d)) given)
+    ∷ [])
+
+-- the day that stands at a key
+abbrev pub day_in : Option Data → Option ℤ
+day_in given = option_and_then day_of_text (option_and_then as_str given)
+
+-- both days stand there, and the first is after the second
+abbrev pub is_after : Option ℤ → Option ℤ → Bool
+is_after (Some from) (Some until) = int_lt until from
+is_after _ _ = false
+
+unfoldable pub rule_refusal : ℕ → List (List ℕ) → Members → Option PolicyFault
+rule_refusal n earlier rule = first_of (
+    refuse (UnknownKey n) (not (list_all is_rule_key (keys_of rule)))
+    ∷ name_refusal n earlier (get_member (codes "name") rule)
+    ∷ effect_refusal n (get_member (codes "effect") rule)
+    ∷ texts_refusal n is_name (get_member (codes "lists") rule)
+    ∷ texts_refusal n (λ word. is_some (standing_named word)) (get_member (codes "standings") rule)
+    ∷ texts_refusal n (λ word. is_some (withdrawal_named word)) (get_member (codes "withdrawn") rule)
+    ∷ embargo_refusal n (get_member (codes "embargo") rule)
+    ∷ age_refusal n (get_member (codes "age_min") rule)
+    ∷ day_refusal n (get_member (codes "from") rule)
+    ∷ day_refusal n (get_member (codes "until") rule)
+    ∷ refuse (BadValue n) (is_after (day_in (get_member (codes "from") rule)) (day_in (get_member (codes "until") rule)))
+    ∷ [])
+
+-- ---- the rules
+
+-- the text at a key, or nothing
+abbrev pub text_at : List ℕ → Members → List ℕ
+text_at key rule = unwrap_or (option_and_then as_str (get_member key rule)) []
+
+-- the effect allows
+abbrev pub allows_at : Members → Bool
+allows_at rule = some_that (λ allows. allows) (effect_named (text_at (codes "effect") rule))
+
+unfoldable pub rule_of : Members → Rule
+rule_of rule = record {
+  name = text_at (codes "name") rule;
+  allows = allows_at rule;
+  lists = option_map texts_in (get_member (codes "lists") rule);
+  standings = option_map (λ d. filter_map standing_named (texts_in d)) (get_member (codes "standings") rule);
+  withdrawn = option_map (λ d. filter_map withdrawal_named (texts_in d)) (get_member (codes "withdrawn") rule);
+  embargo = option_and_then as_bool (get_member (codes "embargo") rule);
+  age_min = option_map unsigned_abs (option_and_then as_integer (get_member (codes "age_min") rule));
+  from = day_in (get_member (codes "from") rule);
+  until = day_in (get_member (codes "until") rule);
+}
+
+-- ---- the policy
+
+-- the first refusal of some rules, of which the first has the number n and comes after rules of these names
+unfoldable pub rules_refusal : ℕ → List (List ℕ) → List Members → Option PolicyFault
+rules_refusal n earlier [] = None
+rules_refusal n earlier (rule ∷ rules) = first_of (
+    rule_refusal n earlier rule
+    ∷ rules_refusal (suc n) (earlier ++ text_at (codes "name") rule ∷ []) rules
+    ∷ [])
+
+-- the values of the array `rule`, and the tables among them; none where it is missing
+abbrev pub rule_values : Option Data → List Data
+rule_values None = []
+rule_values (Some d) = values_in d
+
+abbrev pub tables_of : Option Data → List Members
+tables_of given = filter_map as_table (rule_values given)
+
+unfoldable pub tree_refusal : Members → Option PolicyFault
+tree_refusal tree = first_of (
+    refuse (UnknownKey 0) (not (list_all (λ key. bytes_eq key (codes "rule")) (keys_of tree)))
+    ∷ refuse (WrongType 0) (fails (is_array_of is_table) (get_member (codes "rule") tree))
+    ∷ refuse TooManyRules (nat_lt 200 (length (rule_values (get_member (codes "rule") tree))))
+    ∷ rules_refusal 1 [] (tables_of (get_member (codes "rule") tree))
+    ∷ [])
+
+abbrev pub unless_refused : Option PolicyFault → List Rule → Result (List Rule) PolicyFault
+unless_refused None rules = Ok rules
+unless_refused (Some fault) rules = Err fault
+
+abbrev pub policy_of : Members → Result (List Rule) PolicyFault
+policy_of tree = unless_refused (tree_refusal tree) (map rule_of (tables_of (get_member (codes "rule") tree)))
+
+-- the policy of a text that is a TOML document
+abbrev pub policy_in : Option Members → Result (List Rule) PolicyFault
+policy_in None = Err NotToml
+policy_in (Some tree) = policy_of tree
+
+abbrev pub written_policy : List ℕ → Result (List Rule) PolicyFault
+written_policy text = policy_in (parse_document text)

@@ -1,0 +1,90 @@
+//! Reading a written policy.
+ghost use Rattle.std.specs.Prelude.{◌≡◌, ◌≢◌, true, [], ℕ, List, Some, None, Ok, Err, IfOk, IfErr, map, option_map, option_and_then, bytes_eq, codes};
+ghost use Rattle.std.specs.List.{list_all, list_any};
+ghost use Rattle.toml.specs.Data.{get_member};
+ghost use Rattle.toml.specs.View.{view, table_view};
+ghost use Rattle.policy_core.specs.Reading.{Reads, ReadsInMemory, tables};
+ghost use Rattle.policy_core.specs.Written.{refuse, fails, is_array_of, written_policy, tree_refusal, tables_of, rules_refusal, rule_of, keys_of, is_table, rule_values};
+
+use crate::faults::PolicyFault;
+use crate::rule_reading::{at, read_rule};
+use crate::rules::Rule;
+use std::alloc::Global;
+use toml::{Table, Value};
+
+/// The most rules of a policy.
+const MOST_RULES: usize = 200;
+
+/// The rules of a policy's text, or its first refusal.
+pub(crate) fn read_policy(alloc: Global, text: &str) -> Result<Vec<Rule>, PolicyFault>
+    ensures ok { IfOk result (λ rules. written_policy text.now ≡ Ok rules.items) }
+    ensures refused { IfErr result (λ fault. fault ≢ PolicyFault.Memory → written_policy text.now ≡ Err fault) }
+{
+    match toml::table_from_str(alloc, text) {
+        Ok(tree) => read_tree(alloc, &tree),
+        Err(fault) => {
+            if fault.is_memory() {
+                Err(PolicyFault::Memory)
+            } else {
+                Err(PolicyFault::NotToml)
+            }
+        }
+    }
+}
+
+/// The rules of a policy's tree.
+fn read_tree(alloc: Global, tree: &Table) -> Result<Vec<Rule>, PolicyFault>
+    ensures { ReadsInMemory result (tree_refusal (table_view tree.now)) (λ rules. rules.items ≡ map rule_of (tables_of (get_member (codes "rule") (table_view tree.now)))) }
+{
+    if !has_only_rule(tree) {
+        return Err(PolicyFault::UnknownKey(0));
+    }
+    let values = read_array(tree)?;
+    if values.len() > MOST_RULES {
+        return Err(PolicyFault::TooManyRules);
+    }
+    read_rules(alloc, values)
+}
+
+/// Whether each key is `rule`.
+fn has_only_rule(tree: &Table) -> bool
+    ensures { result ≡ list_all (λ key. bytes_eq key (codes "rule")) (keys_of (table_view tree.now)) }
+{
+    tree.keys().all(|key| key.as_str() == "rule")
+}
+
+/// The members of the array `rule`, each of which is a table. There are none where it is missing.
+fn read_array(tree: &Table) -> Result<&[Value], PolicyFault>
+    ensures { Reads result (refuse (PolicyFault.WrongType 0) (fails (is_array_of is_table) (get_member (codes "rule") (table_view tree.entry.now)))) (λ values. map view values.now ≡ rule_values (get_member (codes "rule") (table_view tree.entry.now))) }
+{
+    let Some(value) = at(tree, "rule") else {
+        return Ok(&[]);
+    };
+    let Some(values) = value.as_array() else {
+        return Err(PolicyFault::WrongType(0));
+    };
+    if !are_tables(values) {
+        return Err(PolicyFault::WrongType(0));
+    }
+    Ok(values)
+}
+
+fn are_tables(values: &[Value]) -> bool
+    ensures { result ≡ list_all is_table (map view values.now) }
+{
+    values.iter().all(|value| value.is_table())
+}
+
+/// The rules of the tables among some values, numbered from 1.
+fn read_rules(alloc: Global, values: &[Value]) -> Result<Vec<Rule>, PolicyFault>
+    ensures { ReadsInMemory result (rules_refusal 1 [] (tables values.now)) (λ rules. rules.items ≡ map rule_of (tables values.now)) }
+{
+    let mut rules = Vec::new(alloc);
+    for value in values {
+        if let Some(keys) = value.as_table() {
+            let rule = read_rule(alloc, rules.len() + 1, &rules, keys)?;
+            rules.push(rule)?;
+        }
+    }
+    Ok(rules)
+}
