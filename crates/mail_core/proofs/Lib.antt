@@ -1,2 +1,12 @@
+pub mod CalendarExamples
 pub mod CalendarLemmas
+pub mod CommentCounts
+pub mod CommentLemmas
+pub mod CommentTable
 pub mod DayLemmas
+pub mod MsgIdExamples
+pub mod MsgIdLemmas
+pub mod PieceLemmas
+pub mod QuoteLemmas
+pub mod ScanLemmas
+pub mod SideLemmas
