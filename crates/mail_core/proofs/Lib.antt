@@ -4,6 +4,7 @@ pub mod CommentCounts
 pub mod CommentLemmas
 pub mod CommentTable
 pub mod DayLemmas
+pub mod FieldExamples
 pub mod MsgIdExamples
 pub mod MsgIdLemmas
 pub mod PieceLemmas

@@ -21,3 +21,18 @@ at_sign = 64
 
 abbrev pub backslash : ℕ
 backslash = 92
+
+abbrev pub tab : ℕ
+tab = 9
+
+abbrev pub lf : ℕ
+lf = 10
+
+abbrev pub cr : ℕ
+cr = 13
+
+abbrev pub space : ℕ
+space = 32
+
+abbrev pub colon : ℕ
+colon = 58

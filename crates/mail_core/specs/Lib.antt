@@ -1,7 +1,10 @@
+pub mod Author
 pub mod Bytes
 pub mod Calendar
 pub mod Comments
 pub mod Ends
+pub mod Fields
+pub mod Lines
 pub mod MsgIds
 pub mod Pieces
 pub mod Quotes
