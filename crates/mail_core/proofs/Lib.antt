@@ -1,3 +1,4 @@
+pub mod AuthorLemmas
 pub mod CalendarExamples
 pub mod CalendarLemmas
 pub mod CommentCounts
@@ -5,6 +6,8 @@ pub mod CommentLemmas
 pub mod CommentTable
 pub mod DayLemmas
 pub mod FieldExamples
+pub mod FieldLemmas
+pub mod LineLemmas
 pub mod MsgIdExamples
 pub mod MsgIdLemmas
 pub mod PieceLemmas

@@ -1,8 +1,7 @@
 -- The author key of a message: who stands in its From field (RFC 5322 section 3.6.2), in a form that can be compared.
 -- Profile: the text between the last `<` and the first `>` behind it is taken for the address, else the whole body.
-use Rattle.std.specs.Prelude.{ℕ, ◌==◌, ◌-◌, Bool, List, [], ◌∷◌, length, take, drop, map, reverse, Option, Some, None, codes, option_map, if◌then◌else◌}
+use Rattle.std.specs.Prelude.{ℕ, ◌==◌, List, [], ◌∷◌, map, Option, Some, None, codes, option_map, if◌then◌else◌}
 use Rattle.std.specs.Option.{option_and_then}
-use Rattle.std.specs.List.{prefix_len, suffix_len, position}
 use Rattle.std.specs.Char.{to_ascii_lowercase}
 use Rattle.mail_core.specs.Bytes.{less_than, greater_than}
 use Rattle.mail_core.specs.Fields.{is_blank, field_of, unfolded, skip_blanks}
@@ -17,7 +16,8 @@ after_last k (b ∷ bs) = elim (after_last k bs) [
 
 -- what stands before the first byte k
 abbrev pub before_byte : ℕ → List ℕ → Option (List ℕ)
-before_byte k text = option_map (λ n. take n text) (position (λ b. b == k) text)
+before_byte k [] = None
+before_byte k (b ∷ bs) = if b == k then Some [] else option_map (λ (front : List ℕ). b ∷ front) (before_byte k bs)
 
 -- the text between the last `<` and the first `>` behind it
 abbrev pub in_angles : List ℕ → Option (List ℕ)
@@ -28,7 +28,11 @@ address_in text = elim (in_angles text) [ Some address ↦ address | None ↦ te
 
 -- without the spaces and tabs at its ends
 abbrev pub trim_end : List ℕ → List ℕ
-trim_end text = take (length text - suffix_len is_blank text) text
+trim_end [] = []
+trim_end (b ∷ bs) = elim (trim_end bs) [
+  | [] ↦ if is_blank b then [] else b ∷ []
+  | c ∷ cs ↦ b ∷ c ∷ cs
+]
 
 abbrev pub trimmed : List ℕ → List ℕ
 trimmed text = trim_end (skip_blanks text)
