@@ -13,4 +13,5 @@ pub mod MsgIdLemmas
 pub mod PieceLemmas
 pub mod QuoteLemmas
 pub mod ScanLemmas
+pub mod SentExamples
 pub mod SideLemmas

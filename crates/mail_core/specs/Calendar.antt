@@ -1,6 +1,7 @@
 -- The civil calendar from the year 0 on, by its rules: which years are leap years, and how long each month is.
 use Rattle.std.specs.Prelude.{ℕ, zero, suc, ◌+◌, ◌-◌, ◌*◌, ◌%◌, ◌≤◌, ◌==◌, nat_le, Bool, not, ◌&&◌, ◌||◌, if◌then◌else◌, ℤ, pos, negsuc, neg_ℤ, ◌+ℤ◌, ◌-ℤ◌, int_le, unsigned_abs, List, [], ◌∷◌, Option, Some, None}
 use Rattle.std.specs.Int.{int_div_euclid, int_rem_euclid}
+use Rattle.mail_core.specs.Bytes.{hyphen}
 
 -- every fourth year, but of the centuries only every fourth
 abbrev pub is_leap : ℕ → Bool
@@ -67,10 +68,10 @@ abbrev pub day_of_numbers : Option ℕ → Option ℕ → Option ℕ → Option 
 day_of_numbers (Some y) (Some m) (Some d) = day_of_date (pos y) m d
 day_of_numbers _ _ _ = None
 
--- the day that a text writes as `yyyy-mm-dd` (45 is the hyphen): RFC 3339 section 5.6, `full-date`
+-- the day that a text writes as `yyyy-mm-dd` (RFC 3339 section 5.6, `full-date`)
 abbrev pub day_of_text : List ℕ → Option ℤ
 day_of_text (a ∷ b ∷ c ∷ d ∷ dash ∷ e ∷ f ∷ dash' ∷ g ∷ h ∷ []) =
-    if (dash == 45) && (dash' == 45) then day_of_numbers (four_digits a b c d) (two_digits e f) (two_digits g h)
+    if (dash == hyphen) && (dash' == hyphen) then day_of_numbers (four_digits a b c d) (two_digits e f) (two_digits g h)
     else None
 day_of_text _ = None
 

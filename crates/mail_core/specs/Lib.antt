@@ -8,3 +8,6 @@ pub mod Lines
 pub mod MsgIds
 pub mod Pieces
 pub mod Quotes
+pub mod Sent
+pub mod Tokens
+pub mod Zones
