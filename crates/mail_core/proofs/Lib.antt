@@ -15,3 +15,4 @@ pub mod QuoteLemmas
 pub mod ScanLemmas
 pub mod SentExamples
 pub mod SideLemmas
+pub mod TokenLemmas

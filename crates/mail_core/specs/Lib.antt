@@ -9,5 +9,6 @@ pub mod MsgIds
 pub mod Pieces
 pub mod Quotes
 pub mod Sent
+pub mod TokenViews
 pub mod Tokens
 pub mod Zones

@@ -16,21 +16,33 @@ pub data Token : Type 0 where
 abbrev pub is_white : ℕ → Bool
 is_white b = (b == space) || (b == tab) || (b == cr) || (b == lf)
 
+-- what a byte may begin
+pub data Kind : Type 0 where
+  white : Kind
+  digit : Kind
+  letter : Kind
+  paren : Kind
+  other : Kind
+
+abbrev pub kind_by : Bool → Bool → Bool → Bool → Kind
+kind_by true _ _ _ = white
+kind_by false true _ _ = digit
+kind_by false false true _ = letter
+kind_by false false false true = paren
+kind_by false false false false = other
+
+unfoldable pub kind_of : ℕ → Kind
+kind_of b = kind_by (is_white b) (is_digit b) (is_ascii_alphabetic b) (b == open_paren)
+
 -- The token that begins with b, and how many bytes behind b belong to it. White space and comments are no tokens.
 -- A run of digits or of letters is the longest one.
-abbrev pub token_at : ℕ → List ℕ → Option Token × ℕ
-token_at b bs = elim (is_white b) [
-  | true ↦ (None, 0)
-  | false ↦ elim (is_digit b) [
-    | true ↦ (Some (digits (take_while is_digit (b ∷ bs))), prefix_len is_digit bs)
-    | false ↦ elim (is_ascii_alphabetic b) [
-      | true ↦ (Some (letters (take_while is_ascii_alphabetic (b ∷ bs))), prefix_len is_ascii_alphabetic bs)
-      | false ↦ elim (b == open_paren) [
-        | false ↦ (Some (sign b), 0)
-        | true ↦ elim (closing_rest false 1 bs) [ None ↦ (Some (sign b), 0) | Some rest ↦ (None, length bs - length rest) ]
-      ]
-    ]
-  ]
+unfoldable pub token_at : ℕ → List ℕ → Option Token × ℕ
+token_at b bs = elim (kind_of b) [
+  | white ↦ (None, 0)
+  | digit ↦ (Some (digits (take_while is_digit (b ∷ bs))), prefix_len is_digit bs)
+  | letter ↦ (Some (letters (take_while is_ascii_alphabetic (b ∷ bs))), prefix_len is_ascii_alphabetic bs)
+  | paren ↦ elim (closing_rest false 1 bs) [ None ↦ (Some (sign b), 0) | Some rest ↦ (None, length bs - length rest) ]
+  | other ↦ (Some (sign b), 0)
 ]
 
 -- the token put in front, where there is one

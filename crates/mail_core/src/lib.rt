@@ -19,9 +19,12 @@ mod msg_id;
 mod octet_string;
 mod quotes;
 mod refusal;
+mod sent_date;
 #[cfg(test)]
 mod tests;
+mod tokens;
 mod unfolding;
+mod zones;
 
 pub use author::author_key;
 pub use days::Day;
@@ -32,4 +35,6 @@ pub use instants::Instant;
 pub use msg_id::MsgId;
 pub use octet_string::Octets;
 pub use refusal::Memory;
+pub use sent_date::sent;
 pub use unfolding::unfold;
+pub use zones::zone;
