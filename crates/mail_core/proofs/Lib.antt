@@ -14,5 +14,6 @@ pub mod PieceLemmas
 pub mod QuoteLemmas
 pub mod ScanLemmas
 pub mod SentExamples
+pub mod SentLemmas
 pub mod SideLemmas
 pub mod TokenLemmas
