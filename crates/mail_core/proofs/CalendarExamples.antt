@@ -1,7 +1,7 @@
 -- Worked examples of the calendar: what its definitions say of known dates.
 use Rattle.std.proofs.Common.{◌≡◌, ℤ, pos, negsuc, neg_ℤ, true, false, refl, Some, None, List, [], ◌∷◌, map}
 use Rattle.std.specs.Prelude.{codes}
-use Rattle.mail_core.specs.Calendar.{is_leap, month_days, days_before_year, days_of_months, day_number, day_number_of, is_day, day_of_date, day_of_text, weekday, is_instant, instant_at, day_of_instant}
+use Rattle.mail_core.specs.Calendar.{is_leap, month_days, days_before_year, days_of_months, day_number, day_number_of, is_day, day_of_date, day_of_text, weekday, is_instant, instant_at, day_of_instant, is_month, month_start, is_in_month, month_of_text}
 
 -- 1900 was no leap year, 2000 was one, 2003 was none
 leap_years : map is_leap (1900 ∷ 2000 ∷ 2003 ∷ 2004 ∷ []) ≡ false ∷ true ∷ false ∷ true ∷ []
@@ -105,3 +105,31 @@ no_instant = refl
 days_of_instants : map day_of_instant (neg_ℤ (pos 2208988800) ∷ negsuc 0 ∷ pos 0 ∷ pos 86399 ∷ pos 86400 ∷ pos 253370764799 ∷ [])
     ≡ neg_ℤ (pos 25567) ∷ negsuc 0 ∷ pos 0 ∷ pos 0 ∷ pos 1 ∷ pos 2932531 ∷ []
 days_of_instants = refl
+
+-- months: their first days, and which days lie in them
+march_2003 : month_of_text (codes "2003-03") ≡ Some 24038
+march_2003 = refl
+
+no_months : map month_of_text (codes "2003-13" ∷ codes "2003-00" ∷ codes "1899-12" ∷ codes "9999-01" ∷ codes "2003-3" ∷ codes "2003/03" ∷ codes "2003-03-04" ∷ [])
+    ≡ None ∷ None ∷ None ∷ None ∷ None ∷ None ∷ None ∷ []
+no_months = refl
+
+first_and_last_month : map month_of_text (codes "1900-01" ∷ codes "9998-12" ∷ []) ≡ Some 22800 ∷ Some 119987 ∷ []
+first_and_last_month = refl
+
+months_of_the_archive : map is_month (22799 ∷ 22800 ∷ 119987 ∷ 119988 ∷ []) ≡ false ∷ true ∷ true ∷ false ∷ []
+months_of_the_archive = refl
+
+start_of_march : month_start 24038 ≡ pos 12112
+unfolding days_before_year days_of_months
+start_of_march = refl
+
+-- 28 February, 1 March, 31 March and 1 April 2003
+days_of_march : map (is_in_month 24038) (pos 12111 ∷ pos 12112 ∷ pos 12142 ∷ pos 12143 ∷ []) ≡ false ∷ true ∷ true ∷ false ∷ []
+unfolding days_before_year days_of_months
+days_of_march = refl
+
+-- 31 December 1969 lies in December, and 1 January 1970 in January
+around_the_epoch : map (is_in_month 23639) (negsuc 0 ∷ pos 0 ∷ []) ≡ true ∷ false ∷ []
+unfolding days_before_year days_of_months
+around_the_epoch = refl
