@@ -8,6 +8,7 @@ pub mod DayLemmas
 pub mod FieldExamples
 pub mod FieldLemmas
 pub mod LineLemmas
+pub mod MonthLemmas
 pub mod MsgIdExamples
 pub mod MsgIdLemmas
 pub mod PieceLemmas

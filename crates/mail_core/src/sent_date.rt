@@ -182,7 +182,10 @@ fn read_time<'a>(text: &'a [u8]) -> Option<(u32, &'a [u8])>
     let hour = at_most(23, read_one_or_two(hour)?)?;
     let minute = at_most(59, read_two(minute)?)?;
     let (second, rest) = read_seconds(rest)?;
-    Some((3600 * hour as u32 + 60 * minute as u32 + second as u32, rest))
+    Some((
+        3600 * hour as u32 + 60 * minute as u32 + second as u32,
+        rest,
+    ))
 }
 
 /// The zone of a sign and digits that come first.
