@@ -19,7 +19,7 @@ years k e (suc y) =
     one_more (y + k) (suc y + k) (omega arith)
     ∙ rw (shifted y k e) (let h = years k e y in omega (arith, h))
 
-months : (y m : ℕ) → jiff.days_of_months (pos y) m ≡ days_of_months y m
+pub months : (y m : ℕ) → jiff.days_of_months (pos y) m ≡ days_of_months y m
 unfolding jiff.days_of_months days_of_months
 months y zero = refl
 months y (suc m) = ap (λ n. n + month_days y (suc m)) (months y m)

@@ -55,11 +55,11 @@ both true b h = (refl, h)
 both false b h = (cc, cc)
 
 -- an option that is there has its condition, and its value
-was_there : (b : Bool) (n v : ℤ) → Some n ≡ (if b then Some v else None) → (b ≡ true) × (n ≡ v)
+pub was_there : (b : Bool) (n v : ℤ) → Some n ≡ (if b then Some v else None) → (b ≡ true) × (n ≡ v)
 was_there true n v h = (refl, cc)
 was_there false n v h = (cc, cc)
 
-date_is_civil : (y m d : ℕ) → is_date y m d ≡ true → IsCivilDate (pos y) m d
+pub date_is_civil : (y m d : ℕ) → is_date y m d ≡ true → IsCivilDate (pos y) m d
 date_is_civil y m d h =
     let year = both _ _ (both _ _ h).0 in
     let month = both _ _ year.1 in

@@ -1,6 +1,7 @@
 -- The civil calendar from the year 0 on, by its rules: which years are leap years, and how long each month is.
-use Rattle.std.specs.Prelude.{ℕ, zero, suc, ◌+◌, ◌-◌, ◌*◌, ◌%◌, ◌≤◌, ◌==◌, nat_le, Bool, not, ◌&&◌, ◌||◌, if◌then◌else◌, ℤ, pos, negsuc, neg_ℤ, ◌+ℤ◌, ◌-ℤ◌, int_le, unsigned_abs, List, [], ◌∷◌, Option, Some, None}
+use Rattle.std.specs.Prelude.{ℕ, zero, suc, ◌+◌, ◌-◌, ◌*◌, ◌/◌, ◌%◌, ◌≤◌, ◌==◌, nat_le, Bool, not, ◌&&◌, ◌||◌, if◌then◌else◌, ℤ, pos, negsuc, neg_ℤ, ◌+ℤ◌, ◌-ℤ◌, int_le, int_lt, unsigned_abs, List, [], ◌∷◌, Option, Some, None}
 use Rattle.std.specs.Int.{int_div_euclid, int_rem_euclid}
+use Rattle.mail_core.specs.Bytes.{hyphen}
 
 -- every fourth year, but of the centuries only every fourth
 abbrev pub is_leap : ℕ → Bool
@@ -67,10 +68,10 @@ abbrev pub day_of_numbers : Option ℕ → Option ℕ → Option ℕ → Option 
 day_of_numbers (Some y) (Some m) (Some d) = day_of_date (pos y) m d
 day_of_numbers _ _ _ = None
 
--- the day that a text writes as `yyyy-mm-dd` (45 is the hyphen): RFC 3339 section 5.6, `full-date`
+-- the day that a text writes as `yyyy-mm-dd` (RFC 3339 section 5.6, `full-date`)
 abbrev pub day_of_text : List ℕ → Option ℤ
 day_of_text (a ∷ b ∷ c ∷ d ∷ dash ∷ e ∷ f ∷ dash' ∷ g ∷ h ∷ []) =
-    if (dash == 45) && (dash' == 45) then day_of_numbers (four_digits a b c d) (two_digits e f) (two_digits g h)
+    if (dash == hyphen) && (dash' == hyphen) then day_of_numbers (four_digits a b c d) (two_digits e f) (two_digits g h)
     else None
 day_of_text _ = None
 
@@ -88,3 +89,38 @@ instant_at z = if is_instant z then Some z else None
 -- the day, in UTC, of an instant: whole days of 86,400 seconds, rounded down
 abbrev pub day_of_instant : ℤ → ℤ
 day_of_instant z = int_div_euclid z (pos 86_400)
+
+-- The months of the archive, as numbers: year times 12 plus month minus 1, from January 1900 to December 9998.
+abbrev pub is_month : ℕ → Bool
+is_month i = nat_le 22_800 i && nat_le i 119_987
+
+-- the first day of a month
+abbrev pub month_start : ℕ → ℤ
+month_start i = day_number (i / 12) (i % 12 + 1) 1
+
+-- a day lies in a month
+abbrev pub is_in_month : ℕ → ℤ → Bool
+is_in_month i z = int_le (month_start i) z && int_lt z (month_start (i + 1))
+
+-- the last of the months up to i that has begun by a day
+unfoldable pub last_begun : ℕ → ℤ → ℕ
+last_begun zero z = 0
+last_begun (suc i) z = if int_le (month_start (suc i)) z then suc i else last_begun i z
+
+-- the month of a day and of an instant, in UTC
+unfoldable pub month_of_day : ℤ → ℕ
+month_of_day z = last_begun 119_987 z
+
+abbrev pub month_of_instant : ℤ → ℕ
+month_of_instant z = month_of_day (day_of_instant z)
+
+abbrev pub month_of_numbers : Option ℕ → Option ℕ → Option ℕ
+month_of_numbers (Some y) (Some m) =
+    if (nat_le 1900 y && nat_le y 9998) && (nat_le 1 m && nat_le m 12) then Some (12 * y + (m - 1)) else None
+month_of_numbers _ _ = None
+
+-- the month that a text writes as `yyyy-mm`
+abbrev pub month_of_text : List ℕ → Option ℕ
+month_of_text (a ∷ b ∷ c ∷ d ∷ dash ∷ e ∷ f ∷ []) =
+    if dash == hyphen then month_of_numbers (four_digits a b c d) (two_digits e f) else None
+month_of_text _ = None

@@ -1,1 +1,14 @@
+pub mod Author
+pub mod Bytes
 pub mod Calendar
+pub mod Comments
+pub mod Ends
+pub mod Fields
+pub mod Lines
+pub mod MsgIds
+pub mod Pieces
+pub mod Quotes
+pub mod Sent
+pub mod TokenViews
+pub mod Tokens
+pub mod Zones

@@ -1,8 +1,9 @@
 //! Instants, in whole seconds.
 ghost use Rattle.std.specs.Prelude.{◌≡◌, true};
-ghost use Rattle.mail_core.specs.Calendar.{is_instant, instant_at, day_of_instant};
+ghost use Rattle.mail_core.specs.Calendar.{is_instant, instant_at, day_of_instant, month_of_instant, is_in_month};
 
 use crate::days::Day;
+use crate::months::Month;
 use std::marker::Model;
 
 /// An instant from 1900-01-01 00:00:00 to 9998-12-31 23:59:59 UTC. Clauses see it as seconds since 1970-01-01
@@ -50,5 +51,13 @@ impl Instant {
         ensures { result ≡ day_of_instant self }
     {
         Day::of_seconds(self.seconds)
+    }
+
+    /// The month of this instant in UTC.
+    pub fn month(self) -> Month
+        ensures value { result ≡ month_of_instant self }
+        ensures within { is_in_month result (day_of_instant self) ≡ true }
+    {
+        Month::of_day(self.day())
     }
 }

@@ -1,0 +1,13 @@
+use Rattle.std.proofs.Common.{◌≡◌, ℕ, ◌+◌, ◌<◌, ◌≤◌, length, vec_len, slice_index}
+use Rattle.mail_core.specs.Ends.{ClosesAt}
+use Rattle.mail_core.proofs.comments.comment_ends.Given as goal
+
+abbrev pub invariant-loop-k : goal.invariant-loop-k
+invariant-loop-k l = record {
+  room : vec_len l.ends ≡ length l.text + 2;
+  place : l.k ≤ length l.text;
+  ends : (j : ℕ) → l.k ≤ j → j ≤ length l.text + 1 → ClosesAt l.text j (slice_index l.ends.items j);
+}
+
+abbrev pub decreases-loop-k : goal.decreases-loop-k
+decreases-loop-k l = l.k

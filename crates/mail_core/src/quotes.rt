@@ -1,0 +1,48 @@
+//! Quoted strings (RFC 5322 section 3.2.4).
+ghost use Rattle.std.specs.Prelude.{◌≡◌, ◌<◌, ◌≤◌, length, IfOk, MatchOption, Some, None, false, drop};
+ghost use Rattle.mail_core.specs.Quotes.{after_quote, unquoted};
+
+use crate::refusal::Memory;
+use std::alloc::Global;
+
+/// The place behind the quote that ends the quoted string whose text begins here.
+pub(crate) fn quote_end(text: &[u8], from: usize) -> Option<usize>
+    requires { from ≤ length text.now }
+    ensures { MatchOption result (after_quote false (drop from text.now) ≡ None) (λ end. (from < end) × (end ≤ length text.now) × (after_quote false (drop from text.now) ≡ Some (drop end text.now))) }
+{
+    let mut at = from;
+    let mut quoted = false;
+    while at < text.len() {
+        let byte = text[at];
+        at += 1;
+        if quoted {
+            quoted = false;
+        } else if byte == b'"' {
+            return Some(at);
+        } else if byte == b'\\' {
+            quoted = true;
+        }
+    }
+    None
+}
+
+/// The text between quotes without the backslashes that quote.
+pub(crate) fn unquote(alloc: Global, inside: &[u8]) -> Result<Vec<u8>, Memory>
+    ensures { IfOk result (λ value. value.items ≡ unquoted false inside.now) }
+{
+    let mut value = Vec::new(alloc);
+    let mut quoted = false;
+    for byte in inside {
+        if quoted {
+            quoted = false;
+            value.push(*byte)?;
+            continue;
+        }
+        if *byte == b'\\' {
+            quoted = true;
+            continue;
+        }
+        value.push(*byte)?;
+    }
+    Ok(value)
+}
