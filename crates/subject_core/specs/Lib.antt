@@ -1,0 +1,4 @@
+pub mod Spaces
+pub mod Pieces
+pub mod Removal
+pub mod BaseSubject
