@@ -41,12 +41,13 @@ after_colon text =
     let bs = after_spaces text in
     option_or (after (codes ":") bs) (option_and_then (after (codes ":")) (after_blob bs))
 
+-- what follows this word of a reply with its colon
+abbrev pub after_mark : List ℕ → List ℕ → Option (List ℕ)
+after_mark word text = option_and_then after_colon (after word text)
+
 -- what follows the subj-refwd that begins the text
 unfoldable pub after_refwd : List ℕ → Option (List ℕ)
-after_refwd text =
-    option_or (option_and_then after_colon (after (codes "re") text))
-    (option_or (option_and_then after_colon (after (codes "fwd") text))
-    (option_and_then after_colon (after (codes "fw") text)))
+after_refwd text = option_or (after_mark (codes "re") text) (option_or (after_mark (codes "fwd") text) (after_mark (codes "fw") text))
 
 -- what follows the subj-refwd behind at most n subj-blobs
 unfoldable pub after_leader : ℕ → List ℕ → Option (List ℕ)
