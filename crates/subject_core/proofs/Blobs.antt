@@ -1,14 +1,14 @@
 -- Spaces and blobs: the functions find what the grammar says.
-use Rattle.std.proofs.Common.{◌≡◌, ◌≢◌, ℕ, zero, suc, ◌+◌, ◌<◌, ◌≤◌, Bool, true, false, ◌==◌, List, [], ◌∷◌, ◌++◌, length, refl, arith, ap, ◌∙◌, sym, Option, Some, None, append_assoc, subst, ◌⊎◌, inl, inr}
+use Rattle.std.proofs.Common.{◌≡◌, ◌≢◌, ℕ, ◌<◌, Bool, true, false, ◌==◌, List, [], ◌∷◌, ◌++◌, refl, arith, ap, ◌∙◌, sym, Some, None, append_assoc}
 use Rattle.std.specs.Prelude.{codes}
-use Rattle.std.specs.Option.{option_map, option_and_then}
+use Rattle.std.specs.Option.{option_map}
 use Rattle.std.specs.Char.{to_ascii_lowercase}
 use Rattle.subject_core.specs.Pieces.{AreSpaces, AreBlobChars, IsBlob, IsLiteral}
 use Rattle.subject_core.specs.Removal.{after, after_spaces, after_closing, after_blob}
-use Rattle.subject_core.proofs.Steps.{is_it, is_not, after-nothing, after-past, after-same, after-other, spaces-end, spaces-more, spaces-done, closing-end, closing-here, closing-opened, closing-more}
+use Rattle.subject_core.proofs.Steps.{is_it, is_not, after-nothing, after-same, spaces-end, spaces-more, spaces-done, closing-end, closing-here, closing-opened, closing-more}
 use Rattle.std.proofs.lemmas.Bool.Decides.{nat_tests}
 use Rattle.subject_core.proofs.Literals.{after_sound}
-use Rattle.subject_core.proofs.Options.{some_map, some_then, map_some, then_some, then_none}
+use Rattle.subject_core.proofs.Options.{some_map, some_then, map_some, then_some}
 
 -- the spaces that begin a text, and what follows them
 pub spaces_sound : (t : List ℕ) → (s : List ℕ) × AreSpaces s × (t ≡ s ++ after_spaces t)

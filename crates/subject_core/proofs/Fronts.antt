@@ -1,17 +1,16 @@
 -- Removing piece after piece at the front leaves the rest that removing whole leaders leaves.
-use Rattle.std.proofs.Common.{◌≡◌, ◌≢◌, ℕ, zero, suc, ◌+◌, ◌<◌, ◌≤◌, Bool, true, false, ◌||◌, List, [], ◌∷◌, ◌++◌, length, refl, arith, ap, ◌∙◌, sym, Option, Some, None, append_assoc, length-append, subst, ◌⊎◌, inl, inr}
+use Rattle.std.proofs.Common.{◌≡◌, ℕ, zero, suc, ◌+◌, ◌<◌, Bool, true, false, List, [], ◌∷◌, ◌++◌, length, refl, arith, ap, ◌∙◌, sym, Option, Some, None, length-append, subst, ◌⊎◌, inl, inr}
 use Rattle.std.specs.Prelude.{codes}
 use Rattle.std.specs.Option.{option_map, option_or, option_and_then}
 use Rattle.subject_core.specs.Pieces.{IsBlob}
-use Rattle.subject_core.specs.Removal.{Left, left, after, after_spaces, after_closing, after_blob, after_refwd, after_leader, if_any, without_trailer, without_leader, without_blob, without_pair}
+use Rattle.subject_core.specs.Removal.{Left, left, after, after_spaces, after_blob, after_refwd, after_leader, if_any, without_trailer, without_leader, without_blob, without_pair}
 use Rattle.subject_core.specs.BaseSubject.{next_of, marked, rest_of}
 use Rattle.subject_core.specs.Front.{without_front}
-use Rattle.subject_core.proofs.Options.{some_or, none_or, or_none, or_some, some_map, none_map, map_none, map_some, some_then, then_some, then_none, is_none}
+use Rattle.subject_core.proofs.Options.{some_or, none_or, or_none, or_some, some_map, none_map, map_none, map_some, some_then, then_some, is_none}
 use Rattle.subject_core.proofs.Steps.{spaces-more}
-use Rattle.subject_core.proofs.Literals.{after_sound}
 use Rattle.subject_core.proofs.Blobs.{spaces_sound, blob_sound}
-use Rattle.subject_core.proofs.Marks.{refwd_sound, leader_sound, leader_complete, leader_first, leader-more, leader-stop, leader-zero, leader-none}
-use Rattle.subject_core.proofs.Removals.{space_at, no_space_at, if_any_is, if_any_some}
+use Rattle.subject_core.proofs.Marks.{refwd_sound, leader_sound, leader_complete, leader-more, leader-stop, leader-zero, leader-none}
+use Rattle.subject_core.proofs.Removals.{space_at, if_any_is, if_any_some}
 use Rattle.subject_core.proofs.Rests.{next-leader, next-blob, next-pair, next_shorter, rest-next, no_trailer_behind}
 
 -- what a step at the front leaves

@@ -10,3 +10,6 @@ pub mod Fronts
 pub mod Spacings
 pub mod Parts
 pub mod Loops
+pub mod OneBase
+pub mod LowerCase
+pub mod Again

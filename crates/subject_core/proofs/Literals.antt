@@ -1,8 +1,7 @@
 -- What after and before say: a literal stands at the front or at the end of the text.
-use Rattle.std.proofs.Common.{◌≡◌, ◌≢◌, ℕ, zero, suc, ◌+◌, ◌<◌, ◌≤◌, Bool, true, false, ◌==◌, List, [], ◌∷◌, ◌++◌, length, refl, arith, ap, ◌∙◌, sym, Option, Some, None, drop, map, reverse, append_assoc, length-append, subst}
+use Rattle.std.proofs.Common.{◌≡◌, ℕ, suc, ◌+◌, ◌<◌, ◌≤◌, Bool, true, false, ◌==◌, List, [], ◌∷◌, ◌++◌, length, refl, arith, ap, ◌∙◌, sym, Some, None, drop, reverse, length-append}
 use Rattle.std.proofs.lemmas.List.{reverse-append, reverse-reverse, map-append, length-map, drop_at, append-nil}
 use Rattle.std.specs.Char.{to_ascii_lowercase}
-use Rattle.std.specs.Option.{option_map}
 use Rattle.subject_core.specs.Pieces.{lower, IsLiteral}
 use Rattle.subject_core.specs.Removal.{after, before}
 use Rattle.subject_core.proofs.Steps.{is_it, is_not, after-nothing, after-past, after-same, after-other}

@@ -1,8 +1,8 @@
 -- The steps of the loops over removals: what was removed before, and one removal more.
-use Rattle.std.proofs.Common.{◌≡◌, ℕ, ◌+◌, ◌-◌, ◌<◌, ◌≤◌, arith, length-append, Bool, true, false, ◌||◌, List, [], ◌∷◌, ◌++◌, length, refl, ap, ◌∙◌, sym, Some, None, append_assoc}
+use Rattle.std.proofs.Common.{◌≡◌, ℕ, ◌+◌, ◌-◌, ◌<◌, ◌≤◌, arith, length-append, Bool, true, false, ◌||◌, List, ◌++◌, length, refl, ap, ◌∙◌, sym, Some, None, append_assoc}
 use Rattle.std.specs.Prelude.{codes}
 use Rattle.subject_core.specs.Removal.{Left, left, without_trailer, without_pair}
-use Rattle.subject_core.specs.BaseSubject.{next_of, marked, rest_of}
+use Rattle.subject_core.specs.BaseSubject.{marked, rest_of}
 use Rattle.subject_core.specs.Front.{without_front, IsEndGone, IsFrontGone}
 use Rattle.subject_core.proofs.Literals.{literal_length}
 use Rattle.subject_core.proofs.Parts.{IsPart, without_end, without_start}

@@ -1,12 +1,12 @@
 -- Marks of a reply and leaders: the functions find what the grammar says.
-use Rattle.std.proofs.Common.{◌≡◌, ◌≢◌, ℕ, zero, suc, ◌+◌, ◌<◌, ◌≤◌, Bool, true, false, ◌==◌, List, [], ◌∷◌, ◌++◌, length, refl, arith, ap, ◌∙◌, sym, Option, Some, None, append_assoc, length-append, subst, ◌⊎◌, inl, inr}
+use Rattle.std.proofs.Common.{◌≡◌, ◌≢◌, ℕ, zero, suc, ◌+◌, ◌≤◌, Bool, true, List, [], ◌∷◌, ◌++◌, length, refl, arith, ap, ◌∙◌, sym, Some, None, append_assoc, length-append, subst, ◌⊎◌, inl, inr}
 use Rattle.std.specs.Prelude.{codes}
-use Rattle.std.specs.Option.{option_map, option_or, option_and_then}
+use Rattle.std.specs.Option.{option_or, option_and_then}
 use Rattle.std.specs.Char.{to_ascii_lowercase}
-use Rattle.subject_core.specs.Pieces.{lower, AreSpaces, IsBlob, IsLiteral, IsReplyWord, IsRefwd, IsLeader}
+use Rattle.subject_core.specs.Pieces.{AreSpaces, IsBlob, IsLiteral, IsReplyWord, IsRefwd, IsLeader}
 use Rattle.subject_core.specs.Pieces.IsLeader.{space, refwd, behind}
 use Rattle.subject_core.specs.Removal.{after, after_spaces, after_blob, after_colon, after_mark, after_refwd, after_leader}
-use Rattle.subject_core.proofs.Steps.{after-nothing, after-past, after-same, after-other, spaces-done}
+use Rattle.subject_core.proofs.Steps.{after-nothing, after-same, after-other, spaces-done}
 use Rattle.subject_core.proofs.Options.{some_or, or_none, or_some, some_then, then_some, then_none}
 use Rattle.subject_core.proofs.Literals.{after_sound, after_complete}
 use Rattle.subject_core.proofs.Blobs.{spaces_sound, spaces_over, blob_sound, blob_complete, that_byte}

@@ -1,6 +1,6 @@
 -- A part of a text, by its place.
-use Rattle.std.proofs.Common.{◌≡◌, ℕ, ◌+◌, ◌-◌, ◌<◌, ◌≤◌, List, [], ◌∷◌, ◌++◌, length, refl, arith, ap, ◌∙◌, sym, take, drop, get_or, append_assoc, length-append, map}
-use Rattle.std.proofs.lemmas.List.{append-nil, take_at, drop_at, same_lists, length-map, length-take, length-drop, length-take-le, get_or-take, get_or-drop, get_or-map, ext_get_or}
+use Rattle.std.proofs.Common.{◌≡◌, ℕ, ◌+◌, ◌-◌, ◌<◌, ◌≤◌, List, [], ◌++◌, length, refl, arith, ap, ◌∙◌, sym, take, drop, get_or, append_assoc, length-append}
+use Rattle.std.proofs.lemmas.List.{append-nil, take_at, drop_at, length-map, length-drop, length-take-le, get_or-take, get_or-drop, get_or-map, ext_get_or}
 use Rattle.std.specs.Char.{to_ascii_lowercase}
 use Rattle.subject_core.specs.Pieces.{lower}
 

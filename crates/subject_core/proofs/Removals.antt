@@ -1,19 +1,19 @@
 -- Each removal: the function finds what the grammar says, and says where there is none.
-use Rattle.std.proofs.Common.{◌≡◌, ◌≢◌, ℕ, zero, suc, ◌+◌, ◌<◌, ◌≤◌, Bool, true, false, ◌==◌, List, [], ◌∷◌, ◌++◌, length, refl, arith, ap, ◌∙◌, sym, Option, Some, None, append_assoc, length-append, subst, ◌⊎◌, inl, inr, reverse}
+use Rattle.std.proofs.Common.{◌≡◌, ◌≢◌, ℕ, ◌+◌, ◌≤◌, Bool, true, false, List, [], ◌∷◌, ◌++◌, length, refl, arith, ap, ◌∙◌, sym, Some, None, append_assoc, length-append, subst, ◌⊎◌, inl, inr, reverse}
 use Rattle.std.proofs.lemmas.List.{reverse-append, append-nil}
 use Rattle.std.specs.Prelude.{codes}
-use Rattle.std.specs.Option.{option_map, option_or, option_and_then}
+use Rattle.std.specs.Option.{option_map, option_and_then}
 use Rattle.std.specs.Char.{to_ascii_lowercase}
-use Rattle.subject_core.specs.Pieces.{lower, AreSpaces, IsBlob, IsLiteral, IsRefwd, IsLeader, IsTrailer}
+use Rattle.subject_core.specs.Pieces.{AreSpaces, IsLiteral, IsLeader, IsTrailer}
 use Rattle.subject_core.specs.Pieces.IsLeader.{space as leading_space, refwd, behind}
 use Rattle.subject_core.specs.Pieces.IsTrailer.{space as trailing_space, forwarded}
-use Rattle.subject_core.specs.Removal.{Left, left, after, before, after_spaces, after_blob, after_refwd, after_leader, if_any, without_trailer, without_leader, without_blob, without_pair}
+use Rattle.subject_core.specs.Removal.{Left, left, after, before, after_spaces, after_blob, after_leader, if_any, without_trailer, without_leader, without_blob, without_pair}
 use Rattle.subject_core.specs.BaseSubject.{LosesTrailer, LosesLeader, LosesBlob, LosesPair}
-use Rattle.subject_core.proofs.Steps.{after-nothing, after-past, after-same, after-other}
-use Rattle.subject_core.proofs.Options.{some_or, none_or, or_none, or_some, some_map, none_map, map_none, map_some, some_then, then_some, then_none, is_none}
-use Rattle.subject_core.proofs.Literals.{after_sound, after_complete, before_sound, before_complete, literal_length}
-use Rattle.subject_core.proofs.Blobs.{as_it_is, one_byte, that_byte, spaces_sound, blob_sound, blob_complete}
-use Rattle.subject_core.proofs.Marks.{leader_sound, leader_complete, leader_first, not_space}
+use Rattle.subject_core.proofs.Steps.{after-nothing, after-same, after-other}
+use Rattle.subject_core.proofs.Options.{some_or, or_none, or_some, some_map, map_none, map_some, some_then, then_some, is_none}
+use Rattle.subject_core.proofs.Literals.{after_sound, after_complete, before_sound, before_complete}
+use Rattle.subject_core.proofs.Blobs.{that_byte, spaces_sound, blob_sound, blob_complete}
+use Rattle.subject_core.proofs.Marks.{leader_sound, leader_complete, leader_first}
 
 -- a space at the front
 pub space_at : (t u : List ℕ) → after (codes " ") t ≡ Some u → t ≡ 32 ∷ u

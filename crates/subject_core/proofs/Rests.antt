@@ -1,16 +1,15 @@
 -- One removal shortens the text, and the removals end at one rest.
-use Rattle.std.proofs.Common.{◌≡◌, ◌≢◌, ℕ, zero, suc, ◌+◌, ◌<◌, ◌≤◌, Bool, true, false, ◌||◌, List, [], ◌∷◌, ◌++◌, length, refl, arith, ap, ap₂, ◌∙◌, sym, Option, Some, None, append_assoc, length-append, subst, ◌⊎◌, inl, inr}
+use Rattle.std.proofs.Common.{◌≡◌, ℕ, zero, suc, ◌+◌, ◌<◌, ◌≤◌, Bool, true, false, List, [], ◌∷◌, ◌++◌, length, refl, arith, ap, ◌∙◌, sym, Option, Some, None, append_assoc, length-append, subst, ◌⊎◌, inl, inr}
 use Rattle.std.specs.Prelude.{codes}
 use Rattle.std.proofs.lemmas.List.{append-nil}
 use Rattle.std.specs.Option.{option_or}
-use Rattle.subject_core.specs.Pieces.{AreSpaces, IsBlob, IsLiteral, IsRefwd, IsLeader, IsTrailer}
+use Rattle.subject_core.specs.Pieces.{AreSpaces, IsLeader, IsTrailer}
 use Rattle.subject_core.specs.Pieces.IsLeader.{space as leading_space, refwd, behind}
 use Rattle.subject_core.specs.Pieces.IsTrailer.{space as trailing_space, forwarded}
 use Rattle.subject_core.specs.Removal.{Left, left, after, after_spaces, after_refwd, after_leader, without_trailer, without_leader, without_blob, without_pair}
-use Rattle.subject_core.specs.BaseSubject.{LosesTrailer, LosesLeader, LosesBlob, LosesPair, HasTrailer, HasLeader, HasBlob, Goes, Reaches, IsDone, next_of, marked, rest_within, rest_of}
+use Rattle.subject_core.specs.BaseSubject.{HasTrailer, HasLeader, HasBlob, Goes, next_of, marked, rest_within, rest_of}
 use Rattle.subject_core.specs.BaseSubject.Goes.{trailer, leader, blob, pair}
-use Rattle.subject_core.specs.BaseSubject.Reaches.{here, further}
-use Rattle.subject_core.proofs.Options.{some_or, none_or, or_none, or_some, is_none}
+use Rattle.subject_core.proofs.Options.{some_or, or_none, or_some, is_none}
 use Rattle.subject_core.proofs.Literals.{literal_length}
 use Rattle.subject_core.proofs.Blobs.{spaces_sound}
 use Rattle.subject_core.proofs.Marks.{leader_first, blob_opens}
@@ -176,16 +175,16 @@ next_empty : next_of [] ≡ None
 unfolding next_of without_trailer without_leader without_blob without_pair after after_spaces after_refwd after_leader
 next_empty = refl
 
-within-done : (n : ℕ) (t : List ℕ) → next_of t ≡ None → rest_within n t ≡ left false t
+pub within-done : (n : ℕ) (t : List ℕ) → next_of t ≡ None → rest_within n t ≡ left false t
 unfolding rest_within
 within-done zero t h = refl
 within-done (suc n) t h = rw (h, rest_within) refl
 
-within-more : (n : ℕ) (t : List ℕ) (w : Left) → next_of t ≡ Some w → rest_within (suc n) t ≡ marked w.reply (rest_within n w.text)
+pub within-more : (n : ℕ) (t : List ℕ) (w : Left) → next_of t ≡ Some w → rest_within (suc n) t ≡ marked w.reply (rest_within n w.text)
 unfolding rest_within
 within-more n t w h = rw (h, rest_within) refl
 
-empty_done : (t : List ℕ) → length t ≤ 0 → next_of t ≡ None
+pub empty_done : (t : List ℕ) → length t ≤ 0 → next_of t ≡ None
 empty_done [] h = next_empty
 empty_done (b ∷ bs) h = absurd (omega arith)
 

@@ -1,5 +1,5 @@
 -- What is removed at the front, one piece at a time: a leader's blobs go before its subj-refwd.
-use Rattle.std.specs.Prelude.{◌≡◌, ℕ, ◌++◌, Bool, true, false, List, [], ◌∷◌, codes, Option, Some, None}
+use Rattle.std.specs.Prelude.{◌≡◌, ℕ, ◌++◌, Bool, true, false, List, codes, Option, None}
 use Rattle.std.specs.Option.{option_map, option_or, option_and_then}
 use Rattle.subject_core.specs.Removal.{Left, left, after, after_blob, after_refwd, if_any, without_trailer}
 use Rattle.subject_core.specs.BaseSubject.{marked, rest_of}

@@ -1,7 +1,7 @@
 //! The base of a subject.
 ghost use Rattle.std.specs.Prelude.{◌≡◌, ◌+◌, ◌≤◌, IfOk, take, drop, vec_len};
 ghost use Rattle.subject_core.specs.Pieces.{lower};
-ghost use Rattle.subject_core.specs.BaseSubject.{base_of, is_reply};
+ghost use Rattle.subject_core.specs.BaseSubject.{IsBase, base_of, is_reply};
 
 use crate::answer::{Base, Text};
 use crate::refusal::Memory;
@@ -26,6 +26,7 @@ fn keep_lower(text: &mut Vec<u8>, from: usize, len: usize)
 /// Of bytes other than letters of ASCII only tabs and spaces change: encoded words are not decoded. It takes memory
 /// once, at most as many bytes as the subject has, and time in proportion to them.
 pub fn base(alloc: Global, subject: &[u8]) -> Result<Base, Memory>
+    ensures is_base { IfOk result (λ found. IsBase subject.now found.text found.reply) }
     ensures text { IfOk result (λ found. found.text ≡ base_of subject.now) }
     ensures reply { IfOk result (λ found. found.reply ≡ is_reply subject.now) }
 {

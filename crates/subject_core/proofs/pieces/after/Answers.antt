@@ -1,4 +1,4 @@
-use Rattle.std.proofs.Common.{◌≡◌, ◌∙◌, sym, get_or}
+use Rattle.std.proofs.Common.{◌∙◌, sym, get_or}
 use Rattle.subject_core.proofs.Steps.{letter-same, letter-other, letter-past, letter-end}
 use Rattle.subject_core.proofs.pieces.after.Goals as goal
 

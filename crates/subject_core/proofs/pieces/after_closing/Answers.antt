@@ -1,5 +1,4 @@
-use Rattle.std.proofs.Common.{◌≡◌, ◌∙◌, sym, ap, List, ℕ, []}
-use Rattle.std.specs.Prelude.{length}
+use Rattle.std.proofs.Common.{◌∙◌, sym, ap}
 use Rattle.subject_core.specs.Removal.{after_closing}
 use Rattle.subject_core.proofs.Steps.{closing-end, closing-here, closing-opened, closing-more, empty}
 use Rattle.subject_core.proofs.pieces.after_closing.Goals as goal

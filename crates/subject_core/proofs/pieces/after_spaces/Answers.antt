@@ -1,4 +1,4 @@
-use Rattle.std.proofs.Common.{◌≡◌, ◌∙◌, sym, ap}
+use Rattle.std.proofs.Common.{◌∙◌, sym, ap}
 use Rattle.subject_core.specs.Removal.{after_spaces}
 use Rattle.subject_core.proofs.Steps.{spaces-end, spaces-more, spaces-done, empty}
 use Rattle.subject_core.proofs.pieces.after_spaces.Goals as goal

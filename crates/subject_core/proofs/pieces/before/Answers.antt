@@ -1,4 +1,4 @@
-use Rattle.std.proofs.Common.{◌≡◌, ◌∙◌, sym, ap, ℕ, List, arith, length}
+use Rattle.std.proofs.Common.{◌∙◌, ap, arith}
 use Rattle.subject_core.specs.Removal.{before}
 use Rattle.subject_core.proofs.Literals.{before-short, before-end, before-not_end}
 use Rattle.subject_core.proofs.pieces.before.Goals as goal

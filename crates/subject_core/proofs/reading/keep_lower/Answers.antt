@@ -1,4 +1,4 @@
-use Rattle.std.proofs.Common.{◌≡◌, ◌∙◌, ℕ, ◌<◌, arith, length}
+use Rattle.std.proofs.Common.{◌∙◌, ℕ, ◌<◌, arith}
 use Rattle.subject_core.proofs.Parts.{moved_part}
 use Rattle.subject_core.proofs.reading.keep_lower.Goals as goal
 

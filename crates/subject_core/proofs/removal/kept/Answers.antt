@@ -1,4 +1,4 @@
-use Rattle.std.proofs.Common.{◌≡◌, ◌∙◌, sym, ap, ℕ, ◌+◌, ◌-◌, ◌<◌, ◌≤◌, List, length, arith, ◌||◌, Bool}
+use Rattle.std.proofs.Common.{◌∙◌, sym, ap, ◌+◌, ◌-◌, ◌<◌, ◌≤◌, length, arith, ◌||◌}
 use Rattle.subject_core.specs.Removal.{left}
 use Rattle.subject_core.proofs.Parts.{whole, part_is}
 use Rattle.subject_core.proofs.Loops.{turn_same, turn_done, turn_pair, turn_less, turn_part, pair_less, pair_part, marked-none}

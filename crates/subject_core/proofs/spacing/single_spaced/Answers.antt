@@ -1,4 +1,4 @@
-use Rattle.std.proofs.Common.{◌≡◌, ◌∙◌, refl, sym, ap, ℕ, List, [], ◌∷◌, ◌++◌, get_or, drop, true, false}
+use Rattle.std.proofs.Common.{◌∙◌, refl, sym, ap, ℕ, List, ◌++◌, get_or, drop, false}
 use Rattle.subject_core.specs.Spaces.{spaced}
 use Rattle.subject_core.proofs.Spacings.{spaced_behind, begun, after_text, after_first, after_run, ended}
 use Rattle.subject_core.proofs.spacing.single_spaced.Goals as goal
