@@ -1,0 +1,129 @@
+//! What is left of a subject once all that can be removed is: RFC 5256, section 2.1, steps (2) to (6).
+ghost use Rattle.std.specs.Prelude.{◌≡◌, ◌+◌, ◌≤◌, length, MatchOption, Some, None, take, drop, true};
+ghost use Rattle.subject_core.specs.Removal.{left, without_trailer, without_pair};
+ghost use Rattle.subject_core.specs.BaseSubject.{marked, rest_of};
+ghost use Rattle.subject_core.specs.Front.{without_front, IsFrontGone, IsEndGone};
+
+use crate::pieces::{after, after_blob, after_refwd, before};
+
+/// What is left of a text, and whether a mark of a reply was removed from it.
+#[derive(Clone, Copy)]
+struct Rest<'a> {
+    text: &'a [u8],
+    reply: bool,
+}
+
+/// The text without the space or the `(fwd)` that ends it.
+#[tactic(auto, unfolding(crate::specs::Removal::without_trailer))]
+fn without_trailer(text: &[u8]) -> Option<Rest<'_>>
+    ensures { MatchOption result (without_trailer text.now ≡ None) (λ rest. without_trailer text.now ≡ Some (left rest.reply rest.text.now)) }
+{
+    if let Some(rest) = before(text, b" ") {
+        return Some(Rest {
+            text: rest,
+            reply: false,
+        });
+    }
+    let rest = before(text, b"(fwd)")?;
+    Some(Rest {
+        text: rest,
+        reply: true,
+    })
+}
+
+/// The text without the space, the mark of a reply or the blob that begins it. A blob stays where nothing follows it.
+#[tactic(auto, unfolding(crate::specs::Front::without_front))]
+fn without_front(text: &[u8]) -> Option<Rest<'_>>
+    ensures { MatchOption result (without_front text.now ≡ None) (λ rest. without_front text.now ≡ Some (left rest.reply rest.text.now)) }
+{
+    if let Some(rest) = after(text, b" ") {
+        return Some(Rest {
+            text: rest,
+            reply: false,
+        });
+    }
+    if let Some(rest) = after_refwd(text) {
+        return Some(Rest {
+            text: rest,
+            reply: true,
+        });
+    }
+    let rest = after_blob(text)?;
+    if rest.is_empty() {
+        return None;
+    }
+    Some(Rest {
+        text: rest,
+        reply: false,
+    })
+}
+
+/// The text without what can be removed at its end.
+fn without_trailers(text: &[u8]) -> Rest<'_>
+    ensures { IsEndGone text.now result.text.now result.reply }
+{
+    let mut rest = text;
+    let mut reply = false;
+    while let Some(shorter) = without_trailer(rest) {
+        rest = shorter.text;
+        reply |= shorter.reply;
+    }
+    Rest { text: rest, reply }
+}
+
+/// The text without what can be removed at its front. Nothing can be removed at its end.
+fn without_fronts(text: &[u8]) -> Rest<'_>
+    requires { without_trailer text.now ≡ None }
+    ensures { IsFrontGone text.now result.text.now result.reply }
+{
+    let mut rest = text;
+    let mut reply = false;
+    while let Some(shorter) = without_front(rest) {
+        rest = shorter.text;
+        reply |= shorter.reply;
+    }
+    Rest { text: rest, reply }
+}
+
+/// The part of a text that stays: its first place and its length, and whether a mark of a reply was removed.
+#[derive(Clone, Copy)]
+pub(crate) struct Part {
+    pub(crate) from: usize,
+    pub(crate) len: usize,
+    pub(crate) reply: bool,
+}
+
+/// The part of a text that stays when all that can be removed is.
+pub(crate) fn kept(text: &[u8]) -> Part
+    ensures within { result.from + result.len ≤ length text.now }
+    ensures same { rest_of text.now ≡ left result.reply (take result.len (drop result.from text.now)) }
+{
+    let mut rest = text;
+    let mut from = 0;
+    let mut reply = false;
+    loop {
+        let ended = without_trailers(rest);
+        let begun = without_fronts(ended.text);
+        from += ended.text.len() - begun.text.len();
+        reply |= ended.reply | begun.reply;
+        let Some(inner) = inside_pair(begun.text) else {
+            return Part {
+                from,
+                len: begun.text.len(),
+                reply,
+            };
+        };
+        from += b"[fwd:".len();
+        reply = true;
+        rest = inner;
+    }
+}
+
+/// What stands between `[fwd:` and `]`, where they begin and end the text.
+#[tactic(auto, unfolding(crate::specs::Removal::without_pair))]
+fn inside_pair(text: &[u8]) -> Option<&[u8]>
+    ensures { MatchOption result (without_pair text.now ≡ None) (λ rest. without_pair text.now ≡ Some (left true rest.now)) }
+{
+    let rest = after(text, b"[fwd:")?;
+    before(rest, b"]")
+}
