@@ -2,8 +2,25 @@
 #![tactic(auto)]
 
 pub use entry::{Entry, References};
+pub use pairs::Pairs;
+pub use plain::PlainThreader;
 pub use row::Row;
+pub use steps::Steps;
+pub use threader::{Threader, threads};
+pub use top_thread::thread_of;
 
 mod entry;
+mod forest;
+mod joining;
+mod links;
+mod merging;
+mod numbering;
+mod order;
+mod pairs;
+mod plain;
 mod row;
+mod rows;
+mod steps;
+mod threader;
+mod top_thread;
 mod tree;
