@@ -21,6 +21,10 @@ mod plain;
 mod row;
 mod rows;
 mod steps;
+#[cfg(test)]
+mod tests;
 mod threader;
 mod top_thread;
 mod tree;
+#[cfg(test)]
+mod walk;

@@ -81,11 +81,7 @@ fn put_leader(entries: &[Entry], leaders: &mut Vec<usize>, place: usize) -> Resu
 }
 
 /// A message for each subject that is not empty, in the order of the trees.
-fn find_leaders(
-    alloc: Global,
-    entries: &[Entry],
-    trees: &[Tree],
-) -> Result<Vec<usize>, Memory>
+fn find_leaders(alloc: Global, entries: &[Entry], trees: &[Tree]) -> Result<Vec<usize>, Memory>
     ensures { IfOk result (λ v. map (base_of entries.now) v.items ≡ distinct_subjects (map (subject entries.now) trees.now)) }
 {
     let mut leaders = Vec::new(alloc);
@@ -140,11 +136,7 @@ fn find_group(
 }
 
 /// The messages that are no replies.
-fn find_plain(
-    alloc: Global,
-    entries: &[Entry],
-    messages: &[usize],
-) -> Result<Vec<usize>, Memory>
+fn find_plain(alloc: Global, entries: &[Entry], messages: &[usize]) -> Result<Vec<usize>, Memory>
     ensures { IfOk result (λ v. v.items ≡ plain_of entries.now messages.now) }
 {
     let mut plain = Vec::from_slice(alloc, messages)?;
@@ -200,11 +192,7 @@ fn link_under(
 
 /// Adds the links of the messages of a group that become children of its first plain one.
 #[tactic(auto, using(crate::proofs::MergeLemmas::no_links_dummy, crate::proofs::MergeLemmas::no_links_none, crate::proofs::MergeLemmas::links_of_one, crate::proofs::MergeLemmas::links_of_two))]
-fn push_links(
-    links: &mut Vec<(usize, usize)>,
-    group: &Group,
-    plain: &[usize],
-) -> Result<(), Memory>
+fn push_links(links: &mut Vec<(usize, usize)>, group: &Group, plain: &[usize]) -> Result<(), Memory>
     ensures { OnOk result (links.new.items ≡ links.old.items ++ links_under_first plain.now (taken_of_group group.now.dummy group.now.messages.items plain.now)) }
 {
     if group.dummy || plain.is_empty() {

@@ -14,8 +14,8 @@ returns c =
     = c.in_ok-ordered.ensures ∙ ap (trees_by_date c.args.entries.now) c.in_ok-tops.ensures in
     let links = c.deref.ensures.value ∙ c.in_ok-merged.ensures.links ∙ ap (λ (ts : List Tree). (merged_trees c.args.entries.now ts).links) ordered in
     let trees = c.deref-2.ensures.value ∙ c.in_ok-trees.ensures
-        ∙ ap (trees_by_date c.args.entries.now) (c.in_ok-merged.ensures.trees ∙ ap (λ (ts : List Tree). (merged_trees c.args.entries.now ts).trees) ordered) in
+    ∙ ap (trees_by_date c.args.entries.now) (c.in_ok-merged.ensures.trees ∙ ap (λ (ts : List Tree). (merged_trees c.args.entries.now ts).trees) ordered) in
     let all : flat_map (rows_of_tree c.args.entries.now (children_of c.args.entries.now (containers_of c.args.parents.now (length c.args.entries.now)) c.deref.result.now)) c.deref-2.result.now
-        ≡ rows_of_containers c.args.entries.now (containers_of c.args.parents.now (length c.args.entries.now))
+    ≡ rows_of_containers c.args.entries.now (containers_of c.args.parents.now (length c.args.entries.now))
     = λ i. flat_map (rows_of_tree c.args.entries.now (children_of c.args.entries.now (containers_of c.args.parents.now (length c.args.entries.now)) (links i))) (trees i) in
     subst (λ (rs : List Row). IfOk c.tree_rows.result (λ rows. rows.items ≡ rs)) all c.tree_rows.ensures
