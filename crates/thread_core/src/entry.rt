@@ -39,7 +39,8 @@ impl References {
     pub fn into_vec(self) -> Vec<MsgId>
         ensures { result.items ≡ self }
     {
-        self.ids
+        let References { ids } = self;
+        ids
     }
 }
 
