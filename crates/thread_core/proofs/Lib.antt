@@ -9,3 +9,4 @@ pub mod TableLemmas
 pub mod NumberLemmas
 pub mod MergeLemmas
 pub mod TopThreadLemmas
+pub mod Depth

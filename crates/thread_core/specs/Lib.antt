@@ -4,4 +4,5 @@ pub mod Forest
 pub mod Merge
 pub mod Threads
 pub mod TopThread
+pub mod RowLaws
 pub mod Parts

@@ -12,6 +12,7 @@ pub use top_thread::thread_of;
 mod entry;
 mod forest;
 mod joining;
+pub mod laws;
 mod links;
 mod merging;
 mod numbering;
