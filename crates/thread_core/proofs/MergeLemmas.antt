@@ -1,5 +1,5 @@
 -- Steps of the loops over groups.
-use Rattle.std.proofs.Common.{◌≡◌, ◌≢◌, ℕ, zero, suc, ◌+◌, ◌-◌, ◌<◌, ◌≤◌, Bool, true, false, not, cond, ◌||◌, ◌==◌, nat_lt, ◌⊎◌, inl, inr, List, [], ◌∷◌, ◌++◌, length, take, drop, get_or, map, filter, Option, Some, None, refl, sym, ◌∙◌, ap, subst, arith, flat_map, append_assoc, take_all, bytes_eq, position, slice_get}
+use Rattle.std.proofs.Common.{◌≡◌, ◌≢◌, ℕ, zero, suc, ◌+◌, ◌<◌, ◌≤◌, Bool, true, false, not, cond, ◌||◌, ◌==◌, nat_lt, ◌⊎◌, inl, inr, List, [], ◌∷◌, ◌++◌, length, take, drop, get_or, map, filter, Some, None, refl, sym, ◌∙◌, ap, arith, flat_map, take_all, bytes_eq, position}
 use Rattle.std.specs.List.{before_first, after_first, position_or_len, list_any}
 use Rattle.std.proofs.lemmas.Grind.{flat_map-append}
 use Rattle.std.proofs.lemmas.List.{drop_more, take_more, append-nil}

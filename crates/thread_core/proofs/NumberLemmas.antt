@@ -1,5 +1,5 @@
 -- The numbers of containers.
-use Rattle.std.proofs.Common.{◌≡◌, ◌≢◌, ℕ, zero, suc, ◌+◌, ◌-◌, ◌<◌, ◌≤◌, Bool, true, false, not, cond, ◌&&◌, ◌||◌, ◌⊎◌, inl, inr, List, [], ◌∷◌, ◌++◌, length, take, drop, get_or, filter, Option, Some, None, refl, sym, ◌∙◌, ap, subst, arith, flat_map, add_assoc}
+use Rattle.std.proofs.Common.{◌≡◌, ℕ, zero, suc, ◌+◌, ◌-◌, ◌<◌, ◌≤◌, Bool, true, false, not, cond, ◌&&◌, ◌||◌, ◌⊎◌, inl, inr, List, [], ◌∷◌, ◌++◌, length, take, drop, get_or, filter, refl, sym, ◌∙◌, ap, subst, arith}
 use Rattle.std.specs.List.{list_any}
 use Rattle.std.specs.Str.{bytes_eq}
 use Rattle.std.specs.Cmp.Lexicographic.{bytes_decides}
@@ -7,7 +7,7 @@ use Rattle.std.proofs.Math.Seq.{drop-length}
 use Rattle.std.proofs.lemmas.List.{drop_more}
 use Rattle.mail_core.specs.MsgIds.{Id}
 use Rattle.thread_core.specs.Containers.{same_id}
-use Rattle.thread_core.specs.Containers.{Container, real, dummy, has_id, owner, owner_from, is_dummy, distinct, index_of, mentioned, dummies, number, count_of, number_of_id}
+use Rattle.thread_core.specs.Containers.{real, dummy, has_id, owner, owner_from, is_dummy, distinct, index_of, mentioned, dummies, number, count_of, number_of_id}
 use Rattle.std.proofs.Common.{append_assoc, fold}
 use Rattle.std.proofs.lemmas.Grind.{flat_map-append}
 use Rattle.std.proofs.lemmas.List.{length-drop, take-append-drop}

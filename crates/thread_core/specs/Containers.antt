@@ -1,5 +1,5 @@
 -- Containers (RFC 5256, section 3, THREAD=REFERENCES, step 1.A): one for each message, and one for each mentioned id that no message has.
-use Rattle.std.specs.Prelude.{ℕ, ◌+◌, Bool, true, false, not, if◌then◌else◌, List, [], ◌∷◌, length, filter, flat_map, Option, Some, None, ◌&&◌, bytes_eq}
+use Rattle.std.specs.Prelude.{ℕ, ◌+◌, Bool, true, false, not, if◌then◌else◌, List, [], ◌∷◌, length, filter, flat_map, ◌&&◌, bytes_eq}
 use Rattle.std.specs.Option.{option_map_or}
 use Rattle.mail_core.specs.MsgIds.{Id}
 use Rattle.thread_core.specs.declared.entry.Entry.{Entry}

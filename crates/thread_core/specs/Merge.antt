@@ -14,11 +14,11 @@
 --   no dummy, two or more no replies   the first takes the replies before the second (third rule); the second makes a new dummy over both (fourth rule), which takes all that follow (second rule)
 --   replies alone, two or more         a new dummy over all (fourth rule, then the second)
 --   one reply alone                    stays as it is
-use Rattle.std.specs.Prelude.{ℕ, Bool, true, false, not, ◌||◌, ◌==◌, if◌then◌else◌, List, [], ◌∷◌, ◌++◌, map, filter, flat_map, slice_get, Option, Some, None, bytes_eq}
+use Rattle.std.specs.Prelude.{ℕ, Bool, true, false, not, ◌==◌, List, [], ◌∷◌, ◌++◌, map, filter, flat_map, slice_get, bytes_eq}
 use Rattle.std.specs.List.{list_any, before_first, after_first}
 use Rattle.std.specs.Option.{option_map_or}
 use Rattle.thread_core.specs.Links.{Link}
-use Rattle.thread_core.specs.Forest.{key, trees_by_date, trees_of_dummy}
+use Rattle.thread_core.specs.Forest.{key, trees_of_dummy}
 use Rattle.thread_core.specs.declared.entry.Entry.{Entry}
 use Rattle.thread_core.specs.declared.tree.Tree.{Tree}
 use Rattle.thread_core.specs.declared.tree.Tree.TheVariants.{Message, DummyOver}

@@ -1,5 +1,5 @@
 use Rattle.std.proofs.Common.{◌≡◌, ℕ, ap, ◌∙◌, ◌++◌, List, map, flat_map}
-use Rattle.thread_core.specs.Merge.{base_of, subject, distinct_subjects, without_subject}
+use Rattle.thread_core.specs.Merge.{subject, distinct_subjects, without_subject}
 use Rattle.thread_core.specs.Parts.{merged_for}
 use Rattle.thread_core.specs.declared.tree.Tree.{Tree}
 use Rattle.thread_core.proofs.MergeLemmas.{all_gathered_trees, all_gathered_links}

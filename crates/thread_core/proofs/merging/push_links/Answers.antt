@@ -1,4 +1,4 @@
-use Rattle.std.proofs.Common.{◌≡◌, ◌==◌, ◌<◌, ◌≢◌, ℕ, ◌++◌, List, map, filter, not, length, get_or, false, arith, rules, ap, subst, sym, ◌∙◌}
+use Rattle.std.proofs.Common.{◌≡◌, ◌==◌, ◌<◌, ℕ, ◌++◌, List, map, filter, not, length, get_or, false, rules, ap, subst, sym, ◌∙◌}
 use Rattle.std.specs.List.{before_first}
 use Rattle.std.specs.Result.{OnOk}
 use Rattle.thread_core.specs.Links.{Link}

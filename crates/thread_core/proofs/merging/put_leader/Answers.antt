@@ -1,4 +1,4 @@
-use Rattle.std.proofs.Common.{ℕ, List, not, rules, arith, ◌≢◌, ◌≡◌, length, bytes_eq, ap, sym, ◌∙◌}
+use Rattle.std.proofs.Common.{ℕ, not, rules, ◌≢◌, ◌≡◌, length, bytes_eq, ap}
 use Rattle.std.proofs.lemmas.Fn.{filter_same}
 use Rattle.thread_core.specs.Merge.{base_of}
 use Rattle.thread_core.proofs.MergeLemmas.{leader_put}
