@@ -1,0 +1,12 @@
+mod Examples
+pub mod Climbing
+pub mod Linking
+pub mod ForestLemmas
+pub mod Depths
+pub mod TreeLemmas
+pub mod RowLemmas
+pub mod TableLemmas
+pub mod NumberLemmas
+pub mod MergeLemmas
+pub mod TopThreadLemmas
+pub mod Depth

@@ -1,0 +1,21 @@
+use Rattle.std.proofs.Common.{◌≡◌, ap, subst, ◌∙◌, flat_map, length, List}
+use Rattle.std.specs.Result.{IfOk}
+use Rattle.thread_core.specs.Forest.{top_trees, trees_by_date}
+use Rattle.thread_core.specs.Merge.{merged_trees}
+use Rattle.thread_core.specs.Parts.{containers_of}
+use Rattle.thread_core.specs.Threads.{children_of, rows_of_tree, rows_of_containers}
+use Rattle.thread_core.specs.declared.row.Row.{Row}
+use Rattle.thread_core.specs.declared.tree.Tree.{Tree}
+use Rattle.thread_core.proofs.plain.table_rows.Goals as goal
+
+pub returns : goal.returns
+returns c =
+    let ordered : c.in_ok-ordered.ordered.items ≡ trees_by_date c.args.entries.now (top_trees (containers_of c.args.parents.now (length c.args.entries.now)))
+    = c.in_ok-ordered.ensures ∙ ap (trees_by_date c.args.entries.now) c.in_ok-tops.ensures in
+    let links = c.deref.ensures.value ∙ c.in_ok-merged.ensures.links ∙ ap (λ (ts : List Tree). (merged_trees c.args.entries.now ts).links) ordered in
+    let trees = c.deref-2.ensures.value ∙ c.in_ok-trees.ensures
+    ∙ ap (trees_by_date c.args.entries.now) (c.in_ok-merged.ensures.trees ∙ ap (λ (ts : List Tree). (merged_trees c.args.entries.now ts).trees) ordered) in
+    let all : flat_map (rows_of_tree c.args.entries.now (children_of c.args.entries.now (containers_of c.args.parents.now (length c.args.entries.now)) c.deref.result.now)) c.deref-2.result.now
+    ≡ rows_of_containers c.args.entries.now (containers_of c.args.parents.now (length c.args.entries.now))
+    = λ i. flat_map (rows_of_tree c.args.entries.now (children_of c.args.entries.now (containers_of c.args.parents.now (length c.args.entries.now)) (links i))) (trees i) in
+    subst (λ (rs : List Row). IfOk c.tree_rows.result (λ rows. rows.items ≡ rs)) all c.tree_rows.ensures

@@ -1,0 +1,31 @@
+//! Threads of messages by their references: RFC 5256, THREAD=REFERENCES.
+#![tactic(auto)]
+
+pub use entry::{Entry, References};
+pub use pairs::Pairs;
+pub use plain::PlainThreader;
+pub use row::Row;
+pub use steps::Steps;
+pub use threader::{Threader, threads};
+pub use top_thread::thread_of;
+
+mod entry;
+mod forest;
+mod joining;
+pub mod laws;
+mod links;
+mod merging;
+mod numbering;
+mod order;
+mod pairs;
+mod plain;
+mod row;
+mod rows;
+mod steps;
+#[cfg(test)]
+mod tests;
+mod threader;
+mod top_thread;
+mod tree;
+#[cfg(test)]
+mod walk;

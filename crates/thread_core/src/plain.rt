@@ -1,0 +1,84 @@
+//! The plain threader.
+
+ghost use Rattle.std.specs.Prelude.{◌≡◌, ◌≤◌, IfOk, map, length};
+ghost use Rattle.thread_core.specs.Links.{parent_of};
+ghost use Rattle.thread_core.specs.Forest.{numbers};
+ghost use Rattle.thread_core.specs.Parts.{containers_of};
+ghost use Rattle.thread_core.specs.Threads.{rows_of, rows_of_containers};
+
+use crate::entry::Entry;
+use crate::forest::find_tops;
+use crate::joining::join_plain;
+use crate::links::find_parent;
+use crate::merging::merge_trees;
+use crate::order::order_trees;
+use crate::pairs::Pairs;
+use crate::row::Row;
+use crate::rows::tree_rows;
+use crate::steps::Steps;
+use crate::threader::Threader;
+use mail_core::Memory;
+use std::alloc::Global;
+use std::sync::ledger::Ledger;
+
+/// The parent of each container.
+#[tactic(auto, using(crate::proofs::TableLemmas::map_numbers))]
+fn parent_table(
+    alloc: Global,
+    links: &[(usize, usize)],
+    count: usize,
+) -> Result<Vec<Option<usize>>, Memory>
+    ensures { IfOk result (λ v. v.items ≡ map (parent_of links.now) (numbers count)) }
+{
+    let mut parents = Vec::new(alloc);
+    for x in 0..count {
+        parents.push(find_parent(links, x))?;
+    }
+    Ok(parents)
+}
+
+/// Steps 2 to 6 over a list of parents.
+fn table_rows(
+    alloc: Global,
+    entries: &[Entry],
+    parents: &[Option<usize>],
+) -> Result<Vec<Row>, Memory>
+    ensures { IfOk result (λ rows. rows.items ≡ rows_of_containers entries.now (containers_of parents.now (length entries.now))) }
+{
+    let tops = find_tops(alloc, parents, entries.len())?;
+    let ordered = order_trees(alloc, entries, tops)?;
+    let merged = merge_trees(alloc, entries, ordered)?;
+    let trees = order_trees(alloc, entries, merged.trees)?;
+    tree_rows(alloc, entries, parents, &merged.links, &trees)
+}
+
+/// Threads by lists of pairs: the plain program of the definitions. It counts no steps.
+pub struct PlainThreader;
+
+impl Threader for PlainThreader {
+    type Links = Pairs;
+
+    ghost linked = { λ pairs. pairs };
+
+    fn join<L: Ledger>(
+        &self,
+        alloc: Global,
+        entries: &[Entry],
+        _steps: &mut Steps<L>,
+    ) -> Result<Pairs, Memory> {
+        let pairs = join_plain(alloc, entries)?;
+        let _links = pairs.links();
+        Ok(pairs)
+    }
+
+    fn rows<L: Ledger>(
+        &self,
+        alloc: Global,
+        entries: &[Entry],
+        links: Pairs,
+        _steps: &mut Steps<L>,
+    ) -> Result<Vec<Row>, Memory> {
+        let parents = parent_table(alloc, links.links(), links.count())?;
+        table_rows(alloc, entries, &parents)
+    }
+}

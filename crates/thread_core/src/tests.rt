@@ -1,0 +1,377 @@
+//! Worked threads, and the merge of subjects beside the RFC's walk.
+
+ghost use Rattle.std.specs.Prelude.{◌≡◌, ◌<◌};
+
+use crate::walk::walked_threads;
+use crate::{Entry, Pairs, PlainThreader, References, Row, Steps, Threader, thread_of, threads};
+use mail_core::{Instant, MsgId, Octets};
+use std::alloc::Global;
+use std::marker::Brand;
+use std::sync::ledger::{Blank, Ledger};
+use std::test::Fail;
+
+/// A message: its own id, if any, its references, its sent date, its base subject and whether it is
+/// a reply. An id is one letter.
+#[derive(Clone, Copy)]
+struct Mail<'a> {
+    id: &'a [u8],
+    refs: &'a [u8],
+    sent: i64,
+    base: &'a [u8],
+    reply: bool,
+}
+
+/// A message without a subject.
+fn message<'a>(id: &'a [u8], refs: &'a [u8], sent: i64) -> Mail<'a> {
+    Mail {
+        id,
+        refs,
+        sent,
+        base: b"",
+        reply: false,
+    }
+}
+
+fn plain<'a>(refs: &'a [u8], sent: i64) -> Mail<'a> {
+    Mail {
+        id: b"",
+        refs,
+        sent,
+        base: b"x",
+        reply: false,
+    }
+}
+
+fn reply<'a>(refs: &'a [u8], sent: i64) -> Mail<'a> {
+    Mail {
+        id: b"",
+        refs,
+        sent,
+        base: b"x",
+        reply: true,
+    }
+}
+
+fn row(depth: usize, place: usize) -> Row {
+    Row {
+        depth,
+        place: Some(place),
+    }
+}
+
+fn dummy() -> Row {
+    Row {
+        depth: 0,
+        place: None,
+    }
+}
+
+fn msg_id(alloc: Global, letter: u8) -> Result<MsgId, Fail> {
+    Ok(MsgId::new(
+        Vec::from_slice(alloc, &[letter])?,
+        Vec::from_slice(alloc, b"example.org")?,
+    ))
+}
+
+fn entry(alloc: Global, mail: Mail<'_>) -> Result<Entry, Fail> {
+    let mut refs = Vec::new(alloc);
+    for letter in mail.refs {
+        refs.push(msg_id(alloc, *letter)?)?;
+    }
+    let id = match mail.id.first() {
+        Some(letter) => Some(msg_id(alloc, *letter)?),
+        None => None,
+    };
+    Ok(Entry {
+        id,
+        refs: References::new(refs),
+        sent: Instant::new(mail.sent).ok_or("no instant")?,
+        base: Octets::new(Vec::from_slice(alloc, mail.base)?),
+        reply: mail.reply,
+    })
+}
+
+fn entries(alloc: Global, mails: &[Mail<'_>]) -> Result<Vec<Entry>, Fail> {
+    let mut entries = Vec::new(alloc);
+    for mail in mails {
+        entries.push(entry(alloc, *mail)?)?;
+    }
+    Ok(entries)
+}
+
+fn threads_of(alloc: Global, mails: &[Mail<'_>]) -> Result<Vec<Row>, Fail> {
+    Ok(threads(alloc, &PlainThreader, &entries(alloc, mails)?)?)
+}
+
+#[test]
+fn a_reply_hangs_below_its_parent(rt: HostRuntime) -> Result<(), Fail> {
+    let rows = threads_of(
+        rt.alloc(),
+        &[
+            message(b"a", b"", 0),
+            message(b"b", b"a", 1),
+            message(b"c", b"ab", 2),
+        ],
+    )?;
+    assert_eq!(rt;
+        rows.as_slice(),
+        [row(0, 0), row(1, 1), row(2, 2)].as_slice()
+    );
+    Ok(())
+}
+
+#[test]
+fn a_message_without_references_gives_up_its_parent(rt: HostRuntime) -> Result<(), Fail> {
+    let rows = threads_of(
+        rt.alloc(),
+        &[
+            message(b"a", b"", 0),
+            message(b"", b"ab", 1),
+            message(b"b", b"", 2),
+        ],
+    )?;
+    assert_eq!(rt;
+        rows.as_slice(),
+        [row(0, 0), row(0, 2), row(1, 1)].as_slice()
+    );
+    assert_eq!(rt; thread_of(&rows, 1), Some((1, 3)));
+    assert_eq!(rt; thread_of(&rows, 0), Some((0, 1)));
+    assert_eq!(rt; thread_of(&rows, 7), None);
+    Ok(())
+}
+
+#[test]
+fn rings_are_not_closed(rt: HostRuntime) -> Result<(), Fail> {
+    let two = threads_of(
+        rt.alloc(),
+        &[message(b"a", b"b", 0), message(b"b", b"a", 1)],
+    )?;
+    assert_eq!(rt; two.as_slice(), [row(0, 1), row(1, 0)].as_slice());
+    let three = threads_of(
+        rt.alloc(),
+        &[
+            message(b"a", b"b", 0),
+            message(b"b", b"c", 1),
+            message(b"c", b"a", 2),
+        ],
+    )?;
+    assert_eq!(rt;
+        three.as_slice(),
+        [row(0, 2), row(1, 1), row(2, 0)].as_slice()
+    );
+    let itself = threads_of(rt.alloc(), &[message(b"a", b"aa", 0)])?;
+    assert_eq!(rt; itself.as_slice(), [row(0, 0)].as_slice());
+    let missing = threads_of(rt.alloc(), &[message(b"", b"bcb", 0)])?;
+    assert_eq!(rt; missing.as_slice(), [row(0, 0)].as_slice());
+    Ok(())
+}
+
+#[test]
+fn the_first_of_equal_ids_owns_it(rt: HostRuntime) -> Result<(), Fail> {
+    let mails = [
+        message(b"i", b"", 0),
+        message(b"i", b"", 1),
+        message(b"", b"i", 2),
+    ];
+    let rows = threads_of(rt.alloc(), &mails)?;
+    assert_eq!(rt;
+        rows.as_slice(),
+        [row(0, 0), row(1, 2), row(0, 1)].as_slice()
+    );
+    let without_first = threads_of(rt.alloc(), &mails[1..])?;
+    assert_eq!(rt; without_first.as_slice(), [row(0, 0), row(1, 1)].as_slice());
+    Ok(())
+}
+
+#[test]
+fn replies_to_a_missing_message_share_a_dummy(rt: HostRuntime) -> Result<(), Fail> {
+    let none = threads_of(rt.alloc(), &[])?;
+    assert_eq!(rt; none.len(), 0);
+    let one = threads_of(rt.alloc(), &[message(b"", b"p", 0)])?;
+    assert_eq!(rt; one.as_slice(), [row(0, 0)].as_slice());
+    let two = threads_of(rt.alloc(), &[message(b"", b"p", 0), message(b"", b"p", 1)])?;
+    assert_eq!(rt; two.as_slice(), [dummy(), row(1, 0), row(1, 1)].as_slice());
+    Ok(())
+}
+
+#[test]
+fn siblings_stand_by_date_and_then_by_place(rt: HostRuntime) -> Result<(), Fail> {
+    let later_first = threads_of(rt.alloc(), &[message(b"", b"", 5), message(b"", b"", 4)])?;
+    assert_eq!(rt; later_first.as_slice(), [row(0, 1), row(0, 0)].as_slice());
+    let equal = threads_of(rt.alloc(), &[message(b"", b"", 5), message(b"", b"", 5)])?;
+    assert_eq!(rt; equal.as_slice(), [row(0, 0), row(0, 1)].as_slice());
+    let children = threads_of(
+        rt.alloc(),
+        &[
+            message(b"a", b"", 9),
+            message(b"", b"a", 3),
+            message(b"", b"a", 2),
+            message(b"", b"a", 3),
+        ],
+    )?;
+    assert_eq!(rt;
+        children.as_slice(),
+        [row(0, 0), row(1, 2), row(1, 1), row(1, 3)].as_slice()
+    );
+    Ok(())
+}
+
+#[test]
+fn one_subject_with_plain_messages_and_replies(rt: HostRuntime) -> Result<(), Fail> {
+    let alloc = rt.alloc();
+    let plain_first = threads_of(
+        alloc,
+        &[plain(b"", 0), reply(b"", 1), plain(b"", 2), reply(b"", 3)],
+    )?;
+    assert_eq!(rt;
+        plain_first.as_slice(),
+        [dummy(), row(1, 0), row(2, 1), row(1, 2), row(1, 3)].as_slice()
+    );
+    let reply_first = threads_of(
+        alloc,
+        &[reply(b"", 0), plain(b"", 1), reply(b"", 2), plain(b"", 3)],
+    )?;
+    assert_eq!(rt;
+        reply_first.as_slice(),
+        [dummy(), row(1, 1), row(2, 0), row(2, 2), row(1, 3)].as_slice()
+    );
+    let replies = threads_of(alloc, &[reply(b"", 0), reply(b"", 1)])?;
+    assert_eq!(rt;
+        replies.as_slice(),
+        [dummy(), row(1, 0), row(1, 1)].as_slice()
+    );
+    let reply_then_plain = threads_of(alloc, &[reply(b"", 0), plain(b"", 1)])?;
+    assert_eq!(rt;
+        reply_then_plain.as_slice(),
+        [row(0, 1), row(1, 0)].as_slice()
+    );
+    let plains = threads_of(alloc, &[plain(b"", 0), plain(b"", 1)])?;
+    assert_eq!(rt;
+        plains.as_slice(),
+        [dummy(), row(1, 0), row(1, 1)].as_slice()
+    );
+    Ok(())
+}
+
+#[test]
+fn one_subject_with_dummies(rt: HostRuntime) -> Result<(), Fail> {
+    let alloc = rt.alloc();
+    let one_dummy = threads_of(alloc, &[plain(b"", 0), reply(b"p", 1), reply(b"p", 2)])?;
+    assert_eq!(rt;
+        one_dummy.as_slice(),
+        [dummy(), row(1, 0), row(1, 1), row(1, 2)].as_slice()
+    );
+    let two_dummies = threads_of(
+        alloc,
+        &[
+            reply(b"p", 0),
+            reply(b"p", 1),
+            reply(b"q", 2),
+            reply(b"q", 3),
+        ],
+    )?;
+    assert_eq!(rt;
+        two_dummies.as_slice(),
+        [dummy(), row(1, 0), row(1, 1), row(1, 2), row(1, 3)].as_slice()
+    );
+    Ok(())
+}
+
+/// The rows of two messages over given pairs: none, or the second message under the first.
+fn rows_over_pairs<L: Ledger>(
+    alloc: Global,
+    blank: Blank,
+    is_linked: bool,
+) -> Result<Vec<Row>, Fail>
+    requires name { blank.name ≡ L.name }
+    requires parts { blank.parts ≡ L.parts }
+    requires some { 0 < blank.parts }
+{
+    let entries = entries(alloc, &[message(b"", b"", 0), message(b"", b"", 1)])?;
+    if entries.len() > 2 {
+        return Err(Fail::from("too many"));
+    }
+    let mut pairs = Pairs::new(alloc, 2);
+    if is_linked {
+        pairs.link(1, 0)?;
+    }
+    let mut steps = Steps::<L>::new(blank);
+    Ok(PlainThreader.rows(alloc, &entries, pairs, &mut steps)?)
+}
+
+#[test]
+fn rows_are_those_of_the_given_links(rt: HostRuntime) -> Result<(), Fail> {
+    let apart = rows_over_pairs::<Brand>(rt.alloc(), Blank::new(1), false)?;
+    assert_eq!(rt; apart.as_slice(), [row(0, 0), row(0, 1)].as_slice());
+    let linked = rows_over_pairs::<Brand>(rt.alloc(), Blank::new(1), true)?;
+    assert_eq!(rt; linked.as_slice(), [row(0, 0), row(1, 1)].as_slice());
+    Ok(())
+}
+
+/// A list of messages by its number: each message is a digit.
+fn numbered<'a>(number: usize) -> Mail<'a> {
+    let refs: [&'a [u8]; 3] = [b"", b"a", b"p"];
+    Mail {
+        id: if number % 2 == 0 { b"" } else { b"a" },
+        refs: refs[number / 2 % 3],
+        sent: (number / 6 % 2) as i64,
+        base: if number / 12 % 2 == 0 { b"" } else { b"x" },
+        reply: number / 24 % 2 == 1,
+    }
+}
+
+/// Whether the threads are those of the RFC's walk.
+fn is_as_walked(alloc: Global, mails: &[Mail<'_>]) -> Result<bool, Fail> {
+    let entries = entries(alloc, mails)?;
+    let rows = threads(alloc, &PlainThreader, &entries)?;
+    let walked = walked_threads(alloc, &entries)?;
+    Ok(rows.as_slice() == walked.as_slice())
+}
+
+#[test]
+fn all_short_lists_are_threaded_as_walked(rt: HostRuntime) -> Result<(), Fail> {
+    for first in 0..48 {
+        assert!(rt; is_as_walked(rt.alloc(), &[numbered(first)])?);
+        for second in 0..48 {
+            assert!(rt; is_as_walked(rt.alloc(), &[numbered(first), numbered(second)])?);
+            for third in 0..48 {
+                let mails = [numbered(first), numbered(second), numbered(third)];
+                assert!(rt;
+                    is_as_walked(rt.alloc(), &mails)?,
+                    "at {first}, {second}, {third}"
+                );
+            }
+        }
+    }
+    Ok(())
+}
+
+/// A message by chance.
+fn chance<'a>(seed: u64) -> Mail<'a> {
+    let refs: [&'a [u8]; 8] = [b"", b"", b"a", b"p", b"q", b"ab", b"pb", b"qcp"];
+    let ids: [&'a [u8]; 4] = [b"", b"a", b"b", b"c"];
+    let bases: [&'a [u8]; 4] = [b"", b"x", b"x", b"y"];
+    Mail {
+        id: ids[(seed >> 20) as usize % 4],
+        refs: refs[(seed >> 24) as usize % 8],
+        sent: ((seed >> 30) % 4) as i64,
+        base: bases[(seed >> 34) as usize % 4],
+        reply: (seed >> 38) % 2 == 1,
+    }
+}
+
+#[test]
+fn random_lists_are_threaded_as_walked(rt: HostRuntime) -> Result<(), Fail> {
+    let mut seed: u64 = 20_030_304;
+    for count in 0..40_000usize {
+        let mut mails = Vec::new(rt.alloc());
+        for _ in 0..count % 9 {
+            seed = seed
+                .wrapping_mul(6_364_136_223_846_793_005)
+                .wrapping_add(1_442_695_040_888_963_407);
+            mails.push(chance(seed))?;
+        }
+        assert!(rt; is_as_walked(rt.alloc(), &mails)?, "list {count}");
+    }
+    Ok(())
+}

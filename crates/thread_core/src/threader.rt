@@ -1,0 +1,72 @@
+//! Threaders.
+
+ghost use Rattle.std.specs.Prelude.{◌≡◌, ◌≤◌, ◌<◌, IfOk, length};
+ghost use Rattle.thread_core.specs.Containers.{count_of};
+ghost use Rattle.thread_core.specs.Links.{Linked, IsLinkedAs, links_of, parent_of};
+ghost use Rattle.thread_core.specs.Threads.{rows_of, threads_of};
+
+use crate::entry::Entry;
+use crate::row::Row;
+use crate::steps::Steps;
+use mail_core::Memory;
+use std::alloc::Global;
+use std::marker::Brand;
+use std::sync::ledger::{Blank, Ledger};
+
+/// Threads entries by RFC 5256, THREAD=REFERENCES, in two parts. Entries stand in mailbox order.
+pub trait Threader {
+    /// Containers with the links between them.
+    type Links;
+
+    /// How many containers there are, and the links by number, however they are kept.
+    ghost linked: { Self.Links → Linked };
+
+    /// Step 1: the links that the references make.
+    fn join<L: Ledger>(
+        &self,
+        alloc: Global,
+        entries: &[Entry],
+        steps: &mut Steps<L>,
+    ) -> Result<Self::Links, Memory>
+        ensures step_one { IfOk result (λ links. IsLinkedAs (count_of entries.now) (links_of entries.now) (linked links)) };
+
+    /// Steps 2 to 6 over any links, in preorder: the first containers are the messages, by place,
+    /// and the others are dummies. A refusal drops the links.
+    fn rows<L: Ledger>(
+        &self,
+        alloc: Global,
+        entries: &[Entry],
+        links: Self::Links,
+        steps: &mut Steps<L>,
+    ) -> Result<Vec<Row>, Memory>
+        requires { length entries.now ≤ (linked links).count }
+        ensures steps_two_to_six { IfOk result (λ rows. rows.items ≡ rows_of entries.now (linked links).count (parent_of (linked links).links)) };
+}
+
+/// The threads of a mailbox in preorder, by both parts of a threader.
+pub fn threads<T: Threader>(
+    alloc: Global,
+    threader: &T,
+    entries: &[Entry],
+) -> Result<Vec<Row>, Memory>
+    ensures { IfOk result (λ rows. rows.items ≡ threads_of entries.now) }
+{
+    join_and_rows::<T, Brand>(alloc, threader, entries, Blank::new(1))
+}
+
+/// Both parts, one after the other, with a count that nobody reads.
+fn join_and_rows<T: Threader, L: Ledger>(
+    alloc: Global,
+    threader: &T,
+    entries: &[Entry],
+    blank: Blank,
+) -> Result<Vec<Row>, Memory>
+    requires name { blank.name ≡ L.name }
+    requires parts { blank.parts ≡ L.parts }
+    requires some { 0 < blank.parts }
+    ensures { IfOk result (λ rows. rows.items ≡ threads_of entries.now) }
+{
+    let mut steps = Steps::<L>::new(blank);
+    let links = threader.join(alloc, entries, &mut steps)?;
+    threader.rows(alloc, entries, links, &mut steps)
+}
