@@ -20,7 +20,7 @@ impl Text {
     pub fn new(bytes: Vec<u8>) -> Text
         ensures { result ≡ bytes.items }
     {
-        Text { bytes }
+        Self { bytes }
     }
 
     /// The bytes, lent.

@@ -1,5 +1,5 @@
 //! What is left of a subject once all that can be removed is: RFC 5256, section 2.1, steps (2) to (6).
-ghost use Rattle.std.specs.Prelude.{◌≡◌, ◌+◌, ◌≤◌, length, MatchOption, Some, None, take, drop, true};
+ghost use Rattle.std.specs.Prelude.{◌≡◌, ◌+◌, ◌≤◌, length, MatchOption, Some, None, take, drop, true, false};
 ghost use Rattle.subject_core.specs.Removal.{left, without_trailer, without_pair};
 ghost use Rattle.subject_core.specs.BaseSubject.{marked, rest_of};
 ghost use Rattle.subject_core.specs.Front.{without_front, IsFrontGone, IsEndGone};
@@ -13,22 +13,34 @@ struct Rest<'a> {
     reply: bool,
 }
 
+impl<'a> Rest<'a> {
+    /// What is left of a text that lost no mark of a reply.
+    fn plain(text: &'a [u8]) -> Rest<'a>
+        ensures text { result.text.now ≡ text.now }
+        ensures reply { result.reply ≡ false }
+    {
+        Rest { text, reply: false }
+    }
+
+    /// What is left of a text that lost a mark of a reply.
+    fn marked(text: &'a [u8]) -> Rest<'a>
+        ensures text { result.text.now ≡ text.now }
+        ensures reply { result.reply ≡ true }
+    {
+        Rest { text, reply: true }
+    }
+}
+
 /// The text without the space or the `(fwd)` that ends it.
 #[tactic(auto, unfolding(crate::specs::Removal::without_trailer))]
 fn without_trailer(text: &[u8]) -> Option<Rest<'_>>
     ensures { MatchOption result (without_trailer text.now ≡ None) (λ rest. without_trailer text.now ≡ Some (left rest.reply rest.text.now)) }
 {
     if let Some(rest) = before(text, b" ") {
-        return Some(Rest {
-            text: rest,
-            reply: false,
-        });
+        return Some(Rest::plain(rest));
     }
-    let rest = before(text, b"(fwd)")?;
-    Some(Rest {
-        text: rest,
-        reply: true,
-    })
+    let unforwarded = before(text, b"(fwd)")?;
+    Some(Rest::marked(unforwarded))
 }
 
 /// The text without the space, the mark of a reply or the blob that begins it. A blob stays where nothing follows it.
@@ -37,25 +49,16 @@ fn without_front(text: &[u8]) -> Option<Rest<'_>>
     ensures { MatchOption result (without_front text.now ≡ None) (λ rest. without_front text.now ≡ Some (left rest.reply rest.text.now)) }
 {
     if let Some(rest) = after(text, b" ") {
-        return Some(Rest {
-            text: rest,
-            reply: false,
-        });
+        return Some(Rest::plain(rest));
     }
-    if let Some(rest) = after_refwd(text) {
-        return Some(Rest {
-            text: rest,
-            reply: true,
-        });
+    if let Some(answered) = after_refwd(text) {
+        return Some(Rest::marked(answered));
     }
     let rest = after_blob(text)?;
     if rest.is_empty() {
         return None;
     }
-    Some(Rest {
-        text: rest,
-        reply: false,
-    })
+    Some(Rest::plain(rest))
 }
 
 /// The text without what can be removed at its end.
