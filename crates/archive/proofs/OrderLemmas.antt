@@ -1,18 +1,17 @@
 -- How the words' matches become an order.
-use Rattle.std.proofs.Common.{◌≡◌, ◌≢◌, ℕ, ◌+◌, ◌<◌, ◌≤◌, ◌==◌, ◌⊎◌, inl, inr, nat_le, not, ◌&&◌, List, [], ◌∷◌, length, Bool, true, false, Option, Some, None, Result, Ok, Err, option_map, refl, codes, ◌∙◌, sym, ap, arith, get_or, if◌then◌else◌}
+use Rattle.std.proofs.Common.{◌≡◌, ◌≢◌, ℕ, ◌<◌, ◌≤◌, nat_le, ◌&&◌, List, [], ◌∷◌, length, Bool, true, false, Option, Some, None, Result, Ok, Err, option_map, refl, codes, ◌∙◌, ap, arith}
 use Rattle.std.proofs.lemmas.Option.{same_Some}
-use Rattle.std.proofs.lemmas.Grind.{common_steps}
 use Rattle.std.proofs.lemmas.Bool.{le-leb}
 use Rattle.std.proofs.lemmas.Bool.Decides.{nat_tests}
 use Rattle.std.proofs.lemmas.Result.{OkIff-at_ok, OkIff-at_err}
 use Rattle.std.proofs.lemmas.Str.{digit_value_digit}
 use Rattle.std.proofs.lemmas.Str.Parse.{without_leading_plus_none}
 use Rattle.std.specs.List.{list_all}
-use Rattle.std.specs.Char.{is_ascii_digit, digit_value}
+use Rattle.std.specs.Char.{is_ascii_digit}
 use Rattle.std.specs.Int.{IsInRange}
 use Rattle.std.specs.Str.{bytes_eq}
 use Rattle.std.specs.Str.Parse.{AllDigits, IsNumeral, ParsesUnsigned, digits_value, without_leading_plus}
-use Rattle.clap.specs.Words.{Row, Text, first_of, is_simple}
+use Rattle.clap.specs.Words.{Row, Text, is_simple}
 use Rattle.clap.proofs.OnLiterals.{clap_on_literals}
 use Rattle.archive.specs.Program.{archive_app, sift_app}
 use Rattle.archive.specs.Orders.{is_decimal, age_of_text, sift_of, order_of}
@@ -109,6 +108,10 @@ pub age-too_long : {E : Type 0} (text : List ℕ) (r : Result ℕ E) (e : E) →
     → None ≡ age_of_text text
 unfolding age_of_text
 age-too_long text r e p h is =
-    rw (h, not_true (nat_le (digits_value 10 text) 36500) (λ t. OkIff-at_err r _ _ e p is (numeral text h,
-    rw (unsigned text h) (let low : digits_value 10 text ≤ 36500 = leb-le (digits_value 10 text) 36500 t in omega (arith, low))))) refl
-
+    rw (
+      h,
+      not_true (nat_le (digits_value 10 text) 36500) (λ t. OkIff-at_err r _ _ e p is (
+        numeral text h,
+        rw (unsigned text h) (let low : digits_value 10 text ≤ 36500 = leb-le (digits_value 10 text) 36500 t in omega (arith, low)),
+      )),
+    ) refl

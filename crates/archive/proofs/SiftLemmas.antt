@@ -1,11 +1,11 @@
 -- How far the messages that pass are out.
-use Rattle.std.proofs.Common.{◌≡◌, ℕ, ◌+◌, ◌<◌, ◌≤◌, ◌^◌, min, List, [], ◌∷◌, ◌++◌, length, take, drop, filter, Bool, true, false, refl, sym, ap, subst, ◌∙◌, arith, append_assoc, length-append}
+use Rattle.std.proofs.Common.{◌≡◌, ℕ, ◌+◌, ◌<◌, ◌^◌, min, List, [], ◌∷◌, ◌++◌, length, take, true, false, refl, sym, ap, subst, ◌∙◌, arith, append_assoc, length-append}
 use Rattle.std.proofs.lemmas.List.{append-nil}
 use Rattle.std.proofs.lemmas.List.{take-append-le}
 use Rattle.std.proofs.Math.Seq.{take-append-add}
 use Rattle.std.proofs.Common.{length-take}
 use Rattle.mbox_core.specs.Division.{Item, Divides}
-use Rattle.mbox_core.specs.Written.{written, written_item, IsCutShort}
+use Rattle.mbox_core.specs.Written.{written_item, IsCutShort}
 use Rattle.policy_core.specs.Rules.{Rule}
 use Rattle.archive.specs.Sifting.{Asked, passes, sifted}
 
@@ -37,7 +37,7 @@ sent_part old now all left text rest new count k more s e cut m fits =
     let low = (cut fits).0 in
     let out = (cut fits).1 in
     let told : length new ≡ length old + length s.part + k =
-            omega (arith, ap length out, length-append now (take k text), ap length s.out, length-append old s.part, length-take k text, low) in
+    omega (arith, ap length out, length-append now (take k text), ap length s.out, length-append old s.part, length-take k text, low) in
     let exact : more ≡ length s.part + k = omega (arith, m, s.counted, told, fits) in (
       omega (arith, exact, low, ap length s.whole, length-append s.part left, ap length e, length-append text rest),
       out ∙ ap (λ x. x ++ take k text) s.out ∙ append_assoc old s.part (take k text)

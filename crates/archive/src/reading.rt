@@ -18,13 +18,17 @@ const MAX_AGE: u32 = 36500;
 
 const VERSION: &str = "0.1.0";
 
-const ARCHIVE_HELP: &str = "Keeps mailing lists. Without a command it is `sift`, and every message passes";
+const ARCHIVE_HELP: &str =
+    "Keeps mailing lists. Without a command it is `sift`, and every message passes";
 
-const SIFT_HELP: &str = "Write the messages of an mbox that pass: standard input to standard output";
+const SIFT_HELP: &str =
+    "Write the messages of an mbox that pass: standard input to standard output";
 
-const DAY_HELP: &str = "The reading day, yyyy-mm-dd [default: today in UTC, where an age is asked for]";
+const DAY_HELP: &str =
+    "The reading day, yyyy-mm-dd [default: today in UTC, where an age is asked for]";
 
-const MIN_AGE_HELP: &str = "Only messages that arrived at least this many days before the reading day";
+const MIN_AGE_HELP: &str =
+    "Only messages that arrived at least this many days before the reading day";
 
 /// A value that its reader refuses.
 #[derive(Debug, Clone, Copy, Drop)]
@@ -94,13 +98,7 @@ fn read_age(text: &str) -> Option<u32>
         return None;
     }
     match text.parse::<u32>() {
-        Ok(age) => {
-            if age <= MAX_AGE {
-                Some(age)
-            } else {
-                None
-            }
-        }
+        Ok(age) => { if age <= MAX_AGE { Some(age) } else { None } }
         Err(_) => None,
     }
 }

@@ -54,7 +54,14 @@ fn run_over(
     let mut input = Tap::new(alloc, input, passes)?;
     let mut output = Tap::new(alloc, b"", room)?;
     let mut faults = Tap::new(alloc, b"", ROOM)?;
-    let status = run(alloc, words, &mut clock, &mut input, &mut output, &mut faults);
+    let status = run(
+        alloc,
+        words,
+        &mut clock,
+        &mut input,
+        &mut output,
+        &mut faults,
+    );
     Ok(Ran {
         status,
         output,
@@ -127,12 +134,27 @@ fn other_forms_are_written_canonically(rt: HostRuntime) -> Result<(), Fail> {
 fn only_messages_that_are_old_enough_pass(rt: HostRuntime) -> Result<(), Fail> {
     let (first, _) = TWO_MESSAGES.split_at(SECOND);
     let cases = [
-        (["sift", "--day", "2003-03-20", "--min-age", "10"].as_slice(), first),
-        (["sift", "--day", "2003-03-20", "--min-age", "8"].as_slice(), TWO_MESSAGES),
-        (["sift", "--day", "2003-03-20", "--min-age", "16"].as_slice(), first),
-        (["sift", "--day", "2003-03-20", "--min-age=17"].as_slice(), b"".as_slice()),
+        (
+            ["sift", "--day", "2003-03-20", "--min-age", "10"].as_slice(),
+            first,
+        ),
+        (
+            ["sift", "--day", "2003-03-20", "--min-age", "8"].as_slice(),
+            TWO_MESSAGES,
+        ),
+        (
+            ["sift", "--day", "2003-03-20", "--min-age", "16"].as_slice(),
+            first,
+        ),
+        (
+            ["sift", "--day", "2003-03-20", "--min-age=17"].as_slice(),
+            b"".as_slice(),
+        ),
         (["sift", "--min-age", "10"].as_slice(), first),
-        (["sift", "--day", "2003-03-04", "--min-age", "0"].as_slice(), first),
+        (
+            ["sift", "--day", "2003-03-04", "--min-age", "0"].as_slice(),
+            first,
+        ),
         (["sift", "--day", "1999-01-01"].as_slice(), TWO_MESSAGES),
         (["sift"].as_slice(), TWO_MESSAGES),
     ];
@@ -151,7 +173,14 @@ fn a_clock_that_does_not_tell_the_day_is_a_fault(rt: HostRuntime) -> Result<(), 
     let mut output = Tap::new(alloc, b"", ROOM)?;
     let mut faults = Tap::new(alloc, b"", ROOM)?;
     let words = ["sift", "--min-age", "10"];
-    let status = run(alloc, &words, &mut clock, &mut input, &mut output, &mut faults);
+    let status = run(
+        alloc,
+        &words,
+        &mut clock,
+        &mut input,
+        &mut output,
+        &mut faults,
+    );
     assert!(rt; status == REFUSED);
     assert_eq!(rt; output.bytes(), b"".as_slice());
     assert_eq!(rt; faults.bytes(), b"archive: F3 Clock\n".as_slice());
@@ -159,11 +188,20 @@ fn a_clock_that_does_not_tell_the_day_is_a_fault(rt: HostRuntime) -> Result<(), 
 }
 
 #[test]
-fn a_line_before_the_first_separator_is_refused_with_its_offset(rt: HostRuntime) -> Result<(), Fail> {
-    let ran = run_whole(rt.alloc(), &[], b"\nhi\nFrom a@b Tue Mar  4 10:00:00 2003\n\n")?;
+fn a_line_before_the_first_separator_is_refused_with_its_offset(
+    rt: HostRuntime,
+) -> Result<(), Fail> {
+    let ran = run_whole(
+        rt.alloc(),
+        &[],
+        b"\nhi\nFrom a@b Tue Mar  4 10:00:00 2003\n\n",
+    )?;
     assert!(rt; ran.status == REFUSED);
     assert_eq!(rt; ran.output.bytes(), b"".as_slice());
-    assert_eq!(rt; ran.faults.bytes(), b"archive: M1 Preamble at 1\n".as_slice());
+    assert_eq!(rt;
+        ran.faults.bytes(),
+        b"archive: M1 Preamble at 1\n".as_slice()
+    );
     Ok(())
 }
 
@@ -173,7 +211,11 @@ fn a_reader_that_fails_after_each_number_of_bytes(rt: HostRuntime) -> Result<(),
         let ran = run_over(rt.alloc(), &[], TWO_MESSAGES, passes, ROOM)?;
         assert!(rt; ran.status == REFUSED, "after {passes}");
         assert_eq!(rt; ran.output.bytes(), b"".as_slice(), "after {passes}");
-        assert_eq!(rt; ran.faults.bytes(), b"archive: M2 Read\n".as_slice(), "after {passes}");
+        assert_eq!(rt;
+            ran.faults.bytes(),
+            b"archive: M2 Read\n".as_slice(),
+            "after {passes}"
+        );
     }
     Ok(())
 }
@@ -185,7 +227,11 @@ fn a_writer_that_fails_after_each_number_of_bytes(rt: HostRuntime) -> Result<(),
         assert!(rt; ran.status == REFUSED, "after {room}");
         let (beginning, _) = TWO_MESSAGES.split_at(room);
         assert_eq!(rt; ran.output.bytes(), beginning, "after {room}");
-        assert_eq!(rt; ran.faults.bytes(), b"archive: F2 Write\n".as_slice(), "after {room}");
+        assert_eq!(rt;
+            ran.faults.bytes(),
+            b"archive: F2 Write\n".as_slice(),
+            "after {room}"
+        );
     }
     Ok(())
 }
@@ -221,7 +267,10 @@ fn help_and_the_version_go_to_the_output(rt: HostRuntime) -> Result<(), Fail> {
     for word in ["--help", "-h", "help"] {
         let ran = run_whole(rt.alloc(), &[word], b"")?;
         assert!(rt; ran.status == DONE, "at {word}");
-        assert!(rt; ran.output.bytes().starts_with(b"Keeps mailing lists."), "at {word}");
+        assert!(rt;
+            ran.output.bytes().starts_with(b"Keeps mailing lists."),
+            "at {word}"
+        );
         assert_eq!(rt; ran.faults.bytes(), b"".as_slice(), "at {word}");
     }
     let ran = run_whole(rt.alloc(), &["--version"], b"")?;

@@ -1,4 +1,4 @@
-use Rattle.std.proofs.Common.{ap, refl}
+use Rattle.std.proofs.Common.{ap}
 use Rattle.clap.specs.Simple.{app_of_fields}
 use Rattle.archive.proofs.reading.described.Goals as goal
 

@@ -1,4 +1,4 @@
-use Rattle.std.proofs.Common.{◌≡◌, ◌∙◌, ap, refl, Some, Bool}
+use Rattle.std.proofs.Common.{◌∙◌, ap, Some, Bool}
 use Rattle.clap.specs.Words.{Rule, rule_of}
 use Rattle.clap.specs.declared.builder.Arg.{Arg}
 use Rattle.archive.proofs.reading.option.Goals as goal

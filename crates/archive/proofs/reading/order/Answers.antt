@@ -1,4 +1,4 @@
-use Rattle.std.proofs.Common.{◌≡◌, ◌∙◌, Some, None, true, false, ap, ap₂, refl, sym, inl, inr}
+use Rattle.std.proofs.Common.{◌∙◌, ap, ap₂, refl, sym, inl, inr}
 use Rattle.clap.specs.Words.{is_simple, subcommand_of, takes}
 use Rattle.archive.specs.Orders.{order_of}
 use Rattle.archive.proofs.OrderLemmas.{simple, not_true}

@@ -1,4 +1,4 @@
-use Rattle.std.proofs.Common.{◌≡◌, ◌∙◌, ap, sym, true, false}
+use Rattle.std.proofs.Common.{◌∙◌, ap, sym}
 use Rattle.archive.specs.Orders.{is_decimal}
 use Rattle.archive.proofs.OrderLemmas.{age-not_decimal, age-in_range, age-too_great, age-too_long}
 use Rattle.archive.proofs.reading.read_age.Goals as goal

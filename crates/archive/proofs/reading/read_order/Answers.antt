@@ -1,9 +1,7 @@
-use Rattle.std.proofs.Common.{rules, ◌≡◌, ◌∙◌, codes, Some, None, ap₂, ap, sym}
-use Rattle.clap.specs.Words.{found_of, Text}
+use Rattle.std.proofs.Common.{rules, codes}
+use Rattle.clap.specs.Words.{found_of}
 use Rattle.clap.proofs.WalkLemmas.{first_value-rows}
-use Rattle.mail_core.specs.Calendar.{day_of_text}
-use Rattle.archive.specs.Orders.{sift_with, given, age_of_text}
-use Rattle.archive.proofs.OrderLemmas.{pair_up, order_of-sift, order_of-other}
+use Rattle.archive.proofs.OrderLemmas.{pair_up, order_of-sift}
 use Rattle.archive.proofs.reading.read_order.Goals as goal
 
 pub returns-in-sift : goal.returns-in-sift

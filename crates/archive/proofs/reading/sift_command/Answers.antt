@@ -1,4 +1,4 @@
-use Rattle.std.proofs.Common.{◌≡◌, ◌∙◌, ap, ap₂, refl, ◌||◌, false}
+use Rattle.std.proofs.Common.{◌∙◌, ap₂, ◌||◌}
 use Rattle.clap.specs.Words.{with_rule}
 use Rattle.archive.specs.Program.{sift_app}
 use Rattle.archive.proofs.reading.sift_command.Goals as goal
@@ -7,10 +7,10 @@ pub returns : goal.returns
 unfolding sift_app
 returns c =
     let first = c.in_ok-arg.ensures.shape c.option-day.ensures.local
-            ∙ ap₂ with_rule c.new.ensures.app c.option-day.ensures.rule in
+    ∙ ap₂ with_rule c.new.ensures.app c.option-day.ensures.rule in
     let both = c.in_ok-command.ensures.shape c.option-min_age.ensures.local
-            ∙ ap₂ with_rule first c.option-min_age.ensures.rule in
+    ∙ ap₂ with_rule first c.option-min_age.ensures.rule in
     let plain = c.in_ok-command.ensures.globals
-            ∙ ap₂ (λ x y. x || y) (c.in_ok-arg.ensures.globals ∙ ap₂ (λ x y. x || y) c.new.ensures.local c.option-day.ensures.local)
-            c.option-min_age.ensures.local in
+    ∙ ap₂ (λ x y. x || y) (c.in_ok-arg.ensures.globals ∙ ap₂ (λ x y. x || y) c.new.ensures.local c.option-day.ensures.local)
+    c.option-min_age.ensures.local in
     (c.described.ensures.app ∙ both, c.described.ensures.local ∙ plain)

@@ -1,4 +1,4 @@
-use Rattle.std.proofs.Common.{ap, ◌∙◌, refl, true}
+use Rattle.std.proofs.Common.{ap, ◌∙◌, true}
 use Rattle.clap.specs.Simple.{app_of_fields, App}
 use Rattle.archive.proofs.reading.versioned.Goals as goal
 

@@ -1,6 +1,6 @@
-use Rattle.std.proofs.Common.{◌≡◌, ◌<◌, ◌+◌, min, ◌∙◌, ap, sym, refl, arith}
+use Rattle.std.proofs.Common.{◌+◌, min, ◌∙◌, ap, refl, arith}
 use Rattle.archive.specs.Sifting.{sifted}
-use Rattle.archive.proofs.SiftLemmas.{Sent, sent_none, sent_more, sent_part, sent_all, sifted-yes, sifted-no}
+use Rattle.archive.proofs.SiftLemmas.{sent_none, sent_more, sent_part, sent_all, sifted-yes, sifted-no}
 use Rattle.archive.proofs.sifting.write_passing.Goals as goal
 
 pub loop-item-init : goal.loop-item-init
