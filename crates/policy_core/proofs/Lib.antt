@@ -1,3 +1,4 @@
+mod FitsLemmas
 mod ListLemmas
 mod RuleLemmas
 mod TreeLemmas

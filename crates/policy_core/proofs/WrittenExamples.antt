@@ -1,5 +1,5 @@
 -- Worked examples of written policies, as trees and as texts.
-use Rattle.std.proofs.Common.{◌≡◌, ℕ, ℤ, pos, negsuc, List, [], ◌∷◌, Option, Some, None, Result, Ok, Err, true, false, refl, codes}
+use Rattle.std.proofs.Common.{◌≡◌, ℕ, zero, suc, ℤ, pos, negsuc, List, [], ◌∷◌, Option, Some, None, Result, Ok, Err, true, false, refl, codes}
 use Rattle.toml.specs.Data.{Data, string, integer, boolean, array, table, Items, no_items, item, Members, no_members, member}
 use Rattle.toml.proofs.OnLiterals.{toml_on_literals}
 use Rattle.policy_core.specs.declared.access.Standing.TheVariants.{Public, Member, Subscriber, Moderator}
@@ -9,6 +9,7 @@ use Rattle.policy_core.specs.Names.{is_name}
 use Rattle.policy_core.specs.Rules.{Rule, open_rule}
 use Rattle.policy_core.specs.Written.{name_refusal, effect_refusal, texts_refusal, embargo_refusal, age_refusal, day_refusal, rule_refusal, rule_of, rules_refusal, tree_refusal, policy_of, written_policy}
 use Rattle.std.specs.Prelude.{⊤}
+use Rattle.mail_core.specs.Calendar.{days_before_year, days_of_months}
 
 -- what computes a policy of a tree
 unfoldable on_trees : ⊤
@@ -50,3 +51,79 @@ text_open = refl
 text_not : written_policy (codes "a =") ≡ Err NotToml
 unfolding toml_on_literals on_trees
 text_not = refl
+
+-- ---- texts
+
+text_empty : written_policy [] ≡ Ok []
+unfolding toml_on_literals on_trees
+text_empty = refl
+
+text_of_one_rule : written_policy (codes "[[rule]]\nname = 'a'\neffect = 'allow'\nage_min = 30\nembargo = false")
+    ≡ Ok (record open_rule { name = codes "a"; age_min = Some 30; embargo = Some false } ∷ [])
+unfolding toml_on_literals on_trees
+text_of_one_rule = refl
+
+text_with_arrays : written_policy (codes "[[rule]]\nname = 'a'\neffect = 'deny'\nlists = ['soc', 'dev']\nstandings = ['public']\nwithdrawn = ['author', 'board']")
+    ≡ Ok (record open_rule {
+      name = codes "a";
+      allows = false;
+      lists = Some (codes "soc" ∷ codes "dev" ∷ []);
+      standings = Some (Public ∷ []);
+      withdrawn = Some (Author ∷ Board ∷ []);
+    } ∷ [])
+unfolding toml_on_literals on_trees
+text_with_arrays = refl
+
+text_unknown_key : written_policy (codes "[[rule]]\nname = 'A'\ncolour = 1") ≡ Err (UnknownKey 1)
+unfolding toml_on_literals on_trees
+text_unknown_key = refl
+
+text_bad_name : written_policy (codes "[[rule]]\nname = 'A'") ≡ Err (BadName 1)
+unfolding toml_on_literals on_trees
+text_bad_name = refl
+
+text_default : written_policy (codes "[[rule]]\nname = 'default'\neffect = 'deny'") ≡ Err (DuplicateName 1)
+unfolding toml_on_literals on_trees
+text_default = refl
+
+text_twice : written_policy (codes "[[rule]]\nname = 'a'\neffect = 'deny'\n[[rule]]\nname = 'a'\neffect = 'allow'") ≡ Err (DuplicateName 2)
+unfolding toml_on_literals on_trees
+text_twice = refl
+
+text_date : written_policy (codes "[[rule]]\nname = 'a'\neffect = 'deny'\nfrom = 2003-03-04") ≡ Err (WrongType 1)
+unfolding toml_on_literals on_trees
+text_date = refl
+
+text_list_name : written_policy (codes "[[rule]]\nname = 'a'\neffect = 'deny'\nlists = ['Soc']") ≡ Err (BadValue 1)
+unfolding toml_on_literals on_trees
+text_list_name = refl
+
+text_type_first : written_policy (codes "[[rule]]\nname = 'a'\neffect = 'deny'\nlists = ['Soc', 1]") ≡ Err (WrongType 1)
+unfolding toml_on_literals on_trees
+text_type_first = refl
+
+text_no_lists : written_policy (codes "[[rule]]\nname = 'a'\neffect = 'deny'\nlists = []") ≡ Err (BadValue 1)
+unfolding toml_on_literals on_trees
+text_no_lists = refl
+
+text_too_old : written_policy (codes "[[rule]]\nname = 'a'\neffect = 'deny'\nage_min = 36501") ≡ Err (BadValue 1)
+unfolding toml_on_literals on_trees
+text_too_old = refl
+
+text_backwards : written_policy (codes "[[rule]]\nname = 'a'\neffect = 'deny'\nfrom = '2003-03-05'\nuntil = '2003-03-04'") ≡ Err (BadValue 1)
+unfolding toml_on_literals on_trees days_before_year days_of_months
+text_backwards = refl
+
+-- ---- many rules
+
+empty_tables : ℕ → Items
+empty_tables zero = no_items
+empty_tables (suc n) = item (table no_members) (empty_tables n)
+
+too_many : policy_of (member (codes "rule") (array (empty_tables 201)) no_members) ≡ Err TooManyRules
+unfolding on_trees empty_tables
+too_many = refl
+
+not_too_many : policy_of (member (codes "rule") (array (empty_tables 200)) no_members) ≡ Err (BadValue 1)
+unfolding on_trees empty_tables
+not_too_many = refl

@@ -18,7 +18,8 @@ const MOST_RULES: usize = 200;
 /// The rules of a policy's text, or its first refusal.
 pub(crate) fn read_policy(alloc: Global, text: &str) -> Result<Vec<Rule>, PolicyFault>
     ensures ok { IfOk result (λ rules. written_policy text.now ≡ Ok rules.items) }
-    ensures refused { IfErr result (λ fault. fault ≢ PolicyFault.Memory → written_policy text.now ≡ Err fault) }
+    ensures refused { IfErr result
+        (λ fault. fault ≢ PolicyFault.Memory → written_policy text.now ≡ Err fault) }
 {
     match toml::table_from_str(alloc, text) {
         Ok(tree) => read_tree(alloc, &tree),
@@ -34,7 +35,9 @@ pub(crate) fn read_policy(alloc: Global, text: &str) -> Result<Vec<Rule>, Policy
 
 /// The rules of a policy's tree.
 fn read_tree(alloc: Global, tree: &Table) -> Result<Vec<Rule>, PolicyFault>
-    ensures { ReadsInMemory result (tree_refusal (table_view tree.now)) (λ rules. rules.items ≡ map rule_of (tables_of (get_member (codes "rule") (table_view tree.now)))) }
+    ensures { ReadsInMemory result
+        (tree_refusal (table_view tree.now))
+        (λ rules. rules.items ≡ map rule_of (tables_of (get_member (codes "rule") (table_view tree.now)))) }
 {
     if !has_only_rule(tree) {
         return Err(PolicyFault::UnknownKey(0));
@@ -48,14 +51,19 @@ fn read_tree(alloc: Global, tree: &Table) -> Result<Vec<Rule>, PolicyFault>
 
 /// Whether each key is `rule`.
 fn has_only_rule(tree: &Table) -> bool
-    ensures { result ≡ list_all (λ key. bytes_eq key (codes "rule")) (keys_of (table_view tree.now)) }
+    ensures { result ≡
+        list_all
+        (λ key. bytes_eq key (codes "rule"))
+        (keys_of (table_view tree.now)) }
 {
     tree.keys().all(|key| key.as_str() == "rule")
 }
 
 /// The members of the array `rule`, each of which is a table. There are none where it is missing.
 fn read_array(tree: &Table) -> Result<&[Value], PolicyFault>
-    ensures { Reads result (refuse (PolicyFault.WrongType 0) (fails (is_array_of is_table) (get_member (codes "rule") (table_view tree.entry.now)))) (λ values. map view values.now ≡ rule_values (get_member (codes "rule") (table_view tree.entry.now))) }
+    ensures { Reads result
+        (refuse (PolicyFault.WrongType 0) (fails (is_array_of is_table) (get_member (codes "rule") (table_view tree.entry.now))))
+        (λ values. map view values.now ≡ rule_values (get_member (codes "rule") (table_view tree.entry.now))) }
 {
     let Some(value) = at(tree, "rule") else {
         return Ok(&[]);
@@ -77,7 +85,9 @@ fn are_tables(values: &[Value]) -> bool
 
 /// The rules of the tables among some values, numbered from 1.
 fn read_rules(alloc: Global, values: &[Value]) -> Result<Vec<Rule>, PolicyFault>
-    ensures { ReadsInMemory result (rules_refusal 1 [] (tables values.now)) (λ rules. rules.items ≡ map rule_of (tables values.now)) }
+    ensures { ReadsInMemory result
+        (rules_refusal 1 [] (tables values.now))
+        (λ rules. rules.items ≡ map rule_of (tables values.now)) }
 {
     let mut rules = Vec::new(alloc);
     for value in values {

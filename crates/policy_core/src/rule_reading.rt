@@ -26,7 +26,9 @@ pub(crate) fn read_rule(
     earlier: &[Rule],
     keys: &Table,
 ) -> Result<Rule, PolicyFault>
-    ensures { ReadsInMemory result (rule_refusal number (names_of earlier.now) (table_view keys.now)) (λ rule. rule ≡ rule_of (table_view keys.now)) }
+    ensures { ReadsInMemory result
+        (rule_refusal number (names_of earlier.now) (table_view keys.now))
+        (λ rule. rule ≡ rule_of (table_view keys.now)) }
 {
     if !has_rule_keys(keys) {
         return Err(PolicyFault::UnknownKey(number));
@@ -74,7 +76,8 @@ pub(crate) fn at<'t>(keys: &'t Table, key: &str) -> Option<&'t Value>
 /// The text that a value is.
 fn read_text(number: usize, value: &Value) -> Result<&str, PolicyFault>
     ensures ok { IfOk result (λ text. as_str (view value.entry.now) ≡ Some text.now) }
-    ensures refused { IfErr result (λ fault. (fault ≡ PolicyFault.WrongType number) × (as_str (view value.entry.now) ≡ None)) }
+    ensures refused { IfErr result
+        (λ fault. (fault ≡ PolicyFault.WrongType number) × (as_str (view value.entry.now) ≡ None)) }
 {
     match value {
         Value::String(text) => Ok(text.as_str()),
@@ -88,7 +91,9 @@ fn read_name(
     earlier: &[Rule],
     keys: &Table,
 ) -> Result<String, PolicyFault>
-    ensures { ReadsInMemory result (name_refusal number (names_of earlier.now) (get_member (codes "name") (table_view keys.now))) (λ name. string_bytes name ≡ text_at (codes "name") (table_view keys.now)) }
+    ensures { ReadsInMemory result
+        (name_refusal number (names_of earlier.now) (get_member (codes "name") (table_view keys.now)))
+        (λ name. string_bytes name ≡ text_at (codes "name") (table_view keys.now)) }
 {
     let Some(value) = at(keys, "name") else {
         return Err(PolicyFault::BadValue(number));
@@ -112,7 +117,9 @@ fn is_among(rules: &[Rule], name: &str) -> bool
 
 /// Whether the rule allows.
 fn read_effect(number: usize, keys: &Table) -> Result<bool, PolicyFault>
-    ensures { Reads result (effect_refusal number (get_member (codes "effect") (table_view keys.now))) (λ allows. allows ≡ allows_at (table_view keys.now)) }
+    ensures { Reads result
+        (effect_refusal number (get_member (codes "effect") (table_view keys.now)))
+        (λ allows. allows ≡ allows_at (table_view keys.now)) }
 {
     let Some(value) = at(keys, "effect") else {
         return Err(PolicyFault::BadValue(number));
@@ -129,8 +136,10 @@ fn read_texts<'t>(
     keys: &'t Table,
     key: &str,
 ) -> Result<Option<&'t [Value]>, PolicyFault>
-    ensures ok { IfOk result (λ found. MatchOption found (get_member key.now (table_view keys.entry.now) ≡ None) (λ values. IsTextArray number (texts values.now) (get_member key.now (table_view keys.entry.now)))) }
-    ensures refused { IfErr result (λ fault. (test : List ℕ → Bool) → texts_refusal number test (get_member key.now (table_view keys.entry.now)) ≡ Some fault) }
+    ensures ok { IfOk result
+        (λ found. MatchOption found (get_member key.now (table_view keys.entry.now) ≡ None) (λ values. IsTextArray number (texts values.now) (get_member key.now (table_view keys.entry.now)))) }
+    ensures refused { IfErr result
+        (λ fault. (test : List ℕ → Bool) → texts_refusal number test (get_member key.now (table_view keys.entry.now)) ≡ Some fault) }
 {
     let Some(value) = at(keys, key) else {
         return Ok(None);
@@ -158,7 +167,9 @@ fn read_lists(
     number: usize,
     keys: &Table,
 ) -> Result<Option<Vec<String>>, PolicyFault>
-    ensures { ReadsInMemory result (texts_refusal number is_name (get_member (codes "lists") (table_view keys.now))) (λ lists. option_map (λ v. map string_bytes v.items) lists ≡ option_map texts_in (get_member (codes "lists") (table_view keys.now))) }
+    ensures { ReadsInMemory result
+        (texts_refusal number is_name (get_member (codes "lists") (table_view keys.now)))
+        (λ lists. option_map (λ v. map string_bytes v.items) lists ≡ option_map texts_in (get_member (codes "lists") (table_view keys.now))) }
 {
     match read_texts(number, keys, "lists")? {
         Some(values) => Ok(Some(names_among(alloc, number, values)?)),
@@ -168,7 +179,9 @@ fn read_lists(
 
 /// The texts among some values, each of which is to be a name.
 fn names_among(alloc: Global, number: usize, values: &[Value]) -> Result<Vec<String>, PolicyFault>
-    ensures { ReadsInMemory result (refuse (PolicyFault.BadValue number) (not (list_all is_name (texts values.now)))) (λ names. map string_bytes names.items ≡ texts values.now) }
+    ensures { ReadsInMemory result
+        (refuse (PolicyFault.BadValue number) (not (list_all is_name (texts values.now))))
+        (λ names. map string_bytes names.items ≡ texts values.now) }
 {
     let mut names = Vec::new(alloc);
     for value in values {
@@ -188,7 +201,9 @@ fn read_words<W: Word>(
     keys: &Table,
     key: &str,
 ) -> Result<Option<Vec<W>>, PolicyFault>
-    ensures { ReadsInMemory result (texts_refusal number (λ word. is_some (W.named word)) (get_member key.now (table_view keys.now))) (λ words. option_map (λ v. v.items) words ≡ option_map (λ d. filter_map W.named (texts_in d)) (get_member key.now (table_view keys.now))) }
+    ensures { ReadsInMemory result
+        (texts_refusal number (λ word. is_some (W.named word)) (get_member key.now (table_view keys.now)))
+        (λ words. option_map (λ v. v.items) words ≡ option_map (λ d. filter_map W.named (texts_in d)) (get_member key.now (table_view keys.now))) }
 {
     match read_texts(number, keys, key)? {
         Some(values) => Ok(Some(words_among(alloc, number, values)?)),
@@ -202,7 +217,9 @@ fn words_among<W: Word>(
     number: usize,
     values: &[Value],
 ) -> Result<Vec<W>, PolicyFault>
-    ensures { ReadsInMemory result (refuse (PolicyFault.BadValue number) (not (list_all (λ word. is_some (W.named word)) (texts values.now)))) (λ words. words.items ≡ filter_map W.named (texts values.now)) }
+    ensures { ReadsInMemory result
+        (refuse (PolicyFault.BadValue number) (not (list_all (λ word. is_some (W.named word)) (texts values.now))))
+        (λ words. words.items ≡ filter_map W.named (texts values.now)) }
 {
     let mut words = Vec::new(alloc);
     for value in values {
@@ -217,7 +234,9 @@ fn words_among<W: Word>(
 }
 
 fn read_embargo(number: usize, keys: &Table) -> Result<Option<bool>, PolicyFault>
-    ensures { Reads result (embargo_refusal number (get_member (codes "embargo") (table_view keys.now))) (λ on. on ≡ option_and_then as_bool (get_member (codes "embargo") (table_view keys.now))) }
+    ensures { Reads result
+        (embargo_refusal number (get_member (codes "embargo") (table_view keys.now)))
+        (λ on. on ≡ option_and_then as_bool (get_member (codes "embargo") (table_view keys.now))) }
 {
     let Some(value) = at(keys, "embargo") else {
         return Ok(None);
@@ -229,7 +248,9 @@ fn read_embargo(number: usize, keys: &Table) -> Result<Option<bool>, PolicyFault
 }
 
 fn read_age(number: usize, keys: &Table) -> Result<Option<u16>, PolicyFault>
-    ensures { Reads result (age_refusal number (get_member (codes "age_min") (table_view keys.now))) (λ days. days ≡ option_map unsigned_abs (option_and_then as_integer (get_member (codes "age_min") (table_view keys.now)))) }
+    ensures { Reads result
+        (age_refusal number (get_member (codes "age_min") (table_view keys.now)))
+        (λ days. days ≡ option_map unsigned_abs (option_and_then as_integer (get_member (codes "age_min") (table_view keys.now)))) }
 {
     let Some(value) = at(keys, "age_min") else {
         return Ok(None);
@@ -242,7 +263,9 @@ fn read_age(number: usize, keys: &Table) -> Result<Option<u16>, PolicyFault>
 }
 
 fn read_day(number: usize, keys: &Table, key: &str) -> Result<Option<Day>, PolicyFault>
-    ensures { Reads result (day_refusal number (get_member key.now (table_view keys.now))) (λ day. day ≡ day_in (get_member key.now (table_view keys.now))) }
+    ensures { Reads result
+        (day_refusal number (get_member key.now (table_view keys.now)))
+        (λ day. day ≡ day_in (get_member key.now (table_view keys.now))) }
 {
     let Some(value) = at(keys, key) else {
         return Ok(None);

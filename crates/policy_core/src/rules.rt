@@ -1,10 +1,10 @@
 //! Policies and their verdicts.
-ghost use Rattle.std.specs.Prelude.{◌≡◌, ◌≢◌, ◌∷◌, [], ◌&&◌, pos, int_le, bytes_eq, Ok, Err, IfOk, IfErr};
-ghost use Rattle.std.specs.List.{list_any};
+ghost use Rattle.std.specs.Prelude.{◌≡◌, ◌≢◌, ◌∷◌, [], ◌&&◌, pos, int_le, bytes_eq, codes, Ok, Err, IfOk, IfErr};
+ghost use Rattle.std.specs.List.{list_any, AllByRecursion};
 ghost use Rattle.policy_core.specs.Facts.{is_embargoed, age, same_standing, same_withdrawal};
-ghost use Rattle.policy_core.specs.Rules.{open_rule, fits, fits_reader, fits_message, holds, same_bool};
+ghost use Rattle.policy_core.specs.Rules.{Rule as Stated, open_rule, fits, fits_reader, fits_message, holds, same_bool};
 ghost use Rattle.policy_core.specs.Written.{written_policy, is_after};
-ghost use Rattle.policy_core.specs.Verdict.{ruling, ruling_by, verdict_of};
+ghost use Rattle.policy_core.specs.Verdict.{Fits, IsDecidedBy, denied, ruling, ruling_by, verdict_of};
 
 use crate::access::{Facts, Standing, Verdict, Withdrawn};
 use crate::faults::PolicyFault;
@@ -84,7 +84,9 @@ impl Policy {
 
     /// What the first rule that fits says, with its name; where none fits, a denial by `default`.
     pub fn verdict(&self, facts: &Facts) -> Verdict<'_>
-        ensures { ruling result ≡ verdict_of self.now facts.now }
+        ensures value { ruling result ≡ verdict_of self.now facts.now }
+        ensures decided { (rule : Stated) → IsDecidedBy self.now facts.now rule → ruling result ≡ ruling_by rule }
+        ensures undecided { AllByRecursion (λ rule. ¬ Fits rule facts.now) self.now → ruling result ≡ denied (codes "default") }
     {
         match &self.rules {
             Rules::Open => Verdict::Allowed("open"),

@@ -320,12 +320,49 @@ fn numbered<'a>(number: usize) -> Mail<'a> {
     }
 }
 
-/// Whether the threads are those of the RFC's walk.
+/// Whether each place stands in one row, and no other place does.
+fn has_each_place_once(rows: &[Row], count: usize) -> bool {
+    (0..count).all(|place| rows.iter().filter(|row| row.place == Some(place)).count() == 1)
+        && rows
+            .iter()
+            .all(|row| row.place.is_none_or(|place| place < count))
+}
+
+/// The sent date and the place of a row; those of its first child for a dummy.
+fn key(entries: &[Entry], rows: &[Row], at: usize) -> (i64, usize) {
+    let own = rows.get(at).and_then(|row| row.place);
+    let child = rows.iter().skip(at).find_map(|row| row.place);
+    let place = own.or(child).unwrap_or(0);
+    (
+        entries.get(place).map_or(0, |entry| entry.sent.seconds()),
+        place,
+    )
+}
+
+/// Whether each row stands before its next sibling by key.
+fn siblings_rise(entries: &[Entry], rows: &[Row]) -> bool {
+    (0..rows.len()).all(|at| {
+        let depth = rows[at].depth;
+        match (at + 1..rows.len()).find(|next| rows[*next].depth <= depth) {
+            Some(next) if rows[next].depth == depth => {
+                key(entries, rows, at) < key(entries, rows, next)
+            }
+            _ => true,
+        }
+    })
+}
+
+/// Whether the threads are those of the RFC's walk, hold each message once and have their siblings
+/// in order.
 fn is_as_walked(alloc: Global, mails: &[Mail<'_>]) -> Result<bool, Fail> {
     let entries = entries(alloc, mails)?;
     let rows = threads(alloc, &PlainThreader, &entries)?;
     let walked = walked_threads(alloc, &entries)?;
-    Ok(rows.as_slice() == walked.as_slice())
+    Ok(
+        rows.as_slice() == walked.as_slice()
+            && has_each_place_once(&rows, entries.len())
+            && siblings_rise(&entries, &rows),
+    )
 }
 
 #[test]

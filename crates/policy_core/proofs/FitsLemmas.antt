@@ -1,0 +1,164 @@
+-- The test of a rule and what it says in words.
+use Rattle.std.proofs.Common.{◌≡◌, ◌∙◌, ℕ, ℤ, pos, Bool, true, false, ◌&&◌, T, List, [], ◌∷◌, ◌++◌, Option, Some, None, refl, sym, subst, arith}
+use Rattle.std.specs.Prelude.{codes, bytes_eq, Contains, int_le, ◌≤ℤ◌, filter}
+use Rattle.std.specs.List.{list_any, slice_index_or, AllByRecursion}
+use Rattle.std.specs.Option.{ForSome}
+use Rattle.std.specs.Int.Signed.{le_z_yes}
+use Rattle.std.proofs.lemmas.Bool.{and_parts}
+use Rattle.std.proofs.lemmas.Slice.Eq.{bytes_eq-Decides}
+use Rattle.std.proofs.lemmas.List.Folds.{Any-from_list_any, list_any-from_Any}
+use Rattle.policy_core.specs.declared.access.Standing.{Standing}
+use Rattle.policy_core.specs.declared.access.Standing.TheVariants.{Public, Member, Subscriber, Moderator}
+use Rattle.policy_core.specs.declared.access.Withdrawn.{Withdrawn}
+use Rattle.policy_core.specs.declared.access.Withdrawn.TheVariants.{No, Author, Board}
+use Rattle.policy_core.specs.Facts.{Facts, is_embargoed, age, same_standing, same_withdrawal}
+use Rattle.policy_core.specs.Rules.{Rule, open_rule, holds, same_bool, fits}
+use Rattle.policy_core.specs.Verdict.{Fits, IsDecidedBy, allowed, denied, ruling_by, verdict_of}
+
+-- ---- one condition
+
+pub ForSome-from_holds : {A : Type 0} (test : A → Bool) (P : A → Type 0) → ((a : A) → test a ≡ true → P a) → (o : Option A) → holds o test ≡ true → ForSome o P
+ForSome-from_holds test P says None h = λ x is. absurd (cc)
+ForSome-from_holds test P says (Some a) h = λ x is. let same : a ≡ x = cc in subst P same (says a h)
+
+pub holds-from_ForSome : {A : Type 0} (test : A → Bool) (P : A → Type 0) → ((a : A) → P a → test a ≡ true) → (o : Option A) → ForSome o P → holds o test ≡ true
+holds-from_ForSome test P says None h = refl
+holds-from_ForSome test P says (Some a) h = says a (h a refl)
+
+pub Contains-from_any : {X : Type 0} (eq : X → X → Bool) → ((a b : X) → eq a b ≡ true → a ≡ b) → (x : X) (xs : List X) → list_any (λ y. eq y x) xs ≡ true → Contains xs x
+Contains-from_any eq sound x xs h =
+    let found = Any-from_list_any (λ y. eq y x) xs h in
+    (found.0, found.2, subst (λ z. slice_index_or xs found.0 z ≡ z) (sound found.1 x found.4) found.3)
+
+pub any-from_Contains : {X : Type 0} (eq : X → X → Bool) → ((a : X) → eq a a ≡ true) → (x : X) (xs : List X) → Contains xs x → list_any (λ y. eq y x) xs ≡ true
+any-from_Contains eq itself x xs h = list_any-from_Any (λ y. eq y x) xs (h.0, x, h.1, h.2, itself x)
+
+same_standing-is : (a b : Standing) → same_standing a b ≡ true → a ≡ b
+same_standing-is Public Public h = refl
+same_standing-is Member Member h = refl
+same_standing-is Subscriber Subscriber h = refl
+same_standing-is Moderator Moderator h = refl
+same_standing-is Public Member h = cc
+same_standing-is Public Subscriber h = cc
+same_standing-is Public Moderator h = cc
+same_standing-is Member Public h = cc
+same_standing-is Member Subscriber h = cc
+same_standing-is Member Moderator h = cc
+same_standing-is Subscriber Public h = cc
+same_standing-is Subscriber Member h = cc
+same_standing-is Subscriber Moderator h = cc
+same_standing-is Moderator Public h = cc
+same_standing-is Moderator Member h = cc
+same_standing-is Moderator Subscriber h = cc
+
+same_standing-itself : (a : Standing) → same_standing a a ≡ true
+same_standing-itself Public = refl
+same_standing-itself Member = refl
+same_standing-itself Subscriber = refl
+same_standing-itself Moderator = refl
+
+same_withdrawal-is : (a b : Withdrawn) → same_withdrawal a b ≡ true → a ≡ b
+same_withdrawal-is No No h = refl
+same_withdrawal-is Author Author h = refl
+same_withdrawal-is Board Board h = refl
+same_withdrawal-is No Author h = cc
+same_withdrawal-is No Board h = cc
+same_withdrawal-is Author No h = cc
+same_withdrawal-is Author Board h = cc
+same_withdrawal-is Board No h = cc
+same_withdrawal-is Board Author h = cc
+
+same_withdrawal-itself : (a : Withdrawn) → same_withdrawal a a ≡ true
+same_withdrawal-itself No = refl
+same_withdrawal-itself Author = refl
+same_withdrawal-itself Board = refl
+
+same_bool-is : (a b : Bool) → same_bool a b ≡ true → a ≡ b
+same_bool-is true true h = refl
+same_bool-is false false h = refl
+same_bool-is true false h = cc
+same_bool-is false true h = cc
+
+same_bool-itself : (a b : Bool) → a ≡ b → same_bool a b ≡ true
+same_bool-itself true true h = refl
+same_bool-itself false false h = refl
+same_bool-itself true false h = cc
+same_bool-itself false true h = cc
+
+le-from_int_le : (a b : ℤ) → int_le a b ≡ true → a ≤ℤ b
+le-from_int_le a b h = le_z_yes (subst (λ t. T t) (sym h) tt)
+
+T_true : (b : Bool) → T b → b ≡ true
+T_true true h = refl
+T_true false h = absurd h
+
+int_le-from_le : (a b : ℤ) → a ≤ℤ b → int_le a b ≡ true
+int_le-from_le a b h = T_true (int_le a b) h.le
+
+bytes_eq-is : (a b : List ℕ) → bytes_eq a b ≡ true → a ≡ b
+bytes_eq-is a b h = grind (arith, bytes_eq-Decides)
+
+bytes_eq-itself : (a : List ℕ) → bytes_eq a a ≡ true
+bytes_eq-itself a = grind (arith, bytes_eq-Decides)
+
+-- ---- all conditions
+
+pub Fits-from_fits : (r : Rule) (f : Facts) → fits r f ≡ true → Fits r f
+Fits-from_fits r f h =
+    let parts = and_parts _ _ h in
+    let front = and_parts _ _ parts.0 in
+    let reader = and_parts _ _ front.0 in
+    let message = and_parts _ _ front.1 in
+    let state = and_parts _ _ message.0 in
+    let day = and_parts _ _ parts.1 in
+    record {
+      list = ForSome-from_holds _ _ (λ names. Contains-from_any bytes_eq bytes_eq-is f.list names) r.lists reader.0;
+      standing = ForSome-from_holds _ _ (λ standings. Contains-from_any same_standing same_standing-is f.standing standings) r.standings reader.1;
+      withdrawal = ForSome-from_holds _ _ (λ withdrawals. Contains-from_any same_withdrawal same_withdrawal-is f.withdrawn withdrawals) r.withdrawn state.0;
+      embargo = ForSome-from_holds _ _ (λ on. same_bool-is on (is_embargoed f)) r.embargo state.1;
+      age = ForSome-from_holds _ _ (λ least. le-from_int_le (pos least) (age f)) r.age_min message.1;
+      from = ForSome-from_holds _ _ (λ first. le-from_int_le first f.day) r.from day.0;
+      until = ForSome-from_holds _ _ (λ last. le-from_int_le f.day last) r.until day.1;
+    }
+
+both : (a b : Bool) → a ≡ true → b ≡ true → (a && b) ≡ true
+both a b h k = rw (h, k) refl
+
+pub fits-from_Fits : (r : Rule) (f : Facts) → Fits r f → fits r f ≡ true
+fits-from_Fits r f h =
+    both _ _
+    (both _ _
+    (both _ _
+    (holds-from_ForSome _ _ (λ names. any-from_Contains bytes_eq bytes_eq-itself f.list names) r.lists h.list)
+    (holds-from_ForSome _ _ (λ standings. any-from_Contains same_standing same_standing-itself f.standing standings) r.standings h.standing))
+    (both _ _
+    (both _ _
+    (holds-from_ForSome _ _ (λ withdrawals. any-from_Contains same_withdrawal same_withdrawal-itself f.withdrawn withdrawals) r.withdrawn h.withdrawal)
+    (holds-from_ForSome _ _ (λ on. same_bool-itself on (is_embargoed f)) r.embargo h.embargo))
+    (holds-from_ForSome _ _ (λ least. int_le-from_le (pos least) (age f)) r.age_min h.age)))
+    (both _ _
+    (holds-from_ForSome _ _ (λ first. int_le-from_le first f.day) r.from h.from)
+    (holds-from_ForSome _ _ (λ last. int_le-from_le f.day last) r.until h.until))
+
+misfit : (r : Rule) (f : Facts) → ¬ Fits r f → (b : Bool) → fits r f ≡ b → fits r f ≡ false
+misfit r f none true is = absurd (none (Fits-from_fits r f is))
+misfit r f none false is = is
+
+-- ---- which rule decides
+
+decided-front : (before after : List Rule) (r : Rule) (f : Facts) → AllByRecursion (λ q. ¬ Fits q f) before → Fits r f
+    → verdict_of (before ++ r ∷ after) f ≡ ruling_by r
+decided-front [] after r f none fit = rw (fits-from_Fits r f fit) refl
+decided-front (q ∷ before) after r f none fit = rw (misfit q f none.0 _ refl) (decided-front before after r f none.1 fit)
+
+pub decided : (rules : List Rule) (r : Rule) (f : Facts) → IsDecidedBy rules f r → verdict_of rules f ≡ ruling_by r
+decided rules r f h = rw h.stand (decided-front h.before h.after r f h.none h.fit)
+
+pub undecided : (rules : List Rule) (f : Facts) → AllByRecursion (λ q. ¬ Fits q f) rules → verdict_of rules f ≡ denied (codes "default")
+undecided [] f none = refl
+undecided (q ∷ rules) f none = rw (misfit q f none.0 _ refl) (undecided rules f none.1)
+
+pub decided-open : (rules : List Rule) (r : Rule) (f : Facts) → rules ≡ open_rule ∷ [] → IsDecidedBy rules f r → allowed (codes "open") ≡ ruling_by r
+decided-open rules r f is h =
+    let value : allowed (codes "open") ≡ verdict_of rules f = rw is refl in
+    value ∙ decided rules r f h
