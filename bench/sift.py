@@ -81,12 +81,11 @@ def main():
                 best[name] = (min(least, seconds), max(most, peak))
 
     print(f"{size / 1e6:.0f} MB, best of {asked.rounds} rounds in turn")
-    print(f"{'program':46} {'seconds':>8} {'of cat':>7} {'peak MB':>8} {'over input':>11}")
+    print(f"{'program':46} {'seconds':>8} {'of cat':>7} {'peak MB':>8}")
     base = best["cat"][0]
     for name, _ in rows:
         seconds, peak = best[name]
-        megabytes = peak * 1024 / 1e6
-        print(f"{name:46} {seconds:8.2f} {seconds / base:7.2f} {megabytes:8.0f} {megabytes - size / 1e6:11.0f}")
+        print(f"{name:46} {seconds:8.2f} {seconds / base:7.2f} {peak * 1024 / 1e6:8.0f}")
 
 
 if __name__ == "__main__":

@@ -1,2 +1,3 @@
 pub mod OrderLemmas
 pub mod SiftLemmas
+pub mod SiftExamples
