@@ -1,6 +1,6 @@
 -- The test of a rule and what it says in words.
 use Rattle.std.proofs.Common.{◌≡◌, ◌∙◌, ℕ, ℤ, pos, Bool, true, false, ◌&&◌, T, List, [], ◌∷◌, ◌++◌, Option, Some, None, refl, sym, subst, arith}
-use Rattle.std.specs.Prelude.{codes, bytes_eq, Contains, int_le, ◌≤ℤ◌, filter}
+use Rattle.std.specs.Prelude.{codes, bytes_eq, Contains, int_le, ◌≤ℤ◌}
 use Rattle.std.specs.List.{list_any, slice_index_or, AllByRecursion}
 use Rattle.std.specs.Option.{ForSome}
 use Rattle.std.specs.Int.Signed.{le_z_yes}

@@ -1,3 +1,4 @@
+mod FaultLemmas
 mod FitsLemmas
 mod ListLemmas
 mod RuleLemmas

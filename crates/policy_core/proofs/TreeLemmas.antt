@@ -1,9 +1,9 @@
 -- A tree's values beside those of the program.
-use Rattle.std.proofs.Common.{◌≡◌, ℕ, suc, ◌+◌, ◌<◌, ◌≤◌, ◌++◌, get_or, drop, append_assoc, arith, Bool, true, false, not, ◌&&◌, List, [], ◌∷◌, Option, Some, None, option_map, String, Global, refl, sym, ◌∙◌, ap, map, length, string_bytes}
+use Rattle.std.proofs.Common.{◌≡◌, ℕ, suc, ◌+◌, ◌<◌, ◌≤◌, ◌++◌, get_or, drop, append_assoc, arith, Bool, true, false, not, ◌&&◌, List, [], ◌∷◌, Option, Some, None, String, Global, refl, sym, ◌∙◌, ap, map, length, string_bytes}
 use Rattle.std.proofs.lemmas.Bool.{lt-ltb}
 use Rattle.std.proofs.lemmas.Bool.Decides.{nat_tests}
 use Rattle.std.proofs.lemmas.List.{drop_more, length-map, length-append, map-append}
-use Rattle.std.specs.Prelude.{codes, filter_map, is_some, bytes_eq, nat_lt, ◌||◌}
+use Rattle.std.specs.Prelude.{codes, bytes_eq, nat_lt, ◌||◌}
 use Rattle.std.specs.List.{list_all, list_any}
 use Rattle.policy_core.specs.Names.{is_name}
 use Rattle.toml.specs.Data.{Data, Members, string, integer, float, boolean, datetime, array, table, Items, get_member, as_array, as_str, as_table}
@@ -13,7 +13,7 @@ use Rattle.policy_core.specs.declared.faults.PolicyFault.{PolicyFault}
 use Rattle.policy_core.specs.declared.faults.PolicyFault.TheVariants.{WrongType, BadName, DuplicateName, BadValue, TooManyRules}
 use Rattle.policy_core.specs.Reading.{IsTextArray, texts, tables, names_of}
 use Rattle.policy_core.specs.Rules.{Rule}
-use Rattle.policy_core.specs.Written.{keys_of, values_of, values_in, rule_values, tables_of, is_text, is_table, is_array_of, refuse, fails, first_of, name_refusal, texts_refusal, texts_in, text_at, rule_refusal, rules_refusal, rule_of, tree_refusal}
+use Rattle.policy_core.specs.Written.{keys_of, values_of, rule_values, tables_of, is_text, is_table, is_array_of, refuse, fails, first_of, name_refusal, texts_refusal, text_at, rule_refusal, rules_refusal, rule_of, tree_refusal}
 
 -- the keys of a map, and those of its tree
 pub keys_of-view : (test : List ℕ → Bool) (es : List (String Global × Value))

@@ -1,10 +1,10 @@
 -- Worked examples of verdicts. Day 12115 is 2003-03-04, and day 12143 is 2003-04-01.
-use Rattle.std.proofs.Common.{◌≡◌, ℕ, ℤ, pos, negsuc, List, [], ◌∷◌, Option, Some, None, true, false, refl, codes}
+use Rattle.std.proofs.Common.{◌≡◌, ℕ, pos, negsuc, List, [], ◌∷◌, Some, None, true, false, refl, codes}
 use Rattle.policy_core.specs.declared.access.Standing.TheVariants.{Public, Member, Subscriber, Moderator}
 use Rattle.policy_core.specs.declared.access.Withdrawn.TheVariants.{No, Author, Board}
 use Rattle.policy_core.specs.Facts.{Facts, is_embargoed, age}
 use Rattle.policy_core.specs.Rules.{Rule, fits, open_rule}
-use Rattle.policy_core.specs.Verdict.{Ruling, allowed, denied, verdict_of}
+use Rattle.policy_core.specs.Verdict.{allowed, denied, verdict_of}
 
 -- a message of the list `soc` that arrived on 2003-03-04, asked for by the public on 2003-03-20
 abbrev asked : Facts

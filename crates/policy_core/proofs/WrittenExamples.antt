@@ -1,12 +1,12 @@
 -- Worked examples of written policies, as trees and as texts.
-use Rattle.std.proofs.Common.{◌≡◌, ℕ, zero, suc, ℤ, pos, negsuc, List, [], ◌∷◌, Option, Some, None, Result, Ok, Err, true, false, refl, codes}
-use Rattle.toml.specs.Data.{Data, string, integer, boolean, array, table, Items, no_items, item, Members, no_members, member}
+use Rattle.std.proofs.Common.{◌≡◌, ℕ, zero, suc, pos, [], ◌∷◌, Some, Ok, Err, true, false, refl, codes}
+use Rattle.toml.specs.Data.{string, integer, array, table, Items, no_items, item, Members, no_members, member}
 use Rattle.toml.proofs.OnLiterals.{toml_on_literals}
-use Rattle.policy_core.specs.declared.access.Standing.TheVariants.{Public, Member, Subscriber, Moderator}
-use Rattle.policy_core.specs.declared.access.Withdrawn.TheVariants.{No, Author, Board}
+use Rattle.policy_core.specs.declared.access.Standing.TheVariants.{Public}
+use Rattle.policy_core.specs.declared.access.Withdrawn.TheVariants.{Author, Board}
 use Rattle.policy_core.specs.declared.faults.PolicyFault.TheVariants.{NotToml, UnknownKey, WrongType, BadName, DuplicateName, BadValue, TooManyRules}
 use Rattle.policy_core.specs.Names.{is_name}
-use Rattle.policy_core.specs.Rules.{Rule, open_rule}
+use Rattle.policy_core.specs.Rules.{open_rule}
 use Rattle.policy_core.specs.Written.{name_refusal, effect_refusal, texts_refusal, embargo_refusal, age_refusal, day_refusal, rule_refusal, rule_of, rules_refusal, tree_refusal, policy_of, written_policy}
 use Rattle.std.specs.Prelude.{⊤}
 use Rattle.mail_core.specs.Calendar.{days_before_year, days_of_months}

@@ -1,5 +1,5 @@
 -- What a reader of a key's value answers, beside the definitions of `Written`.
-use Rattle.std.specs.Prelude.{◌≡◌, ◌≢◌, ℕ, List, Bool, not, map, option_map, filter_map, Option, Some, None, Result, MatchResult, unwrap_or, option_and_then}
+use Rattle.std.specs.Prelude.{◌≡◌, ◌≢◌, ℕ, List, Bool, not, map, option_map, filter_map, Option, Some, None, Result, MatchResult}
 use Rattle.std.specs.List.{list_all}
 use Rattle.toml.specs.Data.{Data, Members, as_str, as_table}
 use Rattle.toml.specs.View.{view}

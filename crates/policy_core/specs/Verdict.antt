@@ -1,5 +1,5 @@
 -- The verdict of a list of rules: the first rule that fits decides.
-use Rattle.std.specs.Prelude.{◌≡◌, ℕ, pos, ◌≤ℤ◌, Contains, ◌++◌, List, [], ◌∷◌, filter, codes, Bool, if◌then◌else◌}
+use Rattle.std.specs.Prelude.{◌≡◌, ℕ, pos, ◌≤ℤ◌, Contains, ◌++◌, List, [], ◌∷◌, filter, codes, if◌then◌else◌}
 use Rattle.policy_core.specs.declared.access.Verdict.{Verdict}
 use Rattle.policy_core.specs.declared.access.Verdict.TheVariants.{Allowed, Denied}
 use Rattle.std.specs.List.{AllByRecursion}

@@ -1,7 +1,7 @@
 //! Names.
 ghost use Rattle.std.specs.Prelude.{◌≡◌};
 ghost use Rattle.std.specs.List.{list_all};
-ghost use Rattle.policy_core.specs.Names.{is_name, is_letter, is_name_byte};
+ghost use Rattle.policy_core.specs.Names.{is_name, is_name_byte};
 
 /// Whether a text is a name of a list or of a rule: 1 to 40 bytes of `a` to `z`, `0` to `9` and `-`, the first a letter.
 pub fn is_name(text: &str) -> bool

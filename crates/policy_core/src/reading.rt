@@ -1,6 +1,6 @@
 //! Reading a written policy.
-ghost use Rattle.std.specs.Prelude.{◌≡◌, ◌≢◌, true, [], ℕ, List, Some, None, Ok, Err, IfOk, IfErr, map, option_map, option_and_then, bytes_eq, codes};
-ghost use Rattle.std.specs.List.{list_all, list_any};
+ghost use Rattle.std.specs.Prelude.{◌≡◌, ◌≢◌, [], Some, Ok, Err, IfOk, IfErr, map, bytes_eq, codes};
+ghost use Rattle.std.specs.List.{list_all};
 ghost use Rattle.toml.specs.Data.{get_member};
 ghost use Rattle.toml.specs.View.{view, table_view};
 ghost use Rattle.policy_core.specs.Reading.{Reads, ReadsInMemory, tables};

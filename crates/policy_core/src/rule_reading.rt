@@ -1,13 +1,12 @@
 //! Reading a rule: its keys, in the order in which they are tested.
-ghost use Rattle.std.specs.Prelude.{◌≡◌, ◌≢◌, ℕ, List, Bool, Some, None, Ok, Err, IfOk, IfErr, MatchOption, map, not, filter_map, option_map, option_and_then, unsigned_abs, is_some, bytes_eq, codes, string_bytes};
+ghost use Rattle.std.specs.Prelude.{◌≡◌, ℕ, List, Bool, Some, None, Ok, Err, IfOk, IfErr, MatchOption, map, not, filter_map, option_map, option_and_then, unsigned_abs, is_some, bytes_eq, codes, string_bytes};
 ghost use Rattle.std.specs.List.{list_all, list_any};
 ghost use Rattle.toml.specs.Data.{get_member, as_str, as_integer, as_bool};
 ghost use Rattle.toml.specs.View.{view, table_view};
 ghost use Rattle.policy_core.specs.Names.{is_name};
 ghost use Rattle.policy_core.specs.Reading.{Reads, ReadsInMemory, IsTextArray, texts, names_of};
-ghost use Rattle.policy_core.specs.Written.{allows_at, is_rule_key, keys_of, texts_in, text_at, day_in, refuse, is_text, is_after, name_refusal, effect_refusal, texts_refusal, embargo_refusal, age_refusal, day_refusal, rule_refusal, rule_of, standing_named, withdrawal_named};
+ghost use Rattle.policy_core.specs.Written.{allows_at, is_rule_key, keys_of, texts_in, text_at, day_in, refuse, is_text, name_refusal, effect_refusal, texts_refusal, embargo_refusal, age_refusal, day_refusal, rule_refusal, rule_of};
 
-use crate::access::{Standing, Withdrawn};
 use crate::faults::PolicyFault;
 use crate::names::is_name;
 use crate::rules::Rule;

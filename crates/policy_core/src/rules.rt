@@ -1,6 +1,7 @@
 //! Policies and their verdicts.
-ghost use Rattle.std.specs.Prelude.{◌≡◌, ◌≢◌, ◌∷◌, [], ◌&&◌, pos, int_le, bytes_eq, codes, Ok, Err, IfOk, IfErr};
+ghost use Rattle.std.specs.Prelude.{◌≡◌, ◌≢◌, ◌∷◌, [], ◌&&◌, pos, int_le, bytes_eq, codes, Ok, Err, None, IfOk, IfErr, IsErr};
 ghost use Rattle.std.specs.List.{list_any, AllByRecursion};
+ghost use Rattle.toml.specs.Parse.{parse_document};
 ghost use Rattle.policy_core.specs.Facts.{is_embargoed, age, same_standing, same_withdrawal};
 ghost use Rattle.policy_core.specs.Rules.{Rule as Stated, open_rule, fits, fits_reader, fits_message, holds, same_bool};
 ghost use Rattle.policy_core.specs.Written.{written_policy, is_after};
@@ -75,6 +76,8 @@ impl Policy {
     pub fn read(alloc: Global, text: &str) -> Result<Policy, PolicyFault>
         ensures ok { IfOk result (λ policy. written_policy text.now ≡ Ok policy) }
         ensures refused { IfErr result (λ fault. fault ≢ PolicyFault.Memory → written_policy text.now ≡ Err fault) }
+        ensures not_toml { result ≡ Err PolicyFault.NotToml → parse_document text.now ≡ None }
+        ensures no_tree { parse_document text.now ≡ None → IsErr result }
     {
         let rules = read_policy(alloc, text)?;
         Ok(Policy {

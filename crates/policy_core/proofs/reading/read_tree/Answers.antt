@@ -1,6 +1,5 @@
 use Rattle.std.proofs.Common.{refl, sym}
 use Rattle.std.proofs.lemmas.Result.{err_from_is_err_and}
-use Rattle.std.proofs.lemmas.Bool.{lt-ltb}
 use Rattle.policy_core.specs.Written.{tree_refusal}
 use Rattle.policy_core.proofs.TreeLemmas.{tree_rules, too_many}
 use Rattle.policy_core.proofs.reading.read_tree.Goals as goal

@@ -1,7 +1,7 @@
 use Rattle.std.proofs.Common.{◌≡◌, pos, true, false, refl, ap, Some, rules, tests, w64}
 use Rattle.std.specs.Prelude.{unsigned_abs, int_le}
 use Rattle.std.proofs.lemmas.Int.{to_z-of_z}
-use Rattle.policy_core.specs.Written.{age_refusal, is_age}
+use Rattle.policy_core.specs.Written.{age_refusal}
 use Rattle.policy_core.proofs.rule_reading.read_age.Goals as goal
 
 pub returns-in_default : goal.returns-in_default

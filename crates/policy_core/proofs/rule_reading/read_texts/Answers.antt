@@ -1,5 +1,4 @@
-use Rattle.std.proofs.Common.{refl, ◌≡◌, ◌∙◌, sym, ap, Some, None, Option, rules, tests}
-use Rattle.toml.specs.Data.{array, as_array}
+use Rattle.std.proofs.Common.{◌∙◌, sym, ap, Some, rules, tests}
 use Rattle.toml.specs.View.{view}
 use Rattle.policy_core.proofs.TreeLemmas.{text_array, no_texts, empty_texts, no_array, as_array-Some}
 use Rattle.policy_core.proofs.rule_reading.read_texts.Goals as goal

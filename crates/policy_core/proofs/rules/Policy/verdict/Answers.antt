@@ -1,7 +1,6 @@
 use Rattle.std.proofs.Common.{rules, tests, ◌∙◌, sym, ap}
 use Rattle.std.proofs.lemmas.Iterator.{YieldsList-from_slice}
 use Rattle.std.proofs.lemmas.Iterator.Search.{find_from_yields_List}
-use Rattle.std.specs.Option.{option_map}
 use Rattle.policy_core.specs.Rules.{fits}
 use Rattle.policy_core.specs.Seen.{rules_of}
 use Rattle.policy_core.proofs.FitsLemmas.{decided, decided-open, undecided}
