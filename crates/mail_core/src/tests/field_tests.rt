@@ -14,7 +14,7 @@ fn a_block_that_is_no_field_is_passed_over(rt: HostRuntime) -> Result<(), Fail> 
     assert_eq!(rt; field.name, b"B".as_slice());
     assert_eq!(rt; field.body, b"y\r\n z".as_slice());
     assert!(rt; found.next().is_none());
-    assert_eq!(rt; fields(b"").count(), 0);
+    assert!(rt; fields(b"").next().is_none());
     Ok(())
 }
 
@@ -76,7 +76,11 @@ fn a_million_short_fields_are_counted(rt: HostRuntime) -> Result<(), Fail> {
     for _ in 0..1_000_000 {
         text.extend_from_slice(b"a:\n")?;
     }
-    assert_eq!(rt; fields(&text).count(), 1_000_000);
+    let mut count = 0u32;
+    for _ in fields(&text) {
+        count = count.saturating_add(1);
+    }
+    assert_eq!(rt; count, 1_000_000);
     assert!(rt; first(&text, b"b").is_none());
     Ok(())
 }

@@ -115,22 +115,39 @@ fn hash_of(id: &MsgId) -> u64 {
 }
 
 #[test]
-fn equal_ids_hash_alike_and_copies_are_equal(rt: HostRuntime) -> Result<(), Fail> {
-    let alloc = rt.alloc();
-    let first = id(alloc, b"a", b"b")?;
-    let second = id(alloc, b"a", b"b")?;
-    let other = id(alloc, b"A", b"b")?;
-    let moved = id(alloc, b"ab", b"")?;
+fn ids_are_equal_where_both_sides_are(rt: HostRuntime) -> Result<(), Fail> {
+    let first = id(rt.alloc(), b"a", b"b")?;
+    let second = id(rt.alloc(), b"a", b"b")?;
+    let other = id(rt.alloc(), b"A", b"b")?;
+    let moved = id(rt.alloc(), b"ab", b"")?;
     assert!(rt; first == second);
     assert!(rt; first != other);
     assert!(rt; first != moved);
+    Ok(())
+}
+
+#[test]
+fn equal_ids_hash_alike(rt: HostRuntime) -> Result<(), Fail> {
+    let first = id(rt.alloc(), b"a", b"b")?;
+    let second = id(rt.alloc(), b"a", b"b")?;
     assert_eq!(rt; hash_of(&first), hash_of(&second));
-    let copy = other.try_copy(alloc)?;
-    assert!(rt; copy == other);
+    Ok(())
+}
+
+#[test]
+fn a_copy_of_an_id_is_equal_to_it(rt: HostRuntime) -> Result<(), Fail> {
+    let id = id(rt.alloc(), b"A", b"b")?;
+    let copy = id.try_copy(rt.alloc())?;
     assert_eq!(rt; copy.left(), b"A".as_slice());
-    let octets = Octets::new(Vec::from_slice(alloc, b"xyz")?);
-    let again = octets.try_copy(alloc)?;
-    assert!(rt; octets == again);
-    assert_eq!(rt; again.into_vec().as_slice(), b"xyz".as_slice());
+    assert_eq!(rt; copy.right(), b"b".as_slice());
+    Ok(())
+}
+
+#[test]
+fn octets_give_their_bytes_back(rt: HostRuntime) -> Result<(), Fail> {
+    let octets = Octets::new(Vec::from_slice(rt.alloc(), b"xyz")?);
+    let copy = octets.try_copy(rt.alloc())?;
+    assert!(rt; octets == copy);
+    assert_eq!(rt; copy.into_vec().as_slice(), b"xyz".as_slice());
     Ok(())
 }
