@@ -14,12 +14,12 @@ use Rattle.std.specs.Str.{bytes_eq}
 use Rattle.std.specs.Str.Parse.{AllDigits, IsNumeral, ParsesUnsigned, digits_value, without_leading_plus}
 use Rattle.clap.specs.Words.{Row, Text, first_of, is_simple}
 use Rattle.clap.proofs.OnLiterals.{clap_on_literals}
-use Rattle.archive.specs.Program.{archive_app, sift_app}
+use Rattle.archive.specs.Program.{archive_app, dated_app, sift_app}
 use Rattle.archive.specs.Orders.{is_decimal, age_of_text, sift_of, order_of}
 
 -- the command line is of the kind whose matches `clap` gives as a function of the words
 pub simple : is_simple archive_app ≡ true
-unfolding archive_app sift_app clap_on_literals
+unfolding archive_app sift_app dated_app clap_on_literals
 simple = refl
 
 pub not_true : (b : Bool) → (b ≡ true → ⊥) → b ≡ false
@@ -109,6 +109,10 @@ pub age-too_long : {E : Type 0} (text : List ℕ) (r : Result ℕ E) (e : E) →
     → None ≡ age_of_text text
 unfolding age_of_text
 age-too_long text r e p h is =
-    rw (h, not_true (nat_le (digits_value 10 text) 36500) (λ t. OkIff-at_err r _ _ e p is (numeral text h,
-    rw (unsigned text h) (let low : digits_value 10 text ≤ 36500 = leb-le (digits_value 10 text) 36500 t in omega (arith, low))))) refl
-
+    rw (
+      h,
+      not_true (nat_le (digits_value 10 text) 36500) (λ t. OkIff-at_err r _ _ e p is (
+        numeral text h,
+        rw (unsigned text h) (let low : digits_value 10 text ≤ 36500 = leb-le (digits_value 10 text) 36500 t in omega (arith, low)),
+      )),
+    ) refl

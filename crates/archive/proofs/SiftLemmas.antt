@@ -37,7 +37,7 @@ sent_part old now all left text rest new count k more s e cut m fits =
     let low = (cut fits).0 in
     let out = (cut fits).1 in
     let told : length new ≡ length old + length s.part + k =
-            omega (arith, ap length out, length-append now (take k text), ap length s.out, length-append old s.part, length-take k text, low) in
+    omega (arith, ap length out, length-append now (take k text), ap length s.out, length-append old s.part, length-take k text, low) in
     let exact : more ≡ length s.part + k = omega (arith, m, s.counted, told, fits) in (
       omega (arith, exact, low, ap length s.whole, length-append s.part left, ap length e, length-append text rest),
       out ∙ ap (λ x. x ++ take k text) s.out ∙ append_assoc old s.part (take k text)

@@ -42,7 +42,7 @@ fn run_streams(rt: &HostRuntime, words: &[&str]) -> u8 {
     let mut clock = SystemDay { rt };
     let mut input = Counted::new(rt.reader());
     let mut output = Counted::new(&mut gathered);
-    let status = run(alloc, words, &mut clock, &mut input, &mut output, &mut faults);
+    let status = run(rt, words, &mut clock, &mut input, &mut output, &mut faults);
     if gathered.flush().is_err() && status == DONE {
         tell(alloc, &mut faults, &Refusal::Write);
         return REFUSED;
@@ -54,7 +54,10 @@ fn main(rt: HostRuntime) -> ExitCode {
     let alloc = rt.alloc();
     let mut faults = Counted::new(rt.stderr());
     let Ok(args) = env::args(&rt) else {
-        let _ = write_bytes(&mut faults, b"error: the words of the command line are no text\n");
+        let _ = write_bytes(
+            &mut faults,
+            b"error: the words of the command line are no text\n",
+        );
         return ExitCode::from(BAD_WORDS);
     };
     let Ok(words) = args.collect::<Vec<String>>(alloc) else {

@@ -9,5 +9,5 @@ use Rattle.archive.proofs.reading.is_decimal.Goals as goal
 pub returns : goal.returns
 returns c =
     let all : c.all.result ≡ list_all is_ascii_digit c.args.text.now =
-            all_from_yields_List is_ascii_digit _ _ _ c.all.ensures.ran (YieldsList-from_slice c.args.text.now (cc)) (λ x b q k. search (rules, tests)) in
+    all_from_yields_List is_ascii_digit _ _ _ c.all.ensures.ran (YieldsList-from_slice c.args.text.now (cc)) (λ x b q k. search (rules, tests)) in
     all ∙ some_decimal c.args.text.now (λ e. search (rules, e))
