@@ -4,14 +4,14 @@ use policy_core::Standing;
 use std::marker::Model;
 
 /// A row of the command line, with its values read. It borrows the words.
-#[derive(Debug, Clone, Copy, Drop)]
+#[derive(Debug, Drop)]
 pub enum Order<'a> {
     /// Writes those messages of an mbox on standard input that pass. It is also the order of no words.
     Sift(SiftOrder<'a>),
 }
 
 /// The values of `sift`'s options.
-#[derive(Debug, Clone, Copy, Drop)]
+#[derive(Debug, Drop)]
 pub struct SiftOrder<'a> {
     /// The reading day; without it the clock is asked, where the order needs a day.
     pub day: Option<Day>,
