@@ -13,12 +13,12 @@ use Rattle.std.specs.Str.{bytes_eq}
 use Rattle.std.specs.Str.Parse.{AllDigits, IsNumeral, ParsesUnsigned, digits_value, without_leading_plus}
 use Rattle.clap.specs.Words.{Row, Text, is_simple}
 use Rattle.clap.proofs.OnLiterals.{clap_on_literals}
-use Rattle.archive.specs.Program.{archive_app, sift_app}
+use Rattle.archive.specs.Program.{archive_app, dated_app, sift_app}
 use Rattle.archive.specs.Orders.{is_decimal, age_of_text, sift_of, order_of}
 
 -- the command line is of the kind whose matches `clap` gives as a function of the words
 pub simple : is_simple archive_app ≡ true
-unfolding archive_app sift_app clap_on_literals
+unfolding archive_app sift_app dated_app clap_on_literals
 simple = refl
 
 pub not_true : (b : Bool) → (b ≡ true → ⊥) → b ≡ false

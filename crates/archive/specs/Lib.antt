@@ -1,4 +1,5 @@
 pub mod Program
+pub mod Values
 pub mod Orders
 pub mod Sifting
 pub mod Running

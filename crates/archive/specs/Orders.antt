@@ -6,6 +6,9 @@ use Rattle.std.specs.Str.{bytes_eq}
 use Rattle.std.specs.Str.Parse.{digits_value}
 use Rattle.clap.specs.Words.{Row, Text, first_of, subcommand_of}
 use Rattle.mail_core.specs.Calendar.{day_of_text}
+use Rattle.policy_core.specs.declared.access.Standing.{Standing}
+use Rattle.policy_core.specs.declared.access.Standing.TheVariants.{Public}
+use Rattle.policy_core.specs.Written.{standing_named}
 use Rattle.archive.specs.declared.orders.Order.{Order}
 use Rattle.archive.specs.declared.orders.Order.TheVariants.{Sift}
 use Rattle.archive.specs.declared.orders.OrderStop.{OrderStop}
@@ -27,18 +30,35 @@ abbrev pub given : {A : Type 0} → (List ℕ → Option A) → Option Text → 
 given read None = Some None
 given read (Some text) = option_map (λ a. Some a) (read text)
 
--- both values have to be readable
-abbrev pub sift_with : Option (Option ℤ) → Option (Option ℕ) → Option Order
-sift_with (Some day) (Some min_age) = Some (Sift (record { day = day; min_age = min_age }))
-sift_with None min_age = None
-sift_with (Some day) None = None
+-- the list that the messages are taken to be of: any text is the name of one
+abbrev pub list_of : Option Text → Text
+list_of None = codes "inbox"
+list_of (Some name) = name
+
+-- the reader's standing, by the words of a policy
+abbrev pub standing_of : Option Text → Option Standing
+standing_of None = Some Public
+standing_of (Some word) = standing_named word
+
+-- all values have to be readable
+abbrev pub sift_with : Option (Option ℤ) → Option (Option ℕ) → Option Text → Text → Option Standing → Option Order
+sift_with (Some day) (Some min_age) policy list (Some standing) =
+    Some (Sift (record { day = day; min_age = min_age; policy = policy; list = list; standing = standing }))
+sift_with None min_age policy list standing = None
+sift_with (Some day) None policy list standing = None
+sift_with (Some day) (Some min_age) policy list None = None
 
 abbrev pub sift_of : List Row → Option Order
-sift_of rows = sift_with (given day_of_text (first_of (codes "day") rows)) (given age_of_text (first_of (codes "min-age") rows))
+sift_of rows = sift_with
+    (given day_of_text (first_of (codes "day") rows))
+    (given age_of_text (first_of (codes "min-age") rows))
+    (first_of (codes "policy") rows)
+    (list_of (first_of (codes "list") rows))
+    (standing_of (first_of (codes "standing") rows))
 
 -- the order of the subcommand that the words name, with the values that were found; no subcommand is `sift`
 abbrev pub order_of : Option (Text × List Row) → Option Order
-order_of None = Some (Sift (record { day = None; min_age = None }))
+order_of None = Some (Sift (record { day = None; min_age = None; policy = None; list = codes "inbox"; standing = Public }))
 order_of (Some (name, rows)) = if bytes_eq name (codes "sift") then sift_of rows else None
 
 -- the order of some words, where the program takes them

@@ -1,6 +1,7 @@
 //! What the program says where it refuses.
 use mbox_core::MboxFault;
 use mbox_core::device::{Sink, write_bytes};
+use policy_core::PolicyFault;
 use std::alloc::Global;
 use std::fmt;
 
@@ -9,6 +10,10 @@ use std::fmt;
 pub enum Refusal {
     /// M1 to M3: the mbox on standard input.
     Mbox(MboxFault),
+    /// P1 to P8: the policy.
+    Policy(PolicyFault),
+    /// F1: a file could not be read.
+    Read,
     /// F2: standard output failed.
     Write,
     /// F3: the clock did not tell the day.
@@ -21,6 +26,8 @@ impl fmt::Display for Refusal {
     fn fmt<W: fmt::Write>(&self, f: &mut fmt::Formatter<W>) -> fmt::Result {
         match self {
             Refusal::Mbox(fault) => write!(f, "{fault}"),
+            Refusal::Policy(fault) => write!(f, "{fault}"),
+            Refusal::Read => f.write_str("F1 Read"),
             Refusal::Write => f.write_str("F2 Write"),
             Refusal::Clock => f.write_str("F3 Clock"),
             Refusal::Memory => f.write_str("F5 Memory"),

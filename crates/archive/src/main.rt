@@ -42,14 +42,7 @@ fn run_streams(rt: &HostRuntime, words: &[&str]) -> u8 {
     let mut clock = SystemDay { rt };
     let mut input = Counted::new(rt.reader());
     let mut output = Counted::new(&mut gathered);
-    let status = run(
-        alloc,
-        words,
-        &mut clock,
-        &mut input,
-        &mut output,
-        &mut faults,
-    );
+    let status = run(rt, words, &mut clock, &mut input, &mut output, &mut faults);
     if gathered.flush().is_err() && status == DONE {
         tell(alloc, &mut faults, &Refusal::Write);
         return REFUSED;

@@ -4,13 +4,15 @@ ghost use Rattle.clap.specs.Words.{app_of, rule_of, takes, subcommand_rows_of, f
 ghost use Rattle.clap.specs.Values.{kind_of};
 ghost use Rattle.clap.specs.declared.builder.Command.TheViews.{out-Command};
 ghost use Rattle.mail_core.specs.Calendar.{day_of_text};
-ghost use Rattle.archive.specs.Program.{archive_app, sift_app, option_rule, versioned};
-ghost use Rattle.archive.specs.Orders.{is_decimal, age_of_text, given, sift_with, order_of, ordered, IsMemory};
+ghost use Rattle.policy_core.specs.Written.{standing_named};
+ghost use Rattle.archive.specs.Program.{archive_app, dated_app, sift_app, option_rule, versioned};
+ghost use Rattle.archive.specs.Orders.{is_decimal, age_of_text, given, list_of, standing_of, sift_with, order_of, ordered, IsMemory};
 
 use crate::orders::{Order, OrderStop, SiftOrder};
 use clap::error::ErrorKind;
 use clap::{Arg, ArgMatches, Command, Error};
 use mail_core::Day;
+use policy_core::Standing;
 use std::alloc::{AllocError, Global};
 
 /// The greatest age that can be asked for, in days.
@@ -25,10 +27,19 @@ const SIFT_HELP: &str =
     "Write the messages of an mbox that pass: standard input to standard output";
 
 const DAY_HELP: &str =
-    "The reading day, yyyy-mm-dd [default: today in UTC, where an age is asked for]";
+    "The reading day, yyyy-mm-dd [default: today in UTC, where an age or a policy is asked for]";
 
 const MIN_AGE_HELP: &str =
     "Only messages that arrived at least this many days before the reading day";
+
+const POLICY_HELP: &str = "The file with the policy [default: everybody may read everything]";
+
+const LIST_HELP: &str = "The list that the messages are taken to be of [default: inbox]";
+
+const STANDING_HELP: &str =
+    "The reader's standing: public, member, subscriber or moderator [default: public]";
+
+const DEFAULT_LIST: &str = "inbox";
 
 /// A value that its reader refuses.
 #[derive(Debug, Clone, Copy, Drop)]
@@ -49,12 +60,26 @@ fn option<'a>(alloc: Global, name: &'a str, value: &'a str, help: &'a str) -> Ar
         .help(help)
 }
 
-fn sift_command<'a>(alloc: Global) -> Result<Command<'a>, AllocError>
-    ensures { IfOk result (λ c. (app_of c ≡ sift_app) × ((out-Command c).has_globals ≡ false)) }
+/// `sift` with the options of the day and of the age.
+fn dated_command<'a>(alloc: Global) -> Result<Command<'a>, AllocError>
+    ensures { IfOk result (λ c. (app_of c ≡ dated_app) × ((out-Command c).has_globals ≡ false)) }
 {
     let day = option(alloc, "day", "DAY", DAY_HELP);
     let min_age = option(alloc, "min-age", "DAYS", MIN_AGE_HELP);
     let command = Command::new(alloc, "sift").arg(day)?.arg(min_age)?;
+    Ok(command)
+}
+
+fn sift_command<'a>(alloc: Global) -> Result<Command<'a>, AllocError>
+    ensures { IfOk result (λ c. (app_of c ≡ sift_app) × ((out-Command c).has_globals ≡ false)) }
+{
+    let policy = option(alloc, "policy", "FILE", POLICY_HELP);
+    let list = option(alloc, "list", "NAME", LIST_HELP);
+    let standing = option(alloc, "standing", "STANDING", STANDING_HELP);
+    let dated = dated_command(alloc)?;
+    let ruled = dated.arg(policy)?;
+    let listed = ruled.arg(list)?;
+    let command = listed.arg(standing)?;
     Ok(described(command, SIFT_HELP))
 }
 
@@ -149,19 +174,74 @@ fn given_age<'a>(text: Option<&'a str>) -> Result<Option<u32>, BadValue<'a>>
     }
 }
 
+/// What the word of a standing means.
+fn read_standing(word: &str) -> Option<Standing>
+    ensures { result ≡ standing_named word.now }
+{
+    match word {
+        "public" => Some(Standing::Public),
+        "member" => Some(Standing::Member),
+        "subscriber" => Some(Standing::Subscriber),
+        "moderator" => Some(Standing::Moderator),
+        _ => None,
+    }
+}
+
+fn given_standing<'a>(word: Option<&'a str>) -> Result<Standing, BadValue<'a>>
+    ensures { MatchResult result
+        (λ standing. standing_of (option_map (λ t. t.now) word.entry) ≡ Some standing)
+        (λ _. standing_of (option_map (λ t. t.now) word.entry) ≡ None) }
+{
+    let Some(text) = word else {
+        return Ok(Standing::Public);
+    };
+    match read_standing(text) {
+        Some(standing) => Ok(standing),
+        None => Err(BadValue {
+            option: "--standing <STANDING>",
+            text,
+            wanted: "a standing is public, member, subscriber or moderator",
+        }),
+    }
+}
+
+/// The list that the messages are taken to be of. Any text is the name of one.
+fn given_list<'a>(name: Option<&'a str>) -> &'a str
+    ensures { result.now ≡ list_of (option_map (λ t. t.now) name.entry) }
+{
+    match name {
+        Some(name) => name,
+        None => DEFAULT_LIST,
+    }
+}
+
 /// The order of `sift`'s matches.
-fn sift_order<'a>(inner: &ArgMatches<'a>) -> Result<Order, BadValue<'a>>
+fn sift_order<'a>(inner: &ArgMatches<'a>) -> Result<Order<'a>, BadValue<'a>>
     ensures { let day = given day_of_text (first_value (found_of inner.now) (codes "day")) in
         let min_age = given age_of_text (first_value (found_of inner.now) (codes "min-age")) in
-        MatchResult result (λ order. sift_with day min_age ≡ Some order) (λ _. sift_with day min_age ≡ None) }
+        let policy = first_value (found_of inner.now) (codes "policy") in
+        let list = list_of (first_value (found_of inner.now) (codes "list")) in
+        let standing = standing_of (first_value (found_of inner.now) (codes "standing")) in
+        MatchResult result
+        (λ order. sift_with day min_age policy list standing ≡ Some order)
+        (λ _. sift_with day min_age policy list standing ≡ None) }
 {
     let day = given_day(inner.get_str("day"))?;
     let min_age = given_age(inner.get_str("min-age"))?;
-    Ok(Order::Sift(SiftOrder { day, min_age }))
+    let standing = given_standing(inner.get_str("standing"))?;
+    let policy = inner.get_str("policy");
+    let list = given_list(inner.get_str("list"));
+    Ok(Order::Sift(SiftOrder {
+        day,
+        min_age,
+        policy,
+        list,
+        standing,
+    }))
 }
 
 /// The order of the subcommand that was met.
-fn read_order<'a>(matches: &ArgMatches<'a>) -> Result<Order, BadValue<'a>>
+fn read_order<'a>(matches: &ArgMatches<'a>) -> Result<Order<'a>, BadValue<'a>>
     ensures { MatchResult result
         (λ order. order_of (subcommand_rows_of matches.now) ≡ Some order)
         (λ _. order_of (subcommand_rows_of matches.now) ≡ None) }
@@ -170,6 +250,9 @@ fn read_order<'a>(matches: &ArgMatches<'a>) -> Result<Order, BadValue<'a>>
         None => Ok(Order::Sift(SiftOrder {
             day: None,
             min_age: None,
+            policy: None,
+            list: DEFAULT_LIST,
+            standing: Standing::Public,
         })),
         Some((name, inner)) => match name {
             "sift" => sift_order(inner),
@@ -216,7 +299,7 @@ fn bad_value_text(
 }
 
 /// The order of some words, which do not begin with the program's name.
-pub fn order<'a>(alloc: Global, words: &'a [&'a str]) -> Result<Order, OrderStop>
+pub fn order<'a>(alloc: Global, words: &'a [&'a str]) -> Result<Order<'a>, OrderStop>
     ensures ok { IfOk result (λ order. ordered (map (λ w. w.now) words.entry.now) ≡ Some order) }
     ensures refused { IfErr result (λ stop. IsMemory stop
         ⊎ ((takes archive_app (map (λ w. w.now) words.entry.now) ≡ false)

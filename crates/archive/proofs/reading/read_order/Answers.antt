@@ -9,4 +9,11 @@ returns-in-sift c =
     let f = found_of c.in-Some.inner.now in
     let o = pair_up _ _ _ _ c.in-Some.ensures.name c.in-Some.ensures.rows in
     let e = order_of-sift _ _ _ o (search (rules, c.in-sift.is)) in
-    rw (e, ← first_value-rows f (codes "day"), ← first_value-rows f (codes "min-age")) c.sift_order.ensures
+    rw (
+      e,
+      ← first_value-rows f (codes "day"),
+      ← first_value-rows f (codes "min-age"),
+      ← first_value-rows f (codes "policy"),
+      ← first_value-rows f (codes "list"),
+      ← first_value-rows f (codes "standing"),
+    ) c.sift_order.ensures

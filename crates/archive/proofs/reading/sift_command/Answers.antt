@@ -1,4 +1,4 @@
-use Rattle.std.proofs.Common.{◌∙◌, ap₂, ◌||◌}
+use Rattle.std.proofs.Common.{◌≡◌, ◌∙◌, ap, ap₂, refl, ◌||◌, false}
 use Rattle.clap.specs.Words.{with_rule}
 use Rattle.archive.specs.Program.{sift_app}
 use Rattle.archive.proofs.reading.sift_command.Goals as goal
@@ -6,11 +6,16 @@ use Rattle.archive.proofs.reading.sift_command.Goals as goal
 pub returns : goal.returns
 unfolding sift_app
 returns c =
-    let first = c.in_ok-arg.ensures.shape c.option-day.ensures.local
-    ∙ ap₂ with_rule c.new.ensures.app c.option-day.ensures.rule in
-    let both = c.in_ok-command.ensures.shape c.option-min_age.ensures.local
-    ∙ ap₂ with_rule first c.option-min_age.ensures.rule in
+    let ruled = c.in_ok-ruled.ensures.shape c.option-policy.ensures.local
+    ∙ ap₂ with_rule c.in_ok-dated.ensures.0 c.option-policy.ensures.rule in
+    let listed = c.in_ok-listed.ensures.shape c.option-list.ensures.local
+    ∙ ap₂ with_rule ruled c.option-list.ensures.rule in
+    let all = c.in_ok-command.ensures.shape c.option-standing.ensures.local
+    ∙ ap₂ with_rule listed c.option-standing.ensures.rule in
+    let plain-ruled = c.in_ok-ruled.ensures.globals
+    ∙ ap₂ (λ x y. x || y) c.in_ok-dated.ensures.1 c.option-policy.ensures.local in
+    let plain-listed = c.in_ok-listed.ensures.globals
+    ∙ ap₂ (λ x y. x || y) plain-ruled c.option-list.ensures.local in
     let plain = c.in_ok-command.ensures.globals
-    ∙ ap₂ (λ x y. x || y) (c.in_ok-arg.ensures.globals ∙ ap₂ (λ x y. x || y) c.new.ensures.local c.option-day.ensures.local)
-    c.option-min_age.ensures.local in
-    (c.described.ensures.app ∙ both, c.described.ensures.local ∙ plain)
+    ∙ ap₂ (λ x y. x || y) plain-listed c.option-standing.ensures.local in
+    (c.described.ensures.app ∙ all, c.described.ensures.local ∙ plain)
