@@ -382,12 +382,81 @@ fn a_text_that_is_no_policy_is_refused(rt: HostRuntime) -> Result<(), Fail> {
             b"[[rule]]\nname = \"a\"\neffect = \"allow\"\n[[rule]]\nname = \"A\"\n".as_slice(),
             b"archive: P4 BadName in rule 2\n".as_slice(),
         ),
+        (
+            b"[[rule]]\nname = \"A\"\ncolour = 1\n".as_slice(),
+            b"archive: P2 UnknownKey in rule 1\n".as_slice(),
+        ),
+        (
+            b"[[rule]]\nname = \"a\"\neffect = \"deny\"\n[[rule]]\nname = \"a\"\neffect = \"deny\"\n".as_slice(),
+            b"archive: P5 DuplicateName in rule 2\n".as_slice(),
+        ),
+        (
+            b"[[rule]]\nname = \"a\"\n".as_slice(),
+            b"archive: P6 BadValue in rule 1\n".as_slice(),
+        ),
     ];
     for (policy, line) in cases {
         fs::write(&rt, "refused.toml", policy)?;
         let ran = run_whole(&rt, &["sift", "--policy", "refused.toml"], TWO_MESSAGES)?;
         expect_refused(&rt, &ran, line);
     }
+    Ok(())
+}
+
+#[test]
+fn a_condition_outside_its_range_is_refused(rt: HostRuntime) -> Result<(), Fail> {
+    let cases = [
+        (
+            "from = 2003-03-04\n",
+            b"archive: P3 WrongType in rule 1\n".as_slice(),
+        ),
+        (
+            "lists = [\"Soc\"]\n",
+            b"archive: P6 BadValue in rule 1\n".as_slice(),
+        ),
+        (
+            "lists = []\n",
+            b"archive: P6 BadValue in rule 1\n".as_slice(),
+        ),
+        (
+            "age_min = 36501\n",
+            b"archive: P6 BadValue in rule 1\n".as_slice(),
+        ),
+        (
+            "from = \"2003-03-05\"\nuntil = \"2003-03-04\"\n",
+            b"archive: P6 BadValue in rule 1\n".as_slice(),
+        ),
+    ];
+    for (condition, line) in cases {
+        let policy = format!(in rt.alloc();
+            "[[rule]]\nname = \"a\"\neffect = \"allow\"\n{condition}"
+        )?;
+        fs::write(&rt, "out-of-range.toml", policy.as_str())?;
+        let ran = run_whole(
+            &rt,
+            &["sift", "--policy", "out-of-range.toml"],
+            TWO_MESSAGES,
+        )?;
+        expect_refused(&rt, &ran, line);
+    }
+    Ok(())
+}
+
+#[test]
+fn a_policy_without_rules_shows_nothing_and_one_of_201_is_refused(
+    rt: HostRuntime,
+) -> Result<(), Fail> {
+    let mut policy = String::new(rt.alloc());
+    fs::write(&rt, "rules.toml", policy.as_str())?;
+    let words = ["sift", "--policy", "rules.toml"];
+    let ran = run_whole(&rt, &words, TWO_MESSAGES)?;
+    expect_done(&rt, &ran, b"");
+    for _ in 0..201 {
+        policy.push_str("[[rule]]\n")?;
+    }
+    fs::write(&rt, "rules.toml", policy.as_str())?;
+    let ran = run_whole(&rt, &words, TWO_MESSAGES)?;
+    expect_refused(&rt, &ran, b"archive: P7 TooManyRules\n");
     Ok(())
 }
 
