@@ -107,6 +107,7 @@ pub fn separator<'a>(content: &'a [u8]) -> Option<Envelope<'a>>
     read_content(content)
 }
 
+/// The envelope of a content: what follows `From ` is read as tokens.
 fn read_content<'a>(content: &'a [u8]) -> Option<Envelope<'a>>
     ensures { result ≡ separator_of content.entry.now }
 {
