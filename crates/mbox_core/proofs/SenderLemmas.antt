@@ -19,16 +19,6 @@ sender_is (At a b) h = (a.now ∷ codes "at" ∷ b.now ∷ [], ((h.0, refl, h.1)
 pub envelope_is : (s : Sender) (z : ℤ) → IsSender s → is_instant z ≡ true → IsEnvelope (record { sender = sender_text s; arrival = z })
 envelope_is s z h g = record { sender = sender_is s h; arrival = g }
 
--- no written form: neither a token nor two with `at` between them
-pub none_written : (text : List ℕ) → is_sender_token text ≡ false
-    → ((left right : List ℕ) → is_sender_token left ≡ true → is_sender_token right ≡ true → ¬ (text ≡ spaced (left ∷ codes "at" ∷ right ∷ [])))
-    → ¬ IsSenderText text
-none_written text one two ([], (h, e)) = h
-none_written text one two (a ∷ [], (h, e)) = let bad : true ≡ false = sym (ap is_sender_token e ∙ h) ∙ one in absurd (cc)
-none_written text one two (a ∷ b ∷ [], (h, e)) = h
-none_written text one two (a ∷ word ∷ b ∷ [], ((left, at, right), e)) = two a b left right (e ∙ ap (λ w. spaced (a ∷ w ∷ b ∷ [])) at)
-none_written text one two (a ∷ b ∷ c ∷ d ∷ who, (h, e)) = h
-
 -- ---- the first space of a text that two tokens write
 
 -- no byte of a token is a space
