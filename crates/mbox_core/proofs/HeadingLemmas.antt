@@ -5,7 +5,7 @@ use Rattle.std.proofs.lemmas.Int.{ints}
 use Rattle.std.specs.Int.{int_rem_euclid}
 use Rattle.std.specs.List.{list_any}
 use Rattle.mail_core.specs.Calendar.{month_days, day_number_of, day_of_instant, weekday, is_instant, instant_at}
-use Rattle.mbox_core.specs.Lines.{before_first}
+use Rattle.mail_core.specs.Lines.{onto_first_line}
 use Rattle.mbox_core.specs.Separator.{Envelope, IsSeparator, IsSentBy, AreSenderTokens, spaced, tokens, is_sender_token, day_of, instant_of}
 use Rattle.mbox_core.specs.Written.{Date, IsEnvelope, heading, time_text, date_text, date_after, days_since_1900, as_day_digits, as_two_digits, as_four_digits, clock_text, name_at, weekday_names, month_names}
 use Rattle.mbox_core.proofs.DateLemmas.{both, date_is, found_number, split_is}
@@ -32,7 +32,7 @@ token_then (b ∷ c ∷ t) r some h =
     let first = both (is_plain b) (is_run (c ∷ t)) h in
     let second = both (is_plain c) (is_run t) first.1 in
     let later = token_then (c ∷ t) r (λ e. cc) first.1 in
-    rw (plain_other b first.0, plain_other c second.0) (ap (before_first b) (sym (rw (plain_other c second.0) refl) ∙ later))
+    rw (plain_other b first.0, plain_other c second.0) (ap (onto_first_line b) (sym (rw (plain_other c second.0) refl) ∙ later))
 
 -- a token at the end
 pub token_last : (t : List ℕ) → t ≢ [] → is_run t ≡ true → tokens t ≡ t ∷ []
@@ -43,7 +43,7 @@ token_last (b ∷ c ∷ t) some h =
     let first = both (is_plain b) (is_run (c ∷ t)) h in
     let second = both (is_plain c) (is_run t) first.1 in
     let later = token_last (c ∷ t) (λ e. cc) first.1 in
-    rw (plain_other b first.0, plain_other c second.0) (ap (before_first b) (sym (rw (plain_other c second.0) refl) ∙ later))
+    rw (plain_other b first.0, plain_other c second.0) (ap (onto_first_line b) (sym (rw (plain_other c second.0) refl) ∙ later))
 
 after_space : (r : List ℕ) → tokens (32 ∷ r) ≡ tokens r
 unfolding tokens

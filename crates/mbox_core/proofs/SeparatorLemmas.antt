@@ -212,6 +212,10 @@ pub instant_is : (day : ℤ) (seconds : ℕ) (east : ℤ) → instant_at (day *�
 unfolding instant_of
 instant_is day seconds east = refl
 
+-- no content says two envelopes
+pub one_envelope : (said : List ℕ) (a b : Envelope) → IsSeparator said a → IsSeparator said b → a ≡ b
+one_envelope said a b h g = some_is a b (sym (separator_all said a h) ∙ separator_all said b g)
+
 -- ---- what the code finds, token by token
 
 pub not_begun : (s : List ℕ) → bytes_eq (take 5 s) (codes "From ") ≡ false → separator_of s ≡ None

@@ -7,7 +7,7 @@ use Rattle.std.proofs.lemmas.List.Elements.{All-nil, All-cons, All-tail}
 use Rattle.mail_core.specs.Calendar.{weekday, day_of_instant, is_instant}
 use Rattle.std.proofs.lemmas.Bool.{eqb-true}
 use Rattle.std.proofs.lemmas.Bool.Decides.{nat_tests}
-use Rattle.mbox_core.specs.Lines.{lines, content, ends_in}
+use Rattle.mail_core.specs.Lines.{lines, content, ends_in}
 use Rattle.mbox_core.specs.Separator.{Envelope, IsSeparator, IsSenderText, AreSenderTokens, spaced, instant_of}
 use Rattle.mbox_core.specs.Division.{Item, IsBlank, NoneSeparates, AreBlocks, Divides, is_whole, whole}
 use Rattle.mbox_core.specs.Written.{Date, IsEnvelope, IsItem, heading, ended, written, whole_item, time_text, date_text, as_day_digits, as_two_digits, as_four_digits, clock_text, name_at, weekday_names, month_names, date_after, days_since_1900}

@@ -3,7 +3,7 @@
 use Rattle.std.specs.Prelude.{◌≡◌, ℕ, ◌+◌, ◌-◌, ◌*◌, ◌==◌, nat_le, Bool, true, false, not, ◌&&◌, List, [], ◌∷◌, ◌++◌, length, take, drop, slice_index, if◌then◌else◌, Option, Some, None, ℤ, pos, ◌+ℤ◌, ◌-ℤ◌, ◌*ℤ◌, codes, min}
 use Rattle.std.specs.List.{list_any, position_from}
 use Rattle.std.specs.Str.{bytes_eq}
-use Rattle.mbox_core.specs.Lines.{before_first}
+use Rattle.mail_core.specs.Lines.{onto_first_line}
 use Rattle.mail_core.specs.Calendar.{is_digit, two_digits, day_number_of, instant_at}
 use Rattle.mail_core.specs.Zones.{zone_of}
 
@@ -15,7 +15,7 @@ begins_token (b ∷ bs) = not (b == 32)
 -- the maximal runs of bytes that are no spaces
 unfoldable pub tokens : List ℕ → List (List ℕ)
 tokens [] = []
-tokens (b ∷ bs) = if b == 32 then tokens bs else (if begins_token bs then before_first b (tokens bs) else (b ∷ []) ∷ tokens bs)
+tokens (b ∷ bs) = if b == 32 then tokens bs else (if begins_token bs then onto_first_line b (tokens bs) else (b ∷ []) ∷ tokens bs)
 
 infixl 10 ◌>>=◌
 abbrev pub ◌>>=◌ : {A B : Type 0} → Option A → (A → Option B) → Option B

@@ -3,7 +3,7 @@
 use Rattle.std.specs.Prelude.{◌≡◌, ℕ, zero, suc, ◌+◌, ◌-◌, ◌*◌, ◌/◌, ◌%◌, ◌≤◌, nat_lt, true, List, [], ◌∷◌, ◌++◌, length, take, drop, if◌then◌else◌, ℤ, pos, ◌+ℤ◌, unsigned_abs, codes}
 use Rattle.std.specs.Int.{int_rem_euclid}
 use Rattle.mail_core.specs.Calendar.{year_days, month_days, weekday, is_instant, day_of_instant}
-use Rattle.mbox_core.specs.Lines.{lines}
+use Rattle.mail_core.specs.Lines.{lines}
 use Rattle.mbox_core.specs.Separator.{Envelope, IsSenderText, spaced}
 use Rattle.mbox_core.specs.Division.{Item, NoneSeparates, whole}
 

@@ -3,10 +3,10 @@ ghost use Rattle.std.specs.Prelude.{◌≡◌, ◌∷◌, ◌<◌, ◌≤◌, []
 ghost use Rattle.mbox_core.specs.Division.{items_after, text_in, items_in};
 
 use crate::cutting::Part;
-use crate::lines::{line_end, said};
 use crate::separators::separator;
 use crate::tokens::{names_weekday, read_clock, read_day, read_month, read_year};
 use mail_core::calendar::day_number;
+use mail_core::lines::{line_content, line_end};
 use mail_core::zone;
 use std::alloc::{AllocError, Global};
 
@@ -22,7 +22,7 @@ pub(crate) fn first_part<'a>(bytes: &'a [u8]) -> Part<'a>
         let here = &bytes[at..];
         let len = line_end(here);
         let (line, rest) = here.split_at(len);
-        let content = said(line);
+        let content = line_content(line);
         if after_blank {
             if let Some(envelope) = separator(content) {
                 return Part {
