@@ -98,7 +98,8 @@ fn by_two<'a>(
 }
 
 /// The envelope that the content of a line says: a line without its LF, and without a CR before that. `None` where it
-/// is no separator line (RFC 4155, appendix A). Nothing is trimmed.
+/// is no separator line (RFC 4155, appendix A): `From `, and six to nine tokens between runs of spaces, which are a
+/// sender (one token or three), weekday, month, day, time, a zone or none, and year. Nothing is trimmed.
 pub fn separator<'a>(content: &'a [u8]) -> Option<Envelope<'a>>
     ensures value { result ≡ separator_of content.entry.now }
     ensures found { IfSome result (λ e. IsSeparator content.entry.now e) }
