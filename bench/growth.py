@@ -57,6 +57,8 @@ FORMS = [
     ("spaces", "base", repeat(b" \t")),
     ("lines that begin as separators", "cut", lambda size: b"From a Tue Mar  4 10:00:00 2003\n" + repeat(b"\nFrom \n")(size)),
     ("empty messages", "cut", repeat(b"From a Tue Mar  4 10:00:00 2003\n\n")),
+    ("empty messages, nine tokens", "cut", repeat(b"From a at b Tue Mar  4 10:00:00 +0100 2003\n\n")),
+    ("a separator line of that size", "cut", lambda size: b"From a Tue Mar  4 10:00:00 2003\n\nFrom " + repeat(b"a ")(size)),
 ]
 
 

@@ -1,7 +1,7 @@
 -- Unfolding, angle brackets and trimming, by places of a text.
-use Rattle.std.proofs.Common.{◌≡◌, ◌≢◌, ℕ, zero, suc, ◌+◌, ◌-◌, ◌<◌, ◌≤◌, Bool, true, false, ◌==◌, ◌&&◌, ◌||◌, List, [], ◌∷◌, ◌++◌, length, take, drop, get_or, refl, arith, ap, ◌∙◌, sym, if◌then◌else◌, append_assoc, append-nil, Option, Some, None, option_map, add-one, subst}
+use Rattle.std.proofs.Common.{◌≡◌, ℕ, zero, suc, ◌+◌, ◌<◌, ◌≤◌, Bool, true, false, ◌==◌, ◌&&◌, ◌||◌, List, [], ◌∷◌, ◌++◌, length, take, drop, get_or, refl, arith, ap, ◌∙◌, sym, Some, None, add-one}
 use Rattle.std.proofs.Math.Seq.{take-suc}
-use Rattle.mail_core.specs.Fields.{is_blank, continues, folds, is_fold, unfolded}
+use Rattle.mail_core.specs.Fields.{is_blank, folds, is_fold, unfolded}
 use Rattle.mail_core.specs.Author.{after_last, before_byte, trim_end}
 use Rattle.mail_core.proofs.CommentTable.{drop-at, drop-past}
 

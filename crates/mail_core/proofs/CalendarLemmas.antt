@@ -1,9 +1,9 @@
 -- The calendar of `jiff` beside this crate.
-use Rattle.std.proofs.Common.{◌≡◌, ℕ, zero, suc, ◌+◌, ◌-◌, ◌*◌, ◌<◌, ◌≤◌, Bool, true, false, ◌&&◌, nat_le, ℤ, pos, negsuc, ◌+ℤ◌, ◌-ℤ◌, unsigned_abs, refl, arith, ap, ◌∙◌, sym, Option, Some, None, if◌then◌else◌}
+use Rattle.std.proofs.Common.{◌≡◌, ℕ, zero, suc, ◌+◌, ◌-◌, ◌≤◌, Bool, true, ◌&&◌, nat_le, ℤ, pos, ◌+ℤ◌, ◌-ℤ◌, unsigned_abs, refl, arith, ap, ◌∙◌, Some, None, if◌then◌else◌}
 use Rattle.std.proofs.lemmas.Bool.{le-leb}
 use Rattle.jiff.proofs.SpanFacts.{signed_arith}
 use Rattle.jiff_core.specs.Calendar as jiff
-use Rattle.mail_core.specs.Calendar.{is_leap, year_days, month_days, days_before_year, days_of_months, days_before, day_number, is_date, day_number_of}
+use Rattle.mail_core.specs.Calendar.{month_days, days_before_year, days_of_months, days_before, day_number, day_number_of}
 
 shifted : (y k : ℕ) → k ≡ 10000 → pos (y + k) -ℤ pos 10000 ≡ pos y
 shifted y k e = omega (arith, signed_arith, e)

@@ -1,7 +1,7 @@
 -- The grammar of comments and the count of depth are one.
-use Rattle.std.proofs.Common.{◌≡◌, ◌≢◌, ℕ, zero, suc, ◌+◌, ◌<◌, ◌≤◌, Bool, true, false, ◌==◌, List, [], ◌∷◌, ◌++◌, length, refl, arith, ap, ◌∙◌, sym, Option, Some, None, if◌then◌else◌, append_assoc, subst, eq-eqb, ◌↔◌}
+use Rattle.std.proofs.Common.{◌≡◌, ◌≢◌, ℕ, zero, suc, Bool, true, false, ◌==◌, List, [], ◌∷◌, ◌++◌, refl, arith, ap, ◌∙◌, sym, Option, Some, None, if◌then◌else◌, append_assoc, subst}
 use Rattle.std.proofs.lemmas.Bool.Decides.{nat_tests}
-use Rattle.mail_core.specs.Comments.{IsCommentContent, IsComment, BeginsWithComment, CommentMark, comment_mark, closing_rest, after_comment}
+use Rattle.mail_core.specs.Comments.{IsCommentContent, BeginsWithComment, CommentMark, comment_mark, closing_rest, after_comment}
 use Rattle.mail_core.specs.Comments.IsCommentContent.{nothing, byte, quoted, comment}
 use Rattle.mail_core.specs.Comments.CommentMark.{opening, closing, escape, ordinary}
 

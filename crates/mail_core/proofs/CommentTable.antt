@@ -1,9 +1,8 @@
 -- The table of the ends of comments, from the last place back.
-use Rattle.std.proofs.Common.{◌≡◌, ◌≢◌, ℕ, zero, suc, ◌+◌, ◌<◌, ◌≤◌, Bool, true, false, List, [], ◌∷◌, length, refl, arith, ap, ◌∙◌, sym, Option, Some, None, drop, get_or, set, replicate, get_or-set_same, get_or-set_other, drop-cons, add-one, subst, ◌⊎◌, inl, inr}
+use Rattle.std.proofs.Common.{◌≡◌, ◌≢◌, ℕ, zero, suc, ◌+◌, ◌<◌, ◌≤◌, Bool, true, false, List, [], ◌∷◌, ◌++◌, ◌-◌, length, length-drop, drop-drop, refl, arith, ap, ◌∙◌, sym, Some, None, drop, get_or, drop-cons, add-one, subst, ◌⊎◌, inl, inr}
 use Rattle.std.proofs.lemmas.Grind.{common_steps}
-use Rattle.std.proofs.lemmas.List.{get_or-replicate}
-use Rattle.mail_core.specs.Comments.{closing_rest, comment_mark}
-use Rattle.mail_core.specs.Comments.CommentMark.{opening, closing, escape, ordinary}
+use Rattle.std.proofs.lemmas.List.{get_or_at, get_or_append_left}
+use Rattle.mail_core.specs.Comments.{closing_rest}
 use Rattle.mail_core.specs.Ends.{ClosesAt}
 use Rattle.mail_core.proofs.CommentLemmas.{closing_rest-end, closing_rest-done, closing_rest-quoted, closing_rest-opening, closing_rest-closing, closing_rest-backslash, closing_rest-ordinary, closing_rest-two, closing_rest-two-none, comment_mark-40, comment_mark-41, comment_mark-92, comment_mark-other}
 
@@ -71,42 +70,76 @@ ends-opening text k m e h s v w = go (let c : (m ≤ length text) ⊎ (length te
         ends-same text k m e (omega (arith, gt))
         (first ∙ closing_rest-two-none (drop (k + 1) text) (v.stays_open gt) ∙ sym (closing_rest-past false 0 text m (omega (arith, gt)))) w
 
--- what the table is known to hold from place i on
+-- what the table is known to hold from place i on; its places stand from the last back
 abbrev pub Filled : List ℕ → List ℕ → ℕ → Type 0
-Filled text ends i = (j : ℕ) → i ≤ j → j ≤ length text + 1 → ClosesAt text j (get_or ends j 0)
+Filled text ends i = (j : ℕ) → i ≤ j → j ≤ length text + 1 → ClosesAt text j (get_or ends (length text + 1 - j) 0)
 
-pub filled-start : (text ends : List ℕ) → ends ≡ replicate (length text + 2) (length text + 1) → Filled text ends (length text)
-filled-start text ends e j h g =
-    let P : ℕ → Type 0 = λ x. ClosesAt text j x in
-    subst P (sym (ap (λ (l : List ℕ). get_or l j 0) e ∙ get_or-replicate (length text + 2) j (length text + 1) 0 (omega (arith, g)))) (ends-past text j h)
-
-pub filled-step : (text ends : List ℕ) (i k e : ℕ) → k ≡ i + 1 → i < length ends → Filled text ends k → ClosesAt text i e → Filled text (set ends i e) i
-filled-step text ends i k e hk room old new j h g = go (let c : (j ≡ i) ⊎ (i + 1 ≤ j) = grind arith in c)
+pub filled-start : (text : List ℕ) (none : ℕ) → none ≡ length text + 1 → Filled text (none ∷ none ∷ []) (length text)
+filled-start text none e j h g = go (let c : (j ≡ length text) ⊎ (j ≡ length text + 1) = grind arith in c)
   where
-    go : (j ≡ i) ⊎ (i + 1 ≤ j) → ClosesAt text j (get_or (set ends i e) j 0)
-    go (inl same) = rw (same, get_or-set_same ends i e 0 room) new
+    both : (i : ℕ) → i < 2 → ClosesAt text j (get_or (none ∷ none ∷ []) i 0)
+    both zero lt = rw e (ends-past text j h)
+    both (suc zero) lt = rw e (ends-past text j h)
+    both (suc (suc i)) lt = absurd (omega (arith, lt))
+
+    go : (j ≡ length text) ⊎ (j ≡ length text + 1) → ClosesAt text j (get_or (none ∷ none ∷ []) (length text + 1 - j) 0)
+    go (inl same) = both (length text + 1 - j) (omega (arith, same))
+    go (inr same) = both (length text + 1 - j) (omega (arith, same))
+
+pub filled-step : (text ends : List ℕ) (i k e : ℕ) → k ≡ i + 1 → i < length text → length ends + k ≡ length text + 2
+    → Filled text ends k → ClosesAt text i e → Filled text (ends ++ e ∷ []) i
+filled-step text ends i k e hk under room old new j h g = go (let c : (j ≡ i) ⊎ (i + 1 ≤ j) = grind arith in c)
+  where
+    go : (j ≡ i) ⊎ (i + 1 ≤ j) → ClosesAt text j (get_or (ends ++ e ∷ []) (length text + 1 - j) 0)
+    go (inl same) =
+        let at : length text + 1 - j ≡ length ends = omega (arith, same, room, hk, under) in
+        let P : ℕ → Type 0 = λ x. ClosesAt text j x in
+        subst P (sym (get_or_at ends e [] 0 (length text + 1 - j) (sym at))) (rw same new)
     go (inr later) =
         let P : ℕ → Type 0 = λ x. ClosesAt text j x in
-        subst P (sym (get_or-set_other ends i j e 0 (omega (arith, later)))) (old j (omega (arith, later, hk)) g)
+        subst P (sym (get_or_append_left ends (e ∷ []) 0 (length text + 1 - j) (omega (arith, later, room, hk, g)))) (old j (omega (arith, later, hk)) g)
 
 pub filled-closing : (text : List ℕ) (i e : ℕ) → i < length text → get_or text i 0 ≡ 41 → e ≡ i + 1 → ClosesAt text i e
 filled-closing text i e h b s = rw s (ends-closing text i h b)
 
-pub filled-ordinary : (text ends : List ℕ) (i k e : ℕ) → i < length text → get_or text i 0 ≢ 41 → get_or text i 0 ≢ 40 → get_or text i 0 ≢ 92
-    → k ≡ i + 1 → Filled text ends k → e ≡ get_or ends (i + 1) 0 → ClosesAt text i e
-filled-ordinary text ends i k e h p q r hk old s = rw s (ends-ordinary text i _ h q p r (old (i + 1) (omega (arith, hk)) (omega (arith, h))))
+pub filled-ordinary : (text : List ℕ) (i k next e : ℕ) → i < length text → get_or text i 0 ≢ 41 → get_or text i 0 ≢ 40 → get_or text i 0 ≢ 92
+    → k ≡ i + 1 → ClosesAt text k next → e ≡ next → ClosesAt text i e
+filled-ordinary text i k next e h p q r hk old s = rw s (ends-ordinary text i _ h q p r (rw (← hk) old))
 
-pub filled-backslash : (text ends : List ℕ) (i k e : ℕ) → i < length text → get_or text i 0 ≡ 92
-    → k ≡ i + 1 → Filled text ends k → e ≡ get_or ends (i + 2) 0 → ClosesAt text i e
-filled-backslash text ends i k e h b hk old s = rw s (ends-backslash text i _ h b (old (i + 2) (omega (arith, hk)) (omega (arith, h))))
+pub filled-backslash : (text : List ℕ) (i k after e : ℕ) → i < length text → get_or text i 0 ≡ 92
+    → k ≡ i + 1 → ClosesAt text (k + 1) after → e ≡ after → ClosesAt text i e
+filled-backslash text i k after e h b hk old s =
+    let two : k + 1 ≡ i + 2 = omega (arith, hk) in
+    rw s (ends-backslash text i _ h b (rw two at old))
 
-pub filled-opening : (text ends : List ℕ) (i k m e : ℕ) → i < length text → get_or text i 0 ≡ 40
-    → k ≡ i + 1 → Filled text ends k → m ≡ get_or ends (i + 1) 0 → e ≡ get_or ends m 0 → ClosesAt text i e
-filled-opening text ends i k m e h b hk old hm s =
-    let first : ClosesAt text (i + 1) m = rw hm (old (i + 1) (omega (arith, hk)) (omega (arith, h))) in
-    let above : i + 1 ≤ m = go first (let c : (m ≤ length text) ⊎ (length text < m) = grind arith in c) in
-    rw s (ends-opening text i m _ h b first (old m (omega (arith, hk, above)) first.within))
+-- the place where the comment behind a parenthesis closes stands behind it
+pub above : (text : List ℕ) (k m : ℕ) → k ≤ length text → ClosesAt text k m → k < m
+above text k m h first = go (let c : (m ≤ length text) ⊎ (length text < m) = grind arith in c)
   where
-    go : ClosesAt text (i + 1) m → (m ≤ length text) ⊎ (length text < m) → i + 1 ≤ m
-    go first (inl le) = let c = first.closes le in omega (arith, c.0)
-    go first (inr gt) = omega (arith, gt, h)
+    go : (m ≤ length text) ⊎ (length text < m) → k < m
+    go (inl le) = let c = first.closes le in omega (arith, c.0)
+    go (inr gt) = omega (arith, gt, h)
+
+pub filled-opening : (text ends : List ℕ) (i k next e : ℕ) → i < length text → get_or text i 0 ≡ 40
+    → k ≡ i + 1 → Filled text ends k → ClosesAt text k next → e ≡ get_or ends (length text + 1 - next) 0 → ClosesAt text i e
+filled-opening text ends i k next e h b hk old first s =
+    let behind : k < next = above text k next (omega (arith, h, hk)) first in
+    rw s (ends-opening text i next _ h b (rw (← hk) first) (old next (omega (arith, behind)) first.within))
+
+-- the same places in a text that stands before a part of it
+pub closes-before : (text : List ℕ) (n k e : ℕ) → n ≤ k → n ≤ length text → ClosesAt (drop n text) (k - n) e → ClosesAt text k (n + e)
+closes-before text n k e h fits w = record {
+  within = omega (arith, w.within, len, fits);
+  closes = λ g.
+      let c = w.closes (omega (arith, len, g, fits)) in (
+        omega (arith, c.0, h),
+        ap (closing_rest false 1) (sym here) ∙ c.1 ∙ ap (λ (xs : List ℕ). Some xs) (drop-drop e n text),
+      );
+  stays_open = λ g. ap (closing_rest false 1) (sym here) ∙ w.stays_open (omega (arith, len, g));
+}
+  where
+    len : length (drop n text) ≡ length text - n
+    len = length-drop n text
+
+    here : drop (k - n) (drop n text) ≡ drop k text
+    here = drop-drop (k - n) n text ∙ ap (λ (i : ℕ). drop i text) (let s : n + (k - n) ≡ k = omega (arith, h) in s)

@@ -1,5 +1,5 @@
 -- Which day numbers the years 1900 to 9998 have, and which year a day number has.
-use Rattle.std.proofs.Common.{◌≡◌, ℕ, zero, suc, ◌+◌, ◌-◌, ◌<◌, ◌≤◌, Bool, true, false, ◌&&◌, nat_le, int_le, ℤ, pos, negsuc, neg_ℤ, ◌+ℤ◌, ◌-ℤ◌, ◌<ℤ◌, ◌≤ℤ◌, refl, arith, ap, ◌∙◌, sym, Option, Some, None, if◌then◌else◌}
+use Rattle.std.proofs.Common.{◌≡◌, ℕ, ◌+◌, ◌<◌, ◌≤◌, Bool, true, false, ◌&&◌, nat_le, ℤ, pos, negsuc, neg_ℤ, ◌≤ℤ◌, refl, arith, ap, ◌∙◌, sym, Option, Some, None, if◌then◌else◌}
 use Rattle.std.proofs.lemmas.Bool.{le-leb, leb-true}
 use Rattle.std.proofs.lemmas.Int.{by_lt_z, ints}
 use Rattle.jiff_core.specs.Calendar.{day_count, days_from_civil, IsYear, IsCivilDate}
@@ -8,7 +8,6 @@ use Rattle.jiff_core.proofs.CalendarLemmas.{days_from_civil-day_count, day_count
 use Rattle.jiff_core.proofs.MarchLemmas.{day_count-early}
 use Rattle.mail_core.specs.Calendar.{month_days, is_date, day_number, day_number_of, is_day, day_of_date}
 use Rattle.mail_core.proofs.CalendarLemmas.{numbers, found}
-use borrow.Author.Differences.{up, down}
 
 year_1899 : day_count (pos 1899) 1 1 ≡ 4_346_021
 year_1899 = day_count-early (pos 1899) 11898 1 1 refl (omega arith) (omega arith) (omega arith)

@@ -1,8 +1,8 @@
 -- Worked examples of header fields, unfolding and the author key.
-use Rattle.std.proofs.Common.{◌≡◌, ℕ, List, [], ◌∷◌, ◌++◌, refl, codes, Option, Some, None}
+use Rattle.std.proofs.Common.{◌≡◌, ℕ, List, [], ◌∷◌, ◌++◌, refl, codes, Some, None}
 use Rattle.mail_core.specs.Lines.{lines, content, is_empty_line}
 use Rattle.mail_core.specs.Fields.{Entry, header_blocks, fields_of, field_of, unfolded}
-use Rattle.mail_core.specs.Author.{address_in, author_in, author_of}
+use Rattle.mail_core.specs.Author.{author_in, author_of}
 
 abbrev entry : List ℕ → List ℕ → Entry
 entry n b = record { name = n; body = b }

@@ -1,10 +1,10 @@
 -- The blocks of a header, one after the other.
-use Rattle.std.proofs.Common.{◌≡◌, ◌≢◌, ℕ, zero, suc, ◌+◌, ◌-◌, ◌<◌, ◌≤◌, Bool, true, false, ◌==◌, ◌||◌, List, [], ◌∷◌, ◌++◌, length, take, drop, refl, arith, ap, ◌∙◌, sym, if◌then◌else◌, append_assoc, subst, drop-drop, Option, Some, None}
+use Rattle.std.proofs.Common.{◌≡◌, ◌≢◌, ℕ, zero, suc, ◌+◌, ◌-◌, ◌<◌, Bool, true, false, ◌==◌, ◌||◌, List, [], ◌∷◌, ◌++◌, length, take, drop, refl, arith, ap, ◌∙◌, sym, if◌then◌else◌, append_assoc, subst, drop-drop, Some, None}
 use Rattle.std.proofs.Math.Seq.{take-add}
 use Rattle.std.specs.List.{filter_map}
 use Rattle.mail_core.specs.Lines.{lines, onto_first_line, content, is_empty_line, ends_in, without_end}
 use Rattle.mail_core.specs.Fields.{Entry, is_blank, continues, header_lines, onto_first_block, blocks, header_blocks, fields_of, field_in}
-use Rattle.mail_core.proofs.CommentLemmas.{is_it, is_not, not_equal}
+use Rattle.mail_core.proofs.CommentLemmas.{is_it, not_equal}
 use Rattle.mail_core.proofs.LineLemmas.{lines-nil}
 
 onto_onto : (l m : List ℕ) (bs : List (List ℕ)) → onto_first_block l (onto_first_block m bs) ≡ onto_first_block (l ++ m) bs

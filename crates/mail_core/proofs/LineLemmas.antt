@@ -1,7 +1,7 @@
 -- Lines: the first line and the rest.
-use Rattle.std.proofs.Common.{◌≡◌, ◌≢◌, ℕ, zero, suc, ◌+◌, ◌-◌, ◌<◌, ◌≤◌, Bool, true, false, ◌==◌, List, [], ◌∷◌, ◌++◌, length, take, drop, get_or, refl, arith, ap, ◌∙◌, sym, if◌then◌else◌, append_assoc, append-nil, inl, inr, ◌⊎◌, subst, take_all}
+use Rattle.std.proofs.Common.{◌≡◌, ◌≢◌, ℕ, zero, suc, ◌<◌, Bool, true, false, ◌==◌, List, [], ◌∷◌, length, take, drop, get_or, refl, arith, ap, sym, take_all}
 use Rattle.std.proofs.Math.Seq.{drop-length}
-use Rattle.mail_core.specs.Lines.{lines, onto_first_line, content, is_empty_line, ends_in, without_end}
+use Rattle.mail_core.specs.Lines.{lines}
 
 pub lines-nil : lines [] ≡ []
 unfolding lines

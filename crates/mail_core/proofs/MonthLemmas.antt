@@ -1,7 +1,6 @@
 -- Months follow one another, and each day lies in one of them.
 use Rattle.std.proofs.Common.{◌≡◌, ℕ, zero, suc, ◌+◌, ◌-◌, ◌*◌, ◌/◌, ◌%◌, ◌<◌, ◌≤◌, ◌⊎◌, inl, inr, Bool, true, false, ◌&&◌, nat_le, int_le, int_lt, ℤ, pos, negsuc, nat_abs, ◌-ℤ◌, ◌<ℤ◌, ◌≤ℤ◌, refl, arith, ap, ◌∙◌, sym, Option, Some, None, if◌then◌else◌}
-use Rattle.std.proofs.lemmas.Int.{by_lt_z, ints}
-use Rattle.jiff_core.specs.Calendar as jiff
+use Rattle.std.proofs.lemmas.Int.{ints}
 use Rattle.jiff_core.proofs.SignedLemmas.{signed_arith}
 use Rattle.jiff_core.proofs.CalendarLemmas.{days_of_months_all}
 use Rattle.mail_core.specs.Calendar.{year_days, month_days, days_before_year, days_of_months, days_before, day_number, day_number_of, is_date, day_of_date, month_start, is_in_month, last_begun, month_of_day}

@@ -1,5 +1,5 @@
 -- Worked examples.
-use Rattle.std.proofs.Common.{◌≡◌, ℕ, ◌++◌, List, [], ◌∷◌, refl, codes, Some, None, replicate}
+use Rattle.std.proofs.Common.{◌≡◌, ℕ, ◌++◌, List, [], ◌∷◌, refl, codes, replicate}
 use Rattle.mail_core.specs.Comments.{closing_rest, comment_mark}
 use Rattle.mail_core.specs.Quotes.{quote_mark, after_quote, unquoted}
 use Rattle.mail_core.specs.MsgIds.{Id, id_at, right_from, sides_of, is_left, is_right}

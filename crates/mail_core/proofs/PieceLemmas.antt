@@ -1,13 +1,13 @@
 -- A text has one list of identities: that of each of its divisions into pieces.
-use Rattle.std.proofs.Common.{◌≡◌, ◌≢◌, ℕ, zero, suc, ◌+◌, ◌-◌, ◌≤◌, ◌<◌, Bool, true, false, ◌==◌, List, [], ◌∷◌, ◌++◌, length, refl, arith, ap, ◌∙◌, sym, Option, Some, None, subst, drop, take, ◌⊎◌, inl, inr, append_assoc, length-append}
+use Rattle.std.proofs.Common.{◌≡◌, ◌≢◌, ℕ, zero, suc, ◌+◌, ◌-◌, ◌≤◌, ◌<◌, Bool, true, false, ◌==◌, List, [], ◌∷◌, ◌++◌, length, refl, arith, ap, ◌∙◌, sym, Option, Some, None, subst, drop, take, inl, inr, append_assoc, length-append}
 use Rattle.std.proofs.Math.Seq.{drop-append_seam, take-append_seam}
-use Rattle.mail_core.specs.Comments.{closing_rest, IsComment, BeginsWithComment, after_comment}
-use Rattle.mail_core.specs.Quotes.{after_quote, IsClosedQuote}
-use Rattle.mail_core.specs.MsgIds.{Id, IsMsgId, id_at}
+use Rattle.mail_core.specs.Comments.{closing_rest}
+use Rattle.mail_core.specs.Quotes.{after_quote}
+use Rattle.mail_core.specs.MsgIds.{Id, id_at}
 use Rattle.mail_core.specs.Pieces.{Piece, Pieces, Begins, Stands, ids_in, text_of}
 use Rattle.mail_core.specs.Pieces.Piece.{comment, quoted_string, msg_id, single}
-use Rattle.mail_core.specs.MsgIds.{next_piece, add_identity, ids_from, ids_of}
-use Rattle.mail_core.proofs.CommentLemmas.{is_it, is_not, closing_rest-at, counted_comment, inside_of}
+use Rattle.mail_core.specs.MsgIds.{next_piece, add_identity, ids_of}
+use Rattle.mail_core.proofs.CommentLemmas.{is_it, is_not, closing_rest-at, inside_of}
 use Rattle.mail_core.proofs.QuoteLemmas.{quote_ends, quoted_of}
 use Rattle.mail_core.proofs.MsgIdLemmas.{id_reads, id_sound, one_reading}
 use Rattle.mail_core.proofs.ScanLemmas.{piece-comment, piece-open, piece-quote, piece-no_quote, piece-id, piece-no_id, ids-cons, ids-skip, ids-end}

@@ -1,6 +1,6 @@
 -- The grammar of quoted strings and the scan for the quote that ends them are one.
-use Rattle.std.proofs.Common.{◌≡◌, ◌≢◌, ℕ, zero, suc, ◌+◌, ◌<◌, ◌≤◌, Bool, true, false, ◌==◌, List, [], ◌∷◌, ◌++◌, length, refl, arith, ap, ◌∙◌, sym, Option, Some, None, if◌then◌else◌, subst, drop, get_or, add-one, ◌-◌, length-drop, drop-drop, get_or-drop, append_assoc}
-use Rattle.mail_core.specs.Quotes.{IsQuotedContent, IsClosedQuote, QuoteMark, quote_mark, after_quote, unquoted}
+use Rattle.std.proofs.Common.{◌≡◌, ◌≢◌, ℕ, zero, suc, ◌+◌, ◌<◌, ◌≤◌, Bool, true, false, ◌==◌, List, [], ◌∷◌, ◌++◌, length, refl, arith, ap, ◌∙◌, sym, Some, None, if◌then◌else◌, drop, get_or, ◌-◌, length-drop, drop-drop, get_or-drop, append_assoc}
+use Rattle.mail_core.specs.Quotes.{IsQuotedContent, QuoteMark, quote_mark, after_quote, unquoted}
 use Rattle.mail_core.specs.Quotes.IsQuotedContent.{nothing, byte, pair}
 use Rattle.mail_core.specs.Quotes.QuoteMark.{ending, escape, plain}
 use Rattle.mail_core.proofs.CommentLemmas.{is_it, is_not, not_equal}

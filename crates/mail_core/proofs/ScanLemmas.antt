@@ -1,11 +1,11 @@
 -- The scan, piece by piece, over places of the text.
-use Rattle.std.proofs.Common.{◌≡◌, ◌≢◌, ℕ, zero, suc, ◌+◌, ◌-◌, ◌<◌, ◌≤◌, Bool, true, false, ◌==◌, List, [], ◌∷◌, ◌++◌, length, refl, arith, ap, ◌∙◌, sym, Option, Some, None, subst, drop, get_or, add-one, length-drop, drop-drop}
+use Rattle.std.proofs.Common.{◌≡◌, ◌≢◌, ℕ, zero, suc, ◌+◌, ◌-◌, ◌<◌, ◌≤◌, false, List, [], ◌∷◌, length, refl, arith, ap, ◌∙◌, sym, Option, Some, None, drop, get_or, length-drop, drop-drop}
 use Rattle.mail_core.specs.Comments.{closing_rest}
 use Rattle.mail_core.specs.Quotes.{after_quote}
 use Rattle.mail_core.specs.MsgIds.{Id, id_at}
 use Rattle.mail_core.specs.MsgIds.{next_piece, add_identity, ids_from, ids_of}
 use Rattle.mail_core.specs.Ends.{ClosesAt}
-use Rattle.mail_core.proofs.CommentLemmas.{is_it, is_not, not_equal}
+use Rattle.mail_core.proofs.CommentLemmas.{not_equal}
 use Rattle.mail_core.proofs.CommentTable.{drop-at, drop-past}
 
 pub ids-end : (k : ℕ) → ids_from k [] ≡ []

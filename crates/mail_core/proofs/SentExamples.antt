@@ -1,5 +1,5 @@
 -- Worked examples of sent dates and zones; the arrival is 2003-03-04 10:00:00.
-use Rattle.std.proofs.Common.{◌≡◌, ℕ, List, [], ◌∷◌, refl, codes, ℤ, pos, negsuc, neg_ℤ, ◌++◌, Option, Some, None}
+use Rattle.std.proofs.Common.{◌≡◌, [], ◌∷◌, refl, codes, pos, negsuc, neg_ℤ, ◌++◌, Some, None}
 use Rattle.mail_core.specs.Comments.{closing_rest, comment_mark}
 use Rattle.mail_core.specs.Calendar.{days_before_year, days_of_months}
 use Rattle.mail_core.specs.Tokens.{tokens_of, tokens_from, token_at, kind_of}

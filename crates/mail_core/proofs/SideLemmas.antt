@@ -1,5 +1,5 @@
 -- The sides of a msg-id, by places.
-use Rattle.std.proofs.Common.{◌≡◌, ◌≢◌, ℕ, zero, suc, ◌+◌, ◌-◌, ◌<◌, ◌≤◌, Bool, true, false, ◌==◌, List, [], ◌∷◌, ◌++◌, length, refl, arith, ap, ◌∙◌, sym, Option, Some, None, subst, take, drop, get_or, add-one, length-drop, drop-drop, get_or-drop, option_map, ◌⊎◌, inl, inr, drop-cons, append_assoc, append-nil, length-take}
+use Rattle.std.proofs.Common.{◌≡◌, ◌≢◌, ℕ, zero, suc, ◌+◌, ◌-◌, ◌<◌, ◌≤◌, Bool, true, false, ◌==◌, List, [], ◌∷◌, ◌++◌, length, refl, arith, ap, ◌∙◌, sym, Option, Some, None, take, drop, get_or, length-drop, drop-drop, get_or-drop, option_map, ◌⊎◌, inl, inr, append_assoc, append-nil, length-take}
 use Rattle.std.proofs.Math.Seq.{take-suc}
 use Rattle.std.specs.Option.{option_and_then}
 use Rattle.mail_core.specs.MsgIds.{Id, is_left, is_right, after_byte, with_first, right_from, right_at, Sides, with_left_first, sides_of, quoted_id, quoted_parts, plain_parts, plain_id, id_at}

@@ -1,5 +1,5 @@
 -- Where the comment closes that is open from a place on.
-use Rattle.std.specs.Prelude.{◌≡◌, ℕ, ◌+◌, ◌<◌, ◌≤◌, List, length, Bool, false, Option, Some, None, drop}
+use Rattle.std.specs.Prelude.{◌≡◌, ℕ, ◌+◌, ◌<◌, ◌≤◌, List, length, false, Some, None, drop}
 use Rattle.mail_core.specs.Comments.{closing_rest}
 
 -- e is the place behind the closing parenthesis of the comment inside which k stands, or one past the end where none closes it

@@ -1,6 +1,6 @@
 -- Header fields: RFC 5322 sections 2.1 and 2.2. Profile: spaces and tabs may stand before the colon, as in section 4.5,
 -- and a block of lines that does not begin as a field is no field.
-use Rattle.std.specs.Prelude.{ℕ, ◌∷◌, List, [], ◌++◌, ◌==◌, ◌||◌, ◌&&◌, not, nat_le, nat_lt, if◌then◌else◌, Bool, true, false, Option, Some, None, length, take, drop, map, find, filter_map, option_map}
+use Rattle.std.specs.Prelude.{ℕ, ◌∷◌, List, [], ◌++◌, ◌==◌, ◌||◌, ◌&&◌, not, nat_le, nat_lt, if◌then◌else◌, Bool, false, Option, Some, None, length, take, drop, map, find, filter_map, option_map}
 use Rattle.std.specs.List.{prefix_len}
 use Rattle.std.specs.Char.{to_ascii_lowercase}
 use Rattle.std.specs.Str.{bytes_eq}

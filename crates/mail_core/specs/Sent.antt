@@ -1,6 +1,6 @@
 -- The sent date of a Date body: RFC 5322 sections 3.3 and 4.3; RFC 5256 section 2.2, where the arrival stands for
 -- INTERNALDATE. Profile: a body that is no date, or of no instant, gives the arrival.
-use Rattle.std.specs.Prelude.{ℕ, ◌+◌, ◌-◌, ◌*◌, ◌==◌, ◌&&◌, nat_le, min, List, [], ◌∷◌, Option, Some, None, unwrap_or, if◌then◌else◌, ℤ, pos, ◌-ℤ◌, ◌+ℤ◌, ◌*ℤ◌, codes}
+use Rattle.std.specs.Prelude.{ℕ, ◌+◌, ◌-◌, ◌*◌, nat_le, min, List, [], ◌∷◌, Option, Some, None, unwrap_or, if◌then◌else◌, ℤ, pos, ◌-ℤ◌, ◌+ℤ◌, ◌*ℤ◌, codes}
 use Rattle.mail_core.specs.Bytes.{comma, colon}
 use Rattle.mail_core.specs.Calendar.{is_digit, two_digits, four_digits, day_number_of, instant_at}
 use Rattle.mail_core.specs.Tokens.{Token, tokens_of, digits_first, letters_first, sign_first, after_sign}

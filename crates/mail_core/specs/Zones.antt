@@ -1,5 +1,5 @@
 -- Zones: RFC 5322 sections 3.3 and 4.3. Seconds east of UTC.
-use Rattle.std.specs.Prelude.{ℕ, ◌+◌, ◌-◌, ◌*◌, ◌==◌, ◌||◌, ◌&&◌, nat_le, List, [], ◌∷◌, Bool, true, false, Option, Some, None, if◌then◌else◌, ℤ, pos, ◌-ℤ◌, codes, map, not, length}
+use Rattle.std.specs.Prelude.{ℕ, ◌+◌, ◌*◌, ◌==◌, ◌||◌, ◌&&◌, nat_le, List, [], ◌∷◌, Bool, Option, Some, None, if◌then◌else◌, ℤ, pos, ◌-ℤ◌, codes, map, not, length}
 use Rattle.std.specs.Char.{to_ascii_lowercase, is_ascii_alphabetic}
 use Rattle.std.specs.Str.{bytes_eq}
 use Rattle.std.specs.List.{list_all}

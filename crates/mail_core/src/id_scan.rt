@@ -2,7 +2,7 @@
 ghost use Rattle.std.specs.Prelude.{◌≡◌, IfOk};
 ghost use Rattle.mail_core.specs.MsgIds.{ids_of};
 
-use crate::comments::comment_ends;
+use crate::comments::{comment_ends, first_open};
 use crate::id_reading::read_id;
 use crate::msg_id::MsgId;
 use crate::quotes::quote_end;
@@ -14,14 +14,16 @@ use std::alloc::Global;
 pub fn ids(alloc: Global, text: &[u8]) -> Result<Vec<MsgId>, Memory>
     ensures { IfOk result (λ found. found.items ≡ ids_of text.now) }
 {
-    let ends = comment_ends(alloc, text)?;
+    let from = first_open(text);
+    let (_, rest) = text.split_at(from);
+    let ends = comment_ends(alloc, rest)?;
     let mut found = Vec::new(alloc);
     let mut quotes_end = true;
     let mut at = 0;
     while at < text.len() {
         let byte = text[at];
         if byte == b'(' {
-            let end = ends[at + 1];
+            let end = from + ends[text.len() - at];
             at = if end <= text.len() { end } else { at + 1 };
         } else if byte == b'"' {
             at += 1;

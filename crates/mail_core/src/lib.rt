@@ -14,7 +14,7 @@ mod id_scan;
 mod id_sides;
 mod instants;
 pub mod laws;
-mod lines;
+pub mod lines;
 mod months;
 mod msg_id;
 mod octet_string;

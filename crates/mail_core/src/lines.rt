@@ -4,8 +4,8 @@ ghost use Rattle.mail_core.specs.Lines.{lines, content, without_end};
 
 use memchr::memchr;
 
-/// Where the first line of a text ends.
-pub(crate) fn line_end(text: &[u8]) -> usize
+/// Where the first line of a text ends, behind its LF or at the end of the text.
+pub fn line_end(text: &[u8]) -> usize
     requires { 0 < length text.now }
     ensures some { 0 < result }
     ensures within { result ≤ length text.now }
@@ -30,7 +30,7 @@ fn without<'a>(line: &'a [u8], byte: u8) -> &'a [u8]
 
 /// A line without its LF, and without a CR before that or before the end.
 #[tactic(auto, unfolding(crate::specs::Lines::content))]
-pub(crate) fn line_content<'a>(line: &'a [u8]) -> &'a [u8]
+pub fn line_content<'a>(line: &'a [u8]) -> &'a [u8]
     ensures { result.now ≡ content line.entry.now }
 {
     without(without(line, b'\n'), b'\r')

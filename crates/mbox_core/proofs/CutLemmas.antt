@@ -3,9 +3,9 @@ use Rattle.std.proofs.Common.{◌≡◌, ℕ, ◌+◌, ◌≤◌, Bool, true, fa
 use Rattle.std.proofs.lemmas.List.{drop-drop, drop_all, length-take-le}
 use Rattle.std.proofs.Math.Seq.{take-add}
 use Rattle.std.specs.List.{concat, AllByRecursion}
-use Rattle.mbox_core.specs.Lines.{lines, content, is_blank}
+use Rattle.mail_core.specs.Lines.{lines, content}
 use Rattle.mbox_core.specs.Separator.{Envelope, separator_of}
-use Rattle.mbox_core.specs.Division.{Split, IsBlank, AreBlocks, Divides, IsPreamble, body, with_item, split_lines, items_after, text_in, items_in}
+use Rattle.mbox_core.specs.Division.{is_blank, Split, IsBlank, AreBlocks, Divides, IsPreamble, body, with_item, split_lines, items_after, text_in, items_in}
 use Rattle.mbox_core.proofs.LineLemmas.{concat-lines, blank_says, AreLines, are_front, are_back, lines-concat, lines_are, lines-nil}
 use Rattle.mbox_core.proofs.SplitLemmas.{Quiet, last_blank, heads, with_lines, nothing, split-nil, split-some, split-quiet, body-blank, body-some, body-nil, reads, Reads, none_is, unblank_not}
 

@@ -1,8 +1,8 @@
 -- What holds of every division.
 use Rattle.std.proofs.Common.{◌≡◌, ℕ, Bool, true, List, [], ◌∷◌, ◌++◌, length, refl, ap, ◌∙◌, sym, append_assoc, append-nil, inl, inr, ◌⊎◌, subst}
 use Rattle.std.specs.List.{concat, AllByRecursion}
-use Rattle.mbox_core.specs.Lines.{lines, is_blank}
-use Rattle.mbox_core.specs.Division.{Item, Split, IsBlank, Divides, IsPreamble, with_line, split_lines, items_of}
+use Rattle.mail_core.specs.Lines.{lines}
+use Rattle.mbox_core.specs.Division.{is_blank, Item, Split, IsBlank, Divides, IsPreamble, with_line, split_lines, items_of}
 use Rattle.mbox_core.proofs.LineLemmas.{lines_are}
 use Rattle.mbox_core.proofs.SplitLemmas.{Quiet, quiet_back, quiet_blanks, last_blanks, last_blank, split-quiet, split-none, heads_any, with_lines, none_is, divides_items, reads, first_unblank, Unblank, all_back, blocks_split}
 

@@ -4,9 +4,9 @@ use Rattle.std.proofs.lemmas.List.{take-append-drop, get_or_append_left, take-ta
 use Rattle.std.proofs.lemmas.Bool.{eqb-true, cases_lt}
 use Rattle.std.specs.List.{concat, AllByRecursion}
 use Rattle.memchr.specs.Find.{OccursAt, Nowhere}
-use Rattle.mbox_core.specs.Lines.{lines, before_first, content, is_blank, ends_in, without_end}
+use Rattle.mail_core.specs.Lines.{lines, onto_first_line, content, ends_in, without_end}
 use Rattle.mbox_core.specs.Separator.{Envelope, separator_of}
-use Rattle.mbox_core.specs.Division.{Split, body, split_lines, text_in, items_in}
+use Rattle.mbox_core.specs.Division.{is_blank, Split, body, split_lines, text_in, items_in}
 use Rattle.mbox_core.proofs.LineLemmas.{concat-lines, lines-append, lines-nil, lines-cut, lines-whole}
 use Rattle.mbox_core.proofs.SeparatorLemmas.{separator_is}
 use Rattle.mbox_core.proofs.SplitLemmas.{Quiet, last_blank, last_append, heads, body-blank, body-some, concat_snoc, with_lines, nothing, split-quiet, split-nil}
@@ -73,7 +73,7 @@ first_plain bs h l ms e = plain_by l (λ v s.
     let O : List ℕ → Type 0 = λ x. OccursAt x mark 0 in
     h (subst O (sym all) (occurs_first (b.0 ++ concat ms)))) (separator_of (content l)) refl
 
-later_before : (b : ℕ) (ls : List (List ℕ)) → later (before_first b ls) ≡ later ls
+later_before : (b : ℕ) (ls : List (List ℕ)) → later (onto_first_line b ls) ≡ later ls
 later_before b [] = refl
 later_before b (l ∷ ls) = refl
 
@@ -84,7 +84,7 @@ later_plain [] h = tt
 later_plain (b ∷ bs) h = cases (b == 10) refl (later_plain bs (λ k o. h (suc k) (occurs_later b bs k o)))
   where
     cases : (t : Bool) → (b == 10) ≡ t → AllByRecursion IsPlain (later (lines bs))
-        → AllByRecursion IsPlain (later (if t then (b ∷ []) ∷ lines bs else before_first b (lines bs)))
+        → AllByRecursion IsPlain (later (if t then (b ∷ []) ∷ lines bs else onto_first_line b (lines bs)))
     cases true e g =
         let N : ℕ → Type 0 = λ n. ¬ OccursAt (n ∷ bs) mark 0 in
         all_of (lines bs) (first_plain bs (subst N (eqb-true b 10 e) (h 0))) g

@@ -1,11 +1,12 @@
 -- The canonical separator line of an envelope says that envelope.
-use Rattle.std.proofs.Common.{◌≡◌, ◌≢◌, ℕ, zero, suc, ◌+◌, ◌-◌, ◌*◌, ◌/◌, ◌%◌, ◌<◌, ◌≤◌, Bool, true, false, not, ◌==◌, ◌&&◌, ◌||◌, nat_lt, refl, arith, ap, ◌∙◌, sym, if◌then◌else◌, Some, List, [], ◌∷◌, ◌++◌, length, drop, length-take, length-drop, get_or, ℤ, pos, negsuc, ◌+ℤ◌, ◌*ℤ◌, unsigned_abs}
+use Rattle.std.proofs.Common.{◌≡◌, ◌≢◌, ℕ, zero, suc, ◌+◌, ◌-◌, ◌*◌, ◌/◌, ◌%◌, ◌<◌, ◌≤◌, Bool, true, false, not, ◌==◌, ◌&&◌, ◌||◌, nat_lt, refl, arith, ap, ◌∙◌, sym, if◌then◌else◌, Some, List, [], ◌∷◌, ◌++◌, length, drop, length-take, length-drop, get_or, ℤ, pos, negsuc, ◌+ℤ◌, ◌-ℤ◌, ◌*ℤ◌, unsigned_abs, codes, append_assoc}
 use Rattle.std.proofs.lemmas.Bool.Decides.{nat_tests}
+use Rattle.std.proofs.lemmas.Int.{ints}
 use Rattle.std.specs.Int.{int_rem_euclid}
 use Rattle.std.specs.List.{list_any}
 use Rattle.mail_core.specs.Calendar.{month_days, day_number_of, day_of_instant, weekday, is_instant, instant_at}
-use Rattle.mbox_core.specs.Lines.{before_first}
-use Rattle.mbox_core.specs.Separator.{Envelope, IsSeparator, tokens, is_sender_token, day_of, instant_of}
+use Rattle.mail_core.specs.Lines.{onto_first_line}
+use Rattle.mbox_core.specs.Separator.{Envelope, IsSeparator, IsSentBy, AreSenderTokens, spaced, tokens, is_sender_token, day_of, instant_of}
 use Rattle.mbox_core.specs.Written.{Date, IsEnvelope, heading, time_text, date_text, date_after, days_since_1900, as_day_digits, as_two_digits, as_four_digits, clock_text, name_at, weekday_names, month_names}
 use Rattle.mbox_core.proofs.DateLemmas.{both, date_is, found_number, split_is}
 use Rattle.mbox_core.proofs.DigitLemmas.{is_plain, is_run, day_one, day_two, clock_read, year_read, weekday_read, month_read, two_plain, one_plain, four_plain, clock_plain, weekday_plain, month_plain}
@@ -31,7 +32,7 @@ token_then (b ∷ c ∷ t) r some h =
     let first = both (is_plain b) (is_run (c ∷ t)) h in
     let second = both (is_plain c) (is_run t) first.1 in
     let later = token_then (c ∷ t) r (λ e. cc) first.1 in
-    rw (plain_other b first.0, plain_other c second.0) (ap (before_first b) (sym (rw (plain_other c second.0) refl) ∙ later))
+    rw (plain_other b first.0, plain_other c second.0) (ap (onto_first_line b) (sym (rw (plain_other c second.0) refl) ∙ later))
 
 -- a token at the end
 pub token_last : (t : List ℕ) → t ≢ [] → is_run t ≡ true → tokens t ≡ t ∷ []
@@ -42,7 +43,7 @@ token_last (b ∷ c ∷ t) some h =
     let first = both (is_plain b) (is_run (c ∷ t)) h in
     let second = both (is_plain c) (is_run t) first.1 in
     let later = token_last (c ∷ t) (λ e. cc) first.1 in
-    rw (plain_other b first.0, plain_other c second.0) (ap (before_first b) (sym (rw (plain_other c second.0) refl) ∙ later))
+    rw (plain_other b first.0, plain_other c second.0) (ap (onto_first_line b) (sym (rw (plain_other c second.0) refl) ∙ later))
 
 after_space : (r : List ℕ) → tokens (32 ∷ r) ≡ tokens r
 unfolding tokens
@@ -139,16 +140,34 @@ pub rest_small : (z : ℤ) → unsigned_abs (int_rem_euclid z (pos 7)) < 7
 rest_small (pos a) = omega arith
 rest_small (negsuc a) = omega arith
 
-heading_tokens : (sender : List ℕ) (z : ℤ) (date : Date) (s : ℕ) → is_sender_token sender ≡ true → date.month - 1 < 12
-    → tokens (sender ++ 32 ∷ date_text (weekday z) date s)
-    ≡ sender ∷ name_at (weekday z) weekday_names ∷ name_at (date.month - 1) month_names ∷ day_token date.day ∷ clock_text s ∷ as_four_digits date.year ∷ []
-heading_tokens sender z date s h hm =
-    token_then sender (date_text (weekday z) date s) (sender_some sender h) (sender_run sender h)
-    ∙ ap (λ ts. sender ∷ ts) (date_tokens (weekday z) date s (rest_small (z +ℤ pos 3)) hm)
+-- the tokens of a sender, and what follows a space behind it
+who_then : (who : List (List ℕ)) (r : List ℕ) → AreSenderTokens who → tokens (spaced who ++ 32 ∷ r) ≡ who ++ tokens r
+who_then [] r h = absurd h
+who_then (a ∷ []) r h = token_then a r (sender_some a h) (sender_run a h)
+who_then (a ∷ b ∷ []) r h = absurd h
+who_then (a ∷ word ∷ b ∷ []) r (left, at, right) =
+    let run : is_run word ≡ true = ap is_run at in
+    let some : word ≢ [] = λ e. let bad : codes "at" ≡ [] = sym at ∙ e in absurd (cc) in
+    ap tokens (append_assoc a (32 ∷ (word ++ 32 ∷ b)) (32 ∷ r) ∙ ap (λ x. a ++ 32 ∷ x) (append_assoc word (32 ∷ b) (32 ∷ r)))
+    ∙ token_then a (word ++ 32 ∷ (b ++ 32 ∷ r)) (sender_some a left) (sender_run a left)
+    ∙ ap (λ ts. a ∷ ts) (token_then word (b ++ 32 ∷ r) some run
+    ∙ ap (λ ts. word ∷ ts) (token_then b r (sender_some b right) (sender_run b right)))
+who_then (a ∷ b ∷ c ∷ d ∷ who) r h = absurd h
 
-instant_is : (z day : ℤ) (s : ℕ) → is_instant z ≡ true → day *ℤ pos 86400 +ℤ pos s ≡ z → instant_of day s ≡ Some z
+heading_tokens : (sender : List ℕ) (who : List (List ℕ)) (z : ℤ) (date : Date) (s : ℕ) → IsSentBy who sender → date.month - 1 < 12
+    → tokens (sender ++ 32 ∷ date_text (weekday z) date s)
+    ≡ who ++ (name_at (weekday z) weekday_names ∷ name_at (date.month - 1) month_names ∷ day_token date.day ∷ clock_text s ∷ as_four_digits date.year ∷ [])
+heading_tokens sender who z date s h hm =
+    ap (λ x. tokens (x ++ 32 ∷ date_text (weekday z) date s)) h.1
+    ∙ who_then who (date_text (weekday z) date s) h.0
+    ∙ ap (λ ts. who ++ ts) (date_tokens (weekday z) date s (rest_small (z +ℤ pos 3)) hm)
+
+less_none : (z : ℤ) → z -ℤ pos 0 ≡ z
+less_none z = omega (arith, ints)
+
+instant_is : (z day : ℤ) (s : ℕ) → is_instant z ≡ true → day *ℤ pos 86400 +ℤ pos s ≡ z → instant_of day s (pos 0) ≡ Some z
 unfolding instant_of
-instant_is z day s h e = ap instant_at e ∙ rw h refl
+instant_is z day s h e = ap instant_at (less_none (day *ℤ pos 86400 +ℤ pos s) ∙ e) ∙ rw h refl
 
 -- the month of an arrival
 pub in_year_after : (e : Envelope) → IsEnvelope e → (date_after (days_since_1900 (day_of_instant e.arrival))).month - 1 < 12
@@ -177,20 +196,26 @@ heading_says e is =
       day_text = day_token date.day;
       time_text = clock_text s;
       year_text = as_four_digits date.year;
-      six = heading_tokens e.sender day date s is.sender in_year;
-      sender = is.sender;
-      any_weekday = weekday_read (weekday day) (rest_small (day +ℤ pos 3));
-      month = date.month - 1;
-      is_month = month_read (date.month - 1) in_year;
-      day = date.day;
-      is_day = day_read date.day (omega (arith, found.in_month, month_short date.year date.month));
-      seconds = s;
-      is_time = clock_read s split.seconds;
-      year = date.year;
-      is_year = year_read date.year (omega (arith, found.last));
-      day_number = day;
-      exists = ap (λ m. day_number_of date.year m date.day) month ∙ found_number n day date found split.low;
-      instant = instant_is z day s is.arrival split.same;
+      who = is.sender.0;
+      zone = [];
+      are_tokens = heading_tokens e.sender is.sender.0 day date s is.sender.1 in_year;
+      sender = is.sender.1;
+      arrival = record {
+        any_weekday = weekday_read (weekday day) (rest_small (day +ℤ pos 3));
+        month = date.month - 1;
+        is_month = month_read (date.month - 1) in_year;
+        day = date.day;
+        is_day = day_read date.day (omega (arith, found.in_month, month_short date.year date.month));
+        seconds = s;
+        is_time = clock_read s split.seconds;
+        east = pos 0;
+        is_zone = refl;
+        year = date.year;
+        is_year = year_read date.year (omega (arith, found.last));
+        day_number = day;
+        exists = ap (λ m. day_number_of date.year m date.day) month ∙ found_number n day date found split.low;
+        instant = instant_is z day s is.arrival split.same;
+      };
     }
 
 -- ---- the line as the code puts it together

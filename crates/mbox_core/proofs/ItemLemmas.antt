@@ -3,9 +3,9 @@ use Rattle.std.proofs.Common.{◌≡◌, ◌≢◌, ℕ, suc, ◌-◌, Bool, tru
 use Rattle.std.proofs.lemmas.List.{get_or_at, take_at}
 use Rattle.std.proofs.lemmas.Bool.Decides.{nat_tests}
 use Rattle.std.specs.Option.{is_some}
-use Rattle.mbox_core.specs.Lines.{lines, before_first, content, is_blank, ends_in, without_end}
+use Rattle.mail_core.specs.Lines.{lines, onto_first_line, content, ends_in, without_end}
 use Rattle.mbox_core.specs.Separator.{Envelope, IsSeparator}
-use Rattle.mbox_core.specs.Division.{Item, Split, IsBlank, IsSeparatorLine, NoneSeparates, AreBlocks, body, split_lines, is_whole, whole, text_in, items_in, items_after}
+use Rattle.mbox_core.specs.Division.{is_blank, Item, Split, IsBlank, IsSeparatorLine, NoneSeparates, AreBlocks, body, split_lines, is_whole, whole, text_in, items_in, items_after}
 use Rattle.mbox_core.proofs.LineLemmas.{lines_are, AreLines, are_front, lines-concat, lines-nil}
 use Rattle.mbox_core.proofs.SplitLemmas.{Quiet, none_separates, quiet_false, quiet_front, reads, split-quiet, split-nil, last_blank, with_lines, last_line, body-blank, body-some, body-nil, concat_snoc}
 
@@ -74,7 +74,7 @@ LastOpen [] = ⊥
 LastOpen (l ∷ []) = ends_in 10 l ≡ false
 LastOpen (l ∷ m ∷ ls) = LastOpen (m ∷ ls)
 
-last_before : (x : ℕ) (ls : List (List ℕ)) → ls ≢ [] → on_last (before_first x ls) ≡ before_first x (on_last ls)
+last_before : (x : ℕ) (ls : List (List ℕ)) → ls ≢ [] → on_last (onto_first_line x ls) ≡ onto_first_line x (on_last ls)
 last_before x [] h = absurd (h refl)
 last_before x (l ∷ []) h = refl
 last_before x (l ∷ m ∷ ls) h = refl
@@ -98,7 +98,7 @@ ends_cons x y t b =
     let q : suc (length t) - 1 ≡ length t = omega arith in
     rw (p, q) refl
 
-open_before : (x : ℕ) (ls : List (List ℕ)) → AreLines ls → LastOpen ls → LastOpen (before_first x ls)
+open_before : (x : ℕ) (ls : List (List ℕ)) → AreLines ls → LastOpen ls → LastOpen (onto_first_line x ls)
 open_before x [] a h = absurd h
 open_before x ([] ∷ []) a h = let bad : [] ≡ [] ∷ [] = sym lines-nil ∙ a in absurd (cc)
 open_before x ((y ∷ l) ∷ []) a h = ends_cons x y l 10 ∙ h
@@ -109,7 +109,7 @@ unfolding lines
 open_lines x [] h = rw h h
 open_lines x (y ∷ t) h = cases (x == 10) (open_lines y t (sym (ends_cons x y t 10) ∙ h))
   where
-    cases : (c : Bool) → LastOpen (lines (y ∷ t)) → LastOpen (if c then (x ∷ []) ∷ lines (y ∷ t) else before_first x (lines (y ∷ t)))
+    cases : (c : Bool) → LastOpen (lines (y ∷ t)) → LastOpen (if c then (x ∷ []) ∷ lines (y ∷ t) else onto_first_line x (lines (y ∷ t)))
     cases true g = open_cons (x ∷ []) (lines (y ∷ t)) g
     cases false g = open_before x (lines (y ∷ t)) (lines_are (y ∷ t)) g
 
@@ -121,10 +121,10 @@ lines-lf x (y ∷ t) h =
     cases (x == 10) (lines-lf y t g) (open_some (lines (y ∷ t)) (open_lines y t g))
   where
     cases : (c : Bool) → lines ((y ∷ t) ++ 10 ∷ []) ≡ on_last (lines (y ∷ t)) → lines (y ∷ t) ≢ []
-        → (if c then (x ∷ []) ∷ lines ((y ∷ t) ++ 10 ∷ []) else before_first x (lines ((y ∷ t) ++ 10 ∷ [])))
-        ≡ on_last (if c then (x ∷ []) ∷ lines (y ∷ t) else before_first x (lines (y ∷ t)))
+        → (if c then (x ∷ []) ∷ lines ((y ∷ t) ++ 10 ∷ []) else onto_first_line x (lines ((y ∷ t) ++ 10 ∷ [])))
+        ≡ on_last (if c then (x ∷ []) ∷ lines (y ∷ t) else onto_first_line x (lines (y ∷ t)))
     cases true e s = ap (λ ls. (x ∷ []) ∷ ls) e ∙ sym (last_cons (x ∷ []) (lines (y ∷ t)) s)
-    cases false e s = ap (before_first x) e ∙ sym (last_before x (lines (y ∷ t)) s)
+    cases false e s = ap (onto_first_line x) e ∙ sym (last_before x (lines (y ∷ t)) s)
 
 -- an LF more says nothing
 pub content-lf : (l : List ℕ) → ends_in 10 l ≡ false → content (l ++ 10 ∷ []) ≡ content l

@@ -4,8 +4,8 @@ use Rattle.std.proofs.Math.Seq.{drop-length}
 use Rattle.std.proofs.lemmas.List.{nil_from_length}
 use Rattle.std.proofs.lemmas.Bool.{eqb-true}
 use Rattle.std.specs.List.{concat}
-use Rattle.mbox_core.specs.Lines.{lines, before_first, content, is_blank}
-use Rattle.mbox_core.specs.Division.{IsBlank}
+use Rattle.mail_core.specs.Lines.{lines, onto_first_line, content}
+use Rattle.mbox_core.specs.Division.{is_blank, IsBlank}
 
 pub lines-nil : lines [] ≡ []
 unfolding lines
@@ -17,7 +17,7 @@ blank_says l h = nil_from_length (content l) (eqb-true (length (content l)) 0 h)
 pub says_blank : (l : List ℕ) → IsBlank l → is_blank l ≡ true
 says_blank l h = rw h refl
 
-concat_first : (b : ℕ) (ls : List (List ℕ)) → concat (before_first b ls) ≡ b ∷ concat ls
+concat_first : (b : ℕ) (ls : List (List ℕ)) → concat (onto_first_line b ls) ≡ b ∷ concat ls
 concat_first b [] = refl
 concat_first b (l ∷ ls) = refl
 
@@ -27,7 +27,7 @@ unfolding lines
 concat-lines [] = refl
 concat-lines (b ∷ bs) = cases (b == 10) (concat-lines bs)
   where
-    cases : (t : Bool) → concat (lines bs) ≡ bs → concat (if t then (b ∷ []) ∷ lines bs else before_first b (lines bs)) ≡ b ∷ bs
+    cases : (t : Bool) → concat (lines bs) ≡ bs → concat (if t then (b ∷ []) ∷ lines bs else onto_first_line b (lines bs)) ≡ b ∷ bs
     cases true h = ap (λ l. b ∷ l) h
     cases false h = concat_first b (lines bs) ∙ ap (λ l. b ∷ l) h
 
@@ -60,7 +60,7 @@ pub more_ended : (b : ℕ) (l : List ℕ) → (b == 10) ≡ false → IsEnded l 
 unfolding lines
 more_ended b l n h x = rw (n, h x) refl
 
-first_are : (b : ℕ) (ls : List (List ℕ)) → (b == 10) ≡ false → AreLines ls → AreLines (before_first b ls)
+first_are : (b : ℕ) (ls : List (List ℕ)) → (b == 10) ≡ false → AreLines ls → AreLines (onto_first_line b ls)
 unfolding lines
 first_are b [] n h = rw n refl
 first_are b (l ∷ []) n h = rw (n, h) refl
@@ -71,7 +71,7 @@ unfolding lines
 lines_are [] = tt
 lines_are (b ∷ bs) = cases (b == 10) refl (lines_are bs)
   where
-    cases : (t : Bool) → (b == 10) ≡ t → AreLines (lines bs) → AreLines (if t then (b ∷ []) ∷ lines bs else before_first b (lines bs))
+    cases : (t : Bool) → (b == 10) ≡ t → AreLines (lines bs) → AreLines (if t then (b ∷ []) ∷ lines bs else onto_first_line b (lines bs))
     cases true e h = let P : ℕ → Type 0 = λ n. IsEnded (n ∷ []) in are_cons (b ∷ []) (lines bs) (subst P (sym (eqb-true b 10 e)) lf_ended) h
     cases false e h = first_are b (lines bs) e h
 
@@ -93,7 +93,7 @@ lines-concat [] h = lines-nil
 lines-concat (l ∷ []) h = ap lines (append-nil l) ∙ h
 lines-concat (l ∷ m ∷ ls) h = h.0 (concat (m ∷ ls)) ∙ ap (λ x. l ∷ x) (lines-concat (m ∷ ls) h.1)
 
-before_append : (b : ℕ) (ls ms : List (List ℕ)) → ls ≢ [] → before_first b (ls ++ ms) ≡ before_first b ls ++ ms
+before_append : (b : ℕ) (ls ms : List (List ℕ)) → ls ≢ [] → onto_first_line b (ls ++ ms) ≡ onto_first_line b ls ++ ms
 before_append b [] ms h = absurd (h refl)
 before_append b (l ∷ ls) ms h = refl
 
@@ -106,7 +106,7 @@ some_lines [] b = cases (b == 10)
     cases false e = cc
 some_lines (x ∷ a) b = cases (x == 10) (lines (a ++ b ∷ []))
   where
-    cases : (t : Bool) (ls : List (List ℕ)) → (if t then (x ∷ []) ∷ ls else before_first x ls) ≢ []
+    cases : (t : Bool) (ls : List (List ℕ)) → (if t then (x ∷ []) ∷ ls else onto_first_line x ls) ≢ []
     cases true ls e = cc
     cases false [] e = cc
     cases false (l ∷ ls) e = cc
@@ -117,10 +117,10 @@ unfolding lines
 lines-append [] b = refl
 lines-append (x ∷ a) b = cases (x == 10) (lines-append a b)
   where
-    cases : (t : Bool) → lines (a ++ 10 ∷ b) ≡ lines (a ++ 10 ∷ []) ++ lines b → (if t then (x ∷ []) ∷ lines (a ++ 10 ∷ b) else before_first x (lines (a ++ 10 ∷ b)))
-        ≡ (if t then (x ∷ []) ∷ lines (a ++ 10 ∷ []) else before_first x (lines (a ++ 10 ∷ []))) ++ lines b
+    cases : (t : Bool) → lines (a ++ 10 ∷ b) ≡ lines (a ++ 10 ∷ []) ++ lines b → (if t then (x ∷ []) ∷ lines (a ++ 10 ∷ b) else onto_first_line x (lines (a ++ 10 ∷ b)))
+        ≡ (if t then (x ∷ []) ∷ lines (a ++ 10 ∷ []) else onto_first_line x (lines (a ++ 10 ∷ []))) ++ lines b
     cases true h = ap (λ ls. (x ∷ []) ∷ ls) h
-    cases false h = ap (before_first x) h ∙ before_append x (lines (a ++ 10 ∷ [])) (lines b) (some_lines a 10)
+    cases false h = ap (onto_first_line x) h ∙ before_append x (lines (a ++ 10 ∷ [])) (lines b) (some_lines a 10)
 
 -- ---- the first line
 

@@ -1,9 +1,9 @@
 -- The computed division beside the relation.
 use Rattle.std.proofs.Common.{◌≡◌, ℕ, Bool, true, false, List, [], ◌∷◌, ◌++◌, refl, ap, ◌∙◌, sym, if◌then◌else◌, Option, Some, None, append_assoc, append-nil, inl, inr, ◌⊎◌, subst}
 use Rattle.std.specs.List.{concat, AllByRecursion}
-use Rattle.mbox_core.specs.Lines.{lines, content, is_blank}
+use Rattle.mail_core.specs.Lines.{lines, content}
 use Rattle.mbox_core.specs.Separator.{Envelope, separator_of}
-use Rattle.mbox_core.specs.Division.{Item, Split, IsBlank, IsSeparatorLine, NoneSeparates, EndsUnblank, AreBlocks, Divides, body, headed, with_line, with_item, split_lines, items_of}
+use Rattle.mbox_core.specs.Division.{is_blank, Item, Split, IsBlank, IsSeparatorLine, NoneSeparates, EndsUnblank, AreBlocks, Divides, body, headed, with_line, with_item, split_lines, items_of}
 use Rattle.mbox_core.proofs.LineLemmas.{concat-lines, blank_says, says_blank, AreLines, are_front, are_back, lines-concat, lines-nil}
 use Rattle.mbox_core.proofs.SeparatorLemmas.{no_envelope, separator_is, separator_all}
 

@@ -2,7 +2,7 @@
 use Rattle.std.proofs.Common.{◌≡◌, ℕ, zero, suc, ◌+◌, ◌<◌, ◌≤◌, Bool, true, false, ◌==◌, List, [], ◌∷◌, length, take, drop, get_or, refl, arith, ap, ◌∙◌}
 use Rattle.std.proofs.lemmas.List.{drop_more}
 use Rattle.std.proofs.lemmas.Bool.{eq-eqb}
-use Rattle.mbox_core.specs.Lines.{before_first}
+use Rattle.mail_core.specs.Lines.{onto_first_line}
 use Rattle.mbox_core.specs.Separator.{tokens}
 
 not_it : (b : Bool) → (b ≡ true → ⊥) → b ≡ false
@@ -24,7 +24,7 @@ after_space b bs h = rw h refl
 pub space_more : (text : List ℕ) (at : ℕ) → at < length text → get_or text at 0 ≡ 32 → tokens (drop at text) ≡ tokens (drop (at + 1) text)
 space_more text at h e = ap tokens (drop_more text at 0 h) ∙ after_space (get_or text at 0) (drop (at + 1) text) (eq-eqb (get_or text at 0) 32 e)
 
-glued : (x y : ℕ) (xs : List ℕ) → (x == 32) ≡ false → (y == 32) ≡ false → tokens (x ∷ y ∷ xs) ≡ before_first x (tokens (y ∷ xs))
+glued : (x y : ℕ) (xs : List ℕ) → (x == 32) ≡ false → (y == 32) ≡ false → tokens (x ∷ y ∷ xs) ≡ onto_first_line x (tokens (y ∷ xs))
 unfolding tokens
 glued x y xs p q = rw (p, q) refl
 
@@ -44,4 +44,4 @@ tokens-cut (x ∷ y ∷ xs) (suc (suc n)) some h none stop =
     let later = tokens-cut (y ∷ xs) (suc n) (omega arith) (let g : suc (suc n) ≤ suc (suc (length xs)) = h in let w : suc n ≤ suc (length xs) = omega (arith, g) in w)
     (λ k lt e. none (suc k) (omega (arith, lt)) e)
     (λ lt. stop (let g : suc n < suc (length xs) = lt in let w : suc (suc n) < suc (suc (length xs)) = omega (arith, g) in w)) in
-    glued x y xs (not_it (x == 32) (none 0 (omega arith))) other ∙ ap (before_first x) later
+    glued x y xs (not_it (x == 32) (none 0 (omega arith))) other ∙ ap (onto_first_line x) later

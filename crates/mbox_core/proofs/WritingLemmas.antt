@@ -49,7 +49,7 @@ second_short before mid after a b n k m h e = (
 )
 
 -- a count that fits is exact
-pub exact_count : (before mid after a b : List ℕ) (n len k : ℕ) → mid ≡ before ++ a → IsCutShort mid after b n → len ≡ length a
+pub exact_count : (before mid after a b : List ℕ) (n len k : ℕ) → mid ≡ before ++ a → IsCutShort mid after b n → len ≡ min (length a) (2 ^ 64 - 1)
     → k ≡ min (len + n) (2 ^ 64 - 1) → length after < 2 ^ 64 → k ≡ length a + n
 exact_count before mid after a b n len k m h e s low =
     omega (arith, e, s, low, h.0, ap length m, length-append before a, ap length h.1, length-append mid (take n b), length-take n b)

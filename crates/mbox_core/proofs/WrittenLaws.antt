@@ -1,5 +1,5 @@
 -- What is written is cut again.
-use Rattle.std.proofs.Common.{◌≡◌, ℕ, suc, ◌+◌, ◌-◌, ◌*◌, ◌/◌, ◌%◌, ◌<◌, Bool, true, false, ◌==◌, nat_lt, refl, arith, ap, ◌∙◌, sym, if◌then◌else◌, inl, inr, ◌⊎◌, List, [], ◌∷◌, ◌++◌, length, length-append, take, take_all, get_or, subst, codes, map, append_assoc, Some, None, ℤ, pos, ◌+ℤ◌, ◌*ℤ◌, unsigned_abs}
+use Rattle.std.proofs.Common.{◌≡◌, ℕ, suc, ◌+◌, ◌-◌, ◌*◌, ◌/◌, ◌%◌, ◌<◌, Bool, true, false, ◌==◌, nat_lt, refl, arith, ap, ◌∙◌, sym, if◌then◌else◌, inl, inr, ◌⊎◌, List, [], ◌∷◌, ◌++◌, length, length-append, take, take_all, get_or, subst, codes, map, append_assoc, Some, None, ℤ, pos, ◌+ℤ◌, ◌-ℤ◌, ◌*ℤ◌, unsigned_abs}
 use Rattle.std.specs.List.{All}
 use Rattle.std.specs.Int.{int_rem_euclid}
 use Rattle.std.proofs.lemmas.List.{take_more}
@@ -7,8 +7,8 @@ use Rattle.std.proofs.lemmas.List.Elements.{All-nil, All-cons, All-tail}
 use Rattle.mail_core.specs.Calendar.{weekday, day_of_instant, is_instant}
 use Rattle.std.proofs.lemmas.Bool.{eqb-true}
 use Rattle.std.proofs.lemmas.Bool.Decides.{nat_tests}
-use Rattle.mbox_core.specs.Lines.{lines, content, ends_in}
-use Rattle.mbox_core.specs.Separator.{Envelope, IsSeparator, instant_of}
+use Rattle.mail_core.specs.Lines.{lines, content, ends_in}
+use Rattle.mbox_core.specs.Separator.{Envelope, IsSeparator, IsSenderText, AreSenderTokens, spaced, instant_of}
 use Rattle.mbox_core.specs.Division.{Item, IsBlank, NoneSeparates, AreBlocks, Divides, is_whole, whole}
 use Rattle.mbox_core.specs.Written.{Date, IsEnvelope, IsItem, heading, ended, written, whole_item, time_text, date_text, as_day_digits, as_two_digits, as_four_digits, clock_text, name_at, weekday_names, month_names, date_after, days_since_1900}
 use Rattle.mbox_core.proofs.LineLemmas.{lines-nil, lines-append, IsEnded, lf_first, more_ended, lf_ended}
@@ -93,12 +93,28 @@ says_itself l h g = content-lf l h ∙ rw (h, g) refl
 heading_content : (e : Envelope) → content (heading e ++ 10 ∷ []) ≡ heading e
 heading_content e = says_itself (heading e) (heading_ends e 10 (omega arith)) (heading_ends e 13 (omega arith))
 
+sender_ended : (who : List (List ℕ)) (x : List ℕ) → AreSenderTokens who → IsEnded (x ++ 10 ∷ []) → IsEnded ((spaced who ++ x) ++ 10 ∷ [])
+sender_ended [] x h e = absurd h
+sender_ended (a ∷ []) x h e = ended_run a (sender_run a h) x e
+sender_ended (a ∷ b ∷ []) x h e = absurd h
+sender_ended (a ∷ word ∷ b ∷ []) x (left, at, right) e =
+    let same : spaced (a ∷ word ∷ b ∷ []) ++ x ≡ a ++ 32 ∷ (word ++ 32 ∷ (b ++ x)) =
+    append_assoc a (32 ∷ (word ++ 32 ∷ b)) x ∙ ap (λ y. a ++ 32 ∷ y) (append_assoc word (32 ∷ b) x) in
+    let P : List ℕ → Type 0 = λ y. IsEnded (y ++ 10 ∷ []) in
+    subst P (sym same) (ended_run a (sender_run a left) (32 ∷ (word ++ 32 ∷ (b ++ x)))
+    (ended_space (word ++ 32 ∷ (b ++ x)) (ended_run word (ap is_run at) (32 ∷ (b ++ x))
+    (ended_space (b ++ x) (ended_run b (sender_run b right) x e)))))
+sender_ended (a ∷ b ∷ c ∷ d ∷ who) x h e = absurd h
+
+text_ended : (s x : List ℕ) → IsSenderText s → IsEnded (x ++ 10 ∷ []) → IsEnded ((s ++ x) ++ 10 ∷ [])
+text_ended s x (who, (h, same)) e = let P : List ℕ → Type 0 = λ y. IsEnded ((y ++ x) ++ 10 ∷ []) in subst P (sym same) (sender_ended who x h e)
+
 heading_ended : (e : Envelope) → IsEnvelope e → IsEnded (heading e ++ 10 ∷ [])
 unfolding time_text
 heading_ended e is =
     let day = day_of_instant e.arrival in
     ended_run (codes "From") refl (32 ∷ (e.sender ++ 32 ∷ time_text e.arrival))
-    (ended_space (e.sender ++ 32 ∷ time_text e.arrival) (ended_run e.sender (sender_run e.sender is.sender) (32 ∷ time_text e.arrival)
+    (ended_space (e.sender ++ 32 ∷ time_text e.arrival) (text_ended e.sender (32 ∷ time_text e.arrival) is.sender
     (ended_space (time_text e.arrival) (date_ended (weekday day) (date_after (days_since_1900 day)) (unsigned_abs (int_rem_euclid e.arrival (pos 86400))) (rest_small (day +ℤ pos 3)) (in_year_after e is)))))
 
 -- ---- its length
@@ -190,10 +206,9 @@ in_range z arrival false e h = absurd (cc)
 
 said_envelope : (said : List ℕ) (e : Envelope) → IsSeparator said e → IsEnvelope e
 unfolding instant_of
-said_envelope said e s = record {
-  sender = s.sender;
-  arrival = in_range (s.day_number *ℤ pos 86400 +ℤ pos s.seconds) e.arrival (is_instant (s.day_number *ℤ pos 86400 +ℤ pos s.seconds)) refl s.instant;
-}
+said_envelope said e s =
+    let z : ℤ = s.arrival.day_number *ℤ pos 86400 +ℤ pos s.arrival.seconds -ℤ s.arrival.east in
+    record { sender = (s.who, s.sender); arrival = in_range z e.arrival (is_instant z) refl s.arrival.instant }
 
 block_item : (heading : List ℕ) (i : Item) → IsSeparator (content heading) i.envelope → NoneSeparates (lines i.text) → IsItem i
 block_item heading i s n = record { envelope = said_envelope (content heading) i.envelope s; none = whole_none i.text n }

@@ -1,13 +1,17 @@
 -- What an mbox is made of (RFC 4155).
 use Rattle.std.specs.Prelude.{◌≡◌, ℕ, ◌==◌, Bool, true, false, ◌||◌, ◌⊎◌, List, [], ◌∷◌, ◌++◌, length, if◌then◌else◌, Option, Some, None}
 use Rattle.std.specs.List.{concat, AllByRecursion}
-use Rattle.mbox_core.specs.Lines.{lines, content, is_blank, ends_in}
+use Rattle.mail_core.specs.Lines.{lines, content, ends_in}
 use Rattle.mbox_core.specs.Separator.{Envelope, IsSeparator, separator_of}
 
 -- a message as it stands in the file
 pub record Item : Type 0 where
   pub envelope : Envelope
   pub text : List ℕ
+
+-- a line that says nothing
+abbrev pub is_blank : List ℕ → Bool
+is_blank line = length (content line) == 0
 
 abbrev pub IsBlank : List ℕ → Type 0
 IsBlank line = content line ≡ []

@@ -1,13 +1,15 @@
 -- The senders of the code, and their written form.
-use Rattle.std.specs.Prelude.{◌≡◌, ℕ, List, true}
-use Rattle.mbox_core.specs.Separator.{is_sender_token}
+use Rattle.std.specs.Prelude.{◌≡◌, ℕ, List, [], ◌∷◌, true, codes}
+use Rattle.mbox_core.specs.Separator.{is_sender_token, spaced}
 use Rattle.mbox_core.specs.declared.senders.Sender.{Sender}
-use Rattle.mbox_core.specs.declared.senders.Sender.TheVariants.{One}
+use Rattle.mbox_core.specs.declared.senders.Sender.TheVariants.{One, At}
 
 -- its tokens are tokens
 abbrev pub IsSender : Sender → Type 0
 IsSender (One token) = is_sender_token token.now ≡ true
+IsSender (At left right) = (is_sender_token left.now ≡ true) × (is_sender_token right.now ≡ true)
 
--- the token
+-- the token, or both with `at` between them and one space at each side of it
 abbrev pub sender_text : Sender → List ℕ
 sender_text (One token) = token.now
+sender_text (At left right) = spaced (left.now ∷ codes "at" ∷ right.now ∷ [])

@@ -1,10 +1,11 @@
--- Separator lines (RFC 4155, appendix A). profile: also runs of spaces, `hh:mm`, a second 60, and any token as the
--- sender, since mail tools write all of these.
-use Rattle.std.specs.Prelude.{◌≡◌, ℕ, ◌+◌, ◌-◌, ◌*◌, ◌==◌, nat_le, Bool, true, false, not, ◌&&◌, List, [], ◌∷◌, ◌++◌, length, take, drop, slice_index, if◌then◌else◌, Option, Some, None, ℤ, pos, ◌+ℤ◌, ◌*ℤ◌, codes, min}
+-- Separator lines (RFC 4155, appendix A). profile: also runs of spaces, `hh:mm`, a second 60, a zone before the year, and
+-- as the sender any token, or two with `at` between them, since mail tools write all of these.
+use Rattle.std.specs.Prelude.{◌≡◌, ℕ, ◌+◌, ◌-◌, ◌*◌, ◌==◌, nat_le, Bool, true, false, not, ◌&&◌, List, [], ◌∷◌, ◌++◌, length, take, drop, slice_index, if◌then◌else◌, Option, Some, None, ℤ, pos, ◌+ℤ◌, ◌-ℤ◌, ◌*ℤ◌, codes, min}
 use Rattle.std.specs.List.{list_any, position_from}
 use Rattle.std.specs.Str.{bytes_eq}
-use Rattle.mbox_core.specs.Lines.{before_first}
+use Rattle.mail_core.specs.Lines.{onto_first_line}
 use Rattle.mail_core.specs.Calendar.{is_digit, two_digits, day_number_of, instant_at}
+use Rattle.mail_core.specs.Zones.{zone_of}
 
 -- whether a text begins with a byte of a token
 abbrev pub begins_token : List ℕ → Bool
@@ -14,7 +15,7 @@ begins_token (b ∷ bs) = not (b == 32)
 -- the maximal runs of bytes that are no spaces
 unfoldable pub tokens : List ℕ → List (List ℕ)
 tokens [] = []
-tokens (b ∷ bs) = if b == 32 then tokens bs else (if begins_token bs then before_first b (tokens bs) else (b ∷ []) ∷ tokens bs)
+tokens (b ∷ bs) = if b == 32 then tokens bs else (if begins_token bs then onto_first_line b (tokens bs) else (b ∷ []) ∷ tokens bs)
 
 infixl 10 ◌>>=◌
 abbrev pub ◌>>=◌ : {A B : Type 0} → Option A → (A → Option B) → Option B
@@ -75,30 +76,43 @@ is_weekday t = list_any (is_name t) weekdays
 abbrev pub is_sender_token : List ℕ → Bool
 is_sender_token t = not (length t == 0) && (not (list_any (λ b. b == 32) t) && not (list_any (λ b. b == 10) t))
 
--- the written form of a sender
-abbrev pub is_sender : List ℕ → Bool
-is_sender text = is_sender_token text
+-- words with one space between them
+abbrev pub spaced : List (List ℕ) → List ℕ
+spaced [] = []
+spaced (word ∷ []) = word
+spaced (word ∷ next ∷ words) = word ++ 32 ∷ spaced (next ∷ words)
 
--- the instant that comes so many seconds after the day begins
-unfoldable pub instant_of : ℤ → ℕ → Option ℤ
-instant_of day seconds = instant_at (day *ℤ pos 86400 +ℤ pos seconds)
+-- the tokens of a sender: one, or two with the word `at` between them, in small letters
+abbrev pub AreSenderTokens : List (List ℕ) → Type 0
+AreSenderTokens (token ∷ []) = is_sender_token token ≡ true
+AreSenderTokens (left ∷ word ∷ right ∷ []) = (is_sender_token left ≡ true) × (word ≡ codes "at") × (is_sender_token right ≡ true)
+AreSenderTokens _ = ⊥
+
+-- these tokens say a sender with this written form: they stand in it with one space between them
+abbrev pub IsSentBy : List (List ℕ) → List ℕ → Type 0
+IsSentBy who text = AreSenderTokens who × (text ≡ spaced who)
+
+-- the written form of a sender
+abbrev pub IsSenderText : List ℕ → Type 0
+IsSenderText text = (who : List (List ℕ)) × IsSentBy who text
+
+-- how many seconds east of UTC a time is, by its zone; without a zone it is in UTC
+abbrev pub east_of : List (List ℕ) → Option ℤ
+east_of [] = Some (pos 0)
+east_of (text ∷ []) = zone_of text
+east_of _ = None
+
+-- the instant at which it is so many seconds after the day begins, so many seconds east of UTC
+unfoldable pub instant_of : ℤ → ℕ → ℤ → Option ℤ
+instant_of day seconds east = instant_at (day *ℤ pos 86400 +ℤ pos seconds -ℤ east)
 
 -- who sent a message, as it is written, and when it came: seconds since 1970-01-01 00:00:00 UTC
 pub record Envelope : Type 0 where
   pub sender : List ℕ
   pub arrival : ℤ
 
--- A content says this envelope: `From `, and then six tokens between runs of spaces.
-pub record IsSeparator (said : List ℕ) (envelope : Envelope) : Type 0 where
-  pub after : List ℕ
-  pub begins : said ≡ codes "From " ++ after
-  pub weekday : List ℕ
-  pub month_name : List ℕ
-  pub day_text : List ℕ
-  pub time_text : List ℕ
-  pub year_text : List ℕ
-  pub six : tokens after ≡ envelope.sender ∷ weekday ∷ month_name ∷ day_text ∷ time_text ∷ year_text ∷ []
-  pub sender : is_sender_token envelope.sender ≡ true
+-- Tokens say this arrival: a weekday, which is not compared, a date that the calendar has, a time of day and its zone.
+pub record IsArrival (weekday month_name day_text time_text : List ℕ) (zone : List (List ℕ)) (year_text : List ℕ) (arrival : ℤ) : Type 0 where
   pub any_weekday : is_weekday weekday ≡ true
   pub month : ℕ
   pub is_month : month_of month_name ≡ Some month
@@ -106,29 +120,62 @@ pub record IsSeparator (said : List ℕ) (envelope : Envelope) : Type 0 where
   pub is_day : day_of day_text ≡ Some day
   pub seconds : ℕ
   pub is_time : clock_of time_text ≡ Some seconds
+  pub east : ℤ
+  pub is_zone : east_of zone ≡ Some east
   pub year : ℕ
   pub is_year : year_of year_text ≡ Some year
   pub day_number : ℤ
   pub exists : day_number_of year (month + 1) day ≡ Some day_number
-  pub instant : instant_of day_number seconds ≡ Some envelope.arrival
+  pub instant : instant_of day_number seconds east ≡ Some arrival
+
+-- A content says this envelope: `From `, and then six to nine tokens between runs of spaces, which are one or three of a
+-- sender, a weekday, a month, a day, a time, a zone or none, and a year.
+pub record IsSeparator (said : List ℕ) (envelope : Envelope) : Type 0 where
+  pub after : List ℕ
+  pub begins : said ≡ codes "From " ++ after
+  pub who : List (List ℕ)
+  pub weekday : List ℕ
+  pub month_name : List ℕ
+  pub day_text : List ℕ
+  pub time_text : List ℕ
+  pub zone : List (List ℕ)
+  pub year_text : List ℕ
+  pub are_tokens : tokens after ≡ who ++ (weekday ∷ month_name ∷ day_text ∷ time_text ∷ (zone ++ (year_text ∷ [])))
+  pub sender : IsSentBy who envelope.sender
+  pub arrival : IsArrival weekday month_name day_text time_text zone year_text envelope.arrival
 
 -- ---- the same, computed
 
--- the envelope that six tokens say
-unfoldable pub dated : List ℕ → List ℕ → List ℕ → List ℕ → List ℕ → List ℕ → Option Envelope
-dated sender weekday month_name day_text time_text year_text =
-    if is_sender_token sender && is_weekday weekday then (do
+-- the arrival that tokens say, where a time is so many seconds east of UTC
+unfoldable pub arrival_of : List ℕ → List ℕ → List ℕ → List ℕ → Option ℤ → List ℕ → Option ℤ
+arrival_of weekday month_name day_text time_text offset year_text =
+    if is_weekday weekday then (do
       month ← month_of month_name
       day ← day_of day_text
       seconds ← clock_of time_text
+      east ← offset
       year ← year_of year_text
       number ← day_number_of year (month + 1) day
-      arrival ← instant_of number seconds
-      Some (record { sender = sender; arrival = arrival })) else None
+      instant_of number seconds east) else None
 
-unfoldable pub six_tokens : List (List ℕ) → Option Envelope
-six_tokens (a ∷ b ∷ c ∷ d ∷ e ∷ f ∷ []) = dated a b c d e f
-six_tokens _ = None
+-- a sender of one token, and one of three, with an arrival
+unfoldable pub sent_by_one : List ℕ → Option ℤ → Option Envelope
+sent_by_one token when = if is_sender_token token then (do
+  arrival ← when
+  Some (record { sender = token; arrival = arrival })) else None
+
+unfoldable pub sent_by_two : List ℕ → List ℕ → List ℕ → Option ℤ → Option Envelope
+sent_by_two left word right when = if is_sender_token left && (bytes_eq word (codes "at") && is_sender_token right) then (do
+  arrival ← when
+  Some (record { sender = spaced (left ∷ word ∷ right ∷ []); arrival = arrival })) else None
+
+-- the envelope that six to nine tokens say
+unfoldable pub envelope_of : List (List ℕ) → Option Envelope
+envelope_of (a ∷ b ∷ c ∷ d ∷ e ∷ f ∷ []) = sent_by_one a (arrival_of b c d e (Some (pos 0)) f)
+envelope_of (a ∷ b ∷ c ∷ d ∷ e ∷ f ∷ g ∷ []) = sent_by_one a (arrival_of b c d e (zone_of f) g)
+envelope_of (a ∷ b ∷ c ∷ d ∷ e ∷ f ∷ g ∷ h ∷ []) = sent_by_two a b c (arrival_of d e f g (Some (pos 0)) h)
+envelope_of (a ∷ b ∷ c ∷ d ∷ e ∷ f ∷ g ∷ h ∷ i ∷ []) = sent_by_two a b c (arrival_of d e f g (zone_of h) i)
+envelope_of _ = None
 
 unfoldable pub separator_of : List ℕ → Option Envelope
-separator_of said = if bytes_eq (take 5 said) (codes "From ") then six_tokens (tokens (drop 5 said)) else None
+separator_of said = if bytes_eq (take 5 said) (codes "From ") then envelope_of (tokens (drop 5 said)) else None

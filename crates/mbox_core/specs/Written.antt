@@ -1,10 +1,10 @@
--- Messages as they are written (RFC 4155, appendix A): a separator line with one address, one space, and the time in
--- UTC in the form of C's `ctime`; the whole text; and an empty line.
+-- Messages as they are written (RFC 4155, appendix A): a separator line with the sender, one space, and the time in UTC
+-- in the form of C's `ctime`; the whole text; and an empty line.
 use Rattle.std.specs.Prelude.{◌≡◌, ℕ, zero, suc, ◌+◌, ◌-◌, ◌*◌, ◌/◌, ◌%◌, ◌≤◌, nat_lt, true, List, [], ◌∷◌, ◌++◌, length, take, drop, if◌then◌else◌, ℤ, pos, ◌+ℤ◌, unsigned_abs, codes}
 use Rattle.std.specs.Int.{int_rem_euclid}
 use Rattle.mail_core.specs.Calendar.{year_days, month_days, weekday, is_instant, day_of_instant}
-use Rattle.mbox_core.specs.Lines.{lines}
-use Rattle.mbox_core.specs.Separator.{Envelope, is_sender}
+use Rattle.mail_core.specs.Lines.{lines}
+use Rattle.mbox_core.specs.Separator.{Envelope, IsSenderText, spaced}
 use Rattle.mbox_core.specs.Division.{Item, NoneSeparates, whole}
 
 -- a date of the civil calendar
@@ -58,12 +58,6 @@ weekday_names = codes "MonTueWedThuFriSatSun"
 abbrev pub month_names : List ℕ
 month_names = codes "JanFebMarAprMayJunJulAugSepOctNovDec"
 
--- words with one space between them
-abbrev pub spaced : List (List ℕ) → List ℕ
-spaced [] = []
-spaced (word ∷ []) = word
-spaced (word ∷ next ∷ words) = word ++ 32 ∷ spaced (next ∷ words)
-
 -- `Www Mmm dd hh:mm:ss yyyy`
 abbrev pub date_text : ℕ → Date → ℕ → List ℕ
 date_text weekday date seconds = spaced (
@@ -78,6 +72,10 @@ time_text instant =
 -- what the canonical separator line of an envelope says
 abbrev pub heading : Envelope → List ℕ
 heading envelope = spaced (codes "From" ∷ envelope.sender ∷ time_text envelope.arrival ∷ [])
+
+-- a separator line with a sender of two tokens, and what follows it
+abbrev pub at_line : List ℕ → List ℕ → List ℕ → List ℕ
+at_line left right end = codes "From " ++ (spaced (left ∷ codes "at" ∷ right ∷ []) ++ end)
 
 -- a text, and the LF that ends a line
 abbrev pub ended : List ℕ → List ℕ
@@ -101,7 +99,7 @@ whole_item item = record { envelope = item.envelope; text = whole item.text }
 
 -- the sender is a written form, and the arrival lies in the years 1900 to 9998
 pub record IsEnvelope (envelope : Envelope) : Type 0 where
-  pub sender : is_sender envelope.sender ≡ true
+  pub sender : IsSenderText envelope.sender
   pub arrival : is_instant envelope.arrival ≡ true
 
 -- what each message is: no line of its whole text is a separator line that follows an empty line

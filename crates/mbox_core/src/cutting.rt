@@ -2,13 +2,14 @@
 ghost use Rattle.std.specs.Prelude.{◌≡◌, ◌∷◌, ◌<◌, ◌≤◌, [], length, None, List, IfOk, IfErr, OnErr};
 ghost use Rattle.std.specs.Iterator.{YieldsFirst, item_count};
 ghost use Rattle.mbox_core.specs.Division.{Item as Message, Divides, IsPreamble, items_after, text_in, items_in, body};
-ghost use Rattle.mbox_core.specs.Lines.{lines};
+ghost use Rattle.mail_core.specs.Lines.{lines};
 ghost use Rattle.mbox_core.specs.Faults.{IsCutFault};
 
 use crate::faults::MboxFault;
 use crate::items::{Item, is_complete};
-use crate::lines::{last_line, line_end, said};
+use crate::lines::last_line;
 use crate::separators::{Envelope, separator};
+use mail_core::lines::{line_content, line_end};
 use memchr::memmem;
 use std::marker::Model;
 
@@ -49,7 +50,7 @@ fn last_part<'a>(bytes: &'a [u8]) -> Part<'a>
         };
     }
     let (text, line) = bytes.split_at(last_line(bytes));
-    if said(line).is_empty() {
+    if line_content(line).is_empty() {
         Part {
             text,
             next: None,
@@ -80,11 +81,11 @@ pub(crate) fn next_part<'a>(bytes: &'a [u8]) -> Part<'a>
         let (front, rest) = bytes.split_at(at + (lf + 1));
         let last = last_line(front);
         let (text, line) = front.split_at(last);
-        let before = said(line);
+        let before = line_content(line);
         if before.is_empty() {
             let len = line_end(rest);
             let (candidate, after) = rest.split_at(len);
-            let content = said(candidate);
+            let content = line_content(candidate);
             if let Some(envelope) = separator(content) {
                 return Part {
                     text,
@@ -132,7 +133,7 @@ pub fn cut<'a>(bytes: &'a [u8]) -> Result<Messages<'a>, MboxFault>
         let here = &bytes[at..];
         let len = line_end(here);
         let (line, rest) = here.split_at(len);
-        let content = said(line);
+        let content = line_content(line);
         if !content.is_empty() {
             return match separator(content) {
                 Some(envelope) => Ok(Messages {

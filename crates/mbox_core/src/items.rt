@@ -1,6 +1,6 @@
 //! A message.
 ghost use Rattle.std.specs.Prelude.{◌≡◌, IfSome, IfNone};
-ghost use Rattle.mbox_core.specs.Lines.{lines};
+ghost use Rattle.mail_core.specs.Lines.{lines};
 ghost use Rattle.mbox_core.specs.Division.{NoneSeparates, is_whole, whole};
 
 use crate::cutting::next_part;
@@ -19,7 +19,7 @@ pub struct Item<'a> {
 
 impl<'a> Model for Item<'a> {
     ghost use Rattle.std.specs.Prelude.{◌≡◌};
-    ghost use Rattle.mbox_core.specs.Lines.{lines};
+    ghost use Rattle.mail_core.specs.Lines.{lines};
     ghost use Rattle.mbox_core.specs.Division.{Item as Message, NoneSeparates, is_whole, whole};
 
     ghost Value = { Message };

@@ -1,8 +1,14 @@
 //! What holds of all mbox files: each contract is a law over the definitions of `specs/` alone, and no call does anything.
 ghost use Rattle.std.specs.Prelude.{◌≡◌, ◌⊎◌, ℕ, List, map};
 ghost use Rattle.std.specs.List.{All};
+ghost use Rattle.mbox_core.specs.Separator.{Envelope, IsSeparator};
 ghost use Rattle.mbox_core.specs.Division.{Item, Divides, IsPreamble};
 ghost use Rattle.mbox_core.specs.Written.{IsItem, written, whole_item};
+
+/// No content of a line says two envelopes.
+pub fn one_envelope()
+    ensures { (said : List ℕ) (a b : Envelope) → IsSeparator said a → IsSeparator said b → a ≡ b }
+{}
 
 /// No bytes have two divisions.
 pub fn one_division()

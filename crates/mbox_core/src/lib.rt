@@ -22,6 +22,8 @@ mod lines;
 #[cfg(test)]
 mod plain;
 mod senders;
+#[cfg(test)]
+mod separator_tests;
 mod separators;
 #[cfg(test)]
 mod tests;

@@ -191,11 +191,11 @@ pub(crate) fn is_sender_token(text: &[u8]) -> bool
     !text.is_empty() && (!text.contains(&b' ') && !text.contains(&b'\n'))
 }
 
-/// The instant of a day and a number of seconds in it.
+/// The instant at which it is so many seconds after a day begins, so many seconds east of UTC.
 #[tactic(auto, unfolding(crate::specs::Separator::instant_of))]
-pub(crate) fn read_instant(day: i32, seconds: u32) -> Option<Instant>
+pub(crate) fn read_instant(day: i32, seconds: u32, east: i32) -> Option<Instant>
     requires { seconds < 86400 }
-    ensures { result ≡ instant_of day seconds }
+    ensures { result ≡ instant_of day seconds east }
 {
-    Instant::new(day as i64 * 86400 + seconds as i64)
+    Instant::new(day as i64 * 86400 + seconds as i64 - east as i64)
 }

@@ -1,7 +1,7 @@
 //! Writing messages (RFC 4155).
 ghost use Rattle.std.specs.Prelude.{◌≡◌, ◌≤◌, ◌<◌, ◌+◌, ◌-◌, ◌^◌, ◌++◌, ◌∷◌, [], length, min, take, drop, OnOk, IfErr, OnErr, codes};
 ghost use Rattle.mbox_core.specs.Division.{whole};
-ghost use Rattle.mbox_core.specs.Written.{IsCutShort, heading, written_item, ended};
+ghost use Rattle.mbox_core.specs.Written.{IsCutShort, heading, at_line, written_item, ended};
 
 use crate::device::{Sink, WriteFault, write_bytes, write_two};
 use crate::heading::time_line;
@@ -70,15 +70,48 @@ fn write_line<W: Sink>(out: &mut W, sender: &[u8], end: [u8; 26]) -> Result<(), 
     write_bytes(out, &line[..31 + sender.len()])
 }
 
-/// Writes the separator line of an envelope.
-fn write_heading<W: Sink>(out: &mut W, envelope: &Envelope) -> Result<(), WriteFault>
-    ensures ok { OnOk result (W.told out.new ≡ W.told out.old ++ ended (heading envelope.now)) }
-    ensures fault { IfErr result (λ e. IsCutShort (W.told out.old) (W.told out.new) (ended (heading envelope.now)) e.written) }
+/// Writes a separator line whose sender is two tokens, piece by piece.
+fn write_at_line<W: Sink>(
+    out: &mut W,
+    left: &[u8],
+    right: &[u8],
+    end: [u8; 26],
+) -> Result<(), WriteFault>
+    ensures ok { OnOk result (W.told out.new ≡ W.told out.old ++ at_line left.now right.now end) }
+    ensures fault { IfErr result (λ e. length (W.told out.new) < 2 ^ 64
+        → IsCutShort (W.told out.old) (W.told out.new) (at_line left.now right.now end) e.written) }
     ensures quiet { OnOk result (W.failures out.new ≡ W.failures out.old) }
     ensures cause { OnErr result (W.failures out.old < W.failures out.new) }
 {
-    let Sender::One(token) = envelope.sender;
-    write_line(out, token, time_line(envelope.arrival))
+    write_two(out, b"From ", left)?;
+    let before_at = 5 + left.len() as u64;
+    if let Err(fault) = write_two(out, b" at ", right) {
+        return Err(WriteFault {
+            written: before_at.saturating_add(fault.written),
+        });
+    }
+    let before_end = before_at.saturating_add(4 + right.len() as u64);
+    if let Err(fault) = write_bytes(out, &end) {
+        return Err(WriteFault {
+            written: before_end.saturating_add(fault.written),
+        });
+    }
+    Ok(())
+}
+
+/// Writes the separator line of an envelope.
+fn write_heading<W: Sink>(out: &mut W, envelope: &Envelope) -> Result<(), WriteFault>
+    ensures ok { OnOk result (W.told out.new ≡ W.told out.old ++ ended (heading envelope.now)) }
+    ensures fault { IfErr result (λ e. length (W.told out.new) < 2 ^ 64
+        → IsCutShort (W.told out.old) (W.told out.new) (ended (heading envelope.now)) e.written) }
+    ensures quiet { OnOk result (W.failures out.new ≡ W.failures out.old) }
+    ensures cause { OnErr result (W.failures out.old < W.failures out.new) }
+{
+    let end = time_line(envelope.arrival);
+    match envelope.sender {
+        Sender::One(token) => write_line(out, token, end),
+        Sender::At(left, right) => write_at_line(out, left, right, end),
+    }
 }
 
 /// The length of a separator line, with its LF, whose sender is one token.
@@ -88,12 +121,21 @@ fn line_len(token: &[u8]) -> u64
     31 + token.len() as u64
 }
 
-/// The length of the separator line of an envelope, with its LF.
-fn heading_len(envelope: &Envelope) -> u64
-    ensures { result ≡ length (ended (heading envelope.now)) }
+/// The length of a separator line, with its LF, whose sender is two tokens: 2^64 - 1 where it is more.
+fn at_line_len(left: &[u8], right: &[u8]) -> u64
+    ensures { result ≡ min (35 + length left.now + length right.now) (2 ^ 64 - 1) }
 {
-    let Sender::One(token) = envelope.sender;
-    line_len(token)
+    line_len(left).saturating_add(4 + right.len() as u64)
+}
+
+/// The length of the separator line of an envelope, with its LF: 2^64 - 1 where it is more.
+fn heading_len(envelope: &Envelope) -> u64
+    ensures { result ≡ min (length (ended (heading envelope.now))) (2 ^ 64 - 1) }
+{
+    match envelope.sender {
+        Sender::One(token) => line_len(token),
+        Sender::At(left, right) => at_line_len(left, right),
+    }
 }
 
 /// How many bytes `write_item` writes of a message: 2^64 - 1 where it is more.

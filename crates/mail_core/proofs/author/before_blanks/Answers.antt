@@ -1,6 +1,4 @@
-use Rattle.std.proofs.Common.{◌≡◌, ◌+◌, ◌-◌, ◌<◌, ◌≤◌, ◌∙◌, sym, ap, arith, take, length, true, false, take_all}
-use Rattle.mail_core.specs.Author.{trim_end}
-use Rattle.mail_core.specs.Fields.{is_blank}
+use Rattle.std.proofs.Common.{◌-◌, ◌∙◌, sym, arith}
 use Rattle.mail_core.proofs.AuthorLemmas.{trim-shorter, trim-done, trim-nothing}
 use Rattle.mail_core.proofs.author.before_blanks.Goals.{else-loop-len-test, then-loop-len-test+then-not-is_blank_byte}
 use Rattle.mail_core.proofs.author.before_blanks.Goals as goal

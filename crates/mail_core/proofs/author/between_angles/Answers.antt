@@ -1,6 +1,6 @@
-use Rattle.std.proofs.Common.{◌≡◌, ◌+◌, ◌-◌, ◌<◌, ◌≤◌, ◌∙◌, ◌==◌, sym, ap, arith, drop, take, length, get_or, true, false, ℕ, List, Option, Some, None, refl}
-use Rattle.std.specs.Option.{option_and_then, MatchOption}
-use Rattle.mail_core.specs.Author.{in_angles, after_last, before_byte}
+use Rattle.std.proofs.Common.{◌≡◌, ◌+◌, ◌∙◌, sym, ap, arith, drop, take, ℕ, List, Some, None}
+use Rattle.std.specs.Option.{option_and_then}
+use Rattle.mail_core.specs.Author.{after_last, before_byte}
 use Rattle.mail_core.proofs.AuthorLemmas.{after_last-none, after_last-at, before_byte-none, before_byte-at}
 use Rattle.mail_core.proofs.author.between_angles.Goals as goal
 

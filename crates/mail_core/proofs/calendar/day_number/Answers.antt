@@ -1,4 +1,4 @@
-use Rattle.std.proofs.Common.{◌≡◌, ℕ, pos, ℤ, ◌≤◌, rules, w16, w8, w32, ap, ◌∙◌, arith, Some, true, sym, FitsSigned}
+use Rattle.std.proofs.Common.{◌≡◌, pos, w16, w8, w32, ◌∙◌, arith, FitsSigned}
 use Rattle.std.proofs.lemmas.Int.{to_z_pos, to_z-of_z}
 use Rattle.jiff.proofs.SpanFacts.{signed_arith}
 use Rattle.mail_core.proofs.CalendarLemmas.{found_of}

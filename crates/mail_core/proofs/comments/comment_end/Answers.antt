@@ -1,4 +1,4 @@
-use Rattle.std.proofs.Common.{◌≡◌, ◌+◌, ◌-◌, ◌≤◌, ◌∙◌, sym, ap, arith, drop, length, true, false}
+use Rattle.std.proofs.Common.{◌+◌, ◌-◌, ◌∙◌, sym, arith, drop, true, false}
 use Rattle.mail_core.specs.Comments.{closing_rest}
 use Rattle.mail_core.proofs.CommentCounts.{count-quoted, count-opening, count-closing, count-done, count-backslash, count-ordinary, count-past, at-flag}
 use Rattle.mail_core.proofs.comments.comment_end.Goals as goal

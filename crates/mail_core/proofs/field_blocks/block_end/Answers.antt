@@ -1,7 +1,5 @@
-use Rattle.std.proofs.Common.{◌≡◌, ◌+◌, ◌-◌, ◌<◌, ◌≤◌, ◌∷◌, ◌∙◌, sym, ap, arith, drop, take, length, true, false}
+use Rattle.std.proofs.Common.{◌∙◌, sym, arith, drop, take}
 use Rattle.std.proofs.lemmas.List.{take_rest}
-use Rattle.mail_core.specs.Lines.{lines}
-use Rattle.mail_core.specs.Fields.{blocks, header_lines, continues}
 use Rattle.mail_core.proofs.FieldLemmas.{block-grows, block-ends}
 use Rattle.mail_core.proofs.field_blocks.block_end.Goals as goal
 

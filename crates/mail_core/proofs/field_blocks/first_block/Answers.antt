@@ -1,8 +1,7 @@
-use Rattle.std.proofs.Common.{◌≡◌, ◌+◌, ◌<◌, ◌≤◌, ◌∷◌, [], ◌∙◌, sym, ap, arith, drop, take, length, true, false, List, ℕ}
+use Rattle.std.proofs.Common.{◌∙◌, sym, ap, arith, length}
 use Rattle.std.proofs.lemmas.Bool.{eqb-true}
 use Rattle.std.proofs.lemmas.List.{nil_from_length}
-use Rattle.mail_core.specs.Lines.{lines, is_empty_line}
-use Rattle.mail_core.specs.Fields.{header_blocks, header_lines}
+use Rattle.mail_core.specs.Fields.{header_blocks}
 use Rattle.mail_core.proofs.FieldLemmas.{blocks-empty, blocks-over, blocks-begin}
 use Rattle.mail_core.proofs.field_blocks.first_block.Goals as goal
 

@@ -1,5 +1,4 @@
-use Rattle.std.proofs.Common.{◌≡◌, ◌∷◌, [], ◌∙◌, sym}
-use Rattle.mail_core.specs.Fields.{fields_of, header_blocks}
+use Rattle.std.proofs.Common.{◌∙◌, sym}
 use Rattle.mail_core.proofs.FieldLemmas.{fields-none, fields-skip, fields-take}
 use Rattle.mail_core.proofs.field_reading.next_field.Goals as goal
 

@@ -1,9 +1,8 @@
-use Rattle.std.proofs.Common.{◌≡◌, ◌∙◌, sym, ap, refl, rules, tests, Option, Some, None, List, ℕ, option_map}
+use Rattle.std.proofs.Common.{◌≡◌, ◌∙◌, sym, ap, refl, rules, tests, Option, Some, None, option_map}
 use Rattle.std.specs.List.{find}
-use Rattle.std.specs.Option.{MatchOption}
 use Rattle.std.proofs.lemmas.Iterator.Search.{find_from_yields_List}
 use Rattle.std.proofs.lemmas.Iterator.Consumers.{YieldsList-from_first}
-use Rattle.mail_core.specs.Fields.{Entry, fields_of, field_of, has_name}
+use Rattle.mail_core.specs.Fields.{Entry, fields_of, has_name}
 use Rattle.mail_core.proofs.header.first.Goals as goal
 
 same : (o : Option Entry) → option_map (λ (x : Entry). x) o ≡ o

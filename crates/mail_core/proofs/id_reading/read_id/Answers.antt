@@ -1,6 +1,6 @@
-use Rattle.std.proofs.Common.{◌≡◌, ◌≢◌, ℕ, ◌+◌, ◌<◌, ◌≤◌, ◌∙◌, sym, ap, arith, length, List, drop, Option, Some, None, Result, Ok, Err, IfOk, IfSome, IfNone}
+use Rattle.std.proofs.Common.{◌≡◌, ℕ, ◌+◌, ◌<◌, ◌≤◌, ◌∙◌, arith, length, List, drop, Option, Some, None, Result, Ok, Err, IfOk, IfSome}
 use Rattle.mail_core.specs.declared.refusal.Memory.{Memory}
-use Rattle.mail_core.specs.MsgIds.{Id, id_at}
+use Rattle.mail_core.specs.MsgIds.{Id}
 use Rattle.mail_core.specs.declared.msg_id.MsgId.{MsgId}
 use Rattle.mail_core.proofs.SideLemmas.{id-quoted, id-plain, id-short}
 use Rattle.mail_core.proofs.id_reading.read_id.Goals as goal

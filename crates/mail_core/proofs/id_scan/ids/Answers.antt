@@ -1,35 +1,55 @@
-use Rattle.std.proofs.Common.{◌≡◌, ◌≢◌, ℕ, ◌+◌, ◌-◌, ◌<◌, ◌≤◌, ◌++◌, ◌∷◌, [], ◌∙◌, ap, sym, arith, Bool, true, false, List, drop, get_or, None, length, map, append_assoc, append-nil}
-use Rattle.std.proofs.lemmas.List.{map-append}
+use Rattle.std.proofs.Common.{◌≡◌, ◌≢◌, ℕ, ◌+◌, ◌-◌, ◌<◌, ◌≤◌, ◌++◌, ◌∷◌, [], ◌∙◌, ap, sym, arith, List, drop, get_or, length, append_assoc, append-nil, subst, length-drop, ◌⊎◌, inl, inr}
 use Rattle.mail_core.specs.MsgIds.{ids_of}
 use Rattle.std.proofs.lemmas.List.{get_or_read_under}
 use Rattle.mail_core.specs.Ends.{ClosesAt}
 use Rattle.mail_core.specs.MsgIds.{Id}
+use Rattle.mail_core.proofs.CommentTable.{closes-before}
 use Rattle.mail_core.proofs.QuoteLemmas.{later_at}
 use Rattle.mail_core.proofs.ScanLemmas.{scan_comment, scan_open, scan_quote, scan_no_quote, scan_id, scan_no_id, scan_other, ids-past}
 use Rattle.mail_core.proofs.id_scan.ids.Goals as goal
 
 -- what the table holds for the byte behind the parenthesis
-ended : (text ends : List ℕ) (i n r : ℕ) → n ≡ length text + 2 → n ≡ length ends → i < length text
-    → ((k : ℕ) → k ≤ length text + 1 → ClosesAt text k (get_or ends k 0)) → r ≡ get_or ends (i + 1) r → ClosesAt text (i + 1) r
-ended text ends i n r hn hl lt all h =
-    rw (get_or_read_under ends (i + 1) n r 0 h (omega arith) hl) (all (i + 1) (omega arith))
+ended : (text rest ends : List ℕ) (from i n e : ℕ) → rest ≡ drop from text → from ≤ length text → from ≤ i → i < length text
+    → n ≡ length rest + 2 → n ≡ length ends
+    → ((k : ℕ) → k ≤ length rest + 1 → ClosesAt rest k (get_or ends (length rest + 1 - k) 0)) → e ≡ get_or ends (length text - i) e → ClosesAt text (i + 1) (from + e)
+ended text rest ends from i n e hr fits h lt hn hl all he =
+    let len : length rest ≡ length text - from = ap length hr ∙ length-drop from text in
+    let same : length rest + 1 - (i + 1 - from) ≡ length text - i = omega (arith, len, h, lt, fits) in
+    let is : get_or ends (length rest + 1 - (i + 1 - from)) 0 ≡ e = ap (λ (k : ℕ). get_or ends k 0) same ∙ sym (get_or_read_under ends (length text - i) n e 0 he (omega (arith, hn, len, h)) hl) in
+    let P : ℕ → Type 0 = λ x. ClosesAt rest (i + 1 - from) x in
+    let R : List ℕ → Type 0 = λ xs. ClosesAt xs (i + 1 - from) e in
+    closes-before text from (i + 1) e (omega (arith, h)) fits (subst R hr (subst P is (all (i + 1 - from) (omega (arith, len, h, lt)))))
+
+-- no parenthesis opens before the first
+past : (text : List ℕ) (from i : ℕ) → ((k : ℕ) → k < from → get_or text k 0 ≢ 40) → get_or text i 0 ≡ 40 → from ≤ i
+past text from i none h = go (let c : (from ≤ i) ⊎ (i < from) = grind arith in c)
+  where
+    go : (from ≤ i) ⊎ (i < from) → from ≤ i
+    go (inl le) = le
+    go (inr lt) = absurd (none i lt h)
 
 pub loop-at-preserved-then-end-text : goal.loop-at-preserved-then-end-text
 loop-at-preserved-then-end-text c =
+    let text : List ℕ = c.args.text.now in
     let len = c.in_ok-ends.ensures.len in
-    let w = ended c.args.text.now c.in_ok-ends.ends.items c.loop-at.at c.in_ok-ends.ends.len c.index-end.result.now len (omega arith) c.loop-at-test.true c.in_ok-ends.ensures.ends c.index-end.ensures in
+    let behind = past text c.first_open-from.result c.loop-at.at c.first_open-from.ensures.none c.if-byte-eq40.true in
+    let w = ended text c.split_at.result.1.now c.in_ok-ends.ends.items c.first_open-from.result c.loop-at.at c.in_ok-ends.ends.len c.index.result.now
+    c.split_at.ensures.back c.first_open-from.ensures.within behind c.loop-at-test.true len (omega arith) c.in_ok-ends.ensures.ends c.index.ensures in
     let x = w.closes c.if-end-text.true in record {
       place = c.if-end-text.true;
-      told = ap (λ (l : List Id). c.loop-at.found.items ++ l) (sym (scan_comment c.args.text.now c.loop-at.at c.index-end.result.now c.loop-at-test.true c.if-byte-eq40.true w c.if-end-text.true)) ∙ c.loop-at.invariant.told;
+      told = ap (λ (l : List Id). c.loop-at.found.items ++ l) (sym (scan_comment text c.loop-at.at (c.first_open-from.result + c.index.result.now) c.loop-at-test.true c.if-byte-eq40.true w c.if-end-text.true)) ∙ c.loop-at.invariant.told;
       open_quote = λ q. let w = c.loop-at.invariant.open_quote q in (w.0, omega (arith, w.1, x.0), w.2);
     }
 
 pub loop-at-preserved-else-end-text : goal.loop-at-preserved-else-end-text
 loop-at-preserved-else-end-text c =
+    let text : List ℕ = c.args.text.now in
     let len = c.in_ok-ends.ensures.len in
-    let w = ended c.args.text.now c.in_ok-ends.ends.items c.loop-at.at c.in_ok-ends.ends.len c.index-end.result.now len (omega arith) c.loop-at-test.true c.in_ok-ends.ensures.ends c.index-end.ensures in record {
+    let behind = past text c.first_open-from.result c.loop-at.at c.first_open-from.ensures.none c.if-byte-eq40.true in
+    let w = ended text c.split_at.result.1.now c.in_ok-ends.ends.items c.first_open-from.result c.loop-at.at c.in_ok-ends.ends.len c.index.result.now
+    c.split_at.ensures.back c.first_open-from.ensures.within behind c.loop-at-test.true len (omega arith) c.in_ok-ends.ensures.ends c.index.ensures in record {
       place = omega arith;
-      told = ap (λ (l : List Id). c.loop-at.found.items ++ l) (sym (scan_open c.args.text.now c.loop-at.at c.index-end.result.now c.loop-at-test.true c.if-byte-eq40.true w c.if-end-text.false)) ∙ c.loop-at.invariant.told;
+      told = ap (λ (l : List Id). c.loop-at.found.items ++ l) (sym (scan_open text c.loop-at.at (c.first_open-from.result + c.index.result.now) c.loop-at-test.true c.if-byte-eq40.true w c.if-end-text.false)) ∙ c.loop-at.invariant.told;
       open_quote = λ q. let w = c.loop-at.invariant.open_quote q in (w.0, omega (arith, w.1), w.2);
     }
 
@@ -89,3 +109,13 @@ returns c =
     sym (append-nil (c.loop-at.found.items))
     ∙ ap (λ (l : List Id). c.loop-at.found.items ++ l) (sym (ids-past c.args.text.now c.loop-at.at c.loop-at-test.false))
     ∙ c.loop-at.invariant.told
+
+pub loop-at-smaller-then-end-text : goal.loop-at-smaller-then-end-text
+loop-at-smaller-then-end-text c =
+    let text : List ℕ = c.args.text.now in
+    let len = c.in_ok-ends.ensures.len in
+    let behind = past text c.first_open-from.result c.loop-at.at c.first_open-from.ensures.none c.if-byte-eq40.true in
+    let w = ended text c.split_at.result.1.now c.in_ok-ends.ends.items c.first_open-from.result c.loop-at.at c.in_ok-ends.ends.len c.index.result.now
+    c.split_at.ensures.back c.first_open-from.ensures.within behind c.loop-at-test.true len (omega arith) c.in_ok-ends.ensures.ends c.index.ensures in
+    let x = w.closes c.if-end-text.true in
+    omega (arith, x.0, c.loop-at-test.true)

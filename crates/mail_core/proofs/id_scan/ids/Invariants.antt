@@ -1,6 +1,5 @@
-use Rattle.std.proofs.Common.{◌≡◌, ℕ, ◌+◌, ◌-◌, ◌<◌, ◌≤◌, ◌++◌, length, drop, map, vec_len, true, false, None, slice_index}
+use Rattle.std.proofs.Common.{◌≡◌, ℕ, ◌-◌, ◌≤◌, ◌++◌, length, drop, false, None}
 use Rattle.mail_core.specs.Quotes.{after_quote}
-use Rattle.mail_core.specs.Ends.{ClosesAt}
 use Rattle.mail_core.specs.MsgIds.{ids_of}
 use Rattle.mail_core.proofs.id_scan.ids.Given as goal
 

@@ -1,6 +1,5 @@
-use Rattle.std.proofs.Common.{◌≡◌, ◌≢◌, ℕ, ◌+◌, ◌-◌, ◌<◌, ◌≤◌, ◌∙◌, sym, ap, arith, length, get_or, true, false, drop, None}
-use Rattle.mail_core.specs.MsgIds.{is_left, right_at, sides_of}
-use Rattle.mail_core.proofs.SideLemmas.{divides-start, divides-more, divides-stop, divides-here}
+use Rattle.std.proofs.Common.{sym, arith}
+use Rattle.mail_core.proofs.SideLemmas.{divides-more, divides-stop, divides-here}
 use Rattle.mail_core.proofs.id_sides.divide.Goals.{then-byte-eq64+in-None, else-byte-eq64}
 use Rattle.mail_core.proofs.id_sides.divide.Goals as goal
 

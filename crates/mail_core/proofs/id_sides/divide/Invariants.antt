@@ -1,4 +1,4 @@
-use Rattle.std.proofs.Common.{ℕ, ◌-◌, ◌<◌, ◌≤◌, length}
+use Rattle.std.proofs.Common.{◌-◌, ◌≤◌, length}
 use Rattle.mail_core.proofs.SideLemmas.{Divides}
 use Rattle.mail_core.proofs.id_sides.divide.Given as goal
 

@@ -1,6 +1,6 @@
-use Rattle.std.proofs.Common.{◌≡◌, ◌≢◌, ℕ, ◌+◌, ◌-◌, ◌<◌, ◌≤◌, ◌∙◌, sym, ap, arith, length, get_or, true, false, drop, None, ◌⊎◌, inl, inr}
-use Rattle.mail_core.specs.MsgIds.{is_right, right_at}
-use Rattle.mail_core.proofs.SideLemmas.{right_at-found, right_at-none, right_at-nothing, run-more}
+use Rattle.std.proofs.Common.{◌≡◌, ◌<◌, sym, arith, drop, None, ◌⊎◌, inl, inr}
+use Rattle.mail_core.specs.MsgIds.{right_at}
+use Rattle.mail_core.proofs.SideLemmas.{right_at-found, right_at-none, right_at-nothing}
 use Rattle.mail_core.proofs.id_sides.right_end.Goals as goal
 
 pub returns-then-at-from : goal.returns-then-at-from

@@ -1,5 +1,4 @@
-use Rattle.std.proofs.Common.{◌≡◌, ◌≢◌, ◌∷◌, ◌<◌, ◌≤◌, length, take, drop, ℕ, ◌+◌, arith, add-one}
-use Rattle.mail_core.specs.Lines.{lines}
+use Rattle.std.proofs.Common.{◌≢◌, length, arith, add-one}
 use Rattle.mail_core.proofs.LineLemmas.{lines-cut, lines-whole}
 use Rattle.mail_core.proofs.lines.line_end.Goals as goal
 

@@ -1,4 +1,4 @@
-use Rattle.std.proofs.Common.{◌≡◌, ◌≢◌, ℕ, ◌+◌, ◌∙◌, ap, sym, arith, Bool, true, false, List, drop, get_or, None, length}
+use Rattle.std.proofs.Common.{◌+◌, ◌∙◌, ap, sym, arith, Bool, drop}
 use Rattle.mail_core.specs.Quotes.{after_quote}
 use Rattle.mail_core.proofs.QuoteLemmas.{at-quoted, at-ending, at-escape, at-plain, at-past}
 use Rattle.mail_core.proofs.quotes.quote_end.Goals as goal

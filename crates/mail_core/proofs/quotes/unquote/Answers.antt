@@ -1,4 +1,4 @@
-use Rattle.std.proofs.Common.{◌≡◌, ◌≢◌, ℕ, ◌+◌, ◌<◌, ◌≤◌, ◌++◌, [], ◌∙◌, sym, ap, arith, length, get_or, true, false, drop, List, append-nil, Bool}
+use Rattle.std.proofs.Common.{◌≡◌, ℕ, ◌+◌, ◌++◌, [], ◌∙◌, sym, ap, true, false, drop, List, append-nil, Bool}
 use Rattle.mail_core.specs.Quotes.{unquoted}
 use Rattle.mail_core.proofs.QuoteLemmas.{unquoted-past, unquoted-at_quoted, unquoted-at_escape, unquoted-at_byte, unquoted-push}
 use Rattle.mail_core.proofs.quotes.unquote.Goals as goal

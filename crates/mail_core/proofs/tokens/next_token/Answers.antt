@@ -1,9 +1,9 @@
-use Rattle.std.proofs.Common.{◌≡◌, ◌≢◌, ◌∷◌, [], ◌∙◌, sym, ap, arith, ◌≤◌, length, List, ℕ, take, drop, true, false}
+use Rattle.std.proofs.Common.{◌≡◌, ◌∷◌, ◌∙◌, sym, ap, List, ℕ, take, drop}
 use Rattle.std.specs.List.{prefix_len}
 use Rattle.std.specs.Char.{is_ascii_alphabetic}
 use Rattle.std.proofs.lemmas.List.{nil_from_length}
 use Rattle.mail_core.specs.Calendar.{is_digit}
-use Rattle.mail_core.specs.Tokens.{tokens_of, is_white}
+use Rattle.mail_core.specs.Tokens.{tokens_of}
 use Rattle.mail_core.specs.Tokens.Token.{digits, letters}
 use Rattle.mail_core.proofs.CommentLemmas.{not_equal}
 use Rattle.mail_core.proofs.TokenLemmas.{tokens-nil, tokens-white, tokens-digits, tokens-letters, tokens-sign, tokens-open, tokens-comment}

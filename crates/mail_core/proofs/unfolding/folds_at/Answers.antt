@@ -1,4 +1,4 @@
-use Rattle.std.proofs.Common.{◌≡◌, ◌+◌, ◌<◌, sym, arith, length}
+use Rattle.std.proofs.Common.{sym}
 use Rattle.mail_core.proofs.AuthorLemmas.{folds-last}
 use Rattle.mail_core.proofs.unfolding.folds_at.Goals as goal
 

@@ -1,4 +1,4 @@
-use Rattle.std.proofs.Common.{◌≡◌, ◌+◌, ◌<◌, ◌∙◌, ◌++◌, ◌∷◌, [], sym, ap, arith, drop, get_or, length, List, ℕ, append_assoc, append-nil}
+use Rattle.std.proofs.Common.{◌+◌, ◌∙◌, ◌++◌, ◌∷◌, [], sym, ap, drop, get_or, List, ℕ, append_assoc, append-nil}
 use Rattle.mail_core.specs.Fields.{unfolded}
 use Rattle.mail_core.proofs.AuthorLemmas.{unfolded-drops, unfolded-keeps, unfolded-over}
 use Rattle.mail_core.proofs.unfolding.unfold.Goals as goal

@@ -1,4 +1,4 @@
-use Rattle.std.proofs.Common.{rules, ◌≡◌, ◌&&◌, ◌==◌, ◌∙◌, ap, not, false, true, length, tests, sym, arith}
+use Rattle.std.proofs.Common.{rules, ◌&&◌, ◌∙◌, ap, not, tests}
 use Rattle.std.specs.List.{list_all}
 use Rattle.std.specs.Char.{is_ascii_alphabetic}
 use Rattle.std.proofs.lemmas.Iterator.{YieldsList-from_slice}

@@ -1,8 +1,8 @@
 use Rattle.std.proofs.Common.{◌≡◌, ◌∷◌, [], length, ℕ, ◌==◌, true, false, List, ◌++◌, ap, ◌∙◌, sym, take}
 use Rattle.std.proofs.lemmas.List.{nil_from_length}
 use Rattle.std.proofs.lemmas.Bool.{eqb-true}
-use Rattle.mbox_core.specs.Lines.{lines, is_blank}
-use Rattle.mbox_core.specs.Division.{body}
+use Rattle.mail_core.specs.Lines.{lines}
+use Rattle.mbox_core.specs.Division.{is_blank, body}
 use Rattle.mbox_core.proofs.LineLemmas.{lines-nil}
 use Rattle.mbox_core.proofs.SplitLemmas.{body-nil}
 use Rattle.mbox_core.proofs.FastLemmas.{last-body, whole-body}
@@ -17,12 +17,12 @@ returns-then-is_empty-clause-text c =
 
 pub returns-then-is_empty-2-clause-text : goal.returns-then-is_empty-2-clause-text
 returns-then-is_empty-2-clause-text c =
-    let blank : is_blank c.split_at.result.1.now ≡ true = ap (λ x. length x == 0) (sym c.said.ensures) ∙ sym c.is_empty-2.ensures ∙ c.if-is_empty-2.true in
+    let blank : is_blank c.split_at.result.1.now ≡ true = ap (λ x. length x == 0) (sym c.line_content.ensures) ∙ sym c.is_empty-2.ensures ∙ c.if-is_empty-2.true in
     c.split_at.ensures.front ∙ sym (last-body c.args.bytes.now c.split_at.result.1.now c.last_line.result
     (c.last_line.ensures.cuts ∙ ap (λ x. lines (take c.last_line.result c.args.bytes.now) ++ x ∷ []) (sym c.split_at.ensures.back)) blank)
 
 pub returns-else-is_empty-2-clause-text : goal.returns-else-is_empty-2-clause-text
 returns-else-is_empty-2-clause-text c =
-    let blank : is_blank c.split_at.result.1.now ≡ false = ap (λ x. length x == 0) (sym c.said.ensures) ∙ sym c.is_empty-2.ensures ∙ c.if-is_empty-2.false in
+    let blank : is_blank c.split_at.result.1.now ≡ false = ap (λ x. length x == 0) (sym c.line_content.ensures) ∙ sym c.is_empty-2.ensures ∙ c.if-is_empty-2.false in
     sym (whole-body c.args.bytes.now c.split_at.result.1.now c.last_line.result
     (c.last_line.ensures.cuts ∙ ap (λ x. lines (take c.last_line.result c.args.bytes.now) ++ x ∷ []) (sym c.split_at.ensures.back)) blank)

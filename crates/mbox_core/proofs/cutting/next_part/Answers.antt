@@ -1,9 +1,9 @@
 use Rattle.std.proofs.Common.{◌≡◌, ◌∷◌, ◌<◌, ◌≤◌, [], length, ℕ, ◌+◌, ◌==◌, true, List, ◌++◌, arith, ap, ◌∙◌, sym, take, drop, get_or, length-drop, Some, None, subst, inl, inr, Option}
 use Rattle.std.proofs.lemmas.List.{take-take, drop_all}
 use Rattle.memchr.specs.Find.{OccursAt, NoneBefore, Nowhere}
-use Rattle.mbox_core.specs.Lines.{lines, content, is_blank}
+use Rattle.mail_core.specs.Lines.{lines, content}
 use Rattle.mbox_core.specs.Separator.{Envelope, separator_of}
-use Rattle.mbox_core.specs.Division.{items_after}
+use Rattle.mbox_core.specs.Division.{is_blank, items_after}
 use Rattle.mbox_core.proofs.CutLemmas.{text_here, items_here}
 use Rattle.mbox_core.proofs.FastLemmas.{mark, calm_start, calm_next, front_on, found_state, Refused, no_mark, mark_lf, none_at_all, text_all, items_all}
 use Rattle.mbox_core.proofs.cutting.next_part.Goals.{then-is_empty+in_default, else-is_empty}
@@ -65,11 +65,11 @@ returns-in-Some-separator-clause-text c =
     let f = found bytes c.split_at.result.1.now c.loop-at.at c.in-Some.lf c.split_at.ensures.back c.loop-at.invariant.0 c.in-Some.ensures in
     let line = c.split_at-in-loop-at-2.result.1.now in
     let e = last_is bytes c.split_at-in-loop-at.result.0.now line at c.last_line-last.result c.split_at-in-loop-at.ensures.front c.split_at-in-loop-at-2.ensures.back c.last_line-last.ensures.cuts in
-    let blank : is_blank line ≡ true = ap (λ x. length x == 0) (sym c.said-before.ensures) ∙ sym c.is_empty.ensures ∙ c.if-is_empty.true in
+    let blank : is_blank line ≡ true = ap (λ x. length x == 0) (sym c.line_content-before.ensures) ∙ sym c.is_empty.ensures ∙ c.if-is_empty.true in
     let low : c.last_line-last.result ≤ at = omega (arith, c.last_line-last.ensures.within, c.split_at-in-loop-at.ensures.front_len) in
     let s = found_state bytes line at c.last_line-last.result (front_on bytes c.loop-at.at c.in-Some.lf c.loop-at.invariant.1 f.fits f.here_lf f.none) e blank low in
     let rest = c.split_at-in-loop-at.ensures.back in
-    let says : separator_of (content c.split_at-then-is_empty.result.0.now) ≡ Some c.in-Some-separator.envelope = ap separator_of (sym c.said-content.ensures) ∙ sym c.in-Some-separator.ensures.value in
+    let says : separator_of (content c.split_at-then-is_empty.result.0.now) ≡ Some c.in-Some-separator.envelope = ap separator_of (sym c.line_content-content.ensures) ∙ sym c.in-Some-separator.ensures.value in
     c.split_at-in-loop-at-2.ensures.front ∙ ap (take c.last_line-last.result) c.split_at-in-loop-at.ensures.front ∙ take-take c.last_line-last.result at bytes low
     ∙ text_here bytes at c.line_end-len.result c.split_at-then-is_empty.result.0.now (rw rest at c.split_at-then-is_empty.ensures.front)
     (omega (arith, c.line_end-len.ensures.within, c.split_at-in-loop-at.ensures.back_len)) (rw rest at c.line_end-len.ensures.cuts)
@@ -82,11 +82,11 @@ returns-in-Some-separator-clause-items c =
     let f = found bytes c.split_at.result.1.now c.loop-at.at c.in-Some.lf c.split_at.ensures.back c.loop-at.invariant.0 c.in-Some.ensures in
     let line = c.split_at-in-loop-at-2.result.1.now in
     let e = last_is bytes c.split_at-in-loop-at.result.0.now line at c.last_line-last.result c.split_at-in-loop-at.ensures.front c.split_at-in-loop-at-2.ensures.back c.last_line-last.ensures.cuts in
-    let blank : is_blank line ≡ true = ap (λ x. length x == 0) (sym c.said-before.ensures) ∙ sym c.is_empty.ensures ∙ c.if-is_empty.true in
+    let blank : is_blank line ≡ true = ap (λ x. length x == 0) (sym c.line_content-before.ensures) ∙ sym c.is_empty.ensures ∙ c.if-is_empty.true in
     let low : c.last_line-last.result ≤ at = omega (arith, c.last_line-last.ensures.within, c.split_at-in-loop-at.ensures.front_len) in
     let s = found_state bytes line at c.last_line-last.result (front_on bytes c.loop-at.at c.in-Some.lf c.loop-at.invariant.1 f.fits f.here_lf f.none) e blank low in
     let rest = c.split_at-in-loop-at.ensures.back in
-    let says : separator_of (content c.split_at-then-is_empty.result.0.now) ≡ Some c.in-Some-separator.envelope = ap separator_of (sym c.said-content.ensures) ∙ sym c.in-Some-separator.ensures.value in
+    let says : separator_of (content c.split_at-then-is_empty.result.0.now) ≡ Some c.in-Some-separator.envelope = ap separator_of (sym c.line_content-content.ensures) ∙ sym c.in-Some-separator.ensures.value in
     let h = items_here bytes at c.line_end-len.result c.split_at-then-is_empty.result.0.now (rw rest at c.split_at-then-is_empty.ensures.front)
     (omega (arith, c.line_end-len.ensures.within, c.split_at-in-loop-at.ensures.back_len)) (rw rest at c.line_end-len.ensures.cuts)
     c.last_line-last.result c.in-Some-separator.envelope s says in
@@ -99,14 +99,14 @@ loop-at-preserved c =
     let f = found bytes c.split_at.result.1.now c.loop-at.at c.in-Some.lf c.split_at.ensures.back c.loop-at.invariant.0 c.in-Some.ensures in
     let line = c.split_at-in-loop-at-2.result.1.now in
     let e = last_is bytes c.split_at-in-loop-at.result.0.now line at c.last_line-last.result c.split_at-in-loop-at.ensures.front c.split_at-in-loop-at-2.ensures.back c.last_line-last.ensures.cuts in
-    let says : is_blank line ≡ c.is_empty.result = ap (λ x. length x == 0) (sym c.said-before.ensures) ∙ sym c.is_empty.ensures in
+    let says : is_blank line ≡ c.is_empty.result = ap (λ x. length x == 0) (sym c.line_content-before.ensures) ∙ sym c.is_empty.ensures in
     let rest = c.split_at-in-loop-at.ensures.back in
     let refused : Refused line (lines (drop at bytes)) = elim c.if-is_empty.branch [
       | then-is_empty+in_default w ↦ inr (
         w.split_at-then-is_empty.result.0.now,
         lines (drop w.line_end-len.result (drop at bytes)),
         (rw rest at w.line_end-len.ensures.cuts) ∙ ap (λ x. x ∷ lines (drop w.line_end-len.result (drop at bytes))) (sym (rw rest at w.split_at-then-is_empty.ensures.front)),
-        ap separator_of (sym w.said-content.ensures) ∙ sym w.separator.ensures.value ∙ w.in_default.is,
+        ap separator_of (sym w.line_content-content.ensures) ∙ sym w.separator.ensures.value ∙ w.in_default.is,
       )
       | else-is_empty w ↦ inl (says ∙ w.if-is_empty.false)
     ] in

@@ -1,4 +1,4 @@
-use Rattle.std.proofs.Common.{◌≡◌, ◌++◌, ℕ, List, length, ap, ◌∙◌, subst}
+use Rattle.std.proofs.Common.{◌≡◌, ◌++◌, ◌-◌, ◌^◌, ℕ, List, length, min, ap, ◌∙◌, subst}
 use Rattle.mbox_core.specs.Separator.{Envelope}
 use Rattle.mbox_core.specs.Division.{Item, whole}
 use Rattle.mbox_core.specs.Written.{IsCutShort, heading, ended}
@@ -10,7 +10,7 @@ returns-in-Err-clause-fault g c = λ low.
     let same : c.item.inside.envelope ≡ c.args.item.now.envelope = ap (λ (i : Item). i.envelope) c.item.view_is in
     let P : Envelope → Type 0 = λ e. IsCutShort (g.W.Sink.told c.args.out.now) (g.W.Sink.told c.write_heading.new.out) (ended (heading e)) c.in-Err.fault.written in
     first_short (g.W.Sink.told c.args.out.now) (g.W.Sink.told c.write_heading.new.out) (ended (heading c.args.item.now.envelope)) (ended (whole c.args.item.now.text))
-    c.in-Err.fault.written (subst P same c.in-Err.ensures.fault)
+    c.in-Err.fault.written (subst P same (c.in-Err.ensures.fault low))
 
 pub returns-in-Err-write_two-clause-fault : goal.returns-in-Err-write_two-clause-fault
 returns-in-Err-write_two-clause-fault g c = λ low.
@@ -26,6 +26,6 @@ returns-in-Err-write_two-clause-fault g c = λ low.
     let P : List ℕ → Type 0 = λ x. IsCutShort mid after x n in
     let second : IsCutShort mid after rest n =
     subst P (ap (λ x. x ++ c.tail_of.result.now) text ∙ c.tail_of.ensures.value) c.in-Err-write_two.ensures.fault in
-    let len : c.heading_len.result ≡ length line = c.heading_len.ensures ∙ ap (λ e. length (ended (heading e))) same in
+    let len : c.heading_len.result ≡ min (length line) (2 ^ 64 - 1) = c.heading_len.ensures ∙ ap (λ e. min (length (ended (heading e))) (2 ^ 64 - 1)) same in
     second_short before mid after line rest n c.saturating_add.result first second
     (exact_count before mid after line rest n c.heading_len.result c.saturating_add.result first second len c.saturating_add.ensures low)

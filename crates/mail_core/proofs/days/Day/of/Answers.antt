@@ -1,4 +1,4 @@
-use Rattle.std.proofs.Common.{◌≡◌, ℕ, ℤ, ◌≤ℤ◌, ◌≤◌, pos, arith, w16, w32, to_z, of_z, nat_abs, true}
+use Rattle.std.proofs.Common.{◌≡◌, ℕ, ℤ, ◌≤◌, arith, w16, w32, to_z, of_z, nat_abs, true}
 use Rattle.std.proofs.lemmas.Int.{ints}
 use Rattle.mail_core.specs.Calendar.{is_day}
 use Rattle.mail_core.proofs.DayLemmas.{number_is_day, is_day-within, IsWithin}

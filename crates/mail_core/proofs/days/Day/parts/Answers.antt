@@ -1,7 +1,6 @@
 use Rattle.std.proofs.Common.{◌≡◌, ℤ, ◌≤ℤ◌, pos, arith, Some, w16, w32, w64, to_z, of_z, ◌∙◌, ap}
 use Rattle.std.proofs.lemmas.Int.{ints}
 use Rattle.jiff_core.specs.Calendar.{days_from_civil, IsCivilDate}
-use Rattle.mail_core.specs.Calendar.{day_of_date}
 use Rattle.mail_core.proofs.DayLemmas.{date_of_day, year_in, is_day-within, IsWithin}
 use Rattle.mail_core.proofs.days.Day.parts.Goals as goal
 
