@@ -1,2 +1,3 @@
-//! The archive as a machine of four lists of records, which knows no SQL: its commands, each one step, and its questions.
+//! The archive as a machine: what each command does to it and what it answers, and the words in which it is told. It
+//! knows no tables.
 #![tactic(auto)]

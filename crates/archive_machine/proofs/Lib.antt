@@ -1,0 +1,3 @@
+mod KeyExamples
+mod NameExamples
+mod MachineExamples
