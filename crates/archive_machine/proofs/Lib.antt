@@ -1,3 +1,5 @@
 mod KeyExamples
-mod NameExamples
+pub mod KeyLemmas
 mod MachineExamples
+mod NameExamples
+pub mod TokenLemmas
