@@ -34,7 +34,7 @@ is_grant_of person list g = bytes_eq g.person person && bytes_eq g.list list
 
 -- the grant of this person, list and rank
 abbrev pub is_grant : List ℕ → List ℕ → ℤ → Grant → Bool
-is_grant person list rank g = is_grant_of person list g && int_eq g.rank rank
+is_grant person list rank g = bytes_eq g.person person && (bytes_eq g.list list && int_eq g.rank rank)
 
 abbrev pub has_grant : Archive → List ℕ → List ℕ → ℤ → Bool
 has_grant archive person list rank = list_any (is_grant person list rank) archive.grants
