@@ -1,0 +1,3 @@
+//! Each SQL text, in a function of its own, in a file for each table.
+
+pub mod lists;
