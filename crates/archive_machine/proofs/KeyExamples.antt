@@ -4,7 +4,7 @@ use Rattle.sha2.specs.Sha256.{sha256, digest_bytes, hash_after, compress, rounds
 use Rattle.hex.proofs.OnLiterals.{hex_on_literals}
 use Rattle.mbox_core.specs.Division.{Item}
 use Rattle.archive_machine.specs.Records.{Archive}
-use Rattle.archive_machine.specs.Commands.{no_list, list_full, new, known, refused}
+use Rattle.archive_machine.specs.Commands.{no_list, list_full, taken_in, already_known, refused}
 use Rattle.archive_machine.specs.Keys.{key_of, item_key}
 use Rattle.archive_machine.specs.Machine.{Outcome, new_message, added_within}
 
@@ -40,7 +40,7 @@ with_one = record {
 abbrev added : Archive → List ℕ → List ℕ → Outcome
 added archive list text = added_within 2 archive list (item (codes "c@d") text)
 
-a_second : (added with_one (codes "soc") (codes "two")).1 ≡ new
+a_second : (added with_one (codes "soc") (codes "two")).1 ≡ taken_in
 unfolding hex_on_literals sha256 digest_bytes hash_after compress rounds schedule first_words
 a_second = refl
 
@@ -49,7 +49,7 @@ unfolding hex_on_literals sha256 digest_bytes hash_after compress rounds schedul
 a_third = refl
 
 -- a message that comes again is known also where the list is full, and the first sender stays
-the_first_again : added (added with_one (codes "soc") (codes "two")).0 (codes "soc") (codes "one\n") ≡ ((added with_one (codes "soc") (codes "two")).0, known)
+the_first_again : added (added with_one (codes "soc") (codes "two")).0 (codes "soc") (codes "one\n") ≡ ((added with_one (codes "soc") (codes "two")).0, already_known)
 unfolding hex_on_literals sha256 digest_bytes hash_after compress rounds schedule first_words
 the_first_again = refl
 

@@ -31,10 +31,10 @@ pub data Refusal : Type 0 where
   list_full : Refusal
   too_large : Refusal
 
--- `was_there` says whether what was taken away was there; `new` and `known` answer a message that is added.
+-- `was_there` says whether what was taken away was there; `taken_in` and `already_known` answer a message that is added.
 pub data Reply : Type 0 where
   done : Reply
   was_there : Bool → Reply
-  new : Reply
-  known : Reply
+  taken_in : Reply
+  already_known : Reply
   refused : Refusal → Reply

@@ -4,7 +4,7 @@ use Rattle.std.specs.Prelude.{ℕ, ℤ, pos, int_lt, nat_lt, nat_le, List, [], �
 use Rattle.policy_core.specs.Names.{is_name}
 use Rattle.mbox_core.specs.Division.{Item, whole}
 use Rattle.archive_machine.specs.Records.{Grant, Message, Archive}
-use Rattle.archive_machine.specs.Commands.{Command, list_add, person_add, grant, revoke, add, withdraw, restore, embargo, lift, Refusal, bad_name, bad_text, list_exists, no_list, person_exists, no_person, token_taken, no_message, already_withdrawn, not_withdrawn, bad_days, list_full, too_large, Reply, done, was_there, new, known, refused}
+use Rattle.archive_machine.specs.Commands.{Command, list_add, person_add, grant, revoke, add, withdraw, restore, embargo, lift, Refusal, bad_name, bad_text, list_exists, no_list, person_exists, no_person, token_taken, no_message, already_withdrawn, not_withdrawn, bad_days, list_full, too_large, Reply, done, was_there, taken_in, already_known, refused}
 use Rattle.archive_machine.specs.Tokens.{is_token}
 use Rattle.archive_machine.specs.Keys.{item_key}
 use Rattle.archive_machine.specs.Questions.{has_list, has_person, has_token, is_grant, has_grant, messages_in, is_message, message_of, has_message, is_withdrawn, is_embargoed}
@@ -79,9 +79,9 @@ abbrev pub added_within : ℕ → Archive → List ℕ → Item → Outcome
 added_within limit archive list item =
     if not (has_list archive list) then refuse archive no_list
     else if nat_lt 4194304 (length (whole item.text)) then refuse archive too_large
-    else if has_message archive list (item_key item) then (archive, known)
+    else if has_message archive list (item_key item) then (archive, already_known)
     else if nat_le limit (length (messages_in archive list)) then refuse archive list_full
-    else (record archive { messages = archive.messages ++ new_message list item ∷ [] }, new)
+    else (record archive { messages = archive.messages ++ new_message list item ∷ [] }, taken_in)
 
 abbrev pub message_limit : ℕ
 message_limit = 50000

@@ -1,0 +1,9 @@
+//! The archive in the tables of a database: each command is one step of the archive's machine, and each question is
+//! answered from what the tables hold.
+#![tactic(auto)]
+
+mod faults;
+mod store;
+
+pub use faults::StoreFault;
+pub use store::Store;
