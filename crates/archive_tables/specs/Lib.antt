@@ -1,3 +1,4 @@
 pub mod Schema
 pub mod Tables
+pub mod Rows
 pub mod Calls
