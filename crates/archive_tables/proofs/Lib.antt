@@ -11,3 +11,4 @@ pub mod MessageLemmas
 pub mod MailboxLemmas
 pub mod UpdateLemmas
 pub mod GrantLemmas
+pub mod MakeLemmas

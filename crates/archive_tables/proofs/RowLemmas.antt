@@ -38,7 +38,7 @@ all_below first (x ∷ y ∷ more) up num =
     let rest = all_below (id_in (rowid x) +ℤ pos 1) (y ∷ more) up.1 num.1 in
     (value_cmp_total.trans _ _ _ up.0.0 rest.0, rest)
 
-int_less : {a b : ℤ} → int_cmp a b ≡ Less → a <ℤ b
+pub int_less : {a b : ℤ} → int_cmp a b ≡ Less → a <ℤ b
 int_less {a} {b} less = grind (arith, ints, nat_tests)
 
 below_more : (a b : ℤ) (rows : List Row) → (a ≡ b) ⊎ (a <ℤ b) → AreBelow a rows → AreBelow b rows

@@ -72,7 +72,7 @@ pub record Picks (q : Query) (params : Row) (rows shown : List Row) : Type 0 whe
 
 -- ---- lists
 
-each_passing : {A B : Type 0} (p : A → Bool) (f : A → B) (xs : List A) → flat_map (λ x. cond (p x) (f x ∷ []) []) xs ≡ map f (filter p xs)
+pub each_passing : {A B : Type 0} (p : A → Bool) (f : A → B) (xs : List A) → flat_map (λ x. cond (p x) (f x ∷ []) []) xs ≡ map f (filter p xs)
 each_passing p f [] = refl
 each_passing p f (x ∷ xs) =
     elim (p x) as (λ b. cond b (f x ∷ []) [] ++ flat_map (λ y. cond (p y) (f y ∷ []) []) xs ≡ map f (cond b (x ∷ filter p xs) (filter p xs)))

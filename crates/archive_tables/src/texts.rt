@@ -4,3 +4,4 @@ pub mod grants;
 pub mod lists;
 pub mod messages;
 pub mod persons;
+pub mod schema;
