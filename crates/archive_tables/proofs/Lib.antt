@@ -12,3 +12,5 @@ pub mod MailboxLemmas
 pub mod UpdateLemmas
 pub mod GrantLemmas
 pub mod MakeLemmas
+pub mod ReachLemmas
+pub mod NamesLemmas

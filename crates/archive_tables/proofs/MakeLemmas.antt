@@ -216,14 +216,16 @@ commit_plain = (refl, refl)
 
 pub commits : (old new : State) (before : Database) (count : ℕ) → IsMade old before → Executes commit_text [] old new (Ok count) → IsKept new × (archive_of new ≡ empty_archive)
 commits old new before count k h =
-    let ran = runs_as commit_text [] old new archive_schema k.schema_is Commit commit_is commit_plain count h in
-    (record {
-      is_open = ran.1.is_open;
-      autocommit = ran.1.mode;
-      settled = ran.1.committed_is ∙ sym ran.1.now_is;
-      schema = ap (λ (d : Database). d.schema) ran.1.now_is ∙ k.schema_is;
-      tables = subst (λ (d : Database). AreTables d.trees) (sym ran.1.now_is) k.tables;
-    }, ap (λ (d : Database). archive_in d.trees) ran.1.now_is ∙ k.nothing)
+    let ran = runs_as commit_text [] old new archive_schema k.schema_is Commit commit_is commit_plain count h in (
+      record {
+        is_open = ran.1.is_open;
+        autocommit = ran.1.mode;
+        settled = ran.1.committed_is ∙ sym ran.1.now_is;
+        schema = ap (λ (d : Database). d.schema) ran.1.now_is ∙ k.schema_is;
+        tables = subst (λ (d : Database). AreTables d.trees) (sym ran.1.now_is) k.tables;
+      },
+      ap (λ (d : Database). archive_in d.trees) ran.1.now_is ∙ k.nothing,
+    )
 
 abbrev pub rollback_text : List ℕ
 rollback_text = codes "ROLLBACK"
@@ -264,16 +266,19 @@ puts db given none from = rw (from, none, cast_null, cast_int (pos 0))
 
 nothing_in : (trees : Trees) → trees 0 ≡ version_rows → trees 1 ≡ [] → trees 3 ≡ [] → trees 6 ≡ [] → trees 8 ≡ []
     → AreTables trees × (archive_in trees ≡ empty_archive)
-nothing_in trees version lists persons grants messages = (record {
-  version = version;
-  lists = rw lists (record { coded = refl; rise = tt });
-  persons = rw persons (record { coded = refl; rise = tt });
-  grants = rw grants (record { coded = refl; rise = tt });
-  messages = rw messages (record { coded = refl; rise = tt });
-  grants_apart = rw grants tt;
-  messages_apart = rw messages tt;
-  positive = rw messages tt;
-}, rw (lists, persons, grants, messages))
+nothing_in trees version lists persons grants messages = (
+  record {
+    version = version;
+    lists = rw lists (record { coded = refl; rise = tt });
+    persons = rw persons (record { coded = refl; rise = tt });
+    grants = rw grants (record { coded = refl; rise = tt });
+    messages = rw messages (record { coded = refl; rise = tt });
+    grants_apart = rw grants tt;
+    messages_apart = rw messages tt;
+    positive = rw messages tt;
+  },
+  rw (lists, persons, grants, messages),
+)
 
 pub makes_whole : (old new : State) (before : Database) (count : ℕ) → IsMaking old archive_schema before → Executes version_text [] old new (Ok count) → IsMade new before
 makes_whole old new before count k h =
@@ -323,10 +328,11 @@ only_version rows picked are it = in_order 0 [] number_cell [] version_rows pick
 module _ (old new : State) (k : IsKept old) where
   pub version_found : (rows : List Row) → Shown number_text [] old new rows → (rows ≡ (Int (pos 0) ∷ []) ∷ []) × IsTrue new.is_open × Rests old new
   version_found rows h =
-      let picks = asked number_text 0 [] number_cell by_number _ number_is.0 number_plain number_is.1 (λ t. refl) [] old new k rows h in
-      (only_version (old.now.trees 0) rows k.tables.version picks,
-      (leaves number_text 0 [] number_cell by_number _ number_is.0 number_plain number_is.1 (λ t. refl) [] old new k rows h).0.is_open,
-      asked_rests number_text 0 [] number_cell by_number _ number_is.0 number_plain number_is.1 (λ t. refl) [] old new k rows h)
+      let picks = asked number_text 0 [] number_cell by_number _ number_is.0 number_plain number_is.1 (λ t. refl) [] old new k rows h in (
+        only_version (old.now.trees 0) rows k.tables.version picks,
+        (leaves number_text 0 [] number_cell by_number _ number_is.0 number_plain number_is.1 (λ t. refl) [] old new k rows h).0.is_open,
+        asked_rests number_text 0 [] number_cell by_number _ number_is.0 number_plain number_is.1 (λ t. refl) [] old new k rows h,
+      )
 
   pub version_not_found : (e : Error) → FailsToQuery number_text [] old new e → Rests old new
   version_not_found e h = refused_rests number_text 0 [] number_cell by_number _ number_is.0 number_plain number_is.1 (λ t. refl) [] old new k e h

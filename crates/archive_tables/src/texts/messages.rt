@@ -1,6 +1,6 @@
 //! The table `message`.
 
-ghost use Rattle.std.specs.Prelude.{◌≡◌, ◌++◌, ◌∷◌, [], false, Some, None, bytes_eq, filter, find, length, map, option_map, if◌then◌else◌};
+ghost use Rattle.std.specs.Prelude.{◌≡◌, ◌<◌, ◌++◌, ◌∷◌, [], false, Some, None, bytes_eq, filter, find, length, map, option_map, if◌then◌else◌};
 ghost use Rattle.std.specs.List.{list_any};
 ghost use Rattle.archive_tables.specs.Tables.{is_message};
 ghost use Rattle.archive_tables.specs.Rows.{new_message, message_shown, message_in};
@@ -86,6 +86,21 @@ pub fn count_messages<S: Alter>(conn: &mut Connection<S>, list: &str) -> Result<
 {
     let rows = conn.query_all("SELECT key FROM message WHERE list = ?1", params![list])?;
     Ok(rows.len())
+}
+
+/// Whether some message has a number of at least the limit. Where none has, there are fewer messages than the limit. It takes
+/// the same time however many messages there are.
+pub fn reaches<S: Alter>(conn: &mut Connection<S>, limit: u32) -> Result<bool, Error>
+    ensures found { Finds S.Store conn.old conn.new result (λ a found. 0 < limit → found ≡ false → length a.messages < limit) }
+    ensures same { Leaves S.Store conn.old conn.new }
+    ensures up { IsUp S.Store conn.old conn.new result }
+    ensures clean { WasClean S.Store conn.old conn.new }
+{
+    let rows = conn.query_all(
+        "SELECT pos FROM message WHERE pos >= ?1 LIMIT 1",
+        params![limit],
+    )?;
+    Ok(!rows.is_empty())
 }
 
 /// Writes down who withdrew the message of the list and key: 0 nobody, 1 its author, 2 the board.

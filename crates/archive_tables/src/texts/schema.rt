@@ -27,10 +27,7 @@ pub fn create_version<S: Alter>(conn: &mut Connection<S>) -> Result<usize, Error
     ensures stopped { Stops S.Store conn.old conn.new result }
     ensures clean { WasClean S.Store conn.old conn.new }
 {
-    conn.execute(
-        "CREATE TABLE version (number INTEGER NOT NULL) STRICT",
-        &[],
-    )
+    conn.execute("CREATE TABLE version (number INTEGER NOT NULL) STRICT", &[])
 }
 
 /// Makes the table `list`.
