@@ -114,10 +114,11 @@ module _ (old new : State) (name : List ℕ) (k : IsKept old) where
       → (not (length rows == 0) ≡ list_any (λ n. bytes_eq n name) (archive_of old).lists) × IsTrue new.is_open × Rests old new
   has rows h =
       let q = plain_query 1 has_name name_shown [] in
-      let picks = asked has_text 1 has_name name_shown [] _ has_is.0 has_plain has_is.1 (λ t. refl) (Text name ∷ []) old new k rows h in
-      (any_wanted list_cells list_read (λ n r. refl) q (Text name ∷ []) (λ it. bytes_eq it name) (is_named name) (old.now.trees 1) rows k.tables.lists picks,
-      (leaves has_text 1 has_name name_shown [] _ has_is.0 has_plain has_is.1 (λ t. refl) (Text name ∷ []) old new k rows h).0.is_open,
-      asked_rests has_text 1 has_name name_shown [] _ has_is.0 has_plain has_is.1 (λ t. refl) (Text name ∷ []) old new k rows h)
+      let picks = asked has_text 1 has_name name_shown [] _ has_is.0 has_plain has_is.1 (λ t. refl) (Text name ∷ []) old new k rows h in (
+        any_wanted list_cells list_read (λ n r. refl) q (Text name ∷ []) (λ it. bytes_eq it name) (is_named name) (old.now.trees 1) rows k.tables.lists picks,
+        (leaves has_text 1 has_name name_shown [] _ has_is.0 has_plain has_is.1 (λ t. refl) (Text name ∷ []) old new k rows h).0.is_open,
+        asked_rests has_text 1 has_name name_shown [] _ has_is.0 has_plain has_is.1 (λ t. refl) (Text name ∷ []) old new k rows h,
+      )
 
   pub has_not : (e : Error) → FailsToQuery has_text (Text name ∷ []) old new e → Rests old new
   has_not e h = refused_rests has_text 1 has_name name_shown [] _ has_is.0 has_plain has_is.1 (λ t. refl) (Text name ∷ []) old new k e h

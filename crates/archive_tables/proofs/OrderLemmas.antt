@@ -13,7 +13,7 @@ use Rattle.sqlite_rules.specs.Lists.{Has}
 use Rattle.sqlite_rules.proofs.ListLemmas.{all_has, has_contained, contains_had}
 
 module _ {K : Type 0} {cmp : K → K → Ordering} (total : IsTotalOrder cmp) where
-  ties_flip : (x y : K) → eq_by_cmp cmp x y ≡ eq_by_cmp cmp y x
+  pub ties_flip : (x y : K) → eq_by_cmp cmp x y ≡ eq_by_cmp cmp y x
   ties_flip x y = ap is_eq (total.antisymm x y) ∙ flipped (cmp y x)
     where
       flipped : (o : Ordering) → is_eq (ordering_reverse o) ≡ is_eq o

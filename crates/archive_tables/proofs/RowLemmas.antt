@@ -38,6 +38,9 @@ all_below first (x ∷ y ∷ more) up num =
     let rest = all_below (id_in (rowid x) +ℤ pos 1) (y ∷ more) up.1 num.1 in
     (value_cmp_total.trans _ _ _ up.0.0 rest.0, rest)
 
+pub int_less : {a b : ℤ} → int_cmp a b ≡ Less → a <ℤ b
+int_less {a} {b} less = grind (arith, ints, nat_tests)
+
 below_more : (a b : ℤ) (rows : List Row) → (a ≡ b) ⊎ (a <ℤ b) → AreBelow a rows → AreBelow b rows
 below_more a b rows (inl same) all = subst (λ n. AreBelow n rows) same all
 below_more a b rows (inr less) all = all_weaker _ (λ row. value_cmp (rowid row) (Int b) ≡ Less)
@@ -97,3 +100,32 @@ module _ {R : Type 0} (cells : R → Row) (read : Row → R) (back : (n : ℤ) (
       let more = one_more all new in
       let it = holds_from _ _ (last ∙ ap (λ l. l ++ row_of cells new ∷ []) k.coded ∙ more.0) (IsTable-put_row (row_of cells new) rows k.rise) in
       (it.0, it.1 ∙ more.1 ∙ ap (λ l. l ++ new.it ∷ []) (sym (records_are rows k)), last)
+
+  -- above zero stays the rows' numbers: the new one is above the last, or the first
+  positive_next : (rows : List Row) → AllByRecursion HasNumber rows → AllByRecursion (λ row. value_cmp (Int (pos 0)) (rowid row) ≡ Less) rows → (first : ℤ) → pos 0 <ℤ first
+      → pos 0 <ℤ fold (λ _ row. id_in (rowid row) +ℤ pos 1) first rows
+  positive_next [] num all first above = above
+  positive_next (row ∷ rows) num all first above = positive_next rows num.1 all.1 (id_in (rowid row) +ℤ pos 1) (successor (id_in (rowid row)) (zero_below (id_in (rowid row)) (subst (λ v. value_cmp (Int (pos 0)) v ≡ Less) num.0 all.0)))
+    where
+      zero_below : (n : ℤ) → value_cmp (Int (pos 0)) (Int n) ≡ Less → pos 0 <ℤ n
+      zero_below n less = int_less (sym (value_cmp-Int (pos 0) n) ∙ less)
+
+      successor : (n : ℤ) → pos 0 <ℤ n → pos 0 <ℤ (n +ℤ pos 1)
+      successor n above = omega (arith, ints, above)
+
+  all_and_last : (P : Row → Type 0) (rows : List Row) (new : Row) → AllByRecursion P rows → P new → AllByRecursion P (rows ++ new ∷ [])
+  all_and_last P [] new all last = (last, tt)
+  all_and_last P (row ∷ rows) new all last = (all.0, all_and_last P rows new all.1 last)
+
+  pub positive_more : (rows : List Row) (new : Numbered R) → (next_rowid rows ≡ new.number) ⊎ (next_rowid rows <ℤ new.number) → Holds cells read rows
+      → AllByRecursion (λ row. value_cmp (Int (pos 0)) (rowid row) ≡ Less) rows → AllByRecursion (λ row. value_cmp (Int (pos 0)) (rowid row) ≡ Less) (put_row (row_of cells new) rows)
+  positive_more rows new far k all =
+      let num = subst (AllByRecursion HasNumber) (sym k.coded) (have_numbers (map (read_of read) rows)) in
+      let next = positive_next rows num all (pos 1) (omega (arith, ints)) in
+      let above = above_too (next_rowid rows) new.number next far in
+      subst (AllByRecursion (λ row. value_cmp (Int (pos 0)) (rowid row) ≡ Less)) (sym ((put_past rows new far k).2))
+      (all_and_last (λ row. value_cmp (Int (pos 0)) (rowid row) ≡ Less) rows (row_of cells new) all (value_cmp-Int _ _ ∙ sym (int_cmp_is (pos 0) new.number Less above)))
+    where
+      above_too : (a b : ℤ) → pos 0 <ℤ a → (a ≡ b) ⊎ (a <ℤ b) → pos 0 <ℤ b
+      above_too a b above (inl same) = subst (λ n. pos 0 <ℤ n) same above
+      above_too a b above (inr less) = omega (arith, ints, above, less)

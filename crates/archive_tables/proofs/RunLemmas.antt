@@ -53,13 +53,16 @@ query_leaves old new sql params rows plain ran =
 
 as_before : (old new : State) → IsKept old → IsTrue new.is_open → new.now ≡ old.now → new.committed ≡ old.now → new.in_transaction ≡ false
     → IsKept new × (archive_of new ≡ archive_of old)
-as_before old new k up now committed mode = (record {
-  is_open = up;
-  autocommit = mode;
-  settled = committed ∙ sym now;
-  schema = rw now k.schema;
-  tables = rw now k.tables;
-}, ap (λ (d : Database). archive_in d.trees) now)
+as_before old new k up now committed mode = (
+  record {
+    is_open = up;
+    autocommit = mode;
+    settled = committed ∙ sym now;
+    schema = rw now k.schema;
+    tables = rw now k.tables;
+  },
+  ap (λ (d : Database). archive_in d.trees) now,
+)
 
 pub rests : (old new : State) → IsKept old → IsUnchanged old new ⊎ IsRolledBack old new → Rests old new
 rests old new k (inl same) up = as_before old new k up same.0.now_is (same.0.committed_is ∙ k.settled) (same.0.mode ∙ k.autocommit)

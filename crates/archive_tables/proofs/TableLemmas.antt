@@ -34,17 +34,19 @@ module _ (old new : Trees) (k : AreTables old) where
       let version = same.version (λ e. omega (arith, e)) in
       let persons = same.persons (λ e. omega (arith, e)) in
       let grants = same.grants (λ e. omega (arith, e)) in
-      let messages = same.messages (λ e. omega (arith, e)) in
-      (record {
-        version = version ∙ k.version;
-        lists = subst (Holds list_cells list_read) (sym is) holds;
-        persons = subst (Holds person_cells person_read) (sym persons) k.persons;
-        grants = subst (Holds grant_cells grant_read) (sym grants) k.grants;
-        messages = subst (Holds message_cells message_read) (sym messages) k.messages;
-        grants_apart = subst (λ l. AreApart same_grant (map grant_read l)) (sym grants) k.grants_apart;
-        messages_apart = subst (λ l. AreApart same_message (map message_read l)) (sym messages) k.messages_apart;
-        positive = subst ArePositive (sym messages) k.positive;
-      }, archive_same _ _ (ap (map list_read) is) (ap (map person_read) persons) (ap (map grant_read) grants) (ap (map message_read) messages))
+      let messages = same.messages (λ e. omega (arith, e)) in (
+        record {
+          version = version ∙ k.version;
+          lists = subst (Holds list_cells list_read) (sym is) holds;
+          persons = subst (Holds person_cells person_read) (sym persons) k.persons;
+          grants = subst (Holds grant_cells grant_read) (sym grants) k.grants;
+          messages = subst (Holds message_cells message_read) (sym messages) k.messages;
+          grants_apart = subst (λ l. AreApart same_grant (map grant_read l)) (sym grants) k.grants_apart;
+          messages_apart = subst (λ l. AreApart same_message (map message_read l)) (sym messages) k.messages_apart;
+          positive = subst ArePositive (sym messages) k.positive;
+        },
+        archive_same _ _ (ap (map list_read) is) (ap (map person_read) persons) (ap (map grant_read) grants) (ap (map message_read) messages),
+      )
 
   pub persons_change : SameBut 3 old new → (rows : List Row) → new 3 ≡ rows → Holds person_cells person_read rows
       → AreTables new × (archive_in new ≡ record (archive_in old) { persons = map person_read rows })
@@ -52,17 +54,19 @@ module _ (old new : Trees) (k : AreTables old) where
       let version = same.version (λ e. omega (arith, e)) in
       let lists = same.lists (λ e. omega (arith, e)) in
       let grants = same.grants (λ e. omega (arith, e)) in
-      let messages = same.messages (λ e. omega (arith, e)) in
-      (record {
-        version = version ∙ k.version;
-        lists = subst (Holds list_cells list_read) (sym lists) k.lists;
-        persons = subst (Holds person_cells person_read) (sym is) holds;
-        grants = subst (Holds grant_cells grant_read) (sym grants) k.grants;
-        messages = subst (Holds message_cells message_read) (sym messages) k.messages;
-        grants_apart = subst (λ l. AreApart same_grant (map grant_read l)) (sym grants) k.grants_apart;
-        messages_apart = subst (λ l. AreApart same_message (map message_read l)) (sym messages) k.messages_apart;
-        positive = subst ArePositive (sym messages) k.positive;
-      }, archive_same _ _ (ap (map list_read) lists) (ap (map person_read) is) (ap (map grant_read) grants) (ap (map message_read) messages))
+      let messages = same.messages (λ e. omega (arith, e)) in (
+        record {
+          version = version ∙ k.version;
+          lists = subst (Holds list_cells list_read) (sym lists) k.lists;
+          persons = subst (Holds person_cells person_read) (sym is) holds;
+          grants = subst (Holds grant_cells grant_read) (sym grants) k.grants;
+          messages = subst (Holds message_cells message_read) (sym messages) k.messages;
+          grants_apart = subst (λ l. AreApart same_grant (map grant_read l)) (sym grants) k.grants_apart;
+          messages_apart = subst (λ l. AreApart same_message (map message_read l)) (sym messages) k.messages_apart;
+          positive = subst ArePositive (sym messages) k.positive;
+        },
+        archive_same _ _ (ap (map list_read) lists) (ap (map person_read) is) (ap (map grant_read) grants) (ap (map message_read) messages),
+      )
 
   pub grants_change : SameBut 6 old new → (rows : List Row) → new 6 ≡ rows → Holds grant_cells grant_read rows → AreApart same_grant (map grant_read rows)
       → AreTables new × (archive_in new ≡ record (archive_in old) { grants = map grant_read rows })
@@ -70,17 +74,19 @@ module _ (old new : Trees) (k : AreTables old) where
       let version = same.version (λ e. omega (arith, e)) in
       let lists = same.lists (λ e. omega (arith, e)) in
       let persons = same.persons (λ e. omega (arith, e)) in
-      let messages = same.messages (λ e. omega (arith, e)) in
-      (record {
-        version = version ∙ k.version;
-        lists = subst (Holds list_cells list_read) (sym lists) k.lists;
-        persons = subst (Holds person_cells person_read) (sym persons) k.persons;
-        grants = subst (Holds grant_cells grant_read) (sym is) holds;
-        messages = subst (Holds message_cells message_read) (sym messages) k.messages;
-        grants_apart = subst (λ l. AreApart same_grant (map grant_read l)) (sym is) apart;
-        messages_apart = subst (λ l. AreApart same_message (map message_read l)) (sym messages) k.messages_apart;
-        positive = subst ArePositive (sym messages) k.positive;
-      }, archive_same _ _ (ap (map list_read) lists) (ap (map person_read) persons) (ap (map grant_read) is) (ap (map message_read) messages))
+      let messages = same.messages (λ e. omega (arith, e)) in (
+        record {
+          version = version ∙ k.version;
+          lists = subst (Holds list_cells list_read) (sym lists) k.lists;
+          persons = subst (Holds person_cells person_read) (sym persons) k.persons;
+          grants = subst (Holds grant_cells grant_read) (sym is) holds;
+          messages = subst (Holds message_cells message_read) (sym messages) k.messages;
+          grants_apart = subst (λ l. AreApart same_grant (map grant_read l)) (sym is) apart;
+          messages_apart = subst (λ l. AreApart same_message (map message_read l)) (sym messages) k.messages_apart;
+          positive = subst ArePositive (sym messages) k.positive;
+        },
+        archive_same _ _ (ap (map list_read) lists) (ap (map person_read) persons) (ap (map grant_read) is) (ap (map message_read) messages),
+      )
 
   pub messages_change : SameBut 8 old new → (rows : List Row) → new 8 ≡ rows → Holds message_cells message_read rows → AreApart same_message (map message_read rows) → ArePositive rows
       → AreTables new × (archive_in new ≡ record (archive_in old) { messages = map message_read rows })
@@ -88,14 +94,16 @@ module _ (old new : Trees) (k : AreTables old) where
       let version = same.version (λ e. omega (arith, e)) in
       let lists = same.lists (λ e. omega (arith, e)) in
       let persons = same.persons (λ e. omega (arith, e)) in
-      let grants = same.grants (λ e. omega (arith, e)) in
-      (record {
-        version = version ∙ k.version;
-        lists = subst (Holds list_cells list_read) (sym lists) k.lists;
-        persons = subst (Holds person_cells person_read) (sym persons) k.persons;
-        grants = subst (Holds grant_cells grant_read) (sym grants) k.grants;
-        messages = subst (Holds message_cells message_read) (sym is) holds;
-        grants_apart = subst (λ l. AreApart same_grant (map grant_read l)) (sym grants) k.grants_apart;
-        messages_apart = subst (λ l. AreApart same_message (map message_read l)) (sym is) apart;
-        positive = subst ArePositive (sym is) positive;
-      }, archive_same _ _ (ap (map list_read) lists) (ap (map person_read) persons) (ap (map grant_read) grants) (ap (map message_read) is))
+      let grants = same.grants (λ e. omega (arith, e)) in (
+        record {
+          version = version ∙ k.version;
+          lists = subst (Holds list_cells list_read) (sym lists) k.lists;
+          persons = subst (Holds person_cells person_read) (sym persons) k.persons;
+          grants = subst (Holds grant_cells grant_read) (sym grants) k.grants;
+          messages = subst (Holds message_cells message_read) (sym is) holds;
+          grants_apart = subst (λ l. AreApart same_grant (map grant_read l)) (sym grants) k.grants_apart;
+          messages_apart = subst (λ l. AreApart same_message (map message_read l)) (sym is) apart;
+          positive = subst ArePositive (sym is) positive;
+        },
+        archive_same _ _ (ap (map list_read) lists) (ap (map person_read) persons) (ap (map grant_read) grants) (ap (map message_read) is),
+      )

@@ -20,6 +20,11 @@ module _ {S : Type 0} (g : Ghosts S) (old new : Held S) where
   abbrev pub Writes : {A : Type 0} → Result A Error → (Archive → Archive) → Type 0
   Writes result change = HasCleanDisk (state g new) → IsKept (state g old) → OnOk result (Changes (state g old) (state g new) change)
 
+  -- the same, of an archive that is as the write needs it
+  abbrev pub WritesWhen : {A : Type 0} → Result A Error → (Archive → Type 0) → (Archive → Archive) → Type 0
+  WritesWhen result Needs change =
+      HasCleanDisk (state g new) → IsKept (state g old) → Needs (archive_of (state g old)) → OnOk result (Changes (state g old) (state g new) change)
+
   -- a write that fails
   abbrev pub Refuses : {A : Type 0} → Result A Error → Type 0
   Refuses result = HasCleanDisk (state g new) → IsKept (state g old) → OnErr result (Rests (state g old) (state g new))

@@ -4,6 +4,7 @@ use Rattle.sqlite.specs.declared.types.Value.TheVariants.{Null, Int}
 use Rattle.sqlite.specs.Collation.TheVariants.{Binary}
 use Rattle.sqlite.specs.Kind.{Kind}
 use Rattle.sqlite.specs.Kind.TheVariants.{Integer, Text, Blob, Any}
+use Rattle.sqlite.specs.Change.{created}
 use Rattle.sqlite.specs.Table.{Table}
 use Rattle.sqlite.specs.Schema.{Schema}
 use Rattle.sqlite.specs.Term.{Term, lit, col, op2}
@@ -89,8 +90,7 @@ person_table = record (table (codes "person") 3 (needed (codes "name") Text ∷ 
 
 abbrev pub grant_table : Table
 grant_table = record (table (codes "grant_row") 6 (needed (codes "person") Text ∷ needed (codes "list") Text ∷ needed (codes "kind") Integer
-    ∷ needed (codes "from_day") Integer ∷ needed (codes "until_day") Integer ∷ []))
-    {
+    ∷ needed (codes "from_day") Integer ∷ needed (codes "until_day") Integer ∷ [])) {
       primary = 1 ∷ 2 ∷ 3 ∷ [];
       uniques = (1 ∷ 2 ∷ 3 ∷ []) ∷ [];
       orders = plain ∷ [];
@@ -101,8 +101,7 @@ grant_table = record (table (codes "grant_row") 6 (needed (codes "person") Text 
 abbrev pub message_table : Table
 message_table = record (table (codes "message") 8 (optional (codes "pos") Integer ∷ needed (codes "list") Text ∷ needed (codes "key") Text
     ∷ needed (codes "sender") Blob ∷ needed (codes "arrival") Integer ∷ needed (codes "text") Blob ∷ needed (codes "withdrawn") Integer
-    ∷ optional (codes "embargo") Integer ∷ []))
-    {
+    ∷ optional (codes "embargo") Integer ∷ [])) {
       key = Some 0;
       primary = 0 ∷ [];
       uniques = (2 ∷ 3 ∷ []) ∷ [];
@@ -131,3 +130,17 @@ archive_schema = record {
       ∷ key_of (codes "sqlite_autoindex_message_1") 9 8 (2 ∷ 3 ∷ []) ∷ [];
   views = [];
 }
+
+-- ---- what is there after each of the texts
+
+abbrev pub with_version : Schema
+with_version = created no_schema version_table
+
+abbrev pub with_list : Schema
+with_list = created with_version list_table
+
+abbrev pub with_person : Schema
+with_person = created with_list person_table
+
+abbrev pub with_grant : Schema
+with_grant = created with_person grant_table

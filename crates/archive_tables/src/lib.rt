@@ -4,4 +4,5 @@
 //! wherever `IsKept` held before.
 #![tactic(auto)]
 
+pub mod rows;
 pub mod texts;

@@ -1,10 +1,13 @@
 //! The table `list`.
 
-ghost use Rattle.std.specs.Prelude.{◌≡◌, ◌++◌, ◌∷◌, [], bytes_eq};
+ghost use Rattle.std.specs.Prelude.{◌≡◌, ◌++◌, ◌∷◌, [], bytes_eq, map, IsPermutation, IsSorted};
 ghost use Rattle.std.specs.List.{list_any};
+ghost use Rattle.std.specs.Ordering.{nat_cmp};
+ghost use Rattle.std.specs.Cmp.Lexicographic.{slice_cmp};
+ghost use Rattle.archive_tables.specs.Rows.{name_shown};
 ghost use Rattle.archive_tables.specs.Calls.{Writes, Refuses, Finds, Leaves, IsUp, WasClean};
 
-use sqlite::{Alter, Connection, Error, params};
+use sqlite::{Alter, Connection, Error, Row, params};
 
 /// Adds a list after the others.
 pub fn add_list<S: Alter>(conn: &mut Connection<S>, name: &str) -> Result<usize, Error>
@@ -24,4 +27,15 @@ pub fn has_list<S: Alter>(conn: &mut Connection<S>, name: &str) -> Result<bool, 
 {
     let rows = conn.query_all("SELECT name FROM list WHERE name = ?1", params![name])?;
     Ok(!rows.is_empty())
+}
+
+/// The names of all lists, in the order of their bytes. `read_name` reads a row.
+pub fn list_names<S: Alter>(conn: &mut Connection<S>) -> Result<Vec<Row>, Error>
+    ensures found { Finds S.Store conn.old conn.new result (λ a rows.
+        (names : _) × (rows.items ≡ map name_shown names) × IsPermutation a.lists names × IsSorted (slice_cmp nat_cmp) names) }
+    ensures same { Leaves S.Store conn.old conn.new }
+    ensures up { IsUp S.Store conn.old conn.new result }
+    ensures clean { WasClean S.Store conn.old conn.new }
+{
+    conn.query_all("SELECT name FROM list ORDER BY name", &[])
 }
