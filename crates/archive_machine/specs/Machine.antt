@@ -34,14 +34,15 @@ person_added archive name token =
 
 -- ---- grants
 
--- a grant of the person, list and rank of another is replaced by it
-abbrev pub replaced_by : Grant → Grant → Grant
-replaced_by g old = if is_grant g.person g.list g.rank old then g else old
+-- a grant of the person, list and rank of this one takes its days
+abbrev pub with_days_of : Grant → Grant → Grant
+with_days_of g old =
+    if is_grant g.person g.list g.rank old then record old { from_day = g.from_day; until_day = g.until_day } else old
 
 -- the grants with this one, which replaces that of its person, list and rank
 abbrev pub with_grant : Archive → Grant → List Grant
 with_grant archive g =
-    if has_grant archive g.person g.list g.rank then map (replaced_by g) archive.grants else archive.grants ++ g ∷ []
+    if has_grant archive g.person g.list g.rank then map (with_days_of g) archive.grants else archive.grants ++ g ∷ []
 
 abbrev pub granted : Archive → Grant → Outcome
 granted archive g =
@@ -61,17 +62,21 @@ revoked archive person list rank =
 
 -- ---- messages
 
--- a message as it comes in: its key and its text are those of the whole text
-abbrev pub new_message : List ℕ → Item → Message
-new_message list item = record {
+-- a message as it comes in, with this key: its text is the whole text
+abbrev pub keyed_message : List ℕ → List ℕ → Item → Message
+keyed_message list key item = record {
   list = list;
-  key = item_key item;
+  key = key;
   sender = item.envelope.sender;
   arrival = item.envelope.arrival;
   text = whole item.text;
   withdrawn = pos 0;
   embargo = None;
 }
+
+-- its key is that of the whole text
+abbrev pub new_message : List ℕ → Item → Message
+new_message list item = keyed_message list (item_key item) item
 
 -- A whole text of more than 4,194,304 bytes is refused. A message whose key the list holds is known, and nothing changes.
 -- A list that holds as many messages as the limit takes no more.

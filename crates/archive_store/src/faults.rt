@@ -1,6 +1,8 @@
 //! Why a command or a question is refused.
 ghost use Rattle.archive_store.specs.Replies.{refusal};
+ghost use Rattle.archive_store.specs.declared.faults.StoreFault.TheVariants.{Memory};
 
+use std::alloc::AllocError;
 use std::error::Error;
 use std::fmt;
 
@@ -49,6 +51,16 @@ impl From<sqlite::Error> for StoreFault {
             sqlite::Error::SqliteFailure(sqlite::ErrorCode::OutOfMemory) => StoreFault::Memory,
             _ => StoreFault::Store,
         }
+    }
+}
+
+impl From<AllocError> for StoreFault {
+    ghost use Rattle.std.specs.Prelude.{◌≡◌};
+
+    ghost from_gives = { λ _ fault. fault ≡ Memory };
+
+    fn from(_error: AllocError) -> StoreFault {
+        StoreFault::Memory
     }
 }
 

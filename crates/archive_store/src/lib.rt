@@ -3,7 +3,13 @@
 #![tactic(auto)]
 
 mod faults;
+mod grants;
+pub mod limits;
+mod messages;
+mod persons;
 mod store;
+mod words;
 
 pub use faults::StoreFault;
 pub use store::Store;
+pub use words::{Added, Kind, Party};
