@@ -8,6 +8,7 @@
 pub use cutting::{Messages, cut};
 pub use faults::MboxFault;
 pub use items::Item;
+pub use owned::{OwnedItem, written_sender};
 pub use senders::Sender;
 pub use separators::{Envelope, separator};
 pub use writing::{write_item, written_len};
@@ -19,6 +20,7 @@ mod heading;
 mod items;
 pub mod laws;
 mod lines;
+mod owned;
 #[cfg(test)]
 mod plain;
 mod senders;

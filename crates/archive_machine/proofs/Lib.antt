@@ -1,0 +1,5 @@
+mod KeyExamples
+pub mod KeyLemmas
+mod MachineExamples
+mod NameExamples
+pub mod TokenLemmas

@@ -1,0 +1,145 @@
+-- What each command does to the archive, and what it answers. Of several refusals the first counts, in the order of the
+-- cases; a refusal leaves the archive as it was.
+use Rattle.std.specs.Prelude.{ℕ, ℤ, pos, int_lt, nat_lt, nat_le, List, [], ◌∷◌, ◌++◌, length, map, filter, not, if◌then◌else◌, Option, Some, None}
+use Rattle.policy_core.specs.Names.{is_name}
+use Rattle.mbox_core.specs.Division.{Item, whole}
+use Rattle.archive_machine.specs.Records.{Grant, Message, Archive}
+use Rattle.archive_machine.specs.Commands.{Command, list_add, person_add, grant, revoke, add, withdraw, restore, embargo, lift, Refusal, bad_name, bad_text, list_exists, no_list, person_exists, no_person, token_taken, no_message, already_withdrawn, not_withdrawn, bad_days, list_full, too_large, Reply, done, was_there, taken_in, already_known, refused}
+use Rattle.archive_machine.specs.Tokens.{is_token}
+use Rattle.archive_machine.specs.Keys.{item_key}
+use Rattle.archive_machine.specs.Questions.{has_list, has_person, has_token, is_grant, has_grant, messages_in, is_message, message_of, has_message, is_withdrawn, is_embargoed}
+
+-- the archive afterwards, and the answer
+abbrev pub Outcome : Type 0
+Outcome = Archive × Reply
+
+abbrev pub refuse : Archive → Refusal → Outcome
+refuse archive refusal = (archive, refused refusal)
+
+-- ---- lists and persons
+
+abbrev pub list_added : Archive → List ℕ → Outcome
+list_added archive name =
+    if not (is_name name) then refuse archive bad_name
+    else if has_list archive name then refuse archive list_exists
+    else (record archive { lists = archive.lists ++ name ∷ [] }, done)
+
+abbrev pub person_added : Archive → List ℕ → List ℕ → Outcome
+person_added archive name token =
+    if not (is_name name) then refuse archive bad_name
+    else if not (is_token token) then refuse archive bad_text
+    else if has_person archive name then refuse archive person_exists
+    else if has_token archive token then refuse archive token_taken
+    else (record archive { persons = archive.persons ++ record { name = name; token = token } ∷ [] }, done)
+
+-- ---- grants
+
+-- a grant of the person, list and rank of this one takes its days
+abbrev pub with_days_of : Grant → Grant → Grant
+with_days_of g old =
+    if is_grant g.person g.list g.rank old then record old { from_day = g.from_day; until_day = g.until_day } else old
+
+-- the grants with this one, which replaces that of its person, list and rank
+abbrev pub with_grant : Archive → Grant → List Grant
+with_grant archive g =
+    if has_grant archive g.person g.list g.rank then map (with_days_of g) archive.grants else archive.grants ++ g ∷ []
+
+abbrev pub granted : Archive → Grant → Outcome
+granted archive g =
+    if not (has_person archive g.person) then refuse archive no_person
+    else if not (has_list archive g.list) then refuse archive no_list
+    else if int_lt g.until_day g.from_day then refuse archive bad_days
+    else (record archive { grants = with_grant archive g }, done)
+
+abbrev pub revoked : Archive → List ℕ → List ℕ → ℤ → Outcome
+revoked archive person list rank =
+    if not (has_person archive person) then refuse archive no_person
+    else if not (has_list archive list) then refuse archive no_list
+    else (
+      record archive { grants = filter (λ g. not (is_grant person list rank g)) archive.grants },
+      was_there (has_grant archive person list rank),
+    )
+
+-- ---- messages
+
+-- a message as it comes in, with this key: its text is the whole text
+abbrev pub keyed_message : List ℕ → List ℕ → Item → Message
+keyed_message list key item = record {
+  list = list;
+  key = key;
+  sender = item.envelope.sender;
+  arrival = item.envelope.arrival;
+  text = whole item.text;
+  withdrawn = pos 0;
+  embargo = None;
+}
+
+-- its key is that of the whole text
+abbrev pub new_message : List ℕ → Item → Message
+new_message list item = keyed_message list (item_key item) item
+
+-- A whole text of more than 4,194,304 bytes is refused. A message whose key the list holds is known, and nothing changes.
+-- A list that holds as many messages as the limit takes no more.
+abbrev pub added_within : ℕ → Archive → List ℕ → Item → Outcome
+added_within limit archive list item =
+    if not (has_list archive list) then refuse archive no_list
+    else if nat_lt 4194304 (length (whole item.text)) then refuse archive too_large
+    else if has_message archive list (item_key item) then (archive, already_known)
+    else if nat_le limit (length (messages_in archive list)) then refuse archive list_full
+    else (record archive { messages = archive.messages ++ new_message list item ∷ [] }, taken_in)
+
+abbrev pub message_limit : ℕ
+message_limit = 50000
+
+-- the messages, with that of this list and key changed
+abbrev pub changed : List ℕ → List ℕ → (Message → Message) → Message → Message
+changed list key change m = if is_message list key m then change m else m
+
+abbrev pub with_change : Archive → List ℕ → List ℕ → (Message → Message) → Archive
+with_change archive list key change = record archive { messages = map (changed list key change) archive.messages }
+
+abbrev pub withdrawn_by : ℤ → Message → Message
+withdrawn_by party m = record m { withdrawn = party }
+
+abbrev pub embargoed : Option ℤ → Message → Message
+embargoed until m = record m { embargo = until }
+
+abbrev pub withdrawal : Archive → List ℕ → List ℕ → ℤ → Outcome
+withdrawal archive list key party =
+    if not (has_list archive list) then refuse archive no_list
+    else if not (has_message archive list key) then refuse archive no_message
+    else if is_withdrawn (message_of archive list key) then refuse archive already_withdrawn
+    else (with_change archive list key (withdrawn_by party), done)
+
+abbrev pub restored : Archive → List ℕ → List ℕ → Outcome
+restored archive list key =
+    if not (has_list archive list) then refuse archive no_list
+    else if not (has_message archive list key) then refuse archive no_message
+    else if not (is_withdrawn (message_of archive list key)) then refuse archive not_withdrawn
+    else (with_change archive list key (withdrawn_by (pos 0)), done)
+
+abbrev pub held_back : Archive → List ℕ → List ℕ → ℤ → Outcome
+held_back archive list key until =
+    if not (has_list archive list) then refuse archive no_list
+    else if not (has_message archive list key) then refuse archive no_message
+    else (with_change archive list key (embargoed (Some until)), done)
+
+abbrev pub lifted : Archive → List ℕ → List ℕ → Outcome
+lifted archive list key =
+    if not (has_list archive list) then refuse archive no_list
+    else if not (has_message archive list key) then refuse archive no_message
+    else (with_change archive list key (embargoed None), was_there (is_embargoed (message_of archive list key)))
+
+-- ---- the machine
+
+abbrev pub step : Archive → Command → Outcome
+step archive (list_add name) = list_added archive name
+step archive (person_add name token) = person_added archive name token
+step archive (grant person list rank from_day until_day) =
+    granted archive (record { person = person; list = list; rank = rank; from_day = from_day; until_day = until_day })
+step archive (revoke person list rank) = revoked archive person list rank
+step archive (add list item) = added_within message_limit archive list item
+step archive (withdraw list key party) = withdrawal archive list key party
+step archive (restore list key) = restored archive list key
+step archive (embargo list key until_day) = held_back archive list key until_day
+step archive (lift list key) = lifted archive list key

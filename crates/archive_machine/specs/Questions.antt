@@ -1,0 +1,79 @@
+-- What is asked of the archive.
+use Rattle.std.specs.Prelude.{ℕ, ℤ, pos, int_le, List, [], ◌∷◌, map, filter, find, bytes_eq, Bool, false, not, ◌&&◌, Option, Some, None, is_some, option_map, IsSorted, IsPermutation}
+use Rattle.std.specs.List.{list_any}
+use Rattle.std.specs.Int.{int_max}
+use Rattle.std.specs.Ordering.{int_eq, nat_cmp}
+use Rattle.std.specs.Cmp.Lexicographic.{slice_cmp}
+use Rattle.archive_machine.specs.Records.{Grant, Message, Archive}
+
+-- ---- lists and persons
+
+abbrev pub has_list : Archive → List ℕ → Bool
+has_list archive name = list_any (λ known. bytes_eq known name) archive.lists
+
+-- the names of all lists, in the order of their bytes
+pub record AreListNames (archive : Archive) (names : List (List ℕ)) : Type 0 where
+  pub all : IsPermutation archive.lists names
+  pub in_order : IsSorted (slice_cmp nat_cmp) names
+
+abbrev pub has_person : Archive → List ℕ → Bool
+has_person archive name = list_any (λ p. bytes_eq p.name name) archive.persons
+
+abbrev pub has_token : Archive → List ℕ → Bool
+has_token archive token = list_any (λ p. bytes_eq p.token token) archive.persons
+
+-- the name of the person who has this token
+abbrev pub person_of_token : Archive → List ℕ → Option (List ℕ)
+person_of_token archive token = option_map (λ p. p.name) (find (λ p. bytes_eq p.token token) archive.persons)
+
+-- ---- grants
+
+-- a grant of this person on this list
+abbrev pub is_grant_of : List ℕ → List ℕ → Grant → Bool
+is_grant_of person list g = bytes_eq g.person person && bytes_eq g.list list
+
+-- the grant of this person, list and rank
+abbrev pub is_grant : List ℕ → List ℕ → ℤ → Grant → Bool
+is_grant person list rank g = bytes_eq g.person person && (bytes_eq g.list list && int_eq g.rank rank)
+
+abbrev pub has_grant : Archive → List ℕ → List ℕ → ℤ → Bool
+has_grant archive person list rank = list_any (is_grant person list rank) archive.grants
+
+-- a grant holds from its first day to its last, both within
+abbrev pub holds_on : ℤ → Grant → Bool
+holds_on day g = int_le g.from_day day && int_le day g.until_day
+
+-- the highest of some ranks, 0 where there is none
+abbrev pub highest : List ℤ → ℤ
+highest [] = pos 0
+highest (rank ∷ ranks) = int_max rank (highest ranks)
+
+-- the standing of a person on a list and a day: the highest rank of the grants that hold on that day
+abbrev pub standing_of : Archive → List ℕ → List ℕ → ℤ → ℤ
+standing_of archive person list day =
+    highest (map (λ g. g.rank) (filter (λ g. is_grant_of person list g && holds_on day g) archive.grants))
+
+-- ---- messages
+
+-- the messages of a list, in mailbox order
+abbrev pub messages_in : Archive → List ℕ → List Message
+messages_in archive list = filter (λ m. bytes_eq m.list list) archive.messages
+
+-- the message of this list and key
+abbrev pub is_message : List ℕ → List ℕ → Message → Bool
+is_message list key m = bytes_eq m.list list && bytes_eq m.key key
+
+abbrev pub message_of : Archive → List ℕ → List ℕ → Option Message
+message_of archive list key = find (is_message list key) archive.messages
+
+abbrev pub has_message : Archive → List ℕ → List ℕ → Bool
+has_message archive list key = is_some (message_of archive list key)
+
+-- of a message that may not be there
+abbrev pub is_withdrawn : Option Message → Bool
+is_withdrawn None = false
+is_withdrawn (Some m) = not (int_eq m.withdrawn (pos 0))
+
+abbrev pub is_embargoed : Option Message → Bool
+is_embargoed None = false
+is_embargoed (Some m) = is_some m.embargo

@@ -1,0 +1,44 @@
+//! Bearer tokens.
+ghost use Rattle.std.specs.Prelude.{◌≡◌};
+ghost use Rattle.archive_machine.specs.Tokens.{is_token, is_b64token, is_padded, is_padding, is_token_byte};
+
+/// Whether a text is a token: 16 to 64 bytes, of which one or more are letters, digits or one of `-._~+/`, and what
+/// follows them is `=` alone (RFC 6750, 2.1).
+pub fn is_token(text: &str) -> bool
+    ensures { result ≡ is_token text.now }
+{
+    let bytes = text.as_bytes();
+    16 <= bytes.len() && bytes.len() <= 64 && is_b64token(bytes)
+}
+
+fn is_b64token(bytes: &[u8]) -> bool
+    ensures { result ≡ is_b64token bytes.now }
+{
+    match bytes {
+        [first, rest @ ..] => is_token_byte(*first) && is_padded(rest),
+        [] => false,
+    }
+}
+
+fn is_padded(bytes: &[u8]) -> bool
+    ensures { result ≡ is_padded bytes.now }
+{
+    let mut at = 0;
+    while at < bytes.len() && is_token_byte(bytes[at]) {
+        at += 1;
+    }
+    let (_, rest) = bytes.split_at(at);
+    is_padding(rest)
+}
+
+fn is_padding(bytes: &[u8]) -> bool
+    ensures { result ≡ is_padding bytes.now }
+{
+    bytes.iter().all(|byte| *byte == b'=')
+}
+
+fn is_token_byte(byte: u8) -> bool
+    ensures { result ≡ is_token_byte byte }
+{
+    byte.is_ascii_alphanumeric() || matches!(byte, b'-' | b'.' | b'_' | b'~' | b'+' | b'/')
+}

@@ -1,0 +1,2 @@
+pub mod StepEquations
+pub mod StepLemmas

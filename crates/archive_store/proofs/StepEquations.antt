@@ -1,0 +1,154 @@
+-- What the machine does, case by case.
+use Rattle.std.proofs.Common.{◌≡◌, ◌≤◌, ◌<◌, ℕ, suc, length, arith, ℤ, pos, List, [], ◌∷◌, ◌++◌, Bool, true, false, ◌||◌, cond, Option, Some, None, is_some, refl, sym, subst, ◌∙◌, is_lt, int_cmp}
+use Rattle.std.specs.Prelude.{⊤, int_lt, nat_lt, nat_le, not, map, filter, find, if◌then◌else◌}
+use Rattle.std.specs.List.{list_any}
+use Rattle.std.specs.Ordering.{int_eq}
+use Rattle.std.specs.declared.cmp.Ordering.TheVariants.{Less, Equal, Greater}
+use Rattle.std.proofs.lemmas.Bool.Decides.{nat_tests}
+use Rattle.mbox_core.specs.Division.{Item, whole}
+use Rattle.policy_core.specs.Names.{is_name}
+use Rattle.archive_machine.specs.Records.{Grant, Message, Archive}
+use Rattle.archive_machine.specs.Commands.{no_list, no_message, token_taken, bad_days, list_full, done, was_there, taken_in, already_known, refused}
+use Rattle.archive_machine.specs.Keys.{item_key}
+use Rattle.archive_machine.specs.Tokens.{is_token}
+use Rattle.archive_machine.specs.Questions.{has_list, has_person, has_token, is_grant, has_grant, is_message, message_of, messages_in}
+use Rattle.archive_machine.specs.Machine.{person_added, granted, revoked, withdrawal, restored, held_back, lifted, keyed_message, added_within}
+
+found : {X : Type 0} (b : Bool) (x : X) (o : Option X) (c : Bool) → is_some o ≡ c → is_some (cond b (Some x) o) ≡ (b || c)
+found true x o c h = refl
+found false x o c h = h
+
+-- ---- persons
+
+pub person_token_taken : (name token : List ℕ) → is_name name ≡ true → is_token token ≡ true
+    → (a : Archive) → (⊤ × (false ≡ has_person a name)) × (true ≡ has_token a token) → person_added a name token ≡ (a, refused token_taken)
+person_token_taken name token n t a h = rw (n, t, sym h.0.1, sym h.1) refl
+
+pub person_done : (name token : List ℕ) → is_name name ≡ true → is_token token ≡ true
+    → (a : Archive) → (⊤ × (false ≡ has_person a name)) × (false ≡ has_token a token)
+    → person_added a name token ≡ (record a { persons = a.persons ++ record { name = name; token = token } ∷ [] }, done)
+person_done name token n t a h = rw (n, t, sym h.0.1, sym h.1) refl
+
+-- ---- grants
+
+-- the test of days
+less_is : (b c : Bool) → is_lt (cond b Less (cond c Greater Equal)) ≡ b
+less_is true c = refl
+less_is false true = refl
+less_is false false = refl
+
+pub is_lt-int_cmp : (x y : ℤ) → is_lt (int_cmp x y) ≡ int_lt x y
+is_lt-int_cmp x y = less_is (int_lt x y) (int_lt y x)
+
+pub grant_no_list : (g : Grant) → (a : Archive) → (⊤ × (true ≡ has_person a g.person)) × (false ≡ has_list a g.list) → granted a g ≡ (a, refused no_list)
+grant_no_list g a h = rw (sym h.0.1, sym h.1) refl
+
+pub grant_bad_days : (g : Grant) → int_lt g.until_day g.from_day ≡ true
+    → (a : Archive) → (⊤ × (true ≡ has_person a g.person)) × (true ≡ has_list a g.list) → granted a g ≡ (a, refused bad_days)
+grant_bad_days g days a h = rw (sym h.0.1, sym h.1, days) refl
+
+pub grant_again : (person list : List ℕ) (rank from until r f l : ℤ) → r ≡ rank → f ≡ from → l ≡ until → int_lt until from ≡ false
+    → (a : Archive) → ((⊤ × (true ≡ has_person a person)) × (true ≡ has_list a list)) × (true ≡ has_grant a person list r)
+    → granted a (record { person = person; list = list; rank = rank; from_day = from; until_day = until })
+    ≡ (record a { grants = map (λ g. if is_grant person list r g then record g { from_day = f; until_day = l } else g) a.grants }, done)
+grant_again person list rank from until r f l er ef el days a h =
+    let had : has_grant a person list rank ≡ true = subst (λ r. has_grant a person list r ≡ true) er (sym h.1) in
+    rw (er, ef, el) (rw (sym h.0.0.1, sym h.0.1, days, had) refl)
+
+pub grant_new : (person list : List ℕ) (rank from until r f l : ℤ) → r ≡ rank → f ≡ from → l ≡ until → int_lt until from ≡ false
+    → (a : Archive) → ((⊤ × (true ≡ has_person a person)) × (true ≡ has_list a list)) × (false ≡ has_grant a person list r)
+    → granted a (record { person = person; list = list; rank = rank; from_day = from; until_day = until })
+    ≡ (record a { grants = a.grants ++ record { person = person; list = list; rank = r; from_day = f; until_day = l } ∷ [] }, done)
+grant_new person list rank from until r f l er ef el days a h =
+    let had : has_grant a person list rank ≡ false = subst (λ r. has_grant a person list r ≡ false) er (sym h.1) in
+    rw (er, ef, el) (rw (sym h.0.0.1, sym h.0.1, days, had) refl)
+
+pub revoke_no_list : (person list : List ℕ) (rank : ℤ) (a : Archive) → (⊤ × (true ≡ has_person a person)) × (false ≡ has_list a list)
+    → revoked a person list rank ≡ (a, refused no_list)
+revoke_no_list person list rank a h = rw (sym h.0.1, sym h.1) refl
+
+pub revoke_done : (person list : List ℕ) (rank r : ℤ) (had : Bool) → r ≡ rank
+    → (a : Archive) → ((⊤ × (true ≡ has_person a person)) × (true ≡ has_list a list)) × (had ≡ has_grant a person list r)
+    → revoked a person list rank ≡ (record a { grants = filter (λ g. not (is_grant person list r g)) a.grants }, was_there had)
+revoke_done person list rank r had er a h =
+    let same : has_grant a person list rank ≡ had = subst (λ r. has_grant a person list r ≡ had) er (sym h.1) in
+    rw er (rw (sym h.0.0.1, sym h.0.1, same) refl)
+
+-- ---- messages
+
+pub is_some-find : {X : Type 0} (p : X → Bool) (xs : List X) → is_some (find p xs) ≡ list_any p xs
+is_some-find p [] = refl
+is_some-find p (x ∷ xs) = found (p x) x (find p xs) (list_any p xs) (is_some-find p xs)
+
+-- the message that was found, under another text that is its key
+at_key : (a : Archive) (list key k : List ℕ) (m : Message) → k ≡ key → Some m ≡ message_of a list k → message_of a list key ≡ Some m
+at_key a list key k m e h = subst (λ k. message_of a list k ≡ Some m) e (sym h)
+
+pub withdraw_done : (list key k k2 : List ℕ) (party n : ℤ) (m : Message) → k ≡ key → k2 ≡ key → n ≡ party → false ≡ not (int_eq m.withdrawn (pos 0))
+    → (a : Archive) → (⊤ × (true ≡ has_list a list)) × (Some m ≡ message_of a list k)
+    → withdrawal a list key party ≡ (record a { messages = map (λ m. if is_message list k2 m then record m { withdrawn = n } else m) a.messages }, done)
+withdraw_done list key k k2 party n m e e2 en not_yet a h =
+    rw (e2, en) (rw (sym h.0.1, at_key a list key k m e h.1, sym not_yet) refl)
+
+pub restore_done : (list key k k2 : List ℕ) (m : Message) → k ≡ key → k2 ≡ key → true ≡ not (int_eq m.withdrawn (pos 0))
+    → (a : Archive) → (⊤ × (true ≡ has_list a list)) × (Some m ≡ message_of a list k)
+    → restored a list key ≡ (record a { messages = map (λ m. if is_message list k2 m then record m { withdrawn = pos 0 } else m) a.messages }, done)
+restore_done list key k k2 m e e2 was a h =
+    rw e2 (rw (sym h.0.1, at_key a list key k m e h.1, sym was) refl)
+
+pub embargo_done : (list key k k2 : List ℕ) (until n : ℤ) → k ≡ key → k2 ≡ key → n ≡ until
+    → (a : Archive) → (⊤ × (true ≡ has_list a list)) × (true ≡ list_any (is_message list k) a.messages)
+    → held_back a list key until ≡ (record a { messages = map (λ m. if is_message list k2 m then record m { embargo = Some n } else m) a.messages }, done)
+embargo_done list key k k2 until n e e2 en a h =
+    let there : is_some (find (is_message list key) a.messages) ≡ true =
+    is_some-find (is_message list key) a.messages ∙ subst (λ k. list_any (is_message list k) a.messages ≡ true) e (sym h.1) in
+    rw (e2, en) (rw (sym h.0.1, there) refl)
+
+pub embargo_no_message : (list key k : List ℕ) (until : ℤ) → k ≡ key
+    → (a : Archive) → (⊤ × (true ≡ has_list a list)) × (false ≡ list_any (is_message list k) a.messages)
+    → held_back a list key until ≡ (a, refused no_message)
+embargo_no_message list key k until e a h =
+    let none : is_some (find (is_message list key) a.messages) ≡ false =
+    is_some-find (is_message list key) a.messages ∙ subst (λ k. list_any (is_message list k) a.messages ≡ false) e (sym h.1) in
+    rw (sym h.0.1, none) refl
+
+pub lift_done : (list key k k2 : List ℕ) (m : Message) (had : Bool) → k ≡ key → k2 ≡ key → had ≡ is_some m.embargo
+    → (a : Archive) → (⊤ × (true ≡ has_list a list)) × (Some m ≡ message_of a list k)
+    → lifted a list key ≡ (record a { messages = map (λ m. if is_message list k2 m then record m { embargo = None } else m) a.messages }, was_there had)
+lift_done list key k k2 m had e e2 eh a h =
+    rw (e2, eh) (rw (sym h.0.1, at_key a list key k m e h.1) refl)
+
+-- the message that comes in is known by its key
+known_by : (a : Archive) (list key k : List ℕ) (there : Bool) → k ≡ key → there ≡ list_any (is_message list k) a.messages
+    → is_some (find (is_message list key) a.messages) ≡ there
+known_by a list key k there e h =
+    is_some-find (is_message list key) a.messages ∙ subst (λ k. list_any (is_message list k) a.messages ≡ there) e (sym h)
+
+pub add_known : (limit : ℕ) (list k : List ℕ) (item : Item) → k ≡ item_key item → false ≡ nat_lt 4194304 (length (whole item.text))
+    → (a : Archive) → (⊤ × (true ≡ has_list a list)) × (true ≡ list_any (is_message list k) a.messages)
+    → added_within limit a list item ≡ (a, already_known)
+add_known limit list k item e small a h = rw (sym h.0.1, sym small, known_by a list (item_key item) k true e h.1) refl
+
+pub add_full : (limit : ℕ) (list k : List ℕ) (item : Item) → k ≡ item_key item → false ≡ nat_lt 4194304 (length (whole item.text))
+    → (a : Archive) → ((⊤ × (true ≡ has_list a list)) × (false ≡ list_any (is_message list k) a.messages)) × (true ≡ nat_le limit (length (messages_in a list)))
+    → added_within limit a list item ≡ (a, refused list_full)
+add_full limit list k item e small a h = rw (sym h.0.0.1, sym small, known_by a list (item_key item) k false e h.0.1, sym h.1) refl
+
+pub add_new : (limit : ℕ) (list k key : List ℕ) (item : Item) → k ≡ key → key ≡ item_key item → false ≡ nat_lt 4194304 (length (whole item.text))
+    → (a : Archive) → ((⊤ × (true ≡ has_list a list)) × (false ≡ list_any (is_message list k) a.messages)) × (false ≡ nat_le limit (length (messages_in a list)))
+    → added_within limit a list item ≡ (record a { messages = a.messages ++ keyed_message list key item ∷ [] }, taken_in)
+add_new limit list k key item e ek small a h =
+    rw ek (rw (sym h.0.0.1, sym small, known_by a list (item_key item) k false (e ∙ ek) h.0.1, sym h.1) refl)
+
+-- ---- a list that is not full
+
+keeps_some : {X : Type 0} (b : Bool) (x : X) (ys : List X) (n : ℕ) → length ys ≤ n → length (cond b (x ∷ ys) ys) ≤ suc n
+keeps_some true x ys n h = let more : suc (length ys) ≤ suc n = omega (arith, h) in more
+keeps_some false x ys n h = omega (arith, h)
+
+fewer : {X : Type 0} (p : X → Bool) (xs : List X) → length (filter p xs) ≤ length xs
+fewer p [] = omega arith
+fewer p (x ∷ xs) = keeps_some (p x) x (filter p xs) (length xs) (fewer p xs)
+
+pub not_full : {X : Type 0} (p : X → Bool) (xs : List X) (limit : ℕ) → length xs < limit → false ≡ nat_le limit (length (filter p xs))
+not_full p xs limit h = let few = fewer p xs in grind (arith, nat_tests, h, few)

@@ -1,0 +1,64 @@
+-- A command, call by call: what it learns of the archive while the tables rest, and how it ends.
+use Rattle.std.proofs.Common.{◌≡◌, Option, Some, None, refl, sym, ap, subst, ◌∙◌}
+use Rattle.std.specs.Prelude.{⊤, IsTrue}
+use Rattle.sqlite.specs.Store.{Ghosts}
+use Rattle.sqlite.specs.Held.{Held, state}
+use Rattle.sqlite.specs.State.{HasCleanDisk}
+use Rattle.archive_machine.specs.Records.{Archive}
+use Rattle.archive_machine.specs.Commands.{Reply}
+use Rattle.archive_machine.specs.Machine.{Outcome}
+use Rattle.archive_tables.specs.Tables.{IsKept, archive_of}
+use Rattle.archive_tables.specs.Calls.{Changes, Rests, WasClean, Leaves}
+use Rattle.archive_store.specs.Replies.{Does}
+
+-- the tables hold what they held, and this was found of it
+pub record Known {S : Type 0} (g : Ghosts S) (old new : Held S) (P : Archive → Type 0) : Type 0 where
+  pub clean : HasCleanDisk (state g old)
+  pub kept : IsKept (state g new)
+  pub same : archive_of (state g new) ≡ archive_of (state g old)
+  pub fact : P (archive_of (state g old))
+
+module _ {S : Type 0} (g : Ghosts S) where
+  abbrev pub Learns : Held S → Held S → (Archive → Type 0) → Type 0
+  Learns old new P = HasCleanDisk (state g new) → IsKept (state g old) → Known g old new P
+
+  pub begins : (old : Held S) → Learns old old (λ _. ⊤)
+  begins old = λ clean kept. record { clean = clean; kept = kept; same = refl; fact = tt }
+
+  -- a question that is answered
+  pub asks : (old mid new : Held S) (P Q : Archive → Type 0) → Learns old mid P → WasClean g mid new → Leaves g mid new
+      → (HasCleanDisk (state g new) → IsKept (state g mid) → IsTrue (state g new).is_open)
+      → (HasCleanDisk (state g new) → IsKept (state g mid) → Q (archive_of (state g mid)))
+      → Learns old new (λ a. P a × Q a)
+  asks old mid new P Q before was rests up found = λ clean kept.
+      let k = before (was clean) kept in
+      let r = rests clean k.kept (up clean k.kept) in
+      record { clean = k.clean; kept = r.0; same = r.1 ∙ k.same; fact = (k.fact, subst Q k.same (found clean k.kept)) }
+
+  -- a refusal, or an answer that changes nothing
+  pub answers : (old new : Held S) (P : Archive → Type 0) (step : Archive → Outcome) (reply : Reply) → Learns old new P
+      → ((a : Archive) → P a → step a ≡ (a, reply)) → Does g old new step (Some reply)
+  answers old new P step reply learnt is = λ clean kept.
+      let k = learnt clean kept in
+      (k.kept, ap (λ a. (a, reply)) k.same ∙ sym (is (archive_of (state g old)) k.fact))
+
+  -- a write that succeeds
+  pub writes : (old mid new : Held S) (P : Archive → Type 0) (step : Archive → Outcome) (reply : Reply) (change : Archive → Archive)
+      → Learns old mid P → WasClean g mid new
+      → (HasCleanDisk (state g new) → IsKept (state g mid) → Changes (state g mid) (state g new) change)
+      → ((a : Archive) → P a → step a ≡ (change a, reply)) → Does g old new step (Some reply)
+  writes old mid new P step reply change learnt was does is = λ clean kept.
+      let k = learnt (was clean) kept in
+      let w = does clean k.kept in
+      (w.0, ap (λ a. (a, reply)) (w.1 ∙ ap change k.same) ∙ sym (is (archive_of (state g old)) k.fact))
+
+  -- the same, where the write needs something of the archive
+  pub writes_when : (old mid new : Held S) (P Needs : Archive → Type 0) (step : Archive → Outcome) (reply : Reply) (change : Archive → Archive)
+      → Learns old mid P → WasClean g mid new
+      → (HasCleanDisk (state g new) → IsKept (state g mid) → Needs (archive_of (state g mid)) → Changes (state g mid) (state g new) change)
+      → ((a : Archive) → P a → Needs a)
+      → ((a : Archive) → P a → step a ≡ (change a, reply)) → Does g old new step (Some reply)
+  writes_when old mid new P Needs step reply change learnt was does needs is = λ clean kept.
+      let k = learnt (was clean) kept in
+      let w = does clean k.kept (subst Needs (sym k.same) (needs (archive_of (state g old)) k.fact)) in
+      (w.0, ap (λ a. (a, reply)) (w.1 ∙ ap change k.same) ∙ sym (is (archive_of (state g old)) k.fact))

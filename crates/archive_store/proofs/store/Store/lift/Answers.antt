@@ -1,0 +1,29 @@
+use Rattle.std.proofs.Common.{◌≡◌, ℕ, ℤ, pos, List, true, false, Some, None, sym, ap, ◌∙◌}
+use Rattle.std.specs.Prelude.{⊤, map, option_map, if◌then◌else◌}
+use Rattle.archive_machine.specs.Records.{Message}
+use Rattle.archive_machine.specs.Commands.{done, was_there}
+use Rattle.archive_machine.specs.Questions.{has_list, is_message, message_of}
+use Rattle.archive_machine.specs.Machine.{lifted}
+use Rattle.archive_tables.specs.Rows.{message_in}
+use Rattle.archive_store.specs.Words.{party_of}
+use Rattle.archive_store.proofs.StepLemmas.{begins, asks, writes}
+use Rattle.archive_store.proofs.StepEquations.{lift_done}
+use Rattle.archive_store.proofs.store.Store.lift.Goals as goal
+
+pub returns : goal.returns
+returns g c =
+    let list = c.args.list.now in
+    let key = c.args.key.now in
+    let k = c.as_str.result.now in
+    let k2 = c.as_str-2.result.now in
+    let one = asks g.S.Store c.args.self.now.conn c.args.self.now.conn c.has_list.new.conn (λ _. ⊤) (λ a. true ≡ has_list a list)
+    (begins g.S.Store c.args.self.now.conn) c.in_ok-has_list.ensures.clean c.in_ok-has_list.ensures.same c.in_ok-has_list.ensures.up
+    (λ clean kept. sym c.if-not-branch.false ∙ c.in_ok-has_list.ensures.found clean kept) in
+    let m = message_in list c.in-Some.row in
+    let two = asks g.S.Store c.args.self.now.conn c.has_list.new.conn c.message.new.conn (λ a. ⊤ × (true ≡ has_list a list)) (λ a. Some m ≡ message_of a list k)
+    one c.in_ok-row.ensures.clean c.in_ok-row.ensures.same c.in_ok-row.ensures.up
+    (λ clean kept. ap (option_map (message_in list)) (sym c.in-Some.is) ∙ c.in_ok-row.ensures.found clean kept) in
+    writes g.S.Store c.args.self.now.conn c.message.new.conn c.clear_embargo.new.conn _ (λ a. lifted a list key) (was_there c.is_some-had_one.result)
+    (λ a. record a { messages = map (λ m. if is_message list k2 m then record m { embargo = None } else m) a.messages })
+    two c.in_ok-clear_embargo.ensures.clean c.in_ok-clear_embargo.ensures.changed
+    (lift_done list key k k2 m c.is_some-had_one.result c.as_str.ensures c.as_str-2.ensures c.is_some-had_one.ensures)

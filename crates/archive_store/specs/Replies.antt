@@ -1,0 +1,70 @@
+-- How the answers of a store stand for those of the machine.
+use Rattle.std.specs.Prelude.{◌≡◌, ℕ, false, Bool, List, [], ◌∷◌, ◌++◌, MatchResult, Option, Some, None, Result, Ok, Err, option_map}
+use Rattle.std.specs.List.{list_any}
+use Rattle.sqlite.specs.Store.{Ghosts}
+use Rattle.mbox_core.specs.Division.{Item}
+use Rattle.sqlite.specs.Held.{Held, state}
+use Rattle.sqlite.specs.State.{State, HasCleanDisk}
+use Rattle.archive_machine.specs.Records.{Archive}
+use Rattle.archive_machine.specs.Commands.{Refusal, bad_name, bad_text, list_exists, no_list, person_exists, no_person, token_taken, no_message, already_withdrawn, not_withdrawn, bad_days, list_full, too_large, Reply, done, was_there, taken_in, already_known, refused}
+use Rattle.archive_machine.specs.Questions.{is_message}
+use Rattle.archive_machine.specs.Machine.{Outcome, keyed_message}
+use Rattle.archive_tables.specs.Tables.{IsKept, archive_of}
+use Rattle.archive_tables.specs.Calls.{Changes, Rests}
+use Rattle.archive_store.specs.declared.words.Added.{Added}
+use Rattle.archive_store.specs.Words.{added_reply}
+use Rattle.archive_store.specs.declared.faults.StoreFault.{StoreFault}
+use Rattle.archive_store.specs.declared.faults.StoreFault.TheVariants.{BadName, BadText, ListExists, NoList, PersonExists, NoPerson, TokenTaken, NoMessage, AlreadyWithdrawn, NotWithdrawn, BadDays, ListFull, TooLarge, Memory, Store}
+
+-- none where memory or the database was at fault
+abbrev pub refusal : StoreFault → Option Refusal
+refusal BadName = Some bad_name
+refusal BadText = Some bad_text
+refusal ListExists = Some list_exists
+refusal NoList = Some no_list
+refusal PersonExists = Some person_exists
+refusal NoPerson = Some no_person
+refusal TokenTaken = Some token_taken
+refusal NoMessage = Some no_message
+refusal AlreadyWithdrawn = Some already_withdrawn
+refusal NotWithdrawn = Some not_withdrawn
+refusal BadDays = Some bad_days
+refusal ListFull = Some list_full
+refusal TooLarge = Some too_large
+refusal Memory = None
+refusal Store = None
+
+-- the answer of a call whose success says this
+abbrev pub reply_of : {A : Type 0} → (A → Reply) → Result A StoreFault → Option Reply
+reply_of says (Ok a) = Some (says a)
+reply_of says (Err fault) = option_map refused (refusal fault)
+
+abbrev pub says_done : Result (Unit {0}) StoreFault → Option Reply
+says_done = reply_of (λ _. done)
+
+-- the answer of a call that says whether what it took away was there
+abbrev pub says_whether : Result Bool StoreFault → Option Reply
+says_whether = reply_of was_there
+
+-- the answer of a call that adds a message
+abbrev pub says_added : Result Added StoreFault → Option Reply
+says_added = reply_of added_reply
+
+-- Where there is an answer, the tables are kept, and they and the answer are what the machine says. Where memory or the
+-- database was at fault, they are as they were, if the connection is still open.
+abbrev pub Steps : State → State → (Archive → Outcome) → Option Reply → Type 0
+Steps old new step None = Rests old new
+Steps old new step (Some reply) = IsKept new × ((archive_of new, reply) ≡ step (archive_of old))
+
+module _ {S : Type 0} (g : Ghosts S) (old new : Held S) where
+  -- one step of the machine, where the disk has returned what was written to it
+  abbrev pub Does : (Archive → Outcome) → Option Reply → Type 0
+  Does step reply = HasCleanDisk (state g new) → IsKept (state g old) → Steps (state g old) (state g new) step reply
+
+  -- A message that the tables do not hold is written down after the others; or memory or the database was at fault.
+  abbrev pub TakesIn : Result (Unit {0}) StoreFault → List ℕ → List ℕ → Item → Type 0
+  TakesIn result list key item = HasCleanDisk (state g new) → IsKept (state g old) →
+      MatchResult result
+      (λ _. list_any (is_message list key) (archive_of (state g old)).messages ≡ false
+      → Changes (state g old) (state g new) (λ a. record a { messages = a.messages ++ keyed_message list key item ∷ [] }))
+      (λ fault. (refusal fault ≡ None) × Rests (state g old) (state g new))

@@ -1,0 +1,64 @@
+//! Commands on grants.
+use crate::faults::StoreFault;
+use crate::store::Store;
+use crate::words::{Kind, day_number};
+use archive_tables::texts;
+use mail_core::Day;
+use sqlite::Alter;
+
+impl<S: Alter> Store<S> {
+    ghost use Rattle.archive_machine.specs.Machine.{granted, revoked};
+    ghost use Rattle.archive_store.specs.Held.{held_of};
+    ghost use Rattle.archive_store.specs.Words.{rank_of};
+    ghost use Rattle.archive_store.specs.Replies.{Does, says_done, says_whether};
+
+    /// Grants a kind from one day to another, both within; a grant of that kind is replaced. E6 where there is no such
+    /// person, E4 where there is no such list, E11 where the last day comes before the first.
+    pub fn grant(
+        &mut self,
+        person: &str,
+        list: &str,
+        kind: Kind,
+        from: Day,
+        until: Day,
+    ) -> Result<(), StoreFault>
+        ensures { Does S.Store (held_of self.old) (held_of self.new)
+            (λ a. granted a (record { person = person.now; list = list.now; rank = rank_of kind; from_day = from; until_day = until })) (says_done result) }
+    {
+        if !texts::persons::has_person(&mut self.conn, person)? {
+            return Err(StoreFault::NoPerson);
+        }
+        if !texts::lists::has_list(&mut self.conn, list)? {
+            return Err(StoreFault::NoList);
+        }
+        if until < from {
+            return Err(StoreFault::BadDays);
+        }
+        let rank = kind.rank();
+        let first = day_number(from);
+        let last = day_number(until);
+        if texts::grants::has_grant(&mut self.conn, person, list, rank)? {
+            texts::grants::change_grant(&mut self.conn, person, list, rank, first, last)?;
+        } else {
+            texts::grants::add_grant(&mut self.conn, person, list, rank, first, last)?;
+        }
+        Ok(())
+    }
+
+    /// Takes a grant away, and says whether it was there. E6 where there is no such person, E4 where there is no such
+    /// list.
+    pub fn revoke(&mut self, person: &str, list: &str, kind: Kind) -> Result<bool, StoreFault>
+        ensures { Does S.Store (held_of self.old) (held_of self.new) (λ a. revoked a person.now list.now (rank_of kind)) (says_whether result) }
+    {
+        if !texts::persons::has_person(&mut self.conn, person)? {
+            return Err(StoreFault::NoPerson);
+        }
+        if !texts::lists::has_list(&mut self.conn, list)? {
+            return Err(StoreFault::NoList);
+        }
+        let rank = kind.rank();
+        let was_there = texts::grants::has_grant(&mut self.conn, person, list, rank)?;
+        texts::grants::remove_grant(&mut self.conn, person, list, rank)?;
+        Ok(was_there)
+    }
+}

@@ -1,0 +1,15 @@
+//! The archive in the tables of a database: each command is one step of the archive's machine, and each question is
+//! answered from what the tables hold.
+#![tactic(auto)]
+
+mod faults;
+mod grants;
+pub mod limits;
+mod messages;
+mod persons;
+mod store;
+mod words;
+
+pub use faults::StoreFault;
+pub use store::Store;
+pub use words::{Added, Kind, Party};

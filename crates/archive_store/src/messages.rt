@@ -1,0 +1,108 @@
+//! Commands on messages.
+ghost use Rattle.std.specs.Prelude.{◌≡◌, not, pos};
+ghost use Rattle.std.specs.Ordering.{int_eq};
+
+use crate::faults::StoreFault;
+use crate::limits::{MESSAGES, add_limited};
+use crate::store::Store;
+use crate::words::{Added, Party, day_number};
+use archive_machine::Key;
+use archive_tables::rows::MessageRow;
+use archive_tables::texts;
+use mail_core::Day;
+use mbox_core::Item;
+use sqlite::Alter;
+use std::alloc::Global;
+
+impl<S: Alter> Store<S> {
+    ghost use Rattle.std.specs.Prelude.{pos, Some, None};
+    ghost use Rattle.archive_machine.specs.Machine.{message_limit, added_within, withdrawal, restored, held_back, lifted};
+    ghost use Rattle.archive_store.specs.Held.{held_of};
+    ghost use Rattle.archive_store.specs.Words.{party_of};
+    ghost use Rattle.archive_store.specs.Replies.{Does, says_added, says_done, says_whether};
+
+    /// Adds a message. A message whose key the list holds is known, and nothing changes: the first sender and arrival
+    /// stay. E4 where there is no such list, E13 where the whole text has more than 4,194,304 bytes, E12 where the list
+    /// holds 50,000 messages and not this one.
+    pub fn add(&mut self, alloc: Global, list: &str, item: &Item<'_>) -> Result<Added, StoreFault>
+        ensures { Does S.Store (held_of self.old) (held_of self.new) (λ a. added_within message_limit a list.now item.now) (says_added result) }
+    {
+        add_limited(self, alloc, list, item, MESSAGES)
+    }
+
+    /// Withdraws a message. E4 where there is no such list, E8 where it holds no such message, E9 where the message is
+    /// withdrawn.
+    pub fn withdraw(&mut self, list: &str, key: &Key, by: Party) -> Result<(), StoreFault>
+        ensures { Does S.Store (held_of self.old) (held_of self.new) (λ a. withdrawal a list.now key.now (party_of by)) (says_done result) }
+    {
+        if !texts::lists::has_list(&mut self.conn, list)? {
+            return Err(StoreFault::NoList);
+        }
+        let row = match texts::messages::message(&mut self.conn, list, key.as_str())? {
+            Some(row) => row,
+            None => return Err(StoreFault::NoMessage),
+        };
+        if is_withdrawn(&row) {
+            return Err(StoreFault::AlreadyWithdrawn);
+        }
+        texts::messages::set_withdrawn(&mut self.conn, list, key.as_str(), by.number())?;
+        Ok(())
+    }
+
+    /// Takes the withdrawal of a message back. E4 where there is no such list, E8 where it holds no such message, E10
+    /// where the message is not withdrawn.
+    pub fn restore(&mut self, list: &str, key: &Key) -> Result<(), StoreFault>
+        ensures { Does S.Store (held_of self.old) (held_of self.new) (λ a. restored a list.now key.now) (says_done result) }
+    {
+        if !texts::lists::has_list(&mut self.conn, list)? {
+            return Err(StoreFault::NoList);
+        }
+        let row = match texts::messages::message(&mut self.conn, list, key.as_str())? {
+            Some(row) => row,
+            None => return Err(StoreFault::NoMessage),
+        };
+        if !is_withdrawn(&row) {
+            return Err(StoreFault::NotWithdrawn);
+        }
+        texts::messages::set_withdrawn(&mut self.conn, list, key.as_str(), 0)?;
+        Ok(())
+    }
+
+    /// Holds a message back on the days before this one; an earlier embargo is replaced. E4 where there is no such list,
+    /// E8 where it holds no such message.
+    pub fn embargo(&mut self, list: &str, key: &Key, until: Day) -> Result<(), StoreFault>
+        ensures { Does S.Store (held_of self.old) (held_of self.new) (λ a. held_back a list.now key.now until) (says_done result) }
+    {
+        if !texts::lists::has_list(&mut self.conn, list)? {
+            return Err(StoreFault::NoList);
+        }
+        if !texts::messages::has_message(&mut self.conn, list, key.as_str())? {
+            return Err(StoreFault::NoMessage);
+        }
+        let day = day_number(until);
+        texts::messages::set_embargo(&mut self.conn, list, key.as_str(), day)?;
+        Ok(())
+    }
+
+    /// Takes the embargo of a message away, and says whether it had one. E4 where there is no such list, E8 where it
+    /// holds no such message.
+    pub fn lift(&mut self, list: &str, key: &Key) -> Result<bool, StoreFault>
+        ensures { Does S.Store (held_of self.old) (held_of self.new) (λ a. lifted a list.now key.now) (says_whether result) }
+    {
+        if !texts::lists::has_list(&mut self.conn, list)? {
+            return Err(StoreFault::NoList);
+        }
+        let had_one = match texts::messages::message(&mut self.conn, list, key.as_str())? {
+            Some(row) => row.embargo.is_some(),
+            None => return Err(StoreFault::NoMessage),
+        };
+        texts::messages::clear_embargo(&mut self.conn, list, key.as_str())?;
+        Ok(had_one)
+    }
+}
+
+fn is_withdrawn(row: &MessageRow) -> bool
+    ensures { result ≡ not (int_eq row.now.withdrawn (pos 0)) }
+{
+    row.withdrawn != 0
+}

@@ -1,0 +1,48 @@
+//! Commands on lists and persons.
+use crate::faults::StoreFault;
+use crate::store::Store;
+use archive_machine::is_token;
+use archive_tables::texts;
+use policy_core::is_name;
+use sqlite::Alter;
+
+impl<S: Alter> Store<S> {
+    ghost use Rattle.archive_machine.specs.Machine.{list_added, person_added};
+    ghost use Rattle.archive_store.specs.Held.{held_of};
+    ghost use Rattle.archive_store.specs.Replies.{Does, says_done};
+
+    /// Adds a list. E1 where the name is none, E3 where the list is there.
+    pub fn list_add(&mut self, name: &str) -> Result<(), StoreFault>
+        ensures { Does S.Store (held_of self.old) (held_of self.new) (λ a. list_added a name.now) (says_done result) }
+    {
+        if !is_name(name) {
+            return Err(StoreFault::BadName);
+        }
+        if texts::lists::has_list(&mut self.conn, name)? {
+            return Err(StoreFault::ListExists);
+        }
+        texts::lists::add_list(&mut self.conn, name)?;
+        Ok(())
+    }
+
+    /// Adds a person. E1 where the name is none, E2 where the token is none, E5 where the person is there, E7 where the
+    /// token is another person's.
+    pub fn person_add(&mut self, name: &str, token: &str) -> Result<(), StoreFault>
+        ensures { Does S.Store (held_of self.old) (held_of self.new) (λ a. person_added a name.now token.now) (says_done result) }
+    {
+        if !is_name(name) {
+            return Err(StoreFault::BadName);
+        }
+        if !is_token(token) {
+            return Err(StoreFault::BadText);
+        }
+        if texts::persons::has_person(&mut self.conn, name)? {
+            return Err(StoreFault::PersonExists);
+        }
+        if texts::persons::has_token(&mut self.conn, token)? {
+            return Err(StoreFault::TokenTaken);
+        }
+        texts::persons::add_person(&mut self.conn, name, token)?;
+        Ok(())
+    }
+}

@@ -1,0 +1,16 @@
+pub mod SchemaLemmas
+pub mod RunLemmas
+pub mod RowLemmas
+pub mod TableLemmas
+pub mod OrderLemmas
+pub mod SelectLemmas
+pub mod ListLemmas
+pub mod PersonLemmas
+pub mod ChangeLemmas
+pub mod MessageLemmas
+pub mod MailboxLemmas
+pub mod UpdateLemmas
+pub mod GrantLemmas
+pub mod MakeLemmas
+pub mod ReachLemmas
+pub mod NamesLemmas

@@ -1,0 +1,154 @@
+-- The questions on `message`.
+use Rattle.std.proofs.Common.{◌≡◌, ◌⊎◌, inl, inr, ℕ, zero, suc, ◌<◌, ◌≤◌, ◌+◌, ℤ, pos, List, [], ◌∷◌, map, filter, codes, refl, sym, ap, ap₂, subst, ◌∙◌, false, true, Bool, arith}
+use Rattle.std.specs.Prelude.{IsTrue, not, ◌==◌, ◌&&◌, length, bytes_eq}
+use Rattle.std.specs.List.{list_any}
+use Rattle.sqlite.specs.declared.error.Error.{Error}
+use Rattle.sqlite.specs.declared.types.Value.TheVariants.{Null, Int, Text}
+use Rattle.sqlite.specs.Order.{Row}
+use Rattle.sqlite.specs.Term.{Term, lit, col, op2}
+use Rattle.sqlite.specs.Collation.TheVariants.{Binary}
+use Rattle.sqlite.specs.Command.TheVariants.{Select}
+use Rattle.sqlite.specs.Listing.{understood, reads_listing}
+use Rattle.sqlite.specs.State.{State, Shown, FailsToQuery}
+use Rattle.sqlite.proofs.Callers.{IsPlain, command_of}
+use Rattle.sqlite_tied.specs.Compute.{everything}
+use Rattle.sqlite_sql.specs.declared.ops.BinaryOp.TheVariants.{Compare}
+use Rattle.sqlite_sql.specs.declared.ops.CompareOp.TheVariants.{Eq}
+use Rattle.archive_machine.specs.Records.{Message, Archive}
+use Rattle.archive_tables.specs.Schema.{archive_schema}
+use Rattle.archive_tables.specs.Tables.{IsKept, message_cells, message_read, archive_of, is_message}
+use Rattle.archive_tables.specs.Rows.{message_shown}
+use Rattle.archive_tables.specs.Calls.{Rests}
+use Rattle.archive_tables.proofs.MessageLemmas.{message_back}
+use Rattle.archive_tables.proofs.SelectLemmas.{plain_query, by_number, passes, asked, leaves, asked_rests, refused_rests, any_wanted, count_wanted, shows, alone, text_is}
+
+abbrev pub of_list : List Term
+of_list = op2 (Compare Eq Binary) (col 1 2) (col 0 0) ∷ []
+
+abbrev pub at_key : List Term
+at_key = op2 (Compare Eq Binary) (col 1 2) (col 0 0) ∷ op2 (Compare Eq Binary) (col 1 3) (col 0 1) ∷ []
+
+pub has_list : (list : List ℕ) (n : ℤ) (m : Message) → passes of_list (Text list ∷ []) (Int n ∷ message_cells m) ≡ bytes_eq m.list list
+has_list list n m = alone _ ∙ text_is m.list list
+
+-- whatever the later parameters are
+pub has_key : (list key : List ℕ) (more : Row) (n : ℤ) (m : Message) → passes at_key (Text list ∷ Text key ∷ more) (Int n ∷ message_cells m) ≡ is_message list key m
+has_key list key more n m = ap₂ ◌&&◌ (text_is m.list list) (alone _ ∙ text_is m.key key)
+
+abbrev all_cells : List Term
+all_cells = col 1 3 ∷ col 1 4 ∷ col 1 5 ∷ col 1 6 ∷ col 1 7 ∷ col 1 8 ∷ []
+
+abbrev all_names : List (List ℕ)
+all_names = codes "key" ∷ codes "sender" ∷ codes "arrival" ∷ codes "text" ∷ codes "withdrawn" ∷ codes "embargo" ∷ []
+
+-- ---- the messages of a list
+
+abbrev pub list_text : List ℕ
+list_text = codes "SELECT key, sender, arrival, text, withdrawn, embargo FROM message WHERE list = ?1 ORDER BY pos"
+
+list_is : (command_of (understood archive_schema list_text) ≡ Select (record { lets = []; body = plain_query 8 of_list all_cells by_number }) all_names) × (reads_listing archive_schema list_text ≡ false)
+unfolding understood everything
+list_is = (refl, refl)
+
+list_plain : IsPlain (understood archive_schema list_text)
+unfolding understood everything
+list_plain = (refl, refl)
+
+-- ---- the message of a key
+
+abbrev pub one_text : List ℕ
+one_text = codes "SELECT key, sender, arrival, text, withdrawn, embargo FROM message WHERE list = ?1 AND key = ?2 ORDER BY pos"
+
+one_is : (command_of (understood archive_schema one_text) ≡ Select (record { lets = []; body = plain_query 8 at_key all_cells by_number }) all_names) × (reads_listing archive_schema one_text ≡ false)
+unfolding understood everything
+one_is = (refl, refl)
+
+one_plain : IsPlain (understood archive_schema one_text)
+unfolding understood everything
+one_plain = (refl, refl)
+
+-- ---- whether a key is there
+
+abbrev pub has_text : List ℕ
+has_text = codes "SELECT pos FROM message WHERE list = ?1 AND key = ?2"
+
+abbrev number_cell : List Term
+number_cell = col 1 0 ∷ []
+
+has_is : (command_of (understood archive_schema has_text) ≡ Select (record { lets = []; body = plain_query 8 at_key number_cell [] }) (codes "pos" ∷ [])) × (reads_listing archive_schema has_text ≡ false)
+unfolding understood everything
+has_is = (refl, refl)
+
+has_plain : IsPlain (understood archive_schema has_text)
+unfolding understood everything
+has_plain = (refl, refl)
+
+-- ---- how many a list has
+
+abbrev pub count_text : List ℕ
+count_text = codes "SELECT key FROM message WHERE list = ?1"
+
+abbrev key_cell : List Term
+key_cell = col 1 3 ∷ []
+
+count_is : (command_of (understood archive_schema count_text) ≡ Select (record { lets = []; body = plain_query 8 of_list key_cell [] }) (codes "key" ∷ [])) × (reads_listing archive_schema count_text ≡ false)
+unfolding understood everything
+count_is = (refl, refl)
+
+count_plain : IsPlain (understood archive_schema count_text)
+unfolding understood everything
+count_plain = (refl, refl)
+
+module _ (old new : State) (list : List ℕ) (k : IsKept old) where
+  pub in_list : (rows : List Row) → Shown list_text (Text list ∷ []) old new rows
+      → (rows ≡ map message_shown (filter (λ m. bytes_eq m.list list) (archive_of old).messages)) × IsTrue new.is_open × Rests old new
+  in_list rows h =
+      let params = Text list ∷ [] in
+      let picks = asked list_text 8 of_list all_cells by_number _ list_is.0 list_plain list_is.1 (λ t. refl) params old new k rows h in (
+        shows 8 of_list all_cells params message_cells message_read message_back (λ m. bytes_eq m.list list) (has_list list) message_shown (λ n m. refl) (old.now.trees 8) rows k.tables.messages picks,
+        (leaves list_text 8 of_list all_cells by_number _ list_is.0 list_plain list_is.1 (λ t. refl) params old new k rows h).0.is_open,
+        asked_rests list_text 8 of_list all_cells by_number _ list_is.0 list_plain list_is.1 (λ t. refl) params old new k rows h,
+      )
+
+  pub not_in_list : (e : Error) → FailsToQuery list_text (Text list ∷ []) old new e → Rests old new
+  not_in_list e h = refused_rests list_text 8 of_list all_cells by_number _ list_is.0 list_plain list_is.1 (λ t. refl) (Text list ∷ []) old new k e h
+
+  pub count : (rows : List Row) → Shown count_text (Text list ∷ []) old new rows
+      → (length rows ≡ length (filter (λ m. bytes_eq m.list list) (archive_of old).messages)) × IsTrue new.is_open × Rests old new
+  count rows h =
+      let params = Text list ∷ [] in
+      let picks = asked count_text 8 of_list key_cell [] _ count_is.0 count_plain count_is.1 (λ t. refl) params old new k rows h in (
+        count_wanted message_cells message_read message_back (plain_query 8 of_list key_cell []) params (λ m. bytes_eq m.list list) (has_list list) (old.now.trees 8) rows k.tables.messages picks,
+        (leaves count_text 8 of_list key_cell [] _ count_is.0 count_plain count_is.1 (λ t. refl) params old new k rows h).0.is_open,
+        asked_rests count_text 8 of_list key_cell [] _ count_is.0 count_plain count_is.1 (λ t. refl) params old new k rows h,
+      )
+
+  pub no_count : (e : Error) → FailsToQuery count_text (Text list ∷ []) old new e → Rests old new
+  no_count e h = refused_rests count_text 8 of_list key_cell [] _ count_is.0 count_plain count_is.1 (λ t. refl) (Text list ∷ []) old new k e h
+
+  module _ (key : List ℕ) where
+    pub one : (rows : List Row) → Shown one_text (Text list ∷ Text key ∷ []) old new rows
+        → (rows ≡ map message_shown (filter (is_message list key) (archive_of old).messages)) × IsTrue new.is_open × Rests old new
+    one rows h =
+        let params = Text list ∷ Text key ∷ [] in
+        let picks = asked one_text 8 at_key all_cells by_number _ one_is.0 one_plain one_is.1 (λ t. refl) params old new k rows h in (
+          shows 8 at_key all_cells params message_cells message_read message_back (is_message list key) (has_key list key []) message_shown (λ n m. refl) (old.now.trees 8) rows k.tables.messages picks,
+          (leaves one_text 8 at_key all_cells by_number _ one_is.0 one_plain one_is.1 (λ t. refl) params old new k rows h).0.is_open,
+          asked_rests one_text 8 at_key all_cells by_number _ one_is.0 one_plain one_is.1 (λ t. refl) params old new k rows h,
+        )
+
+    pub not_one : (e : Error) → FailsToQuery one_text (Text list ∷ Text key ∷ []) old new e → Rests old new
+    not_one e h = refused_rests one_text 8 at_key all_cells by_number _ one_is.0 one_plain one_is.1 (λ t. refl) (Text list ∷ Text key ∷ []) old new k e h
+
+    pub has : (rows : List Row) → Shown has_text (Text list ∷ Text key ∷ []) old new rows
+        → (not (length rows == 0) ≡ list_any (is_message list key) (archive_of old).messages) × IsTrue new.is_open × Rests old new
+    has rows h =
+        let params = Text list ∷ Text key ∷ [] in
+        let picks = asked has_text 8 at_key number_cell [] _ has_is.0 has_plain has_is.1 (λ t. refl) params old new k rows h in (
+          any_wanted message_cells message_read message_back (plain_query 8 at_key number_cell []) params (is_message list key) (has_key list key []) (old.now.trees 8) rows k.tables.messages picks,
+          (leaves has_text 8 at_key number_cell [] _ has_is.0 has_plain has_is.1 (λ t. refl) params old new k rows h).0.is_open,
+          asked_rests has_text 8 at_key number_cell [] _ has_is.0 has_plain has_is.1 (λ t. refl) params old new k rows h,
+        )
+
+    pub has_not : (e : Error) → FailsToQuery has_text (Text list ∷ Text key ∷ []) old new e → Rests old new
+    has_not e h = refused_rests has_text 8 at_key number_cell [] _ has_is.0 has_plain has_is.1 (λ t. refl) (Text list ∷ Text key ∷ []) old new k e h

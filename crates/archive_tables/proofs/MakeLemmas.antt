@@ -1,0 +1,338 @@
+-- The statements that make the tables.
+use Rattle.std.proofs.Common.{◌≡◌, ◌⊎◌, inl, inr, ℕ, ℤ, pos, List, [], ◌∷◌, ◌++◌, map, codes, Ok, Err, Result, IfOk, IfErr, OnOk, OnErr, arith, refl, sym, ap, subst, ◌∙◌, false, true, None, Bool}
+use Rattle.std.specs.Prelude.{IsTrue, if◌then◌else◌}
+use Rattle.std.specs.List.{AllByRecursion}
+use Rattle.sqlite.specs.declared.error.Error.{Error}
+use Rattle.sqlite.specs.declared.types.Value.TheVariants.{Null, Int}
+use Rattle.sqlite.specs.Order.{Row}
+use Rattle.sqlite.specs.Table.{Table}
+use Rattle.sqlite.specs.Schema.{Schema}
+use Rattle.sqlite.specs.Term.{Term, lit, col}
+use Rattle.sqlite.specs.Source.TheVariants.{Values}
+use Rattle.sqlite.specs.Command.TheVariants.{CreateTable, Begin, Commit, Rollback, Insert, Select}
+use Rattle.sqlite.specs.Compile.{table_defined_by}
+use Rattle.sqlite.specs.Change.{created, next_tree, KeepsRows}
+use Rattle.sqlite.specs.Does.{Tally, Does, MakesTable, lacks_sequence, sequence_text}
+use Rattle.sqlite.specs.Edit.{edit_of, edited, taken_by}
+use Rattle.sqlite.specs.Rowids.TheVariants.{Chosen}
+use Rattle.sqlite.specs.Rows.{Written}
+use Rattle.sqlite.specs.Tree.{Trees}
+use Rattle.sqlite.specs.Listing.{understood, reads_listing}
+use Rattle.sqlite.specs.Effect.{Database}
+use Rattle.sqlite.specs.State.{State, Shows, Writes, Executes, mode_of, IsUnchanged, IsRolledBack, Shown, FailsToQuery}
+use Rattle.sqlite.proofs.Callers.{IsPlain, command_of, statement_of, runs_as, one_step}
+use Rattle.sqlite_tied.specs.Compute.{everything}
+use Rattle.archive_machine.specs.Records.{Archive}
+use Rattle.archive_tables.specs.Schema.{no_schema, with_version, with_list, with_person, with_grant, archive_schema, create_version, create_list, create_person, create_grant, create_message, version_table, list_table, person_table, grant_table, message_table, sequence_table}
+use Rattle.archive_tables.specs.Tables.{AreTables, IsKept, archive_in, archive_of, version_rows}
+use Rattle.archive_tables.specs.Making.{IsMaking, IsMade, empty_archive}
+use Rattle.archive_tables.specs.Calls.{Rests}
+use Rattle.archive_tables.proofs.SchemaLemmas.{unplaced, version_is, list_is, person_is, grant_is, message_is, sequence_is}
+use Rattle.archive_tables.proofs.RunLemmas.{passed, value_is, no_action, cast_null, cast_int}
+use Rattle.archive_tables.proofs.SelectLemmas.{plain_query, by_number, Picks, in_order, asked, leaves, asked_rests, refused_rests}
+use Rattle.archive_tables.proofs.TableLemmas.{SameBut, same_but}
+
+-- ---- one table more
+
+record Makes (s : Schema) (table : Table) (old new : Database) : Type 0 where
+  schema : new.schema ≡ created s table
+  empty : new.trees (next_tree s) ≡ []
+  others : KeepsRows s.tables old.trees new.trees
+
+one_made : (s : Schema) (sql : List ℕ) (table : Table) (old new : Database) → old.schema ≡ s → table_defined_by sql ≡ Ok table → MakesTable sql old (Ok new) → Makes s table old new
+one_made s sql table old new has defined it =
+    let same : it.table ≡ table = value_is (sym it.defined ∙ defined) in
+    record {
+      schema = it.is ∙ ap (λ x. created x it.table) has ∙ ap (created s) same;
+      empty = subst (λ x. new.trees (next_tree x) ≡ []) has it.empty;
+      others = subst (λ x. KeepsRows x.tables old.trees new.trees) has it.others;
+    }
+
+abbrev AreEmpty : Trees → List Table → Type 0
+AreEmpty trees = AllByRecursion (λ t. trees t.tree ≡ [])
+
+all_empty : (old new : Trees) (tables : List Table) (table : Table) → KeepsRows tables old new → AreEmpty old tables → new table.tree ≡ [] → AreEmpty new (tables ++ table ∷ [])
+all_empty old new [] table same empty last = (last, tt)
+all_empty old new (t ∷ tables) table same empty last = (same.0 ∙ empty.0, all_empty old new tables table same.1 empty.1 last)
+
+still_empty : (s : Schema) (table : Table) (old new : Database) → Makes s table old new → AreEmpty old.trees s.tables → AreEmpty new.trees (created s table).tables
+still_empty s table old new made empty = all_empty old.trees new.trees s.tables (record table { tree = next_tree s }) made.others empty made.empty
+
+module _ (s : Schema) (sql : List ℕ) (table : Table) (is : command_of (understood s sql) ≡ CreateTable) (whole : statement_of sql (understood s sql) ≡ sql) (plain : IsPlain (understood s sql))
+    (defined : table_defined_by sql ≡ Ok table) (old new : State) (before : Database) (k : IsMaking old s before) (count : ℕ) (h : Executes sql [] old new (Ok count)) where
+  ran : Writes old new None CreateTable sql [] count
+  ran = subst (λ t. Writes old new None CreateTable t [] count) whole (runs_as sql [] old new s k.schema_is CreateTable is plain count h)
+
+  goes_on : (next : Schema) → new.now.schema ≡ next → AreEmpty new.now.trees next.tables → IsMaking new next before
+  goes_on next schema empty = record {
+    is_open = ran.shown.is_open;
+    within = ran.shown.mode ∙ k.within;
+    behind = ran.shown.committed_is ∙ rw k.within k.behind;
+    schema_is = schema;
+    empty = empty;
+  }
+
+  pub makes : lacks_sequence (created s table) ≡ false → IsMaking new (created s table) before
+  makes none =
+      let all = passed ran.changed in
+      let first = passed all.1 in
+      let made = one_made s sql table old.now first.0 k.schema_is defined first.1 in
+      let lacks : lacks_sequence first.0.schema ≡ false = ap lacks_sequence made.schema ∙ none in
+      let now : new.now ≡ first.0 = ap (λ (p : Tally × Database). p.1) (value_is all.2) ∙ value_is (rw lacks at first.2) in
+      let here = subst (Makes s table old.now) (sym now) made in
+      goes_on (created s table) here.schema (still_empty s table old.now new.now here k.empty)
+
+  -- the first table with AUTOINCREMENT brings the table of the counts along
+  pub makes_both : lacks_sequence (created s table) ≡ true → (counts : Table) → table_defined_by sequence_text ≡ Ok counts → IsMaking new (created (created s table) counts) before
+  makes_both some counts counts_is =
+      let all = passed ran.changed in
+      let first = passed all.1 in
+      let made = one_made s sql table old.now first.0 k.schema_is defined first.1 in
+      let lacks : lacks_sequence first.0.schema ≡ true = ap lacks_sequence made.schema ∙ some in
+      let second = one_made (created s table) sequence_text counts first.0 all.0 made.schema counts_is (rw lacks at first.2) in
+      let here = subst (Makes (created s table) counts first.0) (sym (ap (λ (p : Tally × Database). p.1) (value_is all.2))) second in
+      goes_on (created (created s table) counts) here.schema
+      (still_empty (created s table) counts first.0 new.now here (still_empty s table old.now first.0 made k.empty))
+
+-- ---- the five texts, each over what the ones before it made
+
+version_text_is : (command_of (understood no_schema create_version) ≡ CreateTable) × (statement_of create_version (understood no_schema create_version) ≡ create_version)
+unfolding understood everything
+version_text_is = (refl, refl)
+
+version_plain : IsPlain (understood no_schema create_version)
+unfolding understood everything
+version_plain = (refl, refl)
+
+version_alone : (lacks_sequence (created no_schema (unplaced version_table)) ≡ false) × (created no_schema (unplaced version_table) ≡ with_version)
+unfolding everything
+version_alone = (refl, refl)
+
+list_text_is : (command_of (understood with_version create_list) ≡ CreateTable) × (statement_of create_list (understood with_version create_list) ≡ create_list)
+unfolding understood everything
+list_text_is = (refl, refl)
+
+list_plain : IsPlain (understood with_version create_list)
+unfolding understood everything
+list_plain = (refl, refl)
+
+list_alone : (lacks_sequence (created with_version (unplaced list_table)) ≡ false) × (created with_version (unplaced list_table) ≡ with_list)
+unfolding everything
+list_alone = (refl, refl)
+
+person_text_is : (command_of (understood with_list create_person) ≡ CreateTable) × (statement_of create_person (understood with_list create_person) ≡ create_person)
+unfolding understood everything
+person_text_is = (refl, refl)
+
+person_plain : IsPlain (understood with_list create_person)
+unfolding understood everything
+person_plain = (refl, refl)
+
+person_alone : (lacks_sequence (created with_list (unplaced person_table)) ≡ false) × (created with_list (unplaced person_table) ≡ with_person)
+unfolding everything
+person_alone = (refl, refl)
+
+grant_text_is : (command_of (understood with_person create_grant) ≡ CreateTable) × (statement_of create_grant (understood with_person create_grant) ≡ create_grant)
+unfolding understood everything
+grant_text_is = (refl, refl)
+
+grant_plain : IsPlain (understood with_person create_grant)
+unfolding understood everything
+grant_plain = (refl, refl)
+
+grant_alone : (lacks_sequence (created with_person (unplaced grant_table)) ≡ false) × (created with_person (unplaced grant_table) ≡ with_grant)
+unfolding everything
+grant_alone = (refl, refl)
+
+message_text_is : (command_of (understood with_grant create_message) ≡ CreateTable) × (statement_of create_message (understood with_grant create_message) ≡ create_message)
+unfolding understood everything
+message_text_is = (refl, refl)
+
+message_plain : IsPlain (understood with_grant create_message)
+unfolding understood everything
+message_plain = (refl, refl)
+
+message_brings : (lacks_sequence (created with_grant (unplaced message_table)) ≡ true)
+    × (created (created with_grant (unplaced message_table)) (unplaced sequence_table) ≡ archive_schema)
+unfolding everything
+message_brings = (refl, refl)
+
+module _ (old new : State) (before : Database) (count : ℕ) where
+  pub makes_version : IsMaking old no_schema before → Executes create_version [] old new (Ok count) → IsMaking new with_version before
+  makes_version k h = subst (λ s. IsMaking new s before) version_alone.1
+      (makes no_schema create_version (unplaced version_table) version_text_is.0 version_text_is.1 version_plain version_is old new before k count h version_alone.0)
+
+  pub makes_list : IsMaking old with_version before → Executes create_list [] old new (Ok count) → IsMaking new with_list before
+  makes_list k h = subst (λ s. IsMaking new s before) list_alone.1
+      (makes with_version create_list (unplaced list_table) list_text_is.0 list_text_is.1 list_plain list_is old new before k count h list_alone.0)
+
+  pub makes_person : IsMaking old with_list before → Executes create_person [] old new (Ok count) → IsMaking new with_person before
+  makes_person k h = subst (λ s. IsMaking new s before) person_alone.1
+      (makes with_list create_person (unplaced person_table) person_text_is.0 person_text_is.1 person_plain person_is old new before k count h person_alone.0)
+
+  pub makes_grant : IsMaking old with_person before → Executes create_grant [] old new (Ok count) → IsMaking new with_grant before
+  makes_grant k h = subst (λ s. IsMaking new s before) grant_alone.1
+      (makes with_person create_grant (unplaced grant_table) grant_text_is.0 grant_text_is.1 grant_plain grant_is old new before k count h grant_alone.0)
+
+  pub makes_message : IsMaking old with_grant before → Executes create_message [] old new (Ok count) → IsMaking new archive_schema before
+  makes_message k h = subst (λ s. IsMaking new s before) message_brings.1
+      (makes_both with_grant create_message (unplaced message_table) message_text_is.0 message_text_is.1 message_plain message_is old new before k count h message_brings.0
+      (unplaced sequence_table) sequence_is)
+
+-- ---- the transaction
+
+abbrev pub begin_text : List ℕ
+begin_text = codes "BEGIN"
+
+begin_is : command_of (understood no_schema begin_text) ≡ Begin
+unfolding understood everything
+begin_is = refl
+
+begin_plain : IsPlain (understood no_schema begin_text)
+unfolding understood everything
+begin_plain = (refl, refl)
+
+pub begins : (old new : State) (count : ℕ) → old.now.schema ≡ no_schema → Executes begin_text [] old new (Ok count) → IsMaking new no_schema old.committed
+begins old new count has h =
+    let ran = runs_as begin_text [] old new no_schema has Begin begin_is begin_plain count h in
+    record {
+      is_open = ran.1.is_open;
+      within = ran.1.mode;
+      behind = ran.1.committed_is;
+      schema_is = ap (λ (d : Database). d.schema) ran.1.now_is ∙ has;
+      empty = tt;
+    }
+
+abbrev pub commit_text : List ℕ
+commit_text = codes "COMMIT"
+
+commit_is : command_of (understood archive_schema commit_text) ≡ Commit
+unfolding understood everything
+commit_is = refl
+
+commit_plain : IsPlain (understood archive_schema commit_text)
+unfolding understood everything
+commit_plain = (refl, refl)
+
+pub commits : (old new : State) (before : Database) (count : ℕ) → IsMade old before → Executes commit_text [] old new (Ok count) → IsKept new × (archive_of new ≡ empty_archive)
+commits old new before count k h =
+    let ran = runs_as commit_text [] old new archive_schema k.schema_is Commit commit_is commit_plain count h in (
+      record {
+        is_open = ran.1.is_open;
+        autocommit = ran.1.mode;
+        settled = ran.1.committed_is ∙ sym ran.1.now_is;
+        schema = ap (λ (d : Database). d.schema) ran.1.now_is ∙ k.schema_is;
+        tables = subst (λ (d : Database). AreTables d.trees) (sym ran.1.now_is) k.tables;
+      },
+      ap (λ (d : Database). archive_in d.trees) ran.1.now_is ∙ k.nothing,
+    )
+
+abbrev pub rollback_text : List ℕ
+rollback_text = codes "ROLLBACK"
+
+-- whatever the schema is
+rollback_is : (s : Schema) → command_of (understood s rollback_text) ≡ Rollback
+unfolding understood everything
+rollback_is s = refl
+
+rollback_plain : (s : Schema) → IsPlain (understood s rollback_text)
+unfolding understood everything
+rollback_plain s = (refl, refl)
+
+pub undoes : (old new : State) (count : ℕ) → Executes rollback_text [] old new (Ok count)
+    → IsTrue new.is_open → (new.now ≡ old.committed) × (new.committed ≡ old.committed) × (new.in_transaction ≡ false)
+undoes old new count h up =
+    let ran = runs_as rollback_text [] old new old.now.schema refl Rollback (rollback_is old.now.schema) (rollback_plain old.now.schema) count h in
+    ((ran.1.undone up).0, (ran.1.undone up).1, ran.1.autocommit)
+
+-- ---- the version
+
+abbrev pub version_text : List ℕ
+version_text = codes "INSERT INTO version (number) VALUES (0)"
+
+abbrev version_cells : List Term
+version_cells = lit Null ∷ lit (Int (pos 0)) ∷ []
+
+add_is : command_of (understood archive_schema version_text) ≡ Insert 0 (Values version_cells 2)
+unfolding understood everything
+add_is = refl
+
+add_plain : IsPlain (understood archive_schema version_text)
+unfolding understood everything
+add_plain = (refl, refl)
+
+puts : (db : Trees) (given : List Row) → db 0 ≡ [] → given ≡ (Null ∷ Int (pos 0) ∷ []) ∷ [] → edited db (edit_of db version_table [] Chosen 0 given) ≡ version_rows
+puts db given none from = rw (from, none, cast_null, cast_int (pos 0))
+
+nothing_in : (trees : Trees) → trees 0 ≡ version_rows → trees 1 ≡ [] → trees 3 ≡ [] → trees 6 ≡ [] → trees 8 ≡ []
+    → AreTables trees × (archive_in trees ≡ empty_archive)
+nothing_in trees version lists persons grants messages = (
+  record {
+    version = version;
+    lists = rw lists (record { coded = refl; rise = tt });
+    persons = rw persons (record { coded = refl; rise = tt });
+    grants = rw grants (record { coded = refl; rise = tt });
+    messages = rw messages (record { coded = refl; rise = tt });
+    grants_apart = rw grants tt;
+    messages_apart = rw messages tt;
+    positive = rw messages tt;
+  },
+  rw (lists, persons, grants, messages),
+)
+
+pub makes_whole : (old new : State) (before : Database) (count : ℕ) → IsMaking old archive_schema before → Executes version_text [] old new (Ok count) → IsMade new before
+makes_whole old new before count k h =
+    let db = old.now.trees in
+    let command = Insert 0 (Values version_cells 2) in
+    let w = runs_as version_text [] old new archive_schema k.schema_is command add_is add_plain count h in
+    let text = statement_of version_text (understood archive_schema version_text) in
+    let done = passed (subst (λ s. Does old.step_limit (mode_of old) [] (record old.now { schema = s }) text None command (Ok (w.tally, new.now))) k.schema_is w.changed) in
+    let now = ap (λ (it : Tally × Database). it.1) (value_is (passed (passed done.2).2).2) in
+    let given = passed done.1 in
+    let written = passed (passed given.2).2 in
+    let counted = passed written.2 in
+    let edit = edit_of db version_table [] Chosen 0 given.0 in
+    let applied = one_step archive_schema _ db written.0 edit (no_action 0 (taken_by db edit) edit.news) written.1 in
+    let trees : new.now.trees ≡ written.0 =
+    ap (λ (d : Database). d.trees) now ∙ ap (λ (it : Written). it.trees) (value_is counted.2) ∙ value_is counted.1 in
+    let same = subst (SameBut 0 db) (sym trees) (same_but 0 db written.0 applied.tables) in
+    let it = nothing_in new.now.trees (ap (λ (t : Trees). t 0) trees ∙ applied.rows ∙ puts db given.0 k.empty.0 given.1.1)
+    (same.lists (λ e. omega (arith, e)) ∙ k.empty.1.0) (same.persons (λ e. omega (arith, e)) ∙ k.empty.1.1.0)
+    (same.grants (λ e. omega (arith, e)) ∙ k.empty.1.1.1.0) (same.messages (λ e. omega (arith, e)) ∙ k.empty.1.1.1.1.0) in
+    record {
+      is_open = w.shown.is_open;
+      within = w.shown.mode ∙ k.within;
+      behind = w.shown.committed_is ∙ rw k.within k.behind;
+      schema_is = ap (λ (d : Database). d.schema) now;
+      tables = it.0;
+      nothing = it.1;
+    }
+
+abbrev pub number_text : List ℕ
+number_text = codes "SELECT number FROM version ORDER BY rowid"
+
+abbrev number_cell : List Term
+number_cell = col 1 1 ∷ []
+
+number_is : (command_of (understood archive_schema number_text) ≡ Select (record { lets = []; body = plain_query 0 [] number_cell by_number }) (codes "number" ∷ [])) × (reads_listing archive_schema number_text ≡ false)
+unfolding understood everything
+number_is = (refl, refl)
+
+number_plain : IsPlain (understood archive_schema number_text)
+unfolding understood everything
+number_plain = (refl, refl)
+
+only_version : (rows picked : List Row) → rows ≡ version_rows → Picks (plain_query 0 [] number_cell by_number) [] rows picked → picked ≡ (Int (pos 0) ∷ []) ∷ []
+only_version rows picked are it = in_order 0 [] number_cell [] version_rows picked (tt, tt) (subst (λ l. Picks (plain_query 0 [] number_cell by_number) [] l picked) are it)
+
+module _ (old new : State) (k : IsKept old) where
+  pub version_found : (rows : List Row) → Shown number_text [] old new rows → (rows ≡ (Int (pos 0) ∷ []) ∷ []) × IsTrue new.is_open × Rests old new
+  version_found rows h =
+      let picks = asked number_text 0 [] number_cell by_number _ number_is.0 number_plain number_is.1 (λ t. refl) [] old new k rows h in (
+        only_version (old.now.trees 0) rows k.tables.version picks,
+        (leaves number_text 0 [] number_cell by_number _ number_is.0 number_plain number_is.1 (λ t. refl) [] old new k rows h).0.is_open,
+        asked_rests number_text 0 [] number_cell by_number _ number_is.0 number_plain number_is.1 (λ t. refl) [] old new k rows h,
+      )
+
+  pub version_not_found : (e : Error) → FailsToQuery number_text [] old new e → Rests old new
+  version_not_found e h = refused_rests number_text 0 [] number_cell by_number _ number_is.0 number_plain number_is.1 (λ t. refl) [] old new k e h

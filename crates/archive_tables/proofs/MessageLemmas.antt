@@ -1,0 +1,144 @@
+-- The statements on `message`.
+use Rattle.std.proofs.Common.{◌≡◌, ◌≢◌, ◌⊎◌, inl, inr, ℕ, ℤ, pos, List, [], ◌∷◌, ◌++◌, map, filter, fold, codes, Ok, Err, Result, OnOk, OnErr, arith, refl, sym, ap, ap₂, subst, ◌∙◌, false, true, Bool, cond, None, Some, Option}
+use Rattle.std.specs.Prelude.{IsTrue, not, ◌==◌, ◌&&◌, length, bytes_eq, if◌then◌else◌}
+use Rattle.std.specs.List.{list_any, AllByRecursion}
+use Rattle.std.specs.Int.Signed.{◌<ℤ◌}
+use Rattle.std.specs.Ordering.{is_lt, int_cmp}
+use Rattle.std.specs.declared.cmp.Ordering.TheVariants.{Less}
+use Rattle.std.proofs.lemmas.Bool.{cases_Bool}
+use Rattle.sqlite.specs.declared.error.Error.{Error}
+use Rattle.sqlite.specs.declared.types.Value.TheVariants.{Null, Int, Text, Blob}
+use Rattle.sqlite.specs.Order.{Row, value_cmp}
+use Rattle.sqlite.specs.Term.{Term, lit, col, op2}
+use Rattle.sqlite.specs.Collation.TheVariants.{Binary}
+use Rattle.sqlite.specs.Source.TheVariants.{Values}
+use Rattle.sqlite.specs.Command.TheVariants.{Insert}
+use Rattle.sqlite.specs.Edit.{Edit, edit_of, edited, taken_by, next_rowid, at_least}
+use Rattle.sqlite.specs.Rowids.TheVariants.{Above}
+use Rattle.sqlite.specs.Does.{Tally, Does}
+use Rattle.sqlite.specs.Rows.{Written, Counts, CountsIn, counting, count_of, higher}
+use Rattle.sqlite.specs.Table.{Table}
+use Rattle.sqlite.specs.Tree.{Trees, put_row, rowid}
+use Rattle.sqlite.specs.Listing.{understood}
+use Rattle.sqlite.specs.Effect.{Database}
+use Rattle.sqlite.specs.State.{State, mode_of, Executes}
+use Rattle.sqlite.proofs.Callers.{IsPlain, command_of, statement_of, runs_as, one_step}
+use Rattle.sqlite_tied.specs.Compute.{everything}
+use Rattle.sqlite_rules.specs.Action as Action
+use Rattle.sqlite_schema.specs.declared.schema.Keys.TheVariants.{Enforced}
+use Rattle.sqlite_value.proofs.OrderLemmas.{value_cmp_total, value_cmp-Int}
+use Rattle.archive_machine.specs.Records.{Message, Archive}
+use Rattle.archive_tables.specs.Schema.{archive_schema, message_table, sequence_table}
+use Rattle.archive_tables.specs.Tables.{IsKept, Numbered, row_of, message_cells, message_read, archive_of, or_null, if_int, is_message, same_message, AreApart, ArePositive}
+use Rattle.archive_tables.specs.Rows.{new_message}
+use Rattle.archive_tables.specs.Calls.{Changes, Rests}
+use Rattle.archive_tables.proofs.RunLemmas.{passed, value_is, no_action, cast_null, cast_int, kept_by, rests, execute_fails}
+use Rattle.archive_tables.proofs.RowLemmas.{put_past, raised, positive_more}
+use Rattle.archive_tables.proofs.TableLemmas.{SameBut, same_but, messages_change}
+use Rattle.archive_tables.proofs.ChangeLemmas.{apart_more}
+use Rattle.archive_tables.proofs.SelectLemmas.{text_flips}
+
+pub embargo_back : (o : Option ℤ) → if_int (or_null o) ≡ o
+embargo_back None = refl
+embargo_back (Some n) = refl
+
+pub message_back : (n : ℤ) (m : Message) → message_read (Int n ∷ message_cells m) ≡ m
+message_back n m = ap (λ o. record m { embargo = o }) (embargo_back m.embargo)
+
+pub flips : (a b : Message) → same_message a b ≡ same_message b a
+flips a b = ap₂ ◌&&◌ (text_flips b.list a.list) (text_flips b.key a.key)
+
+-- ---- INSERT
+
+abbrev pub add_text : List ℕ
+add_text = codes "INSERT INTO message (list, key, sender, arrival, text, withdrawn, embargo) VALUES (?1, ?2, ?3, ?4, ?5, 0, NULL)"
+
+abbrev new_cells : List Term
+new_cells = lit Null ∷ lit Null ∷ col 0 0 ∷ col 0 1 ∷ col 0 2 ∷ col 0 3 ∷ col 0 4 ∷ lit (Int (pos 0)) ∷ lit Null ∷ []
+
+add_is : command_of (understood archive_schema add_text) ≡ Insert 4 (Values new_cells 9)
+unfolding understood everything
+add_is = refl
+
+add_plain : IsPlain (understood archive_schema add_text)
+unfolding understood everything
+add_plain = (refl, refl)
+
+-- the sequence's table alone follows the count
+counts : (limit : Option ℕ) (params : Row) (mid next : Trees) (counter : Option Row) (top : ℤ)
+    → Counts (record { limit = limit; keys = Enforced; schema = archive_schema; table = message_table; params = params }) mid counter top (Ok next)
+    → SameBut 10 mid next
+unfolding everything
+counts limit params mid next counter top h = elim (cases_Bool (is_lt (int_cmp (count_of counter) top))) [
+  | inl more ↦ counted counter (rw more at h)
+  | inr enough ↦ subst (SameBut 10 mid) (value_is (sym (rw enough at h))) (record { version = λ _. refl; lists = λ _. refl; persons = λ _. refl; grants = λ _. refl; messages = λ _. refl })
+]
+  where
+    written : (edit : Edit) → edit.table ≡ sequence_table → Action.Writes archive_schema Enforced mid edit (Ok next) → SameBut 10 mid next
+    written edit is writes =
+        let applied = one_step archive_schema Enforced mid next edit (no_action edit.table.tree (taken_by mid edit) edit.news) writes in
+        let tree : edit.table.tree ≡ 10 = ap (λ (t : Table). t.tree) is in
+        subst (λ t. SameBut t mid next) tree (same_but edit.table.tree mid next applied.tables)
+
+    counted : (c : Option Row) → CountsIn (record { limit = limit; keys = Enforced; schema = archive_schema; table = message_table; params = params }) mid c top (Some sequence_table) (Ok next)
+        → SameBut 10 mid next
+    counted None h = written (counting mid message_table sequence_table top None) refl h
+    counted (Some row) h = written (counting mid message_table sequence_table top (Some row)) refl h
+
+module _ (list key sender : List ℕ) (arrival : ℤ) (text : List ℕ) where
+  abbrev new : Message
+  new = new_message list key sender arrival text
+
+  abbrev params_of : Row
+  params_of = Text list ∷ Text key ∷ Blob sender ∷ Int arrival ∷ Blob text ∷ []
+
+  abbrev fresh : Trees → ℤ → Numbered Message
+  fresh db top = record { number = at_least (Above top) (next_rowid (db 8)); it = new }
+
+  puts : (db : Trees) (top : ℤ) (given : List Row)
+      → given ≡ (Null ∷ Null ∷ Text list ∷ Text key ∷ Blob sender ∷ Int arrival ∷ Blob text ∷ Int (pos 0) ∷ Null ∷ []) ∷ []
+      → edited db (edit_of db message_table [] (Above top) 0 given) ≡ put_row (row_of message_cells (fresh db top)) (db 8)
+  puts db top given from = rw (from, cast_null, cast_int arrival, cast_int (pos 0))
+
+  after : (db mid next : Trees) → SameBut 8 db mid → SameBut 10 mid next → SameBut 8 db next
+  after db mid next first last = record {
+    version = λ e. last.version (λ f. omega (arith, f)) ∙ first.version e;
+    lists = λ e. last.lists (λ f. omega (arith, f)) ∙ first.lists e;
+    persons = λ e. last.persons (λ f. omega (arith, f)) ∙ first.persons e;
+    grants = λ e. last.grants (λ f. omega (arith, f)) ∙ first.grants e;
+    messages = λ e. last.messages (λ f. omega (arith, f)) ∙ first.messages e;
+  }
+
+  adds : (old new_state : State) (count : ℕ) → IsKept old → list_any (is_message list key) (archive_of old).messages ≡ false → Executes add_text params_of old new_state (Ok count)
+      → Changes old new_state (λ a. record a { messages = a.messages ++ new ∷ [] })
+  adds old next count k none h =
+      let params = params_of in
+      let db = old.now.trees in
+      let command = Insert 4 (Values new_cells 9) in
+      let w = runs_as add_text params old next archive_schema k.schema command add_is add_plain count h in
+      let words = statement_of add_text (understood archive_schema add_text) in
+      let done = passed (subst (λ s. Does old.step_limit (mode_of old) params (record old.now { schema = s }) words None command (Ok (w.tally, next.now))) k.schema w.changed) in
+      let now = ap (λ (it : Tally × Database). it.1) (value_is (passed (passed done.2).2).2) in
+      let given = passed done.1 in
+      let counter = passed given.2 in
+      let written = passed counter.2 in
+      let counted = passed written.2 in
+      let top = count_of counter.0 in
+      let edit = edit_of db message_table [] (Above top) 0 given.0 in
+      let applied = one_step archive_schema _ db written.0 edit (no_action 8 (taken_by db edit) edit.news) written.1 in
+      let later = counts old.step_limit params written.0 counted.0 counter.0 (fold higher top edit.news) counted.1 in
+      let trees : next.now.trees ≡ counted.0 = ap (λ (d : Database). d.trees) now ∙ ap (λ (it : Written). it.trees) (value_is counted.2) in
+      let far = raised top (next_rowid (db 8)) in
+      let put = put_past message_cells message_read message_back (db 8) (fresh db top) far k.tables.messages in
+      let rows : next.now.trees 8 ≡ put_row (row_of message_cells (fresh db top)) (db 8) =
+      ap (λ (t : Trees). t 8) trees ∙ later.messages (λ e. omega (arith, e)) ∙ applied.rows ∙ puts db top given.0 given.1.1 in
+      let same = subst (SameBut 8 db) (sym trees) (after db written.0 counted.0 (same_but 8 db written.0 applied.tables) later) in
+      let apart = subst (AreApart same_message) (sym put.1) (apart_more same_message (archive_of old).messages new flips none k.tables.messages_apart) in
+      let positive = positive_more message_cells message_read message_back (db 8) (fresh db top) far k.tables.messages k.tables.positive in
+      let it = messages_change db next.now.trees k.tables same _ rows put.0 apart positive in
+      (kept_by old next k w.shown (ap (λ (d : Database). d.schema) now) it.0, it.1 ∙ ap (λ l. record (archive_of old) { messages = l }) put.1)
+
+  pub tries_to_add : (old next : State) (r : Result ℕ Error) → IsKept old → Executes add_text params_of old next r
+      → (list_any (is_message list key) (archive_of old).messages ≡ false → OnOk r (Changes old next (λ a. record a { messages = a.messages ++ new ∷ [] }))) × OnErr r (Rests old next)
+  tries_to_add old next (Ok count) k h = (λ none. adds old next count k none h, tt)
+  tries_to_add old next (Err e) k h = (λ none. tt, rests old next k (execute_fails old next add_text params_of e h))

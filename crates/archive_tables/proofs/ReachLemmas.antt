@@ -1,0 +1,132 @@
+-- Numbers that rise from 1: as long as none reaches a limit, there are fewer messages than the limit.
+use Rattle.std.proofs.Common.{◌≡◌, ◌⊎◌, inl, inr, ℕ, zero, suc, ◌<◌, ◌≤◌, ◌+◌, ℤ, pos, negsuc, ◌+ℤ◌, List, [], ◌∷◌, map, filter, take, length, codes, refl, sym, ap, subst, ◌∙◌, false, true, Bool, cond, None, arith}
+use Rattle.std.specs.Prelude.{IsTrue, not, ◌&&◌}
+use Rattle.std.specs.List.{AllByRecursion}
+use Rattle.std.specs.List.Sorted.{IsPermutation}
+use Rattle.std.specs.Int.Signed.{◌<ℤ◌}
+use Rattle.std.specs.Ordering.{int_cmp, is_ge}
+use Rattle.std.specs.declared.cmp.Ordering.TheVariants.{Less}
+use Rattle.std.proofs.lemmas.Bool.{cases_Bool}
+use Rattle.std.proofs.lemmas.Bool.Decides.{nat_tests}
+use Rattle.std.proofs.lemmas.Int.{ints}
+use Rattle.std.proofs.lemmas.List.{length-map}
+use Rattle.std.proofs.lemmas.List.Sorted.{length_permutation}
+use Rattle.sqlite.specs.declared.error.Error.{Error}
+use Rattle.sqlite.specs.declared.types.Value.TheVariants.{Null, Int}
+use Rattle.sqlite.specs.Order.{Row, value_cmp}
+use Rattle.sqlite.specs.Tree.{Trees, IsTable, rowid}
+use Rattle.sqlite.specs.Term.{Term, lit, col, op2}
+use Rattle.sqlite.specs.Ops.{binary}
+use Rattle.sqlite.specs.Collation.TheVariants.{Binary}
+use Rattle.sqlite.specs.Query.{Query, Output, output, IsAnswer}
+use Rattle.sqlite.specs.Program.{overlay}
+use Rattle.sqlite.specs.Command.TheVariants.{Select}
+use Rattle.sqlite.specs.Listing.{understood, reads_listing}
+use Rattle.sqlite.specs.State.{State, Shown, FailsToQuery}
+use Rattle.sqlite.proofs.Callers.{IsPlain, command_of, reads_as}
+use Rattle.sqlite_tied.specs.Compute.{everything}
+use Rattle.sqlite_sql.specs.declared.ops.BinaryOp.TheVariants.{Compare}
+use Rattle.sqlite_sql.specs.declared.ops.CompareOp.TheVariants.{Ge}
+use Rattle.sqlite_trees.proofs.ListLemmas.{map-map}
+use Rattle.sqlite_value.proofs.OrderLemmas.{value_cmp-Int}
+use Rattle.archive_machine.specs.Records.{Message, Archive}
+use Rattle.archive_tables.specs.Schema.{archive_schema}
+use Rattle.archive_tables.specs.Tables.{IsKept, Numbered, row_of, read_of, Holds, message_cells, message_read, archive_of}
+use Rattle.archive_tables.specs.Calls.{Rests}
+use Rattle.archive_tables.proofs.RunLemmas.{query_fails, query_leaves, rests}
+use Rattle.archive_tables.proofs.RowLemmas.{int_less}
+use Rattle.archive_tables.proofs.SelectLemmas.{plain_query, env_of, passes, each_passing, alone, truth_back}
+
+abbrev pub reach_text : List ℕ
+reach_text = codes "SELECT pos FROM message WHERE pos >= ?1 LIMIT 1"
+
+abbrev high : List Term
+high = op2 (Compare Ge Binary) (col 1 0) (col 0 0) ∷ []
+
+abbrev number_cell : List Term
+number_cell = col 1 0 ∷ []
+
+abbrev query : Query
+query = record (plain_query 8 high number_cell []) { limit = lit (Int (pos 1)) }
+
+reach_is : (command_of (understood archive_schema reach_text) ≡ Select (record { lets = []; body = query }) (codes "pos" ∷ [])) × (reads_listing archive_schema reach_text ≡ false)
+unfolding understood everything
+reach_is = (refl, refl)
+
+reach_plain : IsPlain (understood archive_schema reach_text)
+unfolding understood everything
+reach_plain = (refl, refl)
+
+-- ---- an answer without rows
+
+none_taken : {A : Type 0} (xs : List A) → length (take 1 xs) ≡ 0 → xs ≡ []
+none_taken [] none = refl
+none_taken (x ∷ xs) none = absurd (omega (arith, none))
+
+none_mapped : {A B : Type 0} (f : A → B) (xs : List A) → map f xs ≡ [] → length xs ≡ 0
+none_mapped f xs none = sym (length-map xs f) ∙ ap length none
+
+nothing_high : (trees : Trees) (params : Row) (rows : List Row) → IsAnswer query trees params rows → length rows ≡ 0 → length (filter (passes high params) (trees 8)) ≡ 0
+nothing_high trees params rows a none =
+    let kept : a.kept ≡ map (λ row. output query (env_of params row)) (filter (passes high params) (trees 8)) =
+    a.distinct ∙ ap (map (output query)) (a.grouped ∙ each_passing (passes high params) (env_of params) (trees 8)) ∙ map-map (output query) (env_of params) _ in
+    let shown : map (λ (o : Output). o.1) a.ordered ≡ [] = none_taken _ (sym (ap length a.shown) ∙ none) in
+    sym (length-map (filter (passes high params) (trees 8)) (λ row. output query (env_of params row))) ∙ sym (ap length kept)
+    ∙ sym (length_permutation _ _ a.same) ∙ none_mapped _ a.ordered shown
+
+-- ---- counting
+
+is_high : (limit : ℕ) (r : Numbered Message) → passes high (Int (pos limit) ∷ []) (row_of message_cells r) ≡ is_ge (int_cmp r.number (pos limit))
+unfolding binary
+is_high limit r = alone _ ∙ truth_back _ ∙ ap is_ge (value_cmp-Int r.number (pos limit))
+
+abbrev AreLow : ℕ → List (Numbered Message) → Type 0
+AreLow limit = AllByRecursion (λ r. r.number <ℤ pos limit)
+
+low : (limit : ℕ) (n : ℤ) → is_ge (int_cmp n (pos limit)) ≡ false → n <ℤ pos limit
+low limit n h = grind (arith, ints, nat_tests)
+
+all_low : (limit : ℕ) (all : List (Numbered Message)) → length (filter (passes high (Int (pos limit) ∷ [])) (map (row_of message_cells) all)) ≡ 0 → AreLow limit all
+all_low limit [] none = tt
+all_low limit (r ∷ all) none = elim (cases_Bool (passes high (Int (pos limit) ∷ []) (row_of message_cells r))) [
+  | inl reaches ↦ absurd (let some = rw reaches at none in omega (arith, some))
+  | inr below ↦ (low limit r.number (sym (is_high limit r) ∙ below), all_low limit all (rw below at none))
+]
+
+-- rising numbers between two bounds are fewer than what lies between
+fewer : (limit : ℕ) (from : ℤ) (all : List (Numbered Message)) → from <ℤ pos limit → AllByRecursion (λ row. value_cmp (Int from) (rowid row) ≡ Less) (map (row_of message_cells) all)
+    → IsTable (map (row_of message_cells) all) → AreLow limit all → (pos (length all) +ℤ from) <ℤ pos limit
+fewer limit from [] below above up lows = omega (arith, ints, below)
+fewer limit from (r ∷ all) below above up lows =
+    let more = fewer limit r.number all lows.0 up.0 up.1 lows.1 in
+    let first : from <ℤ r.number = int_less (sym (value_cmp-Int from r.number) ∙ above.0) in
+    omega (arith, ints, more, first)
+
+fewer_messages : (limit : ℕ) (rows : List Row) → 0 < limit → Holds message_cells message_read rows → AllByRecursion (λ row. value_cmp (Int (pos 0)) (rowid row) ≡ Less) rows
+    → length (filter (passes high (Int (pos limit) ∷ [])) rows) ≡ 0 → length (map message_read rows) < limit
+fewer_messages limit rows some k positive none =
+    let all = map (read_of message_read) rows in
+    let lows = all_low limit all (ap (λ l. length (filter (passes high (Int (pos limit) ∷ [])) l)) (sym k.coded) ∙ none) in
+    let count = fewer limit (pos 0) all (omega (arith, ints, some)) (subst (AllByRecursion (λ row. value_cmp (Int (pos 0)) (rowid row) ≡ Less)) k.coded positive) (subst IsTable k.coded k.rise) lows in
+    let same : length all ≡ length (map message_read rows) = length-map rows (read_of message_read) ∙ sym (length-map rows message_read) in
+    omega (arith, ints, count, same)
+
+module _ (old new : State) (limit : ℕ) (k : IsKept old) where
+  abbrev params : Row
+  params = Int (pos limit) ∷ []
+
+  plain_here : IsPlain (understood old.now.schema reach_text)
+  plain_here = subst (λ s. IsPlain (understood s reach_text)) (sym k.schema) reach_plain
+
+  pub reached : (rows : List Row) → Shown reach_text params old new rows
+      → (0 < limit → length rows ≡ 0 → length (archive_of old).messages < limit) × IsTrue new.is_open × Rests old new
+  reached rows h =
+      let read = reads_as reach_text params old new archive_schema k.schema _ reach_is.0 reach_plain reach_is.1 rows h in
+      let same = query_leaves old new reach_text params rows plain_here h in (
+        λ some none. fewer_messages limit (old.now.trees 8) some k.tables.messages k.tables.positive (nothing_high (overlay old.now.trees []) params rows (read.answer Null) none),
+        same.0.is_open,
+        rests old new k (inl same),
+      )
+
+  pub not_reached : (e : Error) → FailsToQuery reach_text params old new e → Rests old new
+  not_reached e h = rests old new k (query_fails old new reach_text params e plain_here h)

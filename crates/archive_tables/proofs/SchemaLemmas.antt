@@ -1,0 +1,36 @@
+-- The texts of the schema define its tables.
+use Rattle.std.proofs.Common.{◌≡◌, Ok, refl}
+use Rattle.sqlite.specs.Compile.{table_defined_by}
+use Rattle.sqlite.specs.Change.{created}
+use Rattle.sqlite.specs.Does.{sequence_text}
+use Rattle.sqlite.specs.Table.{Table}
+use Rattle.sqlite_tied.specs.Compute.{everything}
+use Rattle.archive_tables.specs.Schema.{no_schema, archive_schema, create_version, create_list, create_person, create_grant, create_message, version_table, list_table, person_table, grant_table, message_table, sequence_table}
+
+-- as a text defines it, a table has no place yet
+abbrev pub unplaced : Table → Table
+unplaced t = record t { tree = 0 }
+
+pub version_is : table_defined_by create_version ≡ Ok (unplaced version_table)
+unfolding everything
+version_is = refl
+
+pub list_is : table_defined_by create_list ≡ Ok (unplaced list_table)
+unfolding everything
+list_is = refl
+
+pub person_is : table_defined_by create_person ≡ Ok (unplaced person_table)
+unfolding everything
+person_is = refl
+
+pub grant_is : table_defined_by create_grant ≡ Ok (unplaced grant_table)
+unfolding everything
+grant_is = refl
+
+pub message_is : table_defined_by create_message ≡ Ok (unplaced message_table)
+unfolding everything
+message_is = refl
+
+pub sequence_is : table_defined_by sequence_text ≡ Ok (unplaced sequence_table)
+unfolding everything
+sequence_is = refl

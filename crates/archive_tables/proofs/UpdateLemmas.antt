@@ -1,0 +1,177 @@
+-- The statements that change a message.
+use Rattle.std.proofs.Common.{◌≡◌, inl, inr, ℕ, ℤ, pos, List, [], ◌∷◌, map, filter, codes, Ok, Err, Result, OnOk, OnErr, arith, refl, sym, ap, ap₂, subst, ◌∙◌, false, true, Bool, cond, None, Some, Option}
+use Rattle.std.specs.Prelude.{◌&&◌, bytes_eq, if◌then◌else◌}
+use Rattle.std.specs.List.Sorted.{IsPermutation}
+use Rattle.std.proofs.lemmas.List.Sorted.{length_permutation}
+use Rattle.std.proofs.lemmas.Bool.{cases_Bool}
+use Rattle.sqlite.specs.declared.error.Error.{Error}
+use Rattle.sqlite.specs.declared.types.Value.TheVariants.{Null, Int, Text, Blob}
+use Rattle.sqlite.specs.Order.{Row}
+use Rattle.sqlite.specs.Term.{Term, lit, col}
+use Rattle.sqlite.specs.Cast.{cast}
+use Rattle.sqlite.specs.Kind.TheVariants.{Integer}
+use Rattle.sqlite.specs.Query.{Query, Output, output}
+use Rattle.sqlite.specs.Command.TheVariants.{Update}
+use Rattle.sqlite.specs.Edit.{edit_of, edited, taken_by}
+use Rattle.sqlite.specs.Rowids.TheVariants.{Given}
+use Rattle.sqlite.specs.Does.{Tally, Does}
+use Rattle.sqlite.specs.Rows.{Written}
+use Rattle.sqlite.specs.Program.{overlay}
+use Rattle.sqlite.specs.Tree.{Trees, put_row, without_rowid}
+use Rattle.sqlite.specs.Listing.{understood}
+use Rattle.sqlite.specs.Effect.{Database}
+use Rattle.sqlite.specs.State.{State, mode_of, Executes}
+use Rattle.sqlite.proofs.Callers.{IsPlain, command_of, statement_of, runs_as, one_step, one_permutation}
+use Rattle.sqlite_tied.specs.Compute.{everything}
+use Rattle.sqlite_rules.specs.Calls.{ids_of}
+use Rattle.archive_machine.specs.Records.{Message, Archive}
+use Rattle.archive_tables.specs.Schema.{archive_schema, message_table}
+use Rattle.archive_tables.specs.Tables.{IsKept, Numbered, row_of, read_of, message_cells, message_read, archive_of, or_null, is_message, same_message, AreApart}
+use Rattle.archive_tables.specs.Calls.{Changes, Rests}
+use Rattle.archive_tables.proofs.RunLemmas.{passed, value_is, no_action, cast_null, cast_int, kept_by, rests, execute_fails}
+use Rattle.archive_tables.proofs.TableLemmas.{SameBut, same_but, messages_change}
+use Rattle.archive_tables.proofs.ChangeLemmas.{updated, apart_mapped}
+use Rattle.archive_tables.proofs.SelectLemmas.{plain_query, env_of, passes, picks_of, Picks, hits, equal_words, no_row, one_row}
+use Rattle.archive_tables.proofs.MessageLemmas.{message_back}
+use Rattle.archive_tables.proofs.MailboxLemmas.{at_key, has_key}
+
+-- a message of this list and key is the same as those of this list and key
+pub alike : (list key : List ℕ) (a b : Message) → is_message list key a ≡ true → same_message a b ≡ is_message list key b
+alike list key a b found =
+    let both = parts (bytes_eq a.list list) (bytes_eq a.key key) found in
+    ap₂ ◌&&◌ (ap (bytes_eq b.list) (equal_words a.list list both.0)) (ap (bytes_eq b.key) (equal_words a.key key both.1))
+  where
+    parts : (p q : Bool) → (p && q) ≡ true → (p ≡ true) × (q ≡ true)
+    parts true q h = (refl, h)
+    parts false q h = absurd cc
+
+pub cast_or_null : (o : Option ℤ) → cast Integer (or_null o) ≡ or_null o
+cast_or_null None = cast_null
+cast_or_null (Some n) = cast_int n
+
+-- ---- an UPDATE by list and key
+
+module _ (sql : List ℕ) (new_cells : List Term) (is : command_of (understood archive_schema sql) ≡ Update 4 (record { lets = []; body = plain_query 8 at_key new_cells [] }))
+    (plain : IsPlain (understood archive_schema sql)) (list key : List ℕ) (more : Row) (set : Message → Message)
+    (keeps_list : (m : Message) → (set m).list ≡ m.list) (keeps_key : (m : Message) → (set m).key ≡ m.key) where
+  abbrev params : Row
+  params = Text list ∷ Text key ∷ more
+
+  abbrev query : Query
+  query = plain_query 8 at_key new_cells []
+
+  abbrev shown_of : Numbered Message → Row
+  shown_of r = (output query (env_of params (row_of message_cells r))).1
+
+  abbrev change : Message → Message
+  change m = if is_message list key m then set m else m
+
+  keeps : (a b : Message) → same_message (change a) (change b) ≡ same_message a b
+  keeps a b = ap₂ ◌&&◌ (ap₂ bytes_eq (same_list b) (same_list a)) (ap₂ bytes_eq (same_key b) (same_key a))
+    where
+      same_list : (m : Message) → (change m).list ≡ m.list
+      same_list m = elim (is_message list key m) as (λ c. (cond c (set m) m).list ≡ m.list) [ true ↦ keeps_list m | false ↦ refl ]
+
+      same_key : (m : Message) → (change m).key ≡ m.key
+      same_key m = elim (is_message list key m) as (λ c. (cond c (set m) m).key ≡ m.key) [ true ↦ keeps_key m | false ↦ refl ]
+
+  module _ (puts : (db : Trees) (r : Numbered Message) (given : List Row) → given ≡ shown_of r ∷ []
+      → edited db (edit_of db message_table (ids_of given) Given 1 given) ≡ put_row (row_of message_cells (record r { it = set r.it })) (without_rowid r.number (db 8))) where
+    changes : (old new : State) (count : ℕ) → IsKept old → Executes sql params old new (Ok count) → Changes old new (λ a. record a { messages = map change a.messages })
+    changes old new count k h =
+        let db = old.now.trees in
+        let command = Update 4 (record { lets = []; body = query }) in
+        let w = runs_as sql params old new archive_schema k.schema command is plain count h in
+        let text = statement_of sql (understood archive_schema sql) in
+        let done = passed (subst (λ s. Does old.step_limit (mode_of old) params (record old.now { schema = s }) text None command (Ok (w.tally, new.now))) k.schema w.changed) in
+        let now = ap (λ (it : Tally × Database). it.1) (value_is (passed (passed done.2).2).2) in
+        let queried = passed done.1 in
+        let written = passed queried.2 in
+        let picks = picks_of 8 at_key new_cells [] (overlay db []) params queried.0 (queried.1.answer Null) in
+        let edit = edit_of db message_table (ids_of queried.0) Given 1 queried.0 in
+        let applied = one_step archive_schema _ db written.0 edit (no_action 8 (taken_by db edit) edit.news) written.1 in
+        let trees : new.now.trees ≡ written.0 = ap (λ (d : Database). d.trees) now ∙ ap (λ (x : Written). x.trees) (value_is written.2) in
+        let rows : new.now.trees 8 ≡ edited db edit = ap (λ (t : Trees). t 8) trees ∙ applied.rows in
+        let found = hits message_cells message_read message_back query params (is_message list key) (has_key list key more) (db 8) k.tables.messages in
+        let it = updated message_cells message_read message_back (is_message list key) set same_message (alike list key) (db 8) (edited db edit) k.tables.messages k.tables.messages_apart
+        (λ r one. puts db r queried.0 (one_row query params (db 8) queried.0 (row_of message_cells r) picks (found.0 ∙ ap (map (row_of message_cells)) one)))
+        (λ none. ap (λ l. edited db (edit_of db message_table (ids_of l) Given 1 l)) (no_row query params (db 8) queried.0 picks (found.0 ∙ ap (map (row_of message_cells)) none))) in
+        let same = subst (SameBut 8 db) (sym trees) (same_but 8 db written.0 applied.tables) in
+        let apart = subst (AreApart same_message) (sym it.1) (apart_mapped same_message change keeps (archive_of old).messages k.tables.messages_apart) in
+        let all = messages_change db new.now.trees k.tables same _ rows it.0 apart (it.2 (pos 0) k.tables.positive) in
+        (kept_by old new k w.shown (ap (λ (d : Database). d.schema) now) all.0, all.1 ∙ ap (λ l. record (archive_of old) { messages = l }) it.1)
+
+    pub tries_to_change : (old new : State) (r : Result ℕ Error) → IsKept old → Executes sql params old new r
+        → OnOk r (Changes old new (λ a. record a { messages = map change a.messages })) × OnErr r (Rests old new)
+    tries_to_change old new (Ok count) k h = (changes old new count k h, tt)
+    tries_to_change old new (Err e) k h = (tt, rests old new k (execute_fails old new sql params e h))
+
+-- ---- the two texts
+
+abbrev pub withdrawn_text : List ℕ
+withdrawn_text = codes "UPDATE message SET withdrawn = ?3 WHERE list = ?1 AND key = ?2"
+
+-- the number of the row, and then the new row
+abbrev withdrawn_cells : List Term
+withdrawn_cells = col 1 0 ∷ col 1 0 ∷ lit Null ∷ col 1 2 ∷ col 1 3 ∷ col 1 4 ∷ col 1 5 ∷ col 1 6 ∷ col 0 2 ∷ col 1 8 ∷ []
+
+withdrawn_is : command_of (understood archive_schema withdrawn_text) ≡ Update 4 (record { lets = []; body = plain_query 8 at_key withdrawn_cells [] })
+unfolding understood everything
+withdrawn_is = refl
+
+withdrawn_plain : IsPlain (understood archive_schema withdrawn_text)
+unfolding understood everything
+withdrawn_plain = (refl, refl)
+
+abbrev pub embargo_text : List ℕ
+embargo_text = codes "UPDATE message SET embargo = ?3 WHERE list = ?1 AND key = ?2"
+
+abbrev embargo_cells : List Term
+embargo_cells = col 1 0 ∷ col 1 0 ∷ lit Null ∷ col 1 2 ∷ col 1 3 ∷ col 1 4 ∷ col 1 5 ∷ col 1 6 ∷ col 1 7 ∷ col 0 2 ∷ []
+
+embargo_is : command_of (understood archive_schema embargo_text) ≡ Update 4 (record { lets = []; body = plain_query 8 at_key embargo_cells [] })
+unfolding understood everything
+embargo_is = refl
+
+embargo_plain : IsPlain (understood archive_schema embargo_text)
+unfolding understood everything
+embargo_plain = (refl, refl)
+
+abbrev pub clear_text : List ℕ
+clear_text = codes "UPDATE message SET embargo = NULL WHERE list = ?1 AND key = ?2"
+
+abbrev clear_cells : List Term
+clear_cells = col 1 0 ∷ col 1 0 ∷ lit Null ∷ col 1 2 ∷ col 1 3 ∷ col 1 4 ∷ col 1 5 ∷ col 1 6 ∷ col 1 7 ∷ lit Null ∷ []
+
+clear_is : command_of (understood archive_schema clear_text) ≡ Update 4 (record { lets = []; body = plain_query 8 at_key clear_cells [] })
+unfolding understood everything
+clear_is = refl
+
+clear_plain : IsPlain (understood archive_schema clear_text)
+unfolding understood everything
+clear_plain = (refl, refl)
+
+withdrawn_puts : (db : Trees) (r : Numbered Message) (by : ℤ) (given : List Row)
+    → given ≡ (Int r.number ∷ Int r.number ∷ Null ∷ Text r.it.list ∷ Text r.it.key ∷ Blob r.it.sender ∷ Int r.it.arrival ∷ Blob r.it.text ∷ Int by ∷ or_null r.it.embargo ∷ []) ∷ []
+    → edited db (edit_of db message_table (ids_of given) Given 1 given) ≡ put_row (row_of message_cells (record r { it = record r.it { withdrawn = by } })) (without_rowid r.number (db 8))
+withdrawn_puts db r by given from = rw (from, cast_null, cast_int r.number, cast_int r.it.arrival, cast_int by, cast_or_null r.it.embargo)
+
+embargo_puts : (db : Trees) (r : Numbered Message) (until : Option ℤ) (given : List Row)
+    → given ≡ (Int r.number ∷ Int r.number ∷ Null ∷ Text r.it.list ∷ Text r.it.key ∷ Blob r.it.sender ∷ Int r.it.arrival ∷ Blob r.it.text ∷ Int r.it.withdrawn ∷ or_null until ∷ []) ∷ []
+    → edited db (edit_of db message_table (ids_of given) Given 1 given) ≡ put_row (row_of message_cells (record r { it = record r.it { embargo = until } })) (without_rowid r.number (db 8))
+embargo_puts db r until given from = rw (from, cast_null, cast_int r.number, cast_int r.it.arrival, cast_int r.it.withdrawn, cast_or_null until)
+
+pub tries_withdrawn : (list key : List ℕ) (by : ℤ) (old new : State) (r : Result ℕ Error) → IsKept old → Executes withdrawn_text (Text list ∷ Text key ∷ Int by ∷ []) old new r
+    → OnOk r (Changes old new (λ a. record a { messages = map (λ m. if is_message list key m then record m { withdrawn = by } else m) a.messages })) × OnErr r (Rests old new)
+tries_withdrawn list key by = tries_to_change withdrawn_text withdrawn_cells withdrawn_is withdrawn_plain list key (Int by ∷ []) (λ m. record m { withdrawn = by }) (λ m. refl) (λ m. refl)
+    (λ db r given from. withdrawn_puts db r by given from)
+
+pub tries_embargo : (list key : List ℕ) (until : ℤ) (old new : State) (r : Result ℕ Error) → IsKept old → Executes embargo_text (Text list ∷ Text key ∷ Int until ∷ []) old new r
+    → OnOk r (Changes old new (λ a. record a { messages = map (λ m. if is_message list key m then record m { embargo = Some until } else m) a.messages })) × OnErr r (Rests old new)
+tries_embargo list key until = tries_to_change embargo_text embargo_cells embargo_is embargo_plain list key (Int until ∷ []) (λ m. record m { embargo = Some until }) (λ m. refl) (λ m. refl)
+    (λ db r given from. embargo_puts db r (Some until) given from)
+
+pub tries_to_clear : (list key : List ℕ) (old new : State) (r : Result ℕ Error) → IsKept old → Executes clear_text (Text list ∷ Text key ∷ []) old new r
+    → OnOk r (Changes old new (λ a. record a { messages = map (λ m. if is_message list key m then record m { embargo = None } else m) a.messages })) × OnErr r (Rests old new)
+tries_to_clear list key = tries_to_change clear_text clear_cells clear_is clear_plain list key [] (λ m. record m { embargo = None }) (λ m. refl) (λ m. refl)
+    (λ db r given from. embargo_puts db r None given from)

@@ -1,0 +1,34 @@
+use Rattle.std.proofs.Common.{◌≡◌, ℕ, List, [], ◌∷◌, map, filter, codes, bytes_eq, Ok, Err, Result, IfOk, IfErr, OnOk}
+use Rattle.std.specs.Prelude.{IsTrue, ◌&&◌, Vec}
+use Rattle.std.specs.declared.alloc.Global.{Global}
+use Rattle.sqlite.specs.declared.error.Error.{Error}
+use Rattle.sqlite.specs.declared.types.Value.TheVariants.{Text}
+use Rattle.sqlite.specs.Order.{Row}
+use Rattle.sqlite.specs.Held.{state}
+use Rattle.sqlite.specs.State.{State, Shown, FailsToQuery}
+use Rattle.archive_tables.specs.Tables.{IsKept, archive_of}
+use Rattle.archive_tables.specs.Rows.{grant_shown}
+use Rattle.archive_tables.specs.Calls.{Rests}
+use Rattle.archive_tables.proofs.GrantLemmas.{both_text, of_person, not_of_person}
+use Rattle.archive_tables.proofs.texts.grants.grants_of.Goals as goal
+
+asked : (old new : State) (person list : List ℕ) (r : Result (Vec Row Global) Error) → IsKept old → IfOk r (λ rows. Shown both_text (Text person ∷ Text list ∷ []) old new rows.items)
+    → IfErr r (FailsToQuery both_text (Text person ∷ Text list ∷ []) old new)
+    → IfOk r (λ rows. rows.items ≡ map grant_shown (filter (λ g. bytes_eq g.person person && bytes_eq g.list list) (archive_of old).grants)) × OnOk r (IsTrue new.is_open) × Rests old new
+asked old new person list (Ok rows) k ok err = of_person old new person list k rows.items ok
+asked old new person list (Err e) k ok err = (tt, tt, not_of_person old new person list k e err)
+
+pub returns-clause-found : goal.returns-clause-found
+returns-clause-found g c clean k =
+    (asked (state g.S.Store c.args.conn.now) (state g.S.Store c.query_all.new.self) c.args.person.now c.args.list.now c.query_all.result k (rw (c.params-to_sql.ensures, c.params-to_sql-2.ensures) at (c.query_all.ensures.ok clean))
+    (rw (c.params-to_sql.ensures, c.params-to_sql-2.ensures) at (c.query_all.ensures.err clean))).0
+
+pub returns-clause-up : goal.returns-clause-up
+returns-clause-up g c clean k =
+    (asked (state g.S.Store c.args.conn.now) (state g.S.Store c.query_all.new.self) c.args.person.now c.args.list.now c.query_all.result k (rw (c.params-to_sql.ensures, c.params-to_sql-2.ensures) at (c.query_all.ensures.ok clean))
+    (rw (c.params-to_sql.ensures, c.params-to_sql-2.ensures) at (c.query_all.ensures.err clean))).1
+
+pub returns-clause-same : goal.returns-clause-same
+returns-clause-same g c clean k =
+    (asked (state g.S.Store c.args.conn.now) (state g.S.Store c.query_all.new.self) c.args.person.now c.args.list.now c.query_all.result k (rw (c.params-to_sql.ensures, c.params-to_sql-2.ensures) at (c.query_all.ensures.ok clean))
+    (rw (c.params-to_sql.ensures, c.params-to_sql-2.ensures) at (c.query_all.ensures.err clean))).2

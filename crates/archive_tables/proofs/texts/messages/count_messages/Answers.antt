@@ -1,0 +1,24 @@
+use Rattle.std.proofs.Common.{◌∙◌, rules}
+use Rattle.std.specs.Prelude.{◌≡◌, length}
+use Rattle.std.specs.Vec.{vec_len}
+use Rattle.sqlite.specs.Held.{state}
+use Rattle.archive_tables.proofs.MailboxLemmas.{count, no_count}
+use Rattle.archive_tables.proofs.texts.messages.count_messages.Goals as goal
+
+pub returns-clause-found : goal.returns-clause-found
+returns-clause-found g c clean k =
+    let it = count (state g.S.Store c.args.conn.now) (state g.S.Store c.query_all.new.self) c.args.list.now k c.in_ok-rows.rows.items (rw c.params-to_sql.ensures at (c.in_ok-rows.ensures.ok clean)) in
+    let len : vec_len c.in_ok-rows.rows ≡ length c.in_ok-rows.rows.items = search rules in
+    c.len.ensures ∙ len ∙ it.0
+
+pub returns-clause-same : goal.returns-clause-same
+returns-clause-same g c clean k =
+    (count (state g.S.Store c.args.conn.now) (state g.S.Store c.query_all.new.self) c.args.list.now k c.in_ok-rows.rows.items (rw c.params-to_sql.ensures at (c.in_ok-rows.ensures.ok clean))).2
+
+pub returns-in_err-rows-clause-same : goal.returns-in_err-rows-clause-same
+returns-in_err-rows-clause-same g c clean k =
+    no_count (state g.S.Store c.args.conn.now) (state g.S.Store c.query_all.new.self) c.args.list.now k c.in_err-rows.field-0.0 (rw c.params-to_sql.ensures at (c.in_err-rows.ensures.err clean))
+
+pub returns-clause-up : goal.returns-clause-up
+returns-clause-up g c clean k =
+    (count (state g.S.Store c.args.conn.now) (state g.S.Store c.query_all.new.self) c.args.list.now k c.in_ok-rows.rows.items (rw c.params-to_sql.ensures at (c.in_ok-rows.ensures.ok clean))).1

@@ -1,0 +1,27 @@
+use Rattle.std.proofs.Common.{ℕ, ap, sym, ◌∙◌, rules, arith, false}
+use Rattle.std.specs.Prelude.{◌≡◌, not, ◌==◌, length}
+use Rattle.std.specs.Vec.{vec_len}
+use Rattle.sqlite.specs.Held.{state}
+use Rattle.archive_tables.proofs.ReachLemmas.{reached, not_reached}
+use Rattle.archive_tables.proofs.texts.messages.reaches.Goals as goal
+
+empty_is : (n : ℕ) → not (n == 0) ≡ false → n ≡ 0
+empty_is n h = grind arith
+
+pub returns-clause-found : goal.returns-clause-found
+returns-clause-found g c clean k some missed =
+    let it = reached (state g.S.Store c.args.conn.now) (state g.S.Store c.query_all.new.self) c.args.limit k c.in_ok-rows.rows.items (rw c.params-to_sql.ensures at (c.in_ok-rows.ensures.ok clean)) in
+    let len : vec_len c.in_ok-rows.rows ≡ length c.in_ok-rows.rows.items = search rules in
+    it.0 some (sym len ∙ empty_is _ (ap not (sym c.is_empty.ensures) ∙ missed))
+
+pub returns-clause-same : goal.returns-clause-same
+returns-clause-same g c clean k =
+    (reached (state g.S.Store c.args.conn.now) (state g.S.Store c.query_all.new.self) c.args.limit k c.in_ok-rows.rows.items (rw c.params-to_sql.ensures at (c.in_ok-rows.ensures.ok clean))).2
+
+pub returns-in_err-rows-clause-same : goal.returns-in_err-rows-clause-same
+returns-in_err-rows-clause-same g c clean k =
+    not_reached (state g.S.Store c.args.conn.now) (state g.S.Store c.query_all.new.self) c.args.limit k c.in_err-rows.field-0.0 (rw c.params-to_sql.ensures at (c.in_err-rows.ensures.err clean))
+
+pub returns-clause-up : goal.returns-clause-up
+returns-clause-up g c clean k =
+    (reached (state g.S.Store c.args.conn.now) (state g.S.Store c.query_all.new.self) c.args.limit k c.in_ok-rows.rows.items (rw c.params-to_sql.ensures at (c.in_ok-rows.ensures.ok clean))).1

@@ -1,0 +1,25 @@
+use Rattle.std.proofs.Common.{ap, ◌∙◌, rules}
+use Rattle.std.specs.Prelude.{◌≡◌, not, ◌==◌, length}
+use Rattle.std.specs.Vec.{vec_len}
+use Rattle.sqlite.specs.Held.{state}
+use Rattle.archive_tables.proofs.PersonLemmas.{has_token, has_no_token}
+use Rattle.archive_tables.proofs.texts.persons.has_token.Goals as goal
+
+pub returns-clause-found : goal.returns-clause-found
+returns-clause-found g c clean k =
+    let shown = rw c.params-to_sql.ensures at (c.in_ok-rows.ensures.ok clean) in
+    let it = has_token (state g.S.Store c.args.conn.now) (state g.S.Store c.query_all.new.self) c.args.token.now k c.in_ok-rows.rows.items shown in
+    let len : vec_len c.in_ok-rows.rows ≡ length c.in_ok-rows.rows.items = search rules in
+    ap not c.is_empty.ensures ∙ ap (λ n. not (n == 0)) len ∙ it.0
+
+pub returns-clause-same : goal.returns-clause-same
+returns-clause-same g c clean k =
+    (has_token (state g.S.Store c.args.conn.now) (state g.S.Store c.query_all.new.self) c.args.token.now k c.in_ok-rows.rows.items (rw c.params-to_sql.ensures at (c.in_ok-rows.ensures.ok clean))).2
+
+pub returns-in_err-rows-clause-same : goal.returns-in_err-rows-clause-same
+returns-in_err-rows-clause-same g c clean k =
+    has_no_token (state g.S.Store c.args.conn.now) (state g.S.Store c.query_all.new.self) c.args.token.now k c.in_err-rows.field-0.0 (rw c.params-to_sql.ensures at (c.in_err-rows.ensures.err clean))
+
+pub returns-clause-up : goal.returns-clause-up
+returns-clause-up g c clean k =
+    (has_token (state g.S.Store c.args.conn.now) (state g.S.Store c.query_all.new.self) c.args.token.now k c.in_ok-rows.rows.items (rw c.params-to_sql.ensures at (c.in_ok-rows.ensures.ok clean))).1

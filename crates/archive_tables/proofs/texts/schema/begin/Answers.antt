@@ -1,0 +1,26 @@
+use Rattle.std.proofs.Common.{◌≡◌, ◌⊎◌, ℕ, [], Ok, Err, Result, OnOk, OnErr, false}
+use Rattle.std.specs.Prelude.{IsTrue}
+use Rattle.sqlite.specs.declared.error.Error.{Error}
+use Rattle.sqlite.specs.Effect.{Database}
+use Rattle.sqlite.specs.Held.{state}
+use Rattle.sqlite.specs.State.{State, Executes, IsUnchanged, IsRolledBack}
+use Rattle.archive_tables.specs.Schema.{no_schema, with_version, with_list, with_person, with_grant, archive_schema, create_version, create_list, create_person, create_grant, create_message}
+use Rattle.archive_tables.specs.Tables.{IsKept, archive_of}
+use Rattle.archive_tables.specs.Making.{IsMaking, IsMade, empty_archive}
+use Rattle.archive_tables.proofs.RunLemmas.{execute_fails}
+use Rattle.archive_tables.proofs.MakeLemmas.{begins, begin_text}
+use Rattle.archive_tables.proofs.texts.schema.begin.Goals as goal
+
+done : (old new : State) → old.now.schema ≡ no_schema → (r : Result ℕ Error) → Executes begin_text [] old new r → OnOk r (IsMaking new no_schema old.committed)
+done old new has (Ok count) h = begins old new count has h
+done old new has (Err e) h = tt
+
+stops : (old new : State) (r : Result ℕ Error) → Executes begin_text [] old new r → OnErr r (IsUnchanged old new ⊎ IsRolledBack old new)
+stops old new (Ok count) h = tt
+stops old new (Err e) h = execute_fails old new begin_text [] e h
+
+pub returns-clause-begun : goal.returns-clause-begun
+returns-clause-begun g c clean has = done (state g.S.Store c.args.conn.now) (state g.S.Store c.execute.new.self) has c.execute.result (c.execute.ensures.runs clean)
+
+pub returns-clause-stopped : goal.returns-clause-stopped
+returns-clause-stopped g c clean = stops (state g.S.Store c.args.conn.now) (state g.S.Store c.execute.new.self) c.execute.result (c.execute.ensures.runs clean)

@@ -1,0 +1,26 @@
+use Rattle.std.proofs.Common.{◌≡◌, ◌⊎◌, ℕ, [], Ok, Err, Result, OnOk, OnErr, false}
+use Rattle.std.specs.Prelude.{IsTrue}
+use Rattle.sqlite.specs.declared.error.Error.{Error}
+use Rattle.sqlite.specs.Effect.{Database}
+use Rattle.sqlite.specs.Held.{state}
+use Rattle.sqlite.specs.State.{State, Executes, IsUnchanged, IsRolledBack}
+use Rattle.archive_tables.specs.Schema.{no_schema, with_version, with_list, with_person, with_grant, archive_schema, create_version, create_list, create_person, create_grant, create_message}
+use Rattle.archive_tables.specs.Tables.{IsKept, archive_of}
+use Rattle.archive_tables.specs.Making.{IsMaking, IsMade, empty_archive}
+use Rattle.archive_tables.proofs.RunLemmas.{execute_fails}
+use Rattle.archive_tables.proofs.MakeLemmas.{makes_grant}
+use Rattle.archive_tables.proofs.texts.schema.create_grant.Goals as goal
+
+done : (old new : State) (before : Database) → IsMaking old with_person before → (r : Result ℕ Error) → Executes create_grant [] old new r → OnOk r (IsMaking new with_grant before)
+done old new before k (Ok count) h = makes_grant old new before count k h
+done old new before k (Err e) h = tt
+
+stops : (old new : State) (r : Result ℕ Error) → Executes create_grant [] old new r → OnErr r (IsUnchanged old new ⊎ IsRolledBack old new)
+stops old new (Ok count) h = tt
+stops old new (Err e) h = execute_fails old new create_grant [] e h
+
+pub returns-clause-made : goal.returns-clause-made
+returns-clause-made g c clean before k = done (state g.S.Store c.args.conn.now) (state g.S.Store c.execute.new.self) before k c.execute.result (c.execute.ensures.runs clean)
+
+pub returns-clause-stopped : goal.returns-clause-stopped
+returns-clause-stopped g c clean = stops (state g.S.Store c.args.conn.now) (state g.S.Store c.execute.new.self) c.execute.result (c.execute.ensures.runs clean)

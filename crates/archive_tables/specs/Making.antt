@@ -1,0 +1,37 @@
+-- How the tables are made: all within one transaction, so that all of them are there or none.
+use Rattle.std.specs.Prelude.{◌≡◌, ◌⊎◌, true, ℕ, pos, List, [], ◌∷◌, IsTrue, Result, OnErr}
+use Rattle.std.specs.List.{AllByRecursion}
+use Rattle.sqlite.specs.declared.error.Error.{Error}
+use Rattle.sqlite.specs.Effect.{Database}
+use Rattle.sqlite.specs.Held.{Held, state}
+use Rattle.sqlite.specs.Schema.{Schema}
+use Rattle.sqlite.specs.State.{State, HasCleanDisk, IsUnchanged, IsRolledBack}
+use Rattle.sqlite.specs.Store.{Ghosts}
+use Rattle.sqlite.specs.Table.{Table}
+use Rattle.archive_machine.specs.Records.{Archive}
+use Rattle.archive_tables.specs.Schema.{archive_schema}
+use Rattle.archive_tables.specs.Tables.{AreTables, archive_of}
+
+abbrev pub empty_archive : Archive
+empty_archive = record { lists = []; persons = []; grants = []; messages = [] }
+
+-- the tables of this schema are there, without rows, in a transaction that goes back to this database
+pub record IsMaking (s : State) (schema : Schema) (before : Database) : Type 0 where
+  pub is_open : IsTrue s.is_open
+  pub within : s.in_transaction ≡ true
+  pub behind : s.committed ≡ before
+  pub schema_is : s.now.schema ≡ schema
+  pub empty : AllByRecursion (λ (t : Table). s.now.trees t.tree ≡ []) schema.tables
+
+-- all is there but the commit
+pub record IsMade (s : State) (before : Database) : Type 0 where
+  pub is_open : IsTrue s.is_open
+  pub within : s.in_transaction ≡ true
+  pub behind : s.committed ≡ before
+  pub schema_is : s.now.schema ≡ archive_schema
+  pub tables : AreTables s.now.trees
+  pub nothing : archive_of s ≡ empty_archive
+
+-- a statement that fails changes nothing, or goes back to the last commit
+abbrev pub Stops : {S A : Type 0} → Ghosts S → Held S → Held S → Result A Error → Type 0
+Stops g old new result = HasCleanDisk (state g new) → OnErr result (IsUnchanged (state g old) (state g new) ⊎ IsRolledBack (state g old) (state g new))

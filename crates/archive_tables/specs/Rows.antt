@@ -1,0 +1,37 @@
+-- What the queries show of a record, and the record of what was read.
+use Rattle.std.specs.Prelude.{ℕ, ℤ, pos, List, [], ◌∷◌, string_bytes, None}
+use Rattle.sqlite.specs.declared.types.Value.TheVariants.{Int, Text, Blob}
+use Rattle.sqlite.specs.Order.{Row}
+use Rattle.archive_machine.specs.Records.{Person, Grant, Message}
+use Rattle.archive_tables.specs.Tables.{or_null}
+use Rattle.archive_tables.specs.declared.rows.MessageRow.{MessageRow}
+use Rattle.archive_tables.specs.declared.rows.GrantRow.{GrantRow}
+
+-- a message as it comes in: not withdrawn, and under no embargo
+abbrev pub new_message : List ℕ → List ℕ → List ℕ → ℤ → List ℕ → Message
+new_message list key sender arrival text = record { list = list; key = key; sender = sender; arrival = arrival; text = text; withdrawn = pos 0; embargo = None }
+
+abbrev pub name_shown : List ℕ → Row
+name_shown name = Text name ∷ []
+
+-- a message without its list
+abbrev pub message_shown : Message → Row
+message_shown m = Text m.key ∷ Blob m.sender ∷ Int m.arrival ∷ Blob m.text ∷ Int m.withdrawn ∷ or_null m.embargo ∷ []
+
+abbrev pub message_in : List ℕ → MessageRow → Message
+message_in list r = record {
+  list = list;
+  key = string_bytes r.key;
+  sender = r.sender.items;
+  arrival = r.arrival;
+  text = r.text.items;
+  withdrawn = r.withdrawn;
+  embargo = r.embargo;
+}
+
+-- a grant without its person and list
+abbrev pub grant_shown : Grant → Row
+grant_shown g = Int g.rank ∷ Int g.from_day ∷ Int g.until_day ∷ []
+
+abbrev pub grant_in : List ℕ → List ℕ → GrantRow → Grant
+grant_in person list r = record { person = person; list = list; rank = r.rank; from_day = r.from_day; until_day = r.until_day }

@@ -1,0 +1,146 @@
+-- The tables of the archive, as SQL texts and as the schema that these texts make.
+use Rattle.std.specs.Prelude.{Bool, true, false, ℕ, ℤ, pos, negsuc, List, [], ◌∷◌, Some, None, codes}
+use Rattle.sqlite.specs.declared.types.Value.TheVariants.{Null, Int}
+use Rattle.sqlite.specs.Collation.TheVariants.{Binary}
+use Rattle.sqlite.specs.Kind.{Kind}
+use Rattle.sqlite.specs.Kind.TheVariants.{Integer, Text, Blob, Any}
+use Rattle.sqlite.specs.Change.{created}
+use Rattle.sqlite.specs.Table.{Table}
+use Rattle.sqlite.specs.Schema.{Schema}
+use Rattle.sqlite.specs.Term.{Term, lit, col, op2}
+use Rattle.sqlite_sql.specs.declared.ops.BinaryOp.TheVariants.{And, Compare}
+use Rattle.sqlite_sql.specs.declared.ops.CompareOp.TheVariants.{Ge, Le}
+use Rattle.sqlite_schema.specs.declared.schema.Column.{Column}
+use Rattle.sqlite_schema.specs.declared.schema.Reference.{Reference}
+use Rattle.sqlite_schema.specs.declared.schema.Index.{Index}
+use Rattle.sqlite_schema.specs.declared.schema.Action.TheVariants.{NoAction}
+use Rattle.sqlite_value.specs.Keys.{plain}
+
+-- ---- the texts
+
+abbrev pub create_version : List ℕ
+create_version = codes "CREATE TABLE version (number INTEGER NOT NULL) STRICT"
+
+abbrev pub create_list : List ℕ
+create_list = codes "CREATE TABLE list (name TEXT NOT NULL PRIMARY KEY) STRICT"
+
+abbrev pub create_person : List ℕ
+create_person = codes "CREATE TABLE person (name TEXT NOT NULL PRIMARY KEY, token TEXT NOT NULL UNIQUE) STRICT"
+
+abbrev pub create_grant : List ℕ
+create_grant = codes "CREATE TABLE grant_row (person TEXT NOT NULL REFERENCES person (name), list TEXT NOT NULL REFERENCES list (name), kind INTEGER NOT NULL CHECK (kind BETWEEN 1 AND 3), from_day INTEGER NOT NULL CHECK (from_day BETWEEN -25567 AND 2932531), until_day INTEGER NOT NULL CHECK (until_day BETWEEN -25567 AND 2932531), PRIMARY KEY (person, list, kind), CHECK (from_day <= until_day)) STRICT"
+
+abbrev pub create_message : List ℕ
+create_message = codes "CREATE TABLE message (pos INTEGER PRIMARY KEY AUTOINCREMENT, list TEXT NOT NULL REFERENCES list (name), key TEXT NOT NULL, sender BLOB NOT NULL, arrival INTEGER NOT NULL, text BLOB NOT NULL, withdrawn INTEGER NOT NULL CHECK (withdrawn BETWEEN 0 AND 2), embargo INTEGER CHECK (embargo BETWEEN -25567 AND 2932531), UNIQUE (list, key)) STRICT"
+
+-- ---- what they define: a tree for the rows of each table, and one for each key that is no rowid
+
+abbrev needed : List ℕ → Kind → Column
+needed name kind = record { name = name; kind = kind; is_strict = true; not_null = true; default = Null; collation = Binary }
+
+abbrev optional : List ℕ → Kind → Column
+optional name kind = record { name = name; kind = kind; is_strict = true; not_null = false; default = Null; collation = Binary }
+
+abbrev free : List ℕ → Column
+free name = record { name = name; kind = Any; is_strict = false; not_null = false; default = Null; collation = Binary }
+
+-- the column refers to the name of a row of another table
+abbrev names_row_of : List ℕ → ℕ → Reference
+names_row_of parent place = record {
+  columns = place ∷ [];
+  parent = parent;
+  parent_columns = codes "name" ∷ [];
+  on_delete = NoAction;
+  on_update = NoAction;
+  is_deferred = false;
+}
+
+abbrev is_within : ℤ → ℤ → ℕ → Term
+is_within low high place = op2 And (op2 (Compare Ge Binary) (col 1 place) (lit (Int low))) (op2 (Compare Le Binary) (col 1 place) (lit (Int high)))
+
+-- 1900-01-01 to 9998-12-31
+abbrev is_day : ℕ → Term
+is_day = is_within (negsuc 25566) (pos 2932531)
+
+abbrev table : List ℕ → ℕ → List Column → Table
+table name tree columns = record {
+  name = name;
+  tree = tree;
+  columns = columns;
+  key = None;
+  primary = [];
+  uniques = [];
+  orders = [];
+  checks = [];
+  references = [];
+  computed = [];
+  stamps = record { places = []; terms = []; formats = [] };
+  is_counted = false;
+}
+
+abbrev pub version_table : Table
+version_table = table (codes "version") 0 (needed (codes "number") Integer ∷ [])
+
+abbrev pub list_table : Table
+list_table = record (table (codes "list") 1 (needed (codes "name") Text ∷ [])) { primary = 1 ∷ []; uniques = (1 ∷ []) ∷ []; orders = plain ∷ [] }
+
+abbrev pub person_table : Table
+person_table = record (table (codes "person") 3 (needed (codes "name") Text ∷ needed (codes "token") Text ∷ []))
+    { primary = 1 ∷ []; uniques = (1 ∷ []) ∷ (2 ∷ []) ∷ []; orders = plain ∷ plain ∷ [] }
+
+abbrev pub grant_table : Table
+grant_table = record (table (codes "grant_row") 6 (needed (codes "person") Text ∷ needed (codes "list") Text ∷ needed (codes "kind") Integer
+    ∷ needed (codes "from_day") Integer ∷ needed (codes "until_day") Integer ∷ [])) {
+      primary = 1 ∷ 2 ∷ 3 ∷ [];
+      uniques = (1 ∷ 2 ∷ 3 ∷ []) ∷ [];
+      orders = plain ∷ [];
+      checks = is_within (pos 1) (pos 3) 3 ∷ is_day 4 ∷ is_day 5 ∷ op2 (Compare Le Binary) (col 1 4) (col 1 5) ∷ [];
+      references = names_row_of (codes "person") 1 ∷ names_row_of (codes "list") 2 ∷ [];
+    }
+
+abbrev pub message_table : Table
+message_table = record (table (codes "message") 8 (optional (codes "pos") Integer ∷ needed (codes "list") Text ∷ needed (codes "key") Text
+    ∷ needed (codes "sender") Blob ∷ needed (codes "arrival") Integer ∷ needed (codes "text") Blob ∷ needed (codes "withdrawn") Integer
+    ∷ optional (codes "embargo") Integer ∷ [])) {
+      key = Some 0;
+      primary = 0 ∷ [];
+      uniques = (2 ∷ 3 ∷ []) ∷ [];
+      orders = plain ∷ [];
+      checks = is_within (pos 0) (pos 2) 7 ∷ is_day 8 ∷ [];
+      references = names_row_of (codes "list") 2 ∷ [];
+      is_counted = true;
+    }
+
+-- the highest number that AUTOINCREMENT has given, in a table that the first such table brings along
+abbrev pub sequence_table : Table
+sequence_table = table (codes "sqlite_sequence") 10 (free (codes "name") ∷ free (codes "seq") ∷ [])
+
+abbrev key_of : List ℕ → ℕ → ℕ → List ℕ → Index
+key_of name tree table columns = record { name = name; tree = tree; table = table; columns = columns; order = plain; is_unique = true }
+
+abbrev pub no_schema : Schema
+no_schema = record { tables = []; indexes = []; views = [] }
+
+abbrev pub archive_schema : Schema
+archive_schema = record {
+  tables = version_table ∷ list_table ∷ person_table ∷ grant_table ∷ message_table ∷ sequence_table ∷ [];
+  indexes =
+      key_of (codes "sqlite_autoindex_list_1") 2 1 (1 ∷ []) ∷ key_of (codes "sqlite_autoindex_person_1") 4 3 (1 ∷ [])
+      ∷ key_of (codes "sqlite_autoindex_person_2") 5 3 (2 ∷ []) ∷ key_of (codes "sqlite_autoindex_grant_row_1") 7 6 (1 ∷ 2 ∷ 3 ∷ [])
+      ∷ key_of (codes "sqlite_autoindex_message_1") 9 8 (2 ∷ 3 ∷ []) ∷ [];
+  views = [];
+}
+
+-- ---- what is there after each of the texts
+
+abbrev pub with_version : Schema
+with_version = created no_schema version_table
+
+abbrev pub with_list : Schema
+with_list = created with_version list_table
+
+abbrev pub with_person : Schema
+with_person = created with_list person_table
+
+abbrev pub with_grant : Schema
+with_grant = created with_person grant_table

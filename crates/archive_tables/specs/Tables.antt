@@ -1,0 +1,140 @@
+-- What the tables hold: each as a list of records, in the order of the rows' numbers. An update keeps a row's number, so this is
+-- the order in which the records came.
+use Rattle.std.specs.Prelude.{◌≡◌, ⊤, ℕ, ℤ, pos, Bool, false, ◌&&◌, IsTrue, List, [], ◌∷◌, map, bytes_eq, Option, Some, None}
+use Rattle.std.specs.List.{AllByRecursion, list_any}
+use Rattle.std.specs.Ordering.{int_eq}
+use Rattle.std.specs.declared.cmp.Ordering.TheVariants.{Less}
+use Rattle.sqlite.specs.declared.types.Value.{Value}
+use Rattle.sqlite.specs.declared.types.Value.TheVariants.{Null, Int, Text, Blob}
+use Rattle.sqlite.specs.Order.{Row, column, bytes, value_cmp}
+use Rattle.sqlite.specs.Tree.{Trees, IsTable, rowid}
+use Rattle.sqlite.specs.Edit.{id_in}
+use Rattle.sqlite.specs.State.{State}
+use Rattle.archive_machine.specs.Records.{Person, Grant, Message, Archive}
+use Rattle.archive_tables.specs.Schema.{archive_schema}
+
+-- ---- the columns of a record, and the record of a row; a row begins with its number
+
+abbrev pub or_null : Option ℤ → Value
+or_null None = Null
+or_null (Some n) = Int n
+
+abbrev pub if_int : Value → Option ℤ
+if_int (Int n) = Some n
+if_int _ = None
+
+abbrev pub list_cells : List ℕ → Row
+list_cells name = Text name ∷ []
+
+abbrev pub list_read : Row → List ℕ
+list_read row = bytes (column row 1)
+
+abbrev pub person_cells : Person → Row
+person_cells p = Text p.name ∷ Text p.token ∷ []
+
+abbrev pub person_read : Row → Person
+person_read row = record { name = bytes (column row 1); token = bytes (column row 2) }
+
+abbrev pub grant_cells : Grant → Row
+grant_cells g = Text g.person ∷ Text g.list ∷ Int g.rank ∷ Int g.from_day ∷ Int g.until_day ∷ []
+
+abbrev pub grant_read : Row → Grant
+grant_read row = record {
+  person = bytes (column row 1);
+  list = bytes (column row 2);
+  rank = id_in (column row 3);
+  from_day = id_in (column row 4);
+  until_day = id_in (column row 5);
+}
+
+-- the number stands in the place of the column `pos`
+abbrev pub message_cells : Message → Row
+message_cells m = Null ∷ Text m.list ∷ Text m.key ∷ Blob m.sender ∷ Int m.arrival ∷ Blob m.text ∷ Int m.withdrawn ∷ or_null m.embargo ∷ []
+
+abbrev pub message_read : Row → Message
+message_read row = record {
+  list = bytes (column row 2);
+  key = bytes (column row 3);
+  sender = bytes (column row 4);
+  arrival = id_in (column row 5);
+  text = bytes (column row 6);
+  withdrawn = id_in (column row 7);
+  embargo = if_int (column row 8);
+}
+
+-- ---- the rows of a table
+
+pub record Numbered (R : Type 0) : Type 0 where
+  pub number : ℤ
+  pub it : R
+
+abbrev pub row_of : {R : Type 0} → (R → Row) → Numbered R → Row
+row_of cells r = Int r.number ∷ cells r.it
+
+abbrev pub read_of : {R : Type 0} → (Row → R) → Row → Numbered R
+read_of read row = record { number = id_in (rowid row); it = read row }
+
+-- rows of records, with rising numbers
+pub record Holds {R : Type 0} (cells : R → Row) (read : Row → R) (rows : List Row) : Type 0 where
+  pub coded : rows ≡ map (row_of cells) (map (read_of read) rows)
+  pub rise : IsTable rows
+
+-- no two are the same
+abbrev pub AreApart : {R : Type 0} → (R → R → Bool) → List R → Type 0
+AreApart same [] = ⊤
+AreApart same (r ∷ rest) = (list_any (same r) rest ≡ false) × AreApart same rest
+
+-- every number is above zero
+abbrev pub ArePositive : List Row → Type 0
+ArePositive = AllByRecursion (λ row. value_cmp (Int (pos 0)) (rowid row) ≡ Less)
+
+-- ---- keys of records
+
+abbrev pub is_grant : List ℕ → List ℕ → ℤ → Grant → Bool
+is_grant person list rank g = bytes_eq g.person person && (bytes_eq g.list list && int_eq g.rank rank)
+
+abbrev pub is_message : List ℕ → List ℕ → Message → Bool
+is_message list key m = bytes_eq m.list list && bytes_eq m.key key
+
+abbrev pub same_grant : Grant → Grant → Bool
+same_grant a b = is_grant a.person a.list a.rank b
+
+abbrev pub same_message : Message → Message → Bool
+same_message a b = is_message a.list a.key b
+
+-- ---- the database
+
+abbrev pub version_rows : List Row
+version_rows = (Int (pos 1) ∷ Int (pos 0) ∷ []) ∷ []
+
+-- the version is 0, each table holds rows of its records, and no two grants or messages have the same key
+pub record AreTables (trees : Trees) : Type 0 where
+  pub version : trees 0 ≡ version_rows
+  pub lists : Holds list_cells list_read (trees 1)
+  pub persons : Holds person_cells person_read (trees 3)
+  pub grants : Holds grant_cells grant_read (trees 6)
+  pub messages : Holds message_cells message_read (trees 8)
+  pub grants_apart : AreApart same_grant (map grant_read (trees 6))
+  pub messages_apart : AreApart same_message (map message_read (trees 8))
+  pub positive : ArePositive (trees 8)
+
+-- The premise on a database: it is open outside a transaction, its schema is the one above, and its tables are as this crate
+-- leaves them. Each call is given it and gives it back.
+pub record IsKept (s : State) : Type 0 where
+  pub is_open : IsTrue s.is_open
+  pub autocommit : s.in_transaction ≡ false
+  pub settled : s.committed ≡ s.now
+  pub schema : s.now.schema ≡ archive_schema
+  pub tables : AreTables s.now.trees
+
+-- what a database remembers
+abbrev pub archive_in : Trees → Archive
+archive_in trees = record {
+  lists = map list_read (trees 1);
+  persons = map person_read (trees 3);
+  grants = map grant_read (trees 6);
+  messages = map message_read (trees 8);
+}
+
+abbrev pub archive_of : State → Archive
+archive_of s = archive_in s.now.trees

@@ -1,0 +1,59 @@
+//! Rows as values.
+
+ghost use Rattle.std.specs.Prelude.{◌≡◌, ◌∷◌, string_bytes, IfOk};
+ghost use Rattle.archive_machine.specs.Records.{Grant, Message};
+ghost use Rattle.archive_tables.specs.Rows.{name_shown, message_shown, message_in, grant_shown, grant_in};
+
+use sqlite::{Error, Row};
+
+/// A message without its list: who withdrew it is 0 (nobody), 1 (its author) or 2 (the board), the arrival is in seconds
+/// since 1970-01-01 00:00:00 UTC, and the embargo the day up to which it is held back, counted from 1970-01-01.
+#[derive(Debug, Drop)]
+pub struct MessageRow {
+    pub key: String,
+    pub sender: Vec<u8>,
+    pub arrival: i64,
+    pub text: Vec<u8>,
+    pub withdrawn: i64,
+    pub embargo: Option<i64>,
+}
+
+/// A grant without its person and list: its rank, 1 to 3, and its first and last day, counted from 1970-01-01.
+#[derive(Clone, Copy, Debug, PartialEq, Eq)]
+pub struct GrantRow {
+    pub rank: i64,
+    pub from_day: i64,
+    pub until_day: i64,
+}
+
+/// The name in a row that shows one.
+pub fn read_name(row: &Row) -> Result<String, Error>
+    ensures { IfOk result (λ name. (n : _) → row.now ≡ name_shown n → string_bytes name ≡ n) }
+{
+    row.get(0)
+}
+
+/// The message in a row that shows one.
+pub fn read_message(row: &Row) -> Result<MessageRow, Error>
+    ensures { IfOk result (λ r. (m : Message) → row.now ≡ message_shown m → message_in m.list r ≡ m) }
+{
+    Ok(MessageRow {
+        key: row.get(0)?,
+        sender: row.get(1)?,
+        arrival: row.get(2)?,
+        text: row.get(3)?,
+        withdrawn: row.get(4)?,
+        embargo: row.get(5)?,
+    })
+}
+
+/// The grant in a row that shows one.
+pub fn read_grant(row: &Row) -> Result<GrantRow, Error>
+    ensures { IfOk result (λ r. (g : Grant) → row.now ≡ grant_shown g → grant_in g.person g.list r ≡ g) }
+{
+    Ok(GrantRow {
+        rank: row.get(0)?,
+        from_day: row.get(1)?,
+        until_day: row.get(2)?,
+    })
+}

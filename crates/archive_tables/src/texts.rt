@@ -1,0 +1,7 @@
+//! Each SQL text, in a function of its own, in a file for each table.
+
+pub mod grants;
+pub mod lists;
+pub mod messages;
+pub mod persons;
+pub mod schema;

@@ -1,0 +1,157 @@
+//! The table `message`.
+
+ghost use Rattle.std.specs.Prelude.{◌≡◌, ◌<◌, ◌++◌, ◌∷◌, [], false, Some, None, bytes_eq, filter, find, length, map, option_map, if◌then◌else◌};
+ghost use Rattle.std.specs.List.{list_any};
+ghost use Rattle.archive_tables.specs.Tables.{is_message};
+ghost use Rattle.archive_tables.specs.Rows.{new_message, message_shown, message_in};
+ghost use Rattle.archive_tables.specs.Calls.{Writes, WritesWhen, Refuses, Finds, Leaves, IsUp, WasClean};
+
+use crate::rows::{MessageRow, read_message};
+use sqlite::{Alter, Connection, Error, Row, params};
+
+/// Adds a message after the others, neither withdrawn nor under embargo.
+pub fn add_message<S: Alter>(
+    conn: &mut Connection<S>,
+    list: &str,
+    key: &str,
+    sender: &[u8],
+    arrival: i64,
+    text: &[u8],
+) -> Result<usize, Error>
+    ensures added { WritesWhen S.Store conn.old conn.new result (λ a. list_any (is_message list.now key.now) a.messages ≡ false)
+        (λ a. record a { messages = a.messages ++ new_message list.now key.now sender.now arrival text.now ∷ [] }) }
+    ensures refused { Refuses S.Store conn.old conn.new result }
+    ensures clean { WasClean S.Store conn.old conn.new }
+{
+    conn.execute(
+        "INSERT INTO message (list, key, sender, arrival, text, withdrawn, embargo) VALUES (?1, ?2, ?3, ?4, ?5, 0, NULL)",
+        params![list, key, sender, arrival, text],
+    )
+}
+
+/// Whether the list has a message of the key.
+pub fn has_message<S: Alter>(conn: &mut Connection<S>, list: &str, key: &str) -> Result<bool, Error>
+    ensures found { Finds S.Store conn.old conn.new result (λ a found. found ≡ list_any (is_message list.now key.now) a.messages) }
+    ensures same { Leaves S.Store conn.old conn.new }
+    ensures up { IsUp S.Store conn.old conn.new result }
+    ensures clean { WasClean S.Store conn.old conn.new }
+{
+    let rows = conn.query_all(
+        "SELECT pos FROM message WHERE list = ?1 AND key = ?2",
+        params![list, key],
+    )?;
+    Ok(!rows.is_empty())
+}
+
+/// The message of the list and key.
+pub fn message<S: Alter>(
+    conn: &mut Connection<S>,
+    list: &str,
+    key: &str,
+) -> Result<Option<MessageRow>, Error>
+    ensures found { Finds S.Store conn.old conn.new result (λ a found. option_map (message_in list.now) found ≡ find (is_message list.now key.now) a.messages) }
+    ensures same { Leaves S.Store conn.old conn.new }
+    ensures up { IsUp S.Store conn.old conn.new result }
+    ensures clean { WasClean S.Store conn.old conn.new }
+{
+    let rows = conn.query_all(
+        "SELECT key, sender, arrival, text, withdrawn, embargo FROM message WHERE list = ?1 AND key = ?2 ORDER BY pos",
+        params![list, key],
+    )?;
+    match rows.first() {
+        Some(row) => Ok(Some(read_message(row)?)),
+        None => Ok(None),
+    }
+}
+
+/// The messages of the list in mailbox order. `read_message` reads a row.
+pub fn messages<S: Alter>(conn: &mut Connection<S>, list: &str) -> Result<Vec<Row>, Error>
+    ensures found { Finds S.Store conn.old conn.new result (λ a rows. rows.items ≡ map message_shown (filter (λ m. bytes_eq m.list list.now) a.messages)) }
+    ensures same { Leaves S.Store conn.old conn.new }
+    ensures up { IsUp S.Store conn.old conn.new result }
+    ensures clean { WasClean S.Store conn.old conn.new }
+{
+    conn.query_all(
+        "SELECT key, sender, arrival, text, withdrawn, embargo FROM message WHERE list = ?1 ORDER BY pos",
+        params![list],
+    )
+}
+
+/// How many messages the list has. It reads the key of each.
+pub fn count_messages<S: Alter>(conn: &mut Connection<S>, list: &str) -> Result<usize, Error>
+    ensures found { Finds S.Store conn.old conn.new result (λ a count. count ≡ length (filter (λ m. bytes_eq m.list list.now) a.messages)) }
+    ensures same { Leaves S.Store conn.old conn.new }
+    ensures up { IsUp S.Store conn.old conn.new result }
+    ensures clean { WasClean S.Store conn.old conn.new }
+{
+    let rows = conn.query_all("SELECT key FROM message WHERE list = ?1", params![list])?;
+    Ok(rows.len())
+}
+
+/// Whether some message has a number of at least the limit. Where none has, there are fewer messages than the limit. It takes
+/// the same time however many messages there are.
+pub fn reaches<S: Alter>(conn: &mut Connection<S>, limit: u32) -> Result<bool, Error>
+    ensures found { Finds S.Store conn.old conn.new result (λ a found. 0 < limit → found ≡ false → length a.messages < limit) }
+    ensures same { Leaves S.Store conn.old conn.new }
+    ensures up { IsUp S.Store conn.old conn.new result }
+    ensures clean { WasClean S.Store conn.old conn.new }
+{
+    let rows = conn.query_all(
+        "SELECT pos FROM message WHERE pos >= ?1 LIMIT 1",
+        params![limit],
+    )?;
+    Ok(!rows.is_empty())
+}
+
+/// Writes down who withdrew the message of the list and key: 0 nobody, 1 its author, 2 the board.
+pub fn set_withdrawn<S: Alter>(
+    conn: &mut Connection<S>,
+    list: &str,
+    key: &str,
+    by: i64,
+) -> Result<usize, Error>
+    ensures changed { Writes S.Store conn.old conn.new result
+        (λ a. record a { messages = map (λ m. if is_message list.now key.now m then record m { withdrawn = by } else m) a.messages }) }
+    ensures refused { Refuses S.Store conn.old conn.new result }
+    ensures clean { WasClean S.Store conn.old conn.new }
+{
+    conn.execute(
+        "UPDATE message SET withdrawn = ?3 WHERE list = ?1 AND key = ?2",
+        params![list, key, by],
+    )
+}
+
+/// Writes down the day up to which the message of the list and key is held back, counted from 1970-01-01.
+pub fn set_embargo<S: Alter>(
+    conn: &mut Connection<S>,
+    list: &str,
+    key: &str,
+    until: i64,
+) -> Result<usize, Error>
+    ensures changed { Writes S.Store conn.old conn.new result
+        (λ a. record a { messages = map (λ m. if is_message list.now key.now m then record m { embargo = Some until } else m) a.messages }) }
+    ensures refused { Refuses S.Store conn.old conn.new result }
+    ensures clean { WasClean S.Store conn.old conn.new }
+{
+    conn.execute(
+        "UPDATE message SET embargo = ?3 WHERE list = ?1 AND key = ?2",
+        params![list, key, until],
+    )
+}
+
+/// Writes down that the message of the list and key is under no embargo.
+pub fn clear_embargo<S: Alter>(
+    conn: &mut Connection<S>,
+    list: &str,
+    key: &str,
+) -> Result<usize, Error>
+    ensures changed { Writes S.Store conn.old conn.new result
+        (λ a. record a { messages = map (λ m. if is_message list.now key.now m then record m { embargo = None } else m) a.messages }) }
+    ensures refused { Refuses S.Store conn.old conn.new result }
+    ensures clean { WasClean S.Store conn.old conn.new }
+{
+    conn.execute(
+        "UPDATE message SET embargo = NULL WHERE list = ?1 AND key = ?2",
+        params![list, key],
+    )
+}

@@ -1,0 +1,119 @@
+//! The schema: the tables are made in one transaction, in this order.
+
+ghost use Rattle.std.specs.Prelude.{◌≡◌, ◌∷◌, [], pos, false, OnOk, IsTrue};
+ghost use Rattle.sqlite.specs.declared.types.Value.TheVariants.{Int};
+ghost use Rattle.sqlite.specs.State.{HasCleanDisk};
+ghost use Rattle.sqlite.specs.Held.{state};
+ghost use Rattle.archive_tables.specs.Schema.{no_schema, with_version, with_list, with_person, with_grant, archive_schema};
+ghost use Rattle.archive_tables.specs.Tables.{IsKept, archive_of};
+ghost use Rattle.archive_tables.specs.Making.{IsMaking, IsMade, Stops, empty_archive};
+ghost use Rattle.archive_tables.specs.Calls.{Finds, Leaves, IsUp, WasClean};
+
+use sqlite::{Alter, Connection, Error, Row};
+
+/// Begins the transaction.
+pub fn begin<S: Alter>(conn: &mut Connection<S>) -> Result<usize, Error>
+    ensures begun { HasCleanDisk (state S.Store conn.new) → (state S.Store conn.old).now.schema ≡ no_schema →
+        OnOk result (IsMaking (state S.Store conn.new) no_schema (state S.Store conn.old).committed) }
+    ensures stopped { Stops S.Store conn.old conn.new result }
+    ensures clean { WasClean S.Store conn.old conn.new }
+{
+    conn.execute("BEGIN", &[])
+}
+
+/// Makes the table `version`.
+pub fn create_version<S: Alter>(conn: &mut Connection<S>) -> Result<usize, Error>
+    ensures made { HasCleanDisk (state S.Store conn.new) → (before : _) → IsMaking (state S.Store conn.old) no_schema before → OnOk result (IsMaking (state S.Store conn.new) with_version before) }
+    ensures stopped { Stops S.Store conn.old conn.new result }
+    ensures clean { WasClean S.Store conn.old conn.new }
+{
+    conn.execute("CREATE TABLE version (number INTEGER NOT NULL) STRICT", &[])
+}
+
+/// Makes the table `list`.
+pub fn create_list<S: Alter>(conn: &mut Connection<S>) -> Result<usize, Error>
+    ensures made { HasCleanDisk (state S.Store conn.new) → (before : _) → IsMaking (state S.Store conn.old) with_version before → OnOk result (IsMaking (state S.Store conn.new) with_list before) }
+    ensures stopped { Stops S.Store conn.old conn.new result }
+    ensures clean { WasClean S.Store conn.old conn.new }
+{
+    conn.execute(
+        "CREATE TABLE list (name TEXT NOT NULL PRIMARY KEY) STRICT",
+        &[],
+    )
+}
+
+/// Makes the table `person`.
+pub fn create_person<S: Alter>(conn: &mut Connection<S>) -> Result<usize, Error>
+    ensures made { HasCleanDisk (state S.Store conn.new) → (before : _) → IsMaking (state S.Store conn.old) with_list before → OnOk result (IsMaking (state S.Store conn.new) with_person before) }
+    ensures stopped { Stops S.Store conn.old conn.new result }
+    ensures clean { WasClean S.Store conn.old conn.new }
+{
+    conn.execute(
+        "CREATE TABLE person (name TEXT NOT NULL PRIMARY KEY, token TEXT NOT NULL UNIQUE) STRICT",
+        &[],
+    )
+}
+
+/// Makes the table `grant_row`.
+pub fn create_grant<S: Alter>(conn: &mut Connection<S>) -> Result<usize, Error>
+    ensures made { HasCleanDisk (state S.Store conn.new) → (before : _) → IsMaking (state S.Store conn.old) with_person before → OnOk result (IsMaking (state S.Store conn.new) with_grant before) }
+    ensures stopped { Stops S.Store conn.old conn.new result }
+    ensures clean { WasClean S.Store conn.old conn.new }
+{
+    conn.execute(
+        "CREATE TABLE grant_row (person TEXT NOT NULL REFERENCES person (name), list TEXT NOT NULL REFERENCES list (name), kind INTEGER NOT NULL CHECK (kind BETWEEN 1 AND 3), from_day INTEGER NOT NULL CHECK (from_day BETWEEN -25567 AND 2932531), until_day INTEGER NOT NULL CHECK (until_day BETWEEN -25567 AND 2932531), PRIMARY KEY (person, list, kind), CHECK (from_day <= until_day)) STRICT",
+        &[],
+    )
+}
+
+/// Makes the table `message`, and with it the one in which AUTOINCREMENT counts.
+pub fn create_message<S: Alter>(conn: &mut Connection<S>) -> Result<usize, Error>
+    ensures made { HasCleanDisk (state S.Store conn.new) → (before : _) → IsMaking (state S.Store conn.old) with_grant before → OnOk result (IsMaking (state S.Store conn.new) archive_schema before) }
+    ensures stopped { Stops S.Store conn.old conn.new result }
+    ensures clean { WasClean S.Store conn.old conn.new }
+{
+    conn.execute(
+        "CREATE TABLE message (pos INTEGER PRIMARY KEY AUTOINCREMENT, list TEXT NOT NULL REFERENCES list (name), key TEXT NOT NULL, sender BLOB NOT NULL, arrival INTEGER NOT NULL, text BLOB NOT NULL, withdrawn INTEGER NOT NULL CHECK (withdrawn BETWEEN 0 AND 2), embargo INTEGER CHECK (embargo BETWEEN -25567 AND 2932531), UNIQUE (list, key)) STRICT",
+        &[],
+    )
+}
+
+/// Writes the version down: 0.
+pub fn add_version<S: Alter>(conn: &mut Connection<S>) -> Result<usize, Error>
+    ensures made { HasCleanDisk (state S.Store conn.new) → (before : _) → IsMaking (state S.Store conn.old) archive_schema before → OnOk result (IsMade (state S.Store conn.new) before) }
+    ensures stopped { Stops S.Store conn.old conn.new result }
+    ensures clean { WasClean S.Store conn.old conn.new }
+{
+    conn.execute("INSERT INTO version (number) VALUES (0)", &[])
+}
+
+/// Commits the transaction.
+pub fn commit<S: Alter>(conn: &mut Connection<S>) -> Result<usize, Error>
+    ensures kept { HasCleanDisk (state S.Store conn.new) → (before : _) → IsMade (state S.Store conn.old) before →
+        OnOk result (IsKept (state S.Store conn.new) × (archive_of (state S.Store conn.new) ≡ empty_archive)) }
+    ensures stopped { Stops S.Store conn.old conn.new result }
+    ensures clean { WasClean S.Store conn.old conn.new }
+{
+    conn.execute("COMMIT", &[])
+}
+
+/// Ends the transaction, and goes back to what was there before it.
+pub fn rollback<S: Alter>(conn: &mut Connection<S>) -> Result<usize, Error>
+    ensures undone { HasCleanDisk (state S.Store conn.new) → OnOk result (IsTrue (state S.Store conn.new).is_open →
+        ((state S.Store conn.new).now ≡ (state S.Store conn.old).committed) × ((state S.Store conn.new).committed ≡ (state S.Store conn.old).committed)
+        × ((state S.Store conn.new).in_transaction ≡ false)) }
+    ensures stopped { Stops S.Store conn.old conn.new result }
+    ensures clean { WasClean S.Store conn.old conn.new }
+{
+    conn.execute("ROLLBACK", &[])
+}
+
+/// The rows of `version`: one, of the number 0.
+pub fn versions<S: Alter>(conn: &mut Connection<S>) -> Result<Vec<Row>, Error>
+    ensures found { Finds S.Store conn.old conn.new result (λ _ rows. rows.items ≡ (Int (pos 0) ∷ []) ∷ []) }
+    ensures same { Leaves S.Store conn.old conn.new }
+    ensures up { IsUp S.Store conn.old conn.new result }
+    ensures clean { WasClean S.Store conn.old conn.new }
+{
+    conn.query_all("SELECT number FROM version ORDER BY rowid", &[])
+}
