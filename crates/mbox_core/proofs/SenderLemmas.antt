@@ -16,6 +16,10 @@ pub sender_is : (s : Sender) → IsSender s → IsSenderText (sender_text s)
 sender_is (One t) h = (t.now ∷ [], (h, refl))
 sender_is (At a b) h = (a.now ∷ codes "at" ∷ b.now ∷ [], ((h.0, refl, h.1), refl))
 
+-- a text that is written of a sender
+pub written_is : (s : Sender) (text : List ℕ) → IsSender s → text ≡ sender_text s → IsSenderText text
+written_is s text h e = rw e (sender_is s h)
+
 pub envelope_is : (s : Sender) (z : ℤ) → IsSender s → is_instant z ≡ true → IsEnvelope (record { sender = sender_text s; arrival = z })
 envelope_is s z h g = record { sender = sender_is s h; arrival = g }
 

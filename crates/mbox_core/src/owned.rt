@@ -21,15 +21,15 @@ pub struct OwnedItem {
 impl Model for OwnedItem {
     ghost use Rattle.std.specs.Prelude.{◌≡◌, true};
     ghost use Rattle.mail_core.specs.Calendar.{is_instant};
-    ghost use Rattle.mbox_core.specs.Lines.{lines};
-    ghost use Rattle.mbox_core.specs.Separator.{is_sender};
+    ghost use Rattle.mail_core.specs.Lines.{lines};
+    ghost use Rattle.mbox_core.specs.Separator.{IsSenderText};
     ghost use Rattle.mbox_core.specs.Division.{Item as Message, NoneSeparates, is_whole, whole};
 
     ghost Value = { Message };
 
     ghost view = { λ s. record { envelope = record { sender = s.sender.items; arrival = s.arrival }; text = s.text.items } };
 
-    ghost invariant = { λ s. (is_sender s.sender.items ≡ true) × (is_instant s.arrival ≡ true) × (s.complete ≡ is_whole s.text.items) × NoneSeparates (lines (whole s.text.items)) };
+    ghost invariant = { λ s. IsSenderText s.sender.items × (is_instant s.arrival ≡ true) × (s.complete ≡ is_whole s.text.items) × NoneSeparates (lines (whole s.text.items)) };
 }
 
 impl OwnedItem {
@@ -93,6 +93,12 @@ pub fn written_sender(alloc: Global, sender: Sender<'_>) -> Result<Vec<u8>, Allo
 {
     match sender {
         Sender::One(token) => token.to_vec(alloc),
+        Sender::At(left, right) => {
+            let mut text = left.to_vec(alloc)?;
+            text.extend_from_slice(b" at ")?;
+            text.extend_from_slice(right)?;
+            Ok(text)
+        }
     }
 }
 

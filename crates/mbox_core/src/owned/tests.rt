@@ -14,6 +14,10 @@ fn a_copy_is_the_message(rt: HostRuntime) -> Result<(), Fail> {
             b"From a@b Tue Mar  4 10:00:00 2003\nhello\n".as_slice(),
             true,
         ),
+        (
+            b"From a  at b Tue Mar  4 10:00:00 +0100 2003\nhello\n".as_slice(),
+            true,
+        ),
     ] {
         for item in cut(text)? {
             let owned = OwnedItem::of(rt.alloc(), &item)?;
@@ -34,6 +38,8 @@ fn what_is_no_message_is_not_taken(rt: HostRuntime) -> Result<(), Fail> {
         ("a@b", "hello\n", true),
         ("", "hello\n", false),
         ("a b", "hello\n", false),
+        ("a at b", "hello\n", true),
+        ("a  at b", "hello\n", false),
         ("a@b", "hello\n\nFrom a@b Tue Mar  4 10:00:00 2003\n", false),
     ] {
         let arrival = Instant::new(0).ok_or("an instant")?;
