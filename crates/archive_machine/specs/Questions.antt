@@ -1,10 +1,11 @@
 -- What is asked of the archive.
-use Rattle.std.specs.Prelude.{ℕ, ℤ, pos, int_le, List, [], ◌∷◌, map, filter, find, bytes_eq, Bool, false, not, ◌&&◌, Option, Some, None, is_some, option_map, IsSorted, IsPermutation}
+use Rattle.std.specs.Prelude.{if◌then◌else◌, ℕ, ℤ, pos, int_le, List, [], ◌∷◌, map, filter, find, bytes_eq, Bool, false, not, ◌&&◌, Option, Some, None, is_some, option_map, IsSorted, IsPermutation}
 use Rattle.std.specs.List.{list_any}
 use Rattle.std.specs.Int.{int_max}
 use Rattle.std.specs.Ordering.{int_eq, nat_cmp}
 use Rattle.std.specs.Cmp.Lexicographic.{slice_cmp}
 use Rattle.archive_machine.specs.Records.{Grant, Message, Archive}
+use Rattle.archive_machine.specs.Commands.{Refusal, no_list, no_person}
 
 -- ---- lists and persons
 
@@ -53,7 +54,18 @@ abbrev pub standing_of : Archive → List ℕ → List ℕ → ℤ → ℤ
 standing_of archive person list day =
     highest (map (λ g. g.rank) (filter (λ g. is_grant_of person list g && holds_on day g) archive.grants))
 
+-- why it is not answered: the person is looked for first
+abbrev pub standing_refusal : Archive → List ℕ → List ℕ → Option Refusal
+standing_refusal archive person list =
+    if not (has_person archive person) then Some no_person
+    else if not (has_list archive list) then Some no_list
+    else None
+
 -- ---- messages
+
+-- why a question on a list is not answered
+abbrev pub list_refusal : Archive → List ℕ → Option Refusal
+list_refusal archive list = if not (has_list archive list) then Some no_list else None
 
 -- the messages of a list, in mailbox order
 abbrev pub messages_in : Archive → List ℕ → List Message

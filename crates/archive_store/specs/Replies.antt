@@ -1,5 +1,5 @@
 -- How the answers of a store stand for those of the machine.
-use Rattle.std.specs.Prelude.{◌≡◌, ℕ, false, Bool, List, [], ◌∷◌, ◌++◌, MatchResult, Option, Some, None, Result, Ok, Err, option_map}
+use Rattle.std.specs.Prelude.{◌≡◌, ℕ, false, Bool, List, [], ◌∷◌, ◌++◌, ⊤, MatchResult, MatchOption, Option, Some, None, Result, Ok, Err, option_map}
 use Rattle.std.specs.List.{list_any}
 use Rattle.sqlite.specs.Store.{Ghosts}
 use Rattle.mbox_core.specs.Division.{Item}
@@ -68,3 +68,12 @@ module _ {S : Type 0} (g : Ghosts S) (old new : Held S) where
       (λ _. list_any (is_message list key) (archive_of (state g old)).messages ≡ false
       → Changes (state g old) (state g new) (λ a. record a { messages = a.messages ++ keyed_message list key item ∷ [] }))
       (λ fault. (refusal fault ≡ None) × Rests (state g old) (state g new))
+
+  -- A question that is refused where this says so, and is else answered by a value of which this holds. It leaves the
+  -- tables as they were.
+  abbrev pub Answers : {A : Type 0} → Result A StoreFault → (Archive → Option Refusal) → (Archive → A → Type 0) → Type 0
+  Answers result refuses Says = HasCleanDisk (state g new) → IsKept (state g old) →
+      Rests (state g old) (state g new)
+      × MatchResult result
+      (λ a. (refuses (archive_of (state g old)) ≡ None) × Says (archive_of (state g old)) a)
+      (λ fault. MatchOption (refusal fault) ⊤ (λ r. refuses (archive_of (state g old)) ≡ Some r))

@@ -2,14 +2,20 @@
 //! answered from what the tables hold.
 #![tactic(auto)]
 
+mod adopting;
 mod faults;
 mod grants;
 pub mod limits;
 mod messages;
 mod persons;
+mod questions;
 mod store;
 mod words;
 
+pub use adopting::AdoptStop;
 pub use faults::StoreFault;
 pub use store::Store;
 pub use words::{Added, Kind, Party};
+
+#[cfg(test)]
+mod tests;

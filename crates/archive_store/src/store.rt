@@ -4,6 +4,7 @@ ghost use Rattle.std.specs.Prelude.{◌≡◌};
 use sqlite::{Alter, Connection};
 
 /// The archive in the tables of a connection.
+#[derive(Drop)]
 pub struct Store<S: Alter> {
     pub(crate) conn: Connection<S>,
 }

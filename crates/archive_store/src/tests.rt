@@ -1,0 +1,211 @@
+use crate::limits::add_limited;
+use crate::{Added, Kind, Party, Store, StoreFault};
+use archive_machine::Key;
+use mail_core::{Day, Instant};
+use mbox_core::{Envelope, Item, Sender};
+use sqlite::{Connection, MemStore};
+use std::alloc::Global;
+use std::test::Fail;
+
+const TOKEN: &str = "0123456789abcdef";
+
+/// A store with the list `soc` and the person `anna`.
+fn store(alloc: Global) -> Result<Store<MemStore>, StoreFault> {
+    let mut store = Store::open_in_memory(alloc)?;
+    store.list_add("soc")?;
+    store.person_add("anna", TOKEN)?;
+    Ok(store)
+}
+
+fn day(text: &str) -> Result<Day, Fail> {
+    Ok(Day::read(text.as_bytes()).ok_or("a day")?)
+}
+
+/// A message of this sender and text.
+fn item<'a>(sender: &'a str, text: &'a [u8]) -> Result<Item<'a>, Fail> {
+    let sender = Sender::read(sender.as_bytes()).ok_or("a sender")?;
+    let arrival = Instant::new(1_046_772_000).ok_or("an instant")?;
+    Ok(Item::new(Envelope { sender, arrival }, text).ok_or("a message")?)
+}
+
+#[test]
+fn lists_are_added_once(rt: HostRuntime) -> Result<(), Fail> {
+    let mut store = Store::open_in_memory(rt.alloc())?;
+    assert_eq!(rt; store.list_add("soc"), Ok(()));
+    assert_eq!(rt; store.list_add("soc"), Err(StoreFault::ListExists));
+    assert_eq!(rt; store.list_add("Soc"), Err(StoreFault::BadName));
+    assert_eq!(rt; store.list_add("a"), Ok(()));
+    Ok(())
+}
+
+#[test]
+fn persons_are_added_once_each_with_a_token(rt: HostRuntime) -> Result<(), Fail> {
+    let mut store = Store::open_in_memory(rt.alloc())?;
+    assert_eq!(rt;
+        store.person_add("anna", "0123456789abcde"),
+        Err(StoreFault::BadText)
+    );
+    assert_eq!(rt; store.person_add("Anna", "x"), Err(StoreFault::BadName));
+    assert_eq!(rt; store.person_add("anna", TOKEN), Ok(()));
+    assert_eq!(rt;
+        store.person_add("anna", TOKEN),
+        Err(StoreFault::PersonExists)
+    );
+    assert_eq!(rt; store.person_add("bob", TOKEN), Err(StoreFault::TokenTaken));
+    assert_eq!(rt; store.person_add("bob", "0123456789abcdeF"), Ok(()));
+    let found = store.person_of_token("0123456789abcdeF")?;
+    assert_eq!(rt; found.as_deref(), Some("bob"));
+    assert!(rt; store.person_of_token("nobody-has-this-one")?.is_none());
+    Ok(())
+}
+
+#[test]
+fn grants_are_replaced_and_revoked(rt: HostRuntime) -> Result<(), Fail> {
+    let mut store = store(rt.alloc())?;
+    let (first, last) = (day("2003-01-01")?, day("2003-12-31")?);
+    assert_eq!(rt;
+        store.grant("eve", "xyz", Kind::Member, first, last),
+        Err(StoreFault::NoPerson)
+    );
+    assert_eq!(rt;
+        store.grant("anna", "xyz", Kind::Member, first, last),
+        Err(StoreFault::NoList)
+    );
+    assert_eq!(rt;
+        store.grant("anna", "soc", Kind::Member, last, first),
+        Err(StoreFault::BadDays)
+    );
+    assert_eq!(rt;
+        store.grant("anna", "soc", Kind::Member, first, first),
+        Ok(())
+    );
+    assert_eq!(rt;
+        store.grant("anna", "soc", Kind::Member, first, last),
+        Ok(())
+    );
+    assert_eq!(rt;
+        store.grant("anna", "soc", Kind::Moderator, first, last),
+        Ok(())
+    );
+    assert_eq!(rt;
+        store.revoke("eve", "soc", Kind::Member),
+        Err(StoreFault::NoPerson)
+    );
+    assert_eq!(rt;
+        store.revoke("anna", "xyz", Kind::Member),
+        Err(StoreFault::NoList)
+    );
+    assert_eq!(rt; store.revoke("anna", "soc", Kind::Member), Ok(true));
+    assert_eq!(rt; store.revoke("anna", "soc", Kind::Member), Ok(false));
+    assert_eq!(rt; store.revoke("anna", "soc", Kind::Moderator), Ok(true));
+    Ok(())
+}
+
+#[test]
+fn messages_are_added_up_to_the_limit(rt: HostRuntime) -> Result<(), Fail> {
+    let alloc = rt.alloc();
+    let mut store = store(alloc)?;
+    store.list_add("other")?;
+    let one = item("a@b", b"one")?;
+    assert_eq!(rt; store.add(alloc, "xyz", &one), Err(StoreFault::NoList));
+    assert_eq!(rt; store.add(alloc, "other", &one), Ok(Added::New));
+    assert_eq!(rt;
+        add_limited(&mut store, alloc, "soc", &one, 2),
+        Ok(Added::New)
+    );
+    assert_eq!(rt;
+        add_limited(&mut store, alloc, "soc", &item("a@b", b"two\n")?, 2),
+        Ok(Added::New)
+    );
+    assert_eq!(rt;
+        add_limited(&mut store, alloc, "soc", &item("a@b", b"three\n")?, 2),
+        Err(StoreFault::ListFull)
+    );
+    assert_eq!(rt;
+        add_limited(&mut store, alloc, "soc", &item("c@d", b"one\n")?, 2),
+        Ok(Added::Known)
+    );
+    let long = vec![in alloc; b'x'; 4_194_304]?;
+    assert_eq!(rt;
+        add_limited(&mut store, alloc, "soc", &item("a@b", &long)?, 2),
+        Err(StoreFault::TooLarge)
+    );
+    assert_eq!(rt;
+        store.add(alloc, "soc", &item("a@b", b"three\n")?),
+        Ok(Added::New)
+    );
+    Ok(())
+}
+
+#[test]
+fn messages_are_withdrawn_and_restored(rt: HostRuntime) -> Result<(), Fail> {
+    let alloc = rt.alloc();
+    let mut store = store(alloc)?;
+    let one = item("a@b", b"one")?;
+    let key = Key::of(&one);
+    assert_eq!(rt;
+        store.withdraw("xyz", &key, Party::Author),
+        Err(StoreFault::NoList)
+    );
+    assert_eq!(rt;
+        store.withdraw("soc", &key, Party::Author),
+        Err(StoreFault::NoMessage)
+    );
+    assert_eq!(rt; store.restore("soc", &key), Err(StoreFault::NoMessage));
+    store.add(alloc, "soc", &one)?;
+    assert_eq!(rt; store.restore("soc", &key), Err(StoreFault::NotWithdrawn));
+    assert_eq!(rt; store.withdraw("soc", &key, Party::Author), Ok(()));
+    assert_eq!(rt; store.add(alloc, "soc", &one), Ok(Added::Known));
+    assert_eq!(rt;
+        store.withdraw("soc", &key, Party::Board),
+        Err(StoreFault::AlreadyWithdrawn)
+    );
+    assert_eq!(rt; store.restore("xyz", &key), Err(StoreFault::NoList));
+    assert_eq!(rt; store.restore("soc", &key), Ok(()));
+    assert_eq!(rt; store.restore("soc", &key), Err(StoreFault::NotWithdrawn));
+    Ok(())
+}
+
+#[test]
+fn messages_are_held_back_and_let_go(rt: HostRuntime) -> Result<(), Fail> {
+    let alloc = rt.alloc();
+    let mut store = store(alloc)?;
+    let one = item("a@b", b"one")?;
+    let key = Key::of(&one);
+    let until = day("2003-04-01")?;
+    assert_eq!(rt; store.embargo("xyz", &key, until), Err(StoreFault::NoList));
+    assert_eq!(rt;
+        store.embargo("soc", &key, until),
+        Err(StoreFault::NoMessage)
+    );
+    assert_eq!(rt; store.lift("xyz", &key), Err(StoreFault::NoList));
+    assert_eq!(rt; store.lift("soc", &key), Err(StoreFault::NoMessage));
+    store.add(alloc, "soc", &one)?;
+    assert_eq!(rt; store.embargo("soc", &key, until), Ok(()));
+    assert_eq!(rt; store.lift("soc", &key), Ok(true));
+    assert_eq!(rt; store.lift("soc", &key), Ok(false));
+    Ok(())
+}
+
+/// Whether a connection is adopted.
+fn is_adopted(connection: Connection<MemStore>) -> bool {
+    Store::adopt(connection).is_ok()
+}
+
+#[test]
+fn connections_are_adopted_again(rt: HostRuntime) -> Result<(), Fail> {
+    let alloc = rt.alloc();
+    let connection = store(alloc)?.into_connection();
+    let mut store = match Store::adopt(connection) {
+        Ok(store) => store,
+        Err(stop) => return Err(Fail::from(stop.fault)),
+    };
+    assert_eq!(rt; store.list_add("soc"), Err(StoreFault::ListExists));
+    let mut connection = store.into_connection();
+    connection.execute("UPDATE version SET number = 9", &[])?;
+    assert!(rt; !is_adopted(connection));
+    let mut other = Connection::open_in_memory(alloc)?;
+    other.execute("CREATE TABLE other (name TEXT) STRICT", &[])?;
+    assert!(rt; !is_adopted(other));
+    Ok(())
+}
