@@ -1,16 +1,14 @@
 -- The statements on `grant_row`.
-use Rattle.std.proofs.Common.{◌≡◌, inl, inr, ℕ, ℤ, pos, List, [], ◌∷◌, ◌++◌, map, filter, codes, Ok, Err, Result, OnOk, OnErr, arith, refl, sym, ap, ap₂, subst, ◌∙◌, false, true, Bool, cond, None}
+use Rattle.std.proofs.Common.{◌≡◌, inl, ℕ, ℤ, List, [], ◌∷◌, ◌++◌, map, filter, codes, Ok, Err, Result, OnOk, OnErr, refl, sym, ap, ap₂, subst, ◌∙◌, false, true, Bool, cond, None}
 use Rattle.std.specs.Prelude.{IsTrue, not, ◌==◌, ◌&&◌, length, bytes_eq, if◌then◌else◌}
 use Rattle.std.specs.List.{list_any}
 use Rattle.std.specs.Ordering.{int_eq}
-use Rattle.std.specs.List.Sorted.{IsPermutation}
 use Rattle.std.proofs.lemmas.Bool.Decides.{Decides-int_eq}
 use Rattle.sqlite.specs.declared.error.Error.{Error}
 use Rattle.sqlite.specs.declared.types.Value.TheVariants.{Null, Int, Text}
 use Rattle.sqlite.specs.Order.{Row}
 use Rattle.sqlite.specs.Term.{Term, lit, col, op2}
 use Rattle.sqlite.specs.Collation.TheVariants.{Binary}
-use Rattle.sqlite.specs.Query.{Query, Output, output}
 use Rattle.sqlite.specs.Source.TheVariants.{Values}
 use Rattle.sqlite.specs.Command.TheVariants.{Insert, Update, Delete, Select}
 use Rattle.sqlite.specs.Edit.{edit_of, edited, taken_by, next_rowid}
@@ -27,16 +25,16 @@ use Rattle.sqlite_tied.specs.Compute.{everything}
 use Rattle.sqlite_rules.specs.Calls.{ids_of}
 use Rattle.sqlite_sql.specs.declared.ops.BinaryOp.TheVariants.{Compare}
 use Rattle.sqlite_sql.specs.declared.ops.CompareOp.TheVariants.{Eq}
-use Rattle.archive_machine.specs.Records.{Grant, Archive}
+use Rattle.archive_machine.specs.Records.{Grant}
 use Rattle.archive_tables.specs.Schema.{archive_schema, grant_table}
-use Rattle.archive_tables.specs.Tables.{IsKept, Numbered, row_of, read_of, grant_cells, grant_read, archive_of, is_grant, same_grant, AreApart}
+use Rattle.archive_tables.specs.Tables.{IsKept, Numbered, row_of, grant_cells, grant_read, archive_of, is_grant, same_grant, AreApart}
 use Rattle.archive_tables.specs.Rows.{grant_shown}
 use Rattle.archive_tables.specs.Calls.{Changes, Rests}
 use Rattle.archive_tables.proofs.RunLemmas.{passed, value_is, no_action, cast_null, cast_int, kept_by, rests, execute_fails}
 use Rattle.archive_tables.proofs.RowLemmas.{put_past}
 use Rattle.archive_tables.proofs.TableLemmas.{SameBut, same_but, grants_change}
 use Rattle.archive_tables.proofs.ChangeLemmas.{apart_more, apart_mapped, apart_filtered, updated, deleted}
-use Rattle.archive_tables.proofs.SelectLemmas.{plain_query, by_number, env_of, passes, picks_of, Picks, hits, asked, leaves, asked_rests, refused_rests, any_wanted, shows, alone, text_is, int_is, text_flips, equal_words, no_row, one_row}
+use Rattle.archive_tables.proofs.SelectLemmas.{plain_query, by_number, passes, picks_of, hits, asked, leaves, asked_rests, refused_rests, any_wanted, shows, alone, text_is, int_is, text_flips, equal_words, no_row, one_row}
 
 back : (n : ℤ) (g : Grant) → grant_read (Int n ∷ grant_cells g) ≡ g
 back n g = refl

@@ -14,3 +14,4 @@ pub mod GrantLemmas
 pub mod MakeLemmas
 pub mod ReachLemmas
 pub mod NamesLemmas
+pub mod TableExamples

@@ -1,6 +1,6 @@
 -- The statements on `list`.
-use Rattle.std.proofs.Common.{◌≡◌, ℕ, ℤ, List, [], ◌∷◌, ◌++◌, map, codes, Ok, Err, Result, OnOk, OnErr, arith, refl, sym, ap, ap₂, subst, ◌∙◌, false, true, None, inl}
-use Rattle.std.specs.Prelude.{IsTrue, not, ◌==◌, length, bytes_eq, Bool, ◌&&◌}
+use Rattle.std.proofs.Common.{◌≡◌, ℕ, ℤ, List, [], ◌∷◌, ◌++◌, codes, Ok, Err, Result, OnOk, OnErr, refl, sym, ap, subst, ◌∙◌, false, None, inl}
+use Rattle.std.specs.Prelude.{IsTrue, not, ◌==◌, length, bytes_eq}
 use Rattle.std.specs.List.{list_any}
 use Rattle.std.specs.Ordering.{is_eq}
 use Rattle.std.proofs.lemmas.Map.Text.{is_eq-slice_cmp}
@@ -25,9 +25,8 @@ use Rattle.sqlite_tied.specs.Compute.{everything}
 use Rattle.sqlite_sql.specs.declared.ops.BinaryOp.TheVariants.{Compare}
 use Rattle.sqlite_sql.specs.declared.ops.CompareOp.TheVariants.{Eq}
 use Rattle.sqlite_value.proofs.OrderLemmas.{value_cmp-Text}
-use Rattle.archive_machine.specs.Records.{Archive}
 use Rattle.archive_tables.specs.Schema.{archive_schema, list_table}
-use Rattle.archive_tables.specs.Tables.{IsKept, Numbered, row_of, Holds, list_cells, list_read, archive_in, archive_of}
+use Rattle.archive_tables.specs.Tables.{IsKept, Numbered, row_of, list_cells, list_read, archive_of}
 use Rattle.archive_tables.specs.Calls.{Changes, Rests}
 use Rattle.archive_tables.proofs.RunLemmas.{passed, value_is, no_action, cast_null, kept_by, rests, execute_fails}
 use Rattle.archive_tables.proofs.RowLemmas.{put_past}

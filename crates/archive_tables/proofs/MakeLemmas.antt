@@ -1,6 +1,6 @@
 -- The statements that make the tables.
-use Rattle.std.proofs.Common.{◌≡◌, ◌⊎◌, inl, inr, ℕ, ℤ, pos, List, [], ◌∷◌, ◌++◌, map, codes, Ok, Err, Result, IfOk, IfErr, OnOk, OnErr, arith, refl, sym, ap, subst, ◌∙◌, false, true, None, Bool}
-use Rattle.std.specs.Prelude.{IsTrue, if◌then◌else◌}
+use Rattle.std.proofs.Common.{◌≡◌, ℕ, pos, List, [], ◌∷◌, ◌++◌, codes, Ok, arith, refl, sym, ap, subst, ◌∙◌, false, true, None}
+use Rattle.std.specs.Prelude.{IsTrue}
 use Rattle.std.specs.List.{AllByRecursion}
 use Rattle.sqlite.specs.declared.error.Error.{Error}
 use Rattle.sqlite.specs.declared.types.Value.TheVariants.{Null, Int}
@@ -19,10 +19,9 @@ use Rattle.sqlite.specs.Rows.{Written}
 use Rattle.sqlite.specs.Tree.{Trees}
 use Rattle.sqlite.specs.Listing.{understood, reads_listing}
 use Rattle.sqlite.specs.Effect.{Database}
-use Rattle.sqlite.specs.State.{State, Shows, Writes, Executes, mode_of, IsUnchanged, IsRolledBack, Shown, FailsToQuery}
+use Rattle.sqlite.specs.State.{State, Writes, Executes, mode_of, Shown, FailsToQuery}
 use Rattle.sqlite.proofs.Callers.{IsPlain, command_of, statement_of, runs_as, one_step}
 use Rattle.sqlite_tied.specs.Compute.{everything}
-use Rattle.archive_machine.specs.Records.{Archive}
 use Rattle.archive_tables.specs.Schema.{no_schema, with_version, with_list, with_person, with_grant, archive_schema, create_version, create_list, create_person, create_grant, create_message, version_table, list_table, person_table, grant_table, message_table, sequence_table}
 use Rattle.archive_tables.specs.Tables.{AreTables, IsKept, archive_in, archive_of, version_rows}
 use Rattle.archive_tables.specs.Making.{IsMaking, IsMade, empty_archive}

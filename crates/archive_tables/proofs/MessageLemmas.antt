@@ -1,16 +1,13 @@
 -- The statements on `message`.
-use Rattle.std.proofs.Common.{◌≡◌, ◌≢◌, ◌⊎◌, inl, inr, ℕ, ℤ, pos, List, [], ◌∷◌, ◌++◌, map, filter, fold, codes, Ok, Err, Result, OnOk, OnErr, arith, refl, sym, ap, ap₂, subst, ◌∙◌, false, true, Bool, cond, None, Some, Option}
-use Rattle.std.specs.Prelude.{IsTrue, not, ◌==◌, ◌&&◌, length, bytes_eq, if◌then◌else◌}
-use Rattle.std.specs.List.{list_any, AllByRecursion}
-use Rattle.std.specs.Int.Signed.{◌<ℤ◌}
+use Rattle.std.proofs.Common.{◌≡◌, inl, inr, ℕ, ℤ, pos, List, [], ◌∷◌, ◌++◌, fold, codes, Ok, Err, Result, OnOk, OnErr, arith, refl, sym, ap, ap₂, subst, ◌∙◌, false, None, Some, Option}
+use Rattle.std.specs.Prelude.{◌&&◌}
+use Rattle.std.specs.List.{list_any}
 use Rattle.std.specs.Ordering.{is_lt, int_cmp}
-use Rattle.std.specs.declared.cmp.Ordering.TheVariants.{Less}
 use Rattle.std.proofs.lemmas.Bool.{cases_Bool}
 use Rattle.sqlite.specs.declared.error.Error.{Error}
 use Rattle.sqlite.specs.declared.types.Value.TheVariants.{Null, Int, Text, Blob}
-use Rattle.sqlite.specs.Order.{Row, value_cmp}
-use Rattle.sqlite.specs.Term.{Term, lit, col, op2}
-use Rattle.sqlite.specs.Collation.TheVariants.{Binary}
+use Rattle.sqlite.specs.Order.{Row}
+use Rattle.sqlite.specs.Term.{Term, lit, col}
 use Rattle.sqlite.specs.Source.TheVariants.{Values}
 use Rattle.sqlite.specs.Command.TheVariants.{Insert}
 use Rattle.sqlite.specs.Edit.{Edit, edit_of, edited, taken_by, next_rowid, at_least}
@@ -18,7 +15,7 @@ use Rattle.sqlite.specs.Rowids.TheVariants.{Above}
 use Rattle.sqlite.specs.Does.{Tally, Does}
 use Rattle.sqlite.specs.Rows.{Written, Counts, CountsIn, counting, count_of, higher}
 use Rattle.sqlite.specs.Table.{Table}
-use Rattle.sqlite.specs.Tree.{Trees, put_row, rowid}
+use Rattle.sqlite.specs.Tree.{Trees, put_row}
 use Rattle.sqlite.specs.Listing.{understood}
 use Rattle.sqlite.specs.Effect.{Database}
 use Rattle.sqlite.specs.State.{State, mode_of, Executes}
@@ -26,10 +23,9 @@ use Rattle.sqlite.proofs.Callers.{IsPlain, command_of, statement_of, runs_as, on
 use Rattle.sqlite_tied.specs.Compute.{everything}
 use Rattle.sqlite_rules.specs.Action as Action
 use Rattle.sqlite_schema.specs.declared.schema.Keys.TheVariants.{Enforced}
-use Rattle.sqlite_value.proofs.OrderLemmas.{value_cmp_total, value_cmp-Int}
-use Rattle.archive_machine.specs.Records.{Message, Archive}
+use Rattle.archive_machine.specs.Records.{Message}
 use Rattle.archive_tables.specs.Schema.{archive_schema, message_table, sequence_table}
-use Rattle.archive_tables.specs.Tables.{IsKept, Numbered, row_of, message_cells, message_read, archive_of, or_null, if_int, is_message, same_message, AreApart, ArePositive}
+use Rattle.archive_tables.specs.Tables.{IsKept, Numbered, row_of, message_cells, message_read, archive_of, or_null, if_int, is_message, same_message, AreApart}
 use Rattle.archive_tables.specs.Rows.{new_message}
 use Rattle.archive_tables.specs.Calls.{Changes, Rests}
 use Rattle.archive_tables.proofs.RunLemmas.{passed, value_is, no_action, cast_null, cast_int, kept_by, rests, execute_fails}

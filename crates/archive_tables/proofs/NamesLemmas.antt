@@ -1,5 +1,5 @@
 -- The names of all lists, in the order of their bytes.
-use Rattle.std.proofs.Common.{◌≡◌, ◌⊎◌, inl, ℕ, ◌+◌, ◌<◌, ◌≤◌, ℤ, pos, List, [], ◌∷◌, map, filter, length, get_or, codes, refl, sym, ap, ap₂, subst, ◌∙◌, false, true, arith}
+use Rattle.std.proofs.Common.{◌≡◌, ℕ, ◌+◌, ◌<◌, List, [], ◌∷◌, map, filter, length, get_or, codes, refl, sym, ap, ap₂, subst, ◌∙◌, false, arith}
 use Rattle.std.specs.Prelude.{IsTrue}
 use Rattle.std.specs.List.{AllByRecursion}
 use Rattle.std.specs.List.Sorted.{IsPermutation, IsSorted}
@@ -10,8 +10,8 @@ use Rattle.std.specs.declared.cmp.Ordering.TheVariants.{Less, Equal, Greater}
 use Rattle.std.proofs.lemmas.List.{length-map, get_or-map}
 use Rattle.std.proofs.lemmas.List.Sorted.{IsPermutation-map}
 use Rattle.sqlite.specs.declared.error.Error.{Error}
-use Rattle.sqlite.specs.declared.types.Value.TheVariants.{Null, Int, Text}
-use Rattle.sqlite.specs.Order.{Row, column, bytes, value_cmp}
+use Rattle.sqlite.specs.declared.types.Value.TheVariants.{Text}
+use Rattle.sqlite.specs.Order.{Row, column, bytes}
 use Rattle.sqlite.specs.Term.{Term, col}
 use Rattle.sqlite.specs.Collation.TheVariants.{Binary}
 use Rattle.sqlite.specs.Query.{Query, Output, output, output_cmp}
@@ -25,11 +25,11 @@ use Rattle.sqlite_value.specs.Keys.{ascending}
 use Rattle.sqlite_value.proofs.OrderLemmas.{value_cmp-Text}
 use Rattle.sqlite_trees.proofs.ListLemmas.{all-permutation}
 use Rattle.archive_tables.specs.Schema.{archive_schema}
-use Rattle.archive_tables.specs.Tables.{IsKept, Numbered, row_of, read_of, Holds, list_cells, list_read, archive_of}
+use Rattle.archive_tables.specs.Tables.{IsKept, Numbered, row_of, read_of, list_cells, list_read, archive_of}
 use Rattle.archive_tables.specs.Rows.{name_shown}
 use Rattle.archive_tables.specs.Calls.{Rests}
 use Rattle.archive_tables.proofs.RowLemmas.{records_are}
-use Rattle.archive_tables.proofs.SelectLemmas.{plain_query, env_of, passes, Picks, hits, asked, leaves, asked_rests, refused_rests}
+use Rattle.archive_tables.proofs.SelectLemmas.{plain_query, env_of, passes, asked, leaves, asked_rests, refused_rests}
 
 abbrev pub names_text : List ℕ
 names_text = codes "SELECT name FROM list ORDER BY name"

@@ -1,5 +1,5 @@
 -- What a statement leaves, whatever it is.
-use Rattle.std.proofs.Common.{◌≡◌, ◌⊎◌, inl, inr, Ok, Err, Result, refl, sym, ap, subst, ◌∙◌, List, [], ◌∷◌, ℕ, ℤ, pos, Bool, true, false, cond}
+use Rattle.std.proofs.Common.{◌≡◌, ◌⊎◌, inl, inr, Ok, Err, Result, refl, sym, ap, subst, ◌∙◌, List, [], ℕ, ℤ, Bool, true, false, cond}
 use Rattle.std.specs.Prelude.{IsTrue, length, ◌==◌, if◌then◌else◌}
 use Rattle.std.proofs.lemmas.Bool.{cases_Bool}
 use Rattle.sqlite.specs.Order.{Row}

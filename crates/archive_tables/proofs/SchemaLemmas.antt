@@ -1,11 +1,10 @@
 -- The texts of the schema define its tables.
 use Rattle.std.proofs.Common.{◌≡◌, Ok, refl}
 use Rattle.sqlite.specs.Compile.{table_defined_by}
-use Rattle.sqlite.specs.Change.{created}
 use Rattle.sqlite.specs.Does.{sequence_text}
 use Rattle.sqlite.specs.Table.{Table}
 use Rattle.sqlite_tied.specs.Compute.{everything}
-use Rattle.archive_tables.specs.Schema.{no_schema, archive_schema, create_version, create_list, create_person, create_grant, create_message, version_table, list_table, person_table, grant_table, message_table, sequence_table}
+use Rattle.archive_tables.specs.Schema.{create_version, create_list, create_person, create_grant, create_message, version_table, list_table, person_table, grant_table, message_table, sequence_table}
 
 -- as a text defines it, a table has no place yet
 abbrev pub unplaced : Table → Table

@@ -1,12 +1,12 @@
 -- What becomes of all tables where one changes.
-use Rattle.std.proofs.Common.{◌≡◌, ◌≢◌, ℕ, List, [], ◌∷◌, map, refl, sym, ap, subst, ◌∙◌, arith}
+use Rattle.std.proofs.Common.{◌≡◌, ◌≢◌, ℕ, List, map, sym, ap, subst, ◌∙◌, arith}
 use Rattle.std.specs.List.{AllByRecursion}
 use Rattle.sqlite.specs.Order.{Row}
 use Rattle.sqlite.specs.Table.{Table}
 use Rattle.sqlite.specs.Tree.{Trees}
 use Rattle.archive_machine.specs.Records.{Person, Grant, Message, Archive}
 use Rattle.archive_tables.specs.Schema.{archive_schema}
-use Rattle.archive_tables.specs.Tables.{Holds, AreApart, ArePositive, AreTables, archive_in, version_rows, list_cells, list_read, person_cells, person_read, grant_cells, grant_read, message_cells, message_read, same_grant, same_message}
+use Rattle.archive_tables.specs.Tables.{Holds, AreApart, ArePositive, AreTables, archive_in, list_cells, list_read, person_cells, person_read, grant_cells, grant_read, message_cells, message_read, same_grant, same_message}
 
 -- every table but the one of this tree is as before
 pub record SameBut (t : ℕ) (old new : Trees) : Type 0 where

@@ -1,5 +1,5 @@
 -- What a call does to a database whose tables are as this crate leaves them, where the disk has returned what was written to it.
-use Rattle.std.specs.Prelude.{◌≡◌, IsTrue, Result, Ok, Err, IfOk, OnOk, OnErr}
+use Rattle.std.specs.Prelude.{◌≡◌, IsTrue, Result, IfOk, OnOk, OnErr}
 use Rattle.sqlite.specs.declared.error.Error.{Error}
 use Rattle.sqlite.specs.Store.{Ghosts}
 use Rattle.sqlite.specs.Held.{Held, state}

@@ -1,5 +1,5 @@
 -- How the tables are made: all within one transaction, so that all of them are there or none.
-use Rattle.std.specs.Prelude.{◌≡◌, ◌⊎◌, true, ℕ, pos, List, [], ◌∷◌, IsTrue, Result, OnErr}
+use Rattle.std.specs.Prelude.{◌≡◌, ◌⊎◌, true, [], IsTrue, Result, OnErr}
 use Rattle.std.specs.List.{AllByRecursion}
 use Rattle.sqlite.specs.declared.error.Error.{Error}
 use Rattle.sqlite.specs.Effect.{Database}

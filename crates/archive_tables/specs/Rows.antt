@@ -2,7 +2,7 @@
 use Rattle.std.specs.Prelude.{ℕ, ℤ, pos, List, [], ◌∷◌, string_bytes, None}
 use Rattle.sqlite.specs.declared.types.Value.TheVariants.{Int, Text, Blob}
 use Rattle.sqlite.specs.Order.{Row}
-use Rattle.archive_machine.specs.Records.{Person, Grant, Message}
+use Rattle.archive_machine.specs.Records.{Grant, Message}
 use Rattle.archive_tables.specs.Tables.{or_null}
 use Rattle.archive_tables.specs.declared.rows.MessageRow.{MessageRow}
 use Rattle.archive_tables.specs.declared.rows.GrantRow.{GrantRow}

@@ -1,5 +1,5 @@
 -- The tables of the archive, as SQL texts and as the schema that these texts make.
-use Rattle.std.specs.Prelude.{Bool, true, false, ℕ, ℤ, pos, negsuc, List, [], ◌∷◌, Some, None, codes}
+use Rattle.std.specs.Prelude.{true, false, ℕ, ℤ, pos, negsuc, List, [], ◌∷◌, Some, None, codes}
 use Rattle.sqlite.specs.declared.types.Value.TheVariants.{Null, Int}
 use Rattle.sqlite.specs.Collation.TheVariants.{Binary}
 use Rattle.sqlite.specs.Kind.{Kind}

@@ -5,4 +5,6 @@
 #![tactic(auto)]
 
 pub mod rows;
+#[cfg(test)]
+mod tests;
 pub mod texts;

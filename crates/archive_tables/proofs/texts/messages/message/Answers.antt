@@ -1,6 +1,5 @@
 use Rattle.std.proofs.Common.{ap, sym, ◌∙◌, rules}
-use Rattle.std.specs.Prelude.{◌≡◌, Some, None, slice_get, option_map, bytes_eq}
-use Rattle.archive_machine.specs.Records.{Message}
+use Rattle.std.specs.Prelude.{◌≡◌, Some, None, slice_get}
 use Rattle.archive_tables.specs.Tables.{is_message}
 use Rattle.archive_tables.specs.Rows.{message_shown, message_in}
 use Rattle.archive_tables.proofs.SelectLemmas.{first_found, none_found, equal_words, first_part, found_passes}

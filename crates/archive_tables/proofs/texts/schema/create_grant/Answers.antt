@@ -1,12 +1,10 @@
-use Rattle.std.proofs.Common.{◌≡◌, ◌⊎◌, ℕ, [], Ok, Err, Result, OnOk, OnErr, false}
-use Rattle.std.specs.Prelude.{IsTrue}
+use Rattle.std.proofs.Common.{◌⊎◌, ℕ, [], Ok, Err, Result, OnOk, OnErr}
 use Rattle.sqlite.specs.declared.error.Error.{Error}
 use Rattle.sqlite.specs.Effect.{Database}
 use Rattle.sqlite.specs.Held.{state}
 use Rattle.sqlite.specs.State.{State, Executes, IsUnchanged, IsRolledBack}
-use Rattle.archive_tables.specs.Schema.{no_schema, with_version, with_list, with_person, with_grant, archive_schema, create_version, create_list, create_person, create_grant, create_message}
-use Rattle.archive_tables.specs.Tables.{IsKept, archive_of}
-use Rattle.archive_tables.specs.Making.{IsMaking, IsMade, empty_archive}
+use Rattle.archive_tables.specs.Schema.{with_person, with_grant, create_grant}
+use Rattle.archive_tables.specs.Making.{IsMaking}
 use Rattle.archive_tables.proofs.RunLemmas.{execute_fails}
 use Rattle.archive_tables.proofs.MakeLemmas.{makes_grant}
 use Rattle.archive_tables.proofs.texts.schema.create_grant.Goals as goal

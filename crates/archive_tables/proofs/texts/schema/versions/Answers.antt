@@ -1,4 +1,4 @@
-use Rattle.std.proofs.Common.{◌≡◌, ℕ, pos, List, [], ◌∷◌, map, filter, codes, bytes_eq, Ok, Err, Result, IfOk, IfErr, OnOk}
+use Rattle.std.proofs.Common.{◌≡◌, pos, [], ◌∷◌, Ok, Err, Result, IfOk, IfErr, OnOk}
 use Rattle.std.specs.Prelude.{IsTrue, Vec}
 use Rattle.std.specs.declared.alloc.Global.{Global}
 use Rattle.sqlite.specs.declared.error.Error.{Error}
@@ -6,7 +6,7 @@ use Rattle.sqlite.specs.declared.types.Value.TheVariants.{Int}
 use Rattle.sqlite.specs.Order.{Row}
 use Rattle.sqlite.specs.Held.{state}
 use Rattle.sqlite.specs.State.{State, Shown, FailsToQuery}
-use Rattle.archive_tables.specs.Tables.{IsKept, archive_of}
+use Rattle.archive_tables.specs.Tables.{IsKept}
 use Rattle.archive_tables.specs.Calls.{Rests}
 use Rattle.archive_tables.proofs.MakeLemmas.{number_text, version_found, version_not_found}
 use Rattle.archive_tables.proofs.texts.schema.versions.Goals as goal

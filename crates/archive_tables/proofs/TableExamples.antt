@@ -1,0 +1,70 @@
+-- Worked examples of the words for tables.
+use Rattle.std.proofs.Common.{◌≡◌, pos, [], ◌∷◌, map, codes, refl, true, false, Some}
+use Rattle.std.specs.Prelude.{◌==◌, if◌then◌else◌}
+use Rattle.sqlite.specs.declared.types.Value.TheVariants.{Null, Int, Text, Blob}
+use Rattle.sqlite.specs.Order.{Row}
+use Rattle.sqlite.specs.Table.{Table}
+use Rattle.sqlite.specs.Tree.{Trees}
+use Rattle.archive_machine.specs.Records.{Message, Grant}
+use Rattle.archive_tables.specs.Schema.{archive_schema}
+use Rattle.archive_tables.specs.Tables.{row_of, read_of, message_cells, message_read, grant_cells, grant_read, is_message, is_grant, same_message, AreApart, archive_in, version_rows}
+use Rattle.archive_tables.specs.Rows.{message_shown, new_message}
+
+abbrev hello : Message
+hello = record {
+  list = codes "soc";
+  key = codes "5891";
+  sender = codes "anna@example.org";
+  arrival = pos 1046772000;
+  text = codes "hello";
+  withdrawn = pos 2;
+  embargo = Some (pos 12131);
+}
+
+abbrev hello_row : Row
+hello_row =
+    Int (pos 7) ∷ Null ∷ Text (codes "soc") ∷ Text (codes "5891") ∷ Blob (codes "anna@example.org") ∷ Int (pos 1046772000) ∷ Blob (codes "hello") ∷ Int (pos 2)
+    ∷ Int (pos 12131) ∷ []
+
+-- ---- a row and its record
+
+a_message_is_its_row : row_of message_cells (record { number = pos 7; it = hello }) ≡ hello_row
+a_message_is_its_row = refl
+
+a_row_is_its_message : read_of message_read hello_row ≡ record { number = pos 7; it = hello }
+a_row_is_its_message = refl
+
+no_embargo_is_null : message_shown (new_message (codes "soc") (codes "e3b0") (codes "-") (pos 0) [])
+    ≡ Text (codes "e3b0") ∷ Blob (codes "-") ∷ Int (pos 0) ∷ Blob [] ∷ Int (pos 0) ∷ Null ∷ []
+no_embargo_is_null = refl
+
+abbrev moderator : Grant
+moderator = record { person = codes "anna"; list = codes "soc"; rank = pos 3; from_day = pos 12000; until_day = pos 12400 }
+
+a_grant_is_read_back : grant_read (Int (pos 1) ∷ grant_cells moderator) ≡ moderator
+a_grant_is_read_back = refl
+
+-- ---- keys
+
+the_key_of_a_list : (is_message (codes "soc") (codes "5891") hello ≡ true) × (is_message (codes "news") (codes "5891") hello ≡ false)
+the_key_of_a_list = (refl, refl)
+
+another_rank_is_another_grant : (is_grant (codes "anna") (codes "soc") (pos 3) moderator ≡ true) × (is_grant (codes "anna") (codes "soc") (pos 1) moderator ≡ false)
+another_rank_is_another_grant = (refl, refl)
+
+two_lists_may_have_one_key : AreApart same_message (hello ∷ record hello { list = codes "news" } ∷ [])
+two_lists_may_have_one_key = (refl, (refl, tt))
+
+-- ---- a database
+
+abbrev two_lists : Trees
+two_lists t =
+    if t == 0 then version_rows
+    else (if t == 1 then (Int (pos 1) ∷ Text (codes "soc") ∷ []) ∷ (Int (pos 2) ∷ Text (codes "news") ∷ []) ∷ [] else [])
+
+its_archive : archive_in two_lists ≡ record { lists = codes "soc" ∷ codes "news" ∷ []; persons = []; grants = []; messages = [] }
+its_archive = refl
+
+six_tables : map (λ (t : Table). t.name) archive_schema.tables
+    ≡ codes "version" ∷ codes "list" ∷ codes "person" ∷ codes "grant_row" ∷ codes "message" ∷ codes "sqlite_sequence" ∷ []
+six_tables = refl
