@@ -1,2 +1,3 @@
 pub mod StepEquations
 pub mod StepLemmas
+pub mod ReadingLemmas

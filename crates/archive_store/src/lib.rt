@@ -9,11 +9,13 @@ pub mod limits;
 mod messages;
 mod persons;
 mod questions;
+mod reading;
 mod store;
 mod words;
 
 pub use adopting::AdoptStop;
 pub use faults::StoreFault;
+pub use reading::Message;
 pub use store::Store;
 pub use words::{Added, Kind, Party};
 

@@ -1,0 +1,33 @@
+-- The messages of the code, as the machine's.
+use Rattle.std.specs.Prelude.{◌≡◌, ℕ, ℤ, pos, true, List, bytes_eq, Option, Some, None, if◌then◌else◌}
+use Rattle.std.specs.List.{All}
+use Rattle.policy_core.specs.declared.access.Withdrawn.{Withdrawn}
+use Rattle.policy_core.specs.declared.access.Withdrawn.TheVariants.{No, Author, Board}
+use Rattle.archive_machine.specs.Commands.{Refusal, no_list}
+use Rattle.archive_machine.specs.Records.{Archive, Message as Remembered}
+use Rattle.archive_machine.specs.Questions.{has_list}
+use Rattle.archive_store.specs.declared.reading.Message.{Message}
+
+abbrev pub number_of : Withdrawn → ℤ
+number_of No = pos 0
+number_of Author = pos 1
+number_of Board = pos 2
+
+abbrev pub message_of : List ℕ → Message → Remembered
+message_of list m = record {
+  list = list;
+  key = m.key;
+  sender = m.item.envelope.sender;
+  arrival = m.item.envelope.arrival;
+  text = m.item.text;
+  withdrawn = number_of m.withdrawn;
+  embargo = m.embargo_until;
+}
+
+-- messages of this list alone
+abbrev pub AreOf : List ℕ → List Remembered → Type 0
+AreOf list = All (λ m. bytes_eq m.list list ≡ true)
+
+-- a question about a list is refused where there is none of its name
+abbrev pub list_refusal : Archive → List ℕ → Option Refusal
+list_refusal archive list = if has_list archive list then None else Some no_list

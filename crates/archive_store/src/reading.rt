@@ -1,0 +1,126 @@
+//! Questions on lists and their messages.
+ghost use Rattle.std.specs.Prelude.{◌≡◌, ℕ, List, map, None, IfOk, IfErr, IfSome};
+ghost use Rattle.archive_machine.specs.Records.{Message as Remembered};
+ghost use Rattle.archive_tables.specs.Rows.{message_in, message_shown};
+ghost use Rattle.archive_store.specs.Messages.{message_of, number_of, AreOf};
+ghost use Rattle.archive_store.specs.Replies.{refusal};
+
+use crate::faults::StoreFault;
+use crate::store::Store;
+use archive_machine::Key;
+use archive_tables::rows::{MessageRow, read_message};
+use archive_tables::texts;
+use mail_core::{Day, Instant};
+use mbox_core::OwnedItem;
+use policy_core::Withdrawn;
+use sqlite::{Alter, Row};
+use std::alloc::Global;
+
+/// A message of a list. Its item's text is the whole text.
+#[derive(Drop)]
+pub struct Message {
+    pub key: Key,
+    pub item: OwnedItem,
+    pub withdrawn: Withdrawn,
+    /// The day up to which it is held back.
+    pub embargo_until: Option<Day>,
+}
+
+impl<S: Alter> Store<S> {
+    ghost use Rattle.std.specs.Prelude.{◌≡◌, map, option_map};
+    ghost use Rattle.archive_machine.specs.Questions.{messages_in, message_of as remembered};
+    ghost use Rattle.archive_store.specs.Held.{held_of};
+    ghost use Rattle.archive_store.specs.Replies.{Answers};
+    ghost use Rattle.archive_store.specs.Messages.{message_of, list_refusal};
+
+    /// The messages of a list in mailbox order. E4 where there is no such list.
+    pub fn rows(&mut self, alloc: Global, list: &str) -> Result<Vec<Message>, StoreFault>
+        ensures { Answers S.Store (held_of self.old) (held_of self.new) result (λ a. list_refusal a list.now)
+            (λ a found. map (message_of list.now) found.items ≡ messages_in a list.now) }
+    {
+        if !texts::lists::has_list(&mut self.conn, list)? {
+            return Err(StoreFault::NoList);
+        }
+        let shown = texts::messages::messages(&mut self.conn, list)?;
+        read_rows(alloc, &shown)
+    }
+
+    /// The message of a list with a key, if the list holds it. E4 where there is no such list.
+    pub fn row(&mut self, list: &str, key: &Key) -> Result<Option<Message>, StoreFault>
+        ensures { Answers S.Store (held_of self.old) (held_of self.new) result (λ a. list_refusal a list.now)
+            (λ a found. option_map (message_of list.now) found ≡ remembered a list.now key.now) }
+    {
+        if !texts::lists::has_list(&mut self.conn, list)? {
+            return Err(StoreFault::NoList);
+        }
+        match texts::messages::message(&mut self.conn, list, key.as_str())? {
+            Some(row) => Ok(Some(read_or_fail(row)?)),
+            None => Ok(None),
+        }
+    }
+}
+
+/// The messages that rows show.
+fn read_rows(alloc: Global, rows: &[Row]) -> Result<Vec<Message>, StoreFault>
+    ensures read { IfOk result (λ found. (list : List ℕ) (shown : List Remembered) → rows.now ≡ map message_shown shown → AreOf list shown
+        → map (message_of list) found.items ≡ shown) }
+    ensures fault { IfErr result (λ fault. refusal fault ≡ None) }
+{
+    let mut found = Vec::with_capacity(alloc, rows.len())?;
+    for row in rows.iter() {
+        let message = read_or_fail(read_message(row)?)?;
+        found.push(message)?;
+    }
+    Ok(found)
+}
+
+/// E15 where a row is of no message.
+fn read_or_fail(row: MessageRow) -> Result<Message, StoreFault>
+    ensures read { IfOk result (λ message. (list : List ℕ) → message_of list message ≡ message_in list row) }
+    ensures fault { IfErr result (λ fault. refusal fault ≡ None) }
+{
+    match read(row) {
+        Some(message) => Ok(message),
+        None => Err(StoreFault::Store),
+    }
+}
+
+/// The message of a row. `None` where the row is of none.
+fn read(row: MessageRow) -> Option<Message>
+    ensures { IfSome result (λ message. (list : List ℕ) → message_of list message ≡ message_in list row) }
+{
+    let key = Key::read(&row.key)?;
+    let arrival = Instant::new(row.arrival)?;
+    let withdrawn = withdrawn_by(row.withdrawn)?;
+    let embargo_until = match row.embargo {
+        Some(number) => Some(numbered_day(number)?),
+        None => None,
+    };
+    let item = OwnedItem::new(row.sender, arrival, row.text)?;
+    Some(Message {
+        key,
+        item,
+        withdrawn,
+        embargo_until,
+    })
+}
+
+/// Who withdrew a message, by number.
+fn withdrawn_by(number: i64) -> Option<Withdrawn>
+    ensures { IfSome result (λ by. number_of by ≡ number) }
+{
+    match number {
+        0 => Some(Withdrawn::No),
+        1 => Some(Withdrawn::Author),
+        2 => Some(Withdrawn::Board),
+        _ => None,
+    }
+}
+
+/// The day of a number, counted from 1970-01-01.
+fn numbered_day(number: i64) -> Option<Day>
+    ensures { IfSome result (λ day. day ≡ number) }
+{
+    let start = number.checked_mul(86_400)?;
+    Some(Instant::new(start)?.day())
+}
