@@ -1,3 +1,4 @@
+pub mod RankLemmas
 pub mod StepEquations
 pub mod StepLemmas
 pub mod ReadingLemmas

@@ -1,5 +1,5 @@
 -- A command, call by call: what it learns of the archive while the tables rest, and how it ends.
-use Rattle.std.proofs.Common.{◌≡◌, Option, Some, None, refl, sym, ap, subst, ◌∙◌}
+use Rattle.std.proofs.Common.{◌≡◌, Some, refl, sym, ap, subst, ◌∙◌}
 use Rattle.std.specs.Prelude.{⊤, IsTrue}
 use Rattle.sqlite.specs.Store.{Ghosts}
 use Rattle.sqlite.specs.Held.{Held, state}
@@ -8,7 +8,7 @@ use Rattle.archive_machine.specs.Records.{Archive}
 use Rattle.archive_machine.specs.Commands.{Reply}
 use Rattle.archive_machine.specs.Machine.{Outcome}
 use Rattle.archive_tables.specs.Tables.{IsKept, archive_of}
-use Rattle.archive_tables.specs.Calls.{Changes, Rests, WasClean, Leaves}
+use Rattle.archive_tables.specs.Calls.{Changes, WasClean, Leaves}
 use Rattle.archive_store.specs.Replies.{Does}
 
 -- the tables hold what they held, and this was found of it

@@ -2,3 +2,4 @@ pub mod Held
 pub mod Replies
 pub mod Words
 pub mod Messages
+pub mod Ranks

@@ -6,7 +6,7 @@ use Rattle.mbox_core.specs.Division.{Item}
 use Rattle.sqlite.specs.Held.{Held, state}
 use Rattle.sqlite.specs.State.{State, HasCleanDisk}
 use Rattle.archive_machine.specs.Records.{Archive}
-use Rattle.archive_machine.specs.Commands.{Refusal, bad_name, bad_text, list_exists, no_list, person_exists, no_person, token_taken, no_message, already_withdrawn, not_withdrawn, bad_days, list_full, too_large, Reply, done, was_there, taken_in, already_known, refused}
+use Rattle.archive_machine.specs.Commands.{Refusal, bad_name, bad_text, list_exists, no_list, person_exists, no_person, token_taken, no_message, already_withdrawn, not_withdrawn, bad_days, list_full, too_large, Reply, done, was_there, refused}
 use Rattle.archive_machine.specs.Questions.{is_message}
 use Rattle.archive_machine.specs.Machine.{Outcome, keyed_message}
 use Rattle.archive_tables.specs.Tables.{IsKept, archive_of}

@@ -1,14 +1,26 @@
 //! Questions.
+ghost use Rattle.std.specs.Prelude.{◌≡◌, ◌&&◌, int_le, List, map, IfOk, IfSome};
+ghost use Rattle.std.specs.Int.{int_max};
+ghost use Rattle.archive_machine.specs.Records.{Grant};
+ghost use Rattle.archive_store.specs.Ranks.{rank_on, higher_on};
+ghost use Rattle.archive_tables.specs.Rows.{grant_shown};
+ghost use Rattle.archive_store.specs.Words.{standing_rank};
+
 use crate::faults::StoreFault;
 use crate::store::Store;
+use crate::words::day_number;
+use archive_tables::rows::{GrantRow, read_grant};
 use archive_tables::texts;
-use sqlite::Alter;
+use mail_core::Day;
+use policy_core::Standing;
+use sqlite::{Alter, Error, Row};
 
 impl<S: Alter> Store<S> {
     ghost use Rattle.std.specs.Prelude.{◌≡◌, None, option_map, string_bytes};
-    ghost use Rattle.archive_machine.specs.Questions.{person_of_token};
+    ghost use Rattle.archive_machine.specs.Questions.{person_of_token, standing_of, standing_refusal};
     ghost use Rattle.archive_store.specs.Held.{held_of};
     ghost use Rattle.archive_store.specs.Replies.{Answers};
+    ghost use Rattle.archive_store.specs.Words.{standing_rank};
 
     /// The name of the person who has this token, if somebody has it.
     pub fn person_of_token(&mut self, token: &str) -> Result<Option<String>, StoreFault>
@@ -16,5 +28,74 @@ impl<S: Alter> Store<S> {
             (λ a name. option_map string_bytes name ≡ person_of_token a token.now) }
     {
         Ok(texts::persons::person_of_token(&mut self.conn, token)?)
+    }
+
+    /// The standing of a person on a list and a day: the highest kind that a grant gives which holds on that day, and
+    /// `Public` where none does. E6 where there is no such person, E4 where there is no such list.
+    pub fn standing(&mut self, person: &str, list: &str, day: Day) -> Result<Standing, StoreFault>
+        ensures { Answers S.Store (held_of self.old) (held_of self.new) result (λ a. standing_refusal a person.now list.now)
+            (λ a standing. standing_rank standing ≡ standing_of a person.now list.now day) }
+    {
+        if !texts::persons::has_person(&mut self.conn, person)? {
+            return Err(StoreFault::NoPerson);
+        }
+        if !texts::lists::has_list(&mut self.conn, list)? {
+            return Err(StoreFault::NoList);
+        }
+        let grants = texts::grants::grants_of(&mut self.conn, person, list)?;
+        let rank = highest_rank(&grants, day_number(day))?;
+        match standing_named(&rank) {
+            Some(standing) => Ok(standing),
+            None => Err(StoreFault::Store),
+        }
+    }
+}
+
+/// The highest rank of the grants that hold on a day, 0 where none does. A person has three grants on a list at most.
+fn highest_rank(grants: &[Row], day: i64) -> Result<i64, Error>
+    ensures { IfOk result (λ rank. (shown : List Grant) → grants.now ≡ map grant_shown shown → rank ≡ rank_on day shown) }
+{
+    match grants {
+        [first, rest @ ..] => {
+            let above = highest_rank(rest, day)?;
+            rank_with(first, &above, day)
+        }
+        [] => Ok(0),
+    }
+}
+
+/// The higher of this rank and that of a grant, if the grant holds on the day.
+fn rank_with(row: &Row, above: &i64, day: i64) -> Result<i64, Error>
+    ensures { IfOk result (λ rank. (g : Grant) → row.now ≡ grant_shown g → rank ≡ higher_on day g above.now) }
+{
+    let grant = read_grant(row)?;
+    if holds(&grant, day) {
+        return Ok(higher_rank(&grant, above));
+    }
+    Ok(*above)
+}
+
+fn higher_rank(grant: &GrantRow, rank: &i64) -> i64
+    ensures { result ≡ int_max grant.now.rank rank.now }
+{
+    grant.rank.max(*rank)
+}
+
+fn holds(grant: &GrantRow, day: i64) -> bool
+    ensures { result ≡ (int_le grant.now.from_day day && int_le day grant.now.until_day) }
+{
+    grant.from_day <= day && day <= grant.until_day
+}
+
+/// The standing that a rank names. `None` where it names none.
+fn standing_named(rank: &i64) -> Option<Standing>
+    ensures { IfSome result (λ standing. standing_rank standing ≡ rank.now) }
+{
+    match *rank {
+        0 => Some(Standing::Public),
+        1 => Some(Standing::Member),
+        2 => Some(Standing::Subscriber),
+        3 => Some(Standing::Moderator),
+        _ => None,
     }
 }

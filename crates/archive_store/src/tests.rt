@@ -3,6 +3,7 @@ use crate::{Added, Kind, Party, Store, StoreFault};
 use archive_machine::Key;
 use mail_core::{Day, Instant};
 use mbox_core::{Envelope, Item, Sender};
+use policy_core::Standing;
 use sqlite::{Connection, MemStore};
 use std::alloc::Global;
 use std::test::Fail;
@@ -207,5 +208,46 @@ fn connections_are_adopted_again(rt: HostRuntime) -> Result<(), Fail> {
     let mut other = Connection::open_in_memory(alloc)?;
     other.execute("CREATE TABLE other (name TEXT) STRICT", &[])?;
     assert!(rt; !is_adopted(other));
+    Ok(())
+}
+
+#[test]
+fn standings_by_day(rt: HostRuntime) -> Result<(), Fail> {
+    let mut store = store(rt.alloc())?;
+    store.grant(
+        "anna",
+        "soc",
+        Kind::Member,
+        day("2003-01-01")?,
+        day("2003-12-31")?,
+    )?;
+    store.grant(
+        "anna",
+        "soc",
+        Kind::Moderator,
+        day("2003-06-01")?,
+        day("2003-06-30")?,
+    )?;
+    for (text, standing) in [
+        ("2003-05-31", Standing::Member),
+        ("2003-06-01", Standing::Moderator),
+        ("2003-06-30", Standing::Moderator),
+        ("2003-07-01", Standing::Member),
+        ("2004-01-01", Standing::Public),
+    ] {
+        assert_eq!(rt;
+            store.standing("anna", "soc", day(text)?),
+            Ok(standing),
+            "{text}"
+        );
+    }
+    assert_eq!(rt;
+        store.standing("eve", "xyz", day("2003-06-01")?),
+        Err(StoreFault::NoPerson)
+    );
+    assert_eq!(rt;
+        store.standing("anna", "xyz", day("2003-06-01")?),
+        Err(StoreFault::NoList)
+    );
     Ok(())
 }

@@ -1,13 +1,11 @@
-use Rattle.std.proofs.Common.{◌≡◌, ℕ, ℤ, pos, List, true, false, Some, None, sym, ap, ◌∙◌}
-use Rattle.std.specs.Prelude.{⊤, map, option_map, if◌then◌else◌}
-use Rattle.archive_machine.specs.Records.{Message}
+use Rattle.std.proofs.Common.{◌≡◌, true, false, Some, sym, ◌∙◌}
+use Rattle.std.specs.Prelude.{⊤, map, if◌then◌else◌}
 use Rattle.std.proofs.Common.{to_z, of_z, w64}
 use Rattle.std.proofs.lemmas.Int.{to_z-of_z}
 use Rattle.archive_machine.specs.Commands.{no_message, done, refused}
-use Rattle.archive_machine.specs.Questions.{has_list, is_message, message_of}
+use Rattle.archive_machine.specs.Questions.{has_list, is_message}
 use Rattle.archive_machine.specs.Machine.{held_back}
 use Rattle.std.specs.List.{list_any}
-use Rattle.archive_store.specs.Words.{party_of}
 use Rattle.archive_store.proofs.StepLemmas.{begins, asks, answers, writes}
 use Rattle.archive_store.proofs.StepEquations.{embargo_no_message, embargo_done}
 use Rattle.archive_store.proofs.store.Store.embargo.Goals as goal

@@ -1,11 +1,9 @@
-use Rattle.std.proofs.Common.{◌≡◌, ℕ, ℤ, pos, List, true, false, Some, None, sym, ap, ◌∙◌}
+use Rattle.std.proofs.Common.{◌≡◌, true, Some, None, sym, ap, ◌∙◌}
 use Rattle.std.specs.Prelude.{⊤, map, option_map, if◌then◌else◌}
-use Rattle.archive_machine.specs.Records.{Message}
-use Rattle.archive_machine.specs.Commands.{done, was_there}
+use Rattle.archive_machine.specs.Commands.{was_there}
 use Rattle.archive_machine.specs.Questions.{has_list, is_message, message_of}
 use Rattle.archive_machine.specs.Machine.{lifted}
 use Rattle.archive_tables.specs.Rows.{message_in}
-use Rattle.archive_store.specs.Words.{party_of}
 use Rattle.archive_store.proofs.StepLemmas.{begins, asks, writes}
 use Rattle.archive_store.proofs.StepEquations.{lift_done}
 use Rattle.archive_store.proofs.store.Store.lift.Goals as goal

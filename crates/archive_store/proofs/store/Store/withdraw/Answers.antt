@@ -1,9 +1,8 @@
-use Rattle.std.proofs.Common.{◌≡◌, ℕ, ℤ, pos, List, true, false, Some, None, sym, ap, ◌∙◌}
+use Rattle.std.proofs.Common.{◌≡◌, true, Some, sym, ap, ◌∙◌}
 use Rattle.std.specs.Prelude.{⊤, map, option_map, if◌then◌else◌}
-use Rattle.archive_machine.specs.Records.{Message}
 use Rattle.std.proofs.Common.{to_z, of_z, w64}
 use Rattle.std.proofs.lemmas.Int.{to_z-of_z}
-use Rattle.archive_machine.specs.Commands.{done, was_there}
+use Rattle.archive_machine.specs.Commands.{done}
 use Rattle.archive_machine.specs.Questions.{has_list, is_message, message_of}
 use Rattle.archive_machine.specs.Machine.{withdrawal}
 use Rattle.archive_tables.specs.Rows.{message_in}

@@ -1,0 +1,54 @@
+use Rattle.std.proofs.Common.{◌≡◌, true, sym, ◌∙◌, to_z, of_z, w64}
+use Rattle.std.specs.Prelude.{⊤, map, filter}
+use Rattle.std.proofs.lemmas.Int.{to_z-of_z}
+use Rattle.sqlite.specs.Held.{state}
+use Rattle.archive_machine.specs.Questions.{has_person, has_list, is_grant_of}
+use Rattle.archive_tables.specs.Rows.{grant_shown}
+use Rattle.archive_tables.specs.Tables.{archive_of}
+use Rattle.archive_store.proofs.StepLemmas.{begins, asks}
+use Rattle.archive_store.proofs.RankLemmas.{standing_is, is_answered}
+use Rattle.archive_store.proofs.store.Store.standing.Goals as goal
+
+pub returns-in-Some : goal.returns-in-Some
+returns-in-Some g c =
+    let person = c.args.person.now in
+    let list = c.args.list.now in
+    let one = asks g.S.Store c.args.self.now.conn c.args.self.now.conn c.has_person.new.conn (λ _. ⊤) (λ a. true ≡ has_person a person)
+    (begins g.S.Store c.args.self.now.conn) c.in_ok-has_person.ensures.clean c.in_ok-has_person.ensures.same c.in_ok-has_person.ensures.up
+    (λ clean kept. sym c.if-not-branch.false ∙ c.in_ok-has_person.ensures.found clean kept) in
+    let two = asks g.S.Store c.args.self.now.conn c.has_person.new.conn c.has_list.new.conn (λ a. ⊤ × (true ≡ has_person a person)) (λ a. true ≡ has_list a list)
+    one c.in_ok-has_list.ensures.clean c.in_ok-has_list.ensures.same c.in_ok-has_list.ensures.up
+    (λ clean kept. sym c.if-not-branch-2.false ∙ c.in_ok-has_list.ensures.found clean kept) in
+    let three = asks g.S.Store c.args.self.now.conn c.has_list.new.conn c.grants_of.new.conn (λ a. (⊤ × (true ≡ has_person a person)) × (true ≡ has_list a list)) (λ a. c.in_ok-grants.grants.items ≡ map grant_shown (filter (is_grant_of person list) a.grants))
+    two c.in_ok-grants.ensures.clean c.in_ok-grants.ensures.same c.in_ok-grants.ensures.up
+    (λ clean kept. c.in_ok-grants.ensures.found clean kept) in
+    λ clean kept.
+    let k = three clean kept in
+    let a = archive_of (state g.S.Store c.args.self.now.conn) in
+    let fits = rw c.in_ok-rank.was at c.highest_rank.type_inv in
+    let day = to_z w64 (of_z w64 c.day_number.result) in (
+      (λ _. (k.kept, k.same)),
+      (
+        is_answered person list a k.fact.0.0.1 k.fact.0.1,
+        c.in-Some.ensures ∙ to_z-of_z w64 c.in_ok-rank.rank (record { sfits = assumption fits }) ∙ standing_is person list c.args.day day c.in_ok-rank.rank a
+            (to_z-of_z w64 c.day_number.result (record { sfits = c.day_number.type_inv }) ∙ c.day_number.ensures)
+            (c.in_ok-rank.ensures (filter (is_grant_of person list) a.grants) (c.deref.ensures.value ∙ k.fact.1)),
+      ),
+    )
+
+pub returns : goal.returns
+returns g c =
+    let person = c.args.person.now in
+    let list = c.args.list.now in
+    let one = asks g.S.Store c.args.self.now.conn c.args.self.now.conn c.has_person.new.conn (λ _. ⊤) (λ a. true ≡ has_person a person)
+    (begins g.S.Store c.args.self.now.conn) c.in_ok-has_person.ensures.clean c.in_ok-has_person.ensures.same c.in_ok-has_person.ensures.up
+    (λ clean kept. sym c.if-not-branch.false ∙ c.in_ok-has_person.ensures.found clean kept) in
+    let two = asks g.S.Store c.args.self.now.conn c.has_person.new.conn c.has_list.new.conn (λ a. ⊤ × (true ≡ has_person a person)) (λ a. true ≡ has_list a list)
+    one c.in_ok-has_list.ensures.clean c.in_ok-has_list.ensures.same c.in_ok-has_list.ensures.up
+    (λ clean kept. sym c.if-not-branch-2.false ∙ c.in_ok-has_list.ensures.found clean kept) in
+    let three = asks g.S.Store c.args.self.now.conn c.has_list.new.conn c.grants_of.new.conn (λ a. (⊤ × (true ≡ has_person a person)) × (true ≡ has_list a list)) (λ a. c.in_ok-grants.grants.items ≡ map grant_shown (filter (is_grant_of person list) a.grants))
+    two c.in_ok-grants.ensures.clean c.in_ok-grants.ensures.same c.in_ok-grants.ensures.up
+    (λ clean kept. c.in_ok-grants.ensures.found clean kept) in
+    λ clean kept.
+    let k = three clean kept in
+    ((λ _. (k.kept, k.same)), tt)
