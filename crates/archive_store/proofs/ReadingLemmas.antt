@@ -1,13 +1,18 @@
 -- Rows of a list that are read one after the other.
-use Rattle.std.proofs.Common.{◌≡◌, ℕ, zero, suc, ◌+◌, ◌<◌, ◌≤◌, true, List, [], ◌∷◌, ◌++◌, length, get_or, drop, map, bytes_eq, refl, ap, sym, subst, ◌∙◌, arith}
+use Rattle.std.proofs.Common.{◌≡◌, ℕ, zero, suc, ◌+◌, ◌<◌, ◌≤◌, true, List, [], ◌∷◌, ◌++◌, length, get_or, drop, map, bytes_eq, refl, ap, sym, subst, ◌∙◌, arith, Option, Some, None, Result, Ok, Err, IfOk, IfErr}
+use Rattle.std.specs.Prelude.{⊤, MatchResult, MatchOption}
 use Rattle.std.proofs.lemmas.List.{drop_more}
 use Rattle.std.proofs.lemmas.Slice.Eq.{bytes_eq-Decides}
-use Rattle.std.proofs.lemmas.List.Elements.{All-head, All-tail}
+use Rattle.std.proofs.lemmas.List.Elements.{All-head, All-tail, filter_passes}
 use Rattle.sqlite.specs.Order.{Row}
-use Rattle.archive_machine.specs.Records.{Message}
+use Rattle.archive_machine.specs.Commands.{Refusal}
+use Rattle.archive_machine.specs.Records.{Message, Archive}
+use Rattle.archive_machine.specs.Questions.{has_list, messages_in}
 use Rattle.archive_tables.specs.Rows.{message_shown, message_in}
 use Rattle.archive_tables.specs.declared.rows.MessageRow.{MessageRow}
-use Rattle.archive_store.specs.Messages.{AreOf}
+use Rattle.archive_store.specs.Messages.{AreOf, list_refusal}
+use Rattle.archive_store.specs.Replies.{refusal}
+use Rattle.archive_store.specs.declared.faults.StoreFault.{StoreFault}
 
 -- these messages were read, these rows are left, and together they are the messages that all rows show
 pub record HasRead (list : List ℕ) (read : List Message) (left : List Row) (shown : List Message) : Type 0 where
@@ -71,3 +76,17 @@ read_every list read rows i shown h past = read_all list read shown (subst (λ l
 -- a row that shows a message of the list is read as that message
 pub read_of : (list : List ℕ) (r : MessageRow) (m : Message) → message_in m.list r ≡ m → bytes_eq m.list list ≡ true → message_in list r ≡ m
 read_of list r m e same = subst (λ l. message_in l r ≡ m) ((bytes_eq-Decides m.list list).0 same) e
+
+-- a question about a list that is there is answered
+pub is_there : (list : List ℕ) (a : Archive) → true ≡ has_list a list → list_refusal a list ≡ None
+is_there list a l = rw (sym l) refl
+
+pub are_of : (list : List ℕ) (a : Archive) → AreOf list (messages_in a list)
+are_of list a = filter_passes (λ m. bytes_eq m.list list) a.messages
+
+-- the answer of a question whose last part fails for memory or the database alone
+pub ends : {A : Type 0} (r : Result A StoreFault) (refuses : Option Refusal) (P Q : A → Type 0) → refuses ≡ None → ((x : A) → P x → Q x)
+    → IfOk r P → IfErr r (λ fault. refusal fault ≡ None)
+    → MatchResult r (λ x. (refuses ≡ None) × Q x) (λ fault. MatchOption (refusal fault) ⊤ (λ refused. refuses ≡ Some refused))
+ends (Ok x) refuses P Q e weaker ok err = (e, weaker x ok)
+ends (Err fault) refuses P Q e weaker ok err = rw err tt
