@@ -3,7 +3,7 @@ use crate::{Added, Kind, Party, Store, StoreFault};
 use archive_machine::Key;
 use mail_core::{Day, Instant};
 use mbox_core::{Envelope, Item, Sender};
-use policy_core::Standing;
+use policy_core::{Standing, Withdrawn};
 use sqlite::{Connection, MemStore};
 use std::alloc::Global;
 use std::test::Fail;
@@ -185,6 +185,50 @@ fn messages_are_held_back_and_let_go(rt: HostRuntime) -> Result<(), Fail> {
     assert_eq!(rt; store.embargo("soc", &key, until), Ok(()));
     assert_eq!(rt; store.lift("soc", &key), Ok(true));
     assert_eq!(rt; store.lift("soc", &key), Ok(false));
+    Ok(())
+}
+
+#[test]
+fn messages_are_read_in_the_order_in_which_they_came(rt: HostRuntime) -> Result<(), Fail> {
+    let alloc = rt.alloc();
+    let mut store = store(alloc)?;
+    store.list_add("other")?;
+    assert!(rt; store.rows(alloc, "soc")?.is_empty());
+    let (one, two) = (item("a at b", b"one")?, item("c@d", b"two\n")?);
+    store.add(alloc, "soc", &one)?;
+    store.add(alloc, "other", &two)?;
+    store.add(alloc, "soc", &two)?;
+    store.withdraw("soc", &Key::of(&one), Party::Board)?;
+    store.embargo("soc", &Key::of(&two), day("2003-04-01")?)?;
+    let rows = store.rows(alloc, "soc")?;
+    let [first, second] = rows.as_slice() else {
+        return Err(Fail::from("two messages"));
+    };
+    assert!(rt; first.key == Key::of(&one) && second.key == Key::of(&two));
+    let item = first.item.as_item();
+    assert_eq!(rt; item.envelope.sender, one.envelope.sender);
+    assert_eq!(rt; item.envelope.arrival, one.envelope.arrival);
+    assert_eq!(rt; item.text, b"one\n".as_slice());
+    assert!(rt; item.complete);
+    assert_eq!(rt; first.withdrawn, Withdrawn::Board);
+    assert_eq!(rt; first.embargo_until, None);
+    assert_eq!(rt; second.withdrawn, Withdrawn::No);
+    assert_eq!(rt; second.embargo_until, Some(day("2003-04-01")?));
+    Ok(())
+}
+
+#[test]
+fn a_message_is_found_by_its_key(rt: HostRuntime) -> Result<(), Fail> {
+    let alloc = rt.alloc();
+    let mut store = store(alloc)?;
+    let one = item("a@b", b"one\n")?;
+    let key = Key::of(&one);
+    assert!(rt; store.row("soc", &key)?.is_none());
+    store.add(alloc, "soc", &one)?;
+    let found = store.row("soc", &key)?.ok_or("a message")?;
+    assert_eq!(rt; found.item.as_item().text, one.text);
+    assert!(rt; matches!(store.row("xyz", &key), Err(StoreFault::NoList)));
+    assert!(rt; matches!(store.rows(alloc, "xyz"), Err(StoreFault::NoList)));
     Ok(())
 }
 

@@ -4,7 +4,6 @@ use Rattle.sqlite.specs.Held.{state}
 use Rattle.archive_machine.specs.Questions.{has_list, message_of as remembered}
 use Rattle.archive_tables.specs.Rows.{message_in}
 use Rattle.archive_tables.specs.Tables.{archive_of}
-use Rattle.archive_store.specs.Messages.{message_of}
 use Rattle.archive_store.proofs.StepLemmas.{begins, asks}
 use Rattle.archive_store.proofs.ReadingLemmas.{is_there}
 use Rattle.archive_store.proofs.store.Store.row.Goals as goal
