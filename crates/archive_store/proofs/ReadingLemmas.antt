@@ -1,77 +1,78 @@
--- Rows of a list that are read one after the other.
+-- Rows that are read one after the other.
 use Rattle.std.proofs.Common.{◌≡◌, ℕ, zero, suc, ◌+◌, ◌<◌, ◌≤◌, true, List, [], ◌∷◌, ◌++◌, length, get_or, drop, map, bytes_eq, refl, ap, sym, subst, ◌∙◌, arith, Option, Some, None, Result, Ok, Err, IfOk, IfErr}
 use Rattle.std.specs.Prelude.{⊤, MatchResult, MatchOption}
-use Rattle.std.proofs.lemmas.List.{drop_more}
+use Rattle.std.specs.List.{All}
+use Rattle.std.proofs.lemmas.List.{drop_more, drop_all}
+use Rattle.std.proofs.lemmas.List.Elements.{All-nil, All-cons, All-head, All-tail, filter_passes}
 use Rattle.std.proofs.lemmas.Slice.Eq.{bytes_eq-Decides}
-use Rattle.std.proofs.lemmas.List.Elements.{All-head, All-tail, filter_passes}
 use Rattle.sqlite.specs.Order.{Row}
 use Rattle.archive_machine.specs.Commands.{Refusal}
 use Rattle.archive_machine.specs.Records.{Message, Archive}
 use Rattle.archive_machine.specs.Questions.{has_list, messages_in}
-use Rattle.archive_tables.specs.Rows.{message_shown, message_in}
+use Rattle.archive_tables.specs.Rows.{message_in}
 use Rattle.archive_tables.specs.declared.rows.MessageRow.{MessageRow}
 use Rattle.archive_store.specs.Messages.{AreOf, list_refusal}
 use Rattle.archive_store.specs.Replies.{refusal}
 use Rattle.archive_store.specs.declared.faults.StoreFault.{StoreFault}
 
--- these messages were read, these rows are left, and together they are the messages that all rows show
-pub record HasRead (list : List ℕ) (read : List Message) (left : List Row) (shown : List Message) : Type 0 where
-  pub rest : List Message
-  pub rows : left ≡ map message_shown rest
-  pub of_list : AreOf list rest
-  pub joined : read ++ rest ≡ shown
+-- These records were read and these rows are left, and together they are all records that the rows show. P holds of each
+-- that is left.
+pub record HasRead {A : Type 0} (shows : A → Row) (P : A → Type 0) (read : List A) (left : List Row) (all : List A) : Type 0 where
+  pub rest : List A
+  pub rows : left ≡ map shows rest
+  pub each : All P rest
+  pub joined : read ++ rest ≡ all
 
-pub read_none : (list : List ℕ) (rows : List Row) (shown : List Message) → rows ≡ map message_shown shown → AreOf list shown → HasRead list [] rows shown
-read_none list rows shown e of = record { rest = shown; rows = e; of_list = of; joined = refl }
+pub read_none : {A : Type 0} (shows : A → Row) (P : A → Type 0) (rows : List Row) (all : List A) → rows ≡ map shows all → All P all → HasRead shows P [] rows all
+read_none shows P rows all e each = record { rest = all; rows = e; each = each; joined = refl }
 
-pub joined_more : (read : List Message) (m : Message) (rest : List Message) → (read ++ m ∷ []) ++ rest ≡ read ++ m ∷ rest
-joined_more [] m rest = refl
-joined_more (r ∷ read) m rest = ap (λ x. r ∷ x) (joined_more read m rest)
+joined_more : {A : Type 0} (read : List A) (x : A) (rest : List A) → (read ++ x ∷ []) ++ rest ≡ read ++ x ∷ rest
+joined_more [] x rest = refl
+joined_more (r ∷ read) x rest = ap (λ xs. r ∷ xs) (joined_more read x rest)
 
-pub read_more : (list : List ℕ) (read : List Message) (row : Row) (left : List Row) (shown : List Message) (m : Message)
-    → HasRead list read (row ∷ left) shown → ((n : Message) → row ≡ message_shown n → bytes_eq n.list list ≡ true → m ≡ n)
-    → HasRead list (read ++ m ∷ []) left shown
-read_more list read row left shown m h same = more h.rest h.rows h.of_list h.joined
+read_more : {A : Type 0} (shows : A → Row) (P : A → Type 0) (read : List A) (row : Row) (left : List Row) (all : List A) (x : A)
+    → HasRead shows P read (row ∷ left) all → ((y : A) → row ≡ shows y → P y → x ≡ y) → HasRead shows P (read ++ x ∷ []) left all
+read_more {A} shows P read row left all x h same = more h.rest h.rows h.each h.joined
   where
-    more : (rest : List Message) → row ∷ left ≡ map message_shown rest → AreOf list rest → read ++ rest ≡ shown → HasRead list (read ++ m ∷ []) left shown
-    more [] e of j = absurd (cc)
-    more (n ∷ rest) e of j =
-        let first : row ≡ message_shown n = cc in
+    more : (rest : List A) → row ∷ left ≡ map shows rest → All P rest → read ++ rest ≡ all → HasRead shows P (read ++ x ∷ []) left all
+    more [] e each j = absurd (cc)
+    more (y ∷ rest) e each j =
+        let first : row ≡ shows y = cc in
         record {
           rest = rest;
           rows = cc;
-          of_list = All-tail (λ x. bytes_eq x.list list ≡ true) n rest of;
-          joined = joined_more read m rest ∙ ap (λ x. read ++ x ∷ rest) (same n first (All-head (λ x. bytes_eq x.list list ≡ true) n rest of)) ∙ j;
+          each = All-tail P y rest each;
+          joined = joined_more read x rest ∙ ap (λ z. read ++ z ∷ rest) (same y first (All-head P y rest each)) ∙ j;
         }
 
-nothing_more : (read : List Message) → read ++ [] ≡ read
-nothing_more [] = refl
-nothing_more (r ∷ read) = ap (λ x. r ∷ x) (nothing_more read)
-
-pub read_all : (list : List ℕ) (read : List Message) (shown : List Message) → HasRead list read [] shown → read ≡ shown
-read_all list read shown h = all h.rest h.rows h.joined
-  where
-    all : (rest : List Message) → [] ≡ map message_shown rest → read ++ rest ≡ shown → read ≡ shown
-    all [] e j = sym (nothing_more read) ∙ j
-    all (n ∷ rest) e j = absurd (cc)
-
 -- the row of this number is read after those before it
-pub read_row : (list : List ℕ) (read read' : List Message) (rows : List Row) (i : ℕ) (d : Row) (shown : List Message) (m : Message)
-    → HasRead list read (drop i rows) shown → i < length rows
-    → ((n : Message) → get_or rows i d ≡ message_shown n → bytes_eq n.list list ≡ true → m ≡ n)
-    → read' ≡ read ++ m ∷ [] → HasRead list read' (drop (i + 1) rows) shown
-read_row list read read' rows i d shown m h within same e =
-    rw e (read_more list read (get_or rows i d) (drop (i + 1) rows) shown m (subst (λ left. HasRead list read left shown) (drop_more rows i d within) h) same)
+pub read_row : {A : Type 0} (shows : A → Row) (P : A → Type 0) (read read' : List A) (rows : List Row) (i : ℕ) (d : Row) (all : List A) (x : A)
+    → HasRead shows P read (drop i rows) all → i < length rows → ((y : A) → get_or rows i d ≡ shows y → P y → x ≡ y)
+    → read' ≡ read ++ x ∷ [] → HasRead shows P read' (drop (i + 1) rows) all
+read_row shows P read read' rows i d all x h within same e =
+    rw e (read_more shows P read (get_or rows i d) (drop (i + 1) rows) all x (subst (λ left. HasRead shows P read left all) (drop_more rows i d within) h) same)
 
-drop_all : (rows : List Row) (i : ℕ) → length rows ≤ i → drop i rows ≡ []
-drop_all [] zero h = refl
-drop_all [] (suc i) h = refl
-drop_all (r ∷ rows) zero h = absurd (omega (arith, h))
-drop_all (r ∷ rows) (suc i) h = drop_all rows i (omega (arith, h))
+nothing_more : {A : Type 0} (read : List A) → read ++ [] ≡ read
+nothing_more [] = refl
+nothing_more (r ∷ read) = ap (λ xs. r ∷ xs) (nothing_more read)
 
-pub read_every : (list : List ℕ) (read : List Message) (rows : List Row) (i : ℕ) (shown : List Message)
-    → HasRead list read (drop i rows) shown → length rows ≤ i → read ≡ shown
-read_every list read rows i shown h past = read_all list read shown (subst (λ left. HasRead list read left shown) (drop_all rows i past) h)
+read_all : {A : Type 0} (shows : A → Row) (P : A → Type 0) (read all : List A) → HasRead shows P read [] all → read ≡ all
+read_all {A} shows P read all h = go h.rest h.rows h.joined
+  where
+    go : (rest : List A) → [] ≡ map shows rest → read ++ rest ≡ all → read ≡ all
+    go [] e j = sym (nothing_more read) ∙ j
+    go (x ∷ rest) e j = absurd (cc)
+
+pub read_every : {A : Type 0} (shows : A → Row) (P : A → Type 0) (read : List A) (rows : List Row) (i : ℕ) (all : List A)
+    → HasRead shows P read (drop i rows) all → length rows ≤ i → read ≡ all
+read_every shows P read rows i all h past = read_all shows P read all (subst (λ left. HasRead shows P read left all) (drop_all i rows past) h)
+
+-- nothing is asked of a record
+pub each_is : {A : Type 0} (xs : List A) → All (λ _. ⊤) xs
+each_is [] = All-nil (λ _. ⊤)
+each_is (x ∷ xs) = All-cons (λ _. ⊤) x xs tt (each_is xs)
+
+-- ---- messages of a list
 
 -- a row that shows a message of the list is read as that message
 pub read_of : (list : List ℕ) (r : MessageRow) (m : Message) → message_in m.list r ≡ m → bytes_eq m.list list ≡ true → message_in list r ≡ m
@@ -84,7 +85,8 @@ is_there list a l = rw (sym l) refl
 pub are_of : (list : List ℕ) (a : Archive) → AreOf list (messages_in a list)
 are_of list a = filter_passes (λ m. bytes_eq m.list list) a.messages
 
--- the answer of a question whose last part fails for memory or the database alone
+-- ---- the answer of a question whose last part fails for memory or the database alone
+
 pub ends : {A : Type 0} (r : Result A StoreFault) (refuses : Option Refusal) (P Q : A → Type 0) → refuses ≡ None → ((x : A) → P x → Q x)
     → IfOk r P → IfErr r (λ fault. refusal fault ≡ None)
     → MatchResult r (λ x. (refuses ≡ None) × Q x) (λ fault. MatchOption (refusal fault) ⊤ (λ refused. refuses ≡ Some refused))

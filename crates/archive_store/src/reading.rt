@@ -1,14 +1,14 @@
 //! Questions on lists and their messages.
-ghost use Rattle.std.specs.Prelude.{◌≡◌, ℕ, List, map, None, IfOk, IfErr, IfSome};
+ghost use Rattle.std.specs.Prelude.{◌≡◌, ℕ, List, map, string_bytes, None, IfOk, IfErr, IfSome};
 ghost use Rattle.archive_machine.specs.Records.{Message as Remembered};
-ghost use Rattle.archive_tables.specs.Rows.{message_in, message_shown};
+ghost use Rattle.archive_tables.specs.Rows.{name_shown, message_in, message_shown};
 ghost use Rattle.archive_store.specs.Messages.{message_of, number_of, AreOf};
 ghost use Rattle.archive_store.specs.Replies.{refusal};
 
 use crate::faults::StoreFault;
 use crate::store::Store;
 use archive_machine::Key;
-use archive_tables::rows::{MessageRow, read_message};
+use archive_tables::rows::{MessageRow, read_message, read_name};
 use archive_tables::texts;
 use mail_core::{Day, Instant};
 use mbox_core::OwnedItem;
@@ -27,11 +27,20 @@ pub struct Message {
 }
 
 impl<S: Alter> Store<S> {
-    ghost use Rattle.std.specs.Prelude.{◌≡◌, map, option_map};
-    ghost use Rattle.archive_machine.specs.Questions.{messages_in, message_of as remembered};
+    ghost use Rattle.std.specs.Prelude.{◌≡◌, None, map, option_map, string_bytes};
+    ghost use Rattle.archive_machine.specs.Questions.{AreListNames, messages_in, message_of as remembered};
     ghost use Rattle.archive_store.specs.Held.{held_of};
     ghost use Rattle.archive_store.specs.Replies.{Answers};
     ghost use Rattle.archive_store.specs.Messages.{message_of, list_refusal};
+
+    /// The names of all lists, in the order of their bytes.
+    pub fn lists(&mut self, alloc: Global) -> Result<Vec<String>, StoreFault>
+        ensures { Answers S.Store (held_of self.old) (held_of self.new) result (λ _. None)
+            (λ a names. AreListNames a (map string_bytes names.items)) }
+    {
+        let shown = texts::lists::list_names(&mut self.conn)?;
+        read_names(alloc, &shown)
+    }
 
     /// The messages of a list in mailbox order. E4 where there is no such list.
     pub fn rows(&mut self, alloc: Global, list: &str) -> Result<Vec<Message>, StoreFault>
@@ -58,6 +67,19 @@ impl<S: Alter> Store<S> {
             None => Ok(None),
         }
     }
+}
+
+/// The names that rows show.
+fn read_names(alloc: Global, rows: &[Row]) -> Result<Vec<String>, StoreFault>
+    ensures read { IfOk result (λ found. (names : List (List ℕ)) → rows.now ≡ map name_shown names → map string_bytes found.items ≡ names) }
+    ensures fault { IfErr result (λ fault. refusal fault ≡ None) }
+{
+    let mut found = Vec::with_capacity(alloc, rows.len())?;
+    for row in rows.iter() {
+        let name = read_name(row)?;
+        found.push(name)?;
+    }
+    Ok(found)
 }
 
 /// The messages that rows show.

@@ -1,0 +1,28 @@
+use Rattle.std.proofs.Common.{◌≡◌, ℕ, List, None, refl, sym, subst, ◌∙◌}
+use Rattle.std.specs.Prelude.{⊤, map, string_bytes, IsPermutation, IsSorted}
+use Rattle.std.specs.Cmp.Lexicographic.{slice_cmp}
+use Rattle.std.specs.Ordering.{nat_cmp}
+use Rattle.sqlite.specs.Held.{state}
+use Rattle.archive_machine.specs.Questions.{AreListNames}
+use Rattle.archive_tables.specs.Rows.{name_shown}
+use Rattle.archive_tables.specs.Tables.{archive_of}
+use Rattle.archive_store.proofs.StepLemmas.{begins, asks}
+use Rattle.archive_store.proofs.ReadingLemmas.{ends}
+use Rattle.archive_store.proofs.store.Store.lists.Goals as goal
+
+pub returns : goal.returns
+returns g c =
+    let one = asks g.S.Store c.args.self.now.conn c.args.self.now.conn c.list_names.new.conn (λ _. ⊤)
+    (λ a. (names : List (List ℕ)) × (c.in_ok-shown.shown.items ≡ map name_shown names) × IsPermutation a.lists names × IsSorted (slice_cmp nat_cmp) names)
+    (begins g.S.Store c.args.self.now.conn) c.in_ok-shown.ensures.clean c.in_ok-shown.ensures.same c.in_ok-shown.ensures.up
+    (λ clean kept. c.in_ok-shown.ensures.found clean kept) in
+    λ clean kept.
+    let q = one clean kept in
+    let a = archive_of (state g.S.Store c.args.self.now.conn) in (
+      (λ _. (q.kept, q.same)),
+      ends c.read_names.result None _ (λ names. AreListNames a (map string_bytes names.items)) refl
+          (λ found read.
+          let same = read q.fact.1.0 (c.deref.ensures.value ∙ q.fact.1.1) in
+          record { all = subst (λ n. IsPermutation a.lists n) (sym same) q.fact.1.2; in_order = subst (λ n. IsSorted (slice_cmp nat_cmp) n) (sym same) q.fact.1.3 })
+          c.read_names.ensures.read c.read_names.ensures.fault,
+    )
