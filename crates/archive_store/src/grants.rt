@@ -8,6 +8,7 @@ use sqlite::Alter;
 
 impl<S: Alter> Store<S> {
     ghost use Rattle.archive_machine.specs.Machine.{granted, revoked};
+    ghost use Rattle.archive_tables.specs.Calls.{WasClean};
     ghost use Rattle.archive_store.specs.Held.{held_of};
     ghost use Rattle.archive_store.specs.Words.{rank_of};
     ghost use Rattle.archive_store.specs.Replies.{Does, says_done, says_whether};
@@ -22,8 +23,9 @@ impl<S: Alter> Store<S> {
         from: Day,
         until: Day,
     ) -> Result<(), StoreFault>
-        ensures { Does S.Store (held_of self.old) (held_of self.new)
+        ensures step { Does S.Store (held_of self.old) (held_of self.new)
             (λ a. granted a (record { person = person.now; list = list.now; rank = rank_of kind; from_day = from; until_day = until })) (says_done result) }
+        ensures clean { WasClean S.Store (held_of self.old) (held_of self.new) }
     {
         if !texts::persons::has_person(&mut self.conn, person)? {
             return Err(StoreFault::NoPerson);
@@ -48,7 +50,8 @@ impl<S: Alter> Store<S> {
     /// Takes a grant away, and says whether it was there. E6 where there is no such person, E4 where there is no such
     /// list.
     pub fn revoke(&mut self, person: &str, list: &str, kind: Kind) -> Result<bool, StoreFault>
-        ensures { Does S.Store (held_of self.old) (held_of self.new) (λ a. revoked a person.now list.now (rank_of kind)) (says_whether result) }
+        ensures step { Does S.Store (held_of self.old) (held_of self.new) (λ a. revoked a person.now list.now (rank_of kind)) (says_whether result) }
+        ensures clean { WasClean S.Store (held_of self.old) (held_of self.new) }
     {
         if !texts::persons::has_person(&mut self.conn, person)? {
             return Err(StoreFault::NoPerson);

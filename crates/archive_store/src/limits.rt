@@ -30,7 +30,8 @@ pub fn add_limited<S: Alter>(
     item: &Item<'_>,
     limit: u32,
 ) -> Result<Added, StoreFault>
-    ensures { Does S.Store (held_of store.old) (held_of store.new) (λ a. added_within limit a list.now item.now) (says_added result) }
+    ensures step { Does S.Store (held_of store.old) (held_of store.new) (λ a. added_within limit a list.now item.now) (says_added result) }
+    ensures clean { WasClean S.Store (held_of store.old) (held_of store.new) }
 {
     if !texts::lists::has_list(&mut store.conn, list)? {
         return Err(StoreFault::NoList);

@@ -17,6 +17,7 @@ use std::alloc::Global;
 impl<S: Alter> Store<S> {
     ghost use Rattle.std.specs.Prelude.{pos, Some, None};
     ghost use Rattle.archive_machine.specs.Machine.{message_limit, added_within, withdrawal, restored, held_back, lifted};
+    ghost use Rattle.archive_tables.specs.Calls.{WasClean};
     ghost use Rattle.archive_store.specs.Held.{held_of};
     ghost use Rattle.archive_store.specs.Words.{party_of};
     ghost use Rattle.archive_store.specs.Replies.{Does, says_added, says_done, says_whether};
@@ -25,7 +26,8 @@ impl<S: Alter> Store<S> {
     /// stay. E4 where there is no such list, E13 where the whole text has more than 4,194,304 bytes, E12 where the list
     /// holds 50,000 messages and not this one.
     pub fn add(&mut self, alloc: Global, list: &str, item: &Item<'_>) -> Result<Added, StoreFault>
-        ensures { Does S.Store (held_of self.old) (held_of self.new) (λ a. added_within message_limit a list.now item.now) (says_added result) }
+        ensures step { Does S.Store (held_of self.old) (held_of self.new) (λ a. added_within message_limit a list.now item.now) (says_added result) }
+        ensures clean { WasClean S.Store (held_of self.old) (held_of self.new) }
     {
         add_limited(self, alloc, list, item, MESSAGES)
     }
@@ -33,7 +35,8 @@ impl<S: Alter> Store<S> {
     /// Withdraws a message. E4 where there is no such list, E8 where it holds no such message, E9 where the message is
     /// withdrawn.
     pub fn withdraw(&mut self, list: &str, key: &Key, by: Party) -> Result<(), StoreFault>
-        ensures { Does S.Store (held_of self.old) (held_of self.new) (λ a. withdrawal a list.now key.now (party_of by)) (says_done result) }
+        ensures step { Does S.Store (held_of self.old) (held_of self.new) (λ a. withdrawal a list.now key.now (party_of by)) (says_done result) }
+        ensures clean { WasClean S.Store (held_of self.old) (held_of self.new) }
     {
         if !texts::lists::has_list(&mut self.conn, list)? {
             return Err(StoreFault::NoList);
@@ -52,7 +55,8 @@ impl<S: Alter> Store<S> {
     /// Takes the withdrawal of a message back. E4 where there is no such list, E8 where it holds no such message, E10
     /// where the message is not withdrawn.
     pub fn restore(&mut self, list: &str, key: &Key) -> Result<(), StoreFault>
-        ensures { Does S.Store (held_of self.old) (held_of self.new) (λ a. restored a list.now key.now) (says_done result) }
+        ensures step { Does S.Store (held_of self.old) (held_of self.new) (λ a. restored a list.now key.now) (says_done result) }
+        ensures clean { WasClean S.Store (held_of self.old) (held_of self.new) }
     {
         if !texts::lists::has_list(&mut self.conn, list)? {
             return Err(StoreFault::NoList);
@@ -71,7 +75,8 @@ impl<S: Alter> Store<S> {
     /// Holds a message back on the days before this one; an earlier embargo is replaced. E4 where there is no such list,
     /// E8 where it holds no such message.
     pub fn embargo(&mut self, list: &str, key: &Key, until: Day) -> Result<(), StoreFault>
-        ensures { Does S.Store (held_of self.old) (held_of self.new) (λ a. held_back a list.now key.now until) (says_done result) }
+        ensures step { Does S.Store (held_of self.old) (held_of self.new) (λ a. held_back a list.now key.now until) (says_done result) }
+        ensures clean { WasClean S.Store (held_of self.old) (held_of self.new) }
     {
         if !texts::lists::has_list(&mut self.conn, list)? {
             return Err(StoreFault::NoList);
@@ -87,7 +92,8 @@ impl<S: Alter> Store<S> {
     /// Takes the embargo of a message away, and says whether it had one. E4 where there is no such list, E8 where it
     /// holds no such message.
     pub fn lift(&mut self, list: &str, key: &Key) -> Result<bool, StoreFault>
-        ensures { Does S.Store (held_of self.old) (held_of self.new) (λ a. lifted a list.now key.now) (says_whether result) }
+        ensures step { Does S.Store (held_of self.old) (held_of self.new) (λ a. lifted a list.now key.now) (says_whether result) }
+        ensures clean { WasClean S.Store (held_of self.old) (held_of self.new) }
     {
         if !texts::lists::has_list(&mut self.conn, list)? {
             return Err(StoreFault::NoList);

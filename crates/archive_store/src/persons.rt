@@ -8,12 +8,14 @@ use sqlite::Alter;
 
 impl<S: Alter> Store<S> {
     ghost use Rattle.archive_machine.specs.Machine.{list_added, person_added};
+    ghost use Rattle.archive_tables.specs.Calls.{WasClean};
     ghost use Rattle.archive_store.specs.Held.{held_of};
     ghost use Rattle.archive_store.specs.Replies.{Does, says_done};
 
     /// Adds a list. E1 where the name is none, E3 where the list is there.
     pub fn list_add(&mut self, name: &str) -> Result<(), StoreFault>
-        ensures { Does S.Store (held_of self.old) (held_of self.new) (λ a. list_added a name.now) (says_done result) }
+        ensures step { Does S.Store (held_of self.old) (held_of self.new) (λ a. list_added a name.now) (says_done result) }
+        ensures clean { WasClean S.Store (held_of self.old) (held_of self.new) }
     {
         if !is_name(name) {
             return Err(StoreFault::BadName);
@@ -28,7 +30,8 @@ impl<S: Alter> Store<S> {
     /// Adds a person. E1 where the name is none, E2 where the token is none, E5 where the person is there, E7 where the
     /// token is another person's.
     pub fn person_add(&mut self, name: &str, token: &str) -> Result<(), StoreFault>
-        ensures { Does S.Store (held_of self.old) (held_of self.new) (λ a. person_added a name.now token.now) (says_done result) }
+        ensures step { Does S.Store (held_of self.old) (held_of self.new) (λ a. person_added a name.now token.now) (says_done result) }
+        ensures clean { WasClean S.Store (held_of self.old) (held_of self.new) }
     {
         if !is_name(name) {
             return Err(StoreFault::BadName);

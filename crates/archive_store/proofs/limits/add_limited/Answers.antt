@@ -8,8 +8,8 @@ use Rattle.archive_store.proofs.StepLemmas.{begins, asks, answers, writes_when}
 use Rattle.archive_store.proofs.StepEquations.{add_known, add_full, add_new}
 use Rattle.archive_store.proofs.limits.add_limited.Goals as goal
 
-pub returns-then-branch : goal.returns-then-branch
-returns-then-branch g c =
+pub returns-then-branch-clause-step : goal.returns-then-branch-clause-step
+returns-then-branch-clause-step g c =
     let list = c.args.list.now in
     let k = c.as_str.result.now in
     let one = asks g.S.Store c.args.store.now.conn c.args.store.now.conn c.has_list.new.conn (λ _. ⊤) (λ a. true ≡ has_list a list)
@@ -21,8 +21,8 @@ returns-then-branch g c =
     answers g.S.Store c.args.store.now.conn c.has_message.new.conn _ (λ a. added_within c.args.limit a list c.args.item.now) already_known two
     (add_known c.args.limit list k c.args.item.now (c.as_str.ensures ∙ c.of-key.ensures) c.if-is_too_large.ensures)
 
-pub returns-then-branch-2 : goal.returns-then-branch-2
-returns-then-branch-2 g c =
+pub returns-then-branch-2-clause-step : goal.returns-then-branch-2-clause-step
+returns-then-branch-2-clause-step g c =
     let list = c.args.list.now in
     let k = c.as_str.result.now in
     let one = asks g.S.Store c.args.store.now.conn c.args.store.now.conn c.has_list.new.conn (λ _. ⊤) (λ a. true ≡ has_list a list)
@@ -37,8 +37,8 @@ returns-then-branch-2 g c =
     answers g.S.Store c.args.store.now.conn c.is_full.new.conn _ (λ a. added_within c.args.limit a list c.args.item.now) (refused list_full) three
     (add_full c.args.limit list k c.args.item.now (c.as_str.ensures ∙ c.of-key.ensures) c.if-is_too_large.ensures)
 
-pub returns : goal.returns
-returns g c =
+pub returns-clause-step : goal.returns-clause-step
+returns-clause-step g c =
     let list = c.args.list.now in
     let k = c.as_str.result.now in
     let key = c.of-key.result in

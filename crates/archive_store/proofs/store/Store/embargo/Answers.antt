@@ -10,8 +10,8 @@ use Rattle.archive_store.proofs.StepLemmas.{begins, asks, answers, writes}
 use Rattle.archive_store.proofs.StepEquations.{embargo_no_message, embargo_done}
 use Rattle.archive_store.proofs.store.Store.embargo.Goals as goal
 
-pub returns-then-not-branch-2 : goal.returns-then-not-branch-2
-returns-then-not-branch-2 g c =
+pub returns-then-not-branch-2-clause-step : goal.returns-then-not-branch-2-clause-step
+returns-then-not-branch-2-clause-step g c =
     let list = c.args.list.now in
     let key = c.args.key.now in
     let k = c.as_str.result.now in
@@ -24,8 +24,8 @@ returns-then-not-branch-2 g c =
     answers g.S.Store c.args.self.now.conn c.has_message.new.conn _ (λ a. held_back a list key c.args.until) (refused no_message) two
     (embargo_no_message list key k c.args.until c.as_str.ensures)
 
-pub returns : goal.returns
-returns g c =
+pub returns-clause-step : goal.returns-clause-step
+returns-clause-step g c =
     let list = c.args.list.now in
     let key = c.args.key.now in
     let k = c.as_str.result.now in

@@ -10,8 +10,8 @@ use Rattle.archive_store.proofs.StepLemmas.{begins, asks, answers, writes, write
 use Rattle.archive_store.proofs.StepEquations.{is_lt-int_cmp, grant_no_list, grant_bad_days, grant_again, grant_new}
 use Rattle.archive_store.proofs.store.Store.grant.Goals as goal
 
-pub returns-then-not-branch-2 : goal.returns-then-not-branch-2
-returns-then-not-branch-2 g c =
+pub returns-then-not-branch-2-clause-step : goal.returns-then-not-branch-2-clause-step
+returns-then-not-branch-2-clause-step g c =
     let person = c.args.person.now in
     let list = c.args.list.now in
     let one = asks g.S.Store c.args.self.now.conn c.args.self.now.conn c.has_person.new.conn (λ _. ⊤) (λ a. true ≡ has_person a person)
@@ -23,8 +23,8 @@ returns-then-not-branch-2 g c =
     answers g.S.Store c.args.self.now.conn c.has_list.new.conn _ (λ a. granted a (record { person = person; list = list; rank = rank_of c.args.kind; from_day = c.args.from; until_day = c.args.until })) (refused no_list) two
     (grant_no_list (record { person = person; list = list; rank = rank_of c.args.kind; from_day = c.args.from; until_day = c.args.until }))
 
-pub returns-then-lt : goal.returns-then-lt
-returns-then-lt g c =
+pub returns-then-lt-clause-step : goal.returns-then-lt-clause-step
+returns-then-lt-clause-step g c =
     let person = c.args.person.now in
     let list = c.args.list.now in
     let one = asks g.S.Store c.args.self.now.conn c.args.self.now.conn c.has_person.new.conn (λ _. ⊤) (λ a. true ≡ has_person a person)
@@ -36,8 +36,8 @@ returns-then-lt g c =
     answers g.S.Store c.args.self.now.conn c.has_list.new.conn _ (λ a. granted a (record { person = person; list = list; rank = rank_of c.args.kind; from_day = c.args.from; until_day = c.args.until })) (refused bad_days) two
     (grant_bad_days (record { person = person; list = list; rank = rank_of c.args.kind; from_day = c.args.from; until_day = c.args.until }) (sym (is_lt-int_cmp c.args.until c.args.from) ∙ sym c.if-lt.ensures))
 
-pub returns-in_ok-change_grant : goal.returns-in_ok-change_grant
-returns-in_ok-change_grant g c =
+pub returns-in_ok-change_grant-clause-step : goal.returns-in_ok-change_grant-clause-step
+returns-in_ok-change_grant-clause-step g c =
     let person = c.args.person.now in
     let list = c.args.list.now in
     let one = asks g.S.Store c.args.self.now.conn c.args.self.now.conn c.has_person.new.conn (λ _. ⊤) (λ a. true ≡ has_person a person)
@@ -56,8 +56,8 @@ returns-in_ok-change_grant g c =
     (to_z-of_z w64 c.rank-rank.result (record { sfits = c.rank-rank.type_inv }) ∙ c.rank-rank.ensures) (to_z-of_z w64 c.day_number-first.result (record { sfits = c.day_number-first.type_inv }) ∙ c.day_number-first.ensures) (to_z-of_z w64 c.day_number-last.result (record { sfits = c.day_number-last.type_inv }) ∙ c.day_number-last.ensures)
     (sym (is_lt-int_cmp c.args.until c.args.from) ∙ sym c.if-lt.ensures))
 
-pub returns-in_ok-add_grant : goal.returns-in_ok-add_grant
-returns-in_ok-add_grant g c =
+pub returns-in_ok-add_grant-clause-step : goal.returns-in_ok-add_grant-clause-step
+returns-in_ok-add_grant-clause-step g c =
     let person = c.args.person.now in
     let list = c.args.list.now in
     let one = asks g.S.Store c.args.self.now.conn c.args.self.now.conn c.has_person.new.conn (λ _. ⊤) (λ a. true ≡ has_person a person)

@@ -8,8 +8,8 @@ use Rattle.archive_store.proofs.StepLemmas.{begins, asks, writes}
 use Rattle.archive_store.proofs.StepEquations.{lift_done}
 use Rattle.archive_store.proofs.store.Store.lift.Goals as goal
 
-pub returns : goal.returns
-returns g c =
+pub returns-clause-step : goal.returns-clause-step
+returns-clause-step g c =
     let list = c.args.list.now in
     let key = c.args.key.now in
     let k = c.as_str.result.now in

@@ -7,8 +7,8 @@ use Rattle.archive_store.proofs.StepLemmas.{begins, asks, answers, writes}
 use Rattle.archive_store.proofs.StepEquations.{person_token_taken, person_done}
 use Rattle.archive_store.proofs.store.Store.person_add.Goals as goal
 
-pub returns-then-branch-2 : goal.returns-then-branch-2
-returns-then-branch-2 g c =
+pub returns-then-branch-2-clause-step : goal.returns-then-branch-2-clause-step
+returns-then-branch-2-clause-step g c =
     let name = c.args.name.now in
     let token = c.args.token.now in
     let one = asks g.S.Store c.args.self.now.conn c.args.self.now.conn c.has_person.new.conn (λ _. ⊤) (λ a. false ≡ has_person a name)
@@ -20,8 +20,8 @@ returns-then-branch-2 g c =
     answers g.S.Store c.args.self.now.conn c.has_token.new.conn _ (λ a. person_added a name token) (refused token_taken) two
     (person_token_taken name token (sym c.is_name.ensures ∙ c.if-not-is_name.false) (sym c.is_token.ensures ∙ c.if-not-is_token.false))
 
-pub returns : goal.returns
-returns g c =
+pub returns-clause-step : goal.returns-clause-step
+returns-clause-step g c =
     let name = c.args.name.now in
     let token = c.args.token.now in
     let one = asks g.S.Store c.args.self.now.conn c.args.self.now.conn c.has_person.new.conn (λ _. ⊤) (λ a. false ≡ has_person a name)

@@ -10,8 +10,8 @@ use Rattle.archive_store.proofs.StepLemmas.{begins, asks, answers, writes}
 use Rattle.archive_store.proofs.StepEquations.{revoke_no_list, revoke_done}
 use Rattle.archive_store.proofs.store.Store.revoke.Goals as goal
 
-pub returns-then-not-branch-2 : goal.returns-then-not-branch-2
-returns-then-not-branch-2 g c =
+pub returns-then-not-branch-2-clause-step : goal.returns-then-not-branch-2-clause-step
+returns-then-not-branch-2-clause-step g c =
     let person = c.args.person.now in
     let list = c.args.list.now in
     let one = asks g.S.Store c.args.self.now.conn c.args.self.now.conn c.has_person.new.conn (λ _. ⊤) (λ a. true ≡ has_person a person)
@@ -23,8 +23,8 @@ returns-then-not-branch-2 g c =
     answers g.S.Store c.args.self.now.conn c.has_list.new.conn _ (λ a. revoked a person list (rank_of c.args.kind)) (refused no_list) two
     (revoke_no_list person list (rank_of c.args.kind))
 
-pub returns : goal.returns
-returns g c =
+pub returns-clause-step : goal.returns-clause-step
+returns-clause-step g c =
     let person = c.args.person.now in
     let list = c.args.list.now in
     let had = c.in_ok-was_there.was_there in
