@@ -2,3 +2,4 @@ pub mod RankLemmas
 pub mod StepEquations
 pub mod StepLemmas
 pub mod ReadingLemmas
+pub mod RunLemmas

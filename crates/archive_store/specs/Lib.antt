@@ -3,3 +3,4 @@ pub mod Replies
 pub mod Words
 pub mod Messages
 pub mod Ranks
+pub mod Running

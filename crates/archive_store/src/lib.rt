@@ -10,12 +10,14 @@ mod messages;
 mod persons;
 mod questions;
 mod reading;
+mod running;
 mod store;
 mod words;
 
 pub use adopting::AdoptStop;
 pub use faults::StoreFault;
 pub use reading::Message;
+pub use running::{Command, Outcome, RunStop};
 pub use store::Store;
 pub use words::{Added, Kind, Party};
 

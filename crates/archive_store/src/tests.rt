@@ -1,5 +1,5 @@
 use crate::limits::add_limited;
-use crate::{Added, Kind, Party, Store, StoreFault};
+use crate::{Added, Command, Kind, Outcome, Party, Store, StoreFault};
 use archive_machine::Key;
 use mail_core::{Day, Instant};
 use mbox_core::{Envelope, Item, Sender};
@@ -293,5 +293,92 @@ fn standings_by_day(rt: HostRuntime) -> Result<(), Fail> {
         store.standing("anna", "xyz", day("2003-06-01")?),
         Err(StoreFault::NoList)
     );
+    Ok(())
+}
+
+#[test]
+fn commands_run_one_after_the_other(rt: HostRuntime) -> Result<(), Fail> {
+    let alloc = rt.alloc();
+    let mut store = Store::open_in_memory(alloc)?;
+    let outcomes = store.run(
+        alloc,
+        &[
+            Command::ListAdd { name: "soc" },
+            Command::ListAdd { name: "soc" },
+            Command::ListAdd { name: "a" },
+        ],
+    );
+    let outcomes = outcomes.map_err(|stop| stop.fault)?;
+    let refused = Outcome::Refused(StoreFault::ListExists);
+    assert_eq!(rt;
+        outcomes.as_slice(),
+        [Outcome::Done, refused, Outcome::Done].as_slice()
+    );
+    let names = store.lists(alloc)?;
+    assert_eq!(rt; names.len(), 2);
+    assert_eq!(rt; names.first().map(|name| name.as_str()), Some("a"));
+    assert_eq!(rt; names.last().map(|name| name.as_str()), Some("soc"));
+    Ok(())
+}
+
+#[test]
+fn each_command_runs_as_its_call(rt: HostRuntime) -> Result<(), Fail> {
+    let alloc = rt.alloc();
+    let mut store = Store::open_in_memory(alloc)?;
+    let one = item("a@b", b"one\n")?;
+    let key = Key::of(&one);
+    let (from, until) = (day("2003-01-01")?, day("2003-12-31")?);
+    let kind = Kind::Subscriber;
+    let (person, list) = ("anna", "soc");
+    let outcomes = store.run(
+        alloc,
+        &[
+            Command::ListAdd { name: list },
+            Command::PersonAdd {
+                name: person,
+                token: TOKEN,
+            },
+            Command::Grant {
+                person,
+                list,
+                kind,
+                from,
+                until,
+            },
+            Command::Add { list, item: &one },
+            Command::Add { list, item: &one },
+            Command::Withdraw {
+                list,
+                key: &key,
+                by: Party::Board,
+            },
+            Command::Restore { list, key: &key },
+            Command::Restore { list, key: &key },
+            Command::Embargo {
+                list,
+                key: &key,
+                until,
+            },
+            Command::Lift { list, key: &key },
+            Command::Revoke { person, list, kind },
+            Command::Revoke { person, list, kind },
+        ],
+    );
+    let outcomes = outcomes.map_err(|stop| stop.fault)?;
+    let wanted = [
+        Outcome::Done,
+        Outcome::Done,
+        Outcome::Done,
+        Outcome::Added(Added::New),
+        Outcome::Added(Added::Known),
+        Outcome::Done,
+        Outcome::Done,
+        Outcome::Refused(StoreFault::NotWithdrawn),
+        Outcome::Done,
+        Outcome::WasThere(true),
+        Outcome::WasThere(true),
+        Outcome::WasThere(false),
+    ];
+    assert_eq!(rt; outcomes.as_slice(), wanted.as_slice());
     Ok(())
 }

@@ -132,7 +132,10 @@ fn main(rt: HostRuntime) -> anyhow::Result<()> {
         (Some(call), Some(path), Some(count), Some(size)) if call.as_str() == "fill" => {
             tell(&rt, fill(&rt, path, count.parse()?, size.parse()?)?)
         }
-        (Some(call), Some(path), None, None) if call.as_str() == "read" => tell(&rt, read(&rt, path)?),
+        (Some(call), Some(path), None, None) if call.as_str() == "read" => tell(
+            &rt,
+            read(&rt, path)?,
+        ),
         (Some(call), Some(size), None, None) if call.as_str() == "grow" => {
             let (short, long) = grow(&rt, size.parse()?)?;
             tell(&rt, short)?;

@@ -1,0 +1,69 @@
+-- Commands that are carried out one after the other.
+use Rattle.std.proofs.Common.{◌≡◌, ℕ, ◌+◌, ◌<◌, true, List, [], ◌∷◌, ◌++◌, length, get_or, take, map, refl, ap, sym, subst, ◌∙◌, Option, Some, None}
+use Rattle.std.specs.Prelude.{IsTrue, is_some}
+use Rattle.std.proofs.lemmas.List.{map-append, map_more, take-map}
+use Rattle.sqlite.specs.State.{State}
+use Rattle.archive_machine.specs.Records.{Archive}
+use Rattle.archive_machine.specs.Commands.{Command, Reply}
+use Rattle.archive_machine.specs.Machine.{step}
+use Rattle.archive_machine.specs.Runs.{run}
+use Rattle.archive_tables.specs.Tables.{IsKept, archive_of}
+use Rattle.archive_tables.specs.Calls.{Rests}
+use Rattle.archive_store.specs.Replies.{Steps}
+use Rattle.archive_store.specs.Running.{command_of, answer_of, RanAll}
+use Rattle.archive_store.specs.declared.running.Command.{Command as Given}
+use Rattle.archive_store.specs.declared.running.Outcome.{Outcome}
+
+-- one command more
+run_archive : (a : Archive) (cs : List Command) (c : Command) → (run a (cs ++ c ∷ [])).archive ≡ (step (run a cs).archive c).0
+unfolding run
+run_archive a [] c = refl
+run_archive a (d ∷ cs) c = run_archive (step a d).0 cs c
+
+run_replies : (a : Archive) (cs : List Command) (c : Command) → (run a (cs ++ c ∷ [])).replies ≡ (run a cs).replies ++ (step (run a cs).archive c).1 ∷ []
+unfolding run
+run_replies a [] c = refl
+run_replies a (d ∷ cs) c = ap (λ rs. (step a d).1 ∷ rs) (run_replies (step a d).0 cs c)
+
+pub ran_none : (s : State) → IsKept s → RanAll s (run (archive_of s) []) s []
+unfolding run
+ran_none s kept = (kept, refl, refl)
+
+pub run_nothing : (a : Archive) → a ≡ (run a []).archive
+unfolding run
+run_nothing a = refl
+
+pub ran_more : (old mid new : State) (cs : List Command) (c : Command) (outcomes : List Outcome) (o : Outcome)
+    → RanAll old (run (archive_of old) cs) mid outcomes → is_some (answer_of o) ≡ true → Steps mid new (λ a. step a c) (answer_of o)
+    → RanAll old (run (archive_of old) (cs ++ c ∷ [])) new (outcomes ++ o ∷ [])
+ran_more old mid new cs c outcomes o ran told steps = go (answer_of o) refl told steps
+  where
+    go : (r : Option Reply) → answer_of o ≡ r → is_some r ≡ true → Steps mid new (λ a. step a c) r → RanAll old (run (archive_of old) (cs ++ c ∷ [])) new (outcomes ++ o ∷ [])
+    go None e bad s = absurd (cc)
+    go (Some r) e some s =
+        let a = archive_of old in
+        let same : (r' : Reply) → r' ≡ (step (archive_of mid) c).1 → r' ≡ (step (run a cs).archive c).1 = λ r' h. h ∙ ap (λ x. (step x c).1) ran.1 in (
+          s.0,
+          ap (λ p. p.0) s.1 ∙ ap (λ x. (step x c).0) ran.1 ∙ sym (run_archive a cs c),
+          map-append answer_of outcomes (o ∷ []) ∙ ap (λ xs. xs ++ answer_of o ∷ []) ran.2
+              ∙ ap (λ x. map Some (run a cs).replies ++ x ∷ []) (e ∙ ap Some (same r (ap (λ p. p.1) s.1)))
+              ∙ sym (map-append Some (run a cs).replies ((step (run a cs).archive c).1 ∷ [])) ∙ ap (map Some) (sym (run_replies a cs c)),
+        )
+
+-- a command that is stopped leaves what those before it made
+pub ran_stop : (old mid new : State) (cs : List Command) (outcomes : List Outcome) → RanAll old (run (archive_of old) cs) mid outcomes → Rests mid new
+    → IsTrue new.is_open → IsKept new × (archive_of new ≡ (run (archive_of old) cs).archive)
+ran_stop old mid new cs outcomes ran rests up = let r = rests up in (r.0, r.1 ∙ ran.1)
+
+pub ran_next : (old mid new : State) (commands : List Given) (i : ℕ) (d : Given) (outcomes outcomes' : List Outcome) (o : Outcome)
+    → RanAll old (run (archive_of old) (map command_of (take i commands))) mid outcomes → is_some (answer_of o) ≡ true
+    → Steps mid new (λ a. step a (command_of d)) (answer_of o) → i < length commands → d ≡ get_or commands i d → outcomes' ≡ outcomes ++ o ∷ []
+    → RanAll old (run (archive_of old) (map command_of (take (i + 1) commands))) new outcomes'
+ran_next old mid new commands i d outcomes outcomes' o ran told steps within is kept =
+    subst (λ cs. RanAll old (run (archive_of old) cs) new outcomes')
+    (sym (map_more command_of commands i d within ∙ ap (λ x. map command_of (take i commands) ++ command_of x ∷ []) (sym is)))
+    (rw kept (ran_more old mid new (map command_of (take i commands)) (command_of d) outcomes o ran told steps))
+
+-- the same commands, taken before they are told
+pub first_commands : (commands : List Given) (n i : ℕ) → n ≡ i → take n (map command_of commands) ≡ map command_of (take i commands)
+first_commands commands n i e = ap (λ k. take k (map command_of commands)) e ∙ take-map command_of i commands

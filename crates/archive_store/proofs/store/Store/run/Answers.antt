@@ -1,0 +1,69 @@
+use Rattle.std.proofs.Common.{rules, vec_len, ◌≡◌, ◌++◌, ◌∷◌, [], ◌+◌, map, length, length-append, take, refl, ap, sym, subst, ◌∙◌, arith}
+use Rattle.std.proofs.lemmas.List.{take_all}
+use Rattle.sqlite.specs.Held.{state}
+use Rattle.archive_machine.specs.Runs.{run}
+use Rattle.archive_tables.specs.Tables.{archive_of}
+use Rattle.archive_store.specs.Running.{command_of, RanAll}
+use Rattle.archive_store.proofs.RunLemmas.{run_nothing, ran_none, ran_next, ran_stop, first_commands}
+use Rattle.archive_store.proofs.store.Store.run.Goals as goal
+
+pub returns-in_default-clause-step : goal.returns-in_default-clause-step
+returns-in_default-clause-step g c = λ clean kept up. (kept, run_nothing (archive_of (state g.S.Store c.args.self.now.conn)))
+
+pub loop-command-init : goal.loop-command-init
+loop-command-init g c =
+    let first = state g.S.Store c.args.self.now.conn in (
+      ap length c.in-Ok.ensures.items,
+      (λ clean. clean),
+      (λ clean kept. subst (λ outcomes. RanAll first (run (archive_of first) []) first outcomes) (sym c.in-Ok.ensures.items) (ran_none first kept)),
+    )
+
+pub returns-in-Err-clause-clean : goal.returns-in-Err-clause-clean
+returns-in-Err-clause-clean g c = λ clean. c.loop-command.invariant.1 (c.carry_out.ensures.clean clean)
+
+pub returns-clause-clean : goal.returns-clause-clean
+returns-clause-clean g c = c.loop-command.invariant.1
+
+pub returns-clause-step : goal.returns-clause-step
+returns-clause-step g c = λ clean kept.
+    let first = state g.S.Store c.args.self.now.conn in
+    subst (λ commands. RanAll first (run (archive_of first) (map command_of commands)) (state g.S.Store c.loop-command.self.conn) c.loop-command.outcomes.items)
+    (take_all c.loop-command.command-index c.args.commands.now c.loop-command-test.false) (c.loop-command.invariant.2 clean kept)
+
+pub returns-in-Err-clause-step : goal.returns-in-Err-clause-step
+returns-in-Err-clause-step g c = λ clean kept up.
+    let first = state g.S.Store c.args.self.now.conn in
+    let before = c.loop-command.invariant.2 (c.carry_out.ensures.clean clean) kept in
+    let at = c.loop-command.command-index in
+    let stopped = ran_stop first (state g.S.Store c.loop-command.self.conn) (state g.S.Store c.carry_out.new.self.conn) (map command_of (take at c.args.commands.now))
+    c.loop-command.outcomes.items before (c.in-Err.ensures.step clean before.0) up in
+    let len : vec_len c.loop-command.outcomes ≡ length c.loop-command.outcomes.items = search rules in
+    (stopped.0, stopped.1 ∙ ap (λ commands. (run (archive_of first) commands).archive) (sym (first_commands c.args.commands.now c.len.result at (c.len.ensures ∙ len ∙ c.loop-command.invariant.0))))
+
+pub loop-command-preserved : goal.loop-command-preserved
+loop-command-preserved g c =
+    let first = state g.S.Store c.args.self.now.conn in
+    let mid = state g.S.Store c.loop-command.self.conn in
+    let new = state g.S.Store c.carry_out.new.self.conn in
+    let o = c.in-Ok-carry_out.outcome in
+    let outcomes = c.loop-command.outcomes.items in (
+      omega (arith, c.loop-command.invariant.0, ap length c.in-Ok-push.ensures.items, length-append outcomes (o ∷ [])),
+      (λ clean. c.loop-command.invariant.1 (c.carry_out.ensures.clean clean)),
+      (λ clean kept.
+          let ran = c.loop-command.invariant.2 (c.carry_out.ensures.clean clean) kept in
+          ran_next first mid new c.args.commands.now c.loop-command.command-index c.command-item.result outcomes c.push.new.self.items o ran
+          c.in-Ok-carry_out.ensures.told (c.in-Ok-carry_out.ensures.step clean ran.0) (omega (arith, c.loop-command-test.true)) c.command-item.is
+          c.in-Ok-push.ensures.items),
+    )
+
+pub returns-in-Err-push-clause-step : goal.returns-in-Err-push-clause-step
+returns-in-Err-push-clause-step g c = λ clean kept up.
+    let first = state g.S.Store c.args.self.now.conn in
+    let at = c.loop-command.command-index in
+    let o = c.in-Ok-carry_out.outcome in
+    let outcomes = c.loop-command.outcomes.items in
+    let before = c.loop-command.invariant.2 (c.carry_out.ensures.clean clean) kept in
+    let ran = ran_next first (state g.S.Store c.loop-command.self.conn) (state g.S.Store c.carry_out.new.self.conn) c.args.commands.now at c.command-item.result outcomes (outcomes ++ o ∷ []) o before
+    c.in-Ok-carry_out.ensures.told (c.in-Ok-carry_out.ensures.step clean before.0) (omega (arith, c.loop-command-test.true)) c.command-item.is refl in
+    let len : vec_len c.loop-command.outcomes ≡ length outcomes = search rules in
+    (ran.0, ran.1 ∙ ap (λ commands. (run (archive_of first) commands).archive) (sym (first_commands c.args.commands.now (c.len-done.result + 1) (at + 1) (ap (λ n. n + 1) (c.len-done.ensures ∙ len ∙ c.loop-command.invariant.0)))))

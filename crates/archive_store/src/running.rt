@@ -1,0 +1,193 @@
+//! Commands one after the other.
+ghost use Rattle.std.specs.Prelude.{◌≡◌, true, map, is_some, IfOk, IfErr, Err, None};
+ghost use Rattle.archive_machine.specs.Machine.{step};
+ghost use Rattle.archive_tables.specs.Calls.{WasClean};
+ghost use Rattle.archive_store.specs.Held.{held_of};
+ghost use Rattle.archive_store.specs.Replies.{Does, refusal, says_done, says_whether, says_added};
+ghost use Rattle.archive_store.specs.Running.{command_of, answer_of, carried, Runs};
+
+use crate::faults::StoreFault;
+use crate::store::Store;
+use crate::words::{Added, Kind, Party};
+use archive_machine::Key;
+use mail_core::Day;
+use mbox_core::Item;
+use sqlite::Alter;
+use std::alloc::Global;
+
+/// A command with its arguments: each is the call of `Store` of that name.
+#[derive(Clone, Copy)]
+pub enum Command<'a> {
+    ListAdd {
+        name: &'a str,
+    },
+    PersonAdd {
+        name: &'a str,
+        token: &'a str,
+    },
+    Grant {
+        person: &'a str,
+        list: &'a str,
+        kind: Kind,
+        from: Day,
+        until: Day,
+    },
+    Revoke {
+        person: &'a str,
+        list: &'a str,
+        kind: Kind,
+    },
+    Add {
+        list: &'a str,
+        item: &'a Item<'a>,
+    },
+    Withdraw {
+        list: &'a str,
+        key: &'a Key,
+        by: Party,
+    },
+    Restore {
+        list: &'a str,
+        key: &'a Key,
+    },
+    Embargo {
+        list: &'a str,
+        key: &'a Key,
+        until: Day,
+    },
+    Lift {
+        list: &'a str,
+        key: &'a Key,
+    },
+}
+
+/// What a command answers: that it is done, whether what it took away was there, what became of a message, or its
+/// refusal, one of E1 to E13.
+#[derive(Clone, Copy, Debug, PartialEq, Eq)]
+pub enum Outcome {
+    Done,
+    WasThere(bool),
+    Added(Added),
+    Refused(StoreFault),
+}
+
+/// Where a run stopped, for E14 or E15: the first `done` commands were carried out, and no other.
+#[derive(Clone, Copy, Debug, PartialEq, Eq)]
+pub struct RunStop {
+    pub done: usize,
+    pub fault: StoreFault,
+}
+
+/// A refusal, or a stop.
+fn refused(fault: StoreFault) -> Result<Outcome, StoreFault>
+    ensures value { carried result ≡ says_done (Err fault) }
+    ensures told { IfOk result (λ outcome. is_some (answer_of outcome) ≡ true) }
+    ensures stop { IfErr result (λ fault. refusal fault ≡ None) }
+{
+    match fault {
+        StoreFault::Memory | StoreFault::Store => Err(fault),
+        _ => Ok(Outcome::Refused(fault)),
+    }
+}
+
+/// The outcome of a command that says nothing more than that it is done.
+fn done(answer: Result<(), StoreFault>) -> Result<Outcome, StoreFault>
+    ensures value { carried result ≡ says_done answer }
+    ensures told { IfOk result (λ outcome. is_some (answer_of outcome) ≡ true) }
+    ensures stop { IfErr result (λ fault. refusal fault ≡ None) }
+{
+    match answer {
+        Ok(()) => Ok(Outcome::Done),
+        Err(fault) => refused(fault),
+    }
+}
+
+/// The outcome of a command that takes something away.
+fn whether(answer: Result<bool, StoreFault>) -> Result<Outcome, StoreFault>
+    ensures value { carried result ≡ says_whether answer }
+    ensures told { IfOk result (λ outcome. is_some (answer_of outcome) ≡ true) }
+    ensures stop { IfErr result (λ fault. refusal fault ≡ None) }
+{
+    match answer {
+        Ok(was_there) => Ok(Outcome::WasThere(was_there)),
+        Err(fault) => refused(fault),
+    }
+}
+
+/// The outcome of a command that adds a message.
+fn added(answer: Result<Added, StoreFault>) -> Result<Outcome, StoreFault>
+    ensures value { carried result ≡ says_added answer }
+    ensures told { IfOk result (λ outcome. is_some (answer_of outcome) ≡ true) }
+    ensures stop { IfErr result (λ fault. refusal fault ≡ None) }
+{
+    match answer {
+        Ok(added) => Ok(Outcome::Added(added)),
+        Err(fault) => refused(fault),
+    }
+}
+
+impl<S: Alter> Store<S> {
+    /// Carries a command out. E14 and E15 are errors.
+    fn carry_out(&mut self, alloc: Global, command: &Command<'_>) -> Result<Outcome, StoreFault>
+        ensures step { Does S.Store (held_of self.old) (held_of self.new) (λ a. step a (command_of command.now)) (carried result) }
+        ensures clean { WasClean S.Store (held_of self.old) (held_of self.new) }
+        ensures told { IfOk result (λ outcome. is_some (answer_of outcome) ≡ true) }
+        ensures stop { IfErr result (λ fault. refusal fault ≡ None) }
+    {
+        match command {
+            Command::ListAdd { name } => done(self.list_add(name)),
+            Command::PersonAdd { name, token } => done(self.person_add(name, token)),
+            Command::Grant {
+                person,
+                list,
+                kind,
+                from,
+                until,
+            } => done(self.grant(person, list, *kind, *from, *until)),
+            Command::Revoke { person, list, kind } => whether(self.revoke(person, list, *kind)),
+            Command::Add { list, item } => added(self.add(alloc, list, item)),
+            Command::Withdraw { list, key, by } => done(self.withdraw(list, key, *by)),
+            Command::Restore { list, key } => done(self.restore(list, key)),
+            Command::Embargo { list, key, until } => done(self.embargo(list, key, *until)),
+            Command::Lift { list, key } => whether(self.lift(list, key)),
+        }
+    }
+
+    /// Carries commands out one after the other, with the outcome of each. Room for the outcomes is made before the
+    /// first command.
+    pub fn run(&mut self, alloc: Global, commands: &[Command<'_>]) -> Result<Vec<Outcome>, RunStop>
+        ensures step { Runs S.Store (held_of self.old) (held_of self.new) (map command_of commands.entry.now) result }
+        ensures clean { WasClean S.Store (held_of self.old) (held_of self.new) }
+        ensures stop { IfErr result (λ stop. refusal stop.fault ≡ None) }
+    {
+        let Ok(mut outcomes) = Vec::with_capacity(alloc, commands.len()) else {
+            return Err(RunStop {
+                done: 0,
+                fault: StoreFault::Memory,
+            });
+        };
+        for command in commands.iter() {
+            match self.carry_out(alloc, command) {
+                Ok(outcome) => {
+                    let done = outcomes.len() + 1;
+                    match outcomes.push(outcome) {
+                        Ok(()) => {}
+                        Err(_) => {
+                            return Err(RunStop {
+                                done,
+                                fault: StoreFault::Memory,
+                            });
+                        }
+                    }
+                }
+                Err(fault) => {
+                    return Err(RunStop {
+                        done: outcomes.len(),
+                        fault,
+                    });
+                }
+            }
+        }
+        Ok(outcomes)
+    }
+}
