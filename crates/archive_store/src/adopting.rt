@@ -44,7 +44,8 @@ impl Store<MemStore> {
 
 impl<S: Alter> Store<S> {
     /// Takes a connection over that is outside a transaction. Where the database has no table, index or view, the
-    /// tables of an archive are made. Else E15, unless the table `version` holds one row, of the number 0.
+    /// tables of an archive are made. Else E15, unless it has as many objects as an archive and the table `version`
+    /// holds one row, of the number 0.
     pub fn adopt(connection: Connection<S>) -> Result<Store<S>, AdoptStop<S>>
         ensures made { IfOk result (λ store. HasCleanDisk (state S.Store (held_of store)) → (state S.Store connection).now.schema ≡ no_schema
             → IsKept (state S.Store (held_of store)) × (archive_of (state S.Store (held_of store)) ≡ empty_archive)) }
@@ -55,11 +56,12 @@ impl<S: Alter> Store<S> {
         ensures fault { IfErr result (λ stop. refusal stop.fault ≡ None) }
     {
         let mut conn = connection;
-        let empty = has_nothing(&conn);
-        let done = if empty {
+        let done = if has_nothing(&conn) {
             make_tables(&mut conn)
-        } else {
+        } else if has_as_many_objects(&conn) {
             find_version(&mut conn)
+        } else {
+            Err(StoreFault::Store)
         };
         match done {
             Ok(()) => Ok(Store { conn }),
@@ -77,6 +79,12 @@ fn has_nothing<S: Alter>(conn: &Connection<S>) -> bool
 {
     let schema = conn.schema();
     schema.tables.is_empty() && schema.indexes.is_empty() && schema.views.is_empty()
+}
+
+/// Whether a database has as many tables, indexes and views as an archive has, that of AUTOINCREMENT among the tables.
+fn has_as_many_objects<S: Alter>(conn: &Connection<S>) -> bool {
+    let schema = conn.schema();
+    schema.tables.len() == 6 && schema.indexes.len() == 5 && schema.views.is_empty()
 }
 
 /// E15 unless `version` holds one row, of the number 0.

@@ -247,6 +247,9 @@ fn connections_are_adopted_again(rt: HostRuntime) -> Result<(), Fail> {
     };
     assert_eq!(rt; store.list_add("soc"), Err(StoreFault::ListExists));
     let mut connection = store.into_connection();
+    connection.execute("CREATE TABLE other (name TEXT) STRICT", &[])?;
+    assert!(rt; !is_adopted(connection));
+    let mut connection = self::store(alloc)?.into_connection();
     connection.execute("UPDATE version SET number = 9", &[])?;
     assert!(rt; !is_adopted(connection));
     let mut other = Connection::open_in_memory(alloc)?;

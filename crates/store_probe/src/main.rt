@@ -1,7 +1,7 @@
 //! Fills the tables of a file, reads them, and times both, for the benchmark `bench/store.py`.
 //!
-//! Words: `fill FILE COUNT BYTES` adds so many messages of so many bytes to a list of a new file, `read FILE` reads them
-//! all, and `grow BYTES` adds a thousand messages to a list of 1,000 and to one of 49,000, in memory. It prints
+//! Without words it adds a hundred messages in memory and prints how many it reads back. `fill FILE COUNT BYTES` adds so many messages of so many bytes to a list of a new file, `read FILE` reads them
+//! all, and `grow BYTES` adds a thousand messages to a list of 1,000 and to one of 49,000, in memory; these print
 //! nanoseconds, one number on each line.
 #![tactic(auto)]
 
@@ -120,6 +120,17 @@ fn grow(rt: &HostRuntime, size: usize) -> anyhow::Result<(Duration, Duration)> {
     Ok((short, long))
 }
 
+/// Adds a hundred messages in memory, and prints how many are read back.
+fn sample(rt: &HostRuntime) -> anyhow::Result<()> {
+    let alloc = rt.alloc();
+    let mut store = Store::open_in_memory(alloc)?;
+    store.list_add(LIST)?;
+    add_numbered(alloc, &mut store, 0..100, 100)?;
+    let messages = store.rows(alloc, LIST)?;
+    println!(rt; "{}", messages.len())?;
+    Ok(())
+}
+
 fn tell(rt: &HostRuntime, took: Duration) -> anyhow::Result<()> {
     println!(rt; "{}", took.as_nanos())?;
     Ok(())
@@ -141,6 +152,7 @@ fn main(rt: HostRuntime) -> anyhow::Result<()> {
             tell(&rt, short)?;
             tell(&rt, long)
         }
+        (None, None, None, None) => sample(&rt),
         _ => bail!("words: fill FILE COUNT BYTES, read FILE, or grow BYTES"),
     }
 }
