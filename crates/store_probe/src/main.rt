@@ -1,8 +1,8 @@
 //! Fills the tables of a file, reads them, and times both, for the benchmark `bench/store.py`.
 //!
-//! Without words it adds a hundred messages in memory and prints how many it reads back. `fill FILE COUNT BYTES` adds so many messages of so many bytes to a list of a new file, `read FILE` reads them
-//! all, and `grow BYTES` adds a thousand messages to a list of 1,000 and to one of 49,000, in memory; these print
-//! nanoseconds, one number on each line.
+//! Without words it adds a hundred messages in memory and prints how many it reads back. `fill FILE COUNT BYTES` adds so
+//! many messages of so many bytes to a list of a new file, `read FILE` reads them all, and `grow BYTES` adds a thousand
+//! messages to a list of 1,000 and to one of 49,000, in memory; these print nanoseconds, one number on each line.
 #![tactic(auto)]
 
 use anyhow::bail;
