@@ -7,13 +7,14 @@ Adds --messages messages of --bytes bytes to one list of a new file, each in a
 transaction of its own, by the program crates/store_probe and by Python's
 sqlite3 (the same tables, WAL, synchronous=FULL, foreign keys on), in turn, and
 reads all rows back in order by both. Each side times its own calls, so the
-opening of the file is in none of them. Then it times a thousand messages
-added to a list that holds 1,000 and to one that holds 49,000, in memory.
-It prints ratios; asked for are at most 2 for adding, 2.5 for reading, and 2
-for the long list. At the end stock SQLite checks the file that the program
-made. Build the program first: (cd crates/store_probe && rt run).
+opening of the file is in none of them. Stock SQLite checks the file that the
+program made, and its tables are compared with docs/TABLES.md. Then it times a
+thousand messages added to a list that holds 1,000 and to one that holds
+49,000, in a new file. It prints ratios; asked for are at most 2 for adding,
+2.5 for reading, and 2 for the long list.
+Build the program first: (cd crates/store_probe && rt run).
 """
-import argparse, hashlib, os, pathlib, sqlite3, subprocess, sys, tempfile, time
+import argparse, hashlib, os, pathlib, re, sqlite3, subprocess, sys, tempfile, time
 
 ROOT = pathlib.Path(__file__).resolve().parent.parent
 
@@ -81,10 +82,23 @@ def compare(asked, folder, round):
     return added, read, stock_added, stock_took
 
 
-def check(folder):
-    """What stock SQLite says of the file of the last round."""
-    newest = max(pathlib.Path(folder).glob("ours-*.db"))
-    return sqlite3.connect(newest).execute("PRAGMA integrity_check").fetchone()[0]
+def check(path):
+    """What stock SQLite says of a file that the program made."""
+    return sqlite3.connect(path).execute("PRAGMA integrity_check").fetchone()[0]
+
+
+def documented():
+    """The texts of the tables in docs/TABLES.md."""
+    page = (ROOT / "docs" / "TABLES.md").read_text()
+    return [text.removesuffix(";") for text in re.findall(r"^CREATE TABLE .*;$", page, re.MULTILINE)]
+
+
+def grow(asked, folder, round):
+    """Nanoseconds of a thousand messages added to 1,000, and to 49,000."""
+    path = os.path.join(folder, f"grow-{round}.db")
+    took = probe(asked.probe, "grow", path, asked.bytes)
+    os.remove(path)
+    return took
 
 
 def main():
@@ -103,9 +117,12 @@ def main():
         print(f"{asked.messages} messages of {asked.bytes} bytes, best of {asked.rounds} rounds")
         print(f"added, a transaction each: {added / 1e9:8.2f} s, stock {stock_added / 1e9:8.2f} s, ratio {added / stock_added:5.2f}")
         print(f"read in order:             {read / 1e9:8.2f} s, stock {stock_read / 1e9:8.2f} s, ratio {read / stock_read:5.2f}")
-        print(f"integrity_check of stock SQLite: {check(folder)}")
-    short, long = (min(column) for column in zip(*(probe(asked.probe, "grow", asked.bytes) for _ in range(asked.rounds))))
-    print(f"a thousand more to 1,000:  {short / 1e9:8.2f} s, to 49,000 {long / 1e9:8.2f} s, ratio {long / short:5.2f}")
+        ours = os.path.join(folder, "ours-0.db")
+        print(f"integrity_check of stock SQLite: {check(ours)}")
+        print(f"tables as in docs/TABLES.md: {'yes' if schema_of(ours) == documented() else 'NO'}")
+        grown = [grow(asked, folder, round) for round in range(asked.rounds)]
+        short, long = (min(column) for column in zip(*grown))
+        print(f"a thousand more to 1,000:  {short / 1e9:8.2f} s, to 49,000 {long / 1e9:8.2f} s, ratio {long / short:5.2f}")
 
 
 if __name__ == "__main__":

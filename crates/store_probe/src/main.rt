@@ -1,8 +1,9 @@
 //! Fills the tables of a file, reads them, and times both, for the benchmark `bench/store.py`.
 //!
 //! Without words it adds a hundred messages in memory and prints how many it reads back. `fill FILE COUNT BYTES` adds so
-//! many messages of so many bytes to a list of a new file, `read FILE` reads them all, and `grow BYTES` adds a thousand
-//! messages to a list of 1,000 and to one of 49,000, in memory; these print nanoseconds, one number on each line.
+//! many messages of so many bytes to a list of a new file, `read FILE` reads them all, and `grow FILE BYTES` adds a
+//! thousand messages to a list of 1,000 and to one of 49,000, in a new file; these print nanoseconds, one number on each
+//! line.
 #![tactic(auto)]
 
 use anyhow::bail;
@@ -109,15 +110,25 @@ fn read(rt: &HostRuntime, path: &str) -> anyhow::Result<Duration> {
 }
 
 /// How long a thousand messages take at the beginning of a list, and at its end.
-fn grow(rt: &HostRuntime, size: usize) -> anyhow::Result<(Duration, Duration)> {
+fn grow_new<S: Alter>(
+    rt: &HostRuntime,
+    store: &mut Store<S>,
+    size: usize,
+) -> anyhow::Result<(Duration, Duration)> {
     let alloc = rt.alloc();
-    let mut store = Store::open_in_memory(alloc)?;
     store.list_add(LIST)?;
-    add_numbered(alloc, &mut store, 0..1_000, size)?;
-    let short = time_adding(rt, &mut store, 1_000..2_000, size)?;
-    add_numbered(alloc, &mut store, 2_000..49_000, size)?;
-    let long = time_adding(rt, &mut store, 49_000..50_000, size)?;
+    add_numbered(alloc, store, 0..1_000, size)?;
+    let short = time_adding(rt, store, 1_000..2_000, size)?;
+    add_numbered(alloc, store, 2_000..49_000, size)?;
+    let long = time_adding(rt, store, 49_000..50_000, size)?;
     Ok((short, long))
+}
+
+fn grow(rt: &HostRuntime, path: &str, size: usize) -> anyhow::Result<(Duration, Duration)> {
+    let mut store = open(rt, path)?;
+    let took = grow_new(rt, &mut store, size);
+    store.into_connection().close()?;
+    took
 }
 
 /// Adds a hundred messages in memory, and prints how many are read back.
@@ -147,12 +158,12 @@ fn main(rt: HostRuntime) -> anyhow::Result<()> {
             &rt,
             read(&rt, path)?,
         ),
-        (Some(call), Some(size), None, None) if call.as_str() == "grow" => {
-            let (short, long) = grow(&rt, size.parse()?)?;
+        (Some(call), Some(path), Some(size), None) if call.as_str() == "grow" => {
+            let (short, long) = grow(&rt, path, size.parse()?)?;
             tell(&rt, short)?;
             tell(&rt, long)
         }
         (None, None, None, None) => sample(&rt),
-        _ => bail!("words: fill FILE COUNT BYTES, read FILE, or grow BYTES"),
+        _ => bail!("words: fill FILE COUNT BYTES, read FILE, or grow FILE BYTES"),
     }
 }
