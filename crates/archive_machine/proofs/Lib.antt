@@ -2,4 +2,7 @@ mod KeyExamples
 pub mod KeyLemmas
 mod MachineExamples
 mod NameExamples
+pub mod NameLemmas
+pub mod RunLemmas
+pub mod SoundLemmas
 pub mod TokenLemmas

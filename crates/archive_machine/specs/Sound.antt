@@ -1,9 +1,10 @@
 -- Archives that only commands have made.
-use Rattle.std.specs.Prelude.{◌≡◌, true}
-use Rattle.std.specs.List.{All}
+use Rattle.std.specs.Prelude.{◌≡◌, ◌≢◌, ℕ, ℤ, List, true, ⊤}
+use Rattle.std.specs.List.{All, AllPairs}
 use Rattle.mbox_core.specs.Division.{Item, is_whole}
 use Rattle.mbox_core.specs.Written.{IsItem}
-use Rattle.archive_machine.specs.Records.{Message, Archive}
+use Rattle.archive_machine.specs.Records.{Grant, Message, Archive}
+use Rattle.archive_machine.specs.Commands.{Command, add}
 use Rattle.archive_machine.specs.Keys.{key_of}
 
 -- what is written of a message: its sender, its arrival and its text
@@ -18,3 +19,30 @@ pub record IsSoundMessage (m : Message) : Type 0 where
 
 abbrev pub IsSound : Archive → Type 0
 IsSound archive = All IsSoundMessage archive.messages
+
+-- what an `add` adds is a message that can be written
+abbrev pub AddsItem : Command → Type 0
+AddsItem (add list item) = IsItem item
+AddsItem command = ⊤
+
+-- ---- names
+
+-- no two have the same name, where `name` gives that of each
+abbrev pub AreApart : {X N : Type 0} → (X → N) → List X → Type 0
+AreApart name = AllPairs (λ x y. name x ≢ name y)
+
+-- what names a grant, and a message
+abbrev pub grant_name : Grant → List ℕ × List ℕ × ℤ
+grant_name g = (g.person, g.list, g.rank)
+
+abbrev pub message_name : Message → List ℕ × List ℕ
+message_name m = (m.list, m.key)
+
+-- No two lists have one name, no two persons one name or one token, no two grants one person, list and rank, and no two
+-- messages one list and key.
+pub record HasNamesApart (archive : Archive) : Type 0 where
+  pub lists : AreApart (λ list. list) archive.lists
+  pub persons : AreApart (λ person. person.name) archive.persons
+  pub tokens : AreApart (λ person. person.token) archive.persons
+  pub grants : AreApart grant_name archive.grants
+  pub messages : AreApart message_name archive.messages

@@ -3,6 +3,7 @@
 #![tactic(auto)]
 
 mod keys;
+pub mod laws;
 mod tokens;
 
 pub use keys::Key;

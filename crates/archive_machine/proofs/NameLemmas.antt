@@ -1,0 +1,164 @@
+-- Commands keep names apart.
+use Rattle.std.proofs.Common.{◌≡◌, ◌≢◌, ℕ, ℤ, zero, suc, Bool, true, false, ◌||◌, cond, List, [], ◌∷◌, ◌++◌, refl, ap, sym, ◌∙◌, arith, Some, is_some, if◌then◌else◌}
+use Rattle.std.specs.Prelude.{⊤, not, map, filter, find, bytes_eq}
+use Rattle.std.specs.List.{All, AllPairs, list_any}
+use Rattle.std.proofs.lemmas.List.Elements.{All-nil, All-cons, All-map, All-weaker, All-filter}
+use Rattle.std.proofs.lemmas.List.Quantifiers.{all_pairs_push}
+use Rattle.std.proofs.lemmas.Bool.Decides.{Decides-int_eq}
+use Rattle.std.proofs.lemmas.Slice.Eq.{bytes_eq-Decides}
+use Rattle.archive_machine.specs.Records.{Person, Grant, Message, Archive}
+use Rattle.archive_machine.specs.Keys.{item_key}
+use Rattle.archive_machine.specs.Questions.{has_list, has_person, has_token, is_grant, has_grant, is_message}
+use Rattle.archive_machine.specs.Machine.{with_days_of, with_grant, new_message, changed, with_change, withdrawn_by, embargoed}
+use Rattle.archive_machine.specs.Sound.{AreApart, grant_name, message_name, HasNamesApart}
+use Rattle.archive_machine.proofs.RunLemmas.{EachChangeKeeps}
+
+-- ---- pairs of a list, by its first element
+
+module _ {X : Type 0} (R : X → X → Type 0) where
+  pairs_nil : AllPairs R []
+  pairs_nil = λ i j d before within. absurd (omega (arith, within))
+
+  pairs_cons : (x : X) (xs : List X) → All (R x) xs → AllPairs R xs → AllPairs R (x ∷ xs)
+  pairs_cons x xs first rest zero zero d before within = absurd (omega (arith, before))
+  pairs_cons x xs first rest zero (suc j) d before within = first j d (omega (arith, within))
+  pairs_cons x xs first rest (suc i) zero d before within = absurd (omega (arith, before))
+  pairs_cons x xs first rest (suc i) (suc j) d before within = rest i j d (omega (arith, before)) (omega (arith, within))
+
+  pairs_head : (x : X) (xs : List X) → AllPairs R (x ∷ xs) → All (R x) xs
+  pairs_head x xs pairs = λ k d within. pairs 0 (suc k) d (omega arith) (omega (arith, within))
+
+  pairs_tail : (x : X) (xs : List X) → AllPairs R (x ∷ xs) → AllPairs R xs
+  pairs_tail x xs pairs = λ i j d before within. pairs (suc i) (suc j) d (omega (arith, before)) (omega (arith, within))
+
+-- ---- names
+
+module _ {X N : Type 0} (name : X → N) where
+  -- a test that finds each of this name finds none
+  none_named : (n : N) (test : X → Bool) → ((x : X) → name x ≡ n → test x ≡ true) → (xs : List X) → list_any test xs ≡ false → All (λ x. name x ≢ n) xs
+  none_named n test finds [] none = All-nil (λ x. name x ≢ n)
+  none_named n test finds (x ∷ xs) none = cases (test x) refl none (none_named n test finds xs)
+    where
+      cases : (b : Bool) → test x ≡ b → (b || list_any test xs) ≡ false → (list_any test xs ≡ false → All (λ x. name x ≢ n) xs) → All (λ x. name x ≢ n) (x ∷ xs)
+      cases true found bad later = absurd (cc)
+      cases false missed more later = All-cons (λ x. name x ≢ n) x xs (λ same. let hit = finds x same in absurd (cc)) (later more)
+
+  apart_push : (x : X) (test : X → Bool) → ((y : X) → name y ≡ name x → test y ≡ true) → (xs : List X) → list_any test xs ≡ false
+      → AreApart name xs → AreApart name (xs ++ x ∷ [])
+  apart_push x test finds xs none apart =
+      all_pairs_push (λ x y. name x ≢ name y) xs x apart (none_named (name x) test finds xs none)
+
+  apart_map : (change : X → X) → ((x : X) → name (change x) ≡ name x) → (xs : List X) → AreApart name xs → AreApart name (map change xs)
+  apart_map change same [] apart = pairs_nil (λ x y. name x ≢ name y)
+  apart_map change same (x ∷ xs) apart =
+      pairs_cons (λ x y. name x ≢ name y) (change x) (map change xs)
+      (All-map (λ y. name (change x) ≢ name y) change xs
+      (All-weaker (λ y. name x ≢ name y) (λ y. name (change x) ≢ name (change y)) (λ y other e. other (sym (same x) ∙ e ∙ same y)) xs
+      (pairs_head (λ x y. name x ≢ name y) x xs apart)))
+      (apart_map change same xs (pairs_tail (λ x y. name x ≢ name y) x xs apart))
+
+  apart_filter : (test : X → Bool) (xs : List X) → AreApart name xs → AreApart name (filter test xs)
+  apart_filter test [] apart = pairs_nil (λ x y. name x ≢ name y)
+  apart_filter test (x ∷ xs) apart = cases (test x) (apart_filter test xs (pairs_tail (λ x y. name x ≢ name y) x xs apart))
+    where
+      cases : (b : Bool) → AreApart name (filter test xs) → AreApart name (cond b (x ∷ filter test xs) (filter test xs))
+      cases true rest =
+          pairs_cons (λ x y. name x ≢ name y) x (filter test xs)
+          (All-filter test (λ y. name x ≢ name y) xs (pairs_head (λ x y. name x ≢ name y) x xs apart)) rest
+      cases false rest = rest
+
+-- ---- the tests
+
+same_bytes : (xs ys : List ℕ) → xs ≡ ys → bytes_eq xs ys ≡ true
+same_bytes xs ys = (bytes_eq-Decides xs ys).1
+
+finds_grant : (g old : Grant) → grant_name old ≡ grant_name g → is_grant g.person g.list g.rank old ≡ true
+finds_grant g old e =
+    rw (
+      same_bytes old.person g.person (ap (λ (n : List ℕ × List ℕ × ℤ). n.0) e),
+      same_bytes old.list g.list (ap (λ (n : List ℕ × List ℕ × ℤ). n.1) e),
+      (Decides-int_eq old.rank g.rank).1 (ap (λ (n : List ℕ × List ℕ × ℤ). n.2) e),
+    ) refl
+
+finds_message : (list key : List ℕ) (m : Message) → message_name m ≡ (list, key) → is_message list key m ≡ true
+finds_message list key m e =
+    rw (same_bytes m.list list (ap (λ (n : List ℕ × List ℕ). n.0) e), same_bytes m.key key (ap (λ (n : List ℕ × List ℕ). n.1) e)) refl
+
+none_found : {X : Type 0} (test : X → Bool) (xs : List X) → is_some (find test xs) ≡ false → list_any test xs ≡ false
+none_found test [] none = refl
+none_found test (x ∷ xs) none = cases (test x) none (none_found test xs)
+  where
+    cases : (b : Bool) → is_some (cond b (Some x) (find test xs)) ≡ false → (is_some (find test xs) ≡ false → list_any test xs ≡ false)
+        → (b || list_any test xs) ≡ false
+    cases true bad later = absurd (cc)
+    cases false more later = later more
+
+-- ---- commands
+
+-- one list of the four changes
+with_grants : (a : Archive) (grants : List Grant) → HasNamesApart a → AreApart grant_name grants → HasNamesApart (record a { grants = grants })
+with_grants a grants apart new =
+    record { lists = apart.lists; persons = apart.persons; tokens = apart.tokens; grants = new; messages = apart.messages }
+
+with_messages : (a : Archive) (messages : List Message) → HasNamesApart a → AreApart message_name messages → HasNamesApart (record a { messages = messages })
+with_messages a messages apart new =
+    record { lists = apart.lists; persons = apart.persons; tokens = apart.tokens; grants = apart.grants; messages = new }
+
+with_list : (a : Archive) (name : List ℕ) → has_list a name ≡ false → HasNamesApart a → HasNamesApart (record a { lists = a.lists ++ name ∷ [] })
+with_list a name new apart = record {
+  lists = apart_push (λ list. list) name (λ known. bytes_eq known name) (λ known. same_bytes known name) a.lists new apart.lists;
+  persons = apart.persons;
+  tokens = apart.tokens;
+  grants = apart.grants;
+  messages = apart.messages;
+}
+
+with_person : (a : Archive) (p : Person) → has_person a p.name ≡ false → has_token a p.token ≡ false → HasNamesApart a
+    → HasNamesApart (record a { persons = a.persons ++ p ∷ [] })
+with_person a p new free apart = record {
+  lists = apart.lists;
+  persons = apart_push (λ (p : Person). p.name) p (λ known. bytes_eq known.name p.name) (λ known. same_bytes known.name p.name) a.persons new apart.persons;
+  tokens = apart_push (λ (p : Person). p.token) p (λ known. bytes_eq known.token p.token) (λ known. same_bytes known.token p.token) a.persons free apart.tokens;
+  grants = apart.grants;
+  messages = apart.messages;
+}
+
+days_keep_name : (g old : Grant) → grant_name (with_days_of g old) ≡ grant_name old
+days_keep_name g old = cases (is_grant g.person g.list g.rank old)
+  where
+    cases : (b : Bool) → grant_name (if b then record old { from_day = g.from_day; until_day = g.until_day } else old) ≡ grant_name old
+    cases true = refl
+    cases false = refl
+
+grants_apart : (a : Archive) (g : Grant) → AreApart grant_name a.grants → AreApart grant_name (with_grant a g)
+grants_apart a g apart = cases (has_grant a g.person g.list g.rank) refl
+  where
+    cases : (b : Bool) → has_grant a g.person g.list g.rank ≡ b → AreApart grant_name (if b then map (with_days_of g) a.grants else a.grants ++ g ∷ [])
+    cases true had = apart_map grant_name (with_days_of g) (days_keep_name g) a.grants apart
+    cases false new = apart_push grant_name g (is_grant g.person g.list g.rank) (finds_grant g) a.grants new apart
+
+changes_apart : (a : Archive) (list key : List ℕ) (change : Message → Message) → ((m : Message) → message_name (change m) ≡ message_name m)
+    → HasNamesApart a → HasNamesApart (with_change a list key change)
+changes_apart a list key change same apart =
+    with_messages a _ apart (apart_map message_name (changed list key change) keeps a.messages apart.messages)
+  where
+    keeps : (m : Message) → message_name (changed list key change m) ≡ message_name m
+    keeps m = cases (is_message list key m)
+      where
+        cases : (b : Bool) → message_name (if b then change m else m) ≡ message_name m
+        cases true = same m
+        cases false = refl
+
+pub names : EachChangeKeeps HasNamesApart (λ _. ⊤)
+names = record {
+  lists = with_list;
+  persons = with_person;
+  grants = λ a g apart. with_grants a _ apart (grants_apart a g apart.grants);
+  revokes = λ a person list rank apart.
+      with_grants a _ apart (apart_filter grant_name (λ g. not (is_grant person list rank g)) a.grants apart.grants);
+  messages = λ a list item _ new apart.
+      with_messages a _ apart (apart_push message_name (new_message list item) (is_message list (item_key item)) (finds_message list (item_key item)) a.messages
+      (none_found (is_message list (item_key item)) a.messages new) apart.messages);
+  withdrawals = λ a list key party. changes_apart a list key (withdrawn_by party) (λ m. refl);
+  embargoes = λ a list key until. changes_apart a list key (embargoed until) (λ m. refl);
+}

@@ -1,0 +1,80 @@
+-- What every change keeps, each command keeps, and so do commands one after the other.
+use Rattle.std.proofs.Common.{◌≡◌, ℕ, ℤ, Bool, true, false, refl, ap, List, [], ◌∷◌, ◌++◌, length, pos, Option, Some, None, if◌then◌else◌}
+use Rattle.std.specs.Prelude.{not, filter, int_lt, nat_lt, nat_le}
+use Rattle.std.specs.List.{All}
+use Rattle.std.proofs.lemmas.List.Elements.{All-head, All-tail}
+use Rattle.policy_core.specs.Names.{is_name}
+use Rattle.mbox_core.specs.Division.{Item, whole}
+use Rattle.archive_machine.specs.Records.{Person, Grant, Archive}
+use Rattle.archive_machine.specs.Commands.{Command, list_add, person_add, grant, revoke, add, withdraw, restore, embargo, lift, Reply}
+use Rattle.archive_machine.specs.Keys.{item_key}
+use Rattle.archive_machine.specs.Tokens.{is_token}
+use Rattle.archive_machine.specs.Questions.{has_list, has_person, has_token, is_grant, has_message, message_of, messages_in, is_withdrawn}
+use Rattle.archive_machine.specs.Machine.{Outcome, with_grant, new_message, message_limit, with_change, withdrawn_by, embargoed, step}
+use Rattle.archive_machine.specs.Runs.{run}
+
+-- each change that a command can make keeps P, where Q holds of the command
+pub record EachChangeKeeps (P : Archive → Type 0) (Q : Command → Type 0) : Type 0 where
+  pub lists : (a : Archive) (name : List ℕ) → has_list a name ≡ false → P a → P (record a { lists = a.lists ++ name ∷ [] })
+  pub persons : (a : Archive) (p : Person) → has_person a p.name ≡ false → has_token a p.token ≡ false → P a
+      → P (record a { persons = a.persons ++ p ∷ [] })
+  pub grants : (a : Archive) (g : Grant) → P a → P (record a { grants = with_grant a g })
+  pub revokes : (a : Archive) (person list : List ℕ) (rank : ℤ) → P a
+      → P (record a { grants = filter (λ g. not (is_grant person list rank g)) a.grants })
+  pub messages : (a : Archive) (list : List ℕ) (item : Item) → Q (add list item) → has_message a list (item_key item) ≡ false → P a
+      → P (record a { messages = a.messages ++ new_message list item ∷ [] })
+  pub withdrawals : (a : Archive) (list key : List ℕ) (party : ℤ) → P a → P (with_change a list key (withdrawn_by party))
+  pub embargoes : (a : Archive) (list key : List ℕ) (until : Option ℤ) → P a → P (with_change a list key (embargoed until))
+
+module _ (P : Archive → Type 0) (Q : Command → Type 0) (kept : EachChangeKeeps P Q) where
+  -- an answer that changes nothing, or else another outcome
+  unless : (a : Archive) → P a → (b : Bool) (reply : Reply) (other : Outcome) → (b ≡ false → P other.0) → P (if b then (a, reply) else other).0
+  unless a p true reply other later = p
+  unless a p false reply other later = later refl
+
+  pub kept_by_steps : (a : Archive) (command : Command) → Q command → P a → P (step a command).0
+  kept_by_steps a (list_add name) q p =
+      unless a p (not (is_name name)) _ _ (λ _. unless a p (has_list a name) _ _ (λ new. kept.lists a name new p))
+  kept_by_steps a (person_add name token) q p =
+      unless a p (not (is_name name)) _ _ (λ _. unless a p (not (is_token token)) _ _ (λ _.
+      unless a p (has_person a name) _ _ (λ new. unless a p (has_token a token) _ _ (λ free.
+      kept.persons a (record { name = name; token = token }) new free p))))
+  kept_by_steps a (grant person list rank from_day until_day) q p =
+      let g : Grant = record { person = person; list = list; rank = rank; from_day = from_day; until_day = until_day } in
+      unless a p (not (has_person a person)) _ _ (λ _. unless a p (not (has_list a list)) _ _ (λ _.
+      unless a p (int_lt until_day from_day) _ _ (λ _. kept.grants a g p)))
+  kept_by_steps a (revoke person list rank) q p =
+      unless a p (not (has_person a person)) _ _ (λ _. unless a p (not (has_list a list)) _ _ (λ _. kept.revokes a person list rank p))
+  kept_by_steps a (add list item) q p =
+      unless a p (not (has_list a list)) _ _ (λ _. unless a p (nat_lt 4194304 (length (whole item.text))) _ _ (λ _.
+      unless a p (has_message a list (item_key item)) _ _ (λ new.
+      unless a p (nat_le message_limit (length (messages_in a list))) _ _ (λ _. kept.messages a list item q new p))))
+  kept_by_steps a (withdraw list key party) q p =
+      unless a p (not (has_list a list)) _ _ (λ _. unless a p (not (has_message a list key)) _ _ (λ _.
+      unless a p (is_withdrawn (message_of a list key)) _ _ (λ _. kept.withdrawals a list key party p)))
+  kept_by_steps a (restore list key) q p =
+      unless a p (not (has_list a list)) _ _ (λ _. unless a p (not (has_message a list key)) _ _ (λ _.
+      unless a p (not (is_withdrawn (message_of a list key))) _ _ (λ _. kept.withdrawals a list key (pos 0) p)))
+  kept_by_steps a (embargo list key until_day) q p =
+      unless a p (not (has_list a list)) _ _ (λ _. unless a p (not (has_message a list key)) _ _ (λ _.
+      kept.embargoes a list key (Some until_day) p))
+  kept_by_steps a (lift list key) q p =
+      unless a p (not (has_list a list)) _ _ (λ _. unless a p (not (has_message a list key)) _ _ (λ _. kept.embargoes a list key None p))
+
+  pub kept_by_runs : (a : Archive) (commands : List Command) → All Q commands → P a → P (run a commands).archive
+  unfolding run
+  kept_by_runs a [] all p = p
+  kept_by_runs a (command ∷ commands) all p =
+      kept_by_runs (step a command).0 commands (All-tail Q command commands all) (kept_by_steps a command (All-head Q command commands all) p)
+
+-- ---- some commands and then others
+
+pub archive_of_both : (a : Archive) (xs ys : List Command) → (run a (xs ++ ys)).archive ≡ (run (run a xs).archive ys).archive
+unfolding run
+archive_of_both a [] ys = refl
+archive_of_both a (x ∷ xs) ys = archive_of_both (step a x).0 xs ys
+
+pub replies_of_both : (a : Archive) (xs ys : List Command) → (run a (xs ++ ys)).replies ≡ (run a xs).replies ++ (run (run a xs).archive ys).replies
+unfolding run
+replies_of_both a [] ys = refl
+replies_of_both a (x ∷ xs) ys = ap (λ (rs : List Reply). (step a x).1 ∷ rs) (replies_of_both (step a x).0 xs ys)

@@ -1,0 +1,10 @@
+use Rattle.archive_machine.specs.Sound.{IsSound, AddsItem}
+use Rattle.archive_machine.proofs.RunLemmas.{kept_by_steps, kept_by_runs}
+use Rattle.archive_machine.proofs.SoundLemmas.{soundness}
+use Rattle.archive_machine.proofs.laws.commands_keep_soundness.Goals as goal
+
+pub returns-clause-step : goal.returns-clause-step
+returns-clause-step c = kept_by_steps IsSound AddsItem soundness
+
+pub returns-clause-run : goal.returns-clause-run
+returns-clause-run c = kept_by_runs IsSound AddsItem soundness
