@@ -1,7 +1,8 @@
 -- What the queries show of a record, and the record of what was read.
-use Rattle.std.specs.Prelude.{ℕ, ℤ, pos, List, [], ◌∷◌, string_bytes, None}
+use Rattle.std.specs.Prelude.{ℕ, ℤ, pos, List, [], ◌∷◌, map, string_bytes, None}
 use Rattle.sqlite.specs.declared.types.Value.TheVariants.{Int, Text, Blob}
-use Rattle.sqlite.specs.Order.{Row}
+use Rattle.sqlite.specs.Order.{Row, column}
+use Rattle.sqlite.specs.Tree.{Trees}
 use Rattle.archive_machine.specs.Records.{Grant, Message}
 use Rattle.archive_tables.specs.Tables.{or_null}
 use Rattle.archive_tables.specs.declared.rows.MessageRow.{MessageRow}
@@ -10,6 +11,10 @@ use Rattle.archive_tables.specs.declared.rows.GrantRow.{GrantRow}
 -- a message as it comes in: not withdrawn, and under no embargo
 abbrev pub new_message : List ℕ → List ℕ → List ℕ → ℤ → List ℕ → Message
 new_message list key sender arrival text = record { list = list; key = key; sender = sender; arrival = arrival; text = text; withdrawn = pos 0; embargo = None }
+
+-- the numbers of all versions
+abbrev pub versions_shown : Trees → List Row
+versions_shown trees = map (λ row. column row 1 ∷ []) (trees 0)
 
 abbrev pub name_shown : List ℕ → Row
 name_shown name = Text name ∷ []

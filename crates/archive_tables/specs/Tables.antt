@@ -107,6 +107,10 @@ same_message a b = is_message a.list a.key b
 abbrev pub version_rows : List Row
 version_rows = (Int (pos 1) ∷ Int (pos 0) ∷ []) ∷ []
 
+-- the table `version` holds one row, of the number 0
+abbrev pub IsVersion0 : Trees → Type 0
+IsVersion0 trees = (row : Row) × (trees 0 ≡ row ∷ []) × (column row 1 ≡ Int (pos 0))
+
 -- the version is 0, each table holds rows of its records, and no two grants or messages have the same key
 pub record AreTables (trees : Trees) : Type 0 where
   pub version : trees 0 ≡ version_rows
@@ -126,6 +130,13 @@ pub record IsKept (s : State) : Type 0 where
   pub settled : s.committed ≡ s.now
   pub schema : s.now.schema ≡ archive_schema
   pub tables : AreTables s.now.trees
+
+-- the same, but that its tables may hold any rows
+pub record IsOfArchive (s : State) : Type 0 where
+  pub is_open : IsTrue s.is_open
+  pub autocommit : s.in_transaction ≡ false
+  pub settled : s.committed ≡ s.now
+  pub schema : s.now.schema ≡ archive_schema
 
 -- what a database remembers
 abbrev pub archive_in : Trees → Archive

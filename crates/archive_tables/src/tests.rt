@@ -68,6 +68,19 @@ fn the_version_is_0(rt: HostRuntime) -> Result<(), Fail> {
 }
 
 #[test]
+fn each_version_is_shown(rt: HostRuntime) -> Result<(), Fail> {
+    let mut conn = open(rt.alloc())?;
+    conn.execute("INSERT INTO version (number) VALUES (7)", &[])?;
+    let rows = schema::versions(&mut conn)?;
+    assert_eq!(rt; rows.len(), 2);
+    for (row, want) in rows.iter().zip([0i64, 7]) {
+        let number: i64 = row.get(0)?;
+        assert_eq!(rt; number, want);
+    }
+    Ok(())
+}
+
+#[test]
 fn a_rollback_leaves_no_table(rt: HostRuntime) -> Result<(), Fail> {
     let mut conn = Connection::open_in_memory(rt.alloc())?;
     schema::begin(&mut conn)?;
