@@ -15,4 +15,5 @@ pub mod MakeLemmas
 pub mod VersionLemmas
 pub mod ReachLemmas
 pub mod NamesLemmas
+pub mod ReadLemmas
 pub mod TableExamples

@@ -1,8 +1,11 @@
 -- What the queries show of a record, and the record of what was read.
-use Rattle.std.specs.Prelude.{ℕ, ℤ, pos, List, [], ◌∷◌, map, string_bytes, None}
+use Rattle.std.specs.Prelude.{◌≡◌, ◌⊎◌, IsUtf8, ℕ, ℤ, pos, List, [], ◌∷◌, map, string_bytes, None}
 use Rattle.sqlite.specs.declared.types.Value.TheVariants.{Int, Text, Blob}
 use Rattle.sqlite.specs.Order.{Row, column}
 use Rattle.sqlite.specs.Tree.{Trees}
+use Rattle.sqlite.specs.declared.error.Error.{Error}
+use Rattle.sqlite.specs.declared.error.Error.TheVariants.{SqliteFailure, Utf8Error}
+use Rattle.sqlite.specs.declared.error.ErrorCode.TheVariants.{OutOfMemory}
 use Rattle.archive_machine.specs.Records.{Grant, Message}
 use Rattle.archive_tables.specs.Tables.{or_null}
 use Rattle.archive_tables.specs.declared.rows.MessageRow.{MessageRow}
@@ -40,3 +43,12 @@ grant_shown g = Int g.rank ∷ Int g.from_day ∷ Int g.until_day ∷ []
 
 abbrev pub grant_in : List ℕ → List ℕ → GrantRow → Grant
 grant_in person list r = record { person = person; list = list; rank = r.rank; from_day = r.from_day; until_day = r.until_day }
+
+-- ---- why a row is not read
+
+abbrev pub no_memory : Error
+no_memory = SqliteFailure OutOfMemory
+
+-- of a row that begins with a text: there is no memory, or the text is no UTF-8
+abbrev pub IsTextFault : List ℕ → Error → Type 0
+IsTextFault text e = (e ≡ no_memory) ⊎ ((¬ IsUtf8 text) × (e ≡ Utf8Error 0))

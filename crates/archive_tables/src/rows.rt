@@ -1,8 +1,8 @@
 //! Rows as values.
 
-ghost use Rattle.std.specs.Prelude.{◌≡◌, ◌∷◌, string_bytes, IfOk};
+ghost use Rattle.std.specs.Prelude.{◌≡◌, ◌∷◌, string_bytes, IfOk, IfErr};
 ghost use Rattle.archive_machine.specs.Records.{Grant, Message};
-ghost use Rattle.archive_tables.specs.Rows.{name_shown, message_shown, message_in, grant_shown, grant_in};
+ghost use Rattle.archive_tables.specs.Rows.{name_shown, message_shown, message_in, grant_shown, grant_in, no_memory, IsTextFault};
 
 use sqlite::{Error, Row};
 
@@ -28,14 +28,16 @@ pub struct GrantRow {
 
 /// The name in a row that shows one.
 pub fn read_name(row: &Row) -> Result<String, Error>
-    ensures { IfOk result (λ name. (n : _) → row.now ≡ name_shown n → string_bytes name ≡ n) }
+    ensures read { IfOk result (λ name. (n : _) → row.now ≡ name_shown n → string_bytes name ≡ n) }
+    ensures fault { IfErr result (λ e. (n : _) → row.now ≡ name_shown n → IsTextFault n e) }
 {
     row.get(0)
 }
 
 /// The message in a row that shows one.
 pub fn read_message(row: &Row) -> Result<MessageRow, Error>
-    ensures { IfOk result (λ r. (m : Message) → row.now ≡ message_shown m → message_in m.list r ≡ m) }
+    ensures read { IfOk result (λ r. (m : Message) → row.now ≡ message_shown m → message_in m.list r ≡ m) }
+    ensures fault { IfErr result (λ e. (m : Message) → row.now ≡ message_shown m → IsTextFault m.key e) }
 {
     Ok(MessageRow {
         key: row.get(0)?,
@@ -49,7 +51,8 @@ pub fn read_message(row: &Row) -> Result<MessageRow, Error>
 
 /// The grant in a row that shows one.
 pub fn read_grant(row: &Row) -> Result<GrantRow, Error>
-    ensures { IfOk result (λ r. (g : Grant) → row.now ≡ grant_shown g → grant_in g.person g.list r ≡ g) }
+    ensures read { IfOk result (λ r. (g : Grant) → row.now ≡ grant_shown g → grant_in g.person g.list r ≡ g) }
+    ensures fault { IfErr result (λ e. (g : Grant) → row.now ≡ grant_shown g → e ≡ no_memory) }
 {
     Ok(GrantRow {
         rank: row.get(0)?,

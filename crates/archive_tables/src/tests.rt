@@ -112,6 +112,18 @@ fn lists_come_by_name(rt: HostRuntime) -> Result<(), Fail> {
 }
 
 #[test]
+fn a_row_of_other_cells_is_not_read(rt: HostRuntime) -> Result<(), Fail> {
+    let mut conn = open(rt.alloc())?;
+    let cut = conn.query_row("SELECT CAST(x'c3' AS TEXT)", &[])?;
+    assert_eq!(rt; read_name(&cut).err(), Some(Error::Utf8Error(0)));
+    let number = conn.query_row("SELECT 1", &[])?;
+    assert!(rt; read_name(&number).is_err());
+    assert!(rt; read_message(&number).is_err());
+    assert_eq!(rt; read_grant(&number).err(), Some(Error::InvalidColumnIndex(1)));
+    Ok(())
+}
+
+#[test]
 fn a_token_leads_to_its_person(rt: HostRuntime) -> Result<(), Fail> {
     let mut conn = open_filled(rt.alloc())?;
     persons::add_person(&mut conn, "bea", "fedcba9876543210")?;
