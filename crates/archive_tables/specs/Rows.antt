@@ -9,6 +9,7 @@ use Rattle.sqlite.specs.declared.error.ErrorCode.TheVariants.{OutOfMemory}
 use Rattle.archive_machine.specs.Records.{Grant, Message}
 use Rattle.archive_tables.specs.Tables.{or_null}
 use Rattle.archive_tables.specs.declared.rows.MessageRow.{MessageRow}
+use Rattle.archive_tables.specs.declared.rows.MarksRow.{MarksRow}
 use Rattle.archive_tables.specs.declared.rows.GrantRow.{GrantRow}
 
 -- a message as it comes in: not withdrawn, and under no embargo
@@ -36,6 +37,13 @@ message_in list r = record {
   withdrawn = r.withdrawn;
   embargo = r.embargo;
 }
+
+-- the two marks of a message: who withdrew it, and the day up to which it is held back
+abbrev pub marks_shown : Message → Row
+marks_shown m = Int m.withdrawn ∷ or_null m.embargo ∷ []
+
+abbrev pub marks_of : Message → MarksRow
+marks_of m = record { withdrawn = m.withdrawn; embargo = m.embargo }
 
 -- a grant without its person and list
 abbrev pub grant_shown : Grant → Row

@@ -2,7 +2,7 @@
 
 ghost use Rattle.std.specs.Prelude.{◌≡◌, ◌∷◌, string_bytes, IfOk, IfErr};
 ghost use Rattle.archive_machine.specs.Records.{Grant, Message};
-ghost use Rattle.archive_tables.specs.Rows.{name_shown, message_shown, message_in, grant_shown, grant_in, no_memory, IsTextFault};
+ghost use Rattle.archive_tables.specs.Rows.{name_shown, message_shown, message_in, marks_shown, marks_of, grant_shown, grant_in, no_memory, IsTextFault};
 
 use sqlite::{Error, Row};
 
@@ -14,6 +14,13 @@ pub struct MessageRow {
     pub sender: Vec<u8>,
     pub arrival: i64,
     pub text: Vec<u8>,
+    pub withdrawn: i64,
+    pub embargo: Option<i64>,
+}
+
+/// The two marks of a message, as in `MessageRow`.
+#[derive(Clone, Copy, Debug, PartialEq, Eq)]
+pub struct MarksRow {
     pub withdrawn: i64,
     pub embargo: Option<i64>,
 }
@@ -46,6 +53,17 @@ pub fn read_message(row: &Row) -> Result<MessageRow, Error>
         text: row.get(3)?,
         withdrawn: row.get(4)?,
         embargo: row.get(5)?,
+    })
+}
+
+/// The marks in a row that shows those of a message.
+pub fn read_marks(row: &Row) -> Result<MarksRow, Error>
+    ensures read { IfOk result (λ r. (m : Message) → row.now ≡ marks_shown m → r ≡ marks_of m) }
+    ensures fault { IfErr result (λ e. (m : Message) → row.now ≡ marks_shown m → e ≡ no_memory) }
+{
+    Ok(MarksRow {
+        withdrawn: row.get(0)?,
+        embargo: row.get(1)?,
     })
 }
 
