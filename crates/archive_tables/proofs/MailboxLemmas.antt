@@ -16,7 +16,8 @@ use Rattle.sqlite_sql.specs.declared.ops.BinaryOp.TheVariants.{Compare}
 use Rattle.sqlite_sql.specs.declared.ops.CompareOp.TheVariants.{Eq}
 use Rattle.archive_machine.specs.Records.{Message}
 use Rattle.archive_tables.specs.Schema.{archive_schema}
-use Rattle.archive_tables.specs.Tables.{IsKept, message_cells, message_read, archive_of, is_message}
+use Rattle.archive_machine.specs.Questions.{is_message}
+use Rattle.archive_tables.specs.Tables.{IsKept, message_cells, message_read, archive_of}
 use Rattle.archive_tables.specs.Rows.{message_shown, marks_shown}
 use Rattle.archive_tables.specs.Calls.{Rests}
 use Rattle.archive_tables.proofs.MessageLemmas.{message_back}

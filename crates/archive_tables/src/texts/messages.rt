@@ -2,7 +2,7 @@
 
 ghost use Rattle.std.specs.Prelude.{◌≡◌, ◌<◌, ◌++◌, ◌∷◌, [], false, Some, None, bytes_eq, filter, find, length, map, option_map, if◌then◌else◌};
 ghost use Rattle.std.specs.List.{list_any};
-ghost use Rattle.archive_tables.specs.Tables.{is_message};
+ghost use Rattle.archive_machine.specs.Questions.{is_message};
 ghost use Rattle.archive_tables.specs.Rows.{new_message, message_shown, message_in, marks_of};
 ghost use Rattle.archive_tables.specs.Calls.{Writes, WritesWhen, Refuses, Finds, Leaves, IsUp, WasClean};
 

@@ -1,6 +1,6 @@
 use Rattle.std.proofs.Common.{ap, sym, ◌∙◌, rules}
 use Rattle.std.specs.Prelude.{◌≡◌, Some, None, slice_get, option_map}
-use Rattle.archive_tables.specs.Tables.{is_message}
+use Rattle.archive_machine.specs.Questions.{is_message}
 use Rattle.archive_tables.specs.Rows.{marks_shown, marks_of}
 use Rattle.archive_tables.proofs.SelectLemmas.{first_found, none_found}
 use Rattle.sqlite.specs.Held.{state}

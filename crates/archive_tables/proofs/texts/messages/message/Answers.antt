@@ -1,6 +1,6 @@
 use Rattle.std.proofs.Common.{ap, sym, ◌∙◌, rules}
 use Rattle.std.specs.Prelude.{◌≡◌, Some, None, slice_get}
-use Rattle.archive_tables.specs.Tables.{is_message}
+use Rattle.archive_machine.specs.Questions.{is_message}
 use Rattle.archive_tables.specs.Rows.{message_shown, message_in}
 use Rattle.archive_tables.proofs.SelectLemmas.{first_found, none_found, equal_words, first_part, found_passes}
 use Rattle.sqlite.specs.Held.{state}
