@@ -27,7 +27,8 @@ use Rattle.sqlite_sql.specs.declared.ops.BinaryOp.TheVariants.{Compare}
 use Rattle.sqlite_sql.specs.declared.ops.CompareOp.TheVariants.{Eq}
 use Rattle.archive_machine.specs.Records.{Grant}
 use Rattle.archive_tables.specs.Schema.{archive_schema, grant_table}
-use Rattle.archive_tables.specs.Tables.{IsKept, Numbered, row_of, grant_cells, grant_read, archive_of, is_grant, same_grant, AreApart}
+use Rattle.archive_machine.specs.Questions.{is_grant}
+use Rattle.archive_tables.specs.Tables.{IsKept, Numbered, row_of, grant_cells, grant_read, archive_of, same_grant, AreApart}
 use Rattle.archive_tables.specs.Rows.{grant_shown}
 use Rattle.archive_tables.specs.Calls.{Changes, Rests}
 use Rattle.archive_tables.proofs.RunLemmas.{passed, value_is, no_action, cast_null, cast_int, kept_by, rests, execute_fails}

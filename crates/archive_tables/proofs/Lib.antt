@@ -12,6 +12,8 @@ pub mod MailboxLemmas
 pub mod UpdateLemmas
 pub mod GrantLemmas
 pub mod MakeLemmas
+pub mod VersionLemmas
 pub mod ReachLemmas
 pub mod NamesLemmas
+pub mod ReadLemmas
 pub mod TableExamples

@@ -16,8 +16,9 @@ use Rattle.sqlite_sql.specs.declared.ops.BinaryOp.TheVariants.{Compare}
 use Rattle.sqlite_sql.specs.declared.ops.CompareOp.TheVariants.{Eq}
 use Rattle.archive_machine.specs.Records.{Message}
 use Rattle.archive_tables.specs.Schema.{archive_schema}
-use Rattle.archive_tables.specs.Tables.{IsKept, message_cells, message_read, archive_of, is_message}
-use Rattle.archive_tables.specs.Rows.{message_shown}
+use Rattle.archive_machine.specs.Questions.{is_message}
+use Rattle.archive_tables.specs.Tables.{IsKept, message_cells, message_read, archive_of}
+use Rattle.archive_tables.specs.Rows.{message_shown, marks_shown}
 use Rattle.archive_tables.specs.Calls.{Rests}
 use Rattle.archive_tables.proofs.MessageLemmas.{message_back}
 use Rattle.archive_tables.proofs.SelectLemmas.{plain_query, by_number, passes, asked, leaves, asked_rests, refused_rests, any_wanted, count_wanted, shows, alone, text_is}
@@ -66,6 +67,23 @@ one_is = (refl, refl)
 one_plain : IsPlain (understood archive_schema one_text)
 unfolding understood everything
 one_plain = (refl, refl)
+
+-- ---- its marks
+
+abbrev pub marks_text : List ℕ
+marks_text = codes "SELECT withdrawn, embargo FROM message WHERE list = ?1 AND key = ?2 ORDER BY pos"
+
+abbrev mark_cells : List Term
+mark_cells = col 1 7 ∷ col 1 8 ∷ []
+
+marks_is : (command_of (understood archive_schema marks_text) ≡ Select (record { lets = []; body = plain_query 8 at_key mark_cells by_number }) (codes "withdrawn" ∷ codes "embargo" ∷ []))
+    × (reads_listing archive_schema marks_text ≡ false)
+unfolding understood everything
+marks_is = (refl, refl)
+
+marks_plain : IsPlain (understood archive_schema marks_text)
+unfolding understood everything
+marks_plain = (refl, refl)
 
 -- ---- whether a key is there
 
@@ -139,6 +157,19 @@ module _ (old new : State) (list : List ℕ) (k : IsKept old) where
 
     pub not_one : (e : Error) → FailsToQuery one_text (Text list ∷ Text key ∷ []) old new e → Rests old new
     not_one e h = refused_rests one_text 8 at_key all_cells by_number _ one_is.0 one_plain one_is.1 (λ t. refl) (Text list ∷ Text key ∷ []) old new k e h
+
+    pub marks : (rows : List Row) → Shown marks_text (Text list ∷ Text key ∷ []) old new rows
+        → (rows ≡ map marks_shown (filter (is_message list key) (archive_of old).messages)) × IsTrue new.is_open × Rests old new
+    marks rows h =
+        let params = Text list ∷ Text key ∷ [] in
+        let picks = asked marks_text 8 at_key mark_cells by_number _ marks_is.0 marks_plain marks_is.1 (λ t. refl) params old new k rows h in (
+          shows 8 at_key mark_cells params message_cells message_read message_back (is_message list key) (has_key list key []) marks_shown (λ n m. refl) (old.now.trees 8) rows k.tables.messages picks,
+          (leaves marks_text 8 at_key mark_cells by_number _ marks_is.0 marks_plain marks_is.1 (λ t. refl) params old new k rows h).0.is_open,
+          asked_rests marks_text 8 at_key mark_cells by_number _ marks_is.0 marks_plain marks_is.1 (λ t. refl) params old new k rows h,
+        )
+
+    pub no_marks : (e : Error) → FailsToQuery marks_text (Text list ∷ Text key ∷ []) old new e → Rests old new
+    no_marks e h = refused_rests marks_text 8 at_key mark_cells by_number _ marks_is.0 marks_plain marks_is.1 (λ t. refl) (Text list ∷ Text key ∷ []) old new k e h
 
     pub has : (rows : List Row) → Shown has_text (Text list ∷ Text key ∷ []) old new rows
         → (not (length rows == 0) ≡ list_any (is_message list key) (archive_of old).messages) × IsTrue new.is_open × Rests old new

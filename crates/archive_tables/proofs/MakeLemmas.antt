@@ -2,14 +2,13 @@
 use Rattle.std.proofs.Common.{◌≡◌, ℕ, pos, List, [], ◌∷◌, ◌++◌, codes, Ok, arith, refl, sym, ap, subst, ◌∙◌, false, true, None}
 use Rattle.std.specs.Prelude.{IsTrue}
 use Rattle.std.specs.List.{AllByRecursion}
-use Rattle.sqlite.specs.declared.error.Error.{Error}
 use Rattle.sqlite.specs.declared.types.Value.TheVariants.{Null, Int}
 use Rattle.sqlite.specs.Order.{Row}
 use Rattle.sqlite.specs.Table.{Table}
 use Rattle.sqlite.specs.Schema.{Schema}
-use Rattle.sqlite.specs.Term.{Term, lit, col}
+use Rattle.sqlite.specs.Term.{Term, lit}
 use Rattle.sqlite.specs.Source.TheVariants.{Values}
-use Rattle.sqlite.specs.Command.TheVariants.{CreateTable, Begin, Commit, Rollback, Insert, Select}
+use Rattle.sqlite.specs.Command.TheVariants.{CreateTable, Begin, Commit, Rollback, Insert}
 use Rattle.sqlite.specs.Compile.{table_defined_by}
 use Rattle.sqlite.specs.Change.{created, next_tree, KeepsRows}
 use Rattle.sqlite.specs.Does.{Tally, Does, MakesTable, lacks_sequence, sequence_text}
@@ -17,18 +16,16 @@ use Rattle.sqlite.specs.Edit.{edit_of, edited, taken_by}
 use Rattle.sqlite.specs.Rowids.TheVariants.{Chosen}
 use Rattle.sqlite.specs.Rows.{Written}
 use Rattle.sqlite.specs.Tree.{Trees}
-use Rattle.sqlite.specs.Listing.{understood, reads_listing}
+use Rattle.sqlite.specs.Listing.{understood}
 use Rattle.sqlite.specs.Effect.{Database}
-use Rattle.sqlite.specs.State.{State, Writes, Executes, mode_of, Shown, FailsToQuery}
+use Rattle.sqlite.specs.State.{State, Writes, Executes, mode_of}
 use Rattle.sqlite.proofs.Callers.{IsPlain, command_of, statement_of, runs_as, one_step}
 use Rattle.sqlite_tied.specs.Compute.{everything}
 use Rattle.archive_tables.specs.Schema.{no_schema, with_version, with_list, with_person, with_grant, archive_schema, create_version, create_list, create_person, create_grant, create_message, version_table, list_table, person_table, grant_table, message_table, sequence_table}
 use Rattle.archive_tables.specs.Tables.{AreTables, IsKept, archive_in, archive_of, version_rows}
 use Rattle.archive_tables.specs.Making.{IsMaking, IsMade, empty_archive}
-use Rattle.archive_tables.specs.Calls.{Rests}
 use Rattle.archive_tables.proofs.SchemaLemmas.{unplaced, version_is, list_is, person_is, grant_is, message_is, sequence_is}
 use Rattle.archive_tables.proofs.RunLemmas.{passed, value_is, no_action, cast_null, cast_int}
-use Rattle.archive_tables.proofs.SelectLemmas.{plain_query, by_number, Picks, in_order, asked, leaves, asked_rests, refused_rests}
 use Rattle.archive_tables.proofs.TableLemmas.{SameBut, same_but}
 
 -- ---- one table more
@@ -306,32 +303,3 @@ makes_whole old new before count k h =
       tables = it.0;
       nothing = it.1;
     }
-
-abbrev pub number_text : List ℕ
-number_text = codes "SELECT number FROM version ORDER BY rowid"
-
-abbrev number_cell : List Term
-number_cell = col 1 1 ∷ []
-
-number_is : (command_of (understood archive_schema number_text) ≡ Select (record { lets = []; body = plain_query 0 [] number_cell by_number }) (codes "number" ∷ [])) × (reads_listing archive_schema number_text ≡ false)
-unfolding understood everything
-number_is = (refl, refl)
-
-number_plain : IsPlain (understood archive_schema number_text)
-unfolding understood everything
-number_plain = (refl, refl)
-
-only_version : (rows picked : List Row) → rows ≡ version_rows → Picks (plain_query 0 [] number_cell by_number) [] rows picked → picked ≡ (Int (pos 0) ∷ []) ∷ []
-only_version rows picked are it = in_order 0 [] number_cell [] version_rows picked (tt, tt) (subst (λ l. Picks (plain_query 0 [] number_cell by_number) [] l picked) are it)
-
-module _ (old new : State) (k : IsKept old) where
-  pub version_found : (rows : List Row) → Shown number_text [] old new rows → (rows ≡ (Int (pos 0) ∷ []) ∷ []) × IsTrue new.is_open × Rests old new
-  version_found rows h =
-      let picks = asked number_text 0 [] number_cell by_number _ number_is.0 number_plain number_is.1 (λ t. refl) [] old new k rows h in (
-        only_version (old.now.trees 0) rows k.tables.version picks,
-        (leaves number_text 0 [] number_cell by_number _ number_is.0 number_plain number_is.1 (λ t. refl) [] old new k rows h).0.is_open,
-        asked_rests number_text 0 [] number_cell by_number _ number_is.0 number_plain number_is.1 (λ t. refl) [] old new k rows h,
-      )
-
-  pub version_not_found : (e : Error) → FailsToQuery number_text [] old new e → Rests old new
-  version_not_found e h = refused_rests number_text 0 [] number_cell by_number _ number_is.0 number_plain number_is.1 (λ t. refl) [] old new k e h

@@ -25,7 +25,8 @@ use Rattle.sqlite_rules.specs.Action as Action
 use Rattle.sqlite_schema.specs.declared.schema.Keys.TheVariants.{Enforced}
 use Rattle.archive_machine.specs.Records.{Message}
 use Rattle.archive_tables.specs.Schema.{archive_schema, message_table, sequence_table}
-use Rattle.archive_tables.specs.Tables.{IsKept, Numbered, row_of, message_cells, message_read, archive_of, or_null, if_int, is_message, same_message, AreApart}
+use Rattle.archive_machine.specs.Questions.{is_message}
+use Rattle.archive_tables.specs.Tables.{IsKept, Numbered, row_of, message_cells, message_read, archive_of, or_null, if_int, same_message, AreApart}
 use Rattle.archive_tables.specs.Rows.{new_message}
 use Rattle.archive_tables.specs.Calls.{Changes, Rests}
 use Rattle.archive_tables.proofs.RunLemmas.{passed, value_is, no_action, cast_null, cast_int, kept_by, rests, execute_fails}

@@ -29,7 +29,7 @@ use Rattle.archive_tables.specs.Tables.{IsKept, Numbered, row_of, read_of, list_
 use Rattle.archive_tables.specs.Rows.{name_shown}
 use Rattle.archive_tables.specs.Calls.{Rests}
 use Rattle.archive_tables.proofs.RowLemmas.{records_are}
-use Rattle.archive_tables.proofs.SelectLemmas.{plain_query, env_of, passes, asked, leaves, asked_rests, refused_rests}
+use Rattle.archive_tables.proofs.SelectLemmas.{plain_query, env_of, passes, all_pass, asked, leaves, asked_rests, refused_rests}
 
 abbrev pub names_text : List ℕ
 names_text = codes "SELECT name FROM list ORDER BY name"
@@ -60,10 +60,6 @@ name_of o = bytes (column o.1 0)
 
 abbrev IsBoth : Output → Type 0
 IsBoth o = o ≡ both (name_of o)
-
-all_rows : (rows : List Row) → filter (passes [] []) rows ≡ rows
-all_rows [] = refl
-all_rows (row ∷ rows) = ap (λ l. row ∷ l) (all_rows rows)
 
 shown_all : (all : List (Numbered (List ℕ))) → map (λ row. output query (env_of [] row)) (map (row_of list_cells) all) ≡ map both (map (λ (r : Numbered (List ℕ)). r.it) all)
 shown_all [] = refl
@@ -112,7 +108,7 @@ module _ (old new : State) (k : IsKept old) where
       let all = map (read_of list_read) table in
       let its = records_are list_cells list_read (λ n r. refl) table k.tables.lists in
       let start : map (λ row. output query (env_of [] row)) (filter (passes [] []) table) ≡ map both (archive_of old).lists =
-      ap (map (λ row. output query (env_of [] row))) (all_rows table ∙ k.tables.lists.coded) ∙ shown_all all ∙ ap (map both) (sym its) in
+      ap (map (λ row. output query (env_of [] row))) (all_pass [] table ∙ k.tables.lists.coded) ∙ shown_all all ∙ ap (map both) (sym its) in
       let same = subst (λ l. IsPermutation l picks.ordered) start picks.same in
       let names = map name_of picks.ordered in
       let ordered = are_both picks.ordered (all-permutation IsBoth (map both (archive_of old).lists) picks.ordered same (all_both (archive_of old).lists)) in (

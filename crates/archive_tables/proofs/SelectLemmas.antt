@@ -1,5 +1,5 @@
 -- A query over one table of records, with no group, limit or offset.
-use Rattle.std.proofs.Common.{◌≡◌, inl, inr, ℕ, ℤ, pos, negsuc, Bool, true, false, cond, not, List, [], ◌∷◌, ◌++◌, map, filter, flat_map, length, Option, None, Some, refl, sym, ap, ap₂, subst, ◌∙◌, arith}
+use Rattle.std.proofs.Common.{◌≡◌, inl, inr, ℕ, ℤ, pos, negsuc, Bool, true, false, cond, not, List, [], ◌∷◌, ◌++◌, map, filter, flat_map, length, Option, None, Some, refl, sym, ap, ap₂, subst, subst₂, ◌∙◌, arith}
 use Rattle.std.specs.Prelude.{nat_eq, ◌||◌, ◌&&◌, bytes_eq, find, slice_get, option_map}
 use Rattle.std.specs.Ordering.{is_eq, int_eq, int_cmp}
 use Rattle.std.proofs.lemmas.Bool.{cases_Bool}
@@ -11,7 +11,7 @@ use Rattle.std.specs.List.{list_all, list_any, AllByRecursion}
 use Rattle.std.specs.List.Sorted.{IsPermutation, IsSorted, IsStrictlySortedBy}
 use Rattle.std.specs.declared.cmp.Ordering.TheVariants.{Less}
 use Rattle.std.proofs.lemmas.List.{length-map}
-use Rattle.std.proofs.lemmas.List.Sorted.{length_permutation}
+use Rattle.std.proofs.lemmas.List.Sorted.{length_permutation, IsPermutation-map}
 use Rattle.sqlite.specs.declared.error.Error.{Error}
 use Rattle.sqlite.specs.declared.types.Value.TheVariants.{Null, Int, Text}
 use Rattle.sqlite.specs.Order.{Row, value_cmp}
@@ -61,6 +61,10 @@ env_of params row = params ∷ row ∷ []
 
 abbrev pub passes : List Term → Row → Row → Bool
 passes terms params row = list_all (holds (env_of params row)) terms
+
+pub all_pass : (params : Row) (rows : List Row) → filter (passes [] params) rows ≡ rows
+all_pass params [] = refl
+all_pass params (row ∷ rows) = ap (λ l. row ∷ l) (all_pass params rows)
 
 -- an order that ORDER BY allows of the rows that pass
 pub record Picks (q : Query) (params : Row) (rows shown : List Row) : Type 0 where
@@ -161,6 +165,15 @@ picks_of t terms shown order trees params rows a =
 pub picks_count : (q : Query) (params : Row) (rows shown : List Row) → Picks q params rows shown → length shown ≡ length (filter (passes q.filter params) rows)
 picks_count q params rows shown p = ap length p.is ∙ length-map p.ordered _ ∙ length_permutation _ _ p.same ∙ length-map (filter (passes q.filter params) rows) _
 
+-- where no test is made, each row is shown
+pub picks_all : (q : Query) (params : Row) (rows shown : List Row) → q.filter ≡ [] → Picks q params rows shown
+    → IsPermutation (map (λ row. (output q (env_of params row)).1) rows) shown
+picks_all q params rows shown none p =
+    let all = subst (λ terms. filter (passes terms params) rows ≡ rows) (sym none) (all_pass params rows) in
+    let same = subst (λ l. IsPermutation (map (λ row. output q (env_of params row)) l) p.ordered) all p.same in
+    let each = IsPermutation-map (λ (o : Output). o.1) (map (λ row. output q (env_of params row)) rows) p.ordered same in
+    subst₂ IsPermutation (map-map (λ (o : Output). o.1) (λ row. output q (env_of params row)) rows) (sym p.is) each
+
 -- where no row passes, and where one does
 pub no_row : (q : Query) (params : Row) (rows shown : List Row) → Picks q params rows shown → filter (passes q.filter params) rows ≡ [] → shown ≡ []
 no_row q params rows shown p none = p.is ∙ ap (map (λ (o : Output). o.1)) (nothing p.ordered (subst (λ l. IsPermutation (map (λ row. output q (env_of params row)) l) p.ordered) none p.same))
@@ -179,24 +192,29 @@ one_row q params rows shown row p one =
 
 module _ (sql : List ℕ) (t : ℕ) (terms shown : List Term) (order : List (Term × Key)) (names : List (List ℕ))
     (is : command_of (understood archive_schema sql) ≡ Select (record { lets = []; body = plain_query t terms shown order }) names) (plain : IsPlain (understood archive_schema sql))
-    (unlisted : reads_listing archive_schema sql ≡ false) (low : (trees : Trees) → overlay trees [] t ≡ trees t) (params : Row) (old new : State) (k : IsKept old) where
-  plain_here : IsPlain (understood old.now.schema sql)
-  plain_here = subst (λ s. IsPlain (understood s sql)) (sym k.schema) plain
-
-  pub asked : (rows : List Row) → Shown sql params old new rows → Picks (plain_query t terms shown order) params (old.now.trees t) rows
-  asked rows h =
-      let read = reads_as sql params old new archive_schema k.schema _ is plain unlisted rows h in
+    (unlisted : reads_listing archive_schema sql ≡ false) (low : (trees : Trees) → overlay trees [] t ≡ trees t) (params : Row) (old new : State) where
+  -- whatever the rows are
+  pub picked : old.now.schema ≡ archive_schema → (rows : List Row) → Shown sql params old new rows → Picks (plain_query t terms shown order) params (old.now.trees t) rows
+  picked has rows h =
+      let read = reads_as sql params old new archive_schema has _ is plain unlisted rows h in
       subst (λ all. Picks (plain_query t terms shown order) params all rows) (low old.now.trees)
       (picks_of t terms shown order (overlay old.now.trees []) params rows (read.answer Null))
 
-  pub leaves : (rows : List Row) → Shown sql params old new rows → IsUnchanged old new
-  leaves rows h = query_leaves old new sql params rows plain_here h
+  module _ (k : IsKept old) where
+    plain_here : IsPlain (understood old.now.schema sql)
+    plain_here = subst (λ s. IsPlain (understood s sql)) (sym k.schema) plain
 
-  pub asked_rests : (rows : List Row) → Shown sql params old new rows → Rests old new
-  asked_rests rows h = rests old new k (inl (leaves rows h))
+    pub asked : (rows : List Row) → Shown sql params old new rows → Picks (plain_query t terms shown order) params (old.now.trees t) rows
+    asked rows h = picked k.schema rows h
 
-  pub refused_rests : (e : Error) → FailsToQuery sql params old new e → Rests old new
-  refused_rests e h = rests old new k (query_fails old new sql params e plain_here h)
+    pub leaves : (rows : List Row) → Shown sql params old new rows → IsUnchanged old new
+    leaves rows h = query_leaves old new sql params rows plain_here h
+
+    pub asked_rests : (rows : List Row) → Shown sql params old new rows → Rests old new
+    asked_rests rows h = rests old new k (inl (leaves rows h))
+
+    pub refused_rests : (e : Error) → FailsToQuery sql params old new e → Rests old new
+    refused_rests e h = rests old new k (query_fails old new sql params e plain_here h)
 
 -- ---- over the rows of records
 

@@ -7,8 +7,9 @@ use Rattle.sqlite.specs.Table.{Table}
 use Rattle.sqlite.specs.Tree.{Trees}
 use Rattle.archive_machine.specs.Records.{Message, Grant}
 use Rattle.archive_tables.specs.Schema.{archive_schema}
-use Rattle.archive_tables.specs.Tables.{row_of, read_of, message_cells, message_read, grant_cells, grant_read, is_message, is_grant, same_message, AreApart, archive_in, version_rows}
-use Rattle.archive_tables.specs.Rows.{message_shown, new_message}
+use Rattle.archive_machine.specs.Questions.{is_message, is_grant}
+use Rattle.archive_tables.specs.Tables.{row_of, read_of, message_cells, message_read, grant_cells, grant_read, same_message, AreApart, archive_in, version_rows, IsVersion0}
+use Rattle.archive_tables.specs.Rows.{message_shown, marks_shown, marks_of, new_message, versions_shown}
 
 abbrev hello : Message
 hello = record {
@@ -38,6 +39,9 @@ no_embargo_is_null : message_shown (new_message (codes "soc") (codes "e3b0") (co
     ≡ Text (codes "e3b0") ∷ Blob (codes "-") ∷ Int (pos 0) ∷ Blob [] ∷ Int (pos 0) ∷ Null ∷ []
 no_embargo_is_null = refl
 
+its_marks : (marks_shown hello ≡ Int (pos 2) ∷ Int (pos 12131) ∷ []) × (marks_of hello ≡ record { withdrawn = pos 2; embargo = Some (pos 12131) })
+its_marks = (refl, refl)
+
 abbrev moderator : Grant
 moderator = record { person = codes "anna"; list = codes "soc"; rank = pos 3; from_day = pos 12000; until_day = pos 12400 }
 
@@ -64,6 +68,9 @@ two_lists t =
 
 its_archive : archive_in two_lists ≡ record { lists = codes "soc" ∷ codes "news" ∷ []; persons = []; grants = []; messages = [] }
 its_archive = refl
+
+its_version : IsVersion0 two_lists × (versions_shown two_lists ≡ (Int (pos 0) ∷ []) ∷ [])
+its_version = ((_, refl, refl), refl)
 
 six_tables : map (λ (t : Table). t.name) archive_schema.tables
     ≡ codes "version" ∷ codes "list" ∷ codes "person" ∷ codes "grant_row" ∷ codes "message" ∷ codes "sqlite_sequence" ∷ []

@@ -1,15 +1,24 @@
 -- What the queries show of a record, and the record of what was read.
-use Rattle.std.specs.Prelude.{ℕ, ℤ, pos, List, [], ◌∷◌, string_bytes, None}
+use Rattle.std.specs.Prelude.{◌≡◌, ◌⊎◌, IsUtf8, ℕ, ℤ, pos, List, [], ◌∷◌, map, string_bytes, None}
 use Rattle.sqlite.specs.declared.types.Value.TheVariants.{Int, Text, Blob}
-use Rattle.sqlite.specs.Order.{Row}
+use Rattle.sqlite.specs.Order.{Row, column}
+use Rattle.sqlite.specs.Tree.{Trees}
+use Rattle.sqlite.specs.declared.error.Error.{Error}
+use Rattle.sqlite.specs.declared.error.Error.TheVariants.{SqliteFailure, Utf8Error}
+use Rattle.sqlite.specs.declared.error.ErrorCode.TheVariants.{OutOfMemory}
 use Rattle.archive_machine.specs.Records.{Grant, Message}
 use Rattle.archive_tables.specs.Tables.{or_null}
 use Rattle.archive_tables.specs.declared.rows.MessageRow.{MessageRow}
+use Rattle.archive_tables.specs.declared.rows.MarksRow.{MarksRow}
 use Rattle.archive_tables.specs.declared.rows.GrantRow.{GrantRow}
 
 -- a message as it comes in: not withdrawn, and under no embargo
 abbrev pub new_message : List ℕ → List ℕ → List ℕ → ℤ → List ℕ → Message
 new_message list key sender arrival text = record { list = list; key = key; sender = sender; arrival = arrival; text = text; withdrawn = pos 0; embargo = None }
+
+-- the numbers of all versions
+abbrev pub versions_shown : Trees → List Row
+versions_shown trees = map (λ row. column row 1 ∷ []) (trees 0)
 
 abbrev pub name_shown : List ℕ → Row
 name_shown name = Text name ∷ []
@@ -29,9 +38,25 @@ message_in list r = record {
   embargo = r.embargo;
 }
 
+-- the two marks of a message: who withdrew it, and the day up to which it is held back
+abbrev pub marks_shown : Message → Row
+marks_shown m = Int m.withdrawn ∷ or_null m.embargo ∷ []
+
+abbrev pub marks_of : Message → MarksRow
+marks_of m = record { withdrawn = m.withdrawn; embargo = m.embargo }
+
 -- a grant without its person and list
 abbrev pub grant_shown : Grant → Row
 grant_shown g = Int g.rank ∷ Int g.from_day ∷ Int g.until_day ∷ []
 
 abbrev pub grant_in : List ℕ → List ℕ → GrantRow → Grant
 grant_in person list r = record { person = person; list = list; rank = r.rank; from_day = r.from_day; until_day = r.until_day }
+
+-- ---- why a row is not read
+
+abbrev pub no_memory : Error
+no_memory = SqliteFailure OutOfMemory
+
+-- of a row that begins with a text: there is no memory, or the text is no UTF-8
+abbrev pub IsTextFault : List ℕ → Error → Type 0
+IsTextFault text e = (e ≡ no_memory) ⊎ ((¬ IsUtf8 text) × (e ≡ Utf8Error 0))

@@ -1,8 +1,7 @@
 -- What the tables hold: each as a list of records, in the order of the rows' numbers. An update keeps a row's number, so this is
 -- the order in which the records came.
-use Rattle.std.specs.Prelude.{◌≡◌, ⊤, ℕ, ℤ, pos, Bool, false, ◌&&◌, IsTrue, List, [], ◌∷◌, map, bytes_eq, Option, Some, None}
+use Rattle.std.specs.Prelude.{◌≡◌, ⊤, ℕ, ℤ, pos, Bool, false, IsTrue, List, [], ◌∷◌, map, Option, Some, None}
 use Rattle.std.specs.List.{AllByRecursion, list_any}
-use Rattle.std.specs.Ordering.{int_eq}
 use Rattle.std.specs.declared.cmp.Ordering.TheVariants.{Less}
 use Rattle.sqlite.specs.declared.types.Value.{Value}
 use Rattle.sqlite.specs.declared.types.Value.TheVariants.{Null, Int, Text, Blob}
@@ -11,6 +10,7 @@ use Rattle.sqlite.specs.Tree.{Trees, IsTable, rowid}
 use Rattle.sqlite.specs.Edit.{id_in}
 use Rattle.sqlite.specs.State.{State}
 use Rattle.archive_machine.specs.Records.{Person, Grant, Message, Archive}
+use Rattle.archive_machine.specs.Questions.{is_grant, is_message}
 use Rattle.archive_tables.specs.Schema.{archive_schema}
 
 -- ---- the columns of a record, and the record of a row; a row begins with its number
@@ -88,13 +88,7 @@ AreApart same (r ∷ rest) = (list_any (same r) rest ≡ false) × AreApart same
 abbrev pub ArePositive : List Row → Type 0
 ArePositive = AllByRecursion (λ row. value_cmp (Int (pos 0)) (rowid row) ≡ Less)
 
--- ---- keys of records
-
-abbrev pub is_grant : List ℕ → List ℕ → ℤ → Grant → Bool
-is_grant person list rank g = bytes_eq g.person person && (bytes_eq g.list list && int_eq g.rank rank)
-
-abbrev pub is_message : List ℕ → List ℕ → Message → Bool
-is_message list key m = bytes_eq m.list list && bytes_eq m.key key
+-- ---- records of the same key
 
 abbrev pub same_grant : Grant → Grant → Bool
 same_grant a b = is_grant a.person a.list a.rank b
@@ -106,6 +100,10 @@ same_message a b = is_message a.list a.key b
 
 abbrev pub version_rows : List Row
 version_rows = (Int (pos 1) ∷ Int (pos 0) ∷ []) ∷ []
+
+-- the table `version` holds one row, of the number 0
+abbrev pub IsVersion0 : Trees → Type 0
+IsVersion0 trees = (row : Row) × (trees 0 ≡ row ∷ []) × (column row 1 ≡ Int (pos 0))
 
 -- the version is 0, each table holds rows of its records, and no two grants or messages have the same key
 pub record AreTables (trees : Trees) : Type 0 where
@@ -126,6 +124,13 @@ pub record IsKept (s : State) : Type 0 where
   pub settled : s.committed ≡ s.now
   pub schema : s.now.schema ≡ archive_schema
   pub tables : AreTables s.now.trees
+
+-- the same, but that its tables may hold any rows
+pub record IsOfArchive (s : State) : Type 0 where
+  pub is_open : IsTrue s.is_open
+  pub autocommit : s.in_transaction ≡ false
+  pub settled : s.committed ≡ s.now
+  pub schema : s.now.schema ≡ archive_schema
 
 -- what a database remembers
 abbrev pub archive_in : Trees → Archive

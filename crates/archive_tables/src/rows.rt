@@ -1,8 +1,8 @@
 //! Rows as values.
 
-ghost use Rattle.std.specs.Prelude.{◌≡◌, ◌∷◌, string_bytes, IfOk};
+ghost use Rattle.std.specs.Prelude.{◌≡◌, ◌∷◌, string_bytes, IfOk, IfErr};
 ghost use Rattle.archive_machine.specs.Records.{Grant, Message};
-ghost use Rattle.archive_tables.specs.Rows.{name_shown, message_shown, message_in, grant_shown, grant_in};
+ghost use Rattle.archive_tables.specs.Rows.{name_shown, message_shown, message_in, marks_shown, marks_of, grant_shown, grant_in, no_memory, IsTextFault};
 
 use sqlite::{Error, Row};
 
@@ -18,6 +18,13 @@ pub struct MessageRow {
     pub embargo: Option<i64>,
 }
 
+/// The two marks of a message, as in `MessageRow`.
+#[derive(Clone, Copy, Debug, PartialEq, Eq)]
+pub struct MarksRow {
+    pub withdrawn: i64,
+    pub embargo: Option<i64>,
+}
+
 /// A grant without its person and list: its rank, 1 to 3, and its first and last day, counted from 1970-01-01.
 #[derive(Clone, Copy, Debug, PartialEq, Eq)]
 pub struct GrantRow {
@@ -28,14 +35,16 @@ pub struct GrantRow {
 
 /// The name in a row that shows one.
 pub fn read_name(row: &Row) -> Result<String, Error>
-    ensures { IfOk result (λ name. (n : _) → row.now ≡ name_shown n → string_bytes name ≡ n) }
+    ensures read { IfOk result (λ name. (n : _) → row.now ≡ name_shown n → string_bytes name ≡ n) }
+    ensures fault { IfErr result (λ e. (n : _) → row.now ≡ name_shown n → IsTextFault n e) }
 {
     row.get(0)
 }
 
 /// The message in a row that shows one.
 pub fn read_message(row: &Row) -> Result<MessageRow, Error>
-    ensures { IfOk result (λ r. (m : Message) → row.now ≡ message_shown m → message_in m.list r ≡ m) }
+    ensures read { IfOk result (λ r. (m : Message) → row.now ≡ message_shown m → message_in m.list r ≡ m) }
+    ensures fault { IfErr result (λ e. (m : Message) → row.now ≡ message_shown m → IsTextFault m.key e) }
 {
     Ok(MessageRow {
         key: row.get(0)?,
@@ -47,9 +56,21 @@ pub fn read_message(row: &Row) -> Result<MessageRow, Error>
     })
 }
 
+/// The marks in a row that shows those of a message.
+pub fn read_marks(row: &Row) -> Result<MarksRow, Error>
+    ensures read { IfOk result (λ r. (m : Message) → row.now ≡ marks_shown m → r ≡ marks_of m) }
+    ensures fault { IfErr result (λ e. (m : Message) → row.now ≡ marks_shown m → e ≡ no_memory) }
+{
+    Ok(MarksRow {
+        withdrawn: row.get(0)?,
+        embargo: row.get(1)?,
+    })
+}
+
 /// The grant in a row that shows one.
 pub fn read_grant(row: &Row) -> Result<GrantRow, Error>
-    ensures { IfOk result (λ r. (g : Grant) → row.now ≡ grant_shown g → grant_in g.person g.list r ≡ g) }
+    ensures read { IfOk result (λ r. (g : Grant) → row.now ≡ grant_shown g → grant_in g.person g.list r ≡ g) }
+    ensures fault { IfErr result (λ e. (g : Grant) → row.now ≡ grant_shown g → e ≡ no_memory) }
 {
     Ok(GrantRow {
         rank: row.get(0)?,

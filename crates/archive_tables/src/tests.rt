@@ -1,4 +1,6 @@
-use crate::rows::{GrantRow, MessageRow, read_grant, read_message, read_name};
+use crate::rows::{
+    GrantRow, MarksRow, MessageRow, read_grant, read_marks, read_message, read_name,
+};
 use crate::texts::{grants, lists, messages, persons, schema};
 use sqlite::{Connection, Error, ErrorCode, MemStore, Row};
 use std::alloc::Global;
@@ -68,6 +70,19 @@ fn the_version_is_0(rt: HostRuntime) -> Result<(), Fail> {
 }
 
 #[test]
+fn each_version_is_shown(rt: HostRuntime) -> Result<(), Fail> {
+    let mut conn = open(rt.alloc())?;
+    conn.execute("INSERT INTO version (number) VALUES (7)", &[])?;
+    let rows = schema::versions(&mut conn)?;
+    assert_eq!(rt; rows.len(), 2);
+    for (row, want) in rows.iter().zip([0i64, 7]) {
+        let number: i64 = row.get(0)?;
+        assert_eq!(rt; number, want);
+    }
+    Ok(())
+}
+
+#[test]
 fn a_rollback_leaves_no_table(rt: HostRuntime) -> Result<(), Fail> {
     let mut conn = Connection::open_in_memory(rt.alloc())?;
     schema::begin(&mut conn)?;
@@ -95,6 +110,21 @@ fn lists_come_by_name(rt: HostRuntime) -> Result<(), Fail> {
     for (row, want) in rows.iter().zip(["news", "soc", "t-1"]) {
         assert_eq!(rt; read_name(row)?.as_str(), want);
     }
+    Ok(())
+}
+
+#[test]
+fn a_row_of_other_cells_is_not_read(rt: HostRuntime) -> Result<(), Fail> {
+    let mut conn = open(rt.alloc())?;
+    let cut = conn.query_row("SELECT CAST(x'c3' AS TEXT)", &[])?;
+    assert_eq!(rt; read_name(&cut).err(), Some(Error::Utf8Error(0)));
+    let number = conn.query_row("SELECT 1", &[])?;
+    assert!(rt; read_name(&number).is_err());
+    assert!(rt; read_message(&number).is_err());
+    assert_eq!(rt;
+        read_grant(&number).err(),
+        Some(Error::InvalidColumnIndex(1))
+    );
     Ok(())
 }
 
@@ -175,6 +205,29 @@ fn a_message_is_withdrawn_and_held_back(rt: HostRuntime) -> Result<(), Fail> {
     assert_eq!(rt; back.map(|m| (m.withdrawn, m.embargo)), Some((0, None)));
     assert!(rt; messages::message(&mut conn, "news", OTHER)?.is_none());
     assert!(rt; is_constraint(messages::set_withdrawn(&mut conn, "soc", KEY, 3)));
+    Ok(())
+}
+
+#[test]
+fn marks_are_those_of_the_message(rt: HostRuntime) -> Result<(), Fail> {
+    let mut conn = open_filled(rt.alloc())?;
+    lists::add_list(&mut conn, "news")?;
+    messages::add_message(&mut conn, "news", KEY, b"-", 1, b"hello\n")?;
+    messages::set_withdrawn(&mut conn, "news", KEY, 1)?;
+    messages::set_embargo(&mut conn, "news", KEY, -25567)?;
+    let held = MarksRow {
+        withdrawn: 1,
+        embargo: Some(-25567),
+    };
+    assert_eq!(rt; messages::marks(&mut conn, "news", KEY)?, Some(held));
+    let free = MarksRow {
+        withdrawn: 0,
+        embargo: None,
+    };
+    assert_eq!(rt; messages::marks(&mut conn, "soc", KEY)?, Some(free));
+    assert_eq!(rt; messages::marks(&mut conn, "news", OTHER)?, None);
+    let row = conn.query_row("SELECT 2, NULL", &[])?;
+    assert_eq!(rt; read_marks(&row)?.withdrawn, 2);
     Ok(())
 }
 

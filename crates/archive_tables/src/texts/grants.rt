@@ -2,7 +2,7 @@
 
 ghost use Rattle.std.specs.Prelude.{◌≡◌, ◌++◌, ◌∷◌, [], ◌&&◌, not, false, bytes_eq, filter, map, if◌then◌else◌};
 ghost use Rattle.std.specs.List.{list_any};
-ghost use Rattle.archive_tables.specs.Tables.{is_grant};
+ghost use Rattle.archive_machine.specs.Questions.{is_grant};
 ghost use Rattle.archive_tables.specs.Rows.{grant_shown};
 ghost use Rattle.archive_tables.specs.Calls.{Writes, WritesWhen, Refuses, Finds, Leaves, IsUp, WasClean};
 

@@ -2,11 +2,11 @@
 
 ghost use Rattle.std.specs.Prelude.{◌≡◌, ◌<◌, ◌++◌, ◌∷◌, [], false, Some, None, bytes_eq, filter, find, length, map, option_map, if◌then◌else◌};
 ghost use Rattle.std.specs.List.{list_any};
-ghost use Rattle.archive_tables.specs.Tables.{is_message};
-ghost use Rattle.archive_tables.specs.Rows.{new_message, message_shown, message_in};
+ghost use Rattle.archive_machine.specs.Questions.{is_message};
+ghost use Rattle.archive_tables.specs.Rows.{new_message, message_shown, message_in, marks_of};
 ghost use Rattle.archive_tables.specs.Calls.{Writes, WritesWhen, Refuses, Finds, Leaves, IsUp, WasClean};
 
-use crate::rows::{MessageRow, read_message};
+use crate::rows::{MarksRow, MessageRow, read_marks, read_message};
 use sqlite::{Alter, Connection, Error, Row, params};
 
 /// Adds a message after the others, neither withdrawn nor under embargo.
@@ -60,6 +60,27 @@ pub fn message<S: Alter>(
     )?;
     match rows.first() {
         Some(row) => Ok(Some(read_message(row)?)),
+        None => Ok(None),
+    }
+}
+
+/// The marks of the message of the list and key. Its text is not read.
+pub fn marks<S: Alter>(
+    conn: &mut Connection<S>,
+    list: &str,
+    key: &str,
+) -> Result<Option<MarksRow>, Error>
+    ensures found { Finds S.Store conn.old conn.new result (λ a found. found ≡ option_map marks_of (find (is_message list.now key.now) a.messages)) }
+    ensures same { Leaves S.Store conn.old conn.new }
+    ensures up { IsUp S.Store conn.old conn.new result }
+    ensures clean { WasClean S.Store conn.old conn.new }
+{
+    let rows = conn.query_all(
+        "SELECT withdrawn, embargo FROM message WHERE list = ?1 AND key = ?2 ORDER BY pos",
+        params![list, key],
+    )?;
+    match rows.first() {
+        Some(row) => Ok(Some(read_marks(row)?)),
         None => Ok(None),
     }
 }

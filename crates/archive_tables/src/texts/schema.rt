@@ -1,11 +1,12 @@
 //! The schema: the tables are made in one transaction, in this order.
 
-ghost use Rattle.std.specs.Prelude.{◌≡◌, ◌∷◌, [], pos, false, OnOk, IsTrue};
+ghost use Rattle.std.specs.Prelude.{◌≡◌, ◌∷◌, [], pos, false, OnOk, IfOk, IsTrue, IsPermutation};
 ghost use Rattle.sqlite.specs.declared.types.Value.TheVariants.{Int};
 ghost use Rattle.sqlite.specs.State.{HasCleanDisk};
 ghost use Rattle.sqlite.specs.Held.{state};
 ghost use Rattle.archive_tables.specs.Schema.{no_schema, with_version, with_list, with_person, with_grant, archive_schema};
-ghost use Rattle.archive_tables.specs.Tables.{IsKept, archive_of};
+ghost use Rattle.archive_tables.specs.Tables.{IsKept, IsOfArchive, archive_of};
+ghost use Rattle.archive_tables.specs.Rows.{versions_shown};
 ghost use Rattle.archive_tables.specs.Making.{IsMaking, IsMade, Stops, empty_archive};
 ghost use Rattle.archive_tables.specs.Calls.{Finds, Leaves, IsUp, WasClean};
 
@@ -108,9 +109,11 @@ pub fn rollback<S: Alter>(conn: &mut Connection<S>) -> Result<usize, Error>
     conn.execute("ROLLBACK", &[])
 }
 
-/// The rows of `version`: one, of the number 0.
+/// The rows of `version`: in an archive that is kept one, of the number 0.
 pub fn versions<S: Alter>(conn: &mut Connection<S>) -> Result<Vec<Row>, Error>
     ensures found { Finds S.Store conn.old conn.new result (λ _ rows. rows.items ≡ (Int (pos 0) ∷ []) ∷ []) }
+    ensures numbers { HasCleanDisk (state S.Store conn.new) → IsOfArchive (state S.Store conn.old) →
+        IfOk result (λ rows. IsPermutation (versions_shown (state S.Store conn.old).now.trees) rows.items) }
     ensures same { Leaves S.Store conn.old conn.new }
     ensures up { IsUp S.Store conn.old conn.new result }
     ensures clean { WasClean S.Store conn.old conn.new }

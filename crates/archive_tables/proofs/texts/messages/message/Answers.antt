@@ -1,6 +1,6 @@
 use Rattle.std.proofs.Common.{ap, sym, ◌∙◌, rules}
 use Rattle.std.specs.Prelude.{◌≡◌, Some, None, slice_get}
-use Rattle.archive_tables.specs.Tables.{is_message}
+use Rattle.archive_machine.specs.Questions.{is_message}
 use Rattle.archive_tables.specs.Rows.{message_shown, message_in}
 use Rattle.archive_tables.proofs.SelectLemmas.{first_found, none_found, equal_words, first_part, found_passes}
 use Rattle.sqlite.specs.Held.{state}
@@ -21,7 +21,7 @@ returns-in-Some-clause-found g c clean k =
     let first : slice_get c.in_ok-rows.rows.items 0 ≡ Some c.in-Some.row.now = search rules in
     let it = first_found (is_message c.args.list.now c.args.key.now) message_shown _ c.in_ok-rows.rows.items found.0 c.in-Some.row.now first in
     let same : it.0.list ≡ c.args.list.now = equal_words it.0.list c.args.list.now (first_part _ _ (found_passes (is_message c.args.list.now c.args.key.now) _ it.0 it.1)) in
-    ap Some (ap (λ l. message_in l c.in_ok-read_message-in-Some.field-0) (sym same) ∙ c.in_ok-read_message-in-Some.ensures it.0 it.2) ∙ sym it.1
+    ap Some (ap (λ l. message_in l c.in_ok-read_message-in-Some.field-0) (sym same) ∙ c.in_ok-read_message-in-Some.ensures.read it.0 it.2) ∙ sym it.1
 
 pub returns-in-Some-clause-same : goal.returns-in-Some-clause-same
 returns-in-Some-clause-same g c clean k =

@@ -20,7 +20,7 @@ returns-in-Some-clause-found g c clean k =
     let found = holders (state g.S.Store c.args.conn.now) (state g.S.Store c.query_all.new.self) c.args.token.now k c.in_ok-rows.rows.items (rw c.params-to_sql.ensures at (c.in_ok-rows.ensures.ok clean)) in
     let first : slice_get c.in_ok-rows.rows.items 0 ≡ Some c.in-Some.row.now = search rules in
     let it = first_found (λ (p : Person). bytes_eq p.token c.args.token.now) (λ p. name_shown p.name) _ c.in_ok-rows.rows.items found.0 c.in-Some.row.now first in
-    ap Some (c.in_ok-read_name-in-Some.ensures it.0.name it.2) ∙ sym (ap (option_map (λ (p : Person). p.name)) it.1)
+    ap Some (c.in_ok-read_name-in-Some.ensures.read it.0.name it.2) ∙ sym (ap (option_map (λ (p : Person). p.name)) it.1)
 
 pub returns-in-Some-clause-same : goal.returns-in-Some-clause-same
 returns-in-Some-clause-same g c clean k =

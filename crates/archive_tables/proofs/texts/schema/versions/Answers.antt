@@ -1,14 +1,16 @@
 use Rattle.std.proofs.Common.{◌≡◌, pos, [], ◌∷◌, Ok, Err, Result, IfOk, IfErr, OnOk}
 use Rattle.std.specs.Prelude.{IsTrue, Vec}
+use Rattle.std.specs.List.Sorted.{IsPermutation}
 use Rattle.std.specs.declared.alloc.Global.{Global}
 use Rattle.sqlite.specs.declared.error.Error.{Error}
 use Rattle.sqlite.specs.declared.types.Value.TheVariants.{Int}
 use Rattle.sqlite.specs.Order.{Row}
 use Rattle.sqlite.specs.Held.{state}
 use Rattle.sqlite.specs.State.{State, Shown, FailsToQuery}
-use Rattle.archive_tables.specs.Tables.{IsKept}
+use Rattle.archive_tables.specs.Tables.{IsKept, IsOfArchive}
+use Rattle.archive_tables.specs.Rows.{versions_shown}
 use Rattle.archive_tables.specs.Calls.{Rests}
-use Rattle.archive_tables.proofs.MakeLemmas.{number_text, version_found, version_not_found}
+use Rattle.archive_tables.proofs.VersionLemmas.{number_text, numbers_found, version_found, version_not_found}
 use Rattle.archive_tables.proofs.texts.schema.versions.Goals as goal
 
 asked : (old new : State) (r : Result (Vec Row Global) Error) → IsKept old → IfOk r (λ rows. Shown number_text [] old new rows.items)
@@ -16,6 +18,15 @@ asked : (old new : State) (r : Result (Vec Row Global) Error) → IsKept old →
     → IfOk r (λ rows. rows.items ≡ (Int (pos 0) ∷ []) ∷ []) × OnOk r (IsTrue new.is_open) × Rests old new
 asked old new (Ok rows) k ok err = version_found old new k rows.items ok
 asked old new (Err e) k ok err = (tt, tt, version_not_found old new k e err)
+
+numbered : (old new : State) (r : Result (Vec Row Global) Error) → IsOfArchive old → IfOk r (λ rows. Shown number_text [] old new rows.items)
+    → IfOk r (λ rows. IsPermutation (versions_shown old.now.trees) rows.items)
+numbered old new (Ok rows) o ok = numbers_found old new o rows.items ok
+numbered old new (Err e) o ok = tt
+
+pub returns-clause-numbers : goal.returns-clause-numbers
+returns-clause-numbers g c clean o =
+    numbered (state g.S.Store c.args.conn.now) (state g.S.Store c.query_all.new.self) c.query_all.result o (c.query_all.ensures.ok clean)
 
 pub returns-clause-found : goal.returns-clause-found
 returns-clause-found g c clean k =
