@@ -28,10 +28,10 @@ pub struct Message {
 
 impl<S: Alter> Store<S> {
     ghost use Rattle.std.specs.Prelude.{◌≡◌, None, map, option_map, string_bytes};
-    ghost use Rattle.archive_machine.specs.Questions.{AreListNames, messages_in, message_of as remembered};
+    ghost use Rattle.archive_machine.specs.Questions.{AreListNames, list_refusal, messages_in, message_of as remembered};
     ghost use Rattle.archive_store.specs.Held.{held_of};
     ghost use Rattle.archive_store.specs.Replies.{Answers};
-    ghost use Rattle.archive_store.specs.Messages.{message_of, list_refusal};
+    ghost use Rattle.archive_store.specs.Messages.{message_of};
 
     /// The names of all lists, in the order of their bytes.
     pub fn lists(&mut self, alloc: Global) -> Result<Vec<String>, StoreFault>
