@@ -8,10 +8,10 @@ use Rattle.std.proofs.lemmas.Slice.Eq.{bytes_eq-Decides}
 use Rattle.sqlite.specs.Order.{Row}
 use Rattle.archive_machine.specs.Commands.{Refusal}
 use Rattle.archive_machine.specs.Records.{Message, Archive}
-use Rattle.archive_machine.specs.Questions.{has_list, messages_in}
+use Rattle.archive_machine.specs.Questions.{has_list, list_refusal, messages_in}
 use Rattle.archive_tables.specs.Rows.{message_in}
 use Rattle.archive_tables.specs.declared.rows.MessageRow.{MessageRow}
-use Rattle.archive_store.specs.Messages.{AreOf, list_refusal}
+use Rattle.archive_store.specs.Messages.{AreOf}
 use Rattle.archive_store.specs.Replies.{refusal}
 use Rattle.archive_store.specs.declared.faults.StoreFault.{StoreFault}
 

@@ -4,3 +4,4 @@ pub mod Words
 pub mod Messages
 pub mod Ranks
 pub mod Running
+pub mod Adopting

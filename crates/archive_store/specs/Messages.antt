@@ -1,11 +1,9 @@
 -- The messages of the code, as the machine's.
-use Rattle.std.specs.Prelude.{◌≡◌, ℕ, ℤ, pos, true, List, bytes_eq, Option, Some, None, if◌then◌else◌}
+use Rattle.std.specs.Prelude.{◌≡◌, ℕ, ℤ, pos, true, List, bytes_eq}
 use Rattle.std.specs.List.{All}
 use Rattle.policy_core.specs.declared.access.Withdrawn.{Withdrawn}
 use Rattle.policy_core.specs.declared.access.Withdrawn.TheVariants.{No, Author, Board}
-use Rattle.archive_machine.specs.Commands.{Refusal, no_list}
-use Rattle.archive_machine.specs.Records.{Archive, Message as Remembered}
-use Rattle.archive_machine.specs.Questions.{has_list}
+use Rattle.archive_machine.specs.Records.{Message as Remembered}
 use Rattle.archive_store.specs.declared.reading.Message.{Message}
 
 abbrev pub number_of : Withdrawn → ℤ
@@ -27,7 +25,3 @@ message_of list m = record {
 -- messages of this list alone
 abbrev pub AreOf : List ℕ → List Remembered → Type 0
 AreOf list = All (λ m. bytes_eq m.list list ≡ true)
-
--- a question about a list is refused where there is none of its name
-abbrev pub list_refusal : Archive → List ℕ → Option Refusal
-list_refusal archive list = if has_list archive list then None else Some no_list

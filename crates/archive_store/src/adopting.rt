@@ -7,6 +7,7 @@ ghost use Rattle.archive_tables.specs.Schema.{no_schema, with_person, archive_sc
 ghost use Rattle.archive_tables.specs.Tables.{IsKept, archive_of};
 ghost use Rattle.archive_tables.specs.Calls.{Rests, Leaves, IsUp, WasClean};
 ghost use Rattle.archive_tables.specs.Making.{IsMaking, IsMade, empty_archive};
+ghost use Rattle.archive_store.specs.Adopting.{HasAsManyObjects, MayBeTaken};
 ghost use Rattle.archive_store.specs.Held.{held_of};
 ghost use Rattle.archive_store.specs.Replies.{refusal};
 
@@ -53,6 +54,7 @@ impl<S: Alter> Store<S> {
             → IsKept (state S.Store (held_of store)) × (archive_of (state S.Store (held_of store)) ≡ archive_of (state S.Store connection))) }
         ensures left { IfErr result (λ stop. HasCleanDisk (state S.Store stop.connection) → IsKept (state S.Store connection)
             → Rests (state S.Store connection) (state S.Store stop.connection)) }
+        ensures objects { IfOk result (λ _. MayBeTaken (state S.Store connection).now.schema) }
         ensures fault { IfErr result (λ stop. refusal stop.fault ≡ None) }
     {
         let mut conn = connection;
@@ -82,7 +84,9 @@ fn has_nothing<S: Alter>(conn: &Connection<S>) -> bool
 }
 
 /// Whether a database has as many tables, indexes and views as an archive has, that of AUTOINCREMENT among the tables.
-fn has_as_many_objects<S: Alter>(conn: &Connection<S>) -> bool {
+fn has_as_many_objects<S: Alter>(conn: &Connection<S>) -> bool
+    ensures { IsTrue result ↔ HasAsManyObjects (state S.Store conn.now).now.schema }
+{
     let schema = conn.schema();
     schema.tables.len() == 6 && schema.indexes.len() == 5 && schema.views.is_empty()
 }

@@ -18,14 +18,16 @@ use sqlite::{Alter, Error, Row};
 impl<S: Alter> Store<S> {
     ghost use Rattle.std.specs.Prelude.{◌≡◌, None, option_map, string_bytes};
     ghost use Rattle.archive_machine.specs.Questions.{person_of_token, standing_of, standing_refusal};
+    ghost use Rattle.archive_tables.specs.Calls.{WasClean};
     ghost use Rattle.archive_store.specs.Held.{held_of};
     ghost use Rattle.archive_store.specs.Replies.{Answers};
     ghost use Rattle.archive_store.specs.Words.{standing_rank};
 
     /// The name of the person who has this token, if somebody has it.
     pub fn person_of_token(&mut self, token: &str) -> Result<Option<String>, StoreFault>
-        ensures { Answers S.Store (held_of self.old) (held_of self.new) result (λ _. None)
+        ensures answer { Answers S.Store (held_of self.old) (held_of self.new) result (λ _. None)
             (λ a name. option_map string_bytes name ≡ person_of_token a token.now) }
+        ensures clean { WasClean S.Store (held_of self.old) (held_of self.new) }
     {
         Ok(texts::persons::person_of_token(&mut self.conn, token)?)
     }
@@ -33,8 +35,9 @@ impl<S: Alter> Store<S> {
     /// The standing of a person on a list and a day: the highest kind that a grant gives which holds on that day, and
     /// `Public` where none does. E6 where there is no such person, E4 where there is no such list.
     pub fn standing(&mut self, person: &str, list: &str, day: Day) -> Result<Standing, StoreFault>
-        ensures { Answers S.Store (held_of self.old) (held_of self.new) result (λ a. standing_refusal a person.now list.now)
+        ensures answer { Answers S.Store (held_of self.old) (held_of self.new) result (λ a. standing_refusal a person.now list.now)
             (λ a standing. standing_rank standing ≡ standing_of a person.now list.now day) }
+        ensures clean { WasClean S.Store (held_of self.old) (held_of self.new) }
     {
         if !texts::persons::has_person(&mut self.conn, person)? {
             return Err(StoreFault::NoPerson);

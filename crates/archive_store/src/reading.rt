@@ -28,15 +28,17 @@ pub struct Message {
 
 impl<S: Alter> Store<S> {
     ghost use Rattle.std.specs.Prelude.{◌≡◌, None, map, option_map, string_bytes};
-    ghost use Rattle.archive_machine.specs.Questions.{AreListNames, messages_in, message_of as remembered};
+    ghost use Rattle.archive_machine.specs.Questions.{AreListNames, list_refusal, messages_in, message_of as remembered};
+    ghost use Rattle.archive_tables.specs.Calls.{WasClean};
     ghost use Rattle.archive_store.specs.Held.{held_of};
     ghost use Rattle.archive_store.specs.Replies.{Answers};
-    ghost use Rattle.archive_store.specs.Messages.{message_of, list_refusal};
+    ghost use Rattle.archive_store.specs.Messages.{message_of};
 
     /// The names of all lists, in the order of their bytes.
     pub fn lists(&mut self, alloc: Global) -> Result<Vec<String>, StoreFault>
-        ensures { Answers S.Store (held_of self.old) (held_of self.new) result (λ _. None)
+        ensures answer { Answers S.Store (held_of self.old) (held_of self.new) result (λ _. None)
             (λ a names. AreListNames a (map string_bytes names.items)) }
+        ensures clean { WasClean S.Store (held_of self.old) (held_of self.new) }
     {
         let shown = texts::lists::list_names(&mut self.conn)?;
         read_names(alloc, &shown)
@@ -44,8 +46,9 @@ impl<S: Alter> Store<S> {
 
     /// The messages of a list in mailbox order. E4 where there is no such list.
     pub fn rows(&mut self, alloc: Global, list: &str) -> Result<Vec<Message>, StoreFault>
-        ensures { Answers S.Store (held_of self.old) (held_of self.new) result (λ a. list_refusal a list.now)
+        ensures answer { Answers S.Store (held_of self.old) (held_of self.new) result (λ a. list_refusal a list.now)
             (λ a found. map (message_of list.now) found.items ≡ messages_in a list.now) }
+        ensures clean { WasClean S.Store (held_of self.old) (held_of self.new) }
     {
         if !texts::lists::has_list(&mut self.conn, list)? {
             return Err(StoreFault::NoList);
@@ -56,8 +59,9 @@ impl<S: Alter> Store<S> {
 
     /// The message of a list with a key, if the list holds it. E4 where there is no such list.
     pub fn row(&mut self, list: &str, key: &Key) -> Result<Option<Message>, StoreFault>
-        ensures { Answers S.Store (held_of self.old) (held_of self.new) result (λ a. list_refusal a list.now)
+        ensures answer { Answers S.Store (held_of self.old) (held_of self.new) result (λ a. list_refusal a list.now)
             (λ a found. option_map (message_of list.now) found ≡ remembered a list.now key.now) }
+        ensures clean { WasClean S.Store (held_of self.old) (held_of self.new) }
     {
         if !texts::lists::has_list(&mut self.conn, list)? {
             return Err(StoreFault::NoList);

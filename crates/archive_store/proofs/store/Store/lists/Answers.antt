@@ -10,8 +10,8 @@ use Rattle.archive_store.proofs.StepLemmas.{begins, asks}
 use Rattle.archive_store.proofs.ReadingLemmas.{ends}
 use Rattle.archive_store.proofs.store.Store.lists.Goals as goal
 
-pub returns : goal.returns
-returns g c =
+pub returns-clause-answer : goal.returns-clause-answer
+returns-clause-answer g c =
     let one = asks g.S.Store c.args.self.now.conn c.args.self.now.conn c.list_names.new.conn (λ _. ⊤)
     (λ a. (names : List (List ℕ)) × (c.in_ok-shown.shown.items ≡ map name_shown names) × IsPermutation a.lists names × IsSorted (slice_cmp nat_cmp) names)
     (begins g.S.Store c.args.self.now.conn) c.in_ok-shown.ensures.clean c.in_ok-shown.ensures.same c.in_ok-shown.ensures.up

@@ -8,8 +8,8 @@ use Rattle.archive_store.proofs.StepLemmas.{begins, asks}
 use Rattle.archive_store.proofs.ReadingLemmas.{is_there}
 use Rattle.archive_store.proofs.store.Store.row.Goals as goal
 
-pub returns-in_ok-read_or_fail-in-Some : goal.returns-in_ok-read_or_fail-in-Some
-returns-in_ok-read_or_fail-in-Some g c =
+pub returns-in_ok-read_or_fail-in-Some-clause-answer : goal.returns-in_ok-read_or_fail-in-Some-clause-answer
+returns-in_ok-read_or_fail-in-Some-clause-answer g c =
     let list = c.args.list.now in
     let k = c.as_str.result.now in
     let one = asks g.S.Store c.args.self.now.conn c.args.self.now.conn c.has_list.new.conn (λ _. ⊤) (λ a. true ≡ has_list a list)

@@ -9,8 +9,8 @@ use Rattle.archive_store.proofs.StepLemmas.{begins, asks}
 use Rattle.archive_store.proofs.ReadingLemmas.{is_there, are_of, ends}
 use Rattle.archive_store.proofs.store.Store.rows.Goals as goal
 
-pub returns : goal.returns
-returns g c =
+pub returns-clause-answer : goal.returns-clause-answer
+returns-clause-answer g c =
     let list = c.args.list.now in
     let one = asks g.S.Store c.args.self.now.conn c.args.self.now.conn c.has_list.new.conn (λ _. ⊤) (λ a. true ≡ has_list a list)
     (begins g.S.Store c.args.self.now.conn) c.in_ok-has_list.ensures.clean c.in_ok-has_list.ensures.same c.in_ok-has_list.ensures.up

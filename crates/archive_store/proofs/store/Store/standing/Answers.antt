@@ -9,8 +9,8 @@ use Rattle.archive_store.proofs.StepLemmas.{begins, asks}
 use Rattle.archive_store.proofs.RankLemmas.{standing_is, is_answered}
 use Rattle.archive_store.proofs.store.Store.standing.Goals as goal
 
-pub returns-in-Some : goal.returns-in-Some
-returns-in-Some g c =
+pub returns-in-Some-clause-answer : goal.returns-in-Some-clause-answer
+returns-in-Some-clause-answer g c =
     let person = c.args.person.now in
     let list = c.args.list.now in
     let one = asks g.S.Store c.args.self.now.conn c.args.self.now.conn c.has_person.new.conn (λ _. ⊤) (λ a. true ≡ has_person a person)
@@ -36,8 +36,8 @@ returns-in-Some g c =
       ),
     )
 
-pub returns : goal.returns
-returns g c =
+pub returns-clause-answer : goal.returns-clause-answer
+returns-clause-answer g c =
     let person = c.args.person.now in
     let list = c.args.list.now in
     let one = asks g.S.Store c.args.self.now.conn c.args.self.now.conn c.has_person.new.conn (λ _. ⊤) (λ a. true ≡ has_person a person)
