@@ -1,3 +1,4 @@
+pub mod AdoptLemmas
 pub mod RankLemmas
 pub mod StepEquations
 pub mod StepLemmas

@@ -1,6 +1,6 @@
 -- What the machine does, case by case.
 use Rattle.std.proofs.Common.{◌≡◌, ◌≤◌, ◌<◌, ℕ, suc, length, arith, ℤ, pos, List, [], ◌∷◌, ◌++◌, Bool, true, false, ◌||◌, cond, Option, Some, None, is_some, refl, sym, subst, ◌∙◌, is_lt, int_cmp}
-use Rattle.std.specs.Prelude.{⊤, int_lt, nat_lt, nat_le, not, map, filter, find, if◌then◌else◌}
+use Rattle.std.specs.Prelude.{⊤, int_lt, nat_lt, nat_le, not, map, filter, find, option_map, if◌then◌else◌}
 use Rattle.std.specs.List.{list_any}
 use Rattle.std.specs.Ordering.{int_eq}
 use Rattle.std.specs.declared.cmp.Ordering.TheVariants.{Less, Equal, Greater}
@@ -12,6 +12,8 @@ use Rattle.archive_machine.specs.Commands.{no_list, no_message, token_taken, bad
 use Rattle.archive_machine.specs.Keys.{item_key}
 use Rattle.archive_machine.specs.Tokens.{is_token}
 use Rattle.archive_machine.specs.Questions.{has_list, has_person, has_token, is_grant, has_grant, is_message, message_of, messages_in}
+use Rattle.archive_tables.specs.Rows.{marks_of}
+use Rattle.archive_tables.specs.declared.rows.MarksRow.{MarksRow}
 use Rattle.archive_machine.specs.Machine.{person_added, granted, revoked, withdrawal, restored, held_back, lifted, keyed_message, added_within}
 
 found : {X : Type 0} (b : Bool) (x : X) (o : Option X) (c : Bool) → is_some o ≡ c → is_some (cond b (Some x) o) ≡ (b || c)
@@ -84,17 +86,26 @@ is_some-find p (x ∷ xs) = found (p x) x (find p xs) (list_any p xs) (is_some-f
 at_key : (a : Archive) (list key k : List ℕ) (m : Message) → k ≡ key → Some m ≡ message_of a list k → message_of a list key ≡ Some m
 at_key a list key k m e h = subst (λ k. message_of a list k ≡ Some m) e (sym h)
 
-pub withdraw_done : (list key k k2 : List ℕ) (party n : ℤ) (m : Message) → k ≡ key → k2 ≡ key → n ≡ party → false ≡ not (int_eq m.withdrawn (pos 0))
-    → (a : Archive) → (⊤ × (true ≡ has_list a list)) × (Some m ≡ message_of a list k)
-    → withdrawal a list key party ≡ (record a { messages = map (λ m. if is_message list k2 m then record m { withdrawn = n } else m) a.messages }, done)
-withdraw_done list key k k2 party n m e e2 en not_yet a h =
-    rw (e2, en) (rw (sym h.0.1, at_key a list key k m e h.1, sym not_yet) refl)
+-- a message of these marks
+of_marks : (o : Option Message) (r : MarksRow) → Some r ≡ option_map marks_of o → (m : Message) × (Some m ≡ o) × (r ≡ marks_of m)
+of_marks None r is = absurd cc
+of_marks (Some m) r is = (m, refl, cc)
 
-pub restore_done : (list key k k2 : List ℕ) (m : Message) → k ≡ key → k2 ≡ key → true ≡ not (int_eq m.withdrawn (pos 0))
-    → (a : Archive) → (⊤ × (true ≡ has_list a list)) × (Some m ≡ message_of a list k)
+pub withdraw_done : (list key k k2 : List ℕ) (party n : ℤ) (r : MarksRow) → k ≡ key → k2 ≡ key → n ≡ party → false ≡ not (int_eq r.withdrawn (pos 0))
+    → (a : Archive) → (⊤ × (true ≡ has_list a list)) × (Some r ≡ option_map marks_of (message_of a list k))
+    → withdrawal a list key party ≡ (record a { messages = map (λ m. if is_message list k2 m then record m { withdrawn = n } else m) a.messages }, done)
+withdraw_done list key k k2 party n r e e2 en not_yet a h =
+    let m = of_marks (message_of a list k) r h.1 in
+    let mark = subst (λ r. false ≡ not (int_eq r.withdrawn (pos 0))) m.2 not_yet in
+    rw (e2, en) (rw (sym h.0.1, at_key a list key k m.0 e m.1, sym mark) refl)
+
+pub restore_done : (list key k k2 : List ℕ) (r : MarksRow) → k ≡ key → k2 ≡ key → true ≡ not (int_eq r.withdrawn (pos 0))
+    → (a : Archive) → (⊤ × (true ≡ has_list a list)) × (Some r ≡ option_map marks_of (message_of a list k))
     → restored a list key ≡ (record a { messages = map (λ m. if is_message list k2 m then record m { withdrawn = pos 0 } else m) a.messages }, done)
-restore_done list key k k2 m e e2 was a h =
-    rw e2 (rw (sym h.0.1, at_key a list key k m e h.1, sym was) refl)
+restore_done list key k k2 r e e2 was a h =
+    let m = of_marks (message_of a list k) r h.1 in
+    let mark = subst (λ r. true ≡ not (int_eq r.withdrawn (pos 0))) m.2 was in
+    rw e2 (rw (sym h.0.1, at_key a list key k m.0 e m.1, sym mark) refl)
 
 pub embargo_done : (list key k k2 : List ℕ) (until n : ℤ) → k ≡ key → k2 ≡ key → n ≡ until
     → (a : Archive) → (⊤ × (true ≡ has_list a list)) × (true ≡ list_any (is_message list k) a.messages)
@@ -112,11 +123,13 @@ embargo_no_message list key k until e a h =
     is_some-find (is_message list key) a.messages ∙ subst (λ k. list_any (is_message list k) a.messages ≡ false) e (sym h.1) in
     rw (sym h.0.1, none) refl
 
-pub lift_done : (list key k k2 : List ℕ) (m : Message) (had : Bool) → k ≡ key → k2 ≡ key → had ≡ is_some m.embargo
-    → (a : Archive) → (⊤ × (true ≡ has_list a list)) × (Some m ≡ message_of a list k)
+pub lift_done : (list key k k2 : List ℕ) (r : MarksRow) (had : Bool) → k ≡ key → k2 ≡ key → had ≡ is_some r.embargo
+    → (a : Archive) → (⊤ × (true ≡ has_list a list)) × (Some r ≡ option_map marks_of (message_of a list k))
     → lifted a list key ≡ (record a { messages = map (λ m. if is_message list k2 m then record m { embargo = None } else m) a.messages }, was_there had)
-lift_done list key k k2 m had e e2 eh a h =
-    rw (e2, eh) (rw (sym h.0.1, at_key a list key k m e h.1) refl)
+lift_done list key k k2 r had e e2 eh a h =
+    let m = of_marks (message_of a list k) r h.1 in
+    let mark = subst (λ r. had ≡ is_some r.embargo) m.2 eh in
+    rw (e2, mark) (rw (sym h.0.1, at_key a list key k m.0 e m.1) refl)
 
 -- the message that comes in is known by its key
 known_by : (a : Archive) (list key k : List ℕ) (there : Bool) → k ≡ key → there ≡ list_any (is_message list k) a.messages

@@ -4,7 +4,7 @@ ghost use Rattle.sqlite.specs.Held.{state};
 ghost use Rattle.sqlite.specs.State.{HasCleanDisk};
 ghost use Rattle.sqlite.specs.Steps.{over_memory};
 ghost use Rattle.archive_tables.specs.Schema.{no_schema, with_person, archive_schema};
-ghost use Rattle.archive_tables.specs.Tables.{IsKept, archive_of};
+ghost use Rattle.archive_tables.specs.Tables.{IsKept, IsOfArchive, IsVersion0, archive_of};
 ghost use Rattle.archive_tables.specs.Calls.{Rests, Leaves, IsUp, WasClean};
 ghost use Rattle.archive_tables.specs.Making.{IsMaking, IsMade, empty_archive};
 ghost use Rattle.archive_store.specs.Adopting.{HasAsManyObjects, MayBeTaken};
@@ -55,6 +55,8 @@ impl<S: Alter> Store<S> {
         ensures left { IfErr result (λ stop. HasCleanDisk (state S.Store stop.connection) → IsKept (state S.Store connection)
             → Rests (state S.Store connection) (state S.Store stop.connection)) }
         ensures objects { IfOk result (λ _. MayBeTaken (state S.Store connection).now.schema) }
+        ensures version { IfOk result (λ store. HasCleanDisk (state S.Store (held_of store)) → IsOfArchive (state S.Store connection)
+            → IsVersion0 (state S.Store connection).now.trees) }
         ensures fault { IfErr result (λ stop. refusal stop.fault ≡ None) }
     {
         let mut conn = connection;
@@ -95,6 +97,7 @@ fn has_as_many_objects<S: Alter>(conn: &Connection<S>) -> bool
 fn find_version<S: Alter>(conn: &mut Connection<S>) -> Result<(), StoreFault>
     ensures same { Leaves S.Store conn.old conn.new }
     ensures up { HasCleanDisk (state S.Store conn.new) → IsKept (state S.Store conn.old) → OnOk result (IsTrue (state S.Store conn.new).is_open) }
+    ensures version { HasCleanDisk (state S.Store conn.new) → IsOfArchive (state S.Store conn.old) → OnOk result (IsVersion0 (state S.Store conn.old).now.trees) }
     ensures fault { IfErr result (λ fault. refusal fault ≡ None) }
 {
     let rows = texts::schema::versions(conn)?;

@@ -7,7 +7,7 @@ use crate::limits::{MESSAGES, add_limited};
 use crate::store::Store;
 use crate::words::{Added, Party, day_number};
 use archive_machine::Key;
-use archive_tables::rows::MessageRow;
+use archive_tables::rows::MarksRow;
 use archive_tables::texts;
 use mail_core::Day;
 use mbox_core::Item;
@@ -41,11 +41,11 @@ impl<S: Alter> Store<S> {
         if !texts::lists::has_list(&mut self.conn, list)? {
             return Err(StoreFault::NoList);
         }
-        let row = match texts::messages::message(&mut self.conn, list, key.as_str())? {
-            Some(row) => row,
+        let marks = match texts::messages::marks(&mut self.conn, list, key.as_str())? {
+            Some(marks) => marks,
             None => return Err(StoreFault::NoMessage),
         };
-        if is_withdrawn(&row) {
+        if is_withdrawn(marks) {
             return Err(StoreFault::AlreadyWithdrawn);
         }
         texts::messages::set_withdrawn(&mut self.conn, list, key.as_str(), by.number())?;
@@ -61,11 +61,11 @@ impl<S: Alter> Store<S> {
         if !texts::lists::has_list(&mut self.conn, list)? {
             return Err(StoreFault::NoList);
         }
-        let row = match texts::messages::message(&mut self.conn, list, key.as_str())? {
-            Some(row) => row,
+        let marks = match texts::messages::marks(&mut self.conn, list, key.as_str())? {
+            Some(marks) => marks,
             None => return Err(StoreFault::NoMessage),
         };
-        if !is_withdrawn(&row) {
+        if !is_withdrawn(marks) {
             return Err(StoreFault::NotWithdrawn);
         }
         texts::messages::set_withdrawn(&mut self.conn, list, key.as_str(), 0)?;
@@ -98,8 +98,8 @@ impl<S: Alter> Store<S> {
         if !texts::lists::has_list(&mut self.conn, list)? {
             return Err(StoreFault::NoList);
         }
-        let had_one = match texts::messages::message(&mut self.conn, list, key.as_str())? {
-            Some(row) => row.embargo.is_some(),
+        let had_one = match texts::messages::marks(&mut self.conn, list, key.as_str())? {
+            Some(marks) => marks.embargo.is_some(),
             None => return Err(StoreFault::NoMessage),
         };
         texts::messages::clear_embargo(&mut self.conn, list, key.as_str())?;
@@ -107,8 +107,8 @@ impl<S: Alter> Store<S> {
     }
 }
 
-fn is_withdrawn(row: &MessageRow) -> bool
-    ensures { result ≡ not (int_eq row.now.withdrawn (pos 0)) }
+fn is_withdrawn(marks: MarksRow) -> bool
+    ensures { result ≡ not (int_eq marks.withdrawn (pos 0)) }
 {
-    row.withdrawn != 0
+    marks.withdrawn != 0
 }

@@ -9,7 +9,7 @@ pub loop-row-preserved : goal.loop-row-preserved
 loop-row-preserved c = λ names e.
     read_row name_shown (λ _. ⊤) (map string_bytes c.loop-row.found.items) _ c.args.rows.now c.loop-row.row-index c.row-item.result names
     (string_bytes c.in_ok-name.name) (c.loop-row.invariant names e) (omega (arith, c.loop-row-test.true))
-    (λ n here _. c.in_ok-name.ensures n (c.row-item.is ∙ here))
+    (λ n here _. c.in_ok-name.ensures.read n (c.row-item.is ∙ here))
     (ap (map string_bytes) c.in_ok-push.ensures.items ∙ map-append string_bytes c.loop-row.found.items (c.in_ok-name.name ∷ []))
 
 pub returns-clause-read : goal.returns-clause-read

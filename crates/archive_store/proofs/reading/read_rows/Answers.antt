@@ -9,7 +9,7 @@ pub loop-row-preserved : goal.loop-row-preserved
 loop-row-preserved c = λ list shown e of.
     read_row message_shown (λ m. bytes_eq m.list list ≡ true) (map (message_of list) c.loop-row.found.items) _ c.args.rows.now c.loop-row.row-index c.row-item.result shown
     (message_of list c.in_ok-message.message) (c.loop-row.invariant list shown e of) (omega (arith, c.loop-row-test.true))
-    (λ n here same. c.in_ok-message.ensures.read list ∙ read_of list c.in_ok-read_message.field-0 n (c.in_ok-read_message.ensures n (c.row-item.is ∙ here)) same)
+    (λ n here same. c.in_ok-message.ensures.read list ∙ read_of list c.in_ok-read_message.field-0 n (c.in_ok-read_message.ensures.read n (c.row-item.is ∙ here)) same)
     (ap (map (message_of list)) c.in_ok-push.ensures.items ∙ map-append (message_of list) c.loop-row.found.items (c.in_ok-message.message ∷ []))
 
 pub returns-clause-read : goal.returns-clause-read

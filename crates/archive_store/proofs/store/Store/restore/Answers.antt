@@ -3,7 +3,7 @@ use Rattle.std.specs.Prelude.{⊤, map, option_map, if◌then◌else◌}
 use Rattle.archive_machine.specs.Commands.{done}
 use Rattle.archive_machine.specs.Questions.{has_list, is_message, message_of}
 use Rattle.archive_machine.specs.Machine.{restored}
-use Rattle.archive_tables.specs.Rows.{message_in}
+use Rattle.archive_tables.specs.Rows.{marks_of}
 use Rattle.archive_store.proofs.StepLemmas.{begins, asks, writes}
 use Rattle.archive_store.proofs.StepEquations.{restore_done}
 use Rattle.archive_store.proofs.store.Store.restore.Goals as goal
@@ -17,11 +17,11 @@ returns-clause-step g c =
     let one = asks g.S.Store c.args.self.now.conn c.args.self.now.conn c.has_list.new.conn (λ _. ⊤) (λ a. true ≡ has_list a list)
     (begins g.S.Store c.args.self.now.conn) c.in_ok-has_list.ensures.clean c.in_ok-has_list.ensures.same c.in_ok-has_list.ensures.up
     (λ clean kept. sym c.if-not-branch.false ∙ c.in_ok-has_list.ensures.found clean kept) in
-    let m = message_in list c.in-Some.row in
-    let two = asks g.S.Store c.args.self.now.conn c.has_list.new.conn c.message.new.conn (λ a. ⊤ × (true ≡ has_list a list)) (λ a. Some m ≡ message_of a list k)
-    one c.in_ok-row.ensures.clean c.in_ok-row.ensures.same c.in_ok-row.ensures.up
-    (λ clean kept. ap (option_map (message_in list)) (sym c.in-Some.is) ∙ c.in_ok-row.ensures.found clean kept) in
-    writes g.S.Store c.args.self.now.conn c.message.new.conn c.set_withdrawn.new.conn _ (λ a. restored a list key) done
+    let r = c.in-Some.marks in
+    let two = asks g.S.Store c.args.self.now.conn c.has_list.new.conn c.marks.new.conn (λ a. ⊤ × (true ≡ has_list a list)) (λ a. Some r ≡ option_map marks_of (message_of a list k))
+    one c.in_ok-marks.ensures.clean c.in_ok-marks.ensures.same c.in_ok-marks.ensures.up
+    (λ clean kept. sym c.in-Some.is ∙ c.in_ok-marks.ensures.found clean kept) in
+    writes g.S.Store c.args.self.now.conn c.marks.new.conn c.set_withdrawn.new.conn _ (λ a. restored a list key) done
     (λ a. record a { messages = map (λ m. if is_message list k2 m then record m { withdrawn = pos 0 } else m) a.messages })
     two c.in_ok-set_withdrawn.ensures.clean c.in_ok-set_withdrawn.ensures.changed
-    (restore_done list key k k2 m c.as_str.ensures c.as_str-2.ensures c.if-not-is_withdrawn.ensures)
+    (restore_done list key k k2 r c.as_str.ensures c.as_str-2.ensures c.if-not-is_withdrawn.ensures)

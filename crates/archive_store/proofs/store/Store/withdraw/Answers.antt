@@ -5,7 +5,7 @@ use Rattle.std.proofs.lemmas.Int.{to_z-of_z}
 use Rattle.archive_machine.specs.Commands.{done}
 use Rattle.archive_machine.specs.Questions.{has_list, is_message, message_of}
 use Rattle.archive_machine.specs.Machine.{withdrawal}
-use Rattle.archive_tables.specs.Rows.{message_in}
+use Rattle.archive_tables.specs.Rows.{marks_of}
 use Rattle.archive_store.specs.Words.{party_of}
 use Rattle.archive_store.proofs.StepLemmas.{begins, asks, writes}
 use Rattle.archive_store.proofs.StepEquations.{withdraw_done}
@@ -20,11 +20,11 @@ returns-clause-step g c =
     let one = asks g.S.Store c.args.self.now.conn c.args.self.now.conn c.has_list.new.conn (λ _. ⊤) (λ a. true ≡ has_list a list)
     (begins g.S.Store c.args.self.now.conn) c.in_ok-has_list.ensures.clean c.in_ok-has_list.ensures.same c.in_ok-has_list.ensures.up
     (λ clean kept. sym c.if-not-branch.false ∙ c.in_ok-has_list.ensures.found clean kept) in
-    let m = message_in list c.in-Some.row in
-    let two = asks g.S.Store c.args.self.now.conn c.has_list.new.conn c.message.new.conn (λ a. ⊤ × (true ≡ has_list a list)) (λ a. Some m ≡ message_of a list k)
-    one c.in_ok-row.ensures.clean c.in_ok-row.ensures.same c.in_ok-row.ensures.up
-    (λ clean kept. ap (option_map (message_in list)) (sym c.in-Some.is) ∙ c.in_ok-row.ensures.found clean kept) in
-    writes g.S.Store c.args.self.now.conn c.message.new.conn c.set_withdrawn.new.conn _ (λ a. withdrawal a list key (party_of c.args.by)) done
+    let r = c.in-Some.marks in
+    let two = asks g.S.Store c.args.self.now.conn c.has_list.new.conn c.marks.new.conn (λ a. ⊤ × (true ≡ has_list a list)) (λ a. Some r ≡ option_map marks_of (message_of a list k))
+    one c.in_ok-marks.ensures.clean c.in_ok-marks.ensures.same c.in_ok-marks.ensures.up
+    (λ clean kept. sym c.in-Some.is ∙ c.in_ok-marks.ensures.found clean kept) in
+    writes g.S.Store c.args.self.now.conn c.marks.new.conn c.set_withdrawn.new.conn _ (λ a. withdrawal a list key (party_of c.args.by)) done
     (λ a. record a { messages = map (λ m. if is_message list k2 m then record m { withdrawn = (to_z w64 (of_z w64 c.number.result)) } else m) a.messages })
     two c.in_ok-set_withdrawn.ensures.clean c.in_ok-set_withdrawn.ensures.changed
-    (withdraw_done list key k k2 (party_of c.args.by) (to_z w64 (of_z w64 c.number.result)) m c.as_str.ensures c.as_str-2.ensures (to_z-of_z w64 c.number.result (record { sfits = c.number.type_inv }) ∙ c.number.ensures) c.if-is_withdrawn.ensures)
+    (withdraw_done list key k k2 (party_of c.args.by) (to_z w64 (of_z w64 c.number.result)) r c.as_str.ensures c.as_str-2.ensures (to_z-of_z w64 c.number.result (record { sfits = c.number.type_inv }) ∙ c.number.ensures) c.if-is_withdrawn.ensures)

@@ -1,0 +1,30 @@
+-- What a database holds whose table of versions was read.
+use Rattle.std.proofs.Common.{◌≡◌, pos, ◌<◌, ◌≤◌, List, [], ◌∷◌, length, get_or, map, refl, ap, sym, subst, arith}
+use Rattle.std.specs.List.Sorted.{IsPermutation}
+use Rattle.sqlite.specs.declared.types.Value.TheVariants.{Int}
+use Rattle.sqlite.specs.Order.{Row, column}
+use Rattle.sqlite.specs.Tree.{Trees}
+use Rattle.sqlite.proofs.Callers.{one_permutation}
+use Rattle.std.proofs.lemmas.List.Sorted.{IsPermutation-sym}
+use Rattle.archive_tables.specs.Tables.{IsVersion0}
+use Rattle.archive_tables.specs.Rows.{versions_shown}
+
+-- one row alone that shows 0
+one_cell : (trees : Trees) (row : Row) → IsPermutation (versions_shown trees) (row ∷ []) → column row 0 ≡ Int (pos 0) → IsVersion0 trees
+one_cell trees row same zero = only (trees 0) (one_permutation row (versions_shown trees) (IsPermutation-sym (versions_shown trees) (row ∷ []) same))
+  where
+    only : (rows : List Row) → map (λ r. column r 1 ∷ []) rows ≡ row ∷ [] → (r : Row) × (rows ≡ r ∷ []) × (column r 1 ≡ Int (pos 0))
+    only [] is = absurd cc
+    only (r ∷ []) is = (r, refl, cc)
+    only (r ∷ other ∷ rows) is = absurd cc
+
+sole : (rows : List Row) (row : Row) → 1 ≤ length rows → length rows < 2 → row ≡ get_or rows 0 row → rows ≡ row ∷ []
+sole [] row some few is = absurd (omega (arith, some))
+sole (x ∷ []) row some few is = ap (λ y. y ∷ []) (sym is)
+sole (x ∷ y ∷ rows) row some few is = absurd (omega (arith, few))
+
+-- where some rows are one that shows 0
+pub shows_version_0 : (trees : Trees) (rows : List Row) (row : Row) → IsPermutation (versions_shown trees) rows → 1 ≤ length rows → length rows < 2
+    → row ≡ get_or rows 0 row → column row 0 ≡ Int (pos 0) → IsVersion0 trees
+shows_version_0 trees rows row same some few is zero =
+    one_cell trees row (subst (λ l. IsPermutation (versions_shown trees) l) (sole rows row some few is) same) zero
