@@ -2,6 +2,9 @@
 use Rattle.std.specs.Prelude.{◌≡◌, ℕ, false, Bool, List, [], ◌∷◌, ◌++◌, ⊤, MatchResult, MatchOption, Option, Some, None, Result, Ok, Err, option_map}
 use Rattle.std.specs.List.{list_any}
 use Rattle.sqlite.specs.Store.{Ghosts}
+use Rattle.sqlite.specs.declared.error.Error.{Error}
+use Rattle.sqlite.specs.declared.error.Error.TheVariants.{SqliteFailure}
+use Rattle.sqlite.specs.declared.error.ErrorCode.TheVariants.{OutOfMemory}
 use Rattle.mbox_core.specs.Division.{Item}
 use Rattle.sqlite.specs.Held.{Held, state}
 use Rattle.sqlite.specs.State.{State, HasCleanDisk}
@@ -33,6 +36,11 @@ refusal ListFull = Some list_full
 refusal TooLarge = Some too_large
 refusal Memory = None
 refusal Store = None
+
+-- E14 where the database wanted memory, E15 where anything else went wrong
+abbrev pub fault_of : Error → StoreFault
+fault_of (SqliteFailure OutOfMemory) = Memory
+fault_of _ = Store
 
 -- the answer of a call whose success says this
 abbrev pub reply_of : {A : Type 0} → (A → Reply) → Result A StoreFault → Option Reply

@@ -1,5 +1,5 @@
 //! Why a command or a question is refused.
-ghost use Rattle.archive_store.specs.Replies.{refusal};
+ghost use Rattle.archive_store.specs.Replies.{refusal, fault_of};
 ghost use Rattle.archive_store.specs.declared.faults.StoreFault.TheVariants.{Memory};
 
 use std::alloc::{AllocError, AllocFailed};
@@ -44,7 +44,7 @@ pub enum StoreFault {
 impl From<sqlite::Error> for StoreFault {
     ghost use Rattle.std.specs.Prelude.{◌≡◌, None};
 
-    ghost from_gives = { λ _ fault. refusal fault ≡ None };
+    ghost from_gives = { λ error fault. (fault ≡ fault_of error) × (refusal fault ≡ None) };
 
     fn from(error: sqlite::Error) -> StoreFault {
         match error {
