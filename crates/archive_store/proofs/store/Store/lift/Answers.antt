@@ -1,4 +1,4 @@
-use Rattle.std.proofs.Common.{◌≡◌, true, Some, None, sym, ap, ◌∙◌}
+use Rattle.std.proofs.Common.{◌≡◌, true, Some, None, sym, ◌∙◌}
 use Rattle.std.specs.Prelude.{⊤, map, option_map, if◌then◌else◌}
 use Rattle.archive_machine.specs.Commands.{was_there}
 use Rattle.archive_machine.specs.Questions.{has_list, is_message, message_of}
