@@ -1,5 +1,5 @@
 //! Questions.
-ghost use Rattle.std.specs.Prelude.{◌≡◌, ◌&&◌, int_le, List, map, IfOk, IfSome};
+ghost use Rattle.std.specs.Prelude.{◌≡◌, ◌≢◌, ◌&&◌, int_le, List, map, None, IfOk, IfSome};
 ghost use Rattle.std.specs.Int.{int_max};
 ghost use Rattle.archive_machine.specs.Records.{Grant};
 ghost use Rattle.archive_store.specs.Ranks.{rank_on, higher_on};
@@ -92,7 +92,8 @@ fn holds(grant: &GrantRow, day: i64) -> bool
 
 /// The standing that a rank names. `None` where it names none.
 fn standing_named(rank: &i64) -> Option<Standing>
-    ensures { IfSome result (λ standing. standing_rank standing ≡ rank.now) }
+    ensures some { IfSome result (λ standing. standing_rank standing ≡ rank.now) }
+    ensures none { result ≡ None → (standing : Standing) → standing_rank standing ≢ rank.now }
 {
     match *rank {
         0 => Some(Standing::Public),

@@ -1,5 +1,5 @@
 //! Questions on lists and their messages.
-ghost use Rattle.std.specs.Prelude.{◌≡◌, ℕ, List, map, string_bytes, None, IfOk, IfErr, IfSome};
+ghost use Rattle.std.specs.Prelude.{◌≡◌, ◌≢◌, ℕ, List, map, string_bytes, None, IfOk, IfErr, IfSome};
 ghost use Rattle.archive_machine.specs.Records.{Message as Remembered};
 ghost use Rattle.archive_tables.specs.Rows.{name_shown, message_in, message_shown};
 ghost use Rattle.archive_store.specs.Messages.{message_of, number_of, AreOf};
@@ -133,7 +133,8 @@ fn read(row: MessageRow) -> Option<Message>
 
 /// Who withdrew a message, by number.
 fn withdrawn_by(number: i64) -> Option<Withdrawn>
-    ensures { IfSome result (λ by. number_of by ≡ number) }
+    ensures some { IfSome result (λ by. number_of by ≡ number) }
+    ensures none { result ≡ None → (by : Withdrawn) → number_of by ≢ number }
 {
     match number {
         0 => Some(Withdrawn::No),

@@ -30,7 +30,7 @@ returns-in-Some-clause-answer g c =
       (λ _. (k.kept, k.same)),
       (
         is_answered person list a k.fact.0.0.1 k.fact.0.1,
-        c.in-Some.ensures ∙ to_z-of_z w64 c.in_ok-rank.rank (record { sfits = assumption fits }) ∙ standing_is person list c.args.day day c.in_ok-rank.rank a
+        c.in-Some.ensures.some ∙ to_z-of_z w64 c.in_ok-rank.rank (record { sfits = assumption fits }) ∙ standing_is person list c.args.day day c.in_ok-rank.rank a
             (to_z-of_z w64 c.day_number.result (record { sfits = c.day_number.type_inv }) ∙ c.day_number.ensures)
             (c.in_ok-rank.ensures (filter (is_grant_of person list) a.grants) (c.deref.ensures.value ∙ k.fact.1)),
       ),
