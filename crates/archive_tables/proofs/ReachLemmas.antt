@@ -1,7 +1,7 @@
 -- Numbers that rise from 1: as long as none reaches a limit, there are fewer messages than the limit.
-use Rattle.std.proofs.Common.{◌≡◌, inl, inr, ℕ, ◌<◌, ℤ, pos, ◌+ℤ◌, List, [], ◌∷◌, map, filter, take, length, codes, refl, sym, ap, subst, ◌∙◌, false, arith}
-use Rattle.std.specs.Prelude.{IsTrue}
-use Rattle.std.specs.List.{AllByRecursion}
+use Rattle.std.proofs.Common.{◌≡◌, inl, inr, ℕ, ◌<◌, ℤ, pos, ◌+ℤ◌, List, [], ◌∷◌, map, filter, take, length, codes, refl, sym, ap, ap₂, subst, ◌∙◌, false, arith}
+use Rattle.std.specs.Prelude.{IsTrue, not, nat_eq, int_le, ◌==◌, ◌||◌}
+use Rattle.std.specs.List.{AllByRecursion, list_any}
 use Rattle.std.specs.Int.Signed.{◌<ℤ◌}
 use Rattle.std.specs.Ordering.{int_cmp, is_ge}
 use Rattle.std.specs.declared.cmp.Ordering.TheVariants.{Less}
@@ -14,6 +14,7 @@ use Rattle.sqlite.specs.declared.error.Error.{Error}
 use Rattle.sqlite.specs.declared.types.Value.TheVariants.{Null, Int}
 use Rattle.sqlite.specs.Order.{Row, value_cmp}
 use Rattle.sqlite.specs.Tree.{Trees, IsTable, rowid}
+use Rattle.sqlite.specs.Edit.{id_in}
 use Rattle.sqlite.specs.Term.{Term, lit, col, op2}
 use Rattle.sqlite.specs.Ops.{binary}
 use Rattle.sqlite.specs.Collation.TheVariants.{Binary}
@@ -30,11 +31,11 @@ use Rattle.sqlite_trees.proofs.ListLemmas.{map-map}
 use Rattle.sqlite_value.proofs.OrderLemmas.{value_cmp-Int}
 use Rattle.archive_machine.specs.Records.{Message}
 use Rattle.archive_tables.specs.Schema.{archive_schema}
-use Rattle.archive_tables.specs.Tables.{IsKept, Numbered, row_of, read_of, Holds, message_cells, message_read, archive_of}
+use Rattle.archive_tables.specs.Tables.{IsKept, Numbered, row_of, read_of, Holds, message_cells, message_read, archive_of, reaches_number}
 use Rattle.archive_tables.specs.Calls.{Rests}
 use Rattle.archive_tables.proofs.RunLemmas.{query_fails, query_leaves, rests}
 use Rattle.archive_tables.proofs.RowLemmas.{int_less}
-use Rattle.archive_tables.proofs.SelectLemmas.{plain_query, env_of, passes, each_passing, alone, truth_back}
+use Rattle.archive_tables.proofs.SelectLemmas.{plain_query, env_of, passes, each_passing, any_is_some, alone, truth_back}
 
 abbrev pub reach_text : List ℕ
 reach_text = codes "SELECT pos FROM message WHERE pos >= ?1 LIMIT 1"
@@ -73,11 +74,41 @@ nothing_high trees params rows a none =
     sym (length-map (filter (passes high params) (trees 8)) (λ row. output query (env_of params row))) ∙ sym (ap length kept)
     ∙ sym (length_permutation _ _ a.same) ∙ none_mapped _ a.ordered shown
 
+-- ---- whether there is a row
+
+one_taken : {A : Type 0} (xs : List A) → nat_eq (length (take 1 xs)) 0 ≡ nat_eq (length xs) 0
+one_taken [] = refl
+one_taken (x ∷ xs) = grind arith
+
+some_high : (trees : Trees) (params : Row) (rows : List Row) → IsAnswer query trees params rows → not (nat_eq (length rows) 0) ≡ list_any (passes high params) (trees 8)
+some_high trees params rows a =
+    let kept : a.kept ≡ map (λ row. output query (env_of params row)) (filter (passes high params) (trees 8)) =
+    a.distinct ∙ ap (map (output query)) (a.grouped ∙ each_passing (passes high params) (env_of params) (trees 8)) ∙ map-map (output query) (env_of params) _ in
+    let count : length (map (λ (o : Output). o.1) a.ordered) ≡ length (filter (passes high params) (trees 8)) =
+    length-map a.ordered _ ∙ length_permutation _ _ a.same ∙ ap length kept ∙ length-map (filter (passes high params) (trees 8)) _ in
+    ap not (ap (λ l. nat_eq (length l) 0) a.shown ∙ one_taken (map (λ (o : Output). o.1) a.ordered) ∙ ap (λ n. nat_eq n 0) count)
+    ∙ any_is_some (passes high params) (trees 8)
+
 -- ---- counting
 
 is_high : (limit : ℕ) (r : Numbered Message) → passes high (Int (pos limit) ∷ []) (row_of message_cells r) ≡ is_ge (int_cmp r.number (pos limit))
 unfolding binary
 is_high limit r = alone _ ∙ truth_back _ ∙ ap is_ge (value_cmp-Int r.number (pos limit))
+
+from_limit : (limit : ℕ) (n : ℤ) → is_ge (int_cmp n (pos limit)) ≡ int_le (pos limit) n
+from_limit limit n = grind (arith, ints, nat_tests)
+
+-- the rows that pass are those of a number of at least the limit
+any_high : (limit : ℕ) (all : List (Numbered Message))
+    → list_any (passes high (Int (pos limit) ∷ [])) (map (row_of message_cells) all) ≡ list_any (λ row. int_le (pos limit) (id_in (rowid row))) (map (row_of message_cells) all)
+any_high limit [] = refl
+any_high limit (r ∷ all) = ap₂ ◌||◌ (is_high limit r ∙ from_limit limit r.number) (any_high limit all)
+
+reaches_in : (limit : ℕ) (rows : List Row) → Holds message_cells message_read rows
+    → list_any (passes high (Int (pos limit) ∷ [])) rows ≡ list_any (λ row. int_le (pos limit) (id_in (rowid row))) rows
+reaches_in limit rows k =
+    let all = map (read_of message_read) rows in
+    subst (λ l. list_any (passes high (Int (pos limit) ∷ [])) l ≡ list_any (λ row. int_le (pos limit) (id_in (rowid row))) l) (sym k.coded) (any_high limit all)
 
 abbrev AreLow : ℕ → List (Numbered Message) → Type 0
 AreLow limit = AllByRecursion (λ r. r.number <ℤ pos limit)
@@ -126,6 +157,11 @@ module _ (old new : State) (limit : ℕ) (k : IsKept old) where
         same.0.is_open,
         rests old new k (inl same),
       )
+
+  pub reached_number : (rows : List Row) → Shown reach_text params old new rows → not (length rows == 0) ≡ reaches_number old.now.trees limit
+  reached_number rows h =
+      let read = reads_as reach_text params old new archive_schema k.schema _ reach_is.0 reach_plain reach_is.1 rows h in
+      some_high (overlay old.now.trees []) params rows (read.answer Null) ∙ reaches_in limit (old.now.trees 8) k.tables.messages
 
   pub not_reached : (e : Error) → FailsToQuery reach_text params old new e → Rests old new
   not_reached e h = rests old new k (query_fails old new reach_text params e plain_here h)

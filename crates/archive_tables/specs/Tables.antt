@@ -1,6 +1,6 @@
 -- What the tables hold: each as a list of records, in the order of the rows' numbers. An update keeps a row's number, so this is
 -- the order in which the records came.
-use Rattle.std.specs.Prelude.{◌≡◌, ⊤, ℕ, ℤ, pos, Bool, false, IsTrue, List, [], ◌∷◌, map, Option, Some, None}
+use Rattle.std.specs.Prelude.{◌≡◌, ⊤, ℕ, ℤ, pos, int_le, Bool, false, IsTrue, List, [], ◌∷◌, map, Option, Some, None}
 use Rattle.std.specs.List.{AllByRecursion, list_any}
 use Rattle.std.specs.declared.cmp.Ordering.TheVariants.{Less}
 use Rattle.sqlite.specs.declared.types.Value.{Value}
@@ -87,6 +87,10 @@ AreApart same (r ∷ rest) = (list_any (same r) rest ≡ false) × AreApart same
 -- every number is above zero
 abbrev pub ArePositive : List Row → Type 0
 ArePositive = AllByRecursion (λ row. value_cmp (Int (pos 0)) (rowid row) ≡ Less)
+
+-- some message has a number of at least this
+abbrev pub reaches_number : Trees → ℕ → Bool
+reaches_number trees limit = list_any (λ row. int_le (pos limit) (id_in (rowid row))) (trees 8)
 
 -- ---- records of the same key
 

@@ -1,8 +1,11 @@
 //! The table `message`.
 
-ghost use Rattle.std.specs.Prelude.{◌≡◌, ◌<◌, ◌++◌, ◌∷◌, [], false, Some, None, bytes_eq, filter, find, length, map, option_map, if◌then◌else◌};
+ghost use Rattle.std.specs.Prelude.{◌≡◌, ◌<◌, ◌++◌, ◌∷◌, [], false, Some, None, bytes_eq, filter, find, length, map, option_map, if◌then◌else◌, IfOk};
 ghost use Rattle.std.specs.List.{list_any};
 ghost use Rattle.archive_machine.specs.Questions.{is_message};
+ghost use Rattle.sqlite.specs.Held.{state};
+ghost use Rattle.sqlite.specs.State.{HasCleanDisk};
+ghost use Rattle.archive_tables.specs.Tables.{IsKept, reaches_number};
 ghost use Rattle.archive_tables.specs.Rows.{new_message, message_shown, message_in, marks_of};
 ghost use Rattle.archive_tables.specs.Calls.{Writes, WritesWhen, Refuses, Finds, Leaves, IsUp, WasClean};
 
@@ -113,6 +116,8 @@ pub fn count_messages<S: Alter>(conn: &mut Connection<S>, list: &str) -> Result<
 /// the same time however many messages there are.
 pub fn reaches<S: Alter>(conn: &mut Connection<S>, limit: u32) -> Result<bool, Error>
     ensures found { Finds S.Store conn.old conn.new result (λ a found. 0 < limit → found ≡ false → length a.messages < limit) }
+    ensures number { HasCleanDisk (state S.Store conn.new) → IsKept (state S.Store conn.old) →
+        IfOk result (λ found. found ≡ reaches_number (state S.Store conn.old).now.trees limit) }
     ensures same { Leaves S.Store conn.old conn.new }
     ensures up { IsUp S.Store conn.old conn.new result }
     ensures clean { WasClean S.Store conn.old conn.new }

@@ -2,7 +2,7 @@ use Rattle.std.proofs.Common.{ℕ, ap, sym, ◌∙◌, rules, arith, false}
 use Rattle.std.specs.Prelude.{◌≡◌, not, ◌==◌, length}
 use Rattle.std.specs.Vec.{vec_len}
 use Rattle.sqlite.specs.Held.{state}
-use Rattle.archive_tables.proofs.ReachLemmas.{reached, not_reached}
+use Rattle.archive_tables.proofs.ReachLemmas.{reached, reached_number, not_reached}
 use Rattle.archive_tables.proofs.texts.messages.reaches.Goals as goal
 
 empty_is : (n : ℕ) → not (n == 0) ≡ false → n ≡ 0
@@ -13,6 +13,12 @@ returns-clause-found g c clean k some missed =
     let it = reached (state g.S.Store c.args.conn.now) (state g.S.Store c.query_all.new.self) c.args.limit k c.in_ok-rows.rows.items (rw c.params-to_sql.ensures at (c.in_ok-rows.ensures.ok clean)) in
     let len : vec_len c.in_ok-rows.rows ≡ length c.in_ok-rows.rows.items = search rules in
     it.0 some (sym len ∙ empty_is _ (ap not (sym c.is_empty.ensures) ∙ missed))
+
+pub returns-clause-number : goal.returns-clause-number
+returns-clause-number g c clean k =
+    let it = reached_number (state g.S.Store c.args.conn.now) (state g.S.Store c.query_all.new.self) c.args.limit k c.in_ok-rows.rows.items (rw c.params-to_sql.ensures at (c.in_ok-rows.ensures.ok clean)) in
+    let len : vec_len c.in_ok-rows.rows ≡ length c.in_ok-rows.rows.items = search rules in
+    ap not c.is_empty.ensures ∙ ap (λ n. not (n == 0)) len ∙ it
 
 pub returns-clause-same : goal.returns-clause-same
 returns-clause-same g c clean k =
