@@ -1,12 +1,15 @@
--- What a database holds whose table of versions was read.
-use Rattle.std.proofs.Common.{◌≡◌, pos, ◌<◌, ◌≤◌, List, [], ◌∷◌, length, get_or, map, refl, ap, sym, subst, arith}
+-- What a database holds that is taken over, or is left.
+use Rattle.std.proofs.Common.{◌≡◌, pos, ◌<◌, ◌≤◌, List, [], ◌∷◌, length, get_or, map, refl, ap, sym, ◌∙◌, subst, arith, ◌⊎◌, inl, inr, Result, Ok, Err, OnErr}
 use Rattle.std.specs.List.Sorted.{IsPermutation}
 use Rattle.sqlite.specs.declared.types.Value.TheVariants.{Int}
 use Rattle.sqlite.specs.Order.{Row, column}
 use Rattle.sqlite.specs.Tree.{Trees}
+use Rattle.sqlite.specs.Effect.{Database}
+use Rattle.sqlite.specs.State.{State, IsUnchanged, IsRolledBack}
 use Rattle.sqlite.proofs.Callers.{one_permutation}
 use Rattle.std.proofs.lemmas.List.Sorted.{IsPermutation-sym}
 use Rattle.archive_tables.specs.Tables.{IsVersion0}
+use Rattle.archive_tables.specs.Making.{IsUndone}
 use Rattle.archive_tables.specs.Rows.{versions_shown}
 
 -- one row alone that shows 0
@@ -28,3 +31,12 @@ pub shows_version_0 : (trees : Trees) (rows : List Row) (row : Row) → IsPermut
     → row ≡ get_or rows 0 row → column row 0 ≡ Int (pos 0) → IsVersion0 trees
 shows_version_0 trees rows row same some few is zero =
     one_cell trees row (subst (λ l. IsPermutation (versions_shown trees) l) (sole rows row some few is) same) zero
+
+-- a statement that fails leaves what was committed
+pub undone_by : (old new : State) (before : Database) → old.committed ≡ before → IsUnchanged old new ⊎ IsRolledBack old new → IsUndone new before
+undone_by old new before behind (inl same) up = same.0.committed_is ∙ behind
+undone_by old new before behind (inr back) up = (back.undone up).1 ∙ behind
+
+pub on_err : {A E : Type 0} (r : Result A E) (P : Type 0) → P → OnErr r P
+on_err (Ok a) P p = tt
+on_err (Err e) P p = p

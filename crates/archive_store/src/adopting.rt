@@ -1,12 +1,12 @@
 //! Taking a connection over.
-ghost use Rattle.std.specs.Prelude.{◌≡◌, ◌↔◌, None, IfOk, IfErr, OnOk, IsTrue};
+ghost use Rattle.std.specs.Prelude.{◌≡◌, ◌↔◌, None, IfOk, IfErr, OnOk, OnErr, IsTrue};
 ghost use Rattle.sqlite.specs.Held.{state};
 ghost use Rattle.sqlite.specs.State.{HasCleanDisk};
 ghost use Rattle.sqlite.specs.Steps.{over_memory};
 ghost use Rattle.archive_tables.specs.Schema.{no_schema, with_person, archive_schema};
 ghost use Rattle.archive_tables.specs.Tables.{IsKept, IsOfArchive, IsVersion0, archive_of};
 ghost use Rattle.archive_tables.specs.Calls.{Rests, Leaves, IsUp, WasClean};
-ghost use Rattle.archive_tables.specs.Making.{IsMaking, IsMade, empty_archive};
+ghost use Rattle.archive_tables.specs.Making.{IsMaking, IsMade, IsUndone, empty_archive};
 ghost use Rattle.archive_store.specs.Adopting.{HasAsManyObjects, MayBeTaken};
 ghost use Rattle.archive_store.specs.Held.{held_of};
 ghost use Rattle.archive_store.specs.Replies.{refusal};
@@ -57,6 +57,8 @@ impl<S: Alter> Store<S> {
         ensures objects { IfOk result (λ _. MayBeTaken (state S.Store connection).now.schema) }
         ensures version { IfOk result (λ store. HasCleanDisk (state S.Store (held_of store)) → IsOfArchive (state S.Store connection)
             → IsVersion0 (state S.Store connection).now.trees) }
+        ensures undone { IfErr result (λ stop. HasCleanDisk (state S.Store stop.connection) → (state S.Store connection).now.schema ≡ no_schema
+            → IsUndone (state S.Store stop.connection) (state S.Store connection).committed) }
         ensures fault { IfErr result (λ stop. refusal stop.fault ≡ None) }
     {
         let mut conn = connection;
@@ -115,6 +117,8 @@ fn find_version<S: Alter>(conn: &mut Connection<S>) -> Result<(), StoreFault>
 fn make_tables<S: Alter>(conn: &mut Connection<S>) -> Result<(), StoreFault>
     ensures made { HasCleanDisk (state S.Store conn.new) → (state S.Store conn.old).now.schema ≡ no_schema
         → OnOk result (IsKept (state S.Store conn.new) × (archive_of (state S.Store conn.new) ≡ empty_archive)) }
+    ensures undone { HasCleanDisk (state S.Store conn.new) → (state S.Store conn.old).now.schema ≡ no_schema
+        → OnErr result (IsUndone (state S.Store conn.new) (state S.Store conn.old).committed) }
     ensures fault { IfErr result (λ fault. refusal fault ≡ None) }
 {
     texts::schema::begin(conn)?;
@@ -129,6 +133,8 @@ fn make_tables<S: Alter>(conn: &mut Connection<S>) -> Result<(), StoreFault>
 fn fill<S: Alter>(conn: &mut Connection<S>) -> Result<(), Error>
     ensures kept { HasCleanDisk (state S.Store conn.new) → (before : _) → IsMaking (state S.Store conn.old) no_schema before
         → OnOk result (IsKept (state S.Store conn.new) × (archive_of (state S.Store conn.new) ≡ empty_archive)) }
+    ensures undone { HasCleanDisk (state S.Store conn.new) → (before : _) → IsMaking (state S.Store conn.old) no_schema before
+        → OnErr result (IsUndone (state S.Store conn.new) before) }
     ensures clean { WasClean S.Store conn.old conn.new }
 {
     make_first(conn)?;
@@ -140,6 +146,8 @@ fn fill<S: Alter>(conn: &mut Connection<S>) -> Result<(), Error>
 fn make_first<S: Alter>(conn: &mut Connection<S>) -> Result<(), Error>
     ensures made { HasCleanDisk (state S.Store conn.new) → (before : _) → IsMaking (state S.Store conn.old) no_schema before
         → OnOk result (IsMaking (state S.Store conn.new) with_person before) }
+    ensures undone { HasCleanDisk (state S.Store conn.new) → (before : _) → IsMaking (state S.Store conn.old) no_schema before
+        → OnErr result (IsUndone (state S.Store conn.new) before) }
     ensures clean { WasClean S.Store conn.old conn.new }
 {
     texts::schema::create_version(conn)?;
@@ -151,6 +159,8 @@ fn make_first<S: Alter>(conn: &mut Connection<S>) -> Result<(), Error>
 fn make_last<S: Alter>(conn: &mut Connection<S>) -> Result<(), Error>
     ensures made { HasCleanDisk (state S.Store conn.new) → (before : _) → IsMaking (state S.Store conn.old) with_person before
         → OnOk result (IsMade (state S.Store conn.new) before) }
+    ensures undone { HasCleanDisk (state S.Store conn.new) → (before : _) → IsMaking (state S.Store conn.old) with_person before
+        → OnErr result (IsUndone (state S.Store conn.new) before) }
     ensures clean { WasClean S.Store conn.old conn.new }
 {
     texts::schema::create_grant(conn)?;

@@ -236,10 +236,10 @@ unfolding understood everything
 rollback_plain s = (refl, refl)
 
 pub undoes : (old new : State) (count : ℕ) → Executes rollback_text [] old new (Ok count)
-    → IsTrue new.is_open → (new.now ≡ old.committed) × (new.committed ≡ old.committed) × (new.in_transaction ≡ false)
+    → IsTrue new.is_open → IsTrue old.is_open × (new.now ≡ old.committed) × (new.committed ≡ old.committed) × (new.in_transaction ≡ false)
 undoes old new count h up =
     let ran = runs_as rollback_text [] old new old.now.schema refl Rollback (rollback_is old.now.schema) (rollback_plain old.now.schema) count h in
-    ((ran.1.undone up).0, (ran.1.undone up).1, ran.1.autocommit)
+    (ran.1.was_open up, (ran.1.undone up).0, (ran.1.undone up).1, ran.1.autocommit)
 
 -- ---- the version
 

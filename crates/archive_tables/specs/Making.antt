@@ -35,3 +35,7 @@ pub record IsMade (s : State) (before : Database) : Type 0 where
 -- a statement that fails changes nothing, or goes back to the last commit
 abbrev pub Stops : {S A : Type 0} → Ghosts S → Held S → Held S → Result A Error → Type 0
 Stops g old new result = HasCleanDisk (state g new) → OnErr result (IsUnchanged (state g old) (state g new) ⊎ IsRolledBack (state g old) (state g new))
+
+-- what is committed is what was there before, if the connection is still open
+abbrev pub IsUndone : State → Database → Type 0
+IsUndone s before = IsTrue s.is_open → s.committed ≡ before

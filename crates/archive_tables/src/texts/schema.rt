@@ -100,8 +100,8 @@ pub fn commit<S: Alter>(conn: &mut Connection<S>) -> Result<usize, Error>
 
 /// Ends the transaction, and goes back to what was there before it.
 pub fn rollback<S: Alter>(conn: &mut Connection<S>) -> Result<usize, Error>
-    ensures undone { HasCleanDisk (state S.Store conn.new) → OnOk result (IsTrue (state S.Store conn.new).is_open →
-        ((state S.Store conn.new).now ≡ (state S.Store conn.old).committed) × ((state S.Store conn.new).committed ≡ (state S.Store conn.old).committed)
+    ensures undone { HasCleanDisk (state S.Store conn.new) → OnOk result (IsTrue (state S.Store conn.new).is_open → IsTrue (state S.Store conn.old).is_open
+        × ((state S.Store conn.new).now ≡ (state S.Store conn.old).committed) × ((state S.Store conn.new).committed ≡ (state S.Store conn.old).committed)
         × ((state S.Store conn.new).in_transaction ≡ false)) }
     ensures stopped { Stops S.Store conn.old conn.new result }
     ensures clean { WasClean S.Store conn.old conn.new }

@@ -7,7 +7,7 @@ use Rattle.archive_tables.proofs.RunLemmas.{execute_fails}
 use Rattle.archive_tables.proofs.MakeLemmas.{undoes, rollback_text}
 use Rattle.archive_tables.proofs.texts.schema.rollback.Goals as goal
 
-done : (old new : State) → (r : Result ℕ Error) → Executes rollback_text [] old new r → OnOk r (IsTrue new.is_open → (new.now ≡ old.committed) × (new.committed ≡ old.committed) × (new.in_transaction ≡ false))
+done : (old new : State) → (r : Result ℕ Error) → Executes rollback_text [] old new r → OnOk r (IsTrue new.is_open → IsTrue old.is_open × (new.now ≡ old.committed) × (new.committed ≡ old.committed) × (new.in_transaction ≡ false))
 done old new (Ok count) h = undoes old new count h
 done old new (Err e) h = tt
 
