@@ -5,6 +5,7 @@
 mod adopting;
 mod faults;
 mod grants;
+mod keys;
 pub mod limits;
 mod messages;
 mod persons;
@@ -15,7 +16,9 @@ mod store;
 mod words;
 
 pub use adopting::AdoptStop;
+pub use archive_machine::Key;
 pub use faults::StoreFault;
+pub use keys::key_of;
 pub use reading::Message;
 pub use running::{Command, Outcome, RunStop};
 pub use store::Store;

@@ -1,6 +1,5 @@
 use crate::limits::add_limited;
-use crate::{Added, Command, Kind, Outcome, Party, Store, StoreFault};
-use archive_machine::Key;
+use crate::{Added, Command, Key, Kind, Outcome, Party, Store, StoreFault, key_of};
 use mail_core::{Day, Instant};
 use mbox_core::{Envelope, Item, Sender};
 use policy_core::{Standing, Withdrawn};
@@ -321,5 +320,14 @@ fn commands_run_one_after_the_other(rt: HostRuntime) -> Result<(), Fail> {
     assert_eq!(rt; names.len(), 2);
     assert_eq!(rt; names.first().map(|name| name.as_str()), Some("a"));
     assert_eq!(rt; names.last().map(|name| name.as_str()), Some("soc"));
+    Ok(())
+}
+
+#[test]
+fn keys_are_those_of_whole_texts(rt: HostRuntime) -> Result<(), Fail> {
+    let hello = "5891b5b522d5df086d0ff0b110fbd9d21bb4fc7163af34d08286a2e846f6be03";
+    for text in [b"hello".as_slice(), b"hello\n".as_slice()] {
+        assert_eq!(rt; key_of(&item("a@b", text)?).as_str(), hello);
+    }
     Ok(())
 }

@@ -1,7 +1,6 @@
 //! Worked cases for any new store: what each command answers, and what is found afterwards.
-use archive_machine::Key;
 use archive_store::limits::add_limited;
-use archive_store::{Added, Command, Kind, Message, Outcome, Party, Store, StoreFault};
+use archive_store::{Added, Command, Key, Kind, Message, Outcome, Party, Store, StoreFault};
 use mail_core::{Day, Instant};
 use mbox_core::{Envelope, Item, Sender};
 use policy_core::{Standing, Withdrawn};
@@ -12,6 +11,7 @@ use std::test::Fail;
 
 const TOKEN: &str = "0123456789abcdef";
 
+/// The day of a text.
 pub fn day(text: &str) -> Result<Day, Fail> {
     Ok(Day::read(text.as_bytes()).ok_or("a day")?)
 }

@@ -5,6 +5,7 @@ use sqlite_disk::{Disk, Memory};
 use std::alloc::Global;
 use std::test::Fail;
 
+/// A new store in memory.
 pub fn in_memory(alloc: Global) -> Result<Store<MemStore>, StoreFault> {
     Store::open_in_memory(alloc)
 }

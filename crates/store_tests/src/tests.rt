@@ -1,8 +1,7 @@
 //! The worked cases, over memory and over files.
 use crate::cases;
 use crate::disks::{in_memory, new_files, open};
-use archive_machine::Key;
-use archive_store::Store;
+use archive_store::{Key, Store};
 use sqlite::Alter;
 use std::alloc::Global;
 use std::process::Abort;
