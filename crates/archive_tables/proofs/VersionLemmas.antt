@@ -1,26 +1,21 @@
 -- The question on `version`.
-use Rattle.std.proofs.Common.{◌≡◌, ℕ, pos, List, [], ◌∷◌, map, codes, refl, subst, false}
+use Rattle.std.proofs.Common.{◌≡◌, ℕ, pos, List, [], ◌∷◌, codes, refl, subst, false}
 use Rattle.std.specs.Prelude.{IsTrue}
 use Rattle.std.specs.List.Sorted.{IsPermutation}
-use Rattle.std.proofs.lemmas.List.Sorted.{IsPermutation-sym}
 use Rattle.sqlite.specs.declared.error.Error.{Error}
 use Rattle.sqlite.specs.declared.types.Value.TheVariants.{Int}
-use Rattle.sqlite.specs.Order.{Row, column}
+use Rattle.sqlite.specs.Order.{Row}
 use Rattle.sqlite.specs.Term.{Term, col}
 use Rattle.sqlite.specs.Command.TheVariants.{Select}
-use Rattle.sqlite.specs.Tree.{Trees}
 use Rattle.sqlite.specs.Listing.{understood, reads_listing}
 use Rattle.sqlite.specs.State.{State, Shown, FailsToQuery}
-use Rattle.sqlite.proofs.Callers.{IsPlain, command_of, one_permutation}
+use Rattle.sqlite.proofs.Callers.{IsPlain, command_of}
 use Rattle.sqlite_tied.specs.Compute.{everything}
 use Rattle.archive_tables.specs.Schema.{archive_schema}
-use Rattle.archive_tables.specs.Tables.{IsKept, IsOfArchive, IsVersion0, version_rows}
+use Rattle.archive_tables.specs.Tables.{IsKept, IsOfArchive, version_rows}
 use Rattle.archive_tables.specs.Rows.{versions_shown}
 use Rattle.archive_tables.specs.Calls.{Rests}
 use Rattle.archive_tables.proofs.SelectLemmas.{plain_query, by_number, Picks, in_order, picks_all, picked, asked, leaves, asked_rests, refused_rests}
-
-pub kept_is_of_archive : (s : State) → IsKept s → IsOfArchive s
-kept_is_of_archive s k = record { is_open = k.is_open; autocommit = k.autocommit; settled = k.settled; schema = k.schema }
 
 abbrev pub number_text : List ℕ
 number_text = codes "SELECT number FROM version ORDER BY rowid"
@@ -44,15 +39,6 @@ pub numbers_found : (old new : State) → IsOfArchive old → (rows : List Row) 
 numbers_found old new o rows h =
     picks_all (plain_query 0 [] number_cell by_number) [] (old.now.trees 0) rows refl
     (picked number_text 0 [] number_cell by_number _ number_is.0 number_plain number_is.1 (λ t. refl) [] old new o.schema rows h)
-
--- one row that shows 0 is the row of the version 0
-pub one_number : (trees : Trees) → IsPermutation (versions_shown trees) ((Int (pos 0) ∷ []) ∷ []) → IsVersion0 trees
-one_number trees same = only (trees 0) (one_permutation (Int (pos 0) ∷ []) (versions_shown trees) (IsPermutation-sym (versions_shown trees) ((Int (pos 0) ∷ []) ∷ []) same))
-  where
-    only : (rows : List Row) → map (λ row. column row 1 ∷ []) rows ≡ (Int (pos 0) ∷ []) ∷ [] → (row : Row) × (rows ≡ row ∷ []) × (column row 1 ≡ Int (pos 0))
-    only [] is = absurd cc
-    only (row ∷ []) is = (row, refl, cc)
-    only (row ∷ other ∷ rows) is = absurd cc
 
 module _ (old new : State) (k : IsKept old) where
   pub version_found : (rows : List Row) → Shown number_text [] old new rows → (rows ≡ (Int (pos 0) ∷ []) ∷ []) × IsTrue new.is_open × Rests old new
