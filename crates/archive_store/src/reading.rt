@@ -1,8 +1,9 @@
 //! Questions on lists and their messages.
-ghost use Rattle.std.specs.Prelude.{◌≡◌, ◌≢◌, ℕ, List, map, string_bytes, None, IfOk, IfErr, IfSome};
+ghost use Rattle.std.specs.Prelude.{◌≡◌, ◌≢◌, ℕ, List, map, string_bytes, None, false, IfOk, IfErr, IfSome, IfNone};
+ghost use Rattle.mail_core.specs.Calendar.{is_day};
 ghost use Rattle.archive_machine.specs.Records.{Message as Remembered};
 ghost use Rattle.archive_tables.specs.Rows.{name_shown, message_in, message_shown};
-ghost use Rattle.archive_store.specs.Messages.{message_of, number_of, AreOf};
+ghost use Rattle.archive_store.specs.Messages.{message_of, number_of, AreOf, IsReadable};
 ghost use Rattle.archive_store.specs.Replies.{refusal};
 
 use crate::faults::StoreFault;
@@ -103,6 +104,7 @@ fn read_rows(alloc: Global, rows: &[Row]) -> Result<Vec<Message>, StoreFault>
 /// E15 where a row is of no message.
 fn read_or_fail(row: MessageRow) -> Result<Message, StoreFault>
     ensures read { IfOk result (λ message. (list : List ℕ) → message_of list message ≡ message_in list row) }
+    ensures unread { IfErr result (λ _. (list : List ℕ) → ¬ IsReadable (message_in list row)) }
     ensures fault { IfErr result (λ fault. refusal fault ≡ None) }
 {
     match read(row) {
@@ -113,7 +115,8 @@ fn read_or_fail(row: MessageRow) -> Result<Message, StoreFault>
 
 /// The message of a row. `None` where the row is of none.
 fn read(row: MessageRow) -> Option<Message>
-    ensures { IfSome result (λ message. (list : List ℕ) → message_of list message ≡ message_in list row) }
+    ensures some { IfSome result (λ message. (list : List ℕ) → message_of list message ≡ message_in list row) }
+    ensures none { IfNone result ((list : List ℕ) → ¬ IsReadable (message_in list row)) }
 {
     let key = Key::read(&row.key)?;
     let arrival = Instant::new(row.arrival)?;
@@ -146,7 +149,8 @@ fn withdrawn_by(number: i64) -> Option<Withdrawn>
 
 /// The day of a number, counted from 1970-01-01.
 fn numbered_day(number: i64) -> Option<Day>
-    ensures { IfSome result (λ day. day ≡ number) }
+    ensures some { IfSome result (λ day. day ≡ number) }
+    ensures none { IfNone result (is_day number ≡ false) }
 {
     let start = number.checked_mul(86_400)?;
     Some(Instant::new(start)?.day())
