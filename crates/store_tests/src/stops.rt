@@ -8,6 +8,15 @@ use sqlite_disk::{Disk, Fuse, Memory};
 use std::alloc::Global;
 use std::test::Fail;
 
+/// The tables, as docs/TABLES.md has them.
+const TABLES: [&str; 5] = [
+    "CREATE TABLE version (number INTEGER NOT NULL) STRICT",
+    "CREATE TABLE list (name TEXT NOT NULL PRIMARY KEY) STRICT",
+    "CREATE TABLE person (name TEXT NOT NULL PRIMARY KEY, token TEXT NOT NULL UNIQUE) STRICT",
+    "CREATE TABLE grant_row (person TEXT NOT NULL REFERENCES person (name), list TEXT NOT NULL REFERENCES list (name), kind INTEGER NOT NULL CHECK (kind BETWEEN 1 AND 3), from_day INTEGER NOT NULL CHECK (from_day BETWEEN -25567 AND 2932531), until_day INTEGER NOT NULL CHECK (until_day BETWEEN -25567 AND 2932531), PRIMARY KEY (person, list, kind), CHECK (from_day <= until_day)) STRICT",
+    "CREATE TABLE message (pos INTEGER PRIMARY KEY AUTOINCREMENT, list TEXT NOT NULL REFERENCES list (name), key TEXT NOT NULL, sender BLOB NOT NULL, arrival INTEGER NOT NULL, text BLOB NOT NULL, withdrawn INTEGER NOT NULL CHECK (withdrawn BETWEEN 0 AND 2), embargo INTEGER CHECK (embargo BETWEEN -25567 AND 2932531), UNIQUE (list, key)) STRICT",
+];
+
 /// The files of a store, closed.
 fn close<D: Disk + Drop>(store: Store<FileStore<D>>) -> Result<Files<D>, Fail> {
     match store.into_connection().close_files() {
@@ -124,6 +133,22 @@ fn stop_after(
 /// A file with the tables, and no list.
 fn with_tables(alloc: Global) -> Result<Files<Memory>, Fail> {
     close(open(alloc, new_files(alloc))?)
+}
+
+#[test]
+fn a_file_shows_the_documented_tables(rt: HostRuntime) -> Result<(), Fail> {
+    let alloc = rt.alloc();
+    let mut connection = open(alloc, with_tables(alloc)?)?.into_connection();
+    let rows = connection.query_all(
+        "SELECT sql FROM sqlite_schema WHERE type = 'table' AND name <> 'sqlite_sequence' ORDER BY rowid",
+        &[],
+    )?;
+    assert_eq!(rt; rows.len(), TABLES.len());
+    for (row, text) in rows.iter().zip(TABLES) {
+        let sql: String = row.get(0)?;
+        assert_eq!(rt; sql.as_str(), text);
+    }
+    Ok(())
 }
 
 /// The log stops at each call in turn, until none stops: what was said to be done is there, and no more than the command
