@@ -8,6 +8,3 @@ mod tokens;
 
 pub use keys::Key;
 pub use tokens::is_token;
-
-#[cfg(test)]
-mod tests;

@@ -5,6 +5,4 @@
 #![tactic(auto)]
 
 pub mod rows;
-#[cfg(test)]
-mod tests;
 pub mod texts;

@@ -21,8 +21,6 @@ mod octet_string;
 mod quotes;
 mod refusal;
 mod sent_date;
-#[cfg(test)]
-mod tests;
 mod tokens;
 mod unfolding;
 mod zones;

@@ -11,8 +11,6 @@ pub use writing::{WriteFault, write_bytes, write_two};
 mod counted;
 mod reading;
 mod tap;
-#[cfg(test)]
-mod tests;
 mod told;
 mod writing;
 

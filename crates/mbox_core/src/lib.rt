@@ -21,13 +21,7 @@ mod items;
 pub mod laws;
 mod lines;
 mod owned;
-#[cfg(test)]
-mod plain;
 mod senders;
-#[cfg(test)]
-mod separator_tests;
 mod separators;
-#[cfg(test)]
-mod tests;
 mod tokens;
 mod writing;

@@ -101,6 +101,3 @@ pub fn written_sender(alloc: Global, sender: Sender<'_>) -> Result<Vec<u8>, Allo
         }
     }
 }
-
-#[cfg(test)]
-mod tests;

@@ -13,6 +13,3 @@ pub use access::{Facts, Standing, Verdict, Withdrawn};
 pub use faults::PolicyFault;
 pub use names::is_name;
 pub use rules::Policy;
-
-#[cfg(test)]
-mod tests;

@@ -14,6 +14,3 @@ mod spacing;
 pub use answer::{Base, Text};
 pub use reading::base;
 pub use refusal::Memory;
-
-#[cfg(test)]
-mod tests;

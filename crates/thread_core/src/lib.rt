@@ -22,10 +22,6 @@ mod plain;
 mod row;
 mod rows;
 mod steps;
-#[cfg(test)]
-mod tests;
 mod threader;
 mod top_thread;
 mod tree;
-#[cfg(test)]
-mod walk;

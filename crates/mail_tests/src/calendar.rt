@@ -1,6 +1,6 @@
 //! What known dates are, and that each call answers.
-use crate::calendar::day_number;
-use crate::{Day, Instant, Memory, Month};
+use mail_core::calendar::day_number;
+use mail_core::{Day, Instant, Memory, Month};
 use std::test::Fail;
 
 #[test]

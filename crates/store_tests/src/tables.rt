@@ -1,7 +1,7 @@
-use crate::rows::{
+use archive_tables::rows::{
     GrantRow, MarksRow, MessageRow, read_grant, read_marks, read_message, read_name,
 };
-use crate::texts::{grants, lists, messages, persons, schema};
+use archive_tables::texts::{grants, lists, messages, persons, schema};
 use sqlite::{Connection, Error, ErrorCode, MemStore, Row};
 use std::alloc::Global;
 use std::test::Fail;

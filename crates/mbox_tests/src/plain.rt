@@ -2,9 +2,9 @@
 ghost use Rattle.std.specs.Prelude.{◌≡◌, ◌∷◌, ◌<◌, ◌≤◌, [], length, pos, neg_ℤ, ◌≤ℤ◌, IfSome};
 ghost use Rattle.mbox_core.specs.Division.{items_after, text_in, items_in};
 
-use crate::cutting::Part;
-use crate::separators::separator;
-use crate::tokens::{names_weekday, read_clock, read_day, read_month, read_year};
+use mbox_core::cutting::Part;
+use mbox_core::separators::separator;
+use mbox_core::tokens::{names_weekday, read_clock, read_day, read_month, read_year};
 use mail_core::calendar::day_number;
 use mail_core::lines::{line_content, line_end};
 use mail_core::zone;

@@ -1,5 +1,5 @@
 //! Message identifiers of known texts.
-use crate::{MsgId, Octets, ids, unfold};
+use mail_core::{MsgId, Octets, ids, unfold};
 use std::alloc::{AllocError, Global};
 use std::hash::{DefaultHasher, Hash, Hasher};
 use std::process::Abort;

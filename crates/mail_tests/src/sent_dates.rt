@@ -1,5 +1,5 @@
 //! Sent dates and zones of known texts.
-use crate::{Instant, sent, zone};
+use mail_core::{Instant, sent, zone};
 use std::test::Fail;
 
 // 2003-03-04 10:00:00

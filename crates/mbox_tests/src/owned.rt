@@ -1,5 +1,5 @@
 use super::OwnedItem;
-use crate::cut;
+use mbox_core::cut;
 use mail_core::Instant;
 use std::test::Fail;
 

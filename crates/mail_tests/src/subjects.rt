@@ -1,5 +1,5 @@
 //! Worked subjects, and long ones: a way through them that is not linear would not end in time.
-use crate::{Memory, Text, base};
+use subject_core::{Memory, Text, base};
 use std::alloc::Global;
 use std::process::Abort;
 

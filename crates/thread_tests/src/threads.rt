@@ -2,8 +2,8 @@
 
 ghost use Rattle.std.specs.Prelude.{◌≡◌, ◌<◌};
 
-use crate::walk::walked_threads;
-use crate::{Entry, Pairs, PlainThreader, References, Row, Steps, Threader, thread_of, threads};
+use thread_core::walk::walked_threads;
+use thread_core::{Entry, Pairs, PlainThreader, References, Row, Steps, Threader, thread_of, threads};
 use mail_core::{Instant, MsgId, Octets};
 use std::alloc::Global;
 use std::marker::Brand;

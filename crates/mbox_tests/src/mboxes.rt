@@ -1,7 +1,7 @@
-use crate::cutting::next_part;
-use crate::device::Tap;
-use crate::plain::first_part;
-use crate::{Envelope, Item, MboxFault, Sender, cut, separator, write_item, written_len};
+use mbox_core::cutting::next_part;
+use mbox_core::device::Tap;
+use mbox_core::plain::first_part;
+use mbox_core::{Envelope, Item, MboxFault, Sender, cut, separator, write_item, written_len};
 use mail_core::Instant;
 use std::alloc::Global;
 use std::test::Fail;

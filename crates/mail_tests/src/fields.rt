@@ -1,5 +1,5 @@
 //! Header fields of known texts.
-use crate::{author_key, fields, first, unfold};
+use mail_core::{author_key, fields, first, unfold};
 use std::test::Fail;
 
 const SAMPLE: &[u8] = b"A : x\nbad line\n more\nB:y\r\n z\n\nC:q";

@@ -1,6 +1,6 @@
-use crate::device::Tap;
-use crate::plain::{plain_seconds, plain_tokens};
-use crate::{Envelope, Item, Sender, cut, separator, write_item, written_len};
+use mbox_core::device::Tap;
+use mbox_core::plain::{plain_seconds, plain_tokens};
+use mbox_core::{Envelope, Item, Sender, cut, separator, write_item, written_len};
 use mail_core::Instant;
 use std::alloc::Global;
 use std::test::Fail;
