@@ -1,5 +1,7 @@
-use super::{Counted, ReadStop, Sink, Source, Tap, WriteFault, read_all, write_bytes, write_two};
 use mail_core::Memory;
+use mbox_core::device::{
+    Counted, ReadStop, Sink, Source, Tap, WriteFault, read_all, write_bytes, write_two,
+};
 use std::io::{self, ErrorKind, Read, Write};
 use std::test::Fail;
 

@@ -1,8 +1,8 @@
-use mbox_core::cutting::next_part;
-use mbox_core::device::Tap;
-use mbox_core::plain::first_part;
-use mbox_core::{Envelope, Item, MboxFault, Sender, cut, separator, write_item, written_len};
+//! Mboxes that are cut, written, cut short and refused.
+use crate::plain::first_part;
 use mail_core::Instant;
+use mbox_core::device::Tap;
+use mbox_core::{Envelope, Item, MboxFault, Sender, cut, separator, write_item, written_len};
 use std::alloc::Global;
 use std::test::Fail;
 
@@ -14,188 +14,162 @@ const TWO: &[u8] =
 const ALIKE: &[u8] =
     b"From a@b Tue Mar  4 10:00:00 2003\n\nFrom here on we sail.\nFrom bob@example.org Wed Mar 12 10:30:00 2003\n\nFrom a b Tue Mar 4 10:00:00 2003\n";
 
-/// The messages of an mbox, written, to a device that passes so many bytes and then fails.
-fn write_all(alloc: Global, bytes: &[u8], passes: usize) -> Result<Tap, Fail> {
-    let mut out = Tap::new(alloc, b"", passes)?;
-    for item in cut(bytes)? {
-        write_item(&mut out, &item)?;
-    }
-    Ok(out)
-}
+/// Mboxes, the number of their messages, and what these are written as.
+const MBOXES: [(&[u8], usize, &[u8]); 15] = [
+    (b"", 0, b""),
+    (b"\n\n", 0, b""),
+    (b"\r\n\n\r", 0, b""),
+    (
+        b"From a@b Tue Mar  4 10:00:00 2003\n\n",
+        1,
+        b"From a@b Tue Mar  4 10:00:00 2003\n\n",
+    ),
+    (
+        b"From a@b Tue Mar  4 10:00:00 2003\n",
+        1,
+        b"From a@b Tue Mar  4 10:00:00 2003\n\n",
+    ),
+    (
+        b"From a@b Tue Mar  4 10:00:00 2003",
+        1,
+        b"From a@b Tue Mar  4 10:00:00 2003\n\n",
+    ),
+    (TWO, 2, TWO),
+    (
+        b"From a@b Tue Mar  4 10:00:00 2003\nhello",
+        1,
+        b"From a@b Tue Mar  4 10:00:00 2003\nhello\n\n",
+    ),
+    (
+        b"From - Tue Mar  4 10:00 2003",
+        1,
+        b"From - Tue Mar  4 10:00:00 2003\n\n",
+    ),
+    (
+        b"\n\nFrom   x  MON  mar 04  23:59:60  2003  \r\nhi\r\n\r\n",
+        1,
+        b"From x Tue Mar  4 23:59:59 2003\nhi\r\n\n",
+    ),
+    (
+        b"From anna at example.org  Tue Mar  4 10:00:00 2003",
+        1,
+        b"From anna at example.org Tue Mar  4 10:00:00 2003\n\n",
+    ),
+    (
+        b"From 12@xxx Tue Mar 04 10:00:00 +0100 2003",
+        1,
+        b"From 12@xxx Tue Mar  4 09:00:00 2003\n\n",
+    ),
+    (
+        b"From  a  at  b  MON mar 4 23:59:60 pdt 2003 ",
+        1,
+        b"From a at b Wed Mar  5 06:59:59 2003\n\n",
+    ),
+    (
+        b"From at at at Tue Mar 4 10:00 GMT 2003",
+        1,
+        b"From at at at Tue Mar  4 10:00:00 2003\n\n",
+    ),
+    (
+        b"From a@b Tue Mar  4 10:00:00 2003\nx\n\n\n",
+        1,
+        b"From a@b Tue Mar  4 10:00:00 2003\nx\n\n\n",
+    ),
+];
 
-/// The number of messages of an mbox.
-fn count(bytes: &[u8]) -> Result<usize, MboxFault> {
-    let mut messages = 0usize;
-    for _ in cut(bytes)? {
-        messages = messages.saturating_add(1);
-    }
-    Ok(messages)
-}
-
-#[test]
-fn nothing_and_empty_lines_hold_no_message(rt: HostRuntime) -> Result<(), Fail> {
-    for bytes in [b"".as_slice(), b"\n\n".as_slice(), b"\r\n\n\r".as_slice()] {
-        assert_eq!(rt; count(bytes)?, 0);
-        assert_eq!(rt; write_all(rt.alloc(), bytes, 99)?.bytes(), b"".as_slice());
-    }
-    Ok(())
-}
-
-#[test]
-fn a_separator_line_alone_is_a_message_with_an_empty_text(rt: HostRuntime) -> Result<(), Fail> {
-    let whole = b"From a@b Tue Mar  4 10:00:00 2003\n\n".as_slice();
-    for bytes in [whole, &whole[..34], &whole[..33]] {
-        let mut items = cut(bytes)?;
-        let item = items.next().ok_or("no message")?;
-        assert!(rt; item.text.is_empty());
-        assert!(rt; item.complete);
-        assert_eq!(rt; item.envelope.arrival.seconds(), 1046772000);
-        assert!(rt; items.next().is_none());
-        assert_eq!(rt; write_all(rt.alloc(), bytes, 99)?.bytes(), whole);
-    }
-    Ok(())
-}
-
-#[test]
-fn two_messages_are_written_back_byte_for_byte(rt: HostRuntime) -> Result<(), Fail> {
-    assert_eq!(rt; count(TWO)?, 2);
-    assert_eq!(rt; write_all(rt.alloc(), TWO, 999)?.bytes(), TWO);
-    Ok(())
-}
-
-#[test]
-fn lines_that_look_like_separator_lines_stay_text(rt: HostRuntime) -> Result<(), Fail> {
-    let item = cut(ALIKE)?.next().ok_or("no message")?;
-    assert_eq!(rt; count(ALIKE)?, 1);
-    assert_eq!(rt; item.text, &ALIKE[34..]);
-    Ok(())
-}
-
-#[test]
-fn a_text_without_an_lf_at_its_end_is_written_whole(rt: HostRuntime) -> Result<(), Fail> {
-    let bytes = b"From a@b Tue Mar  4 10:00:00 2003\nhello".as_slice();
-    let item = cut(bytes)?.next().ok_or("no message")?;
-    assert!(rt; !item.complete);
-    assert_eq!(rt; item.text, b"hello".as_slice());
-    assert_eq!(rt; written_len(&item), 41);
-    assert_eq!(rt;
-        write_all(rt.alloc(), bytes, 99)?.bytes(),
-        b"From a@b Tue Mar  4 10:00:00 2003\nhello\n\n".as_slice()
-    );
-    Ok(())
-}
-
-#[test]
-fn a_separator_line_without_seconds_is_written_with_them(rt: HostRuntime) -> Result<(), Fail> {
-    assert_eq!(rt;
-        write_all(rt.alloc(), b"From - Tue Mar  4 10:00 2003", 99)?.bytes(),
-        b"From - Tue Mar  4 10:00:00 2003\n\n".as_slice()
-    );
-    Ok(())
-}
-
-#[test]
-fn a_separator_line_of_other_letters_and_spaces_is_written_anew(
-    rt: HostRuntime,
-) -> Result<(), Fail> {
-    assert_eq!(rt;
-        write_all(
-            rt.alloc(),
-            b"\n\nFrom   x  MON  mar 04  23:59:60  2003  \r\nhi\r\n\r\n",
-            99
-        )?
-        .bytes(),
-        b"From x Tue Mar  4 23:59:59 2003\nhi\r\n\n".as_slice()
-    );
-    Ok(())
-}
+/// Mboxes of one message, its text, and whether that adds no LF.
+const TEXTS: [(&[u8], &[u8], bool); 6] = [
+    (b"From a@b Tue Mar  4 10:00:00 2003\n\n", b"", true),
+    (b"From a@b Tue Mar  4 10:00:00 2003\n", b"", true),
+    (b"From a@b Tue Mar  4 10:00:00 2003", b"", true),
+    (
+        ALIKE,
+        b"\nFrom here on we sail.\nFrom bob@example.org Wed Mar 12 10:30:00 2003\n\nFrom a b Tue Mar 4 10:00:00 2003\n",
+        true,
+    ),
+    (b"From a@b Tue Mar  4 10:00:00 2003\nhello", b"hello", false),
+    (
+        b"From a@b Tue Mar  4 10:00:00 2003\n>From x\n\n\n",
+        b">From x\n\n",
+        true,
+    ),
+];
 
 #[test]
-fn a_line_before_the_first_separator_line_is_refused(rt: HostRuntime) -> Result<(), Fail> {
-    for (bytes, offset) in [
-        (b"\nhi\nFrom a@b Tue Mar  4 10:00:00 2003\n".as_slice(), 1),
-        (b"hi".as_slice(), 0),
-        (b"\r\n\n>From a@b Tue Mar  4 10:00:00 2003\n".as_slice(), 3),
-    ] {
+fn mboxes_are_cut_and_written(rt: HostRuntime) -> Result<(), Fail> {
+    for (bytes, messages, written) in &MBOXES {
+        let mut out = Tap::new(rt.alloc(), b"", 999)?;
+        let mut count = 0usize;
+        let mut len = 0u64;
+        for item in cut(bytes)? {
+            count = count.saturating_add(1);
+            len = len.saturating_add(written_len(&item));
+            write_item(&mut out, &item)?;
+        }
+        assert_eq!(rt; out.bytes(), *written);
         assert!(rt;
-            count(bytes) == Err(MboxFault::Preamble(offset)),
-            "at {offset}"
+            count == *messages && len == written.len() as u64,
+            "{count}, {len}"
         );
     }
     Ok(())
 }
 
 #[test]
-fn faults_are_printed_by_number_and_name(rt: HostRuntime) -> Result<(), Fail> {
-    for (fault, text) in [
+fn a_message_has_its_text_and_its_arrival(rt: HostRuntime) -> Result<(), Fail> {
+    for (bytes, text, complete) in &TEXTS {
+        let mut items = cut(bytes)?;
+        let item = items.next().ok_or("no message")?;
+        assert_eq!(rt; item.text, *text);
+        assert!(rt; item.complete == *complete && item.envelope.arrival.seconds() == 1046772000);
+        assert!(rt; items.next().is_none());
+    }
+    Ok(())
+}
+
+#[test]
+fn a_line_before_the_first_separator_line_is_refused(rt: HostRuntime) -> Result<(), Fail> {
+    let mboxes: [(&[u8], u64); 3] = [
+        (b"\nhi\nFrom a@b Tue Mar  4 10:00:00 2003\n", 1),
+        (b"hi", 0),
+        (b"\r\n\n>From a@b Tue Mar  4 10:00:00 2003\n", 3),
+    ];
+    for (bytes, offset) in mboxes {
+        assert!(rt;
+            cut(bytes).err() == Some(MboxFault::Preamble(offset)),
+            "at {offset}"
+        );
+    }
+    let faults = [
         (MboxFault::Preamble(7), "M1 Preamble at 7"),
         (MboxFault::Read, "M2 Read"),
         (MboxFault::Memory, "M3 Memory"),
-    ] {
+    ];
+    for (fault, text) in faults {
         assert_eq!(rt; format!(in rt.alloc(); "{fault}")?.as_str(), text);
     }
     Ok(())
 }
 
 #[test]
-fn contents_that_are_no_separator_lines(rt: HostRuntime) {
-    for content in [
-        b"From a@b Tue Mar  4 10:00:00 2003\r".as_slice(),
-        b"from a@b Tue Mar  4 10:00:00 2003".as_slice(),
-        b"From\ta@b Tue Mar  4 10:00:00 2003".as_slice(),
-        b"From a@b Tue Mar  4 10:00:00".as_slice(),
-        b"From a@b Tue Mar 30 10:00:00 2003 x".as_slice(),
-        b"From a@b Tue Feb 30 10:00:00 2003".as_slice(),
-        b"From a@b Tue Mar  0 10:00:00 2003".as_slice(),
-        b"From a@b Tue Mar 004 10:00:00 2003".as_slice(),
-        b"From a@b Tue Mar  4 24:00:00 2003".as_slice(),
-        b"From a@b Tue Mar  4 10:60:00 2003".as_slice(),
-        b"From a@b Tue Mar  4 10:00:61 2003".as_slice(),
-        b"From a@b Tue Mar  4 1:00:00 2003".as_slice(),
-        b"From a@b Tuesday Mar  4 10:00:00 2003".as_slice(),
-        b"From a@b Tue Mar  4 10:00:00 1899".as_slice(),
-        b"From a@b Tue Mar  4 10:00:00 9999".as_slice(),
-        b"From a@b Tue Mar  4 10:00:00 03".as_slice(),
-        b"".as_slice(),
-    ] {
-        assert!(rt; separator(content).is_none());
-    }
-}
-
-#[test]
 fn a_message_may_not_hold_a_separator_line_after_an_empty_line(
     rt: HostRuntime,
 ) -> Result<(), Fail> {
-    for (text, fits) in [
-        (b"".as_slice(), true),
-        (b"From a@b Tue Mar  4 10:00:00 2003\n".as_slice(), true),
-        (b"\n>From a@b Tue Mar  4 10:00:00 2003\n".as_slice(), true),
-        (b"\nFrom a@b Tue Mar  4 10:00:00 2003\n".as_slice(), false),
-        (
-            b"x\n\r\nFrom a@b Tue Mar  4 10:00:00 2003".as_slice(),
-            false,
-        ),
-    ] {
+    let texts: [(&[u8], bool); 5] = [
+        (b"", true),
+        (b"From a@b Tue Mar  4 10:00:00 2003\n", true),
+        (b"\n>From a@b Tue Mar  4 10:00:00 2003\n", true),
+        (b"\nFrom a@b Tue Mar  4 10:00:00 2003\n", false),
+        (b"x\n\r\nFrom a@b Tue Mar  4 10:00:00 2003", false),
+    ];
+    for (text, fits) in texts {
         let envelope = Envelope {
-            sender: Sender::read(b"a@b").ok_or("no sender")?,
+            sender: Sender::One(b"a@b"),
             arrival: Instant::new(0).ok_or("no instant")?,
         };
         assert!(rt; Item::new(envelope, text).is_some() == fits);
     }
     Ok(())
-}
-
-#[test]
-fn senders_are_read(rt: HostRuntime) {
-    assert!(rt; Sender::read(b"a\t@\xffb\r") == Some(Sender::One(b"a\t@\xffb\r")));
-    for text in [
-        b"".as_slice(),
-        b"a b".as_slice(),
-        b"a\n".as_slice(),
-        b" a".as_slice(),
-    ] {
-        assert!(rt; Sender::read(text).is_none());
-    }
 }
 
 #[test]
@@ -211,14 +185,35 @@ fn a_writer_that_fails_after_each_number_of_bytes(rt: HostRuntime) -> Result<(),
             }
             before = before.saturating_add(written_len(&item));
         }
-        if passes < TWO.len() {
-            assert!(rt; stopped == Some(passes as u64), "after {passes}");
-            assert!(rt; out.bytes() == &TWO[..passes], "after {passes}");
+        let passed = passes.min(TWO.len());
+        let expected = if passed < TWO.len() {
+            Some(passed as u64)
         } else {
-            assert!(rt; stopped.is_none() && out.bytes() == TWO, "after {passes}");
-        }
+            None
+        };
+        assert!(rt;
+            stopped == expected && out.bytes() == &TWO[..passed],
+            "after {passes}"
+        );
     }
     Ok(())
+}
+
+/// Whether a message goes out as these bytes, to a device that fails after `passes` of them.
+fn goes_out(alloc: Global, item: &Item, whole: &[u8], passes: usize) -> Result<bool, Fail> {
+    let mut out = Tap::new(alloc, b"", passes)?;
+    let expected = if passes < whole.len() {
+        Err(passes as u64)
+    } else {
+        Ok(())
+    };
+    let answer = write_item(&mut out, item).map_err(|fault| fault.written);
+    let passed = passes.min(whole.len());
+    Ok(
+        answer == expected
+            && out.bytes() == &whole[..passed]
+            && written_len(item) == whole.len() as u64,
+    )
 }
 
 #[test]
@@ -230,45 +225,69 @@ fn senders_of_every_length_are_written(rt: HostRuntime) -> Result<(), Fail> {
             arrival: Instant::new(-1).ok_or("no instant")?,
         };
         let item = Item::new(envelope, b"hi").ok_or("no item")?;
+        let mut whole = b"From ".to_vec(rt.alloc())?;
+        whole.extend_from_slice(&long[..len])?;
+        whole.extend_from_slice(b" Wed Dec 31 23:59:59 1969\nhi\n\n")?;
         for passes in [3usize, 5 + len, 12 + len, 400] {
-            let mut out = Tap::new(rt.alloc(), b"", passes)?;
-            let answer = write_item(&mut out, &item);
-            let mut expected = Vec::new(rt.alloc());
-            expected.extend_from_slice(b"From ")?;
-            expected.extend_from_slice(&long[..len])?;
-            expected.extend_from_slice(b" Wed Dec 31 23:59:59 1969\nhi\n\n")?;
-            let whole = expected.as_slice();
-            let passed = passes.min(whole.len());
-            assert!(rt; out.bytes() == &whole[..passed], "{len} and {passes}");
-            assert!(rt; written_len(&item) == whole.len() as u64, "{len}");
-            match answer {
-                Ok(()) => assert!(rt; passes >= whole.len(), "{len} and {passes}"),
-                Err(fault) => assert!(rt; fault.written == passes as u64, "{len} and {passes}"),
-            }
+            assert!(rt;
+                goes_out(rt.alloc(), &item, &whole, passes)?,
+                "{len} and {passes}"
+            );
         }
     }
     Ok(())
 }
 
 #[test]
-fn the_search_and_the_plain_program_find_the_same(rt: HostRuntime) {
-    for bytes in [
-        TWO,
-        ALIKE,
-        b"".as_slice(),
-        b"\n".as_slice(),
-        b"x".as_slice(),
-        b"\nFrom a@b Tue Mar  4 10:00:00 2003".as_slice(),
-        b"x\n\nFrom a@b Tue Mar  4 10:00:00 2003\ny\n\n\n".as_slice(),
-        b"x\n\r\nFrom a@b Tue Mar  4 10:00:00 2003\r\n".as_slice(),
-        b"x\n\nFrom \n\nFrom \n\nFrom a@b Tue Mar  4 10:00:00 2003\r\n".as_slice(),
-        b"x\r".as_slice(),
-        b"x\n\r".as_slice(),
-    ] {
-        let fast = next_part(bytes);
-        let plain = first_part(bytes);
-        assert_eq!(rt; fast.text, plain.text);
-        assert!(rt; fast.next.is_some() == plain.next.is_some());
-        assert!(rt; fast.next.is_none() || fast.rest == plain.rest);
+fn a_sender_of_two_tokens_to_a_writer_that_fails(rt: HostRuntime) -> Result<(), Fail> {
+    let envelope = Envelope {
+        sender: Sender::read(b"anna at example.org").ok_or("no sender")?,
+        arrival: Instant::new(1046772000).ok_or("no instant")?,
+    };
+    let item = Item::new(envelope, b"hi\n").ok_or("no item")?;
+    let whole = b"From anna at example.org Tue Mar  4 10:00:00 2003\nhi\n\n".as_slice();
+    for passes in 0..whole.len() + 2 {
+        assert!(rt;
+            goes_out(rt.alloc(), &item, whole, passes)?,
+            "after {passes}"
+        );
     }
+    Ok(())
+}
+
+/// What follows a separator line.
+const RESTS: [&[u8]; 11] = [
+    TWO,
+    ALIKE,
+    b"",
+    b"\n",
+    b"x",
+    b"\nFrom a@b Tue Mar  4 10:00:00 2003",
+    b"x\n\nFrom a@b Tue Mar  4 10:00:00 2003\ny\n\n\n",
+    b"x\n\r\nFrom a@b Tue Mar  4 10:00:00 2003\r\n",
+    b"x\n\nFrom \n\nFrom \n\nFrom a@b Tue Mar  4 10:00:00 2003\r\n",
+    b"x\r",
+    b"x\n\r",
+];
+
+#[test]
+fn the_search_and_the_plain_program_find_the_same(rt: HostRuntime) -> Result<(), Fail> {
+    let heading = b"From x Fri Jan  2 00:00:00 1970\n".as_slice();
+    for bytes in &RESTS {
+        let mut mbox = heading.to_vec(rt.alloc())?;
+        mbox.extend_from_slice(bytes)?;
+        let mut next = separator(&heading[..31]);
+        let mut rest = *bytes;
+        for item in cut(&mbox)? {
+            let envelope = next.take().ok_or("the plain program finds no message")?;
+            assert!(rt; item.envelope.sender == envelope.sender);
+            assert!(rt; item.envelope.arrival == envelope.arrival);
+            let part = first_part(rest);
+            assert_eq!(rt; item.text, part.text);
+            next = part.next;
+            rest = part.rest;
+        }
+        assert!(rt; next.is_none());
+    }
+    Ok(())
 }

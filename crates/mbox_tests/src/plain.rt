@@ -2,13 +2,19 @@
 ghost use Rattle.std.specs.Prelude.{◌≡◌, ◌∷◌, ◌<◌, ◌≤◌, [], length, pos, neg_ℤ, ◌≤ℤ◌, IfSome};
 ghost use Rattle.mbox_core.specs.Division.{items_after, text_in, items_in};
 
-use mbox_core::cutting::Part;
-use mbox_core::separators::separator;
-use mbox_core::tokens::{names_weekday, read_clock, read_day, read_month, read_year};
 use mail_core::calendar::day_number;
 use mail_core::lines::{line_content, line_end};
 use mail_core::zone;
+use mbox_core::{Envelope, separator};
 use std::alloc::{AllocError, Global};
+
+/// A message's text, and what follows it: the next separator line, and the bytes behind that.
+#[derive(Drop)]
+pub(crate) struct Part<'a> {
+    pub(crate) text: &'a [u8],
+    pub(crate) next: Option<Envelope<'a>>,
+    pub(crate) rest: &'a [u8],
+}
 
 /// The text of a message whose separator line stands before these bytes, line by line.
 pub(crate) fn first_part<'a>(bytes: &'a [u8]) -> Part<'a>
@@ -86,10 +92,76 @@ pub(crate) fn plain_seconds(tokens: &[&[u8]]) -> Option<i64> {
 fn local_seconds(weekday: &[u8], month: &[u8], day: &[u8], time: &[u8], year: &[u8]) -> Option<i64>
     ensures { IfSome result (λ z. (neg_ℤ (pos 200_000_000_000_000) ≤ℤ z) × (z ≤ℤ pos 200_000_000_000_000)) }
 {
-    if !names_weekday(weekday) {
+    plain_place(
+        weekday,
+        &[b"mon", b"tue", b"wed", b"thu", b"fri", b"sat", b"sun"],
+    )?;
+    let month = plain_place(
+        month,
+        &[
+            b"jan", b"feb", b"mar", b"apr", b"may", b"jun", b"jul", b"aug", b"sep", b"oct", b"nov",
+            b"dec",
+        ],
+    )?;
+    let number = day_number(plain_year(year)?, month, plain_day(day)?)?;
+    Some(86400 * number as i64 + plain_clock(time)? as i64)
+}
+
+/// The place of a name in a table, from 1 on, in whatever case.
+fn plain_place(name: &[u8], names: &[&[u8; 3]]) -> Option<u8> {
+    let mut place = 0u8;
+    for known in names {
+        place = place.saturating_add(1);
+        if known.eq_ignore_ascii_case(name) {
+            return Some(place);
+        }
+    }
+    None
+}
+
+/// The number that two digits say.
+fn plain_pair(high: u8, low: u8) -> Option<u8>
+    ensures { IfSome result (λ n. n < 100) }
+{
+    if high.is_ascii_digit() && low.is_ascii_digit() {
+        Some((high - b'0') * 10 + (low - b'0'))
+    } else {
+        None
+    }
+}
+
+/// A day of one or two digits.
+fn plain_day(text: &[u8]) -> Option<u8> {
+    match text {
+        [low] => plain_pair(b'0', *low),
+        [high, low] => plain_pair(*high, *low),
+        _ => None,
+    }
+}
+
+/// A year of four digits.
+fn plain_year(text: &[u8]) -> Option<u16> {
+    match text {
+        [a, b, c, d] => Some(plain_pair(*a, *b)? as u16 * 100 + plain_pair(*c, *d)? as u16),
+        _ => None,
+    }
+}
+
+/// The seconds of a time of day. The sixtieth second of a minute counts as the one before.
+fn plain_clock(text: &[u8]) -> Option<u32>
+    ensures { IfSome result (λ n. n < 86400) }
+{
+    let (hour, minute, second) = match text {
+        [a, b, b':', c, d] => (plain_pair(*a, *b)?, plain_pair(*c, *d)?, 0),
+        [a, b, b':', c, d, b':', e, f] => (
+            plain_pair(*a, *b)?,
+            plain_pair(*c, *d)?,
+            plain_pair(*e, *f)?,
+        ),
+        _ => return None,
+    };
+    if hour > 23 || minute > 59 || second > 60 {
         return None;
     }
-    let month = read_month(month)? + 1;
-    let number = day_number(read_year(year)? as u16, month as u8, read_day(day)? as u8)?;
-    Some(86400 * number as i64 + read_clock(time)? as i64)
+    Some((hour as u32 * 60 + minute as u32) * 60 + second.min(59) as u32)
 }

@@ -1,6 +1,6 @@
 use Rattle.std.proofs.Common.{length, ◌-◌}
 use Rattle.mbox_core.proofs.CutLemmas.{State}
-use Rattle.mbox_core.proofs.plain.first_part.Given as goal
+use Rattle.mbox_tests.proofs.plain.first_part.Given as goal
 
 abbrev pub invariant-loop-at : goal.invariant-loop-at
 invariant-loop-at l = State l.bytes l.at l.end l.after_blank

@@ -5,8 +5,8 @@ use Rattle.mail_core.specs.Lines.{content}
 use Rattle.mbox_core.specs.Separator.{separator_of}
 use Rattle.mbox_core.proofs.SplitLemmas.{heads}
 use Rattle.mbox_core.proofs.CutLemmas.{State, state_start, state_more, text_here, items_here, text_end, items_end}
-use Rattle.mbox_core.proofs.plain.first_part.Goals.{then-after_blank+in_default, else-after_blank, then-after_blank-2, else-after_blank-2}
-use Rattle.mbox_core.proofs.plain.first_part.Goals as goal
+use Rattle.mbox_tests.proofs.plain.first_part.Goals.{then-after_blank+in_default, else-after_blank, then-after_blank-2, else-after_blank-2}
+use Rattle.mbox_tests.proofs.plain.first_part.Goals as goal
 
 pub loop-at-init : goal.loop-at-init
 loop-at-init c = state_start c.args.bytes.now
