@@ -1,5 +1,5 @@
-use super::*;
 use mail_core::Day;
+use policy_core::{Facts, Policy, PolicyFault, Standing, Verdict, Withdrawn, is_name};
 use std::alloc::{AllocError, Global};
 use std::process::Abort;
 
@@ -31,35 +31,36 @@ fn asked(rt: &impl Abort) -> Facts<'static> {
     }
 }
 
+/// A policy of this text, which is one.
 fn policy(rt: &impl Abort, alloc: Global, text: &str) -> Policy {
-    match Policy::read(alloc, text) {
-        Ok(policy) => policy,
-        Err(fault) => {
-            assert!(rt; false, "{fault}: {text}");
-            Policy::open()
-        }
-    }
+    Policy::read(alloc, text).ok().expect(rt, "a policy")
 }
 
-/// Whether the text has this refusal.
-fn check_refusal(rt: &impl Abort, alloc: Global, text: &str, want: PolicyFault) {
-    match Policy::read(alloc, text) {
-        Ok(_) => assert!(rt; false, "taken: {text}"),
-        Err(fault) => assert_eq!(rt; fault, want, "{text}"),
-    }
+/// The refusal of this text, if it has one.
+fn refusal(alloc: Global, text: &str) -> Option<PolicyFault> {
+    Policy::read(alloc, text).err()
 }
 
 /// One rule with the name `a`, the effect `allow` and one line more.
 fn with_line(alloc: Global, line: &str) -> Result<String, AllocError> {
-    format!(in alloc; "[[rule]]\nname = \"a\"\neffect = \"allow\"\n{line}\n")
+    let mut text = String::from_str(alloc, "[[rule]]\nname = \"a\"\neffect = \"allow\"\n")?;
+    text.push_str(line)?;
+    Ok(text)
+}
+
+#[test]
+fn names_begin_with_a_small_letter(rt: HostRuntime) {
+    for (text, want) in [("soc-2003", true), ("2003-soc", false), ("Soc", false)] {
+        assert!(rt; is_name(text) == want, "{text}");
+    }
 }
 
 #[test]
 fn an_empty_text_is_a_policy_that_denies_by_default(rt: HostRuntime) {
     for text in ["", "# nobody\n", "rule = []"] {
-        assert_eq!(rt;
-            policy(&rt, rt.alloc(), text).verdict(&asked(&rt)),
-            Verdict::Denied("default"),
+        let policy = policy(&rt, rt.alloc(), text);
+        assert!(rt;
+            policy.verdict(&asked(&rt)) == Verdict::Denied("default"),
             "{text}"
         );
     }
@@ -67,206 +68,115 @@ fn an_empty_text_is_a_policy_that_denies_by_default(rt: HostRuntime) {
 
 #[test]
 fn the_open_policy_allows_by_its_one_rule(rt: HostRuntime) {
-    let withdrawn = Facts {
-        withdrawn: Withdrawn::Board,
-        ..asked(&rt)
-    };
-    assert_eq!(rt;
-        Policy::open().verdict(&asked(&rt)),
-        Verdict::Allowed("open")
-    );
-    assert_eq!(rt;
-        Policy::open().verdict(&withdrawn),
-        Verdict::Allowed("open")
-    );
-}
-
-#[test]
-fn a_text_that_is_no_toml_document(rt: HostRuntime) {
-    for text in [
-        "a =",
-        "[[rule]",
-        "rule = 9223372036854775808",
-        "rule = []\nrule = []",
-    ] {
-        check_refusal(&rt, rt.alloc(), text, PolicyFault::NotToml);
+    for withdrawn in [Withdrawn::No, Withdrawn::Board] {
+        let facts = Facts {
+            withdrawn,
+            ..asked(&rt)
+        };
+        assert!(rt; Policy::open().verdict(&facts) == Verdict::Allowed("open"));
     }
 }
 
 #[test]
-fn keys_and_types_outside_of_the_rules(rt: HostRuntime) {
-    check_refusal(&rt, rt.alloc(), "rules = 1", PolicyFault::UnknownKey(0));
-    check_refusal(
-        &rt,
-        rt.alloc(),
-        "rules = 1\nrule = 3",
-        PolicyFault::UnknownKey(0),
-    );
-    check_refusal(&rt, rt.alloc(), "rule = 3", PolicyFault::WrongType(0));
-    check_refusal(
-        &rt,
-        rt.alloc(),
-        "[rule]\nname = \"a\"",
-        PolicyFault::WrongType(0),
-    );
-    check_refusal(&rt, rt.alloc(), "rule = [{}, 1]", PolicyFault::WrongType(0));
-}
-
-#[test]
-fn a_rule_needs_a_name_and_an_effect(rt: HostRuntime) {
-    check_refusal(&rt, rt.alloc(), "[[rule]]", PolicyFault::BadValue(1));
-    check_refusal(
-        &rt,
-        rt.alloc(),
-        "[[rule]]\nname = \"a\"",
-        PolicyFault::BadValue(1),
-    );
-    check_refusal(
-        &rt,
-        rt.alloc(),
-        "[[rule]]\neffect = \"allow\"",
-        PolicyFault::BadValue(1),
-    );
-    check_refusal(
-        &rt,
-        rt.alloc(),
-        "[[rule]]\nname = \"a\"\neffect = \"maybe\"",
-        PolicyFault::BadValue(1),
-    );
-    check_refusal(
-        &rt,
-        rt.alloc(),
-        "[[rule]]\nname = \"a\"\neffect = true",
-        PolicyFault::WrongType(1),
-    );
-    check_refusal(
-        &rt,
-        rt.alloc(),
-        "[[rule]]\nname = 1",
-        PolicyFault::WrongType(1),
-    );
-}
-
-#[test]
-fn a_rule_that_has_a_bad_name(rt: HostRuntime) {
-    check_refusal(
-        &rt,
-        rt.alloc(),
-        "[[rule]]\nname = \"A\"",
-        PolicyFault::BadName(1),
-    );
-    check_refusal(
-        &rt,
-        rt.alloc(),
-        "[[rule]]\nname = \"\"",
-        PolicyFault::BadName(1),
-    );
-    check_refusal(
-        &rt,
-        rt.alloc(),
-        "[[rule]]\nname = \"1a\"",
-        PolicyFault::BadName(1),
-    );
-    check_refusal(
-        &rt,
-        rt.alloc(),
-        "[[rule]]\nname = \"a_b\"",
-        PolicyFault::BadName(1),
-    );
-    check_refusal(
-        &rt,
-        rt.alloc(),
-        "[[rule]]\nname = \"a23456789012345678901234567890123456789-1\"",
-        PolicyFault::BadName(1),
-    );
-    policy(
-        &rt,
-        rt.alloc(),
-        "[[rule]]\nname = \"a23456789012345678901234567890123456789-\"\neffect = \"deny\"",
-    );
-}
-
-#[test]
-fn a_name_is_used_once_and_default_never(rt: HostRuntime) {
-    check_refusal(
-        &rt,
-        rt.alloc(),
-        "[[rule]]\nname = \"default\"\neffect = \"deny\"",
-        PolicyFault::DuplicateName(1),
-    );
-    check_refusal(
-        &rt,
-        rt.alloc(),
-        "[[rule]]\nname = \"a\"\neffect = \"deny\"\n[[rule]]\nname = \"a\"\neffect = \"allow\"",
-        PolicyFault::DuplicateName(2),
-    );
-}
-
-#[test]
-fn an_unknown_key_comes_before_a_bad_name(rt: HostRuntime) {
-    check_refusal(
-        &rt,
-        rt.alloc(),
-        "[[rule]]\nname = \"A\"\ncolour = 1",
-        PolicyFault::UnknownKey(1),
-    );
-}
-
-#[test]
-fn values_of_another_type(rt: HostRuntime) -> Result<(), AllocError> {
-    for line in [
-        "lists = \"soc\"",
-        "lists = [1]",
-        "lists = [\"Soc\", 1]",
-        "standings = \"public\"",
-        "standings = [\"nobody\", true]",
-        "withdrawn = \"no\"",
-        "withdrawn = [[]]",
-        "embargo = \"true\"",
-        "age_min = 1.0",
-        "age_min = \"1\"",
-        "from = 2003-03-04",
-        "until = 20030304",
+fn texts_that_are_refused_for_what_is_outside_of_the_rules(rt: HostRuntime) {
+    for (text, want) in [
+        ("a =", PolicyFault::NotToml),
+        ("[[rule]", PolicyFault::NotToml),
+        ("rule = 9223372036854775808", PolicyFault::NotToml),
+        ("rule = []\nrule = []", PolicyFault::NotToml),
+        ("rules = 1", PolicyFault::UnknownKey(0)),
+        ("rules = 1\nrule = 3", PolicyFault::UnknownKey(0)),
+        ("rule = 3", PolicyFault::WrongType(0)),
+        ("[rule]\nname = \"a\"", PolicyFault::WrongType(0)),
+        ("rule = [{}, 1]", PolicyFault::WrongType(0)),
     ] {
-        check_refusal(
-            &rt,
-            rt.alloc(),
-            with_line(rt.alloc(), line)?.as_str(),
-            PolicyFault::WrongType(1),
-        );
+        assert!(rt; refusal(rt.alloc(), text) == Some(want), "{text}");
     }
-    Ok(())
 }
 
 #[test]
-fn values_that_a_key_does_not_have(rt: HostRuntime) -> Result<(), AllocError> {
-    for line in [
-        "lists = [\"Soc\"]",
-        "lists = []",
-        "standings = [\"nobody\"]",
-        "standings = []",
-        "withdrawn = [\"yes\"]",
-        "withdrawn = []",
-        "age_min = 36501",
-        "age_min = -1",
-        "from = \"2003-02-30\"",
-        "from = \"1899-12-31\"",
-        "until = \"9999-01-01\"",
-        "until = \"2003-3-4\"",
-        "from = \"2003-03-05\"\nuntil = \"2003-03-04\"",
-    ] {
-        check_refusal(
-            &rt,
-            rt.alloc(),
-            with_line(rt.alloc(), line)?.as_str(),
+fn rules_that_are_refused_for_their_names_and_effects(rt: HostRuntime) {
+    for (text, want) in [
+        ("[[rule]]", PolicyFault::BadValue(1)),
+        ("[[rule]]\nname = \"a\"", PolicyFault::BadValue(1)),
+        ("[[rule]]\neffect = \"allow\"", PolicyFault::BadValue(1)),
+        (
+            "[[rule]]\nname = \"a\"\neffect = \"maybe\"",
             PolicyFault::BadValue(1),
-        );
+        ),
+        (
+            "[[rule]]\nname = \"a\"\neffect = true",
+            PolicyFault::WrongType(1),
+        ),
+        ("[[rule]]\nname = 1", PolicyFault::WrongType(1)),
+        ("[[rule]]\nname = \"A\"", PolicyFault::BadName(1)),
+        ("[[rule]]\nname = \"\"", PolicyFault::BadName(1)),
+        ("[[rule]]\nname = \"1a\"", PolicyFault::BadName(1)),
+        ("[[rule]]\nname = \"a_b\"", PolicyFault::BadName(1)),
+        (
+            "[[rule]]\nname = \"a23456789012345678901234567890123456789-1\"",
+            PolicyFault::BadName(1),
+        ),
+        (
+            "[[rule]]\nname = \"default\"\neffect = \"deny\"",
+            PolicyFault::DuplicateName(1),
+        ),
+        (
+            "[[rule]]\nname = \"a\"\neffect = \"deny\"\n[[rule]]\nname = \"a\"\neffect = \"allow\"",
+            PolicyFault::DuplicateName(2),
+        ),
+        (
+            "[[rule]]\nname = \"A\"\ncolour = 1",
+            PolicyFault::UnknownKey(1),
+        ),
+    ] {
+        assert!(rt; refusal(rt.alloc(), text) == Some(want), "{text}");
+    }
+}
+
+#[test]
+fn lines_of_a_rule_that_are_refused(rt: HostRuntime) -> Result<(), AllocError> {
+    for (line, want) in [
+        ("lists = \"soc\"", PolicyFault::WrongType(1)),
+        ("lists = [1]", PolicyFault::WrongType(1)),
+        ("lists = [\"Soc\", 1]", PolicyFault::WrongType(1)),
+        ("standings = \"public\"", PolicyFault::WrongType(1)),
+        ("standings = [\"nobody\", true]", PolicyFault::WrongType(1)),
+        ("withdrawn = \"no\"", PolicyFault::WrongType(1)),
+        ("withdrawn = [[]]", PolicyFault::WrongType(1)),
+        ("embargo = \"true\"", PolicyFault::WrongType(1)),
+        ("age_min = 1.0", PolicyFault::WrongType(1)),
+        ("age_min = \"1\"", PolicyFault::WrongType(1)),
+        ("from = 2003-03-04", PolicyFault::WrongType(1)),
+        ("until = 20030304", PolicyFault::WrongType(1)),
+        ("lists = [\"Soc\"]", PolicyFault::BadValue(1)),
+        ("lists = []", PolicyFault::BadValue(1)),
+        ("standings = [\"nobody\"]", PolicyFault::BadValue(1)),
+        ("standings = []", PolicyFault::BadValue(1)),
+        ("withdrawn = [\"yes\"]", PolicyFault::BadValue(1)),
+        ("withdrawn = []", PolicyFault::BadValue(1)),
+        ("age_min = 36501", PolicyFault::BadValue(1)),
+        ("age_min = -1", PolicyFault::BadValue(1)),
+        ("from = \"2003-02-30\"", PolicyFault::BadValue(1)),
+        ("from = \"1899-12-31\"", PolicyFault::BadValue(1)),
+        ("until = \"9999-01-01\"", PolicyFault::BadValue(1)),
+        ("until = \"2003-3-4\"", PolicyFault::BadValue(1)),
+        (
+            "from = \"2003-03-05\"\nuntil = \"2003-03-04\"",
+            PolicyFault::BadValue(1),
+        ),
+    ] {
+        let text = with_line(rt.alloc(), line)?;
+        assert!(rt; refusal(rt.alloc(), text.as_str()) == Some(want), "{line}");
     }
     Ok(())
 }
 
 #[test]
 fn values_at_their_bounds_are_taken(rt: HostRuntime) -> Result<(), AllocError> {
+    let longest_name =
+        "[[rule]]\nname = \"a23456789012345678901234567890123456789-\"\neffect = \"deny\"";
+    assert!(rt; refusal(rt.alloc(), longest_name).is_none());
     for line in [
         "lists = [\"soc\", \"soc\"]",
         "age_min = 0",
@@ -275,45 +185,44 @@ fn values_at_their_bounds_are_taken(rt: HostRuntime) -> Result<(), AllocError> {
         "until = \"9998-12-31\"",
         "from = \"2003-03-04\"\nuntil = \"2003-03-04\"",
     ] {
-        policy(&rt, rt.alloc(), with_line(rt.alloc(), line)?.as_str());
+        let text = with_line(rt.alloc(), line)?;
+        assert!(rt; refusal(rt.alloc(), text.as_str()).is_none(), "{line}");
     }
     Ok(())
 }
 
-/// So many rules, named a0 and so on, the last of which allows.
+fn digit(number: u32) -> char {
+    char::from(b'0' + (number % 10) as u8)
+}
+
+/// So many rules with the names a000, a001 and so on, of which the last allows and the others deny another list.
 fn many(alloc: Global, count: u32) -> Result<String, AllocError> {
     let mut text = String::new(alloc);
     for n in 0..count {
-        let effect = if n + 1 == count {
-            "allow"
+        text.push_str("[[rule]]\nname = \"a")?;
+        for number in [n / 100, n / 10, n] {
+            text.push(digit(number))?;
+        }
+        text.push_str(if n + 1 == count {
+            "\"\neffect = \"allow\"\n"
         } else {
-            "deny\"\nlists = [\"dev\"]\n#\""
-        };
-        text.push_str(format!(in alloc;
-            "[[rule]]\nname = \"a{n}\"\neffect = \"{effect}\"\n"
-        )?.as_str())?;
+            "\"\neffect = \"deny\"\nlists = [\"dev\"]\n"
+        })?;
     }
     Ok(text)
 }
 
 #[test]
 fn two_hundred_rules_are_taken_and_one_more_is_not(rt: HostRuntime) -> Result<(), AllocError> {
-    let text = many(rt.alloc(), 200)?;
-    assert_eq!(rt;
-        policy(&rt, rt.alloc(), text.as_str()).verdict(&asked(&rt)),
-        Verdict::Allowed("a199")
-    );
-    check_refusal(
-        &rt,
-        rt.alloc(),
-        many(rt.alloc(), 201)?.as_str(),
-        PolicyFault::TooManyRules,
-    );
+    let policy = policy(&rt, rt.alloc(), many(rt.alloc(), 200)?.as_str());
+    assert!(rt; policy.verdict(&asked(&rt)) == Verdict::Allowed("a199"));
     let mut empty = String::new(rt.alloc());
     for _ in 0..201 {
         empty.push_str("[[rule]]\n")?;
     }
-    check_refusal(&rt, rt.alloc(), empty.as_str(), PolicyFault::TooManyRules);
+    for text in [many(rt.alloc(), 201)?, empty] {
+        assert!(rt; refusal(rt.alloc(), text.as_str()) == Some(PolicyFault::TooManyRules));
+    }
     Ok(())
 }
 
@@ -344,7 +253,7 @@ fn a_withdrawn_message_is_denied_to_the_public_alone(rt: HostRuntime) {
             withdrawn,
             ..asked(&rt)
         };
-        assert_eq!(rt; policy.verdict(&facts), want);
+        assert!(rt; policy.verdict(&facts) == want);
     }
 }
 
@@ -364,9 +273,9 @@ fn an_embargo_is_on_before_its_until_day(rt: HostRuntime) {
             embargo_until: Some(day(&rt, "2003-04-01")),
             ..asked(&rt)
         };
-        assert_eq!(rt; policy.verdict(&facts), want, "{reading}");
+        assert!(rt; policy.verdict(&facts) == want, "{reading}");
     }
-    assert_eq!(rt; policy.verdict(&asked(&rt)), Verdict::Allowed("all"));
+    assert!(rt; policy.verdict(&asked(&rt)) == Verdict::Allowed("all"));
 }
 
 #[test]
@@ -382,7 +291,7 @@ fn an_age_counts_from_the_arrival_day(rt: HostRuntime) -> Result<(), AllocError>
             ..asked(&rt)
         };
         let policy = policy(&rt, rt.alloc(), with_line(rt.alloc(), line)?.as_str());
-        assert_eq!(rt; policy.verdict(&facts), want, "{line} on {reading}");
+        assert!(rt; policy.verdict(&facts) == want, "{line} on {reading}");
     }
     Ok(())
 }
@@ -404,13 +313,13 @@ fn a_rule_is_on_from_its_first_to_its_last_day(rt: HostRuntime) {
             day: day(&rt, reading),
             ..asked(&rt)
         };
-        assert_eq!(rt; policy.verdict(&facts), want, "{reading}");
+        assert!(rt; policy.verdict(&facts) == want, "{reading}");
     }
     let elsewhere = Facts {
         list: "so",
         ..asked(&rt)
     };
-    assert_eq!(rt; policy.verdict(&elsewhere), Verdict::Denied("default"));
+    assert!(rt; policy.verdict(&elsewhere) == Verdict::Denied("default"));
 }
 
 #[test]
@@ -426,7 +335,7 @@ fn a_refusal_prints_its_number_its_name_and_its_rule(rt: HostRuntime) -> Result<
         (PolicyFault::Memory, "P8 Memory"),
     ] {
         let text = format!(in rt.alloc(); "{fault}")?;
-        assert_eq!(rt; text.as_str(), want);
+        assert!(rt; text.as_str() == want, "{want}");
     }
     Ok(())
 }
