@@ -1,81 +1,94 @@
 //! Header fields of known texts.
+use crate::long::repeated;
+use mail_core::lines::{line_content, line_end};
 use mail_core::{author_key, fields, first, unfold};
+use std::process::Abort;
 use std::test::Fail;
+
+const LINES: [(&[u8], usize, &[u8]); 5] = [
+    (b"a: b\r\nc\n", 6, b"a: b"),
+    (b"a\n\n", 2, b"a"),
+    (b"\n", 1, b""),
+    (b"a\r", 2, b"a"),
+    (b"a\r\r\n", 4, b"a\r"),
+];
+
+#[test]
+fn a_line_ends_behind_its_lf(rt: HostRuntime) {
+    for (text, end, content) in LINES {
+        assert!(rt; !text.is_empty());
+        let found = line_end(text);
+        assert_eq!(rt; found, end, "{text:?}");
+        let (line, _) = text.split_at(found);
+        assert_eq!(rt; line_content(line), content, "{text:?}");
+    }
+}
 
 const SAMPLE: &[u8] = b"A : x\nbad line\n more\nB:y\r\n z\n\nC:q";
 
-#[test]
-fn a_block_that_is_no_field_is_passed_over(rt: HostRuntime) -> Result<(), Fail> {
-    let mut found = fields(SAMPLE);
-    let field = found.next().ok_or("no field")?;
-    assert_eq!(rt; field.name, b"A".as_slice());
-    assert_eq!(rt; field.body, b" x".as_slice());
-    let field = found.next().ok_or("no second field")?;
-    assert_eq!(rt; field.name, b"B".as_slice());
-    assert_eq!(rt; field.body, b"y\r\n z".as_slice());
+fn assert_fields(rt: &impl Abort, text: &[u8], wanted: &[(&[u8], &[u8])]) {
+    let mut found = fields(text);
+    for (name, body) in wanted {
+        match found.next() {
+            Some(field) => assert_eq!(rt; (field.name, field.body), (*name, *body)),
+            None => assert!(rt; false, "no field {name:?}"),
+        }
+    }
     assert!(rt; found.next().is_none());
-    assert!(rt; fields(b"").next().is_none());
-    Ok(())
 }
 
 #[test]
-fn the_first_field_of_a_name_counts(rt: HostRuntime) -> Result<(), Fail> {
-    assert_eq!(rt;
-        first(SAMPLE, b"b").ok_or("no field")?,
-        b"y\r\n z".as_slice()
-    );
-    assert!(rt; first(SAMPLE, b"C").is_none());
-    assert_eq!(rt;
-        first(b"To: a\nTO: b\n", b"tO").ok_or("no field")?,
-        b" a".as_slice()
-    );
-    Ok(())
+fn a_block_that_is_no_field_is_passed_over(rt: HostRuntime) {
+    assert_fields(&rt, SAMPLE, &[(b"A", b" x"), (b"B", b"y\r\n z")]);
+    assert_fields(&rt, b"", &[]);
 }
+
+const FIRSTS: [(&[u8], &[u8], Option<&[u8]>); 3] = [
+    (SAMPLE, b"b", Some(b"y\r\n z")),
+    (SAMPLE, b"C", None),
+    (b"To: a\nTO: b\n", b"tO", Some(b" a")),
+];
+
+#[test]
+fn the_first_field_of_a_name_counts(rt: HostRuntime) {
+    for (text, name, body) in FIRSTS {
+        assert_eq!(rt; first(text, name), body, "{name:?}");
+    }
+}
+
+const FOLDED: [(&[u8], &[u8]); 3] = [
+    (b"y\r\n z", b"y z"),
+    (b"a\n\tb\r\r\n c\r\n", b"a\tb\r c\r\n"),
+    (b"", b""),
+];
 
 #[test]
 fn a_folded_body_is_unfolded(rt: HostRuntime) -> Result<(), Fail> {
-    let body = first(SAMPLE, b"b").ok_or("no field")?;
-    assert_eq!(rt; unfold(rt.alloc(), body)?.as_slice(), b"y z".as_slice());
-    assert_eq!(rt;
-        unfold(rt.alloc(), b"a\n\tb\r\r\n c\r\n")?.as_slice(),
-        b"a\tb\r c\r\n".as_slice()
-    );
-    assert_eq!(rt; unfold(rt.alloc(), b"")?.len(), 0);
+    for (body, text) in FOLDED {
+        assert_eq!(rt; unfold(rt.alloc(), body)?.as_slice(), text);
+    }
     Ok(())
 }
 
+const AUTHORS: [(&[u8], &[u8]); 5] = [
+    (b"From: \"X\" <A@B>\n", b"a@b"),
+    (b"From:  Anna \n", b"anna"),
+    (b"Subject: x\n\nFrom: a\n", b""),
+    (b"from: <a> B\n <C@d> e>\nFrom: x\n", b"c@d"),
+    (b"From: \t<a> B <C \t", b"<a> b <c"),
+];
+
 #[test]
 fn the_author_is_the_address_in_lower_case(rt: HostRuntime) -> Result<(), Fail> {
-    let alloc = rt.alloc();
-    assert_eq!(rt;
-        author_key(alloc, b"From: \"X\" <A@B>\n")?.as_slice(),
-        b"a@b".as_slice()
-    );
-    assert_eq!(rt;
-        author_key(alloc, b"From:  Anna \n")?.as_slice(),
-        b"anna".as_slice()
-    );
-    assert_eq!(rt;
-        author_key(alloc, b"Subject: x\n\nFrom: a\n")?.as_slice(),
-        b"".as_slice()
-    );
-    assert_eq!(rt;
-        author_key(alloc, b"from: <a> B\n <C@d> e>\nFrom: x\n")?.as_slice(),
-        b"c@d".as_slice()
-    );
-    assert_eq!(rt;
-        author_key(alloc, b"From: \t<a> B <C \t")?.as_slice(),
-        b"<a> b <c".as_slice()
-    );
+    for (text, author) in AUTHORS {
+        assert_eq!(rt; author_key(rt.alloc(), text)?.as_slice(), author);
+    }
     Ok(())
 }
 
 #[test]
 fn a_million_short_fields_are_counted(rt: HostRuntime) -> Result<(), Fail> {
-    let mut text = Vec::new(rt.alloc());
-    for _ in 0..1_000_000 {
-        text.extend_from_slice(b"a:\n")?;
-    }
+    let text = repeated(rt.alloc(), b"a:\n", 1_000_000)?;
     let mut count = 0u32;
     for _ in fields(&text) {
         count = count.saturating_add(1);
@@ -87,12 +100,10 @@ fn a_million_short_fields_are_counted(rt: HostRuntime) -> Result<(), Fail> {
 
 #[test]
 fn a_field_of_four_megabytes_is_read(rt: HostRuntime) -> Result<(), Fail> {
-    let mut text = Vec::new(rt.alloc());
-    text.extend_from_slice(b"From:")?;
-    for _ in 0..1_000_000 {
-        text.extend_from_slice(b"\n <<")?;
-    }
-    let body = first(&text, b"from").ok_or("no field")?;
+    let mut text = repeated(rt.alloc(), b"From:", 1)?;
+    let folds = repeated(rt.alloc(), b"\n <<", 1_000_000)?;
+    text.extend_from_slice(&folds)?;
+    let body = first(&text, b"from").unwrap_or(b"");
     assert_eq!(rt; body.len(), 4_000_000);
     assert_eq!(rt; unfold(rt.alloc(), body)?.len(), 3_000_000);
     assert_eq!(rt; author_key(rt.alloc(), &text)?.len(), 2_999_999);

@@ -1,4 +1,5 @@
 //! Message identifiers of known texts.
+use crate::long::repeated;
 use mail_core::{MsgId, Octets, ids, unfold};
 use std::alloc::{AllocError, Global};
 use std::hash::{DefaultHasher, Hash, Hasher};
@@ -15,96 +16,79 @@ fn id(alloc: Global, left: &[u8], right: &[u8]) -> Result<MsgId, AllocError> {
 fn assert_ids(rt: &impl Abort, found: &[MsgId], wanted: &[(&[u8], &[u8])]) {
     assert_eq!(rt; found.len(), wanted.len());
     for (id, (left, right)) in found.iter().zip(wanted) {
-        assert_eq!(rt; id.left(), *left);
-        assert_eq!(rt; id.right(), *right);
+        assert_eq!(rt; (id.left(), id.right()), (*left, *right));
     }
 }
 
-#[test]
-fn ids_in_comments_and_quoted_strings_are_passed_over(rt: HostRuntime) -> Result<(), Fail> {
-    let text = unfold(rt.alloc(), b" (see <x@y>) <\"a\"@b>\n <c@d>")?;
-    let found = ids(rt.alloc(), &text)?;
-    assert_ids(&rt, found.as_slice(), &[(b"a", b"b"), (b"c", b"d")]);
-    let found = ids(
-        rt.alloc(),
+const TEXTS: [(&[u8], &[(&[u8], &[u8])]); 12] = [
+    // what stands in comments and quoted strings is passed over
+    (
+        b" (see <x@y>) <\"a\"@b>\n <c@d>",
+        &[(b"a", b"b"), (b"c", b"d")],
+    ),
+    (
         b"\"<x@y>\" \"(\" <c@d> ((<x@y>) \\) <x@y>) <e@f>",
-    )?;
-    assert_ids(&rt, found.as_slice(), &[(b"c", b"d"), (b"e", b"f")]);
-    Ok(())
-}
-
-#[test]
-fn the_last_at_sign_divides(rt: HostRuntime) -> Result<(), Fail> {
-    let found = ids(rt.alloc(), b"<a@b@c>")?;
-    assert_ids(&rt, found.as_slice(), &[(b"a@b", b"c")]);
-    Ok(())
-}
-
-#[test]
-fn texts_that_are_no_ids(rt: HostRuntime) -> Result<(), Fail> {
-    for text in [
-        b"<\"a\"b@c>".as_slice(),
-        b"<a b@c>",
-        b"<@b>",
-        b"<a@>",
-        b"a@b",
-        b"<a@b",
-        b"",
-    ] {
-        assert_eq!(rt; ids(rt.alloc(), text)?.len(), 0);
-    }
-    Ok(())
-}
-
-#[test]
-fn a_quoted_left_side_loses_what_quotes_it(rt: HostRuntime) -> Result<(), Fail> {
-    let found = ids(rt.alloc(), b"<\"a\\\"\\\\ b\"@c> <\"\"@b> <a(b@c)d>")?;
-    assert_ids(
-        &rt,
-        found.as_slice(),
+        &[(b"c", b"d"), (b"e", b"f")],
+    ),
+    // the last at sign divides
+    (b"<a@b@c>", &[(b"a@b", b"c")]),
+    // a quoted left side loses what quotes it
+    (
+        b"<\"a\\\"\\\\ b\"@c> <\"\"@b> <a(b@c)d>",
         &[(b"a\"\\ b", b"c"), (b"", b"b"), (b"a(b", b"c)d")],
-    );
-    Ok(())
-}
+    ),
+    // an open comment is a byte
+    (b"(<a@b>", &[(b"a", b"b")]),
+    // no ids
+    (b"<\"a\"b@c>", &[]),
+    (b"<a b@c>", &[]),
+    (b"<@b>", &[]),
+    (b"<a@>", &[]),
+    (b"a@b", &[]),
+    (b"<a@b", &[]),
+    (b"", &[]),
+];
 
 #[test]
-fn an_open_comment_is_a_byte(rt: HostRuntime) -> Result<(), Fail> {
-    let found = ids(rt.alloc(), b"(<a@b>")?;
-    assert_ids(&rt, found.as_slice(), &[(b"a", b"b")]);
-    let mut text = vec![in rt.alloc(); b'('; 10_000]?;
-    text.extend_from_slice(b"<a@b>")?;
-    let found = ids(rt.alloc(), &text)?;
-    assert_ids(&rt, found.as_slice(), &[(b"a", b"b")]);
-    Ok(())
-}
-
-#[test]
-fn ten_thousand_nested_comments_are_one(rt: HostRuntime) -> Result<(), Fail> {
-    let mut text = vec![in rt.alloc(); b'('; 10_000]?;
-    for _ in 0..10_000 {
-        text.push(b')')?;
+fn known_texts_have_their_ids(rt: HostRuntime) -> Result<(), Fail> {
+    for (text, wanted) in TEXTS {
+        let text = unfold(rt.alloc(), text)?;
+        assert_ids(&rt, &ids(rt.alloc(), &text)?, wanted);
     }
-    text.extend_from_slice(b"<a@b>")?;
-    let found = ids(rt.alloc(), &text)?;
-    assert_ids(&rt, found.as_slice(), &[(b"a", b"b")]);
     Ok(())
 }
 
+const ONE_ID: &[(&[u8], &[u8])] = &[(b"a", b"b")];
+
+// parts, each with how often it stands, and the ids of the whole
+const LONG_TEXTS: [(&[(&[u8], usize)], &[(&[u8], &[u8])]); 5] = [
+    // open comments
+    (&[(b"(", 10_000), (b"<a@b>", 1)], ONE_ID),
+    // nested ones
+    (&[(b"(", 10_000), (b")", 10_000), (b"<a@b>", 1)], ONE_ID),
+    // open comments and an open quote
+    (
+        &[
+            (b"(", 1_000_000),
+            (b"\"", 1),
+            (b"\\\"", 1_000_000),
+            (b"<a@b>", 1),
+        ],
+        ONE_ID,
+    ),
+    (&[(b"<", 1_000_000)], &[]),
+    (&[(b"<", 1), (b"@", 999_999)], &[]),
+];
+
 #[test]
-fn a_million_open_comments_and_quotes(rt: HostRuntime) -> Result<(), Fail> {
-    let mut text = vec![in rt.alloc(); b'('; 1_000_000]?;
-    text.push(b'"')?;
-    for _ in 0..1_000_000 {
-        text.extend_from_slice(b"\\\"")?;
+fn ids_of_long_texts_take_linear_time(rt: HostRuntime) -> Result<(), Fail> {
+    for (parts, wanted) in LONG_TEXTS {
+        let mut text = Vec::new(rt.alloc());
+        for (piece, times) in parts {
+            text.extend_from_slice(&repeated(rt.alloc(), piece, *times)?)?;
+        }
+        assert_ids(&rt, &ids(rt.alloc(), &text)?, wanted);
     }
-    text.extend_from_slice(b"<a@b>")?;
-    let found = ids(rt.alloc(), &text)?;
-    assert_ids(&rt, found.as_slice(), &[(b"a", b"b")]);
-    let angles = vec![in rt.alloc(); b'<'; 1_000_000]?;
-    assert_eq!(rt; ids(rt.alloc(), &angles)?.len(), 0);
-    let mut signs = vec![in rt.alloc(); b'@'; 1_000_000]?;
-    signs[0] = b'<';
-    assert_eq!(rt; ids(rt.alloc(), &signs)?.len(), 0);
     Ok(())
 }
 
@@ -114,32 +98,31 @@ fn hash_of(id: &MsgId) -> u64 {
     hasher.finish()
 }
 
+// left and right sides, and whether the id is that of the sides `a` and `b`
+const SIDES: [(&[u8], &[u8], bool); 3] = [
+    (b"a", b"b", true),
+    (b"A", b"b", false),
+    (b"ab", b"", false),
+];
+
 #[test]
 fn ids_are_equal_where_both_sides_are(rt: HostRuntime) -> Result<(), Fail> {
     let first = id(rt.alloc(), b"a", b"b")?;
-    let second = id(rt.alloc(), b"a", b"b")?;
-    let other = id(rt.alloc(), b"A", b"b")?;
-    let moved = id(rt.alloc(), b"ab", b"")?;
-    assert!(rt; first == second);
-    assert!(rt; first != other);
-    assert!(rt; first != moved);
-    Ok(())
-}
-
-#[test]
-fn equal_ids_hash_alike(rt: HostRuntime) -> Result<(), Fail> {
-    let first = id(rt.alloc(), b"a", b"b")?;
-    let second = id(rt.alloc(), b"a", b"b")?;
-    assert_eq!(rt; hash_of(&first), hash_of(&second));
+    for (left, right, is_equal) in SIDES {
+        let other = id(rt.alloc(), left, right)?;
+        assert_eq!(rt; first == other, is_equal);
+        assert!(rt; !is_equal || hash_of(&first) == hash_of(&other));
+    }
     Ok(())
 }
 
 #[test]
 fn a_copy_of_an_id_is_equal_to_it(rt: HostRuntime) -> Result<(), Fail> {
-    let id = id(rt.alloc(), b"A", b"b")?;
-    let copy = id.try_copy(rt.alloc())?;
-    assert_eq!(rt; copy.left(), b"A".as_slice());
-    assert_eq!(rt; copy.right(), b"b".as_slice());
+    let copy = id(rt.alloc(), b"A", b"b")?.try_copy(rt.alloc())?;
+    assert_eq!(rt;
+        (copy.left(), copy.right()),
+        (b"A".as_slice(), b"b".as_slice())
+    );
     Ok(())
 }
 
