@@ -2,6 +2,7 @@ use mail_core::Memory;
 use mbox_core::device::{
     Counted, ReadStop, Sink, Source, Tap, WriteFault, read_all, write_bytes, write_two,
 };
+use std::alloc::Global;
 use std::io::{self, ErrorKind, Read, Write};
 use std::test::Fail;
 
@@ -51,82 +52,91 @@ impl Write for Narrow {
     }
 }
 
+/// Whether a sink that holds something and passes so many bytes takes just these of a text.
+fn takes_so_many(alloc: Global, passes: usize) -> Result<bool, Memory> {
+    let mut tap = Tap::new(alloc, b"kept ", passes)?;
+    let answer = write_bytes(&mut tap, TEXT);
+    let passed = passes.min(TEXT.len());
+    Ok(
+        is_stop(answer, passes, TEXT.len())
+            && tap.bytes().len() == 5 + passed
+            && &tap.bytes()[5..] == &TEXT[..passed],
+    )
+}
+
+/// Whether writing `whole` bytes to a device that passes so many ended as it has to.
+fn is_stop(answer: Result<(), WriteFault>, passes: usize, whole: usize) -> bool {
+    match answer {
+        Ok(()) => passes >= whole,
+        Err(fault) => passes < whole && fault.written == passes as u64,
+    }
+}
+
 #[test]
 fn a_sink_that_fails_after_each_number_of_bytes(rt: HostRuntime) -> Result<(), Fail> {
     for passes in 0..TEXT.len() + 2 {
-        let mut tap = Tap::new(rt.alloc(), b"kept ", passes)?;
-        let answer = write_bytes(&mut tap, TEXT);
-        let passed = passes.min(TEXT.len());
-        let expected = if passed < TEXT.len() {
-            Err(WriteFault {
-                written: passed as u64,
-            })
-        } else {
-            Ok(())
-        };
-        assert!(rt; answer == expected, "after {passes}");
-        assert!(rt; tap.bytes().len() == 5 + passed, "after {passes}");
-        assert_eq!(rt; &tap.bytes()[5..], &TEXT[..passed], "after {passes}");
+        assert!(rt; takes_so_many(rt.alloc(), passes)?, "after {passes}");
     }
     Ok(())
+}
+
+/// Whether a sink that passes so many bytes takes just these of two pieces.
+fn takes_two(alloc: Global, passes: usize) -> Result<bool, Memory> {
+    let mut tap = Tap::new(alloc, b"", passes)?;
+    let answer = write_two(&mut tap, b"From ", b"anna\n");
+    Ok(is_stop(answer, passes, 10) && tap.bytes() == &b"From anna\n"[..passes.min(10)])
 }
 
 #[test]
 fn two_pieces_to_a_sink_that_fails_after_each_number_of_bytes(rt: HostRuntime) -> Result<(), Fail> {
     for passes in 0..12 {
-        let mut tap = Tap::new(rt.alloc(), b"", passes)?;
-        let answer = write_two(&mut tap, b"From ", b"anna\n");
-        assert!(rt; answer.is_ok() == (passes >= 10), "after {passes}");
-        if let Err(fault) = answer {
-            assert!(rt; fault.written == passes as u64, "after {passes}");
-        }
-        let passed = passes.min(10);
-        assert_eq!(rt; tap.bytes(), &b"From anna\n"[..passed], "after {passes}");
+        assert!(rt; takes_two(rt.alloc(), passes)?, "after {passes}");
     }
     Ok(())
+}
+
+/// Whether a text is read to its end from a source that passes more bytes than it has, and from no other.
+fn gives_so_many(alloc: Global, passes: usize) -> Result<bool, Memory> {
+    let mut tap = Tap::new(alloc, TEXT, passes)?;
+    let well = match read_all(alloc, &mut tap) {
+        Ok(text) => passes > TEXT.len() && text.as_slice() == TEXT,
+        Err(stop) => passes <= TEXT.len() && stop == ReadStop::Read,
+    };
+    Ok(well && tap.bytes() == TEXT)
 }
 
 #[test]
 fn a_source_that_fails_after_each_number_of_bytes(rt: HostRuntime) -> Result<(), Fail> {
     for passes in 0..TEXT.len() + 3 {
-        let mut tap = Tap::new(rt.alloc(), TEXT, passes)?;
-        let answer = read_all(rt.alloc(), &mut tap);
-        match answer {
-            Ok(text) => {
-                assert!(rt; passes > TEXT.len(), "after {passes}");
-                assert_eq!(rt; text.as_slice(), TEXT);
-            }
-            Err(stop) => {
-                assert!(rt; passes <= TEXT.len(), "after {passes}");
-                assert!(rt; stop == ReadStop::Read, "after {passes}");
-            }
-        }
-        assert_eq!(rt; tap.bytes(), TEXT);
+        assert!(rt; gives_so_many(rt.alloc(), passes)?, "after {passes}");
     }
     Ok(())
+}
+
+/// Whether a device passes no byte and fails just where one is asked for.
+fn passes_none(tap: &mut Tap) -> bool {
+    let mut buffer = [0u8; 4];
+    Source::read(tap, &mut buffer).is_err()
+        && Source::read(tap, &mut []) == Ok(0)
+        && Sink::write(tap, b"c").is_err()
+        && Sink::write(tap, b"") == Ok(0)
+        && write_bytes(tap, b"").is_ok()
 }
 
 #[test]
 fn a_device_that_passes_no_byte_takes_and_gives_nothing(rt: HostRuntime) -> Result<(), Fail> {
     let mut tap = Tap::new(rt.alloc(), b"ab", 0)?;
-    let mut buffer = [0u8; 4];
-    assert!(rt; Source::read(&mut tap, &mut buffer).is_err());
-    assert!(rt; Source::read(&mut tap, &mut []) == Ok(0));
-    assert!(rt; Sink::write(&mut tap, b"c").is_err());
-    assert!(rt; Sink::write(&mut tap, b"") == Ok(0));
-    assert!(rt; write_bytes(&mut tap, b"").is_ok());
-    assert_eq!(rt; tap.bytes(), b"ab".as_slice());
+    let well = passes_none(&mut tap);
+    assert!(rt; well && tap.bytes() == b"ab".as_slice());
     Ok(())
 }
 
 #[test]
 fn a_device_gives_what_was_written_to_it(rt: HostRuntime) -> Result<(), Fail> {
     let mut tap = Tap::new(rt.alloc(), b"ab", 7)?;
-    assert!(rt; write_bytes(&mut tap, b"cd").is_ok());
-    assert_eq!(rt;
-        read_all(rt.alloc(), &mut tap)?.as_slice(),
-        b"abcd".as_slice()
-    );
+    let taken = write_bytes(&mut tap, b"cd").is_ok();
+    let text = read_all(rt.alloc(), &mut tap)?;
+    assert!(rt; taken && text.as_slice() == b"abcd".as_slice());
     Ok(())
 }
 

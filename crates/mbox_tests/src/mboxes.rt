@@ -1,9 +1,10 @@
 //! Mboxes that are cut, written, cut short and refused.
 use crate::plain::first_part;
-use mail_core::Instant;
+use mail_core::lines::line_content;
+use mail_core::{Instant, Memory};
 use mbox_core::device::Tap;
 use mbox_core::{Envelope, Item, MboxFault, Sender, cut, separator, write_item, written_len};
-use std::alloc::Global;
+use std::alloc::{AllocError, Global};
 use std::test::Fail;
 
 /// Two messages; the last line is empty.
@@ -95,58 +96,81 @@ const TEXTS: [(&[u8], &[u8], bool); 6] = [
     ),
 ];
 
+/// Whether an mbox has so many messages, and these are written, and measured, as these bytes.
+fn is_written(alloc: Global, bytes: &[u8], messages: usize, written: &[u8]) -> Result<bool, Fail> {
+    let mut out = Tap::new(alloc, b"", 999)?;
+    let mut count = 0usize;
+    let mut len = 0u64;
+    for item in cut(bytes)? {
+        count = count.saturating_add(1);
+        len = len.saturating_add(written_len(&item));
+        write_item(&mut out, &item)?;
+    }
+    Ok(out.bytes() == written && count == messages && len == written.len() as u64)
+}
+
 #[test]
 fn mboxes_are_cut_and_written(rt: HostRuntime) -> Result<(), Fail> {
-    for (bytes, messages, written) in &MBOXES {
-        let mut out = Tap::new(rt.alloc(), b"", 999)?;
-        let mut count = 0usize;
-        let mut len = 0u64;
-        for item in cut(bytes)? {
-            count = count.saturating_add(1);
-            len = len.saturating_add(written_len(&item));
-            write_item(&mut out, &item)?;
-        }
-        assert_eq!(rt; out.bytes(), *written);
+    for (number, (bytes, messages, written)) in MBOXES.iter().enumerate() {
         assert!(rt;
-            count == *messages && len == written.len() as u64,
-            "{count}, {len}"
+            is_written(rt.alloc(), bytes, *messages, written)?,
+            "mbox {number}"
         );
     }
     Ok(())
 }
 
-#[test]
-fn a_message_has_its_text_and_its_arrival(rt: HostRuntime) -> Result<(), Fail> {
-    for (bytes, text, complete) in &TEXTS {
-        let mut items = cut(bytes)?;
-        let item = items.next().ok_or("no message")?;
-        assert_eq!(rt; item.text, *text);
-        assert!(rt; item.complete == *complete && item.envelope.arrival.seconds() == 1046772000);
-        assert!(rt; items.next().is_none());
-    }
-    Ok(())
+/// Whether an mbox has one message, with this text, which came on 2003-03-04 at 10:00:00.
+fn is_message(bytes: &[u8], text: &[u8], complete: bool) -> bool {
+    let Ok(mut items) = cut(bytes) else {
+        return false;
+    };
+    let Some(item) = items.next() else {
+        return false;
+    };
+    item.text == text
+        && item.complete == complete
+        && item.envelope.arrival.seconds() == 1046772000
+        && items.next().is_none()
 }
 
 #[test]
-fn a_line_before_the_first_separator_line_is_refused(rt: HostRuntime) -> Result<(), Fail> {
+fn a_message_has_its_text_and_its_arrival(rt: HostRuntime) {
+    for (number, (bytes, text, complete)) in TEXTS.iter().enumerate() {
+        assert!(rt; is_message(bytes, text, *complete), "mbox {number}");
+    }
+}
+
+/// Whether an mbox is refused at this offset.
+fn is_refused(bytes: &[u8], offset: u64) -> bool {
+    match cut(bytes) {
+        Ok(_) => false,
+        Err(fault) => fault == MboxFault::Preamble(offset),
+    }
+}
+
+#[test]
+fn a_line_before_the_first_separator_line_is_refused(rt: HostRuntime) {
     let mboxes: [(&[u8], u64); 3] = [
         (b"\nhi\nFrom a@b Tue Mar  4 10:00:00 2003\n", 1),
         (b"hi", 0),
         (b"\r\n\n>From a@b Tue Mar  4 10:00:00 2003\n", 3),
     ];
     for (bytes, offset) in mboxes {
-        assert!(rt;
-            cut(bytes).err() == Some(MboxFault::Preamble(offset)),
-            "at {offset}"
-        );
+        assert!(rt; is_refused(bytes, offset), "at {offset}");
     }
+}
+
+#[test]
+fn faults_are_printed_by_number_and_name(rt: HostRuntime) -> Result<(), Fail> {
     let faults = [
         (MboxFault::Preamble(7), "M1 Preamble at 7"),
         (MboxFault::Read, "M2 Read"),
         (MboxFault::Memory, "M3 Memory"),
     ];
     for (fault, text) in faults {
-        assert_eq!(rt; format!(in rt.alloc(); "{fault}")?.as_str(), text);
+        let printed = format!(in rt.alloc(); "{fault}")?;
+        assert!(rt; printed.as_str() == text, "{text}");
     }
     Ok(())
 }
@@ -172,68 +196,83 @@ fn a_message_may_not_hold_a_separator_line_after_an_empty_line(
     Ok(())
 }
 
+/// Where writing the messages of an mbox stops, counted from the first byte of the first.
+fn stops_at(out: &mut Tap, bytes: &[u8]) -> Result<Option<u64>, MboxFault> {
+    let mut before = 0u64;
+    for item in cut(bytes)? {
+        if let Err(fault) = write_item(out, &item) {
+            return Ok(Some(before.saturating_add(fault.written)));
+        }
+        before = before.saturating_add(written_len(&item));
+    }
+    Ok(None)
+}
+
+/// Whether just so many bytes of two messages go out to a device that passes so many.
+fn two_go_out(alloc: Global, passes: usize) -> Result<bool, Fail> {
+    let mut out = Tap::new(alloc, b"", passes)?;
+    let passed = passes.min(TWO.len());
+    let well = match stops_at(&mut out, TWO)? {
+        Some(at) => passes < TWO.len() && at == passes as u64,
+        None => passes >= TWO.len(),
+    };
+    Ok(well && out.bytes() == &TWO[..passed])
+}
+
 #[test]
 fn a_writer_that_fails_after_each_number_of_bytes(rt: HostRuntime) -> Result<(), Fail> {
     for passes in 0..TWO.len() + 2 {
-        let mut out = Tap::new(rt.alloc(), b"", passes)?;
-        let mut before = 0u64;
-        let mut stopped = None;
-        for item in cut(TWO)? {
-            if let Err(fault) = write_item(&mut out, &item) {
-                stopped = Some(before.saturating_add(fault.written));
-                break;
-            }
-            before = before.saturating_add(written_len(&item));
-        }
-        let passed = passes.min(TWO.len());
-        let expected = if passed < TWO.len() {
-            Some(passed as u64)
-        } else {
-            None
-        };
-        assert!(rt;
-            stopped == expected && out.bytes() == &TWO[..passed],
-            "after {passes}"
-        );
+        assert!(rt; two_go_out(rt.alloc(), passes)?, "after {passes}");
     }
     Ok(())
 }
 
 /// Whether a message goes out as these bytes, to a device that fails after `passes` of them.
-fn goes_out(alloc: Global, item: &Item, whole: &[u8], passes: usize) -> Result<bool, Fail> {
+fn goes_out(alloc: Global, item: &Item, whole: &[u8], passes: usize) -> Result<bool, Memory> {
     let mut out = Tap::new(alloc, b"", passes)?;
-    let expected = if passes < whole.len() {
-        Err(passes as u64)
-    } else {
-        Ok(())
+    let well = match write_item(&mut out, item) {
+        Ok(()) => passes >= whole.len(),
+        Err(fault) => passes < whole.len() && fault.written == passes as u64,
     };
-    let answer = write_item(&mut out, item).map_err(|fault| fault.written);
-    let passed = passes.min(whole.len());
     Ok(
-        answer == expected
-            && out.bytes() == &whole[..passed]
+        well && out.bytes() == &whole[..passes.min(whole.len())]
             && written_len(item) == whole.len() as u64,
     )
+}
+
+/// A message at the last second of 1969 from a sender of so many letters, as it is written.
+fn from_long(alloc: Global, sender: &[u8]) -> Result<Vec<u8>, AllocError> {
+    let mut whole = b"From ".to_vec(alloc)?;
+    whole.extend_from_slice(sender)?;
+    whole.extend_from_slice(b" Wed Dec 31 23:59:59 1969\nhi\n\n")?;
+    Ok(whole)
+}
+
+/// The same message, read from its parts.
+fn item_from<'a>(sender: &'a [u8]) -> Option<Item<'a>> {
+    let envelope = Envelope {
+        sender: Sender::read(sender)?,
+        arrival: Instant::new(-1)?,
+    };
+    Item::new(envelope, b"hi")
+}
+
+/// Whether a message with this sender goes out as far as the device lets it, at each of some places.
+fn long_goes_out(alloc: Global, sender: &[u8]) -> Result<bool, Fail> {
+    let whole = from_long(alloc, sender)?;
+    let item = item_from(sender).ok_or("no item")?;
+    let mut well = true;
+    for passes in [3usize, 5 + sender.len(), 12 + sender.len(), 400] {
+        well = goes_out(alloc, &item, &whole, passes)? && well;
+    }
+    Ok(well)
 }
 
 #[test]
 fn senders_of_every_length_are_written(rt: HostRuntime) -> Result<(), Fail> {
     let long = [b'x'; 300];
     for len in [1usize, 224, 225, 226, 300] {
-        let envelope = Envelope {
-            sender: Sender::read(&long[..len]).ok_or("no sender")?,
-            arrival: Instant::new(-1).ok_or("no instant")?,
-        };
-        let item = Item::new(envelope, b"hi").ok_or("no item")?;
-        let mut whole = b"From ".to_vec(rt.alloc())?;
-        whole.extend_from_slice(&long[..len])?;
-        whole.extend_from_slice(b" Wed Dec 31 23:59:59 1969\nhi\n\n")?;
-        for passes in [3usize, 5 + len, 12 + len, 400] {
-            assert!(rt;
-                goes_out(rt.alloc(), &item, &whole, passes)?,
-                "{len} and {passes}"
-            );
-        }
+        assert!(rt; long_goes_out(rt.alloc(), &long[..len])?, "{len}");
     }
     Ok(())
 }
@@ -270,24 +309,36 @@ const RESTS: [&[u8]; 11] = [
     b"x\n\r",
 ];
 
+/// Whether two envelopes are the same.
+fn is_same(a: &Envelope, b: &Envelope) -> bool {
+    a.sender == b.sender && a.arrival == b.arrival
+}
+
+/// Whether cutting finds the messages that the plain program finds behind the first separator line.
+fn is_found(mbox: &[u8], heading: usize) -> Result<bool, MboxFault> {
+    let (line, mut rest) = mbox.split_at(heading.min(mbox.len()));
+    let mut next = separator(line_content(line));
+    for item in cut(mbox)? {
+        let part = first_part(rest);
+        let Some(envelope) = next else {
+            return Ok(false);
+        };
+        if !is_same(&item.envelope, &envelope) || item.text != part.text {
+            return Ok(false);
+        }
+        next = part.next;
+        rest = part.rest;
+    }
+    Ok(next.is_none())
+}
+
 #[test]
 fn the_search_and_the_plain_program_find_the_same(rt: HostRuntime) -> Result<(), Fail> {
     let heading = b"From x Fri Jan  2 00:00:00 1970\n".as_slice();
-    for bytes in &RESTS {
+    for (number, rest) in RESTS.iter().enumerate() {
         let mut mbox = heading.to_vec(rt.alloc())?;
-        mbox.extend_from_slice(bytes)?;
-        let mut next = separator(&heading[..31]);
-        let mut rest = *bytes;
-        for item in cut(&mbox)? {
-            let envelope = next.take().ok_or("the plain program finds no message")?;
-            assert!(rt; item.envelope.sender == envelope.sender);
-            assert!(rt; item.envelope.arrival == envelope.arrival);
-            let part = first_part(rest);
-            assert_eq!(rt; item.text, part.text);
-            next = part.next;
-            rest = part.rest;
-        }
-        assert!(rt; next.is_none());
+        mbox.extend_from_slice(rest)?;
+        assert!(rt; is_found(&mbox, heading.len())?, "bytes {number}");
     }
     Ok(())
 }

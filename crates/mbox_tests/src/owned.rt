@@ -1,7 +1,24 @@
 //! Messages that own their bytes.
 use mail_core::Instant;
-use mbox_core::{OwnedItem, Sender, cut, written_sender};
+use mbox_core::{Item, OwnedItem, Sender, cut, written_sender};
+use std::alloc::Global;
 use std::test::Fail;
+
+/// Whether two messages are the same.
+fn is_same(a: &Item, b: &Item) -> bool {
+    a.text == b.text
+        && a.complete == b.complete
+        && a.envelope.sender == b.envelope.sender
+        && a.envelope.arrival == b.envelope.arrival
+}
+
+/// Whether a copy of the one message of an mbox is this message, and so complete.
+fn is_copied(alloc: Global, bytes: &[u8], complete: bool) -> Result<bool, Fail> {
+    let item = cut(bytes)?.next().ok_or("no message")?;
+    let owned = OwnedItem::of(alloc, &item)?;
+    let copy = owned.as_item();
+    Ok(copy.complete == complete && is_same(&copy, &item))
+}
 
 #[test]
 fn a_copy_is_the_message(rt: HostRuntime) -> Result<(), Fail> {
@@ -13,16 +30,17 @@ fn a_copy_is_the_message(rt: HostRuntime) -> Result<(), Fail> {
             true,
         ),
     ];
-    for (bytes, complete) in mboxes {
-        let item = cut(bytes)?.next().ok_or("no message")?;
-        let owned = OwnedItem::of(rt.alloc(), &item)?;
-        let copy = owned.as_item();
-        assert_eq!(rt; copy.complete, complete);
-        assert_eq!(rt; copy.text, item.text);
-        assert_eq!(rt; copy.envelope.sender, item.envelope.sender);
-        assert_eq!(rt; copy.envelope.arrival, item.envelope.arrival);
+    for (number, (bytes, complete)) in mboxes.iter().enumerate() {
+        assert!(rt; is_copied(rt.alloc(), bytes, *complete)?, "mbox {number}");
     }
     Ok(())
+}
+
+/// Whether these parts make a message.
+fn is_taken(alloc: Global, sender: &[u8], text: &[u8]) -> Result<bool, Fail> {
+    let arrival = Instant::new(0).ok_or("an instant")?;
+    let sender = sender.to_vec(alloc)?;
+    Ok(OwnedItem::new(sender, arrival, text.to_vec(alloc)?).is_some())
 }
 
 #[test]
@@ -39,11 +57,11 @@ fn what_is_no_message_is_not_taken(rt: HostRuntime) -> Result<(), Fail> {
             false,
         ),
     ];
-    for (sender, text, taken) in parts {
-        let arrival = Instant::new(0).ok_or("an instant")?;
-        let sender = sender.to_vec(rt.alloc())?;
-        let text = text.to_vec(rt.alloc())?;
-        assert_eq!(rt; OwnedItem::new(sender, arrival, text).is_some(), taken);
+    for (number, (sender, text, taken)) in parts.iter().enumerate() {
+        assert!(rt;
+            is_taken(rt.alloc(), sender, text)? == *taken,
+            "parts {number}"
+        );
     }
     Ok(())
 }
@@ -55,7 +73,8 @@ fn a_sender_has_a_written_form(rt: HostRuntime) -> Result<(), Fail> {
         (Sender::At(b"a", b"b"), b"a at b"),
     ];
     for (sender, text) in senders {
-        assert_eq!(rt; written_sender(rt.alloc(), sender)?.as_slice(), text);
+        let written = written_sender(rt.alloc(), sender)?;
+        assert!(rt; written.as_slice() == text);
     }
     Ok(())
 }
