@@ -1,12 +1,8 @@
-//! Which day it is.
+//! The day by the system's clock.
+use archive_run::DayClock;
 use mail_core::{Day, Instant};
 use std::rt::Clock;
 use std::time::{SystemTime, UNIX_EPOCH};
-
-/// Whoever knows which day it is, in UTC. `None`: it does not.
-pub trait DayClock {
-    fn today(&mut self) -> Option<Day>;
-}
 
 /// The system's clock.
 #[derive(Drop)]

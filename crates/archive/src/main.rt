@@ -2,18 +2,10 @@
 #![tactic(auto)]
 
 mod clock;
-mod faults;
-mod orders;
-mod reading;
-mod running;
-mod sifting;
-#[cfg(test)]
-mod tests;
 
+use archive_run::{BAD_WORDS, DONE, REFUSED, Refusal, run, tell};
 use clock::SystemDay;
-use faults::{Refusal, tell};
 use mbox_core::device::{Counted, write_bytes};
-use running::{BAD_WORDS, DONE, REFUSED, run};
 use std::alloc::{AllocError, Global};
 use std::env;
 use std::io::{self, BufWriter, Write};

@@ -1,3 +1,0 @@
-pub mod OrderLemmas
-pub mod SiftLemmas
-pub mod SiftExamples

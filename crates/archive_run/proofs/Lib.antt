@@ -1,0 +1,2 @@
+pub mod SiftLemmas
+pub mod SiftExamples

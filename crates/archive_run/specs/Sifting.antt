@@ -1,0 +1,79 @@
+-- Which messages of an mbox pass, and what is written of them.
+use Rattle.std.specs.Prelude.{◌≡◌, ◌<◌, ◌^◌, ℕ, ℤ, pos, int_le, List, ◌++◌, length, filter, Bool, true, false, ◌&&◌, Option, Some, None}
+use Rattle.mail_core.specs.Calendar.{day_of_instant}
+use Rattle.mbox_core.specs.Division.{Item, Divides}
+use Rattle.mbox_core.specs.Written.{written, IsCutShort}
+use Rattle.policy_core.specs.Facts.{Facts, age}
+use Rattle.policy_core.specs.Rules.{Rule}
+use Rattle.policy_core.specs.Verdict.{Ruling, allowed, denied, verdict_of}
+use Rattle.policy_core.specs.declared.access.Standing.{Standing}
+use Rattle.policy_core.specs.declared.access.Withdrawn.TheVariants.{No}
+use Rattle.mbox_core.specs.declared.faults.MboxFault.TheVariants.{Preamble, Read, Memory}
+use Rattle.archive_run.specs.declared.sifting.SiftFault.{SiftFault}
+use Rattle.archive_run.specs.declared.sifting.SiftFault.TheVariants.{Mbox, Write}
+
+-- what is asked of each message: days are day numbers from 1970-01-01
+pub record Asked : Type 0 where
+  pub list : List ℕ
+  pub standing : Standing
+  pub day : ℤ
+  pub min_age : Option ℕ
+
+-- a message of an mbox is not withdrawn and has no embargo
+abbrev pub facts_of : Asked → Item → Facts
+facts_of asked item = record {
+  list = asked.list;
+  standing = asked.standing;
+  day = asked.day;
+  arrival_day = day_of_instant item.envelope.arrival;
+  withdrawn = No;
+  embargo_until = None;
+}
+
+abbrev pub is_old_enough : Option ℕ → Facts → Bool
+is_old_enough None f = true
+is_old_enough (Some least) f = int_le (pos least) (age f)
+
+abbrev pub is_allowed : Ruling → Bool
+is_allowed (allowed name) = true
+is_allowed (denied name) = false
+
+-- the message is old enough, where an age is asked for, and the policy allows it
+abbrev pub passes : List Rule → Asked → Item → Bool
+passes rules asked item =
+    is_old_enough asked.min_age (facts_of asked item) && is_allowed (verdict_of rules (facts_of asked item))
+
+-- the written text of the messages that pass, in their order
+abbrev pub sifted : List Rule → Asked → List Item → List ℕ
+sifted rules asked items = written (filter (passes rules asked) items)
+
+-- `out` is the written text of those messages of an mbox that pass
+pub record Sifts (rules : List Rule) (asked : Asked) (mbox out : List ℕ) : Type 0 where
+  pub items : List Item
+  pub divided : Divides mbox items
+  pub are_sifted : out ≡ sifted rules asked items
+
+-- Of two devices, what each told before and after: the input gave an mbox, and the output got those of its messages that pass.
+abbrev pub SiftsTold : List Rule → Asked → List ℕ → List ℕ → List ℕ → List ℕ → Type 0
+SiftsTold rules asked in_old in_new out_old out_new =
+    (mbox : List ℕ) × (out : List ℕ) × (in_new ≡ in_old ++ mbox) × (out_new ≡ out_old ++ out) × Sifts rules asked mbox out
+
+-- The same after a fault of the output, to which exactly the first `count` bytes of the text went, where it told fewer than 2^64.
+abbrev pub SiftsPart : List Rule → Asked → List ℕ → List ℕ → List ℕ → List ℕ → ℕ → Type 0
+SiftsPart rules asked in_old in_new out_old out_new count =
+    (mbox : List ℕ) × (out : List ℕ) × (in_new ≡ in_old ++ mbox) × Sifts rules asked mbox out
+    × (length out_new < 2 ^ 64 → IsCutShort out_old out_new out count)
+
+abbrev pub IsMboxFault : SiftFault → Type 0
+IsMboxFault (Mbox fault) = Unit {0}
+IsMboxFault (Write written) = ⊥
+
+abbrev pub OnWrite : SiftFault → (ℕ → Type 0) → Type 0
+OnWrite (Mbox fault) P = Unit {0}
+OnWrite (Write written) P = P written
+
+abbrev pub OnPreamble : SiftFault → (ℕ → Type 0) → Type 0
+OnPreamble (Mbox (Preamble offset)) P = P offset
+OnPreamble (Mbox Read) P = Unit {0}
+OnPreamble (Mbox Memory) P = Unit {0}
+OnPreamble (Write written) P = Unit {0}
