@@ -7,10 +7,9 @@ use std::process::Abort;
 use std::test::Fail;
 
 fn id(alloc: Global, left: &[u8], right: &[u8]) -> Result<MsgId, AllocError> {
-    Ok(MsgId::new(
-        Vec::from_slice(alloc, left)?,
-        Vec::from_slice(alloc, right)?,
-    ))
+    let left = Vec::from_slice(alloc, left)?;
+    let right = Vec::from_slice(alloc, right)?;
+    Ok(MsgId::new(left, right))
 }
 
 fn assert_ids(rt: &impl Abort, found: &[MsgId], wanted: &[(&[u8], &[u8])]) {
@@ -20,7 +19,7 @@ fn assert_ids(rt: &impl Abort, found: &[MsgId], wanted: &[(&[u8], &[u8])]) {
     }
 }
 
-const TEXTS: [(&[u8], &[(&[u8], &[u8])]); 12] = [
+static TEXTS: [(&[u8], &[(&[u8], &[u8])]); 12] = [
     // what stands in comments and quoted strings is passed over
     (
         b" (see <x@y>) <\"a\"@b>\n <c@d>",
@@ -51,7 +50,7 @@ const TEXTS: [(&[u8], &[(&[u8], &[u8])]); 12] = [
 
 #[test]
 fn known_texts_have_their_ids(rt: HostRuntime) -> Result<(), Fail> {
-    for (text, wanted) in TEXTS {
+    for (text, wanted) in &TEXTS {
         let text = unfold(rt.alloc(), text)?;
         assert_ids(&rt, &ids(rt.alloc(), &text)?, wanted);
     }
@@ -61,7 +60,7 @@ fn known_texts_have_their_ids(rt: HostRuntime) -> Result<(), Fail> {
 const ONE_ID: &[(&[u8], &[u8])] = &[(b"a", b"b")];
 
 // parts, each with how often it stands, and the ids of the whole
-const LONG_TEXTS: [(&[(&[u8], usize)], &[(&[u8], &[u8])]); 5] = [
+static LONG_TEXTS: [(&[(&[u8], usize)], &[(&[u8], &[u8])]); 5] = [
     // open comments
     (&[(b"(", 10_000), (b"<a@b>", 1)], ONE_ID),
     // nested ones
@@ -82,9 +81,9 @@ const LONG_TEXTS: [(&[(&[u8], usize)], &[(&[u8], &[u8])]); 5] = [
 
 #[test]
 fn ids_of_long_texts_take_linear_time(rt: HostRuntime) -> Result<(), Fail> {
-    for (parts, wanted) in LONG_TEXTS {
+    for (parts, wanted) in &LONG_TEXTS {
         let mut text = Vec::new(rt.alloc());
-        for (piece, times) in parts {
+        for (piece, times) in *parts {
             text.extend_from_slice(&repeated(rt.alloc(), piece, *times)?)?;
         }
         assert_ids(&rt, &ids(rt.alloc(), &text)?, wanted);
@@ -99,19 +98,34 @@ fn hash_of(id: &MsgId) -> u64 {
 }
 
 // left and right sides, and whether the id is that of the sides `a` and `b`
-const SIDES: [(&[u8], &[u8], bool); 3] = [
+static SIDES: [(&[u8], &[u8], bool); 3] = [
     (b"a", b"b", true),
     (b"A", b"b", false),
     (b"ab", b"", false),
 ];
 
+fn assert_equal(rt: &impl Abort, first: &MsgId, second: &MsgId, is_equal: bool) {
+    assert_eq!(rt; *first == *second, is_equal);
+    assert!(rt; !is_equal || hash_of(first) == hash_of(second));
+}
+
+fn assert_sides(
+    rt: &impl Abort,
+    alloc: Global,
+    first: &MsgId,
+    row: &(&[u8], &[u8], bool),
+) -> Result<(), AllocError> {
+    let (left, right, is_equal) = *row;
+    let second = id(alloc, left, right)?;
+    assert_equal(rt, first, &second, is_equal);
+    Ok(())
+}
+
 #[test]
-fn ids_are_equal_where_both_sides_are(rt: HostRuntime) -> Result<(), Fail> {
+fn ids_are_equal_and_hash_alike_where_both_sides_are_the_same(rt: HostRuntime) -> Result<(), Fail> {
     let first = id(rt.alloc(), b"a", b"b")?;
-    for (left, right, is_equal) in SIDES {
-        let other = id(rt.alloc(), left, right)?;
-        assert_eq!(rt; first == other, is_equal);
-        assert!(rt; !is_equal || hash_of(&first) == hash_of(&other));
+    for row in &SIDES {
+        assert_sides(&rt, rt.alloc(), &first, row)?;
     }
     Ok(())
 }

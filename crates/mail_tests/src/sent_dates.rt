@@ -6,7 +6,7 @@ use std::test::Fail;
 // 2003-03-04 10:00:00
 const ARRIVAL: i64 = 1_046_772_000;
 
-const DATES: [(&[u8], i64); 19] = [
+static DATES: [(&[u8], i64); 19] = [
     (b"Tue, 4 Mar 49 10:00 EST", 2_498_482_800),
     (b"4 Mar 50 10:00:00 GMT", -625_759_200),
     (b"4 Mar 103 9:05 +0000 (CET)", 1_046_768_700),
@@ -31,13 +31,13 @@ const DATES: [(&[u8], i64); 19] = [
 #[test]
 fn known_dates_have_their_instant(rt: HostRuntime) -> Result<(), Fail> {
     let arrival = Instant::new(ARRIVAL).ok_or("no instant")?;
-    for (body, seconds) in DATES {
-        assert_eq!(rt; sent(body, arrival).seconds(), seconds, "of {body:?}");
+    for (body, seconds) in &DATES {
+        assert_eq!(rt; sent(body, arrival).seconds(), *seconds, "of {body:?}");
     }
     Ok(())
 }
 
-const ZONES: [(&[u8], Option<i32>); 19] = [
+static ZONES: [(&[u8], Option<i32>); 19] = [
     (b"+0000", Some(0)),
     (b"-0330", Some(-12_600)),
     (b"+9959", Some(359_940)),
@@ -61,8 +61,8 @@ const ZONES: [(&[u8], Option<i32>); 19] = [
 
 #[test]
 fn known_zones_have_their_offset(rt: HostRuntime) {
-    for (text, offset) in ZONES {
-        assert_eq!(rt; zone(text), offset, "of {text:?}");
+    for (text, offset) in &ZONES {
+        assert_eq!(rt; zone(text), *offset, "of {text:?}");
     }
 }
 

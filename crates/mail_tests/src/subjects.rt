@@ -2,7 +2,7 @@
 use crate::long::repeated;
 use subject_core::{Memory, Text, base};
 
-const SUBJECTS: [(&[u8], &[u8], bool); 28] = [
+static SUBJECTS: [(&[u8], &[u8], bool); 28] = [
     // replies lose their marks
     (b"Re: [soc] Hello (fwd)", b"hello", true),
     (b"Re:", b"", true),
@@ -39,11 +39,11 @@ const SUBJECTS: [(&[u8], &[u8], bool); 28] = [
 
 #[test]
 fn known_subjects_have_their_base(rt: HostRuntime) -> Result<(), Memory> {
-    for (subject, text, reply) in SUBJECTS {
+    for (subject, text, reply) in &SUBJECTS {
         let found = base(rt.alloc(), subject)?;
         assert_eq!(rt;
             (found.text.as_slice(), found.reply),
-            (text, reply),
+            (*text, *reply),
             "{subject:?}"
         );
     }
@@ -51,7 +51,7 @@ fn known_subjects_have_their_base(rt: HostRuntime) -> Result<(), Memory> {
 }
 
 // a piece, how often it stands, what follows once, a piece that follows as often; the base, `None` for the subject itself; a reply
-const LONG_SUBJECTS: [(&[u8], usize, &[u8], &[u8], Option<&[u8]>, bool); 5] = [
+static LONG_SUBJECTS: [(&[u8], usize, &[u8], &[u8], Option<&[u8]>, bool); 5] = [
     (b"[a]", 500_000, b"x", b"", Some(b"x"), false),
     (b"re:", 500_000, b"", b"", Some(b""), true),
     (b"(fwd)", 500_000, b"", b"", Some(b""), true),
@@ -61,15 +61,13 @@ const LONG_SUBJECTS: [(&[u8], usize, &[u8], &[u8], Option<&[u8]>, bool); 5] = [
 
 #[test]
 fn long_subjects_take_linear_time(rt: HostRuntime) -> Result<(), Memory> {
-    for (before, count, middle, behind, text, reply) in LONG_SUBJECTS {
-        let mut subject = repeated(rt.alloc(), before, count)?;
+    for (before, count, middle, behind, text, reply) in &LONG_SUBJECTS {
+        let mut subject = repeated(rt.alloc(), before, *count)?;
         subject.extend_from_slice(middle)?;
-        subject.extend_from_slice(&repeated(rt.alloc(), behind, count)?)?;
+        subject.extend_from_slice(&repeated(rt.alloc(), behind, *count)?)?;
         let found = base(rt.alloc(), &subject)?;
-        assert_eq!(rt;
-            (found.text.as_slice(), found.reply),
-            (text.unwrap_or(&subject), reply)
-        );
+        assert!(rt; found.text.as_slice() == text.unwrap_or(&subject));
+        assert_eq!(rt; found.reply, *reply);
     }
     Ok(())
 }
