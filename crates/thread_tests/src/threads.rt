@@ -2,13 +2,15 @@
 
 ghost use Rattle.std.specs.Prelude.{◌≡◌, ◌<◌};
 
-use thread_core::walk::walked_threads;
-use thread_core::{Entry, Pairs, PlainThreader, References, Row, Steps, Threader, thread_of, threads};
+use crate::walk::walked_threads;
 use mail_core::{Instant, MsgId, Octets};
 use std::alloc::Global;
 use std::marker::Brand;
 use std::sync::ledger::{Blank, Ledger};
 use std::test::Fail;
+use thread_core::{
+    Entry, Pairs, PlainThreader, References, Row, Steps, Threader, thread_of, threads,
+};
 
 /// A message: its own id, if any, its references, its sent date, its base subject and whether it is
 /// a reply. An id is one letter.
@@ -103,66 +105,49 @@ fn threads_of(alloc: Global, mails: &[Mail<'_>]) -> Result<Vec<Row>, Fail> {
     Ok(threads(alloc, &PlainThreader, &entries(alloc, mails)?)?)
 }
 
+/// Whether messages have these threads.
+fn are_threaded(alloc: Global, mails: &[Mail<'_>], want: &[Row]) -> Result<bool, Fail> {
+    Ok(threads_of(alloc, mails)?.as_slice() == want)
+}
+
 #[test]
 fn a_reply_hangs_below_its_parent(rt: HostRuntime) -> Result<(), Fail> {
-    let rows = threads_of(
-        rt.alloc(),
-        &[
-            message(b"a", b"", 0),
-            message(b"b", b"a", 1),
-            message(b"c", b"ab", 2),
-        ],
-    )?;
-    assert_eq!(rt;
-        rows.as_slice(),
-        [row(0, 0), row(1, 1), row(2, 2)].as_slice()
-    );
+    let mails = [
+        message(b"a", b"", 0),
+        message(b"b", b"a", 1),
+        message(b"c", b"ab", 2),
+    ];
+    assert!(rt; are_threaded(rt.alloc(), &mails, &[row(0, 0), row(1, 1), row(2, 2)])?);
     Ok(())
 }
 
 #[test]
 fn a_message_without_references_gives_up_its_parent(rt: HostRuntime) -> Result<(), Fail> {
-    let rows = threads_of(
-        rt.alloc(),
-        &[
-            message(b"a", b"", 0),
-            message(b"", b"ab", 1),
-            message(b"b", b"", 2),
-        ],
-    )?;
-    assert_eq!(rt;
-        rows.as_slice(),
-        [row(0, 0), row(0, 2), row(1, 1)].as_slice()
-    );
-    assert_eq!(rt; thread_of(&rows, 1), Some((1, 3)));
-    assert_eq!(rt; thread_of(&rows, 0), Some((0, 1)));
-    assert_eq!(rt; thread_of(&rows, 7), None);
+    let mails = [
+        message(b"a", b"", 0),
+        message(b"", b"ab", 1),
+        message(b"b", b"", 2),
+    ];
+    let rows = threads_of(rt.alloc(), &mails)?;
+    assert!(rt; rows.as_slice() == [row(0, 0), row(0, 2), row(1, 1)].as_slice());
+    for (place, want) in [(1, Some((1, 3))), (0, Some((0, 1))), (7, None)] {
+        assert!(rt; thread_of(&rows, place) == want);
+    }
     Ok(())
 }
 
 #[test]
 fn rings_are_not_closed(rt: HostRuntime) -> Result<(), Fail> {
-    let two = threads_of(
-        rt.alloc(),
-        &[message(b"a", b"b", 0), message(b"b", b"a", 1)],
-    )?;
-    assert_eq!(rt; two.as_slice(), [row(0, 1), row(1, 0)].as_slice());
-    let three = threads_of(
-        rt.alloc(),
-        &[
-            message(b"a", b"b", 0),
-            message(b"b", b"c", 1),
-            message(b"c", b"a", 2),
-        ],
-    )?;
-    assert_eq!(rt;
-        three.as_slice(),
-        [row(0, 2), row(1, 1), row(2, 0)].as_slice()
-    );
-    let itself = threads_of(rt.alloc(), &[message(b"a", b"aa", 0)])?;
-    assert_eq!(rt; itself.as_slice(), [row(0, 0)].as_slice());
-    let missing = threads_of(rt.alloc(), &[message(b"", b"bcb", 0)])?;
-    assert_eq!(rt; missing.as_slice(), [row(0, 0)].as_slice());
+    let two = [message(b"a", b"b", 0), message(b"b", b"a", 1)];
+    assert!(rt; are_threaded(rt.alloc(), &two, &[row(0, 1), row(1, 0)])?);
+    let three = [
+        message(b"a", b"b", 0),
+        message(b"b", b"c", 1),
+        message(b"c", b"a", 2),
+    ];
+    assert!(rt; are_threaded(rt.alloc(), &three, &[row(0, 2), row(1, 1), row(2, 0)])?);
+    assert!(rt; are_threaded(rt.alloc(), &[message(b"a", b"aa", 0)], &[row(0, 0)])?);
+    assert!(rt; are_threaded(rt.alloc(), &[message(b"", b"bcb", 0)], &[row(0, 0)])?);
     Ok(())
 }
 
@@ -173,106 +158,96 @@ fn the_first_of_equal_ids_owns_it(rt: HostRuntime) -> Result<(), Fail> {
         message(b"i", b"", 1),
         message(b"", b"i", 2),
     ];
-    let rows = threads_of(rt.alloc(), &mails)?;
-    assert_eq!(rt;
-        rows.as_slice(),
-        [row(0, 0), row(1, 2), row(0, 1)].as_slice()
-    );
-    let without_first = threads_of(rt.alloc(), &mails[1..])?;
-    assert_eq!(rt; without_first.as_slice(), [row(0, 0), row(1, 1)].as_slice());
+    assert!(rt; are_threaded(rt.alloc(), &mails, &[row(0, 0), row(1, 2), row(0, 1)])?);
+    assert!(rt; are_threaded(rt.alloc(), &mails[1..], &[row(0, 0), row(1, 1)])?);
     Ok(())
 }
 
 #[test]
 fn replies_to_a_missing_message_share_a_dummy(rt: HostRuntime) -> Result<(), Fail> {
-    let none = threads_of(rt.alloc(), &[])?;
-    assert_eq!(rt; none.len(), 0);
-    let one = threads_of(rt.alloc(), &[message(b"", b"p", 0)])?;
-    assert_eq!(rt; one.as_slice(), [row(0, 0)].as_slice());
-    let two = threads_of(rt.alloc(), &[message(b"", b"p", 0), message(b"", b"p", 1)])?;
-    assert_eq!(rt; two.as_slice(), [dummy(), row(1, 0), row(1, 1)].as_slice());
+    let mails = [message(b"", b"p", 0), message(b"", b"p", 1)];
+    assert!(rt; are_threaded(rt.alloc(), &mails[..0], &[])?);
+    assert!(rt; are_threaded(rt.alloc(), &mails[..1], &[row(0, 0)])?);
+    assert!(rt; are_threaded(rt.alloc(), &mails, &[dummy(), row(1, 0), row(1, 1)])?);
     Ok(())
 }
 
 #[test]
 fn siblings_stand_by_date_and_then_by_place(rt: HostRuntime) -> Result<(), Fail> {
-    let later_first = threads_of(rt.alloc(), &[message(b"", b"", 5), message(b"", b"", 4)])?;
-    assert_eq!(rt; later_first.as_slice(), [row(0, 1), row(0, 0)].as_slice());
-    let equal = threads_of(rt.alloc(), &[message(b"", b"", 5), message(b"", b"", 5)])?;
-    assert_eq!(rt; equal.as_slice(), [row(0, 0), row(0, 1)].as_slice());
-    let children = threads_of(
-        rt.alloc(),
-        &[
-            message(b"a", b"", 9),
-            message(b"", b"a", 3),
-            message(b"", b"a", 2),
-            message(b"", b"a", 3),
-        ],
-    )?;
-    assert_eq!(rt;
-        children.as_slice(),
-        [row(0, 0), row(1, 2), row(1, 1), row(1, 3)].as_slice()
+    for (later, want) in [(4, [row(0, 1), row(0, 0)]), (5, [row(0, 0), row(0, 1)])] {
+        let mails = [message(b"", b"", 5), message(b"", b"", later)];
+        assert!(rt; are_threaded(rt.alloc(), &mails, &want)?);
+    }
+    let children = [
+        message(b"a", b"", 9),
+        message(b"", b"a", 3),
+        message(b"", b"a", 2),
+        message(b"", b"a", 3),
+    ];
+    assert!(rt;
+        are_threaded(
+            rt.alloc(),
+            &children,
+            &[row(0, 0), row(1, 2), row(1, 1), row(1, 3)]
+        )?
     );
     Ok(())
 }
 
 #[test]
-fn one_subject_with_plain_messages_and_replies(rt: HostRuntime) -> Result<(), Fail> {
-    let alloc = rt.alloc();
-    let plain_first = threads_of(
-        alloc,
-        &[plain(b"", 0), reply(b"", 1), plain(b"", 2), reply(b"", 3)],
-    )?;
-    assert_eq!(rt;
-        plain_first.as_slice(),
-        [dummy(), row(1, 0), row(2, 1), row(1, 2), row(1, 3)].as_slice()
-    );
-    let reply_first = threads_of(
-        alloc,
-        &[reply(b"", 0), plain(b"", 1), reply(b"", 2), plain(b"", 3)],
-    )?;
-    assert_eq!(rt;
-        reply_first.as_slice(),
-        [dummy(), row(1, 1), row(2, 0), row(2, 2), row(1, 3)].as_slice()
-    );
-    let replies = threads_of(alloc, &[reply(b"", 0), reply(b"", 1)])?;
-    assert_eq!(rt;
-        replies.as_slice(),
-        [dummy(), row(1, 0), row(1, 1)].as_slice()
-    );
-    let reply_then_plain = threads_of(alloc, &[reply(b"", 0), plain(b"", 1)])?;
-    assert_eq!(rt;
-        reply_then_plain.as_slice(),
-        [row(0, 1), row(1, 0)].as_slice()
-    );
-    let plains = threads_of(alloc, &[plain(b"", 0), plain(b"", 1)])?;
-    assert_eq!(rt;
-        plains.as_slice(),
-        [dummy(), row(1, 0), row(1, 1)].as_slice()
-    );
+fn two_messages_of_one_subject(rt: HostRuntime) -> Result<(), Fail> {
+    for (mails, want) in [
+        (
+            [reply(b"", 0), reply(b"", 1)],
+            [dummy(), row(1, 0), row(1, 1)],
+        ),
+        (
+            [plain(b"", 0), plain(b"", 1)],
+            [dummy(), row(1, 0), row(1, 1)],
+        ),
+    ] {
+        assert!(rt; are_threaded(rt.alloc(), &mails, &want)?);
+    }
+    let reply_then_plain = [reply(b"", 0), plain(b"", 1)];
+    assert!(rt; are_threaded(rt.alloc(), &reply_then_plain, &[row(0, 1), row(1, 0)])?);
     Ok(())
 }
 
 #[test]
-fn one_subject_with_dummies(rt: HostRuntime) -> Result<(), Fail> {
-    let alloc = rt.alloc();
-    let one_dummy = threads_of(alloc, &[plain(b"", 0), reply(b"p", 1), reply(b"p", 2)])?;
-    assert_eq!(rt;
-        one_dummy.as_slice(),
-        [dummy(), row(1, 0), row(1, 1), row(1, 2)].as_slice()
-    );
-    let two_dummies = threads_of(
-        alloc,
-        &[
-            reply(b"p", 0),
-            reply(b"p", 1),
-            reply(b"q", 2),
-            reply(b"q", 3),
-        ],
-    )?;
-    assert_eq!(rt;
-        two_dummies.as_slice(),
-        [dummy(), row(1, 0), row(1, 1), row(1, 2), row(1, 3)].as_slice()
+fn four_messages_of_one_subject(rt: HostRuntime) -> Result<(), Fail> {
+    for (mails, want) in [
+        (
+            [plain(b"", 0), reply(b"", 1), plain(b"", 2), reply(b"", 3)],
+            [dummy(), row(1, 0), row(2, 1), row(1, 2), row(1, 3)],
+        ),
+        (
+            [reply(b"", 0), plain(b"", 1), reply(b"", 2), plain(b"", 3)],
+            [dummy(), row(1, 1), row(2, 0), row(2, 2), row(1, 3)],
+        ),
+        (
+            [
+                reply(b"p", 0),
+                reply(b"p", 1),
+                reply(b"q", 2),
+                reply(b"q", 3),
+            ],
+            [dummy(), row(1, 0), row(1, 1), row(1, 2), row(1, 3)],
+        ),
+    ] {
+        assert!(rt; are_threaded(rt.alloc(), &mails, &want)?);
+    }
+    Ok(())
+}
+
+#[test]
+fn one_subject_with_a_dummy(rt: HostRuntime) -> Result<(), Fail> {
+    let mails = [plain(b"", 0), reply(b"p", 1), reply(b"p", 2)];
+    assert!(rt;
+        are_threaded(
+            rt.alloc(),
+            &mails,
+            &[dummy(), row(1, 0), row(1, 1), row(1, 2)]
+        )?
     );
     Ok(())
 }
@@ -302,9 +277,9 @@ fn rows_over_pairs<L: Ledger>(
 #[test]
 fn rows_are_those_of_the_given_links(rt: HostRuntime) -> Result<(), Fail> {
     let apart = rows_over_pairs::<Brand>(rt.alloc(), Blank::new(1), false)?;
-    assert_eq!(rt; apart.as_slice(), [row(0, 0), row(0, 1)].as_slice());
+    assert!(rt; apart.as_slice() == [row(0, 0), row(0, 1)].as_slice());
     let linked = rows_over_pairs::<Brand>(rt.alloc(), Blank::new(1), true)?;
-    assert_eq!(rt; linked.as_slice(), [row(0, 0), row(1, 1)].as_slice());
+    assert!(rt; linked.as_slice() == [row(0, 0), row(1, 1)].as_slice());
     Ok(())
 }
 
