@@ -1,3 +1,4 @@
+//! Devices that fail after each number of bytes, pass few at once, and are interrupted.
 use mail_core::Memory;
 use mbox_core::device::{
     Counted, ReadStop, Sink, Source, Tap, WriteFault, read_all, write_bytes, write_two,

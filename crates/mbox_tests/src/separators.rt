@@ -98,10 +98,15 @@ fn separator_lines_as_tools_write_them_and_other_lines(rt: HostRuntime) {
     }
 }
 
+/// Whether a text is read as this sender, or as none.
+fn reads_as(text: &[u8], sender: &Option<Sender<'_>>) -> bool {
+    Sender::read(text) == *sender
+}
+
 #[test]
 fn senders_are_read(rt: HostRuntime) {
     for (number, (text, sender)) in SENDERS.iter().enumerate() {
-        assert!(rt; Sender::read(text) == *sender, "text {number}");
+        assert!(rt; reads_as(text, sender), "text {number}");
     }
 }
 
