@@ -279,8 +279,8 @@ fn an_embargo_is_on_before_its_until_day(rt: HostRuntime) {
 }
 
 #[test]
-fn an_age_counts_from_the_arrival_day(rt: HostRuntime) -> Result<(), AllocError> {
-    for (line, reading, want) in [
+fn an_age_counts_from_the_arrival_day(rt: HostRuntime) {
+    for (least, reading, want) in [
         ("age_min = 0", "2003-03-03", Verdict::Denied("default")),
         ("age_min = 0", "2003-03-04", Verdict::Allowed("a")),
         ("age_min = 16", "2003-03-20", Verdict::Allowed("a")),
@@ -290,10 +290,10 @@ fn an_age_counts_from_the_arrival_day(rt: HostRuntime) -> Result<(), AllocError>
             day: day(&rt, reading),
             ..asked(&rt)
         };
-        let policy = policy(&rt, rt.alloc(), with_line(rt.alloc(), line)?.as_str());
-        assert!(rt; policy.verdict(&facts) == want, "{line} on {reading}");
+        let text = with_line(rt.alloc(), least).ok().expect(&rt, "a text");
+        let policy = policy(&rt, rt.alloc(), text.as_str());
+        assert!(rt; policy.verdict(&facts) == want, "{reading}");
     }
-    Ok(())
 }
 
 #[test]
