@@ -16,7 +16,7 @@ const ALIKE: &[u8] =
     b"From a@b Tue Mar  4 10:00:00 2003\n\nFrom here on we sail.\nFrom bob@example.org Wed Mar 12 10:30:00 2003\n\nFrom a b Tue Mar 4 10:00:00 2003\n";
 
 /// Mboxes, the number of their messages, and what these are written as.
-const MBOXES: [(&[u8], usize, &[u8]); 15] = [
+static MBOXES: [(&[u8], usize, &[u8]); 15] = [
     (b"", 0, b""),
     (b"\n\n", 0, b""),
     (b"\r\n\n\r", 0, b""),
@@ -79,7 +79,7 @@ const MBOXES: [(&[u8], usize, &[u8]); 15] = [
 ];
 
 /// Mboxes of one message, its text, and whether that adds no LF.
-const TEXTS: [(&[u8], &[u8], bool); 6] = [
+static TEXTS: [(&[u8], &[u8], bool); 6] = [
     (b"From a@b Tue Mar  4 10:00:00 2003\n\n", b"", true),
     (b"From a@b Tue Mar  4 10:00:00 2003\n", b"", true),
     (b"From a@b Tue Mar  4 10:00:00 2003", b"", true),
@@ -295,7 +295,7 @@ fn a_sender_of_two_tokens_to_a_writer_that_fails(rt: HostRuntime) -> Result<(), 
 }
 
 /// What follows a separator line.
-const RESTS: [&[u8]; 11] = [
+static RESTS: [&[u8]; 11] = [
     TWO,
     ALIKE,
     b"",

@@ -7,7 +7,7 @@ use std::alloc::Global;
 use std::test::Fail;
 
 /// Contents, and the seconds of their arrival, or `None` where they are no separator lines.
-const CONTENTS: [(&[u8], Option<i64>); 46] = [
+static CONTENTS: [(&[u8], Option<i64>); 46] = [
     (
         b"From anna at example.org  Tue Mar  4 10:00:00 2003",
         Some(1046772000),
@@ -66,7 +66,7 @@ const CONTENTS: [(&[u8], Option<i64>); 46] = [
 ];
 
 /// Written forms of senders, and texts that are none.
-const SENDERS: [(&[u8], Option<Sender<'static>>); 18] = [
+static SENDERS: [(&[u8], Option<Sender<'static>>); 18] = [
     (b"a\t@\xffb\r", Some(Sender::One(b"a\t@\xffb\r"))),
     (b"", None),
     (b"a b", None),
@@ -156,18 +156,18 @@ fn compare(alloc: Global, content: &[u8]) -> Result<bool, Fail> {
     }
 }
 
-const FROM: [&[u8]; 6] = [b"a@b", b"a at b", b"at at  at", b"a At b", b"a b", b""];
+static FROM: [&[u8]; 6] = [b"a@b", b"a at b", b"at at  at", b"a At b", b"a b", b""];
 
-const DATES: [&[u8]; 4] = [
+static DATES: [&[u8]; 4] = [
     b"Tue Mar 4 10:00",
     b"sun DEC 31 23:59:60",
     b"Tue Feb 29 00:00:00",
     b"Mar 4 10:00:00",
 ];
 
-const ZONES: [&[u8]; 8] = [b"", b"+0100", b"-9959", b"EST", b"z", b"+0060", b"at", b"1"];
+static ZONES: [&[u8]; 8] = [b"", b"+0100", b"-9959", b"EST", b"z", b"+0060", b"at", b"1"];
 
-const YEARS: [&[u8]; 5] = [b"1899", b"2000", b"9999", b"2003 +0100", b"03"];
+static YEARS: [&[u8]; 5] = [b"1899", b"2000", b"9999", b"2003 +0100", b"03"];
 
 /// How many contents of this sender and date are separator lines, and how many are none.
 fn counted(alloc: Global, sender: &[u8], date: &[u8]) -> Result<(usize, usize), Fail> {
