@@ -23,6 +23,3 @@ pub use reading::Message;
 pub use running::{Command, Outcome, RunStop};
 pub use store::Store;
 pub use words::{Added, Kind, Party};
-
-#[cfg(test)]
-mod tests;

@@ -2,11 +2,14 @@
 #![tactic(auto)]
 
 #[cfg(test)]
+mod adopting;
+#[cfg(test)]
 mod cases;
 #[cfg(test)]
-mod disks;
+mod commands;
 #[cfg(test)]
+mod files;
+#[cfg(test)]
+mod questions;
 #[cfg(test)]
 mod stops;
-#[cfg(test)]
-mod tests;
