@@ -10,3 +10,5 @@ pub mod NumberLemmas
 pub mod MergeLemmas
 pub mod TopThreadLemmas
 pub mod Depth
+pub mod PairLemmas
+pub mod StepOneLemmas
