@@ -12,3 +12,9 @@ pub mod TopThreadLemmas
 pub mod Depth
 pub mod PairLemmas
 pub mod StepOneLemmas
+pub mod Counting
+pub mod Descent
+pub mod Nearest
+pub mod MergeCounts
+pub mod PlacesOnce
+pub mod DeepRows
