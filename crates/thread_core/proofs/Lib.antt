@@ -18,3 +18,5 @@ pub mod Nearest
 pub mod MergeCounts
 pub mod PlacesOnce
 pub mod DeepRows
+pub mod Rising
+pub mod Siblings
