@@ -10,3 +10,13 @@ pub mod NumberLemmas
 pub mod MergeLemmas
 pub mod TopThreadLemmas
 pub mod Depth
+pub mod PairLemmas
+pub mod StepOneLemmas
+pub mod Counting
+pub mod Descent
+pub mod Nearest
+pub mod MergeCounts
+pub mod PlacesOnce
+pub mod DeepRows
+pub mod Rising
+pub mod Siblings

@@ -6,3 +6,5 @@ pub mod Threads
 pub mod TopThread
 pub mod RowLaws
 pub mod Parts
+pub mod PlaceLaws
+pub mod SiblingLaws
