@@ -1,0 +1,308 @@
+//! What each statement does, and what is read of its rows.
+use archive_tables::rows::{GrantRow, MarksRow, read_grant, read_marks, read_message, read_name};
+use archive_tables::texts::{grants, lists, messages, persons, schema};
+use sqlite::{Alter, Connection, Error, ErrorCode};
+use std::process::Abort;
+use std::test::Fail;
+
+const KEY: &str = "5891b5b522d5df086d0ff0b110fbd9d21bb4fc7163af34d08286a2e846f6be03";
+
+const OTHER: &str = "e3b0c44298fc1c149afbf4c8996fb92427ae41e4649b934ca495991b7852b855";
+
+/// A case for a database with nothing in it.
+#[derive(Clone, Copy)]
+enum Case {
+    Versions,
+    Rollback,
+    Lists,
+    Cells,
+    Persons,
+    Grants,
+    Messages,
+    Changes,
+    Marks,
+    Numbers,
+}
+
+const CASES: [Case; 10] = [
+    Case::Versions,
+    Case::Rollback,
+    Case::Lists,
+    Case::Cells,
+    Case::Persons,
+    Case::Grants,
+    Case::Messages,
+    Case::Changes,
+    Case::Marks,
+    Case::Numbers,
+];
+
+#[test]
+fn tables_in_memory(rt: HostRuntime) -> Result<(), Fail> {
+    for case in CASES {
+        let mut conn = Connection::open_in_memory(rt.alloc())?;
+        tell(&rt, &mut conn, case)?;
+    }
+    Ok(())
+}
+
+fn tell<S: Alter>(rt: &impl Abort, conn: &mut Connection<S>, case: Case) -> Result<(), Fail> {
+    match case {
+        Case::Versions => each_version_is_shown(rt, conn),
+        Case::Rollback => a_rollback_leaves_no_table(rt, conn),
+        Case::Lists => lists_come_by_name(rt, conn),
+        Case::Cells => a_row_of_other_cells_is_not_read(rt, conn),
+        Case::Persons => a_token_leads_to_its_person(rt, conn),
+        Case::Grants => a_grant_is_changed_and_removed(rt, conn),
+        Case::Messages => messages_come_in_the_order_of_the_mailbox(rt, conn),
+        Case::Changes => a_message_is_withdrawn_and_held_back(rt, conn),
+        Case::Marks => marks_are_those_of_the_message(rt, conn),
+        Case::Numbers => numbers_reach_a_limit(rt, conn),
+    }
+}
+
+/// Begins a transaction, and makes the tables in it.
+fn begin_tables<S: Alter>(conn: &mut Connection<S>) -> Result<(), Error> {
+    schema::begin(conn)?;
+    schema::create_version(conn)?;
+    schema::create_list(conn)?;
+    schema::create_person(conn)?;
+    schema::create_grant(conn)?;
+    schema::create_message(conn)?;
+    schema::add_version(conn)?;
+    Ok(())
+}
+
+/// Makes the tables, with no rows.
+fn make<S: Alter>(conn: &mut Connection<S>) -> Result<(), Error> {
+    begin_tables(conn)?;
+    schema::commit(conn)?;
+    Ok(())
+}
+
+/// The tables with the list `soc`, the person `anna` and two messages.
+fn fill<S: Alter>(conn: &mut Connection<S>) -> Result<(), Error> {
+    make(conn)?;
+    lists::add_list(conn, "soc")?;
+    persons::add_person(conn, "anna", "0123456789abcdef")?;
+    let sender = b"anna@example.org";
+    messages::add_message(conn, "soc", KEY, sender, 1046772000, b"hello\n")?;
+    messages::add_message(conn, "soc", OTHER, b"-", 0, b"")?;
+    Ok(())
+}
+
+fn is_constraint(outcome: Result<usize, Error>) -> bool {
+    match outcome {
+        Err(Error::SqliteFailure(ErrorCode::ConstraintViolation(_))) => true,
+        _ => false,
+    }
+}
+
+fn each_version_is_shown<S: Alter>(rt: &impl Abort, conn: &mut Connection<S>) -> Result<(), Fail> {
+    make(conn)?;
+    are_versions(rt, conn, &[0])?;
+    conn.execute("INSERT INTO version (number) VALUES (7)", &[])?;
+    are_versions(rt, conn, &[0, 7])
+}
+
+fn are_versions<S: Alter>(
+    rt: &impl Abort,
+    conn: &mut Connection<S>,
+    wanted: &[i64],
+) -> Result<(), Fail> {
+    let rows = schema::versions(conn)?;
+    assert_eq!(rt; rows.len(), wanted.len());
+    for (row, want) in rows.iter().zip(wanted.iter()) {
+        let number: i64 = row.get(0)?;
+        assert_eq!(rt; number, *want);
+    }
+    Ok(())
+}
+
+fn a_rollback_leaves_no_table<S: Alter>(
+    rt: &impl Abort,
+    conn: &mut Connection<S>,
+) -> Result<(), Fail> {
+    begin_tables(conn)?;
+    schema::rollback(conn)?;
+    assert!(rt; lists::has_list(conn, "soc").is_err());
+    make(conn)?;
+    assert!(rt; !lists::has_list(conn, "soc")?);
+    Ok(())
+}
+
+fn lists_come_by_name<S: Alter>(rt: &impl Abort, conn: &mut Connection<S>) -> Result<(), Fail> {
+    make(conn)?;
+    for name in ["soc", "news", "t-1"] {
+        lists::add_list(conn, name)?;
+    }
+    for (name, is_there) in [("news", true), ("new", false)] {
+        assert_eq!(rt; lists::has_list(conn, name)?, is_there, "{name}");
+    }
+    assert!(rt; is_constraint(lists::add_list(conn, "soc")));
+    let rows = lists::list_names(conn)?;
+    assert_eq!(rt; rows.len(), 3);
+    for (row, want) in rows.iter().zip(["news", "soc", "t-1"]) {
+        assert_eq!(rt; read_name(row)?.as_str(), want);
+    }
+    Ok(())
+}
+
+fn a_row_of_other_cells_is_not_read<S: Alter>(
+    rt: &impl Abort,
+    conn: &mut Connection<S>,
+) -> Result<(), Fail> {
+    let cut = conn.query_row("SELECT CAST(x'c3' AS TEXT)", &[])?;
+    assert_eq!(rt; read_name(&cut).err(), Some(Error::Utf8Error(0)));
+    let number = conn.query_row("SELECT 1", &[])?;
+    assert!(rt; read_name(&number).is_err());
+    assert!(rt; read_message(&number).is_err());
+    let fault = read_grant(&number).err();
+    assert_eq!(rt; fault, Some(Error::InvalidColumnIndex(1)));
+    let row = conn.query_row("SELECT 2, NULL", &[])?;
+    assert_eq!(rt; read_marks(&row)?, marks_row(2, None));
+    Ok(())
+}
+
+fn marks_row(withdrawn: i64, embargo: Option<i64>) -> MarksRow {
+    MarksRow { withdrawn, embargo }
+}
+
+fn a_token_leads_to_its_person<S: Alter>(
+    rt: &impl Abort,
+    conn: &mut Connection<S>,
+) -> Result<(), Fail> {
+    fill(conn)?;
+    persons::add_person(conn, "bea", "fedcba9876543210")?;
+    for (name, is_there) in [("bea", true), ("carl", false)] {
+        assert_eq!(rt; persons::has_person(conn, name)?, is_there, "{name}");
+    }
+    for (token, is_there, person) in [
+        ("0123456789abcdef", true, Some("anna")),
+        ("fedcba9876543210", true, Some("bea")),
+        ("bea", false, None),
+        ("none", false, None),
+    ] {
+        assert_eq!(rt; persons::has_token(conn, token)?, is_there, "{token}");
+        let found = persons::person_of_token(conn, token)?;
+        assert_eq!(rt; found.as_deref(), person, "{token}");
+    }
+    let added = persons::add_person(conn, "carl", "fedcba9876543210");
+    assert!(rt; is_constraint(added));
+    Ok(())
+}
+
+fn a_grant_is_changed_and_removed<S: Alter>(
+    rt: &impl Abort,
+    conn: &mut Connection<S>,
+) -> Result<(), Fail> {
+    fill(conn)?;
+    grants::add_grant(conn, "anna", "soc", 1, 10, 20)?;
+    grants::add_grant(conn, "anna", "soc", 3, 5, 6)?;
+    for (rank, is_there) in [(1, true), (2, false), (3, true)] {
+        let found = grants::has_grant(conn, "anna", "soc", rank)?;
+        assert_eq!(rt; found, is_there, "{rank}");
+    }
+    let added = grants::add_grant(conn, "anna", "soc", 3, 7, 8);
+    assert!(rt; is_constraint(added));
+    grants::change_grant(conn, "anna", "soc", 3, 7, 8)?;
+    for rank in [1, 2] {
+        grants::remove_grant(conn, "anna", "soc", rank)?;
+    }
+    let rows = grants::grants_of(conn, "anna", "soc")?;
+    assert_eq!(rt; rows.len(), 1);
+    let want = GrantRow {
+        rank: 3,
+        from_day: 7,
+        until_day: 8,
+    };
+    assert_eq!(rt; read_grant(&rows[0])?, want);
+    Ok(())
+}
+
+fn messages_come_in_the_order_of_the_mailbox<S: Alter>(
+    rt: &impl Abort,
+    conn: &mut Connection<S>,
+) -> Result<(), Fail> {
+    fill(conn)?;
+    lists::add_list(conn, "news")?;
+    messages::add_message(conn, "news", KEY, b"-", 1, b"hello\n")?;
+    for (key, is_there) in [(KEY, true), (OTHER, false)] {
+        let found = messages::has_message(conn, "news", key)?;
+        assert_eq!(rt; found, is_there, "{key}");
+    }
+    let added = messages::add_message(conn, "soc", KEY, b"-", 1, b"");
+    assert!(rt; is_constraint(added));
+    assert_eq!(rt; messages::count_messages(conn, "soc")?, 2);
+    let rows = messages::messages(conn, "soc")?;
+    assert_eq!(rt; rows.len(), 2);
+    let first = read_message(&rows[0])?;
+    assert_eq!(rt; first.key.as_str(), KEY);
+    assert_eq!(rt; first.sender.as_slice(), b"anna@example.org".as_slice());
+    assert_eq!(rt; first.arrival, 1046772000);
+    assert_eq!(rt; first.text.as_slice(), b"hello\n".as_slice());
+    assert_eq!(rt; first.withdrawn, 0);
+    assert_eq!(rt; first.embargo, None);
+    assert_eq!(rt; read_message(&rows[1])?.key.as_str(), OTHER);
+    Ok(())
+}
+
+fn a_message_is_withdrawn_and_held_back<S: Alter>(
+    rt: &impl Abort,
+    conn: &mut Connection<S>,
+) -> Result<(), Fail> {
+    fill(conn)?;
+    messages::set_withdrawn(conn, "soc", OTHER, 2)?;
+    messages::set_embargo(conn, "soc", OTHER, 12131)?;
+    let rows = messages::messages(conn, "soc")?;
+    let first = match rows.first() {
+        Some(row) => read_message(row)?,
+        None => return Err(Fail::from("a message")),
+    };
+    assert_eq!(rt; (first.withdrawn, first.embargo), (0, None));
+    let held = messages::message(conn, "soc", OTHER)?;
+    assert_eq!(rt;
+        held.map(|m| (m.withdrawn, m.embargo)),
+        Some((2, Some(12131)))
+    );
+    messages::set_withdrawn(conn, "soc", OTHER, 0)?;
+    messages::clear_embargo(conn, "soc", OTHER)?;
+    let back = messages::message(conn, "soc", OTHER)?;
+    assert_eq!(rt; back.map(|m| (m.withdrawn, m.embargo)), Some((0, None)));
+    assert!(rt; messages::message(conn, "news", OTHER)?.is_none());
+    let withdrawn = messages::set_withdrawn(conn, "soc", KEY, 3);
+    assert!(rt; is_constraint(withdrawn));
+    Ok(())
+}
+
+fn marks_are_those_of_the_message<S: Alter>(
+    rt: &impl Abort,
+    conn: &mut Connection<S>,
+) -> Result<(), Fail> {
+    fill(conn)?;
+    lists::add_list(conn, "news")?;
+    messages::add_message(conn, "news", KEY, b"-", 1, b"hello\n")?;
+    messages::set_withdrawn(conn, "news", KEY, 1)?;
+    messages::set_embargo(conn, "news", KEY, -25567)?;
+    for (list, key, want) in [
+        ("news", KEY, Some(marks_row(1, Some(-25567)))),
+        ("soc", KEY, Some(marks_row(0, None))),
+        ("news", OTHER, None),
+    ] {
+        assert_eq!(rt; messages::marks(conn, list, key)?, want, "{list}");
+    }
+    Ok(())
+}
+
+fn numbers_reach_a_limit<S: Alter>(rt: &impl Abort, conn: &mut Connection<S>) -> Result<(), Fail> {
+    make(conn)?;
+    assert!(rt; !messages::reaches(conn, 1)?);
+    lists::add_list(conn, "soc")?;
+    for key in [KEY, OTHER] {
+        messages::add_message(conn, "soc", key, b"-", 0, b"")?;
+    }
+    for (limit, is_reached) in [(2, true), (3, false)] {
+        assert_eq!(rt; messages::reaches(conn, limit)?, is_reached, "{limit}");
+    }
+    Ok(())
+}
