@@ -4,3 +4,4 @@ pub mod StepEquations
 pub mod StepLemmas
 pub mod ReadingLemmas
 pub mod RunLemmas
+pub mod BatchLemmas

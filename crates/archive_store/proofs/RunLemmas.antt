@@ -15,7 +15,7 @@ use Rattle.archive_store.specs.declared.running.Command.{Command as Given}
 use Rattle.archive_store.specs.declared.running.Outcome.{Outcome}
 
 -- one command more
-run_archive : (a : Archive) (cs : List Command) (c : Command) → (run a (cs ++ c ∷ [])).archive ≡ (step (run a cs).archive c).0
+pub run_archive : (a : Archive) (cs : List Command) (c : Command) → (run a (cs ++ c ∷ [])).archive ≡ (step (run a cs).archive c).0
 unfolding run
 run_archive a [] c = refl
 run_archive a (d ∷ cs) c = run_archive (step a d).0 cs c

@@ -5,3 +5,4 @@ pub mod Messages
 pub mod Ranks
 pub mod Running
 pub mod Adopting
+pub mod Batches

@@ -3,6 +3,7 @@
 #![tactic(auto)]
 
 mod adopting;
+mod batches;
 mod faults;
 mod grants;
 mod keys;
@@ -17,6 +18,7 @@ mod words;
 
 pub use adopting::AdoptStop;
 pub use archive_machine::Key;
+pub use batches::AddStop;
 pub use faults::StoreFault;
 pub use keys::key_of;
 pub use reading::Message;

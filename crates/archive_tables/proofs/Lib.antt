@@ -12,6 +12,7 @@ pub mod MailboxLemmas
 pub mod UpdateLemmas
 pub mod GrantLemmas
 pub mod MakeLemmas
+pub mod HeldLemmas
 pub mod VersionLemmas
 pub mod ReachLemmas
 pub mod NamesLemmas

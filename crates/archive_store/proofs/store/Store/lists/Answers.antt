@@ -18,11 +18,9 @@ returns-clause-answer g c =
     (λ clean kept. c.in_ok-shown.ensures.found clean kept) in
     λ clean kept.
     let q = one clean kept in
-    let a = archive_of (state g.S.Store c.args.self.now.conn) in (
-      (λ _. (q.kept, q.same)),
-      ends c.read_names.result None _ (λ names. AreListNames a (map string_bytes names.items)) refl
-          (λ found read.
-          let same = read q.fact.1.0 (c.deref.ensures.value ∙ q.fact.1.1) in
-          record { all = subst (λ n. IsPermutation a.lists n) (sym same) q.fact.1.2; in_order = subst (λ n. IsSorted (slice_cmp nat_cmp) n) (sym same) q.fact.1.3 })
-          c.read_names.ensures.read c.read_names.ensures.fault,
-    )
+    let a = archive_of (state g.S.Store c.args.self.now.conn) in
+    ends c.read_names.result None _ (λ names. AreListNames a (map string_bytes names.items)) (q.kept, q.same) (λ _. (q.kept, q.same)) refl
+    (λ found read.
+    let same = read q.fact.1.0 (c.deref.ensures.value ∙ q.fact.1.1) in
+    record { all = subst (λ n. IsPermutation a.lists n) (sym same) q.fact.1.2; in_order = subst (λ n. IsSorted (slice_cmp nat_cmp) n) (sym same) q.fact.1.3 })
+    c.read_names.ensures.read c.read_names.ensures.fault

@@ -21,9 +21,7 @@ returns-in_ok-read_or_fail-in-Some-clause-answer g c =
     λ clean kept.
     let q = two clean kept in
     let a = archive_of (state g.S.Store c.args.self.now.conn) in (
-      (λ _. (q.kept, q.same)),
-      (
-        is_there list a q.fact.0.1,
-        ap Some (c.in_ok-read_or_fail-in-Some.ensures.read list) ∙ q.fact.1 ∙ ap (remembered a list) c.as_str.ensures,
-      ),
+      (q.kept, q.same),
+      is_there list a q.fact.0.1,
+      ap Some (c.in_ok-read_or_fail-in-Some.ensures.read list) ∙ q.fact.1 ∙ ap (remembered a list) c.as_str.ensures,
     )

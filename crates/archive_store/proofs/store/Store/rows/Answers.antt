@@ -20,8 +20,6 @@ returns-clause-answer g c =
     (λ clean kept. c.in_ok-shown.ensures.found clean kept) in
     λ clean kept.
     let q = two clean kept in
-    let a = archive_of (state g.S.Store c.args.self.now.conn) in (
-      (λ _. (q.kept, q.same)),
-      ends c.read_rows.result _ _ (λ found. map (message_of list) found.items ≡ messages_in a list) (is_there list a q.fact.0.1)
-          (λ found read. read list (messages_in a list) (c.deref.ensures.value ∙ q.fact.1) (are_of list a)) c.read_rows.ensures.read c.read_rows.ensures.fault,
-    )
+    let a = archive_of (state g.S.Store c.args.self.now.conn) in
+    ends c.read_rows.result _ _ (λ found. map (message_of list) found.items ≡ messages_in a list) (q.kept, q.same) (λ _. (q.kept, q.same)) (is_there list a q.fact.0.1)
+    (λ found read. read list (messages_in a list) (c.deref.ensures.value ∙ q.fact.1) (are_of list a)) c.read_rows.ensures.read c.read_rows.ensures.fault
