@@ -5,3 +5,4 @@ pub mod StepLemmas
 pub mod ReadingLemmas
 pub mod RunLemmas
 pub mod BatchLemmas
+pub mod Joins

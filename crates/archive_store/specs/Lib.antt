@@ -6,3 +6,4 @@ pub mod Ranks
 pub mod Running
 pub mod Adopting
 pub mod Batches
+pub mod Told

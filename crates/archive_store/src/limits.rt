@@ -1,11 +1,11 @@
 //! Adding a message, under a limit of messages that a list may hold.
-ghost use Rattle.std.specs.Prelude.{◌≡◌, ◌<◌, false, nat_lt, nat_le, length, IfOk, MatchOption};
+ghost use Rattle.std.specs.Prelude.{◌≡◌, ◌<◌, false, nat_lt, nat_le, length, IfOk, IfErr, MatchOption, None};
 ghost use Rattle.mbox_core.specs.Division.{whole};
 ghost use Rattle.archive_machine.specs.Questions.{messages_in};
 ghost use Rattle.archive_machine.specs.Machine.{added_within};
 ghost use Rattle.archive_tables.specs.Calls.{Finds, Leaves, IsUp, WasClean};
 ghost use Rattle.archive_store.specs.Held.{held_of};
-ghost use Rattle.archive_store.specs.Replies.{Does, TakesIn, says_added};
+ghost use Rattle.archive_store.specs.Replies.{Does, TakesIn, says_added, refusal};
 ghost use Rattle.archive_store.specs.Batches.{TakesInOver};
 
 use crate::faults::StoreFault;
@@ -100,6 +100,7 @@ pub(crate) fn take_in<S: Alter>(
 ) -> Result<(), StoreFault>
     ensures taken { TakesIn S.Store conn.old conn.new result list.now key.now item.now }
     ensures held { TakesInOver S.Store conn.old conn.new result list.now key.now item.now }
+    ensures fault { IfErr result (λ fault. refusal fault ≡ None) }
     ensures clean { WasClean S.Store conn.old conn.new }
 {
     let sender = sender_of(alloc, item)?;
