@@ -14,6 +14,7 @@ use Rattle.sqlite.proofs.Callers.{IsPlain, command_of, runs_as}
 use Rattle.sqlite_tied.specs.Compute.{everything}
 use Rattle.archive_tables.specs.Schema.{archive_schema}
 use Rattle.archive_tables.specs.Tables.{IsHeld, IsKept, archive_in}
+use Rattle.archive_tables.specs.Making.{IsBackTo, IsStopped}
 use Rattle.archive_tables.specs.Calls.{StaysOver, RestsOver, Rests, IsBackAt, IsHeldOrBack}
 use Rattle.archive_tables.proofs.RunLemmas.{execute_fails, rests, goes_back, kept_at}
 use Rattle.archive_tables.proofs.MakeLemmas.{begin_text, commit_text, commit_is, commit_plain, rollback_text, undoes}
@@ -118,3 +119,31 @@ leaves_over db old new r k h up = elim (k (was_open old new r h up)) [
   | inl held ↦ from_held db old new r held h up
   | inr back ↦ from_back db old new r back h up
 ]
+
+-- ---- the same of any database
+
+from_within : (before : Database) (old new : State) (r : Result ℕ Error) → old.committed ≡ before → old.in_transaction ≡ true → Executes rollback_text [] old new r → IsBackTo new before
+from_within before old new (Ok count) behind within h up =
+    let it = undoes old new count h up in
+    (it.1 ∙ behind, it.2 ∙ behind, it.3)
+from_within before old new (Err e) behind within h up =
+    let back = ends old new e within h in
+    ((back.undone up).0 ∙ behind, (back.undone up).1 ∙ behind, back.autocommit)
+
+from_outside : (before : Database) (old new : State) (r : Result ℕ Error) → old.committed ≡ before → old.now ≡ before → old.in_transaction ≡ false
+    → Executes rollback_text [] old new r → IsBackTo new before
+from_outside before old new (Ok count) behind now mode h up =
+    let it = undoes old new count h up in
+    (it.1 ∙ behind, it.2 ∙ behind, it.3)
+from_outside before old new (Err e) behind now mode h up = elim (execute_fails old new rollback_text [] e h) [
+  | inl same ↦ (same.0.now_is ∙ now, same.0.committed_is ∙ behind, same.0.mode ∙ mode)
+  | inr undone ↦ ((undone.undone up).0 ∙ behind, (undone.undone up).1 ∙ behind, undone.autocommit)
+]
+
+pub goes_back_to : (before : Database) (old new : State) (r : Result ℕ Error) → IsStopped old before → Executes rollback_text [] old new r → IsBackTo new before
+goes_back_to before old new r stopped h up =
+    let k = stopped (was_open old new r h up) in
+    elim k.1 [
+      | inl within ↦ from_within before old new r k.0 within h up
+      | inr back ↦ from_outside before old new r k.0 back.0 back.1 h up
+    ]

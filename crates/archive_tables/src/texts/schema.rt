@@ -7,7 +7,7 @@ ghost use Rattle.sqlite.specs.Held.{state};
 ghost use Rattle.archive_tables.specs.Schema.{no_schema, with_version, with_list, with_person, with_grant, archive_schema};
 ghost use Rattle.archive_tables.specs.Tables.{IsHeld, IsKept, IsOfArchive, archive_of};
 ghost use Rattle.archive_tables.specs.Rows.{versions_shown};
-ghost use Rattle.archive_tables.specs.Making.{IsMaking, IsMade, Stops, empty_archive};
+ghost use Rattle.archive_tables.specs.Making.{IsMaking, IsMade, Stops, IsBackTo, IsStopped, empty_archive};
 ghost use Rattle.archive_tables.specs.Calls.{StaysOver, RestsOver, Rests, IsBackAt, IsHeldOrBack, Finds, Leaves, IsUp, WasClean};
 
 use sqlite::{Alter, Connection, Error, Row};
@@ -111,6 +111,7 @@ pub fn rollback<S: Alter>(conn: &mut Connection<S>) -> Result<usize, Error>
         × ((state S.Store conn.new).in_transaction ≡ false)) }
     ensures left { HasCleanDisk (state S.Store conn.new) → (db : _) → IsHeldOrBack db (state S.Store conn.old)
         → IsTrue (state S.Store conn.new).is_open → IsBackAt db (state S.Store conn.new) }
+    ensures back { HasCleanDisk (state S.Store conn.new) → (before : _) → IsStopped (state S.Store conn.old) before → IsBackTo (state S.Store conn.new) before }
     ensures stopped { Stops S.Store conn.old conn.new result }
     ensures clean { WasClean S.Store conn.old conn.new }
 {
@@ -122,6 +123,7 @@ pub fn versions<S: Alter>(conn: &mut Connection<S>) -> Result<Vec<Row>, Error>
     ensures found { Finds S.Store conn.old conn.new result (λ _ rows. rows.items ≡ (Int (pos 0) ∷ []) ∷ []) }
     ensures numbers { HasCleanDisk (state S.Store conn.new) → IsOfArchive (state S.Store conn.old) →
         IfOk result (λ rows. IsPermutation (versions_shown (state S.Store conn.old).now.trees) rows.items) }
+    ensures left { HasCleanDisk (state S.Store conn.new) → IsOfArchive (state S.Store conn.old) → IsBackTo (state S.Store conn.new) (state S.Store conn.old).now }
     ensures same { Leaves S.Store conn.old conn.new }
     ensures up { IsUp S.Store conn.old conn.new result }
     ensures clean { WasClean S.Store conn.old conn.new }
