@@ -6,3 +6,4 @@ pub mod ReadingLemmas
 pub mod RunLemmas
 pub mod BatchLemmas
 pub mod Joins
+pub mod ReopenLemmas

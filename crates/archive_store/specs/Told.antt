@@ -1,7 +1,7 @@
 -- The words in which the layers above speak of a store: they name neither its tables nor its database.
 use Rattle.std.specs.Prelude.{◌≡◌, IsTrue, Option, None, Some, Result, MatchResult, MatchOption}
 use Rattle.sqlite.specs.Store.{Ghosts}
-use Rattle.sqlite.specs.Held.{state}
+use Rattle.sqlite.specs.Held.{Held, state}
 use Rattle.sqlite.specs.State.{HasCleanDisk}
 use Rattle.archive_machine.specs.Records.{Archive}
 use Rattle.archive_tables.specs.Tables.{IsKept, archive_of}
@@ -9,6 +9,10 @@ use Rattle.archive_store.specs.Held.{held_of}
 use Rattle.archive_store.specs.declared.store.Store.{Store}
 
 module _ {S : Type 0} (g : Ghosts S) where
+  -- a connection is open outside a transaction, and its tables are an archive's and hold this one
+  abbrev pub HoldsArchive : Held S → Archive → Type 0
+  HoldsArchive connection archive = IsKept (state g connection) × (archive_of (state g connection) ≡ archive)
+
   -- The premise on a store: it is open, outside a transaction, and its tables are as the calls of a store leave them.
   abbrev pub IsReady : Store S → Type 0
   IsReady store = IsKept (state g (held_of store))

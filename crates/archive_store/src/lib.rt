@@ -7,6 +7,7 @@ mod batches;
 mod faults;
 mod grants;
 mod keys;
+pub mod laws;
 pub mod limits;
 mod messages;
 mod persons;

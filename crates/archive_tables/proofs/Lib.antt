@@ -18,3 +18,4 @@ pub mod ReachLemmas
 pub mod NamesLemmas
 pub mod ReadLemmas
 pub mod TableExamples
+pub mod WalkLemmas

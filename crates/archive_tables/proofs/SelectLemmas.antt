@@ -107,7 +107,7 @@ text_flips a b = sym (is_eq-slice_cmp a b) ∙ ap is_eq (sym (value_cmp-Text a b
 pub equal_words : (a b : List ℕ) → bytes_eq a b ≡ true → a ≡ b
 equal_words a b same = (bytes_eq-Decides a b).0 same
 
-tie_is : (a b : ℤ) → is_eq (int_cmp a b) ≡ int_eq a b
+pub tie_is : (a b : ℤ) → is_eq (int_cmp a b) ≡ int_eq a b
 tie_is a b = grind (arith, ints, nat_tests)
 
 pub int_is : (a b : ℤ) → is_true (binary (Compare Eq Binary) (Int a) (Int b)) ≡ int_eq a b

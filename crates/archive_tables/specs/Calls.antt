@@ -2,6 +2,7 @@
 use Rattle.std.specs.Prelude.{◌≡◌, ◌⊎◌, IsTrue, Option, Some, None, Result, IfOk, OnOk, OnErr, MatchResult}
 use Rattle.sqlite.specs.declared.error.Error.{Error}
 use Rattle.sqlite.specs.Effect.{Database}
+use Rattle.sqlite.specs.Tree.{Trees}
 use Rattle.sqlite.specs.Store.{Ghosts}
 use Rattle.sqlite.specs.Held.{Held, state}
 use Rattle.sqlite.specs.State.{State, HasCleanDisk}
@@ -72,6 +73,13 @@ module _ {S : Type 0} (g : Ghosts S) (old new : Held S) where
   AsksOver result Says =
       HasCleanDisk (state g new) → (behind : Option Database) → IsHeld behind (state g old)
       → MatchResult result (λ a. Says (archive_of (state g old)) a × StaysOver behind (state g old) (state g new))
+      (λ _. RestsOver behind (state g old) (state g new))
+
+  -- A question on the rows themselves, which it leaves: what it says of them holds until the next write.
+  abbrev pub AsksRows : {A : Type 0} → Result A Error → (Trees → A → Type 0) → Type 0
+  AsksRows result Says =
+      HasCleanDisk (state g new) → (behind : Option Database) → IsHeld behind (state g old)
+      → MatchResult result (λ a. Says (state g old).now.trees a × ((state g new).now ≡ (state g old).now) × IsHeld behind (state g new))
       (λ _. RestsOver behind (state g old) (state g new))
 
   -- a disk that has returned what was written so far had done so before
