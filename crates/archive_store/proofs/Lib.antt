@@ -6,4 +6,5 @@ pub mod ReadingLemmas
 pub mod RunLemmas
 pub mod BatchLemmas
 pub mod Joins
+mod JoinExamples
 pub mod ReopenLemmas
