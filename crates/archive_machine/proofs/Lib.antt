@@ -6,3 +6,5 @@ pub mod NameLemmas
 pub mod RunLemmas
 pub mod SoundLemmas
 pub mod TokenLemmas
+pub mod WordLemmas
+pub mod OrderLemmas

@@ -151,8 +151,8 @@ changes_apart a list key change same apart =
 
 pub names : EachChangeKeeps HasNamesApart (λ _. ⊤)
 names = record {
-  lists = with_list;
-  persons = with_person;
+  lists = λ a name named. with_list a name;
+  persons = λ a p named told. with_person a p;
   grants = λ a g apart. with_grants a _ apart (grants_apart a g apart.grants);
   revokes = λ a person list rank apart.
       with_grants a _ apart (apart_filter grant_name (λ g. not (is_grant person list rank g)) a.grants apart.grants);

@@ -15,8 +15,8 @@ use Rattle.archive_machine.specs.Runs.{run}
 
 -- each change that a command can make keeps P, where Q holds of the command
 pub record EachChangeKeeps (P : Archive → Type 0) (Q : Command → Type 0) : Type 0 where
-  pub lists : (a : Archive) (name : List ℕ) → has_list a name ≡ false → P a → P (record a { lists = a.lists ++ name ∷ [] })
-  pub persons : (a : Archive) (p : Person) → has_person a p.name ≡ false → has_token a p.token ≡ false → P a
+  pub lists : (a : Archive) (name : List ℕ) → is_name name ≡ true → has_list a name ≡ false → P a → P (record a { lists = a.lists ++ name ∷ [] })
+  pub persons : (a : Archive) (p : Person) → is_name p.name ≡ true → is_token p.token ≡ true → has_person a p.name ≡ false → has_token a p.token ≡ false → P a
       → P (record a { persons = a.persons ++ p ∷ [] })
   pub grants : (a : Archive) (g : Grant) → P a → P (record a { grants = with_grant a g })
   pub revokes : (a : Archive) (person list : List ℕ) (rank : ℤ) → P a
@@ -26,6 +26,10 @@ pub record EachChangeKeeps (P : Archive → Type 0) (Q : Command → Type 0) : T
   pub withdrawals : (a : Archive) (list key : List ℕ) (party : ℤ) → P a → P (with_change a list key (withdrawn_by party))
   pub embargoes : (a : Archive) (list key : List ℕ) (until : Option ℤ) → P a → P (with_change a list key (embargoed until))
 
+is_so : (b : Bool) → not b ≡ false → b ≡ true
+is_so true h = refl
+is_so false h = absurd cc
+
 module _ (P : Archive → Type 0) (Q : Command → Type 0) (kept : EachChangeKeeps P Q) where
   -- an answer that changes nothing, or else another outcome
   unless : (a : Archive) → P a → (b : Bool) (reply : Reply) (other : Outcome) → (b ≡ false → P other.0) → P (if b then (a, reply) else other).0
@@ -34,11 +38,11 @@ module _ (P : Archive → Type 0) (Q : Command → Type 0) (kept : EachChangeKee
 
   pub kept_by_steps : (a : Archive) (command : Command) → Q command → P a → P (step a command).0
   kept_by_steps a (list_add name) q p =
-      unless a p (not (is_name name)) _ _ (λ _. unless a p (has_list a name) _ _ (λ new. kept.lists a name new p))
+      unless a p (not (is_name name)) _ _ (λ named. unless a p (has_list a name) _ _ (λ new. kept.lists a name (is_so (is_name name) named) new p))
   kept_by_steps a (person_add name token) q p =
-      unless a p (not (is_name name)) _ _ (λ _. unless a p (not (is_token token)) _ _ (λ _.
+      unless a p (not (is_name name)) _ _ (λ named. unless a p (not (is_token token)) _ _ (λ told.
       unless a p (has_person a name) _ _ (λ new. unless a p (has_token a token) _ _ (λ free.
-      kept.persons a (record { name = name; token = token }) new free p))))
+      kept.persons a (record { name = name; token = token }) (is_so (is_name name) named) (is_so (is_token token) told) new free p))))
   kept_by_steps a (grant person list rank from_day until_day) q p =
       let g : Grant = record { person = person; list = list; rank = rank; from_day = from_day; until_day = until_day } in
       unless a p (not (has_person a person)) _ _ (λ _. unless a p (not (has_list a list)) _ _ (λ _.

@@ -58,8 +58,8 @@ embargo_is_sound until m sound = record { complete = sound.complete; item = soun
 
 pub soundness : EachChangeKeeps IsSound AddsItem
 soundness = record {
-  lists = λ a name new sound. sound;
-  persons = λ a p new free sound. sound;
+  lists = λ a name named new sound. sound;
+  persons = λ a p named told new free sound. sound;
   grants = λ a g sound. sound;
   revokes = λ a person list rank sound. sound;
   messages = λ a list item is new sound. All-push IsSoundMessage a.messages (new_message list item) sound (new_is_sound list item is);

@@ -6,3 +6,4 @@ pub mod Questions
 pub mod Machine
 pub mod Runs
 pub mod Sound
+pub mod Messages

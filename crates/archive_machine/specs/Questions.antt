@@ -2,7 +2,7 @@
 use Rattle.std.specs.Prelude.{if◌then◌else◌, ℕ, ℤ, pos, int_le, List, [], ◌∷◌, map, filter, find, bytes_eq, Bool, false, not, ◌&&◌, Option, Some, None, is_some, option_map, IsSorted, IsPermutation}
 use Rattle.std.specs.List.{list_any}
 use Rattle.std.specs.Int.{int_max}
-use Rattle.std.specs.Ordering.{int_eq, nat_cmp}
+use Rattle.std.specs.Ordering.{int_eq, is_lt, nat_cmp}
 use Rattle.std.specs.Cmp.Lexicographic.{slice_cmp}
 use Rattle.archive_machine.specs.Records.{Grant, Message, Archive}
 use Rattle.archive_machine.specs.Commands.{Refusal, no_list, no_person}
@@ -12,7 +12,20 @@ use Rattle.archive_machine.specs.Commands.{Refusal, no_list, no_person}
 abbrev pub has_list : Archive → List ℕ → Bool
 has_list archive name = list_any (λ known. bytes_eq known name) archive.lists
 
+-- a name at its place among names that are in the order of their bytes
+abbrev pub with_name : List ℕ → List (List ℕ) → List (List ℕ)
+with_name name [] = name ∷ []
+with_name name (other ∷ names) = if is_lt (slice_cmp nat_cmp other name) then other ∷ with_name name names else name ∷ other ∷ names
+
+abbrev pub in_byte_order : List (List ℕ) → List (List ℕ)
+in_byte_order [] = []
+in_byte_order (name ∷ names) = with_name name (in_byte_order names)
+
 -- the names of all lists, in the order of their bytes
+abbrev pub list_names : Archive → List (List ℕ)
+list_names archive = in_byte_order archive.lists
+
+-- what they are, whatever puts them in order
 pub record AreListNames (archive : Archive) (names : List (List ℕ)) : Type 0 where
   pub all : IsPermutation archive.lists names
   pub in_order : IsSorted (slice_cmp nat_cmp) names

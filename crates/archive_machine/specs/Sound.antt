@@ -1,10 +1,12 @@
 -- Archives that only commands have made.
 use Rattle.std.specs.Prelude.{◌≡◌, ◌≢◌, ℕ, ℤ, List, true, ⊤}
 use Rattle.std.specs.List.{All, AllPairs}
+use Rattle.policy_core.specs.Names.{is_name}
 use Rattle.mbox_core.specs.Division.{Item, is_whole}
 use Rattle.mbox_core.specs.Written.{IsItem}
 use Rattle.archive_machine.specs.Records.{Grant, Message, Archive}
 use Rattle.archive_machine.specs.Commands.{Command, add}
+use Rattle.archive_machine.specs.Tokens.{is_token}
 use Rattle.archive_machine.specs.Keys.{key_of}
 
 -- what is written of a message: its sender, its arrival and its text
@@ -46,3 +48,9 @@ pub record HasNamesApart (archive : Archive) : Type 0 where
   pub tokens : AreApart (λ person. person.token) archive.persons
   pub grants : AreApart grant_name archive.grants
   pub messages : AreApart message_name archive.messages
+
+-- lists and persons have names, and persons have tokens
+pub record HasNamesAndTokens (archive : Archive) : Type 0 where
+  pub lists : All (λ list. is_name list ≡ true) archive.lists
+  pub persons : All (λ person. is_name person.name ≡ true) archive.persons
+  pub tokens : All (λ person. is_token person.token ≡ true) archive.persons

@@ -1,11 +1,12 @@
 //! Laws of the machine: each contract is a law over the definitions of `specs/` alone, and no call does anything.
-ghost use Rattle.std.specs.Prelude.{◌≡◌, List, ◌++◌};
+ghost use Rattle.std.specs.Prelude.{◌≡◌, ℕ, List, ◌++◌};
 ghost use Rattle.std.specs.List.{All};
 ghost use Rattle.archive_machine.specs.Records.{Archive};
 ghost use Rattle.archive_machine.specs.Commands.{Command, Refusal, refused};
 ghost use Rattle.archive_machine.specs.Machine.{step};
 ghost use Rattle.archive_machine.specs.Runs.{run};
-ghost use Rattle.archive_machine.specs.Sound.{AddsItem, IsSound, HasNamesApart};
+ghost use Rattle.archive_machine.specs.Questions.{AreListNames, list_names};
+ghost use Rattle.archive_machine.specs.Sound.{AddsItem, IsSound, HasNamesApart, HasNamesAndTokens};
 
 /// A command that is refused leaves the archive as it was.
 pub fn a_refusal_changes_nothing()
@@ -30,4 +31,17 @@ pub fn commands_follow_one_another()
 pub fn names_stay_apart()
     ensures step { (a : Archive) (command : Command) → HasNamesApart a → HasNamesApart (step a command).0 }
     ensures run { (a : Archive) (commands : List Command) → HasNamesApart a → HasNamesApart (run a commands).archive }
+{}
+
+/// Where lists and persons have names and persons have tokens, the same holds after a command, and after any number of
+/// them.
+pub fn names_and_tokens_are_such()
+    ensures step { (a : Archive) (command : Command) → HasNamesAndTokens a → HasNamesAndTokens (step a command).0 }
+    ensures run { (a : Archive) (commands : List Command) → HasNamesAndTokens a → HasNamesAndTokens (run a commands).archive }
+{}
+
+/// The names of all lists are these names and in the order of their bytes, and no other order of them is.
+pub fn list_names_are_in_order()
+    ensures are { (a : Archive) → AreListNames a (list_names a) }
+    ensures alone { (a : Archive) (names : List (List ℕ)) → AreListNames a names → names ≡ list_names a }
 {}

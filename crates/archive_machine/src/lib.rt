@@ -4,7 +4,9 @@
 
 mod keys;
 pub mod laws;
+mod messages;
 mod tokens;
 
 pub use keys::Key;
+pub use messages::Message;
 pub use tokens::is_token;

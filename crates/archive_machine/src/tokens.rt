@@ -2,12 +2,11 @@
 ghost use Rattle.std.specs.Prelude.{◌≡◌};
 ghost use Rattle.archive_machine.specs.Tokens.{is_token, is_b64token, is_padded, is_padding, is_token_byte};
 
-/// Whether a text is a token: 16 to 64 bytes, of which one or more are letters, digits or one of `-._~+/`, and what
-/// follows them is `=` alone (RFC 6750, 2.1).
-pub fn is_token(text: &str) -> bool
-    ensures { result ≡ is_token text.now }
+/// Whether some bytes are a token: 16 to 64 of them, of which one or more are letters, digits or one of `-._~+/`, and what
+/// follows those is `=` alone (RFC 6750, 2.1).
+pub fn is_token(bytes: &[u8]) -> bool
+    ensures { result ≡ is_token bytes.now }
 {
-    let bytes = text.as_bytes();
     16 <= bytes.len() && bytes.len() <= 64 && is_b64token(bytes)
 }
 

@@ -1,5 +1,5 @@
 -- What a database holds that is taken over, or is left.
-use Rattle.std.proofs.Common.{◌≡◌, pos, ◌<◌, ◌≤◌, List, [], ◌∷◌, length, get_or, map, refl, ap, sym, ◌∙◌, subst, arith, ◌⊎◌, inl, inr, Result, Ok, Err, OnErr}
+use Rattle.std.proofs.Common.{◌≡◌, true, pos, ◌<◌, ◌≤◌, List, [], ◌∷◌, length, get_or, map, refl, ap, sym, ◌∙◌, subst, arith, ◌⊎◌, inl, inr, Result, Ok, Err, OnErr}
 use Rattle.std.specs.List.Sorted.{IsPermutation}
 use Rattle.sqlite.specs.declared.types.Value.TheVariants.{Int}
 use Rattle.sqlite.specs.Order.{Row, column}
@@ -9,7 +9,7 @@ use Rattle.sqlite.specs.State.{State, IsUnchanged, IsRolledBack}
 use Rattle.sqlite.proofs.Callers.{one_permutation}
 use Rattle.std.proofs.lemmas.List.Sorted.{IsPermutation-sym}
 use Rattle.archive_tables.specs.Tables.{IsVersion0}
-use Rattle.archive_tables.specs.Making.{IsUndone}
+use Rattle.archive_tables.specs.Making.{IsUndone, IsIdle, IsBackTo, IsStopped}
 use Rattle.archive_tables.specs.Rows.{versions_shown}
 
 -- one row alone that shows 0
@@ -36,6 +36,16 @@ shows_version_0 trees rows row same some few is zero =
 pub undone_by : (old new : State) (before : Database) → old.committed ≡ before → IsUnchanged old new ⊎ IsRolledBack old new → IsUndone new before
 undone_by old new before behind (inl same) up = same.0.committed_is ∙ behind
 undone_by old new before behind (inr back) up = (back.undone up).1 ∙ behind
+
+-- within a transaction it leaves that, or ends it
+pub stopped_by : (old new : State) (before : Database) → old.committed ≡ before → old.in_transaction ≡ true → IsUnchanged old new ⊎ IsRolledBack old new → IsStopped new before
+stopped_by old new before behind within (inl same) up = (same.0.committed_is ∙ behind, inl (same.0.mode ∙ within))
+stopped_by old new before behind within (inr back) up = ((back.undone up).1 ∙ behind, inr ((back.undone up).0 ∙ behind, back.autocommit))
+
+-- outside a transaction it changes nothing
+pub back_by : (old new : State) → IsIdle old → IsUnchanged old new ⊎ IsRolledBack old new → IsBackTo new old.now
+back_by old new idle (inl same) up = (same.0.now_is, same.0.committed_is ∙ idle.settled, same.0.mode ∙ idle.autocommit)
+back_by old new idle (inr back) up = ((back.undone up).0 ∙ idle.settled, (back.undone up).1 ∙ idle.settled, back.autocommit)
 
 pub on_err : {A E : Type 0} (r : Result A E) (P : Type 0) → P → OnErr r P
 on_err (Ok a) P p = tt

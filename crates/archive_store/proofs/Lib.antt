@@ -4,3 +4,7 @@ pub mod StepEquations
 pub mod StepLemmas
 pub mod ReadingLemmas
 pub mod RunLemmas
+pub mod BatchLemmas
+pub mod Joins
+mod JoinExamples
+pub mod ReopenLemmas

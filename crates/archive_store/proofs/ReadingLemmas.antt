@@ -87,8 +87,8 @@ are_of list a = filter_passes (λ m. bytes_eq m.list list) a.messages
 
 -- ---- the answer of a question whose last part fails for memory or the database alone
 
-pub ends : {A : Type 0} (r : Result A StoreFault) (refuses : Option Refusal) (P Q : A → Type 0) → refuses ≡ None → ((x : A) → P x → Q x)
+pub ends : {A X Y : Type 0} (r : Result A StoreFault) (refuses : Option Refusal) (P Q : A → Type 0) → X → Y → refuses ≡ None → ((x : A) → P x → Q x)
     → IfOk r P → IfErr r (λ fault. refusal fault ≡ None)
-    → MatchResult r (λ x. (refuses ≡ None) × Q x) (λ fault. MatchOption (refusal fault) ⊤ (λ refused. refuses ≡ Some refused))
-ends (Ok x) refuses P Q e weaker ok err = (e, weaker x ok)
-ends (Err fault) refuses P Q e weaker ok err = rw err tt
+    → MatchResult r (λ x. X × (refuses ≡ None) × Q x) (λ fault. MatchOption (refusal fault) Y (λ refused. X × (refuses ≡ Some refused)))
+ends (Ok x) refuses P Q stays rests e weaker ok err = (stays, e, weaker x ok)
+ends (Err fault) refuses P Q stays rests e weaker ok err = rw err rests

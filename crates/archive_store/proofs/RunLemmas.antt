@@ -15,12 +15,12 @@ use Rattle.archive_store.specs.declared.running.Command.{Command as Given}
 use Rattle.archive_store.specs.declared.running.Outcome.{Outcome}
 
 -- one command more
-run_archive : (a : Archive) (cs : List Command) (c : Command) → (run a (cs ++ c ∷ [])).archive ≡ (step (run a cs).archive c).0
+pub run_archive : (a : Archive) (cs : List Command) (c : Command) → (run a (cs ++ c ∷ [])).archive ≡ (step (run a cs).archive c).0
 unfolding run
 run_archive a [] c = refl
 run_archive a (d ∷ cs) c = run_archive (step a d).0 cs c
 
-run_replies : (a : Archive) (cs : List Command) (c : Command) → (run a (cs ++ c ∷ [])).replies ≡ (run a cs).replies ++ (step (run a cs).archive c).1 ∷ []
+pub run_replies : (a : Archive) (cs : List Command) (c : Command) → (run a (cs ++ c ∷ [])).replies ≡ (run a cs).replies ++ (step (run a cs).archive c).1 ∷ []
 unfolding run
 run_replies a [] c = refl
 run_replies a (d ∷ cs) c = ap (λ rs. (step a d).1 ∷ rs) (run_replies (step a d).0 cs c)

@@ -12,3 +12,7 @@ pub record HasAsManyObjects (schema : Schema) : Type 0 where
 -- an empty database, or one with as many objects as an archive has
 abbrev pub MayBeTaken : Schema → Type 0
 MayBeTaken schema = (schema ≡ no_schema) ⊎ HasAsManyObjects schema
+
+-- a database that adopting understands: an empty one, or one of the archive's tables, whatever their rows are
+abbrev pub IsUnderstood : Schema → Type 0
+IsUnderstood schema = (schema ≡ no_schema) ⊎ (schema ≡ archive_schema)

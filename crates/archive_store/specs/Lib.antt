@@ -5,3 +5,5 @@ pub mod Messages
 pub mod Ranks
 pub mod Running
 pub mod Adopting
+pub mod Batches
+pub mod Told

@@ -77,11 +77,14 @@ module _ {S : Type 0} (g : Ghosts S) (old new : Held S) where
       → Changes (state g old) (state g new) (λ a. record a { messages = a.messages ++ keyed_message list key item ∷ [] }))
       (λ fault. (refusal fault ≡ None) × Rests (state g old) (state g new))
 
+  -- the tables are kept, and hold what they held
+  abbrev pub Stays : Type 0
+  Stays = IsKept (state g new) × (archive_of (state g new) ≡ archive_of (state g old))
+
   -- A question that is refused where this says so, and is else answered by a value of which this holds. It leaves the
-  -- tables as they were.
+  -- tables as they were; where memory or the database was at fault, if the connection is still open.
   abbrev pub Answers : {A : Type 0} → Result A StoreFault → (Archive → Option Refusal) → (Archive → A → Type 0) → Type 0
   Answers result refuses Says = HasCleanDisk (state g new) → IsKept (state g old) →
-      Rests (state g old) (state g new)
-      × MatchResult result
-      (λ a. (refuses (archive_of (state g old)) ≡ None) × Says (archive_of (state g old)) a)
-      (λ fault. MatchOption (refusal fault) ⊤ (λ r. refuses (archive_of (state g old)) ≡ Some r))
+      MatchResult result
+      (λ a. Stays × (refuses (archive_of (state g old)) ≡ None) × Says (archive_of (state g old)) a)
+      (λ fault. MatchOption (refusal fault) (Rests (state g old) (state g new)) (λ r. Stays × (refuses (archive_of (state g old)) ≡ Some r)))

@@ -1,13 +1,13 @@
 //! Taking a connection over.
-ghost use Rattle.std.specs.Prelude.{◌≡◌, ◌↔◌, None, IfOk, IfErr, OnOk, OnErr, IsTrue};
+ghost use Rattle.std.specs.Prelude.{◌≡◌, ◌↔◌, None, IfOk, IfErr, OnOk, OnErr, IsTrue, MatchResult};
 ghost use Rattle.sqlite.specs.Held.{state};
 ghost use Rattle.sqlite.specs.State.{HasCleanDisk};
 ghost use Rattle.sqlite.specs.Steps.{over_memory};
 ghost use Rattle.archive_tables.specs.Schema.{no_schema, with_person, archive_schema};
 ghost use Rattle.archive_tables.specs.Tables.{IsKept, IsOfArchive, IsVersion0, archive_of};
 ghost use Rattle.archive_tables.specs.Calls.{Rests, Leaves, IsUp, WasClean};
-ghost use Rattle.archive_tables.specs.Making.{IsMaking, IsMade, IsUndone, empty_archive};
-ghost use Rattle.archive_store.specs.Adopting.{HasAsManyObjects, MayBeTaken};
+ghost use Rattle.archive_tables.specs.Making.{IsMaking, IsMade, IsUndone, IsIdle, IsBackTo, IsStopped, empty_archive};
+ghost use Rattle.archive_store.specs.Adopting.{HasAsManyObjects, MayBeTaken, IsUnderstood};
 ghost use Rattle.archive_store.specs.Held.{held_of};
 ghost use Rattle.archive_store.specs.Replies.{refusal};
 
@@ -59,7 +59,12 @@ impl<S: Alter> Store<S> {
             → IsVersion0 (state S.Store connection).now.trees) }
         ensures undone { IfErr result (λ stop. HasCleanDisk (state S.Store stop.connection) → (state S.Store connection).now.schema ≡ no_schema
             → IsUndone (state S.Store stop.connection) (state S.Store connection).committed) }
+        ensures as_before { IfErr result (λ stop. HasCleanDisk (state S.Store stop.connection) → IsIdle (state S.Store connection) → IsUnderstood (state S.Store connection).now.schema
+            → IsBackTo (state S.Store stop.connection) (state S.Store connection).now) }
+        ensures foreign { IfErr result (λ stop. ¬ MayBeTaken (state S.Store connection).now.schema → stop.connection ≡ connection) }
         ensures fault { IfErr result (λ stop. refusal stop.fault ≡ None) }
+        ensures clean { MatchResult result (λ store. HasCleanDisk (state S.Store (held_of store)) → HasCleanDisk (state S.Store connection))
+            (λ stop. HasCleanDisk (state S.Store stop.connection) → HasCleanDisk (state S.Store connection)) }
     {
         let mut conn = connection;
         let done = if has_nothing(&conn) {
@@ -100,7 +105,9 @@ fn find_version<S: Alter>(conn: &mut Connection<S>) -> Result<(), StoreFault>
     ensures same { Leaves S.Store conn.old conn.new }
     ensures up { HasCleanDisk (state S.Store conn.new) → IsKept (state S.Store conn.old) → OnOk result (IsTrue (state S.Store conn.new).is_open) }
     ensures version { HasCleanDisk (state S.Store conn.new) → IsOfArchive (state S.Store conn.old) → OnOk result (IsVersion0 (state S.Store conn.old).now.trees) }
+    ensures back { HasCleanDisk (state S.Store conn.new) → IsOfArchive (state S.Store conn.old) → IsBackTo (state S.Store conn.new) (state S.Store conn.old).now }
     ensures fault { IfErr result (λ fault. refusal fault ≡ None) }
+    ensures clean { WasClean S.Store conn.old conn.new }
 {
     let rows = texts::schema::versions(conn)?;
     let [row] = rows.as_slice() else {
@@ -119,7 +126,10 @@ fn make_tables<S: Alter>(conn: &mut Connection<S>) -> Result<(), StoreFault>
         → OnOk result (IsKept (state S.Store conn.new) × (archive_of (state S.Store conn.new) ≡ empty_archive)) }
     ensures undone { HasCleanDisk (state S.Store conn.new) → (state S.Store conn.old).now.schema ≡ no_schema
         → OnErr result (IsUndone (state S.Store conn.new) (state S.Store conn.old).committed) }
+    ensures back { HasCleanDisk (state S.Store conn.new) → (state S.Store conn.old).now.schema ≡ no_schema → IsIdle (state S.Store conn.old)
+        → OnErr result (IsBackTo (state S.Store conn.new) (state S.Store conn.old).now) }
     ensures fault { IfErr result (λ fault. refusal fault ≡ None) }
+    ensures clean { WasClean S.Store conn.old conn.new }
 {
     texts::schema::begin(conn)?;
     if let Err(error) = fill(conn) {
@@ -135,6 +145,8 @@ fn fill<S: Alter>(conn: &mut Connection<S>) -> Result<(), Error>
         → OnOk result (IsKept (state S.Store conn.new) × (archive_of (state S.Store conn.new) ≡ empty_archive)) }
     ensures undone { HasCleanDisk (state S.Store conn.new) → (before : _) → IsMaking (state S.Store conn.old) no_schema before
         → OnErr result (IsUndone (state S.Store conn.new) before) }
+    ensures stopped { HasCleanDisk (state S.Store conn.new) → (before : _) → IsMaking (state S.Store conn.old) no_schema before
+        → OnErr result (IsStopped (state S.Store conn.new) before) }
     ensures clean { WasClean S.Store conn.old conn.new }
 {
     make_first(conn)?;
@@ -148,6 +160,8 @@ fn make_first<S: Alter>(conn: &mut Connection<S>) -> Result<(), Error>
         → OnOk result (IsMaking (state S.Store conn.new) with_person before) }
     ensures undone { HasCleanDisk (state S.Store conn.new) → (before : _) → IsMaking (state S.Store conn.old) no_schema before
         → OnErr result (IsUndone (state S.Store conn.new) before) }
+    ensures stopped { HasCleanDisk (state S.Store conn.new) → (before : _) → IsMaking (state S.Store conn.old) no_schema before
+        → OnErr result (IsStopped (state S.Store conn.new) before) }
     ensures clean { WasClean S.Store conn.old conn.new }
 {
     texts::schema::create_version(conn)?;
@@ -161,6 +175,8 @@ fn make_last<S: Alter>(conn: &mut Connection<S>) -> Result<(), Error>
         → OnOk result (IsMade (state S.Store conn.new) before) }
     ensures undone { HasCleanDisk (state S.Store conn.new) → (before : _) → IsMaking (state S.Store conn.old) with_person before
         → OnErr result (IsUndone (state S.Store conn.new) before) }
+    ensures stopped { HasCleanDisk (state S.Store conn.new) → (before : _) → IsMaking (state S.Store conn.old) with_person before
+        → OnErr result (IsStopped (state S.Store conn.new) before) }
     ensures clean { WasClean S.Store conn.old conn.new }
 {
     texts::schema::create_grant(conn)?;

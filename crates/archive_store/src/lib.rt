@@ -3,9 +3,11 @@
 #![tactic(auto)]
 
 mod adopting;
+mod batches;
 mod faults;
 mod grants;
 mod keys;
+pub mod laws;
 pub mod limits;
 mod messages;
 mod persons;
@@ -16,10 +18,10 @@ mod store;
 mod words;
 
 pub use adopting::AdoptStop;
-pub use archive_machine::Key;
+pub use archive_machine::{Key, Message};
+pub use batches::{AddStop, Report};
 pub use faults::StoreFault;
 pub use keys::key_of;
-pub use reading::Message;
 pub use running::{Command, Outcome, RunStop};
 pub use store::Store;
 pub use words::{Added, Kind, Party};

@@ -1,11 +1,12 @@
 //! Adding a message, under a limit of messages that a list may hold.
-ghost use Rattle.std.specs.Prelude.{◌≡◌, ◌<◌, false, nat_lt, nat_le, length, IfOk, MatchOption};
+ghost use Rattle.std.specs.Prelude.{◌≡◌, ◌<◌, false, nat_lt, nat_le, length, IfOk, IfErr, MatchOption, None};
 ghost use Rattle.mbox_core.specs.Division.{whole};
 ghost use Rattle.archive_machine.specs.Questions.{messages_in};
 ghost use Rattle.archive_machine.specs.Machine.{added_within};
 ghost use Rattle.archive_tables.specs.Calls.{Finds, Leaves, IsUp, WasClean};
 ghost use Rattle.archive_store.specs.Held.{held_of};
-ghost use Rattle.archive_store.specs.Replies.{Does, TakesIn, says_added};
+ghost use Rattle.archive_store.specs.Replies.{Does, TakesIn, says_added, refusal};
+ghost use Rattle.archive_store.specs.Batches.{TakesInOver};
 
 use crate::faults::StoreFault;
 use crate::store::Store;
@@ -51,7 +52,7 @@ pub fn add_limited<S: Alter>(
 }
 
 /// Whether the whole text of a message is too long to be taken in.
-fn is_too_large(item: &Item<'_>) -> bool
+pub(crate) fn is_too_large(item: &Item<'_>) -> bool
     ensures { result ≡ nat_lt 4194304 (length (whole item.now.text)) }
 {
     if item.complete {
@@ -90,7 +91,7 @@ fn may_be_full<S: Alter>(conn: &mut Connection<S>, limit: u32) -> Result<bool, E
 }
 
 /// Writes a message down after the others.
-fn take_in<S: Alter>(
+pub(crate) fn take_in<S: Alter>(
     conn: &mut Connection<S>,
     alloc: Global,
     list: &str,
@@ -98,6 +99,8 @@ fn take_in<S: Alter>(
     item: &Item<'_>,
 ) -> Result<(), StoreFault>
     ensures taken { TakesIn S.Store conn.old conn.new result list.now key.now item.now }
+    ensures held { TakesInOver S.Store conn.old conn.new result list.now key.now item.now }
+    ensures fault { IfErr result (λ fault. refusal fault ≡ None) }
     ensures clean { WasClean S.Store conn.old conn.new }
 {
     let sender = sender_of(alloc, item)?;

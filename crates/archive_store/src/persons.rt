@@ -1,7 +1,9 @@
 //! Commands on lists and persons.
+ghost use Rattle.std.specs.Prelude.{◌≡◌};
+ghost use Rattle.archive_machine.specs.Tokens.{is_token};
+
 use crate::faults::StoreFault;
 use crate::store::Store;
-use archive_machine::is_token;
 use archive_tables::texts;
 use policy_core::is_name;
 use sqlite::Alter;
@@ -48,4 +50,10 @@ impl<S: Alter> Store<S> {
         texts::persons::add_person(&mut self.conn, name, token)?;
         Ok(())
     }
+}
+
+fn is_token(text: &str) -> bool
+    ensures { result ≡ is_token text.now }
+{
+    archive_machine::is_token(text.as_bytes())
 }

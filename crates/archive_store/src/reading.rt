@@ -3,12 +3,13 @@ ghost use Rattle.std.specs.Prelude.{◌≡◌, ◌≢◌, ℕ, List, map, string
 ghost use Rattle.mail_core.specs.Calendar.{is_day};
 ghost use Rattle.archive_machine.specs.Records.{Message as Remembered};
 ghost use Rattle.archive_tables.specs.Rows.{name_shown, message_in, message_shown};
-ghost use Rattle.archive_store.specs.Messages.{message_of, number_of, AreOf, IsReadable};
+ghost use Rattle.archive_machine.specs.Messages.{remembered, number_of};
+ghost use Rattle.archive_store.specs.Messages.{AreOf, IsReadable};
 ghost use Rattle.archive_store.specs.Replies.{refusal};
 
 use crate::faults::StoreFault;
 use crate::store::Store;
-use archive_machine::Key;
+use archive_machine::{Key, Message};
 use archive_tables::rows::{MessageRow, read_message, read_name};
 use archive_tables::texts;
 use mail_core::{Day, Instant};
@@ -17,28 +18,26 @@ use policy_core::Withdrawn;
 use sqlite::{Alter, Row};
 use std::alloc::Global;
 
-/// A message of a list. Its item's text is the whole text.
-#[derive(Drop)]
-pub struct Message {
-    pub key: Key,
-    pub item: OwnedItem,
-    pub withdrawn: Withdrawn,
-    /// The day up to which it is held back.
-    pub embargo_until: Option<Day>,
-}
-
 impl<S: Alter> Store<S> {
     ghost use Rattle.std.specs.Prelude.{◌≡◌, None, map, option_map, string_bytes};
-    ghost use Rattle.archive_machine.specs.Questions.{AreListNames, list_refusal, messages_in, message_of as remembered};
+    ghost use Rattle.archive_machine.specs.Questions.{has_list, list_names, list_refusal, messages_in, message_of};
     ghost use Rattle.archive_tables.specs.Calls.{WasClean};
     ghost use Rattle.archive_store.specs.Held.{held_of};
     ghost use Rattle.archive_store.specs.Replies.{Answers};
-    ghost use Rattle.archive_store.specs.Messages.{message_of};
+    ghost use Rattle.archive_machine.specs.Messages.{remembered};
+
+    /// Whether there is a list of this name.
+    pub fn has_list(&mut self, name: &str) -> Result<bool, StoreFault>
+        ensures answer { Answers S.Store (held_of self.old) (held_of self.new) result (λ _. None) (λ a found. found ≡ has_list a name.now) }
+        ensures clean { WasClean S.Store (held_of self.old) (held_of self.new) }
+    {
+        Ok(texts::lists::has_list(&mut self.conn, name)?)
+    }
 
     /// The names of all lists, in the order of their bytes.
     pub fn lists(&mut self, alloc: Global) -> Result<Vec<String>, StoreFault>
         ensures answer { Answers S.Store (held_of self.old) (held_of self.new) result (λ _. None)
-            (λ a names. AreListNames a (map string_bytes names.items)) }
+            (λ a names. map string_bytes names.items ≡ list_names a) }
         ensures clean { WasClean S.Store (held_of self.old) (held_of self.new) }
     {
         let shown = texts::lists::list_names(&mut self.conn)?;
@@ -48,7 +47,7 @@ impl<S: Alter> Store<S> {
     /// The messages of a list in mailbox order. E4 where there is no such list.
     pub fn rows(&mut self, alloc: Global, list: &str) -> Result<Vec<Message>, StoreFault>
         ensures answer { Answers S.Store (held_of self.old) (held_of self.new) result (λ a. list_refusal a list.now)
-            (λ a found. map (message_of list.now) found.items ≡ messages_in a list.now) }
+            (λ a found. map (remembered list.now) found.items ≡ messages_in a list.now) }
         ensures clean { WasClean S.Store (held_of self.old) (held_of self.new) }
     {
         if !texts::lists::has_list(&mut self.conn, list)? {
@@ -61,7 +60,7 @@ impl<S: Alter> Store<S> {
     /// The message of a list with a key, if the list holds it. E4 where there is no such list.
     pub fn row(&mut self, list: &str, key: &Key) -> Result<Option<Message>, StoreFault>
         ensures answer { Answers S.Store (held_of self.old) (held_of self.new) result (λ a. list_refusal a list.now)
-            (λ a found. option_map (message_of list.now) found ≡ remembered a list.now key.now) }
+            (λ a found. option_map (remembered list.now) found ≡ message_of a list.now key.now) }
         ensures clean { WasClean S.Store (held_of self.old) (held_of self.new) }
     {
         if !texts::lists::has_list(&mut self.conn, list)? {
@@ -90,7 +89,7 @@ fn read_names(alloc: Global, rows: &[Row]) -> Result<Vec<String>, StoreFault>
 /// The messages that rows show.
 fn read_rows(alloc: Global, rows: &[Row]) -> Result<Vec<Message>, StoreFault>
     ensures read { IfOk result (λ found. (list : List ℕ) (shown : List Remembered) → rows.now ≡ map message_shown shown → AreOf list shown
-        → map (message_of list) found.items ≡ shown) }
+        → map (remembered list) found.items ≡ shown) }
     ensures fault { IfErr result (λ fault. refusal fault ≡ None) }
 {
     let mut found = Vec::with_capacity(alloc, rows.len())?;
@@ -103,7 +102,7 @@ fn read_rows(alloc: Global, rows: &[Row]) -> Result<Vec<Message>, StoreFault>
 
 /// E15 where a row is of no message.
 fn read_or_fail(row: MessageRow) -> Result<Message, StoreFault>
-    ensures read { IfOk result (λ message. (list : List ℕ) → message_of list message ≡ message_in list row) }
+    ensures read { IfOk result (λ message. (list : List ℕ) → remembered list message ≡ message_in list row) }
     ensures unread { IfErr result (λ _. (list : List ℕ) → ¬ IsReadable (message_in list row)) }
     ensures fault { IfErr result (λ fault. refusal fault ≡ None) }
 {
@@ -115,7 +114,7 @@ fn read_or_fail(row: MessageRow) -> Result<Message, StoreFault>
 
 /// The message of a row. `None` where the row is of none.
 fn read(row: MessageRow) -> Option<Message>
-    ensures some { IfSome result (λ message. (list : List ℕ) → message_of list message ≡ message_in list row) }
+    ensures some { IfSome result (λ message. (list : List ℕ) → remembered list message ≡ message_in list row) }
     ensures none { IfNone result ((list : List ℕ) → ¬ IsReadable (message_in list row)) }
 {
     let key = Key::read(&row.key)?;

@@ -12,8 +12,10 @@ pub mod MailboxLemmas
 pub mod UpdateLemmas
 pub mod GrantLemmas
 pub mod MakeLemmas
+pub mod HeldLemmas
 pub mod VersionLemmas
 pub mod ReachLemmas
 pub mod NamesLemmas
 pub mod ReadLemmas
 pub mod TableExamples
+pub mod WalkLemmas

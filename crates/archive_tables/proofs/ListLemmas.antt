@@ -1,5 +1,5 @@
 -- The statements on `list`.
-use Rattle.std.proofs.Common.{◌≡◌, ℕ, ℤ, List, [], ◌∷◌, ◌++◌, codes, Ok, Err, Result, OnOk, OnErr, refl, sym, ap, subst, ◌∙◌, false, None, inl}
+use Rattle.std.proofs.Common.{◌≡◌, ℕ, ℤ, List, [], ◌∷◌, ◌++◌, codes, Ok, Err, Result, OnOk, OnErr, refl, sym, ap, subst, ◌∙◌, false, None, Option, inl}
 use Rattle.std.specs.Prelude.{IsTrue, not, ◌==◌, length, bytes_eq}
 use Rattle.std.specs.List.{list_any}
 use Rattle.std.specs.Ordering.{is_eq}
@@ -26,12 +26,12 @@ use Rattle.sqlite_sql.specs.declared.ops.BinaryOp.TheVariants.{Compare}
 use Rattle.sqlite_sql.specs.declared.ops.CompareOp.TheVariants.{Eq}
 use Rattle.sqlite_value.proofs.OrderLemmas.{value_cmp-Text}
 use Rattle.archive_tables.specs.Schema.{archive_schema, list_table}
-use Rattle.archive_tables.specs.Tables.{IsKept, Numbered, row_of, list_cells, list_read, archive_of}
-use Rattle.archive_tables.specs.Calls.{Changes, Rests}
+use Rattle.archive_tables.specs.Tables.{IsHeld, IsKept, Numbered, row_of, list_cells, list_read, archive_of}
+use Rattle.archive_tables.specs.Calls.{Changes, Rests, RestsOver, StaysOver}
 use Rattle.archive_tables.proofs.RunLemmas.{passed, value_is, no_action, cast_null, kept_by, rests, execute_fails}
 use Rattle.archive_tables.proofs.RowLemmas.{put_past}
 use Rattle.archive_tables.proofs.TableLemmas.{SameBut, same_but, lists_change}
-use Rattle.archive_tables.proofs.SelectLemmas.{plain_query, passes, asked, leaves, asked_rests, refused_rests, any_wanted, alone, truth_back}
+use Rattle.archive_tables.proofs.SelectLemmas.{plain_query, passes, asked, leaves, asked_stays, asked_rests, refused_rests, any_wanted, alone, truth_back}
 
 -- ---- INSERT
 
@@ -108,9 +108,9 @@ is_named : (name : List ℕ) (n : ℤ) (it : List ℕ) → passes has_name (Text
 unfolding binary
 is_named name n it = alone _ ∙ truth_back _ ∙ ap is_eq (value_cmp-Text it name) ∙ is_eq-slice_cmp it name
 
-module _ (old new : State) (name : List ℕ) (k : IsKept old) where
+module _ (old new : State) (name : List ℕ) {behind : Option Database} (k : IsHeld behind old) where
   pub has : (rows : List Row) → Shown has_text (Text name ∷ []) old new rows
-      → (not (length rows == 0) ≡ list_any (λ n. bytes_eq n name) (archive_of old).lists) × IsTrue new.is_open × Rests old new
+      → (not (length rows == 0) ≡ list_any (λ n. bytes_eq n name) (archive_of old).lists) × IsTrue new.is_open × RestsOver behind old new
   has rows h =
       let q = plain_query 1 has_name name_shown [] in
       let picks = asked has_text 1 has_name name_shown [] _ has_is.0 has_plain has_is.1 (λ t. refl) (Text name ∷ []) old new k rows h in (
@@ -119,5 +119,8 @@ module _ (old new : State) (name : List ℕ) (k : IsKept old) where
         asked_rests has_text 1 has_name name_shown [] _ has_is.0 has_plain has_is.1 (λ t. refl) (Text name ∷ []) old new k rows h,
       )
 
-  pub has_not : (e : Error) → FailsToQuery has_text (Text name ∷ []) old new e → Rests old new
+  pub has_stays : (rows : List Row) → Shown has_text (Text name ∷ []) old new rows → StaysOver behind old new
+  has_stays rows h = asked_stays has_text 1 has_name name_shown [] _ has_is.0 has_plain has_is.1 (λ t. refl) (Text name ∷ []) old new k rows h
+
+  pub has_not : (e : Error) → FailsToQuery has_text (Text name ∷ []) old new e → RestsOver behind old new
   has_not e h = refused_rests has_text 1 has_name name_shown [] _ has_is.0 has_plain has_is.1 (λ t. refl) (Text name ∷ []) old new k e h

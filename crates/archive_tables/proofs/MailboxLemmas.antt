@@ -1,5 +1,5 @@
 -- The questions on `message`.
-use Rattle.std.proofs.Common.{◌≡◌, ℕ, ℤ, List, [], ◌∷◌, map, filter, codes, refl, ap₂, ◌∙◌, false}
+use Rattle.std.proofs.Common.{◌≡◌, ℕ, ℤ, List, [], ◌∷◌, map, filter, codes, refl, ap₂, ◌∙◌, false, Option}
 use Rattle.std.specs.Prelude.{IsTrue, not, ◌==◌, ◌&&◌, length, bytes_eq}
 use Rattle.std.specs.List.{list_any}
 use Rattle.sqlite.specs.declared.error.Error.{Error}
@@ -9,6 +9,7 @@ use Rattle.sqlite.specs.Term.{Term, col, op2}
 use Rattle.sqlite.specs.Collation.TheVariants.{Binary}
 use Rattle.sqlite.specs.Command.TheVariants.{Select}
 use Rattle.sqlite.specs.Listing.{understood, reads_listing}
+use Rattle.sqlite.specs.Effect.{Database}
 use Rattle.sqlite.specs.State.{State, Shown, FailsToQuery}
 use Rattle.sqlite.proofs.Callers.{IsPlain, command_of}
 use Rattle.sqlite_tied.specs.Compute.{everything}
@@ -17,11 +18,11 @@ use Rattle.sqlite_sql.specs.declared.ops.CompareOp.TheVariants.{Eq}
 use Rattle.archive_machine.specs.Records.{Message}
 use Rattle.archive_tables.specs.Schema.{archive_schema}
 use Rattle.archive_machine.specs.Questions.{is_message}
-use Rattle.archive_tables.specs.Tables.{IsKept, message_cells, message_read, archive_of}
+use Rattle.archive_tables.specs.Tables.{IsHeld, message_cells, message_read, archive_of}
 use Rattle.archive_tables.specs.Rows.{message_shown, marks_shown}
-use Rattle.archive_tables.specs.Calls.{Rests}
+use Rattle.archive_tables.specs.Calls.{RestsOver, StaysOver}
 use Rattle.archive_tables.proofs.MessageLemmas.{message_back}
-use Rattle.archive_tables.proofs.SelectLemmas.{plain_query, by_number, passes, asked, leaves, asked_rests, refused_rests, any_wanted, count_wanted, shows, alone, text_is}
+use Rattle.archive_tables.proofs.SelectLemmas.{plain_query, by_number, passes, asked, leaves, asked_stays, asked_rests, refused_rests, any_wanted, count_wanted, shows, alone, text_is}
 
 abbrev pub of_list : List Term
 of_list = op2 (Compare Eq Binary) (col 1 2) (col 0 0) ∷ []
@@ -117,9 +118,9 @@ count_plain : IsPlain (understood archive_schema count_text)
 unfolding understood everything
 count_plain = (refl, refl)
 
-module _ (old new : State) (list : List ℕ) (k : IsKept old) where
+module _ (old new : State) (list : List ℕ) {behind : Option Database} (k : IsHeld behind old) where
   pub in_list : (rows : List Row) → Shown list_text (Text list ∷ []) old new rows
-      → (rows ≡ map message_shown (filter (λ m. bytes_eq m.list list) (archive_of old).messages)) × IsTrue new.is_open × Rests old new
+      → (rows ≡ map message_shown (filter (λ m. bytes_eq m.list list) (archive_of old).messages)) × IsTrue new.is_open × RestsOver behind old new
   in_list rows h =
       let params = Text list ∷ [] in
       let picks = asked list_text 8 of_list all_cells by_number _ list_is.0 list_plain list_is.1 (λ t. refl) params old new k rows h in (
@@ -128,11 +129,11 @@ module _ (old new : State) (list : List ℕ) (k : IsKept old) where
         asked_rests list_text 8 of_list all_cells by_number _ list_is.0 list_plain list_is.1 (λ t. refl) params old new k rows h,
       )
 
-  pub not_in_list : (e : Error) → FailsToQuery list_text (Text list ∷ []) old new e → Rests old new
+  pub not_in_list : (e : Error) → FailsToQuery list_text (Text list ∷ []) old new e → RestsOver behind old new
   not_in_list e h = refused_rests list_text 8 of_list all_cells by_number _ list_is.0 list_plain list_is.1 (λ t. refl) (Text list ∷ []) old new k e h
 
   pub count : (rows : List Row) → Shown count_text (Text list ∷ []) old new rows
-      → (length rows ≡ length (filter (λ m. bytes_eq m.list list) (archive_of old).messages)) × IsTrue new.is_open × Rests old new
+      → (length rows ≡ length (filter (λ m. bytes_eq m.list list) (archive_of old).messages)) × IsTrue new.is_open × RestsOver behind old new
   count rows h =
       let params = Text list ∷ [] in
       let picks = asked count_text 8 of_list key_cell [] _ count_is.0 count_plain count_is.1 (λ t. refl) params old new k rows h in (
@@ -141,12 +142,15 @@ module _ (old new : State) (list : List ℕ) (k : IsKept old) where
         asked_rests count_text 8 of_list key_cell [] _ count_is.0 count_plain count_is.1 (λ t. refl) params old new k rows h,
       )
 
-  pub no_count : (e : Error) → FailsToQuery count_text (Text list ∷ []) old new e → Rests old new
+  pub count_stays : (rows : List Row) → Shown count_text (Text list ∷ []) old new rows → StaysOver behind old new
+  count_stays rows h = asked_stays count_text 8 of_list key_cell [] _ count_is.0 count_plain count_is.1 (λ t. refl) (Text list ∷ []) old new k rows h
+
+  pub no_count : (e : Error) → FailsToQuery count_text (Text list ∷ []) old new e → RestsOver behind old new
   no_count e h = refused_rests count_text 8 of_list key_cell [] _ count_is.0 count_plain count_is.1 (λ t. refl) (Text list ∷ []) old new k e h
 
   module _ (key : List ℕ) where
     pub one : (rows : List Row) → Shown one_text (Text list ∷ Text key ∷ []) old new rows
-        → (rows ≡ map message_shown (filter (is_message list key) (archive_of old).messages)) × IsTrue new.is_open × Rests old new
+        → (rows ≡ map message_shown (filter (is_message list key) (archive_of old).messages)) × IsTrue new.is_open × RestsOver behind old new
     one rows h =
         let params = Text list ∷ Text key ∷ [] in
         let picks = asked one_text 8 at_key all_cells by_number _ one_is.0 one_plain one_is.1 (λ t. refl) params old new k rows h in (
@@ -155,11 +159,11 @@ module _ (old new : State) (list : List ℕ) (k : IsKept old) where
           asked_rests one_text 8 at_key all_cells by_number _ one_is.0 one_plain one_is.1 (λ t. refl) params old new k rows h,
         )
 
-    pub not_one : (e : Error) → FailsToQuery one_text (Text list ∷ Text key ∷ []) old new e → Rests old new
+    pub not_one : (e : Error) → FailsToQuery one_text (Text list ∷ Text key ∷ []) old new e → RestsOver behind old new
     not_one e h = refused_rests one_text 8 at_key all_cells by_number _ one_is.0 one_plain one_is.1 (λ t. refl) (Text list ∷ Text key ∷ []) old new k e h
 
     pub marks : (rows : List Row) → Shown marks_text (Text list ∷ Text key ∷ []) old new rows
-        → (rows ≡ map marks_shown (filter (is_message list key) (archive_of old).messages)) × IsTrue new.is_open × Rests old new
+        → (rows ≡ map marks_shown (filter (is_message list key) (archive_of old).messages)) × IsTrue new.is_open × RestsOver behind old new
     marks rows h =
         let params = Text list ∷ Text key ∷ [] in
         let picks = asked marks_text 8 at_key mark_cells by_number _ marks_is.0 marks_plain marks_is.1 (λ t. refl) params old new k rows h in (
@@ -168,11 +172,11 @@ module _ (old new : State) (list : List ℕ) (k : IsKept old) where
           asked_rests marks_text 8 at_key mark_cells by_number _ marks_is.0 marks_plain marks_is.1 (λ t. refl) params old new k rows h,
         )
 
-    pub no_marks : (e : Error) → FailsToQuery marks_text (Text list ∷ Text key ∷ []) old new e → Rests old new
+    pub no_marks : (e : Error) → FailsToQuery marks_text (Text list ∷ Text key ∷ []) old new e → RestsOver behind old new
     no_marks e h = refused_rests marks_text 8 at_key mark_cells by_number _ marks_is.0 marks_plain marks_is.1 (λ t. refl) (Text list ∷ Text key ∷ []) old new k e h
 
     pub has : (rows : List Row) → Shown has_text (Text list ∷ Text key ∷ []) old new rows
-        → (not (length rows == 0) ≡ list_any (is_message list key) (archive_of old).messages) × IsTrue new.is_open × Rests old new
+        → (not (length rows == 0) ≡ list_any (is_message list key) (archive_of old).messages) × IsTrue new.is_open × RestsOver behind old new
     has rows h =
         let params = Text list ∷ Text key ∷ [] in
         let picks = asked has_text 8 at_key number_cell [] _ has_is.0 has_plain has_is.1 (λ t. refl) params old new k rows h in (
@@ -181,5 +185,8 @@ module _ (old new : State) (list : List ℕ) (k : IsKept old) where
           asked_rests has_text 8 at_key number_cell [] _ has_is.0 has_plain has_is.1 (λ t. refl) params old new k rows h,
         )
 
-    pub has_not : (e : Error) → FailsToQuery has_text (Text list ∷ Text key ∷ []) old new e → Rests old new
+    pub has_stays : (rows : List Row) → Shown has_text (Text list ∷ Text key ∷ []) old new rows → StaysOver behind old new
+    has_stays rows h = asked_stays has_text 8 at_key number_cell [] _ has_is.0 has_plain has_is.1 (λ t. refl) (Text list ∷ Text key ∷ []) old new k rows h
+
+    pub has_not : (e : Error) → FailsToQuery has_text (Text list ∷ Text key ∷ []) old new e → RestsOver behind old new
     has_not e h = refused_rests has_text 8 at_key number_cell [] _ has_is.0 has_plain has_is.1 (λ t. refl) (Text list ∷ Text key ∷ []) old new k e h

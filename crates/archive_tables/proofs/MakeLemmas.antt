@@ -202,11 +202,11 @@ begins old new count has h =
 abbrev pub commit_text : List ℕ
 commit_text = codes "COMMIT"
 
-commit_is : command_of (understood archive_schema commit_text) ≡ Commit
+pub commit_is : command_of (understood archive_schema commit_text) ≡ Commit
 unfolding understood everything
 commit_is = refl
 
-commit_plain : IsPlain (understood archive_schema commit_text)
+pub commit_plain : IsPlain (understood archive_schema commit_text)
 unfolding understood everything
 commit_plain = (refl, refl)
 
@@ -219,6 +219,7 @@ commits old new before count k h =
         settled = ran.1.committed_is ∙ sym ran.1.now_is;
         schema = ap (λ (d : Database). d.schema) ran.1.now_is ∙ k.schema_is;
         tables = subst (λ (d : Database). AreTables d.trees) (sym ran.1.now_is) k.tables;
+        whole = tt;
       },
       ap (λ (d : Database). archive_in d.trees) ran.1.now_is ∙ k.nothing,
     )

@@ -1,6 +1,6 @@
 -- The statements on `message`.
 use Rattle.std.proofs.Common.{◌≡◌, inl, inr, ℕ, ℤ, pos, List, [], ◌∷◌, ◌++◌, fold, codes, Ok, Err, Result, OnOk, OnErr, arith, refl, sym, ap, ap₂, subst, ◌∙◌, false, None, Some, Option}
-use Rattle.std.specs.Prelude.{◌&&◌}
+use Rattle.std.specs.Prelude.{◌&&◌, MatchResult}
 use Rattle.std.specs.List.{list_any}
 use Rattle.std.specs.Ordering.{is_lt, int_cmp}
 use Rattle.std.proofs.lemmas.Bool.{cases_Bool}
@@ -26,9 +26,9 @@ use Rattle.sqlite_schema.specs.declared.schema.Keys.TheVariants.{Enforced}
 use Rattle.archive_machine.specs.Records.{Message}
 use Rattle.archive_tables.specs.Schema.{archive_schema, message_table, sequence_table}
 use Rattle.archive_machine.specs.Questions.{is_message}
-use Rattle.archive_tables.specs.Tables.{IsKept, Numbered, row_of, message_cells, message_read, archive_of, or_null, if_int, same_message, AreApart}
+use Rattle.archive_tables.specs.Tables.{IsHeld, IsKept, Numbered, row_of, message_cells, message_read, archive_of, or_null, if_int, same_message, AreApart}
 use Rattle.archive_tables.specs.Rows.{new_message}
-use Rattle.archive_tables.specs.Calls.{Changes, Rests}
+use Rattle.archive_tables.specs.Calls.{Changes, ChangesOver, Rests, RestsOver}
 use Rattle.archive_tables.proofs.RunLemmas.{passed, value_is, no_action, cast_null, cast_int, kept_by, rests, execute_fails}
 use Rattle.archive_tables.proofs.RowLemmas.{put_past, raised, positive_more}
 use Rattle.archive_tables.proofs.TableLemmas.{SameBut, same_but, messages_change}
@@ -106,8 +106,8 @@ module _ (list key sender : List ℕ) (arrival : ℤ) (text : List ℕ) where
     messages = λ e. last.messages (λ f. omega (arith, f)) ∙ first.messages e;
   }
 
-  adds : (old new_state : State) (count : ℕ) → IsKept old → list_any (is_message list key) (archive_of old).messages ≡ false → Executes add_text params_of old new_state (Ok count)
-      → Changes old new_state (λ a. record a { messages = a.messages ++ new ∷ [] })
+  adds : {behind : Option Database} (old new_state : State) (count : ℕ) → IsHeld behind old → list_any (is_message list key) (archive_of old).messages ≡ false → Executes add_text params_of old new_state (Ok count)
+      → ChangesOver behind old new_state (λ a. record a { messages = a.messages ++ new ∷ [] })
   adds old next count k none h =
       let params = params_of in
       let db = old.now.trees in
@@ -139,3 +139,8 @@ module _ (list key sender : List ℕ) (arrival : ℤ) (text : List ℕ) where
       → (list_any (is_message list key) (archive_of old).messages ≡ false → OnOk r (Changes old next (λ a. record a { messages = a.messages ++ new ∷ [] }))) × OnErr r (Rests old next)
   tries_to_add old next (Ok count) k h = (λ none. adds old next count k none h, tt)
   tries_to_add old next (Err e) k h = (λ none. tt, rests old next k (execute_fails old next add_text params_of e h))
+
+  pub tries_over : (behind : Option Database) (old next : State) (r : Result ℕ Error) → IsHeld behind old → list_any (is_message list key) (archive_of old).messages ≡ false
+      → Executes add_text params_of old next r → MatchResult r (λ _. ChangesOver behind old next (λ a. record a { messages = a.messages ++ new ∷ [] })) (λ _. RestsOver behind old next)
+  tries_over behind old next (Ok count) k none h = adds old next count k none h
+  tries_over behind old next (Err e) k none h = rests old next k (execute_fails old next add_text params_of e h)

@@ -1,6 +1,6 @@
 -- What a statement leaves, whatever it is.
-use Rattle.std.proofs.Common.{◌≡◌, ◌⊎◌, inl, inr, Ok, Err, Result, refl, sym, ap, subst, ◌∙◌, List, [], ℕ, ℤ, Bool, true, false, cond}
-use Rattle.std.specs.Prelude.{IsTrue, length, ◌==◌, if◌then◌else◌}
+use Rattle.std.proofs.Common.{◌≡◌, ◌⊎◌, inl, inr, Ok, Err, Result, refl, sym, ap, subst, ◌∙◌, List, [], ℕ, ℤ, Bool, true, false, cond, Option, Some, None}
+use Rattle.std.specs.Prelude.{IsTrue, IsErrAnd, MatchResult, length, ◌==◌, if◌then◌else◌}
 use Rattle.std.proofs.lemmas.Bool.{cases_Bool}
 use Rattle.sqlite.specs.Order.{Row}
 use Rattle.sqlite.specs.declared.error.Error.{Error}
@@ -16,8 +16,8 @@ use Rattle.sqlite.proofs.Callers.{IsPlain}
 use Rattle.sqlite_rules.specs.Action.{works}
 use Rattle.sqlite_schema.specs.declared.schema.Keys.TheVariants.{Enforced}
 use Rattle.archive_tables.specs.Schema.{archive_schema}
-use Rattle.archive_tables.specs.Tables.{IsKept, AreTables, archive_in, archive_of}
-use Rattle.archive_tables.specs.Calls.{Rests}
+use Rattle.archive_tables.specs.Tables.{IsHeld, AreTables, archive_in, committed_behind}
+use Rattle.archive_tables.specs.Calls.{RestsOver, StaysOver, IsBackAt}
 
 -- ---- a statement that fails
 
@@ -51,32 +51,65 @@ query_leaves old new sql params rows plain ran =
 
 -- ---- the premise after a call
 
-as_before : (old new : State) → IsKept old → IsTrue new.is_open → new.now ≡ old.now → new.committed ≡ old.now → new.in_transaction ≡ false
-    → IsKept new × (archive_of new ≡ archive_of old)
-as_before old new k up now committed mode = (
+-- outside a transaction, where this is both seen and committed
+pub kept_at : (new : State) (d : Database) → IsTrue new.is_open → new.now ≡ d → new.committed ≡ d → new.in_transaction ≡ false
+    → d.schema ≡ archive_schema → AreTables d.trees → IsBackAt d new
+kept_at new d up now committed mode schema tables = (
   record {
     is_open = up;
     autocommit = mode;
     settled = committed ∙ sym now;
-    schema = rw now k.schema;
-    tables = rw now k.tables;
+    schema = rw now schema;
+    tables = rw now tables;
+    whole = tt;
   },
-  ap (λ (d : Database). archive_in d.trees) now,
+  ap (λ (x : Database). archive_in x.trees) now,
 )
 
-pub rests : (old new : State) → IsKept old → IsUnchanged old new ⊎ IsRolledBack old new → Rests old new
-rests old new k (inl same) up = as_before old new k up same.0.now_is (same.0.committed_is ∙ k.settled) (same.0.mode ∙ k.autocommit)
-rests old new k (inr undone) up = as_before old new k up ((undone.undone up).0 ∙ k.settled) ((undone.undone up).1 ∙ k.settled) undone.autocommit
+-- a call that changes nothing
+pub stays : {behind : Option Database} (old new : State) → IsHeld behind old → IsUnchanged old new → StaysOver behind old new
+stays {behind} old new k same = (
+  record {
+    is_open = same.0.is_open;
+    autocommit = same.0.mode ∙ k.autocommit;
+    settled = same.0.committed_is ∙ k.settled ∙ ap (committed_behind behind) (sym same.0.now_is);
+    schema = rw same.0.now_is k.schema;
+    tables = rw same.0.now_is k.tables;
+    whole = k.whole;
+  },
+  ap (λ (d : Database). archive_in d.trees) same.0.now_is,
+)
 
--- a write outside a transaction is committed
-pub kept_by : (old new : State) → IsKept old → Shows old new new.now (if old.in_transaction then old.committed else new.now) old.in_transaction → new.now.schema ≡ archive_schema
-    → AreTables new.now.trees → IsKept new
-kept_by old new k shown schema tables = record {
+-- a call that goes back to the last commit
+pub goes_back : (db : Database) (old new : State) → IsHeld (Some db) old → IsRolledBack old new → IsTrue new.is_open → IsBackAt db new
+goes_back db old new k undone up =
+    kept_at new db up ((undone.undone up).0 ∙ k.settled) ((undone.undone up).1 ∙ k.settled) undone.autocommit k.whole.0 k.whole.1
+
+rests_over : (behind : Option Database) (old new : State) → IsHeld behind old → IsUnchanged old new ⊎ IsRolledBack old new → RestsOver behind old new
+rests_over None old new k (inl same) = λ up. stays old new k same
+rests_over None old new k (inr undone) = λ up.
+    kept_at new old.now up ((undone.undone up).0 ∙ k.settled) ((undone.undone up).1 ∙ k.settled) undone.autocommit k.schema k.tables
+rests_over (Some db) old new k (inl same) = λ up. inl (stays old new k same)
+rests_over (Some db) old new k (inr undone) = λ up. inr (goes_back db old new k undone up)
+
+pub rests : {behind : Option Database} (old new : State) → IsHeld behind old → IsUnchanged old new ⊎ IsRolledBack old new → RestsOver behind old new
+rests {behind} old new k how = rests_over behind old new k how
+
+-- a write outside a transaction is committed, and one within leaves what is behind
+settles : (behind : Option Database) (old new : State) → IsHeld behind old → new.committed ≡ (if old.in_transaction then old.committed else new.now)
+    → new.committed ≡ committed_behind behind new.now
+settles None old new k is = is ∙ rw k.autocommit
+settles (Some db) old new k is = is ∙ rw k.autocommit k.settled
+
+pub kept_by : {behind : Option Database} (old new : State) → IsHeld behind old → Shows old new new.now (if old.in_transaction then old.committed else new.now) old.in_transaction
+    → new.now.schema ≡ archive_schema → AreTables new.now.trees → IsHeld behind new
+kept_by {behind} old new k shown schema tables = record {
   is_open = shown.is_open;
   autocommit = shown.mode ∙ k.autocommit;
-  settled = shown.committed_is ∙ rw k.autocommit;
+  settled = settles behind old new k shown.committed_is;
   schema = schema;
   tables = tables;
+  whole = k.whole;
 }
 
 -- ---- the parts of a write
@@ -92,6 +125,11 @@ value_is e = cc
 -- no foreign key of the schema acts on another row
 pub no_action : (tree : ℕ) (olds news : List Row) → works archive_schema Enforced 0 tree olds news ≡ []
 no_action tree olds news = elim (cases_Bool (length news == 0)) [ inl none ↦ rw none | inr some ↦ rw some ]
+
+-- the exit of a `?`
+pub on_fault : {A E : Type 0} (Q : E → Type 0) (P : A → Type 0) {R : Type 0} (r : Result A E) → IsErrAnd r Q → R → MatchResult r P (λ _. R)
+on_fault Q P (Ok a) h x = absurd h
+on_fault Q P (Err e) h x = x
 
 -- ---- a value in an INTEGER column
 

@@ -24,6 +24,7 @@ use Rattle.sqlite_sql.specs.declared.ops.CompareOp.TheVariants.{Eq}
 use Rattle.sqlite_value.proofs.OrderLemmas.{value_cmp_total, value_cmp-Text, value_cmp-Int}
 use Rattle.sqlite.specs.Program.{overlay}
 use Rattle.sqlite.specs.Collation.TheVariants.{Binary}
+use Rattle.sqlite.specs.Effect.{Database}
 use Rattle.sqlite.specs.State.{State, Shown, IsUnchanged, FailsToQuery}
 use Rattle.sqlite.specs.Command.TheVariants.{Select}
 use Rattle.sqlite.specs.Listing.{understood, reads_listing}
@@ -33,10 +34,10 @@ use Rattle.sqlite_value.specs.Keys.{ascending}
 use Rattle.sqlite_sql.proofs.QueryLemmas.{output_cmp_total}
 use Rattle.sqlite_trees.proofs.ListLemmas.{map-map}
 use Rattle.archive_tables.specs.Schema.{archive_schema}
-use Rattle.archive_tables.specs.Tables.{IsKept, Numbered, row_of, read_of, Holds}
-use Rattle.archive_tables.specs.Calls.{Rests}
+use Rattle.archive_tables.specs.Tables.{IsHeld, Numbered, row_of, read_of, Holds}
+use Rattle.archive_tables.specs.Calls.{RestsOver, StaysOver}
 use Rattle.archive_tables.proofs.OrderLemmas.{one_order, ties_flip}
-use Rattle.archive_tables.proofs.RunLemmas.{query_fails, query_leaves, rests}
+use Rattle.archive_tables.proofs.RunLemmas.{query_fails, query_leaves, rests, stays}
 use Rattle.archive_tables.proofs.RowLemmas.{records_are}
 
 abbrev pub plain_query : ℕ → List Term → List Term → List (Term × Key) → Query
@@ -106,7 +107,7 @@ text_flips a b = sym (is_eq-slice_cmp a b) ∙ ap is_eq (sym (value_cmp-Text a b
 pub equal_words : (a b : List ℕ) → bytes_eq a b ≡ true → a ≡ b
 equal_words a b same = (bytes_eq-Decides a b).0 same
 
-tie_is : (a b : ℤ) → is_eq (int_cmp a b) ≡ int_eq a b
+pub tie_is : (a b : ℤ) → is_eq (int_cmp a b) ≡ int_eq a b
 tie_is a b = grind (arith, ints, nat_tests)
 
 pub int_is : (a b : ℤ) → is_true (binary (Compare Eq Binary) (Int a) (Int b)) ≡ int_eq a b
@@ -200,7 +201,7 @@ module _ (sql : List ℕ) (t : ℕ) (terms shown : List Term) (order : List (Ter
       subst (λ all. Picks (plain_query t terms shown order) params all rows) (low old.now.trees)
       (picks_of t terms shown order (overlay old.now.trees []) params rows (read.answer Null))
 
-  module _ (k : IsKept old) where
+  module _ {behind : Option Database} (k : IsHeld behind old) where
     plain_here : IsPlain (understood old.now.schema sql)
     plain_here = subst (λ s. IsPlain (understood s sql)) (sym k.schema) plain
 
@@ -210,10 +211,13 @@ module _ (sql : List ℕ) (t : ℕ) (terms shown : List Term) (order : List (Ter
     pub leaves : (rows : List Row) → Shown sql params old new rows → IsUnchanged old new
     leaves rows h = query_leaves old new sql params rows plain_here h
 
-    pub asked_rests : (rows : List Row) → Shown sql params old new rows → Rests old new
+    pub asked_stays : (rows : List Row) → Shown sql params old new rows → StaysOver behind old new
+    asked_stays rows h = stays old new k (leaves rows h)
+
+    pub asked_rests : (rows : List Row) → Shown sql params old new rows → RestsOver behind old new
     asked_rests rows h = rests old new k (inl (leaves rows h))
 
-    pub refused_rests : (e : Error) → FailsToQuery sql params old new e → Rests old new
+    pub refused_rests : (e : Error) → FailsToQuery sql params old new e → RestsOver behind old new
     refused_rests e h = rests old new k (query_fails old new sql params e plain_here h)
 
 -- ---- over the rows of records

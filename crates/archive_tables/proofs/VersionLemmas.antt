@@ -1,5 +1,5 @@
 -- The question on `version`.
-use Rattle.std.proofs.Common.{◌≡◌, ℕ, pos, List, [], ◌∷◌, codes, refl, subst, false}
+use Rattle.std.proofs.Common.{◌≡◌, ℕ, pos, List, [], ◌∷◌, codes, refl, sym, subst, ◌∙◌, false, ◌⊎◌, inl, inr}
 use Rattle.std.specs.Prelude.{IsTrue}
 use Rattle.std.specs.List.Sorted.{IsPermutation}
 use Rattle.sqlite.specs.declared.error.Error.{Error}
@@ -8,13 +8,15 @@ use Rattle.sqlite.specs.Order.{Row}
 use Rattle.sqlite.specs.Term.{Term, col}
 use Rattle.sqlite.specs.Command.TheVariants.{Select}
 use Rattle.sqlite.specs.Listing.{understood, reads_listing}
-use Rattle.sqlite.specs.State.{State, Shown, FailsToQuery}
+use Rattle.sqlite.specs.State.{State, Shown, FailsToQuery, IsUnchanged, IsRolledBack}
 use Rattle.sqlite.proofs.Callers.{IsPlain, command_of}
 use Rattle.sqlite_tied.specs.Compute.{everything}
 use Rattle.archive_tables.specs.Schema.{archive_schema}
 use Rattle.archive_tables.specs.Tables.{IsKept, IsOfArchive, version_rows}
 use Rattle.archive_tables.specs.Rows.{versions_shown}
+use Rattle.archive_tables.specs.Making.{IsBackTo}
 use Rattle.archive_tables.specs.Calls.{Rests}
+use Rattle.archive_tables.proofs.RunLemmas.{query_fails, query_leaves}
 use Rattle.archive_tables.proofs.SelectLemmas.{plain_query, by_number, Picks, in_order, picks_all, picked, asked, leaves, asked_rests, refused_rests}
 
 abbrev pub number_text : List ℕ
@@ -39,6 +41,21 @@ pub numbers_found : (old new : State) → IsOfArchive old → (rows : List Row) 
 numbers_found old new o rows h =
     picks_all (plain_query 0 [] number_cell by_number) [] (old.now.trees 0) rows refl
     (picked number_text 0 [] number_cell by_number _ number_is.0 number_plain number_is.1 (λ t. refl) [] old new o.schema rows h)
+
+-- and whatever it answers, it changes nothing
+module _ (old new : State) (o : IsOfArchive old) where
+  as_it_was : IsUnchanged old new ⊎ IsRolledBack old new → IsBackTo new old.now
+  as_it_was (inl same) up = (same.0.now_is, same.0.committed_is ∙ o.settled, same.0.mode ∙ o.autocommit)
+  as_it_was (inr undone) up = ((undone.undone up).0 ∙ o.settled, (undone.undone up).1 ∙ o.settled, undone.autocommit)
+
+  is_plain : IsPlain (understood old.now.schema number_text)
+  is_plain = subst (λ s. IsPlain (understood s number_text)) (sym o.schema) number_plain
+
+  pub numbers_leave : (rows : List Row) → Shown number_text [] old new rows → IsBackTo new old.now
+  numbers_leave rows h = as_it_was (inl (query_leaves old new number_text [] rows is_plain h))
+
+  pub no_numbers_leave : (e : Error) → FailsToQuery number_text [] old new e → IsBackTo new old.now
+  no_numbers_leave e h = as_it_was (query_fails old new number_text [] e is_plain h)
 
 module _ (old new : State) (k : IsKept old) where
   pub version_found : (rows : List Row) → Shown number_text [] old new rows → (rows ≡ (Int (pos 0) ∷ []) ∷ []) × IsTrue new.is_open × Rests old new

@@ -1,19 +1,40 @@
 -- What a call does to a database whose tables are as this crate leaves them, where the disk has returned what was written to it.
-use Rattle.std.specs.Prelude.{◌≡◌, IsTrue, Result, IfOk, OnOk, OnErr}
+use Rattle.std.specs.Prelude.{◌≡◌, ◌⊎◌, IsTrue, Option, Some, None, Result, IfOk, OnOk, OnErr, MatchResult}
 use Rattle.sqlite.specs.declared.error.Error.{Error}
+use Rattle.sqlite.specs.Effect.{Database}
+use Rattle.sqlite.specs.Tree.{Trees}
 use Rattle.sqlite.specs.Store.{Ghosts}
 use Rattle.sqlite.specs.Held.{Held, state}
 use Rattle.sqlite.specs.State.{State, HasCleanDisk}
 use Rattle.archive_machine.specs.Records.{Archive}
-use Rattle.archive_tables.specs.Tables.{IsKept, archive_of}
+use Rattle.archive_tables.specs.Tables.{IsHeld, IsKept, archive_in, archive_of}
 
--- the tables are kept, and hold what this makes of what they held
+-- the tables are held, and hold what this makes of what they held
+abbrev pub ChangesOver : Option Database → State → State → (Archive → Archive) → Type 0
+ChangesOver behind old new change = IsHeld behind new × (archive_of new ≡ change (archive_of old))
+
 abbrev pub Changes : State → State → (Archive → Archive) → Type 0
-Changes old new change = IsKept new × (archive_of new ≡ change (archive_of old))
+Changes = ChangesOver None
 
--- the same, where the connection is still open
+-- the same archive, over the same
+abbrev pub StaysOver : Option Database → State → State → Type 0
+StaysOver behind old new = IsHeld behind new × (archive_of new ≡ archive_of old)
+
+-- outside a transaction again, with the archive that was behind it
+abbrev pub IsBackAt : Database → State → Type 0
+IsBackAt db s = IsKept s × (archive_of s ≡ archive_in db.trees)
+
+-- within the transaction still, or back already, where the connection is open
+abbrev pub IsHeldOrBack : Database → State → Type 0
+IsHeldOrBack db s = IsTrue s.is_open → IsHeld (Some db) s ⊎ IsBackAt db s
+
+-- A fault: the same archive, where the connection is still open; within a transaction that, or what was behind it.
+abbrev pub RestsOver : Option Database → State → State → Type 0
+RestsOver None old new = IsTrue new.is_open → StaysOver None old new
+RestsOver (Some db) old new = IsTrue new.is_open → StaysOver (Some db) old new ⊎ IsBackAt db new
+
 abbrev pub Rests : State → State → Type 0
-Rests old new = IsTrue new.is_open → IsKept new × (archive_of new ≡ archive_of old)
+Rests = RestsOver None
 
 module _ {S : Type 0} (g : Ghosts S) (old new : Held S) where
   -- a write that succeeds
@@ -40,6 +61,26 @@ module _ {S : Type 0} (g : Ghosts S) (old new : Held S) where
   -- a question that is answered leaves the connection open
   abbrev pub IsUp : {A : Type 0} → Result A Error → Type 0
   IsUp result = HasCleanDisk (state g new) → IsKept (state g old) → OnOk result (IsTrue (state g new).is_open)
+
+  -- a write of an archive that is as it needs it, outside a transaction or within one
+  abbrev pub WritesOver : {A : Type 0} → Result A Error → (Archive → Type 0) → (Archive → Archive) → Type 0
+  WritesOver result Needs change =
+      HasCleanDisk (state g new) → (behind : Option Database) → IsHeld behind (state g old) → Needs (archive_of (state g old))
+      → MatchResult result (λ _. ChangesOver behind (state g old) (state g new) change) (λ _. RestsOver behind (state g old) (state g new))
+
+  -- a question, outside a transaction or within one
+  abbrev pub AsksOver : {A : Type 0} → Result A Error → (Archive → A → Type 0) → Type 0
+  AsksOver result Says =
+      HasCleanDisk (state g new) → (behind : Option Database) → IsHeld behind (state g old)
+      → MatchResult result (λ a. Says (archive_of (state g old)) a × StaysOver behind (state g old) (state g new))
+      (λ _. RestsOver behind (state g old) (state g new))
+
+  -- A question on the rows themselves, which it leaves: what it says of them holds until the next write.
+  abbrev pub AsksRows : {A : Type 0} → Result A Error → (Trees → A → Type 0) → Type 0
+  AsksRows result Says =
+      HasCleanDisk (state g new) → (behind : Option Database) → IsHeld behind (state g old)
+      → MatchResult result (λ a. Says (state g old).now.trees a × ((state g new).now ≡ (state g old).now) × IsHeld behind (state g new))
+      (λ _. RestsOver behind (state g old) (state g new))
 
   -- a disk that has returned what was written so far had done so before
   abbrev pub WasClean : Type 0

@@ -1,5 +1,5 @@
 -- How the tables are made: all within one transaction, so that all of them are there or none.
-use Rattle.std.specs.Prelude.{◌≡◌, ◌⊎◌, true, [], IsTrue, Result, OnErr}
+use Rattle.std.specs.Prelude.{◌≡◌, ◌⊎◌, true, false, [], IsTrue, Result, OnErr}
 use Rattle.std.specs.List.{AllByRecursion}
 use Rattle.sqlite.specs.declared.error.Error.{Error}
 use Rattle.sqlite.specs.Effect.{Database}
@@ -39,3 +39,17 @@ Stops g old new result = HasCleanDisk (state g new) → OnErr result (IsUnchange
 -- what is committed is what was there before, if the connection is still open
 abbrev pub IsUndone : State → Database → Type 0
 IsUndone s before = IsTrue s.is_open → s.committed ≡ before
+
+-- the connection is open, and outside a transaction
+pub record IsIdle (s : State) : Type 0 where
+  pub is_open : IsTrue s.is_open
+  pub autocommit : s.in_transaction ≡ false
+  pub settled : s.committed ≡ s.now
+
+-- outside a transaction, this is there now and is committed, if the connection is still open
+abbrev pub IsBackTo : State → Database → Type 0
+IsBackTo s before = IsTrue s.is_open → (s.now ≡ before) × (s.committed ≡ before) × (s.in_transaction ≡ false)
+
+-- a transaction that goes back to this, or is over and has, if the connection is still open
+abbrev pub IsStopped : State → Database → Type 0
+IsStopped s before = IsTrue s.is_open → (s.committed ≡ before) × ((s.in_transaction ≡ true) ⊎ ((s.now ≡ before) × (s.in_transaction ≡ false)))

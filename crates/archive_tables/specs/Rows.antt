@@ -1,5 +1,6 @@
 -- What the queries show of a record, and the record of what was read.
-use Rattle.std.specs.Prelude.{◌≡◌, ◌⊎◌, IsUtf8, ℕ, ℤ, pos, List, [], ◌∷◌, map, string_bytes, None}
+use Rattle.std.specs.Prelude.{◌≡◌, ◌⊎◌, IsUtf8, ℕ, ℤ, pos, List, [], ◌∷◌, map, filter, find, bytes_eq, string_bytes, Option, None, option_map}
+use Rattle.std.specs.Ordering.{int_eq}
 use Rattle.sqlite.specs.declared.types.Value.TheVariants.{Int, Text, Blob}
 use Rattle.sqlite.specs.Order.{Row, column}
 use Rattle.sqlite.specs.Tree.{Trees}
@@ -7,7 +8,7 @@ use Rattle.sqlite.specs.declared.error.Error.{Error}
 use Rattle.sqlite.specs.declared.error.Error.TheVariants.{SqliteFailure, Utf8Error}
 use Rattle.sqlite.specs.declared.error.ErrorCode.TheVariants.{OutOfMemory}
 use Rattle.archive_machine.specs.Records.{Grant, Message}
-use Rattle.archive_tables.specs.Tables.{or_null}
+use Rattle.archive_tables.specs.Tables.{or_null, Numbered, read_of, message_read}
 use Rattle.archive_tables.specs.declared.rows.MessageRow.{MessageRow}
 use Rattle.archive_tables.specs.declared.rows.MarksRow.{MarksRow}
 use Rattle.archive_tables.specs.declared.rows.GrantRow.{GrantRow}
@@ -60,3 +61,19 @@ no_memory = SqliteFailure OutOfMemory
 -- of a row that begins with a text: there is no memory, or the text is no UTF-8
 abbrev pub IsTextFault : List ℕ → Error → Type 0
 IsTextFault text e = (e ≡ no_memory) ⊎ ((¬ IsUtf8 text) × (e ≡ Utf8Error 0))
+
+-- ---- the messages by their numbers
+
+abbrev pub numbered_messages : Trees → List (Numbered Message)
+numbered_messages trees = map (read_of message_read) (trees 8)
+
+-- the numbers of a list's messages, in mailbox order
+abbrev pub places_in : Trees → List ℕ → List ℤ
+places_in trees list = map (λ (r : Numbered Message). r.number) (filter (λ (r : Numbered Message). bytes_eq r.it.list list) (numbered_messages trees))
+
+-- the message of a number
+abbrev pub message_at : Trees → ℤ → Option Message
+message_at trees place = option_map (λ (r : Numbered Message). r.it) (find (λ (r : Numbered Message). int_eq r.number place) (numbered_messages trees))
+
+abbrev pub place_shown : ℤ → Row
+place_shown place = Int place ∷ []

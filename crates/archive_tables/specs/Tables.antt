@@ -1,6 +1,6 @@
 -- What the tables hold: each as a list of records, in the order of the rows' numbers. An update keeps a row's number, so this is
 -- the order in which the records came.
-use Rattle.std.specs.Prelude.{◌≡◌, ⊤, ℕ, ℤ, pos, int_le, Bool, false, IsTrue, List, [], ◌∷◌, map, Option, Some, None}
+use Rattle.std.specs.Prelude.{◌≡◌, ⊤, ℕ, ℤ, pos, int_le, Bool, true, false, IsTrue, List, [], ◌∷◌, map, Option, Some, None}
 use Rattle.std.specs.List.{AllByRecursion, list_any}
 use Rattle.std.specs.declared.cmp.Ordering.TheVariants.{Less}
 use Rattle.sqlite.specs.declared.types.Value.{Value}
@@ -8,6 +8,7 @@ use Rattle.sqlite.specs.declared.types.Value.TheVariants.{Null, Int, Text, Blob}
 use Rattle.sqlite.specs.Order.{Row, column, bytes, value_cmp}
 use Rattle.sqlite.specs.Tree.{Trees, IsTable, rowid}
 use Rattle.sqlite.specs.Edit.{id_in}
+use Rattle.sqlite.specs.Effect.{Database}
 use Rattle.sqlite.specs.State.{State}
 use Rattle.archive_machine.specs.Records.{Person, Grant, Message, Archive}
 use Rattle.archive_machine.specs.Questions.{is_grant, is_message}
@@ -120,14 +121,35 @@ pub record AreTables (trees : Trees) : Type 0 where
   pub messages_apart : AreApart same_message (map message_read (trees 8))
   pub positive : ArePositive (trees 8)
 
--- The premise on a database: it is open outside a transaction, its schema is the one above, and its tables are as this crate
--- leaves them. Each call is given it and gives it back.
-pub record IsKept (s : State) : Type 0 where
+-- ---- outside a transaction (`None`), or within one that goes back to a database
+
+abbrev pub is_within : Option Database → Bool
+is_within None = false
+is_within (Some db) = true
+
+-- what is committed, where the connection sees this
+abbrev pub committed_behind : Option Database → Database → Database
+committed_behind None now = now
+committed_behind (Some db) now = db
+
+-- what is behind a transaction is an archive too
+abbrev pub IsArchive : Option Database → Type 0
+IsArchive None = ⊤
+IsArchive (Some db) = (db.schema ≡ archive_schema) × AreTables db.trees
+
+-- The premise on a database: it is open, with this behind it, its schema is the one above, and its tables are as this crate
+-- leaves them.
+pub record IsHeld (behind : Option Database) (s : State) : Type 0 where
   pub is_open : IsTrue s.is_open
-  pub autocommit : s.in_transaction ≡ false
-  pub settled : s.committed ≡ s.now
+  pub autocommit : s.in_transaction ≡ is_within behind
+  pub settled : s.committed ≡ committed_behind behind s.now
   pub schema : s.now.schema ≡ archive_schema
   pub tables : AreTables s.now.trees
+  pub whole : IsArchive behind
+
+-- The same outside a transaction. Each call is given it and gives it back.
+abbrev pub IsKept : State → Type 0
+IsKept = IsHeld None
 
 -- the same, but that its tables may hold any rows
 pub record IsOfArchive (s : State) : Type 0 where

@@ -4,5 +4,6 @@
 //! wherever `IsKept` held before.
 #![tactic(auto)]
 
+pub mod laws;
 pub mod rows;
 pub mod texts;

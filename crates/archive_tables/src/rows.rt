@@ -2,7 +2,7 @@
 
 ghost use Rattle.std.specs.Prelude.{◌≡◌, ◌∷◌, string_bytes, IfOk, IfErr};
 ghost use Rattle.archive_machine.specs.Records.{Grant, Message};
-ghost use Rattle.archive_tables.specs.Rows.{name_shown, message_shown, message_in, marks_shown, marks_of, grant_shown, grant_in, no_memory, IsTextFault};
+ghost use Rattle.archive_tables.specs.Rows.{name_shown, place_shown, message_shown, message_in, marks_shown, marks_of, grant_shown, grant_in, no_memory, IsTextFault};
 
 use sqlite::{Error, Row};
 
@@ -39,6 +39,15 @@ pub fn read_name(row: &Row) -> Result<String, Error>
     ensures fault { IfErr result (λ e. (n : _) → row.now ≡ name_shown n → IsTextFault n e) }
 {
     row.get(0)
+}
+
+/// The number in a row that shows one.
+pub fn read_place(row: &Row) -> Result<i64, Error>
+    ensures read { IfOk result (λ place. (n : _) → row.now ≡ place_shown n → place ≡ n) }
+    ensures fault { IfErr result (λ e. (n : _) → row.now ≡ place_shown n → e ≡ no_memory) }
+{
+    let place: i64 = row.get(0)?;
+    Ok(place)
 }
 
 /// The message in a row that shows one.

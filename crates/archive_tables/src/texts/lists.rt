@@ -5,7 +5,7 @@ ghost use Rattle.std.specs.List.{list_any};
 ghost use Rattle.std.specs.Ordering.{nat_cmp};
 ghost use Rattle.std.specs.Cmp.Lexicographic.{slice_cmp};
 ghost use Rattle.archive_tables.specs.Rows.{name_shown};
-ghost use Rattle.archive_tables.specs.Calls.{Writes, Refuses, Finds, Leaves, IsUp, WasClean};
+ghost use Rattle.archive_tables.specs.Calls.{Writes, AsksOver, Refuses, Finds, Leaves, IsUp, WasClean};
 
 use sqlite::{Alter, Connection, Error, Row, params};
 
@@ -21,6 +21,7 @@ pub fn add_list<S: Alter>(conn: &mut Connection<S>, name: &str) -> Result<usize,
 /// Whether there is a list of the name.
 pub fn has_list<S: Alter>(conn: &mut Connection<S>, name: &str) -> Result<bool, Error>
     ensures found { Finds S.Store conn.old conn.new result (λ a found. found ≡ list_any (λ n. bytes_eq n name.now) a.lists) }
+    ensures held { AsksOver S.Store conn.old conn.new result (λ a found. found ≡ list_any (λ n. bytes_eq n name.now) a.lists) }
     ensures same { Leaves S.Store conn.old conn.new }
     ensures up { IsUp S.Store conn.old conn.new result }
     ensures clean { WasClean S.Store conn.old conn.new }

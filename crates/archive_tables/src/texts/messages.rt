@@ -1,13 +1,13 @@
 //! The table `message`.
 
-ghost use Rattle.std.specs.Prelude.{◌≡◌, ◌<◌, ◌++◌, ◌∷◌, [], false, Some, None, bytes_eq, filter, find, length, map, option_map, if◌then◌else◌, IfOk};
+ghost use Rattle.std.specs.Prelude.{◌≡◌, ◌<◌, ◌++◌, ◌∷◌, [], false, Some, None, bytes_eq, filter, find, length, map, option_map, if◌then◌else◌, IfOk, MatchOption};
 ghost use Rattle.std.specs.List.{list_any};
 ghost use Rattle.archive_machine.specs.Questions.{is_message};
 ghost use Rattle.sqlite.specs.Held.{state};
 ghost use Rattle.sqlite.specs.State.{HasCleanDisk};
 ghost use Rattle.archive_tables.specs.Tables.{IsKept, reaches_number};
-ghost use Rattle.archive_tables.specs.Rows.{new_message, message_shown, message_in, marks_of};
-ghost use Rattle.archive_tables.specs.Calls.{Writes, WritesWhen, Refuses, Finds, Leaves, IsUp, WasClean};
+ghost use Rattle.archive_tables.specs.Rows.{new_message, message_shown, message_in, marks_of, places_in, message_at, place_shown};
+ghost use Rattle.archive_tables.specs.Calls.{Writes, WritesWhen, WritesOver, AsksOver, AsksRows, Refuses, Finds, Leaves, IsUp, WasClean};
 
 use crate::rows::{MarksRow, MessageRow, read_marks, read_message};
 use sqlite::{Alter, Connection, Error, Row, params};
@@ -24,6 +24,8 @@ pub fn add_message<S: Alter>(
     ensures added { WritesWhen S.Store conn.old conn.new result (λ a. list_any (is_message list.now key.now) a.messages ≡ false)
         (λ a. record a { messages = a.messages ++ new_message list.now key.now sender.now arrival text.now ∷ [] }) }
     ensures refused { Refuses S.Store conn.old conn.new result }
+    ensures held { WritesOver S.Store conn.old conn.new result (λ a. list_any (is_message list.now key.now) a.messages ≡ false)
+        (λ a. record a { messages = a.messages ++ new_message list.now key.now sender.now arrival text.now ∷ [] }) }
     ensures clean { WasClean S.Store conn.old conn.new }
 {
     conn.execute(
@@ -35,6 +37,7 @@ pub fn add_message<S: Alter>(
 /// Whether the list has a message of the key.
 pub fn has_message<S: Alter>(conn: &mut Connection<S>, list: &str, key: &str) -> Result<bool, Error>
     ensures found { Finds S.Store conn.old conn.new result (λ a found. found ≡ list_any (is_message list.now key.now) a.messages) }
+    ensures held { AsksOver S.Store conn.old conn.new result (λ a found. found ≡ list_any (is_message list.now key.now) a.messages) }
     ensures same { Leaves S.Store conn.old conn.new }
     ensures up { IsUp S.Store conn.old conn.new result }
     ensures clean { WasClean S.Store conn.old conn.new }
@@ -101,9 +104,40 @@ pub fn messages<S: Alter>(conn: &mut Connection<S>, list: &str) -> Result<Vec<Ro
     )
 }
 
+/// The numbers of the list's messages, in mailbox order. `read_place` reads a row.
+pub fn places<S: Alter>(conn: &mut Connection<S>, list: &str) -> Result<Vec<Row>, Error>
+    ensures held { AsksRows S.Store conn.old conn.new result (λ trees rows. rows.items ≡ map place_shown (places_in trees list.now)) }
+    ensures clean { WasClean S.Store conn.old conn.new }
+{
+    conn.query_all(
+        "SELECT pos FROM message WHERE list = ?1 ORDER BY pos",
+        params![list],
+    )
+}
+
+/// The message of a number.
+pub fn message_at<S: Alter>(
+    conn: &mut Connection<S>,
+    place: i64,
+) -> Result<Option<MessageRow>, Error>
+    ensures held { AsksRows S.Store conn.old conn.new result (λ trees found. MatchOption found (message_at trees place ≡ None)
+        (λ row. (m : _) × (message_at trees place ≡ Some m) × (message_in m.list row ≡ m))) }
+    ensures clean { WasClean S.Store conn.old conn.new }
+{
+    let rows = conn.query_all(
+        "SELECT key, sender, arrival, text, withdrawn, embargo FROM message WHERE pos = ?1 ORDER BY pos",
+        params![place],
+    )?;
+    match rows.first() {
+        Some(row) => Ok(Some(read_message(row)?)),
+        None => Ok(None),
+    }
+}
+
 /// How many messages the list has. It reads the key of each.
 pub fn count_messages<S: Alter>(conn: &mut Connection<S>, list: &str) -> Result<usize, Error>
     ensures found { Finds S.Store conn.old conn.new result (λ a count. count ≡ length (filter (λ m. bytes_eq m.list list.now) a.messages)) }
+    ensures held { AsksOver S.Store conn.old conn.new result (λ a count. count ≡ length (filter (λ m. bytes_eq m.list list.now) a.messages)) }
     ensures same { Leaves S.Store conn.old conn.new }
     ensures up { IsUp S.Store conn.old conn.new result }
     ensures clean { WasClean S.Store conn.old conn.new }

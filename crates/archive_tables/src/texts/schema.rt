@@ -1,14 +1,14 @@
 //! The schema: the tables are made in one transaction, in this order.
 
-ghost use Rattle.std.specs.Prelude.{◌≡◌, ◌∷◌, [], pos, false, OnOk, IfOk, IsTrue, IsPermutation};
+ghost use Rattle.std.specs.Prelude.{◌≡◌, ◌∷◌, [], pos, false, Some, None, OnOk, IfOk, MatchResult, IsTrue, IsPermutation};
 ghost use Rattle.sqlite.specs.declared.types.Value.TheVariants.{Int};
 ghost use Rattle.sqlite.specs.State.{HasCleanDisk};
 ghost use Rattle.sqlite.specs.Held.{state};
 ghost use Rattle.archive_tables.specs.Schema.{no_schema, with_version, with_list, with_person, with_grant, archive_schema};
-ghost use Rattle.archive_tables.specs.Tables.{IsKept, IsOfArchive, archive_of};
+ghost use Rattle.archive_tables.specs.Tables.{IsHeld, IsKept, IsOfArchive, archive_of};
 ghost use Rattle.archive_tables.specs.Rows.{versions_shown};
-ghost use Rattle.archive_tables.specs.Making.{IsMaking, IsMade, Stops, empty_archive};
-ghost use Rattle.archive_tables.specs.Calls.{Finds, Leaves, IsUp, WasClean};
+ghost use Rattle.archive_tables.specs.Making.{IsMaking, IsMade, Stops, IsBackTo, IsStopped, empty_archive};
+ghost use Rattle.archive_tables.specs.Calls.{StaysOver, RestsOver, Rests, IsBackAt, IsHeldOrBack, Finds, Leaves, IsUp, WasClean};
 
 use sqlite::{Alter, Connection, Error, Row};
 
@@ -16,6 +16,9 @@ use sqlite::{Alter, Connection, Error, Row};
 pub fn begin<S: Alter>(conn: &mut Connection<S>) -> Result<usize, Error>
     ensures begun { HasCleanDisk (state S.Store conn.new) → (state S.Store conn.old).now.schema ≡ no_schema →
         OnOk result (IsMaking (state S.Store conn.new) no_schema (state S.Store conn.old).committed) }
+    ensures held { HasCleanDisk (state S.Store conn.new) → IsKept (state S.Store conn.old) → MatchResult result
+        (λ _. StaysOver (Some (state S.Store conn.old).now) (state S.Store conn.old) (state S.Store conn.new))
+        (λ _. Rests (state S.Store conn.old) (state S.Store conn.new)) }
     ensures stopped { Stops S.Store conn.old conn.new result }
     ensures clean { WasClean S.Store conn.old conn.new }
 {
@@ -92,6 +95,9 @@ pub fn add_version<S: Alter>(conn: &mut Connection<S>) -> Result<usize, Error>
 pub fn commit<S: Alter>(conn: &mut Connection<S>) -> Result<usize, Error>
     ensures kept { HasCleanDisk (state S.Store conn.new) → (before : _) → IsMade (state S.Store conn.old) before →
         OnOk result (IsKept (state S.Store conn.new) × (archive_of (state S.Store conn.new) ≡ empty_archive)) }
+    ensures held { HasCleanDisk (state S.Store conn.new) → (db : _) → IsHeld (Some db) (state S.Store conn.old) → MatchResult result
+        (λ _. StaysOver None (state S.Store conn.old) (state S.Store conn.new))
+        (λ _. RestsOver (Some db) (state S.Store conn.old) (state S.Store conn.new)) }
     ensures stopped { Stops S.Store conn.old conn.new result }
     ensures clean { WasClean S.Store conn.old conn.new }
 {
@@ -103,6 +109,9 @@ pub fn rollback<S: Alter>(conn: &mut Connection<S>) -> Result<usize, Error>
     ensures undone { HasCleanDisk (state S.Store conn.new) → OnOk result (IsTrue (state S.Store conn.new).is_open → IsTrue (state S.Store conn.old).is_open
         × ((state S.Store conn.new).now ≡ (state S.Store conn.old).committed) × ((state S.Store conn.new).committed ≡ (state S.Store conn.old).committed)
         × ((state S.Store conn.new).in_transaction ≡ false)) }
+    ensures left { HasCleanDisk (state S.Store conn.new) → (db : _) → IsHeldOrBack db (state S.Store conn.old)
+        → IsTrue (state S.Store conn.new).is_open → IsBackAt db (state S.Store conn.new) }
+    ensures back { HasCleanDisk (state S.Store conn.new) → (before : _) → IsStopped (state S.Store conn.old) before → IsBackTo (state S.Store conn.new) before }
     ensures stopped { Stops S.Store conn.old conn.new result }
     ensures clean { WasClean S.Store conn.old conn.new }
 {
@@ -114,6 +123,7 @@ pub fn versions<S: Alter>(conn: &mut Connection<S>) -> Result<Vec<Row>, Error>
     ensures found { Finds S.Store conn.old conn.new result (λ _ rows. rows.items ≡ (Int (pos 0) ∷ []) ∷ []) }
     ensures numbers { HasCleanDisk (state S.Store conn.new) → IsOfArchive (state S.Store conn.old) →
         IfOk result (λ rows. IsPermutation (versions_shown (state S.Store conn.old).now.trees) rows.items) }
+    ensures left { HasCleanDisk (state S.Store conn.new) → IsOfArchive (state S.Store conn.old) → IsBackTo (state S.Store conn.new) (state S.Store conn.old).now }
     ensures same { Leaves S.Store conn.old conn.new }
     ensures up { IsUp S.Store conn.old conn.new result }
     ensures clean { WasClean S.Store conn.old conn.new }

@@ -3,7 +3,8 @@ use Rattle.std.specs.Prelude.{⊤, map, string_bytes, IsPermutation, IsSorted}
 use Rattle.std.specs.Cmp.Lexicographic.{slice_cmp}
 use Rattle.std.specs.Ordering.{nat_cmp}
 use Rattle.sqlite.specs.Held.{state}
-use Rattle.archive_machine.specs.Questions.{AreListNames}
+use Rattle.archive_machine.specs.Questions.{list_names}
+use Rattle.archive_machine.proofs.OrderLemmas.{names_are}
 use Rattle.archive_tables.specs.Rows.{name_shown}
 use Rattle.archive_tables.specs.Tables.{archive_of}
 use Rattle.archive_store.proofs.StepLemmas.{begins, asks}
@@ -18,11 +19,7 @@ returns-clause-answer g c =
     (λ clean kept. c.in_ok-shown.ensures.found clean kept) in
     λ clean kept.
     let q = one clean kept in
-    let a = archive_of (state g.S.Store c.args.self.now.conn) in (
-      (λ _. (q.kept, q.same)),
-      ends c.read_names.result None _ (λ names. AreListNames a (map string_bytes names.items)) refl
-          (λ found read.
-          let same = read q.fact.1.0 (c.deref.ensures.value ∙ q.fact.1.1) in
-          record { all = subst (λ n. IsPermutation a.lists n) (sym same) q.fact.1.2; in_order = subst (λ n. IsSorted (slice_cmp nat_cmp) n) (sym same) q.fact.1.3 })
-          c.read_names.ensures.read c.read_names.ensures.fault,
-    )
+    let a = archive_of (state g.S.Store c.args.self.now.conn) in
+    ends c.read_names.result None _ (λ names. map string_bytes names.items ≡ list_names a) (q.kept, q.same) (λ _. (q.kept, q.same)) refl
+    (λ found read. read q.fact.1.0 (c.deref.ensures.value ∙ q.fact.1.1) ∙ names_are a q.fact.1.0 (record { all = q.fact.1.2; in_order = q.fact.1.3 }))
+    c.read_names.ensures.read c.read_names.ensures.fault

@@ -4,7 +4,7 @@ use Rattle.sqlite.specs.Held.{state}
 use Rattle.archive_machine.specs.Questions.{has_list, messages_in}
 use Rattle.archive_tables.specs.Rows.{message_shown}
 use Rattle.archive_tables.specs.Tables.{archive_of}
-use Rattle.archive_store.specs.Messages.{message_of}
+use Rattle.archive_machine.specs.Messages.{remembered}
 use Rattle.archive_store.proofs.StepLemmas.{begins, asks}
 use Rattle.archive_store.proofs.ReadingLemmas.{is_there, are_of, ends}
 use Rattle.archive_store.proofs.store.Store.rows.Goals as goal
@@ -20,8 +20,6 @@ returns-clause-answer g c =
     (λ clean kept. c.in_ok-shown.ensures.found clean kept) in
     λ clean kept.
     let q = two clean kept in
-    let a = archive_of (state g.S.Store c.args.self.now.conn) in (
-      (λ _. (q.kept, q.same)),
-      ends c.read_rows.result _ _ (λ found. map (message_of list) found.items ≡ messages_in a list) (is_there list a q.fact.0.1)
-          (λ found read. read list (messages_in a list) (c.deref.ensures.value ∙ q.fact.1) (are_of list a)) c.read_rows.ensures.read c.read_rows.ensures.fault,
-    )
+    let a = archive_of (state g.S.Store c.args.self.now.conn) in
+    ends c.read_rows.result _ _ (λ found. map (remembered list) found.items ≡ messages_in a list) (q.kept, q.same) (λ _. (q.kept, q.same)) (is_there list a q.fact.0.1)
+    (λ found read. read list (messages_in a list) (c.deref.ensures.value ∙ q.fact.1) (are_of list a)) c.read_rows.ensures.read c.read_rows.ensures.fault

@@ -27,13 +27,11 @@ returns-in-Some-clause-answer g c =
     let a = archive_of (state g.S.Store c.args.self.now.conn) in
     let fits = rw c.in_ok-rank.was at c.highest_rank.type_inv in
     let day = to_z w64 (of_z w64 c.day_number.result) in (
-      (λ _. (k.kept, k.same)),
-      (
-        is_answered person list a k.fact.0.0.1 k.fact.0.1,
-        c.in-Some.ensures.some ∙ to_z-of_z w64 c.in_ok-rank.rank (record { sfits = assumption fits }) ∙ standing_is person list c.args.day day c.in_ok-rank.rank a
-            (to_z-of_z w64 c.day_number.result (record { sfits = c.day_number.type_inv }) ∙ c.day_number.ensures)
-            (c.in_ok-rank.ensures (filter (is_grant_of person list) a.grants) (c.deref.ensures.value ∙ k.fact.1)),
-      ),
+      (k.kept, k.same),
+      is_answered person list a k.fact.0.0.1 k.fact.0.1,
+      c.in-Some.ensures.some ∙ to_z-of_z w64 c.in_ok-rank.rank (record { sfits = assumption fits }) ∙ standing_is person list c.args.day day c.in_ok-rank.rank a
+          (to_z-of_z w64 c.day_number.result (record { sfits = c.day_number.type_inv }) ∙ c.day_number.ensures)
+          (c.in_ok-rank.ensures (filter (is_grant_of person list) a.grants) (c.deref.ensures.value ∙ k.fact.1)),
     )
 
 pub returns-clause-answer : goal.returns-clause-answer
@@ -51,4 +49,4 @@ returns-clause-answer g c =
     (λ clean kept. c.in_ok-grants.ensures.found clean kept) in
     λ clean kept.
     let k = three clean kept in
-    ((λ _. (k.kept, k.same)), tt)
+    (λ _. (k.kept, k.same))

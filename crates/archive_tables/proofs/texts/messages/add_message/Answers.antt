@@ -2,7 +2,7 @@ use Rattle.std.proofs.Common.{w64, ap, ◌∙◌}
 use Rattle.std.proofs.lemmas.Int.{to_z-of_z}
 use Rattle.sqlite.specs.declared.types.Value.TheVariants.{Int}
 use Rattle.sqlite.specs.Held.{state}
-use Rattle.archive_tables.proofs.MessageLemmas.{tries_to_add}
+use Rattle.archive_tables.proofs.MessageLemmas.{tries_to_add, tries_over}
 use Rattle.archive_tables.proofs.texts.messages.add_message.Goals as goal
 
 pub returns-clause-added : goal.returns-clause-added
@@ -16,3 +16,9 @@ returns-clause-refused g c clean k =
     let number = c.params-to_sql-4.ensures ∙ ap Int (to_z-of_z w64 c.args.arrival c.ranges.arrival) in
     (tries_to_add c.args.list.now c.args.key.now c.args.sender.now c.args.arrival c.args.text.now (state g.S.Store c.args.conn.now) (state g.S.Store c.execute.new.self) c.execute.result k
     (rw (c.params-to_sql.ensures, c.params-to_sql-2.ensures, c.params-to_sql-3.ensures, number, c.params-to_sql-5.ensures) at (c.execute.ensures.runs clean))).1
+
+pub returns-clause-held : goal.returns-clause-held
+returns-clause-held g c clean behind k none =
+    let number = c.params-to_sql-4.ensures ∙ ap Int (to_z-of_z w64 c.args.arrival c.ranges.arrival) in
+    tries_over c.args.list.now c.args.key.now c.args.sender.now c.args.arrival c.args.text.now behind (state g.S.Store c.args.conn.now) (state g.S.Store c.execute.new.self) c.execute.result k none
+    (rw (c.params-to_sql.ensures, c.params-to_sql-2.ensures, c.params-to_sql-3.ensures, number, c.params-to_sql-5.ensures) at (c.execute.ensures.runs clean))

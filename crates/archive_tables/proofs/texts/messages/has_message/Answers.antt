@@ -2,7 +2,8 @@ use Rattle.std.proofs.Common.{ap, ◌∙◌, rules}
 use Rattle.std.specs.Prelude.{◌≡◌, not, ◌==◌, length}
 use Rattle.std.specs.Vec.{vec_len}
 use Rattle.sqlite.specs.Held.{state}
-use Rattle.archive_tables.proofs.MailboxLemmas.{has, has_not}
+use Rattle.archive_tables.proofs.RunLemmas.{on_fault}
+use Rattle.archive_tables.proofs.MailboxLemmas.{has, has_stays, has_not}
 use Rattle.archive_tables.proofs.texts.messages.has_message.Goals as goal
 
 pub returns-clause-found : goal.returns-clause-found
@@ -26,3 +27,17 @@ pub returns-clause-up : goal.returns-clause-up
 returns-clause-up g c clean k =
     (has (state g.S.Store c.args.conn.now) (state g.S.Store c.query_all.new.self) c.args.list.now k c.args.key.now c.in_ok-rows.rows.items
     (rw (c.params-to_sql.ensures, c.params-to_sql-2.ensures) at (c.in_ok-rows.ensures.ok clean))).1
+
+pub returns-clause-held : goal.returns-clause-held
+returns-clause-held g c clean behind k =
+    let shown = rw (c.params-to_sql.ensures, c.params-to_sql-2.ensures) at (c.in_ok-rows.ensures.ok clean) in
+    let it = has (state g.S.Store c.args.conn.now) (state g.S.Store c.query_all.new.self) c.args.list.now k c.args.key.now c.in_ok-rows.rows.items shown in
+    let len : vec_len c.in_ok-rows.rows ≡ length c.in_ok-rows.rows.items = search rules in (
+      ap not c.is_empty.ensures ∙ ap (λ n. not (n == 0)) len ∙ it.0,
+      has_stays (state g.S.Store c.args.conn.now) (state g.S.Store c.query_all.new.self) c.args.list.now k c.args.key.now c.in_ok-rows.rows.items shown,
+    )
+
+pub returns-in_err-rows-clause-held : goal.returns-in_err-rows-clause-held
+returns-in_err-rows-clause-held g c clean behind k = on_fault _ _ c.from_residual.result c.from_residual.ensures.1
+    (has_not (state g.S.Store c.args.conn.now) (state g.S.Store c.query_all.new.self) c.args.list.now k c.args.key.now c.in_err-rows.field-0.0
+    (rw (c.params-to_sql.ensures, c.params-to_sql-2.ensures) at (c.in_err-rows.ensures.err clean)))

@@ -6,6 +6,7 @@ use Rattle.archive_tables.specs.Schema.{no_schema}
 use Rattle.archive_tables.specs.Making.{IsMaking}
 use Rattle.archive_tables.proofs.RunLemmas.{execute_fails}
 use Rattle.archive_tables.proofs.MakeLemmas.{begins, begin_text}
+use Rattle.archive_tables.proofs.HeldLemmas.{begins_over}
 use Rattle.archive_tables.proofs.texts.schema.begin.Goals as goal
 
 done : (old new : State) → old.now.schema ≡ no_schema → (r : Result ℕ Error) → Executes begin_text [] old new r → OnOk r (IsMaking new no_schema old.committed)
@@ -21,3 +22,6 @@ returns-clause-begun g c clean has = done (state g.S.Store c.args.conn.now) (sta
 
 pub returns-clause-stopped : goal.returns-clause-stopped
 returns-clause-stopped g c clean = stops (state g.S.Store c.args.conn.now) (state g.S.Store c.execute.new.self) c.execute.result (c.execute.ensures.runs clean)
+
+pub returns-clause-held : goal.returns-clause-held
+returns-clause-held g c clean k = begins_over (state g.S.Store c.args.conn.now) (state g.S.Store c.execute.new.self) c.execute.result k (c.execute.ensures.runs clean)

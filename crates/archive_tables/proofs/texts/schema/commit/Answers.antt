@@ -7,6 +7,7 @@ use Rattle.archive_tables.specs.Tables.{IsKept, archive_of}
 use Rattle.archive_tables.specs.Making.{IsMade, empty_archive}
 use Rattle.archive_tables.proofs.RunLemmas.{execute_fails}
 use Rattle.archive_tables.proofs.MakeLemmas.{commits, commit_text}
+use Rattle.archive_tables.proofs.HeldLemmas.{commits_over}
 use Rattle.archive_tables.proofs.texts.schema.commit.Goals as goal
 
 done : (old new : State) (before : Database) → IsMade old before → (r : Result ℕ Error) → Executes commit_text [] old new r → OnOk r (IsKept new × (archive_of new ≡ empty_archive))
@@ -22,3 +23,6 @@ returns-clause-kept g c clean before k = done (state g.S.Store c.args.conn.now) 
 
 pub returns-clause-stopped : goal.returns-clause-stopped
 returns-clause-stopped g c clean = stops (state g.S.Store c.args.conn.now) (state g.S.Store c.execute.new.self) c.execute.result (c.execute.ensures.runs clean)
+
+pub returns-clause-held : goal.returns-clause-held
+returns-clause-held g c clean db k = commits_over db (state g.S.Store c.args.conn.now) (state g.S.Store c.execute.new.self) c.execute.result k (c.execute.ensures.runs clean)

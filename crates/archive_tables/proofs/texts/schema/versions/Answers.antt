@@ -9,8 +9,9 @@ use Rattle.sqlite.specs.Held.{state}
 use Rattle.sqlite.specs.State.{State, Shown, FailsToQuery}
 use Rattle.archive_tables.specs.Tables.{IsKept, IsOfArchive}
 use Rattle.archive_tables.specs.Rows.{versions_shown}
+use Rattle.archive_tables.specs.Making.{IsBackTo}
 use Rattle.archive_tables.specs.Calls.{Rests}
-use Rattle.archive_tables.proofs.VersionLemmas.{number_text, numbers_found, version_found, version_not_found}
+use Rattle.archive_tables.proofs.VersionLemmas.{number_text, numbers_found, numbers_leave, no_numbers_leave, version_found, version_not_found}
 use Rattle.archive_tables.proofs.texts.schema.versions.Goals as goal
 
 asked : (old new : State) (r : Result (Vec Row Global) Error) → IsKept old → IfOk r (λ rows. Shown number_text [] old new rows.items)
@@ -23,6 +24,16 @@ numbered : (old new : State) (r : Result (Vec Row Global) Error) → IsOfArchive
     → IfOk r (λ rows. IsPermutation (versions_shown old.now.trees) rows.items)
 numbered old new (Ok rows) o ok = numbers_found old new o rows.items ok
 numbered old new (Err e) o ok = tt
+
+leaves : (old new : State) (r : Result (Vec Row Global) Error) → IsOfArchive old → IfOk r (λ rows. Shown number_text [] old new rows.items)
+    → IfErr r (FailsToQuery number_text [] old new) → IsBackTo new old.now
+leaves old new (Ok rows) o ok err = numbers_leave old new o rows.items ok
+leaves old new (Err e) o ok err = no_numbers_leave old new o e err
+
+pub returns-clause-left : goal.returns-clause-left
+returns-clause-left g c clean o =
+    leaves (state g.S.Store c.args.conn.now) (state g.S.Store c.query_all.new.self) c.query_all.result o (c.query_all.ensures.ok clean)
+    (c.query_all.ensures.err clean)
 
 pub returns-clause-numbers : goal.returns-clause-numbers
 returns-clause-numbers g c clean o =

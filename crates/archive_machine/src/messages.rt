@@ -1,0 +1,15 @@
+//! A message of a list.
+use crate::keys::Key;
+use mail_core::Day;
+use mbox_core::OwnedItem;
+use policy_core::Withdrawn;
+
+/// A message of a list. Its item's text is the whole text. What it means is `remembered`.
+#[derive(Drop)]
+pub struct Message {
+    pub key: Key,
+    pub item: OwnedItem,
+    pub withdrawn: Withdrawn,
+    /// The day up to which it is held back.
+    pub embargo_until: Option<Day>,
+}

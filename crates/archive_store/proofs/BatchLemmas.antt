@@ -1,0 +1,252 @@
+-- Messages added to one list, many in one transaction.
+use Rattle.std.proofs.Common.{◌≡◌, inl, inr, ℕ, ◌+◌, ◌<◌, ◌≤◌, Bool, true, false, List, [], ◌∷◌, ◌++◌, length, get_or, take, map, filter, refl, ap, sym, subst, ◌∙◌, arith, Option, Some, None}
+use Rattle.std.specs.Prelude.{nat_lt, nat_le, not, bytes_eq, MatchOption, if◌then◌else◌}
+use Rattle.std.specs.List.{list_any}
+use Rattle.std.proofs.lemmas.Bool.{cases_Bool}
+use Rattle.std.proofs.lemmas.Bool.Decides.{nat_tests}
+use Rattle.std.proofs.lemmas.List.{map_more}
+use Rattle.std.proofs.lemmas.List.Sums.{sum_by_more}
+use Rattle.std.proofs.lemmas.Slice.Eq.{bytes_eq-Decides}
+use Rattle.sqlite.specs.Effect.{Database}
+use Rattle.sqlite.specs.State.{State}
+use Rattle.mbox_core.specs.Division.{Item, whole}
+use Rattle.archive_machine.specs.Records.{Archive, Message}
+use Rattle.archive_machine.specs.Commands.{add, Reply, Refusal, refused, no_list, too_large, already_known, list_full, taken_in}
+use Rattle.archive_machine.specs.Keys.{item_key}
+use Rattle.archive_machine.specs.Questions.{has_list, has_message, is_message, messages_in}
+use Rattle.archive_machine.specs.Machine.{Outcome, added_within, message_limit, keyed_message, new_message}
+use Rattle.archive_machine.specs.Runs.{taken, run, Tally, tally, is_new, is_known, is_too_large}
+use Rattle.archive_tables.specs.Tables.{IsHeld, IsKept, archive_of}
+use Rattle.archive_tables.specs.Calls.{ChangesOver, Rests, RestsOver, StaysOver, IsHeldOrBack}
+use Rattle.archive_store.specs.Batches.{IsCounted, AddsTo, HasTaken, IsAfter, IsFullAt, IsRefusedAt, text_bytes, tally_of}
+use Rattle.archive_store.specs.declared.batches.Report.{Report}
+use Rattle.archive_store.proofs.StepEquations.{add_known, add_full, add_new}
+use Rattle.archive_store.proofs.RunLemmas.{run_archive, run_replies, run_nothing}
+
+-- ---- one message
+
+abbrev tally_is : ℕ → ℕ → ℕ → Tally
+tally_is n k l = record { new = n; known = k; too_large = l }
+
+is_full : (n : ℕ) → 50000 ≤ n → true ≡ nat_le message_limit n
+is_full n h = grind (arith, nat_tests, h)
+
+has_room : (n : ℕ) → n < 50000 → false ≡ nat_le message_limit n
+has_room n h = grind (arith, nat_tests, h)
+
+counted_more : {X : Type 0} (p : X → Bool) (xs : List X) (x : X) → p x ≡ true → length (filter p (xs ++ x ∷ [])) ≡ length (filter p xs) + 1
+counted_more p [] x h = rw h refl
+counted_more p (y ∷ ys) x h = elim (cases_Bool (p y)) [
+  | inl kept ↦ rw kept (omega (arith, counted_more p ys x h))
+  | inr dropped ↦ rw dropped (counted_more p ys x h)
+]
+
+counted_same : {X : Type 0} (p : X → Bool) (xs : List X) (x : X) → p x ≡ false → length (filter p (xs ++ x ∷ [])) ≡ length (filter p xs)
+counted_same p [] x h = rw h refl
+counted_same p (y ∷ ys) x h = elim (cases_Bool (p y)) [
+  | inl kept ↦ rw kept (omega (arith, counted_same p ys x h))
+  | inr dropped ↦ rw dropped (counted_same p ys x h)
+]
+
+same_word : (a : List ℕ) → bytes_eq a a ≡ true
+same_word a = (bytes_eq-Decides a a).1 refl
+
+module _ (behind : Option Database) (old new : State) (list : List ℕ) (item : Item) (count : ℕ) (n : IsCounted (archive_of old) list count) where
+  pub large_over : true ≡ nat_lt 4194304 (length (whole item.text)) → StaysOver behind old new → AddsTo behind old new list item count (refused too_large)
+  large_over large stays = (
+    stays.0,
+    ap (λ a. (a, refused too_large)) stays.1 ∙ rw (n.is_there, sym large) refl,
+    subst (λ a. IsCounted a list count) (sym stays.1) n,
+  )
+
+  module _ (k : List ℕ) (small : false ≡ nat_lt 4194304 (length (whole item.text))) where
+    pub known_over : k ≡ item_key item → true ≡ list_any (is_message list k) (archive_of old).messages → StaysOver behind old new
+        → AddsTo behind old new list item count already_known
+    known_over e known stays = (
+      stays.0,
+      ap (λ a. (a, already_known)) stays.1 ∙ sym (add_known message_limit list k item e small (archive_of old) ((tt, sym n.is_there), known)),
+      subst (λ a. IsCounted a list count) (sym stays.1) n,
+    )
+
+    pub full_over : k ≡ item_key item → false ≡ list_any (is_message list k) (archive_of old).messages → 50000 ≤ count → StaysOver behind old new
+        → AddsTo behind old new list item count (refused list_full)
+    full_over e none full stays = (
+      stays.0,
+      ap (λ a. (a, refused list_full)) stays.1
+          ∙ sym (add_full message_limit list k item e small (archive_of old) (((tt, sym n.is_there), none), subst (λ m. true ≡ nat_le message_limit m) (sym n.length_is) (is_full count full))),
+      subst (λ a. IsCounted a list count) (sym stays.1) n,
+    )
+
+    pub new_over : (key : List ℕ) (mid : State) → k ≡ key → key ≡ item_key item → false ≡ list_any (is_message list k) (archive_of old).messages → count < 50000
+        → StaysOver behind old mid → ChangesOver behind mid new (λ a. record a { messages = a.messages ++ keyed_message list key item ∷ [] })
+        → AddsTo behind old new list item (count + 1) taken_in
+    new_over key mid e ek none room stays written =
+        let change : Archive → Archive = λ a. record a { messages = a.messages ++ keyed_message list key item ∷ [] } in
+        let is : archive_of new ≡ change (archive_of old) = written.1 ∙ ap change stays.1 in
+        let more : IsCounted (change (archive_of old)) list (count + 1) = record {
+          is_there = n.is_there;
+          length_is = counted_more (λ (m : Message). bytes_eq m.list list) (archive_of old).messages (keyed_message list key item) (same_word list) ∙ ap (λ m. m + 1) n.length_is;
+        } in (
+          written.0,
+          ap (λ a. (a, taken_in)) is
+              ∙ sym (add_new message_limit list k key item e ek small (archive_of old) (((tt, sym n.is_there), none), subst (λ m. false ≡ nat_le message_limit m) (sym n.length_is) (has_room count room))),
+          subst (λ a. IsCounted a list (count + 1)) (sym is) more,
+        )
+
+pub none_of : (old mid : State) (list k key : List ℕ) → k ≡ key → false ≡ list_any (is_message list k) (archive_of old).messages → archive_of mid ≡ archive_of old
+    → list_any (is_message list key) (archive_of mid).messages ≡ false
+none_of old mid list k key e none same =
+    subst (λ (a : Archive). list_any (is_message list key) a.messages ≡ false) (sym same) (subst (λ w. list_any (is_message list w) (archive_of old).messages ≡ false) e (sym none))
+
+-- ---- messages one after the other
+
+abbrev outcome_by : Archive → Archive → Bool → Bool → Bool → Bool → Outcome
+outcome_by a x there large known full =
+    if not there then (a, refused no_list) else if large then (a, refused too_large) else if known then (a, already_known) else if full then (a, refused list_full) else (x, taken_in)
+
+-- a refusal changes nothing
+refusal_stays : (a x : Archive) (there large known full : Bool) (why : Refusal) → (outcome_by a x there large known full).1 ≡ refused why → (outcome_by a x there large known full).0 ≡ a
+refusal_stays a x false large known full why is = refl
+refusal_stays a x true true known full why is = refl
+refusal_stays a x true false true full why is = refl
+refusal_stays a x true false false true why is = refl
+refusal_stays a x true false false false why is = absurd cc
+
+-- only where it holds as many as the limit
+full_is : (a x : Archive) (there large known full : Bool) → (outcome_by a x there large known full).1 ≡ refused list_full → full ≡ true
+full_is a x false large known full is = absurd cc
+full_is a x true true known full is = absurd cc
+full_is a x true false true full is = absurd cc
+full_is a x true false false true is = refl
+full_is a x true false false false is = absurd cc
+
+is_limit : (n : ℕ) → nat_le message_limit n ≡ true → 50000 ≤ n
+is_limit n h = grind (arith, nat_tests, h)
+
+module _ (a : Archive) (list : List ℕ) (item : Item) where
+  the_new : Archive
+  the_new = record a { messages = a.messages ++ new_message list item ∷ [] }
+
+  large : Bool
+  large = nat_lt 4194304 (length (whole item.text))
+
+  pub holds_50000 : (added_within message_limit a list item).1 ≡ refused list_full → 50000 ≤ length (messages_in a list)
+  unfolding the_new large
+  holds_50000 is = is_limit _ (full_is a the_new (has_list a list) large (has_message a list (item_key item)) (nat_le message_limit (length (messages_in a list))) is)
+
+  pub refused_stays : (added_within message_limit a list item).1 ≡ refused list_full → (added_within message_limit a list item).0 ≡ a
+  unfolding the_new large
+  refused_stays is = refusal_stays a the_new (has_list a list) large (has_message a list (item_key item)) (nat_le message_limit (length (messages_in a list))) list_full is
+
+module _ (a : Archive) (list : List ℕ) (items : List Item) (i : ℕ) (item : Item) (within : i < length items) (is : item ≡ get_or items i item) where
+  one_more_is : map (add list) (take (i + 1) items) ≡ map (add list) (take i items) ++ add list item ∷ []
+  one_more_is = map_more (add list) items i item within ∙ ap (λ x. map (add list) (take i items) ++ add list x ∷ []) (sym is)
+
+  pub taken_more : (taken a list (take (i + 1) items)).archive ≡ (added_within message_limit (taken a list (take i items)).archive list item).0
+  taken_more = ap (λ cs. (run a cs).archive) one_more_is ∙ run_archive a (map (add list) (take i items)) (add list item)
+
+  pub told_more : (taken a list (take (i + 1) items)).replies ≡ (taken a list (take i items)).replies ++ (added_within message_limit (taken a list (take i items)).archive list item).1 ∷ []
+  told_more = ap (λ cs. (run a cs).replies) one_more_is ∙ run_replies a (map (add list) (take i items)) (add list item)
+
+-- ---- the report
+
+same_tally : (n k l n' k' l' : ℕ) → n ≡ n' → k ≡ k' → l ≡ l' → tally_is n k l ≡ tally_is n' k' l'
+same_tally n k l n' k' l' e f g = λ i. tally_is (e i) (f i) (g i)
+
+module _ (r : Report) (replies : List Reply) (t : tally_of r ≡ tally replies) where
+  pub told_new : tally_is (r.new + 1) r.known r.too_large ≡ tally (replies ++ taken_in ∷ [])
+  told_new = same_tally _ _ _ _ _ _
+      (ap (λ (x : Tally). x.new + 1) t ∙ sym (counted_more is_new replies taken_in refl))
+      (ap (λ (x : Tally). x.known) t ∙ sym (counted_same is_known replies taken_in refl))
+      (ap (λ (x : Tally). x.too_large) t ∙ sym (counted_same is_too_large replies taken_in refl))
+
+  pub told_known : tally_is r.new (r.known + 1) r.too_large ≡ tally (replies ++ already_known ∷ [])
+  told_known = same_tally _ _ _ _ _ _
+      (ap (λ (x : Tally). x.new) t ∙ sym (counted_same is_new replies already_known refl))
+      (ap (λ (x : Tally). x.known + 1) t ∙ sym (counted_more is_known replies already_known refl))
+      (ap (λ (x : Tally). x.too_large) t ∙ sym (counted_same is_too_large replies already_known refl))
+
+  pub told_too_large : tally_is r.new r.known (r.too_large + 1) ≡ tally (replies ++ refused too_large ∷ [])
+  told_too_large = same_tally _ _ _ _ _ _
+      (ap (λ (x : Tally). x.new) t ∙ sym (counted_same is_new replies (refused too_large) refl))
+      (ap (λ (x : Tally). x.known) t ∙ sym (counted_same is_known replies (refused too_large) refl))
+      (ap (λ (x : Tally). x.too_large + 1) t ∙ sym (counted_more is_too_large replies (refused too_large) refl))
+
+-- ---- one item more
+
+module _ (behind : Option Database) (mid new : State) (a : Archive) (list : List ℕ) (items : List Item) (i before after : ℕ) (item : Item) (told : Report)
+    (so_far : HasTaken behind mid a list (take i items) before told) (within : i < length items) (is : item ≡ get_or items i item) where
+  -- the machine's answer
+  answer_is : (reply : Reply) → AddsTo behind mid new list item after reply → reply ≡ (added_within message_limit (taken a list (take i items)).archive list item).1
+  answer_is reply adds = ap (λ (p : Outcome). p.1) adds.1 ∙ ap (λ x. (added_within message_limit x list item).1) so_far.archive_is
+
+  pub one_taken : (reply : Reply) (telling : Report) → AddsTo behind mid new list item after reply
+      → tally_of telling ≡ tally ((taken a list (take i items)).replies ++ reply ∷ []) → HasTaken behind new a list (take (i + 1) items) after telling
+  one_taken reply telling adds tells = record {
+    held = adds.0;
+    archive_is = ap (λ (p : Outcome). p.0) adds.1 ∙ ap (λ x. (added_within message_limit x list item).0) so_far.archive_is ∙ sym (taken_more a list items i item within is);
+    counted = adds.2;
+    told = tells ∙ ap (λ r. tally ((taken a list (take i items)).replies ++ r ∷ [])) (answer_is reply adds) ∙ ap tally (sym (told_more a list items i item within is));
+  }
+
+  pub none_taken : AddsTo behind mid new list item after (refused list_full) → HasTaken behind new a list (take i items) after told × IsFullAt a list items i
+  none_taken adds =
+      let full = answer_is (refused list_full) adds in (
+        record {
+          held = adds.0;
+          archive_is = ap (λ (p : Outcome). p.0) adds.1 ∙ refused_stays (archive_of mid) list item (sym (ap (λ (p : Outcome). p.1) adds.1)) ∙ so_far.archive_is;
+          counted = adds.2;
+          told = so_far.told;
+        },
+        record {
+          within = within;
+          full = holds_50000 (taken a list (take i items)).archive list item (sym full);
+          refuses = told_more a list items i item within is ∙ ap (λ r. (taken a list (take i items)).replies ++ r ∷ []) (sym full);
+        },
+      )
+
+pub held_or_back : (db : Database) (old new : State) → RestsOver (Some db) old new → IsHeldOrBack db new
+held_or_back db old new rests up = elim (rests up) [ inl held ↦ inl held.0 | inr back ↦ inr back ]
+
+-- ---- transactions one after the other
+
+-- the same archive, over something else
+pub stays_taken : (before after : Option Database) (old new : State) (a : Archive) (list : List ℕ) (items : List Item) (count : ℕ) (told : Report)
+    → HasTaken before old a list items count told → StaysOver after old new → HasTaken after new a list items count told
+stays_taken before after old new a list items count told t stays = record {
+  held = stays.0;
+  archive_is = stays.1 ∙ t.archive_is;
+  counted = subst (λ x. IsCounted x list count) (sym stays.1) t.counted;
+  told = t.told;
+}
+
+abbrev pub no_report : Report
+no_report = record { new = 0; known = 0; too_large = 0 }
+
+no_replies : (a : Archive) → tally_of no_report ≡ tally (run a []).replies
+unfolding run
+no_replies a = refl
+
+-- nothing is taken yet
+pub first_taken : (behind : Option Database) (s : State) (a : Archive) (list : List ℕ) (items : List Item) (count : ℕ) → IsHeld behind s → archive_of s ≡ a → IsCounted (archive_of s) list count
+    → HasTaken behind s a list (take 0 items) count no_report
+first_taken behind s a list items count k is n = record { held = k; archive_is = is ∙ run_nothing a; counted = n; told = no_replies a }
+
+-- ---- the bytes of a transaction
+
+pub bytes_more : (items : List Item) (i : ℕ) (item : Item) → i < length items → item ≡ get_or items i item → text_bytes (take (i + 1) items) ≡ text_bytes (take i items) + length item.text
+bytes_more items i item within is = sum_by_more (λ (x : Item). length x.text) items i item within ∙ ap (λ x. text_bytes (take i items) + length x.text) (sym is)
+
+-- ---- where no message was added
+
+pub none_added : (o : Option Refusal) (old new : State) (list : List ℕ) (items : List Item)
+    → MatchOption o (Rests old new) (λ r. StaysOver None old new × (r ≡ no_list) × (has_list (archive_of old) list ≡ false))
+    → MatchOption o (IsAfter new (archive_of old) list (take 0 items))
+    (λ r. IsKept new × (archive_of new ≡ (taken (archive_of old) list (take 0 items)).archive) × IsRefusedAt (archive_of old) list items 0 r)
+none_added None old new list items rests = λ up. let r = rests up in (r.0, r.1 ∙ run_nothing (archive_of old))
+none_added (Some r) old new list items it =
+    (it.0.0, it.0.1 ∙ run_nothing (archive_of old), subst (λ why. IsRefusedAt (archive_of old) list items 0 why) (sym it.1) (refl, it.2))
+
+pub no_reason : (o : Option Refusal) {X : Type 0} (Y : Refusal → Type 0) → o ≡ None → X → MatchOption o X Y
+no_reason None Y is x = x
+no_reason (Some r) Y is x = absurd cc

@@ -1,0 +1,46 @@
+-- Worked examples of calls that follow one another: they name neither tables nor a database.
+use Rattle.std.proofs.Common.{◌≡◌, ap, subst, ◌∙◌, Option, Some, None, Result, Ok, Err}
+use Rattle.sqlite.specs.Store.{Ghosts}
+use Rattle.archive_machine.specs.Records.{Archive}
+use Rattle.archive_machine.specs.Commands.{Refusal, Reply}
+use Rattle.archive_machine.specs.Machine.{Outcome}
+use Rattle.archive_tables.specs.Calls.{WasClean}
+use Rattle.archive_store.specs.Held.{held_of}
+use Rattle.archive_store.specs.declared.store.Store.{Store}
+use Rattle.archive_store.specs.declared.faults.StoreFault.{StoreFault}
+use Rattle.archive_store.specs.Replies.{refusal, Answers, Does}
+use Rattle.archive_store.specs.Told.{Goes, GoesIfOpen}
+use Rattle.archive_store.proofs.Joins.{asked, ask_failed, stepped, goes_on, goes_on_if_open, goes_as, goes_as_if_open}
+
+abbrev NotRefused : Type 0
+NotRefused = ◌≡◌ {A = Option Refusal} None None
+
+module _ {S : Type 0} (g : Ghosts S) (old mid new : Store S) {A B : Type 0} (first : Result A StoreFault) (second : Result B StoreFault)
+    (SaysFirst : Archive → A → Type 0) (SaysSecond : Archive → B → Type 0)
+    (was_first : WasClean g (held_of old) (held_of mid)) (was_second : WasClean g (held_of mid) (held_of new))
+    (asks_second : Answers g (held_of mid) (held_of new) second (λ _. None) SaysSecond) where
+  -- two questions that are answered
+  two_questions : (a : A) (b : B) → first ≡ Ok a → second ≡ Ok b → Answers g (held_of old) (held_of mid) first (λ _. None) SaysFirst
+      → Goes g old new (λ x z. (z ≡ x) × SaysFirst x a × SaysSecond x b)
+  two_questions a b is_a is_b asks_first =
+      goes_as g old new (λ x z. (y : Archive) × ((y ≡ x) × NotRefused × SaysFirst x a) × ((z ≡ y) × NotRefused × SaysSecond y b)) (λ x z. (z ≡ x) × SaysFirst x a × SaysSecond x b)
+      (λ x z h. (h.2.0 ∙ h.1.0, h.1.2, subst (λ y. SaysSecond y b) h.1.0 h.2.2))
+      (goes_on g old mid new (λ x y. (y ≡ x) × NotRefused × SaysFirst x a) (λ y z. (z ≡ y) × NotRefused × SaysSecond y b)
+      (asked g old mid was_first first a (λ _. None) SaysFirst is_a asks_first) (asked g mid new was_second second b (λ _. None) SaysSecond is_b asks_second))
+
+  -- a command, and then a question that is answered from what it made
+  command_and_question : (step : Archive → Outcome) (said : Option Reply) (reply : Reply) (b : B) → said ≡ Some reply → second ≡ Ok b → Does g (held_of old) (held_of mid) step said
+      → Goes g old new (λ x z. (z ≡ (step x).0) × SaysSecond (step x).0 b)
+  command_and_question step said reply b is_said is_b does =
+      goes_as g old new (λ x z. (y : Archive) × ((y, reply) ≡ step x) × ((z ≡ y) × NotRefused × SaysSecond y b)) (λ x z. (z ≡ (step x).0) × SaysSecond (step x).0 b)
+      (λ x z h. let made = ap (λ (o : Outcome). o.0) h.1 in (h.2.0 ∙ made, subst (λ y. SaysSecond y b) made h.2.2))
+      (goes_on g old mid new (λ x y. (y, reply) ≡ step x) (λ y z. (z ≡ y) × NotRefused × SaysSecond y b)
+      (stepped g old mid was_first step said reply is_said does) (asked g mid new was_second second b (λ _. None) SaysSecond is_b asks_second))
+
+  -- a question that is answered, and one in which memory or the database was at fault
+  question_and_fault : (a : A) (fault : StoreFault) → first ≡ Ok a → second ≡ Err fault → refusal fault ≡ None → Answers g (held_of old) (held_of mid) first (λ _. None) SaysFirst
+      → GoesIfOpen g old new (λ x z. z ≡ x)
+  question_and_fault a fault is_a is_fault told asks_first =
+      goes_as_if_open g old new (λ x z. (y : Archive) × ((y ≡ x) × NotRefused × SaysFirst x a) × (z ≡ y)) (λ x z. z ≡ x) (λ x z h. h.2 ∙ h.1.0)
+      (goes_on_if_open g old mid new (λ x y. (y ≡ x) × NotRefused × SaysFirst x a) (λ y z. z ≡ y)
+      (asked g old mid was_first first a (λ _. None) SaysFirst is_a asks_first) (ask_failed g mid new was_second second fault (λ _. None) SaysSecond is_fault told asks_second))

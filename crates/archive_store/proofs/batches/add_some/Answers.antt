@@ -1,0 +1,47 @@
+use Rattle.std.proofs.Common.{◌<◌, ◌∙◌, ap, length, take, arith, Some, inr}
+use Rattle.sqlite.specs.Held.{state}
+use Rattle.archive_machine.specs.Commands.{taken_in, already_known, refused, too_large}
+use Rattle.archive_machine.specs.Runs.{taken}
+use Rattle.archive_tables.proofs.RunLemmas.{on_fault}
+use Rattle.archive_store.specs.Batches.{told_in, tally_of}
+use Rattle.archive_store.proofs.BatchLemmas.{one_taken, none_taken, held_or_back, told_new, told_known, told_too_large}
+use Rattle.archive_store.proofs.batches.add_some.Goals.{in-New, in-Known, in-TooLarge}
+use Rattle.archive_store.proofs.batches.add_some.Goals as goal
+
+pub returns-in-Full-clause-step : goal.returns-in-Full-clause-step
+returns-in-Full-clause-step g c = λ clean db a from.
+    let so_far = c.loop-at.invariant.4 (c.add_counted.ensures.clean clean) db a from in
+    let within : c.loop-at.at < length c.args.items.now = omega (arith, c.loop-at-test.true, c.requires.place) in
+    let it = none_taken (Some db) (state g.S.Store c.loop-at.conn) (state g.S.Store c.add_counted.new.conn) a c.args.list.now c.args.items.now c.loop-at.at c.loop-at.count c.add_counted.new.count
+    c.index-items-at.result c.loop-at.report so_far within c.index-items-at.is (rw c.in-Full.is at (c.in_ok-add_counted.ensures.step clean (Some db) so_far.held so_far.counted)) in
+    (it.0, inr it.1)
+
+pub returns-in_err-add_counted-clause-step : goal.returns-in_err-add_counted-clause-step
+returns-in_err-add_counted-clause-step g c = λ clean db a from.
+    let so_far = c.loop-at.invariant.4 (c.add_counted.ensures.clean clean) db a from in
+    on_fault _ _ c.from_residual.result c.from_residual.ensures.1
+    (held_or_back db (state g.S.Store c.loop-at.conn) (state g.S.Store c.add_counted.new.conn) (c.in_err-add_counted.ensures.step clean (Some db) so_far.held so_far.counted))
+
+pub loop-at-preserved : goal.loop-at-preserved
+loop-at-preserved g c = (
+  omega (arith, c.loop-at.invariant.0),
+  omega (arith, c.loop-at-test.true),
+  elim c.match-branch-2.branch [
+    | in-New w ↦ (let told = ap told_in w.report-is in omega (arith, told, c.loop-at.invariant.2))
+    | in-Known w ↦ (let told = ap told_in w.report-is in omega (arith, told, c.loop-at.invariant.2))
+    | in-TooLarge w ↦ (let told = ap told_in w.report-is in omega (arith, told, c.loop-at.invariant.2))
+  ],
+  (λ clean. c.loop-at.invariant.3 (c.add_counted.ensures.clean clean)),
+  (λ clean db a from.
+      let so_far = c.loop-at.invariant.4 (c.add_counted.ensures.clean clean) db a from in
+      let within : c.loop-at.at < length c.args.items.now = omega (arith, c.loop-at-test.true, c.requires.place) in
+      let more = one_taken (Some db) (state g.S.Store c.loop-at.conn) (state g.S.Store c.add_counted.new.conn) a c.args.list.now c.args.items.now c.loop-at.at c.loop-at.count c.add_counted.new.count
+      c.index-items-at.result c.loop-at.report so_far within c.index-items-at.is in
+      let adds = c.in_ok-add_counted.ensures.step clean (Some db) so_far.held so_far.counted in
+      let replies = (taken a c.args.list.now (take c.loop-at.at c.args.items.now)).replies in
+      elim c.match-branch-2.branch [
+        | in-New w ↦ more taken_in c.match-branch-2.report (rw w.in-New.is at adds) (ap tally_of w.report-is ∙ told_new c.loop-at.report replies so_far.told)
+        | in-Known w ↦ more already_known c.match-branch-2.report (rw w.in-Known.is at adds) (ap tally_of w.report-is ∙ told_known c.loop-at.report replies so_far.told)
+        | in-TooLarge w ↦ more (refused too_large) c.match-branch-2.report (rw w.in-TooLarge.is at adds) (ap tally_of w.report-is ∙ told_too_large c.loop-at.report replies so_far.told)
+      ]),
+)

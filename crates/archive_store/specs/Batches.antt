@@ -1,0 +1,115 @@
+-- Messages added to one list, many in one transaction.
+use Rattle.std.specs.Prelude.{◌≡◌, ◌⊎◌, ℕ, ◌+◌, ◌<◌, ◌≤◌, true, false, IsTrue, List, [], ◌∷◌, ◌++◌, length, take, Option, Some, None, Result, MatchResult, MatchOption}
+use Rattle.std.specs.List.{list_any, sum_by}
+use Rattle.sqlite.specs.Effect.{Database}
+use Rattle.sqlite.specs.Store.{Ghosts}
+use Rattle.sqlite.specs.Held.{Held, state}
+use Rattle.sqlite.specs.State.{State, HasCleanDisk}
+use Rattle.mbox_core.specs.Division.{Item}
+use Rattle.archive_machine.specs.Records.{Archive}
+use Rattle.archive_machine.specs.Commands.{Refusal, no_list, list_full, too_large, Reply, taken_in, already_known, refused}
+use Rattle.archive_machine.specs.Questions.{has_list, messages_in, is_message}
+use Rattle.archive_machine.specs.Machine.{added_within, message_limit, keyed_message}
+use Rattle.archive_machine.specs.Runs.{taken, Tally, tally}
+use Rattle.archive_tables.specs.Tables.{IsHeld, IsKept, archive_of}
+use Rattle.archive_tables.specs.Calls.{ChangesOver, RestsOver, Rests, StaysOver, IsHeldOrBack}
+use Rattle.archive_store.specs.Replies.{refusal}
+use Rattle.archive_store.specs.declared.batches.Report.{Report}
+use Rattle.archive_store.specs.declared.batches.Taken.{Taken}
+use Rattle.archive_store.specs.declared.batches.Taken.TheVariants.{New, Known, TooLarge, Full}
+use Rattle.archive_store.specs.declared.batches.AddStop.{AddStop}
+use Rattle.archive_store.specs.declared.faults.StoreFault.{StoreFault}
+
+abbrev pub tally_of : Report → Tally
+tally_of r = record { new = r.new; known = r.known; too_large = r.too_large }
+
+-- how many messages a report tells of
+abbrev pub told_in : Report → ℕ
+told_in r = r.new + r.known + r.too_large
+
+-- the bytes of their texts, as they stand in a file
+abbrev pub text_bytes : List Item → ℕ
+text_bytes = sum_by (λ (item : Item). length item.text)
+
+abbrev pub taken_reply : Taken → Reply
+taken_reply New = taken_in
+taken_reply Known = already_known
+taken_reply TooLarge = refused too_large
+taken_reply Full = refused list_full
+
+-- the list is there, and holds so many messages
+pub record IsCounted (a : Archive) (list : List ℕ) (count : ℕ) : Type 0 where
+  pub is_there : has_list a list ≡ true
+  pub length_is : length (messages_in a list) ≡ count
+
+-- one message more: the tables and the answer are what the machine says, and the count is right again
+abbrev pub AddsTo : Option Database → State → State → List ℕ → Item → ℕ → Reply → Type 0
+AddsTo behind old new list item after reply =
+    IsHeld behind new × ((archive_of new, reply) ≡ added_within message_limit (archive_of old) list item) × IsCounted (archive_of new) list after
+
+-- the archive is what these items make of that one, and the count and the report are right
+pub record HasTaken (behind : Option Database) (s : State) (a : Archive) (list : List ℕ) (items : List Item) (count : ℕ) (report : Report) : Type 0 where
+  pub held : IsHeld behind s
+  pub archive_is : archive_of s ≡ (taken a list items).archive
+  pub counted : IsCounted (archive_of s) list count
+  pub told : tally_of report ≡ tally (taken a list items).replies
+
+-- the archive is what these items make of that one, if the connection is open
+abbrev pub IsAfter : State → Archive → List ℕ → List Item → Type 0
+IsAfter s a list items = IsTrue s.is_open → IsKept s × (archive_of s ≡ (taken a list items).archive)
+
+-- after the items before this place the list holds 50,000 messages, and the machine refuses the next for that
+pub record IsFullAt (a : Archive) (list : List ℕ) (items : List Item) (at : ℕ) : Type 0 where
+  pub within : at < length items
+  pub full : 50000 ≤ length (messages_in (taken a list (take at items)).archive list)
+  pub refuses : (taken a list (take (at + 1) items)).replies ≡ (taken a list (take at items)).replies ++ refused list_full ∷ []
+
+-- why items are refused from this place on
+abbrev pub IsRefusedAt : Archive → List ℕ → List Item → ℕ → Refusal → Type 0
+IsRefusedAt a list items at no_list = (at ≡ 0) × (has_list a list ≡ false)
+IsRefusedAt a list items at list_full = IsFullAt a list items at
+IsRefusedAt a list items at _ = ⊥
+
+module _ {S : Type 0} (g : Ghosts S) (old new : Held S) where
+  -- a message that the tables do not hold is written down after the others
+  abbrev pub TakesInOver : Result (Unit {0}) StoreFault → List ℕ → List ℕ → Item → Type 0
+  TakesInOver result list key item = HasCleanDisk (state g new) → (behind : Option Database) → IsHeld behind (state g old) → list_any (is_message list key) (archive_of (state g old)).messages ≡ false
+      → MatchResult result (λ _. ChangesOver behind (state g old) (state g new) (λ a. record a { messages = a.messages ++ keyed_message list key item ∷ [] }))
+      (λ fault. (refusal fault ≡ None) × RestsOver behind (state g old) (state g new))
+
+  abbrev pub AddsOne : Result Taken StoreFault → List ℕ → Item → ℕ → ℕ → Type 0
+  AddsOne result list item before after =
+      HasCleanDisk (state g new) → (behind : Option Database) → IsHeld behind (state g old) → IsCounted (archive_of (state g old)) list before
+      → MatchResult result (λ taken. AddsTo behind (state g old) (state g new) list item after (taken_reply taken)) (λ _. RestsOver behind (state g old) (state g new))
+
+  -- Within a transaction, where the first `from` items are taken: the items up to where it came are taken, which is the end
+  -- unless the list is full. After a fault the connection is within it still, or back already, if it is open.
+  abbrev pub AddsSome : Result ℕ StoreFault → List ℕ → List Item → ℕ → ℕ → ℕ → Report → ℕ → Report → Type 0
+  AddsSome result list items from to before told after telling =
+      HasCleanDisk (state g new) → (db : Database) (a : Archive) → HasTaken (Some db) (state g old) a list (take from items) before told
+      → MatchResult result
+      (λ at. HasTaken (Some db) (state g new) a list (take at items) after telling × ((at ≡ to) ⊎ IsFullAt a list items at)) (λ _. IsHeldOrBack db (state g new))
+
+  -- A transaction of its own: the same, and after a fault the first `from` items are taken, if the connection is open.
+  abbrev pub AddsBatch : Result ℕ StoreFault → List ℕ → List Item → ℕ → ℕ → ℕ → Report → ℕ → Report → Type 0
+  AddsBatch result list items from to before told after telling =
+      HasCleanDisk (state g new) → (a : Archive) → HasTaken None (state g old) a list (take from items) before told
+      → MatchResult result
+      (λ at. HasTaken None (state g new) a list (take at items) after telling × ((at ≡ to) ⊎ IsFullAt a list items at)) (λ _. IsAfter (state g new) a list (take from items))
+
+  -- All items, and the report counts the machine's replies. After a stop the first `done`, those of finished transactions: for
+  -- a refusal with its cause, and where memory or the database was at fault, if the connection is still open.
+  abbrev pub AddsAll : Result Report AddStop → List ℕ → List Item → Type 0
+  AddsAll result list items = HasCleanDisk (state g new) → IsKept (state g old) →
+      let a = archive_of (state g old) in
+      MatchResult result
+      (λ report. IsKept (state g new) × (archive_of (state g new) ≡ (taken a list items).archive) × (tally_of report ≡ tally (taken a list items).replies))
+      (λ stop. MatchOption (refusal stop.fault) (IsAfter (state g new) a list (take stop.done items))
+      (λ r. IsKept (state g new) × (archive_of (state g new) ≡ (taken a list (take stop.done items)).archive) × IsRefusedAt a list items stop.done r))
+
+  -- how many messages a list holds; a refusal leaves the archive as it was, and so does a fault, if the connection is open
+  abbrev pub Counts : Result ℕ StoreFault → List ℕ → Type 0
+  Counts result list = HasCleanDisk (state g new) → IsKept (state g old) → MatchResult result
+      (λ count. StaysOver None (state g old) (state g new) × IsCounted (archive_of (state g new)) list count)
+      (λ fault. MatchOption (refusal fault) (Rests (state g old) (state g new))
+      (λ r. StaysOver None (state g old) (state g new) × (r ≡ no_list) × (has_list (archive_of (state g old)) list ≡ false)))

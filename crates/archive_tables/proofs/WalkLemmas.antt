@@ -1,0 +1,192 @@
+-- A list's messages by their numbers.
+use Rattle.std.proofs.Common.{◌≡◌, ℕ, ℤ, Bool, true, false, cond, List, [], ◌∷◌, map, filter, codes, arith, Option, Some, None, refl, sym, ap, ap₂, subst, ◌∙◌}
+use Rattle.std.specs.Prelude.{⊤, bytes_eq, find, option_map}
+use Rattle.std.specs.List.{AllByRecursion}
+use Rattle.std.specs.Ordering.{int_eq, int_cmp, is_eq}
+use Rattle.std.specs.declared.cmp.Ordering.TheVariants.{Less}
+use Rattle.std.proofs.lemmas.Int.{ints}
+use Rattle.sqlite.specs.declared.error.Error.{Error}
+use Rattle.sqlite.specs.declared.types.Value.TheVariants.{Int, Text}
+use Rattle.sqlite.specs.Order.{Row, value_cmp}
+use Rattle.sqlite.specs.Tree.{Trees, IsTable, rowid}
+use Rattle.sqlite.specs.Term.{Term, col, op2}
+use Rattle.sqlite.specs.Query.{output}
+use Rattle.sqlite.specs.Collation.TheVariants.{Binary}
+use Rattle.sqlite.specs.Command.TheVariants.{Select}
+use Rattle.sqlite.specs.Listing.{understood, reads_listing}
+use Rattle.sqlite.specs.Effect.{Database}
+use Rattle.sqlite.specs.State.{State, Shown, FailsToQuery}
+use Rattle.sqlite.proofs.Callers.{IsPlain, command_of}
+use Rattle.sqlite_tied.specs.Compute.{everything}
+use Rattle.sqlite_sql.specs.declared.ops.BinaryOp.TheVariants.{Compare}
+use Rattle.sqlite_sql.specs.declared.ops.CompareOp.TheVariants.{Eq}
+use Rattle.sqlite_value.proofs.OrderLemmas.{value_cmp-Int}
+use Rattle.archive_machine.specs.Records.{Message}
+use Rattle.archive_machine.specs.Questions.{messages_in}
+use Rattle.archive_tables.specs.Schema.{archive_schema}
+use Rattle.archive_tables.specs.Tables.{IsHeld, AreTables, Holds, Numbered, row_of, read_of, message_cells, message_read, archive_in}
+use Rattle.archive_tables.specs.Rows.{message_shown, numbered_messages, places_in, message_at, place_shown}
+use Rattle.archive_tables.specs.Calls.{RestsOver}
+use Rattle.archive_tables.proofs.MessageLemmas.{message_back}
+use Rattle.archive_tables.proofs.MailboxLemmas.{of_list, has_list}
+use Rattle.archive_tables.proofs.RunLemmas.{stays}
+use Rattle.archive_tables.proofs.SelectLemmas.{plain_query, by_number, env_of, passes, hits, in_order, asked, leaves, asked_rests, refused_rests, alone, int_is, tie_is}
+
+-- ---- the numbers of a list's messages
+
+abbrev pub places_text : List ℕ
+places_text = codes "SELECT pos FROM message WHERE list = ?1 ORDER BY pos"
+
+abbrev number_cell : List Term
+number_cell = col 1 0 ∷ []
+
+places_is : (command_of (understood archive_schema places_text) ≡ Select (record { lets = []; body = plain_query 8 of_list number_cell by_number }) (codes "pos" ∷ [])) × (reads_listing archive_schema places_text ≡ false)
+unfolding understood everything
+places_is = (refl, refl)
+
+places_plain : IsPlain (understood archive_schema places_text)
+unfolding understood everything
+places_plain = (refl, refl)
+
+abbrev place_of : Numbered Message → Row
+place_of r = place_shown r.number
+
+-- ---- the message of a number
+
+abbrev pub at_text : List ℕ
+at_text = codes "SELECT key, sender, arrival, text, withdrawn, embargo FROM message WHERE pos = ?1 ORDER BY pos"
+
+abbrev at_place : List Term
+at_place = op2 (Compare Eq Binary) (col 1 0) (col 0 0) ∷ []
+
+abbrev all_cells : List Term
+all_cells = col 1 3 ∷ col 1 4 ∷ col 1 5 ∷ col 1 6 ∷ col 1 7 ∷ col 1 8 ∷ []
+
+abbrev all_names : List (List ℕ)
+all_names = codes "key" ∷ codes "sender" ∷ codes "arrival" ∷ codes "text" ∷ codes "withdrawn" ∷ codes "embargo" ∷ []
+
+at_is : (command_of (understood archive_schema at_text) ≡ Select (record { lets = []; body = plain_query 8 at_place all_cells by_number }) all_names) × (reads_listing archive_schema at_text ≡ false)
+unfolding understood everything
+at_is = (refl, refl)
+
+at_plain : IsPlain (understood archive_schema at_text)
+unfolding understood everything
+at_plain = (refl, refl)
+
+module _ (place : ℤ) where
+  abbrev pub is_at : Numbered Message → Bool
+  is_at r = int_eq r.number place
+
+  has_place : (r : Numbered Message) → passes at_place (Int place ∷ []) (row_of message_cells r) ≡ is_at r
+  has_place r = alone _ ∙ int_is r.number place
+
+  abbrev shown_at : Numbered Message → Row
+  shown_at r = message_shown r.it
+
+  passing : (all : List (Numbered Message)) → filter (passes at_place (Int place ∷ [])) (map (row_of message_cells) all) ≡ map (row_of message_cells) (filter is_at all)
+  passing [] = refl
+  passing (r ∷ all) =
+      rw (has_place r) (elim (is_at r) as (λ b. cond b (row_of message_cells r ∷ filter (passes at_place (Int place ∷ [])) (map (row_of message_cells) all)) (filter (passes at_place (Int place ∷ [])) (map (row_of message_cells) all))
+      ≡ map (row_of message_cells) (cond b (r ∷ filter is_at all) (filter is_at all)))
+      [ true ↦ ap (λ l. row_of message_cells r ∷ l) (passing all) | false ↦ passing all ])
+
+-- what the query shows of a row
+abbrev cells_of : ℤ → Row → Row
+cells_of place row = (output (plain_query 8 at_place all_cells by_number) (env_of (Int place ∷ []) row)).1
+
+shown_cells : (place : ℤ) (all : List (Numbered Message)) → map (cells_of place) (map (row_of message_cells) all) ≡ map (λ (r : Numbered Message). message_shown r.it) all
+shown_cells place [] = refl
+shown_cells place (r ∷ all) = ap (λ l. message_shown r.it ∷ l) (shown_cells place all)
+
+abbrev cell_of : List ℕ → Row → Row
+cell_of list row = (output (plain_query 8 of_list number_cell by_number) (env_of (Text list ∷ []) row)).1
+
+shown_cell : (list : List ℕ) (all : List (Numbered Message)) → map (cell_of list) (map (row_of message_cells) all) ≡ map place_shown (map (λ (r : Numbered Message). r.number) all)
+shown_cell list [] = refl
+shown_cell list (r ∷ all) = ap (λ l. place_shown r.number ∷ l) (shown_cell list all)
+
+-- ---- a walk
+
+-- the numbers rise, so that each message is found by its own
+found_later : (x : Numbered Message) (all : List (Numbered Message)) → AllByRecursion (λ row. value_cmp (rowid (row_of message_cells x)) (rowid row) ≡ Less) (map (row_of message_cells) all)
+    → AllByRecursion (λ r. int_eq x.number r.number ≡ false) all
+found_later x [] above = tt
+found_later x (r ∷ all) above =
+    (sym (tie_is x.number r.number) ∙ ap is_eq (sym (value_cmp-Int x.number r.number) ∙ above.0), found_later x all above.1)
+
+abbrev finds : List (Numbered Message) → Numbered Message → Option (Numbered Message)
+finds all r = find (λ (s : Numbered Message). int_eq s.number r.number) all
+
+past_first : (x : Numbered Message) (all rest : List (Numbered Message)) → AllByRecursion (λ r. int_eq x.number r.number ≡ false) rest → AllByRecursion (λ r. finds all r ≡ Some r) rest
+    → AllByRecursion (λ r. finds (x ∷ all) r ≡ Some r) rest
+past_first x all [] other found = tt
+past_first x all (r ∷ rest) other found = (rw other.0 found.0, past_first x all rest other.1 found.1)
+
+itself : (n : ℤ) → int_eq n n ≡ true
+itself n = sym (tie_is n n) ∙ same
+  where
+    same : is_eq (int_cmp n n) ≡ true
+    same = grind (arith, ints)
+
+each_found : (all : List (Numbered Message)) → IsTable (map (row_of message_cells) all) → AllByRecursion (λ r. finds all r ≡ Some r) all
+each_found [] up = tt
+each_found (x ∷ all) up = (rw (itself x.number) refl, past_first x all all (found_later x all up.0) (each_found all up.1))
+
+kept_found : (w : Numbered Message → Bool) (P : Numbered Message → Type 0) (all : List (Numbered Message)) → AllByRecursion P all → AllByRecursion P (filter w all)
+kept_found w P [] h = tt
+kept_found w P (r ∷ all) h =
+    elim (w r) as (λ b. AllByRecursion P (cond b (r ∷ filter w all) (filter w all)))
+    [ true ↦ (h.0, kept_found w P all h.1) | false ↦ kept_found w P all h.1 ]
+
+messages_at : (all wanted : List (Numbered Message)) → AllByRecursion (λ r. finds all r ≡ Some r) wanted
+    → map (λ place. option_map (λ (r : Numbered Message). r.it) (find (λ (r : Numbered Message). int_eq r.number place) all)) (map (λ (r : Numbered Message). r.number) wanted)
+    ≡ map Some (map (λ (r : Numbered Message). r.it) wanted)
+messages_at all [] h = refl
+messages_at all (r ∷ wanted) h = ap₂ ◌∷◌ (ap (option_map (λ (r : Numbered Message). r.it)) h.0) (messages_at all wanted h.1)
+
+pub walked : (trees : Trees) (list : List ℕ) → AreTables trees → map (message_at trees) (places_in trees list) ≡ map Some (messages_in (archive_in trees) list)
+walked trees list t =
+    let all = numbered_messages trees in
+    let wanted = filter (λ (r : Numbered Message). bytes_eq r.it.list list) all in
+    let found = kept_found (λ (r : Numbered Message). bytes_eq r.it.list list) (λ r. finds all r ≡ Some r) all (each_found all (subst IsTable t.messages.coded t.messages.rise)) in
+    let its = hits message_cells message_read message_back (plain_query 8 of_list number_cell by_number) (Text list ∷ []) (λ (m : Message). bytes_eq m.list list) (has_list list) (trees 8) t.messages in
+    messages_at all wanted found ∙ ap (map Some) its.1
+
+-- ---- what the texts show
+
+module _ (old new : State) {behind : Option Database} (k : IsHeld behind old) where
+  pub places_found : (list : List ℕ) (rows : List Row) → Shown places_text (Text list ∷ []) old new rows
+      → (rows ≡ map place_shown (places_in old.now.trees list)) × (new.now ≡ old.now) × IsHeld behind new
+  places_found list rows h =
+      let params = Text list ∷ [] in
+      let all = numbered_messages old.now.trees in
+      let wanted = filter (λ (r : Numbered Message). bytes_eq r.it.list list) all in
+      let picks = asked places_text 8 of_list number_cell by_number _ places_is.0 places_plain places_is.1 (λ t. refl) params old new k rows h in
+      let its = hits message_cells message_read message_back (plain_query 8 of_list number_cell by_number) params (λ (m : Message). bytes_eq m.list list) (has_list list) (old.now.trees 8) k.tables.messages in
+      let same = leaves places_text 8 of_list number_cell by_number _ places_is.0 places_plain places_is.1 (λ t. refl) params old new k rows h in (
+        in_order 8 of_list number_cell params (old.now.trees 8) rows k.tables.messages.rise picks ∙ ap (map (cell_of list)) its.0 ∙ shown_cell list wanted,
+        same.0.now_is,
+        (stays old new k same).0,
+      )
+
+  pub no_places : (list : List ℕ) (e : Error) → FailsToQuery places_text (Text list ∷ []) old new e → RestsOver behind old new
+  no_places list e h = refused_rests places_text 8 of_list number_cell by_number _ places_is.0 places_plain places_is.1 (λ t. refl) (Text list ∷ []) old new k e h
+
+  pub at_found : (place : ℤ) (rows : List Row) → Shown at_text (Int place ∷ []) old new rows
+      → (rows ≡ map (λ (r : Numbered Message). message_shown r.it) (filter (is_at place) (numbered_messages old.now.trees))) × (new.now ≡ old.now) × IsHeld behind new
+  at_found place rows h =
+      let params = Int place ∷ [] in
+      let all = numbered_messages old.now.trees in
+      let picks = asked at_text 8 at_place all_cells by_number _ at_is.0 at_plain at_is.1 (λ t. refl) params old new k rows h in
+      let same = leaves at_text 8 at_place all_cells by_number _ at_is.0 at_plain at_is.1 (λ t. refl) params old new k rows h in (
+        in_order 8 at_place all_cells params (old.now.trees 8) rows k.tables.messages.rise picks
+            ∙ ap (map (cells_of place)) (ap (filter (passes at_place params)) k.tables.messages.coded ∙ passing place all) ∙ shown_cells place (filter (is_at place) all),
+        same.0.now_is,
+        (stays old new k same).0,
+      )
+
+  pub none_at : (place : ℤ) (e : Error) → FailsToQuery at_text (Int place ∷ []) old new e → RestsOver behind old new
+  none_at place e h = refused_rests at_text 8 at_place all_cells by_number _ at_is.0 at_plain at_is.1 (λ t. refl) (Int place ∷ []) old new k e h
+
+  pub at_rests : (place : ℤ) (rows : List Row) → Shown at_text (Int place ∷ []) old new rows → RestsOver behind old new
+  at_rests place rows h = asked_rests at_text 8 at_place all_cells by_number _ at_is.0 at_plain at_is.1 (λ t. refl) (Int place ∷ []) old new k rows h

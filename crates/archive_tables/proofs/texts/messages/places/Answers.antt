@@ -1,0 +1,25 @@
+use Rattle.std.proofs.Common.{◌≡◌, ℕ, List, [], ◌∷◌, map, Option, Ok, Err, Result, IfOk, IfErr}
+use Rattle.std.specs.Prelude.{Vec, MatchResult}
+use Rattle.std.specs.declared.alloc.Global.{Global}
+use Rattle.sqlite.specs.declared.error.Error.{Error}
+use Rattle.sqlite.specs.declared.types.Value.TheVariants.{Text}
+use Rattle.sqlite.specs.Effect.{Database}
+use Rattle.sqlite.specs.Order.{Row}
+use Rattle.sqlite.specs.Held.{state}
+use Rattle.sqlite.specs.State.{State, Shown, FailsToQuery}
+use Rattle.archive_tables.specs.Tables.{IsHeld}
+use Rattle.archive_tables.specs.Rows.{places_in, place_shown}
+use Rattle.archive_tables.specs.Calls.{RestsOver}
+use Rattle.archive_tables.proofs.WalkLemmas.{places_text, places_found, no_places}
+use Rattle.archive_tables.proofs.texts.messages.places.Goals as goal
+
+found : (old new : State) (behind : Option Database) (list : List ℕ) (r : Result (Vec Row Global) Error) → IsHeld behind old
+    → IfOk r (λ rows. Shown places_text (Text list ∷ []) old new rows.items) → IfErr r (FailsToQuery places_text (Text list ∷ []) old new)
+    → MatchResult r (λ rows. (rows.items ≡ map place_shown (places_in old.now.trees list)) × (new.now ≡ old.now) × IsHeld behind new) (λ _. RestsOver behind old new)
+found old new behind list (Ok rows) k ok err = places_found old new k list rows.items ok
+found old new behind list (Err e) k ok err = no_places old new k list e err
+
+pub returns-clause-held : goal.returns-clause-held
+returns-clause-held g c clean behind k =
+    found (state g.S.Store c.args.conn.now) (state g.S.Store c.query_all.new.self) behind c.args.list.now c.query_all.result k
+    (rw c.params-to_sql.ensures at (c.query_all.ensures.ok clean)) (rw c.params-to_sql.ensures at (c.query_all.ensures.err clean))
