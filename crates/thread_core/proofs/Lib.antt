@@ -5,8 +5,11 @@ pub mod ForestLemmas
 pub mod Depths
 pub mod TreeLemmas
 pub mod RowLemmas
+pub mod WaitingLemmas
 pub mod TableLemmas
 pub mod NumberLemmas
 pub mod MergeLemmas
 pub mod TopThreadLemmas
 pub mod Depth
+pub mod NodeLemmas
+pub mod JoinLemmas

@@ -6,3 +6,4 @@ pub mod Threads
 pub mod TopThread
 pub mod RowLaws
 pub mod Parts
+pub mod Nodes

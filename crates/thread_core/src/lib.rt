@@ -2,6 +2,7 @@
 #![tactic(auto)]
 
 pub use entry::{Entry, References};
+pub use node_threader::NodeThreader;
 pub use pairs::Pairs;
 pub use plain::PlainThreader;
 pub use row::Row;
@@ -13,8 +14,12 @@ mod entry;
 mod forest;
 mod joining;
 pub mod laws;
+mod linker;
 mod links;
 mod merging;
+mod node_joining;
+mod node_threader;
+pub mod nodes;
 mod numbering;
 mod order;
 mod pairs;

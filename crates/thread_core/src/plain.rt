@@ -38,7 +38,7 @@ fn parent_table(
 }
 
 /// Steps 2 to 6 over a list of parents.
-fn table_rows(
+pub fn table_rows(
     alloc: Global,
     entries: &[Entry],
     parents: &[Option<usize>],
