@@ -6,6 +6,8 @@ pub mod Depths
 pub mod TreeLemmas
 pub mod RowLemmas
 pub mod WaitingLemmas
+pub mod UnderLemmas
+pub mod FamilyLemmas
 pub mod TableLemmas
 pub mod NumberLemmas
 pub mod MergeLemmas

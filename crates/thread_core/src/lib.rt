@@ -11,6 +11,7 @@ pub use threader::{Threader, threads};
 pub use top_thread::thread_of;
 
 mod entry;
+mod family;
 mod forest;
 mod joining;
 pub mod laws;
@@ -30,3 +31,4 @@ mod steps;
 mod threader;
 mod top_thread;
 mod tree;
+mod waiting;

@@ -47,6 +47,6 @@ impl Threader for NodeThreader {
         ensures few { steps.new ≤ steps.old + links.count }
     {
         let parents = read_parents(alloc, &links, steps)?;
-        table_rows(alloc, entries, &parents)
+        table_rows(alloc, entries, parents)
     }
 }

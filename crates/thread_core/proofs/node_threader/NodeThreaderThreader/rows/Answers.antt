@@ -8,7 +8,7 @@ use Rattle.thread_core.proofs.node_threader.NodeThreaderThreader.rows.Goals as g
 
 pub returns-clause-steps_two_to_six : goal.returns-clause-steps_two_to_six
 returns-clause-steps_two_to_six g c =
-    let table : c.deref.result.now ≡ map (parent_of c.args.links.links) (numbers c.args.links.count)
-    = c.deref.ensures.value ∙ c.in_ok-parents.ensures.value in
+    let table : c.in_ok-parents.parents.items ≡ map (parent_of c.args.links.links) (numbers c.args.links.count)
+    = c.in_ok-parents.ensures.value in
     subst (λ (rs : List Row). IfOk c.table_rows.result (λ rows. rows.items ≡ rs))
-    (rows_of_table c.args.entries.now c.args.links.count c.args.links.links c.deref.result.now (c.in_ok-parents.ensures.forest).below table) c.table_rows.ensures
+    (rows_of_table c.args.entries.now c.args.links.count c.args.links.links c.in_ok-parents.parents.items (c.in_ok-parents.ensures.forest).below table) c.table_rows.ensures
