@@ -11,6 +11,7 @@ pub mod FamilyLemmas
 pub mod TableLemmas
 pub mod NumberLemmas
 pub mod MergeLemmas
+pub mod OrderLemmas
 pub mod TopThreadLemmas
 pub mod Depth
 pub mod NodeLemmas

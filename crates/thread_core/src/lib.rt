@@ -27,6 +27,7 @@ mod pairs;
 mod plain;
 mod row;
 mod rows;
+mod sorting;
 mod steps;
 mod threader;
 mod top_thread;
