@@ -10,6 +10,7 @@ pub mod UnderLemmas
 pub mod FamilyLemmas
 pub mod TableLemmas
 pub mod NumberLemmas
+pub mod IdLemmas
 pub mod MergeLemmas
 pub mod OrderLemmas
 pub mod TopThreadLemmas

@@ -7,3 +7,4 @@ pub mod TopThread
 pub mod RowLaws
 pub mod Parts
 pub mod Nodes
+pub mod Ids

@@ -13,6 +13,7 @@ pub use top_thread::thread_of;
 mod entry;
 mod family;
 mod forest;
+mod ids;
 mod joining;
 pub mod laws;
 mod linker;

@@ -14,10 +14,23 @@ use crate::steps::Steps;
 use crate::threader::Threader;
 use mail_core::Memory;
 use std::alloc::Global;
+use std::hash::RandomState;
 use std::sync::ledger::Ledger;
 
-/// Threads by numbered nodes. Its steps are the parent numbers that it reads.
-pub struct NodeThreader;
+/// Threads by numbered nodes, with ids in a hash map. Its steps are the parent numbers that it
+/// reads.
+#[derive(Clone, Copy)]
+pub struct NodeThreader {
+    state: RandomState,
+}
+
+impl NodeThreader {
+    /// A threader whose hash map has this state (RFC 5256 section 3, THREAD=REFERENCES). It takes
+    /// no memory and reads no parent number. No answer depends on the state, only the time does.
+    pub fn new(state: RandomState) -> NodeThreader {
+        NodeThreader { state }
+    }
+}
 
 impl Threader for NodeThreader {
     type Links = Nodes;
@@ -33,7 +46,7 @@ impl Threader for NodeThreader {
         ensures step_one { IfOk result (λ links. IsLinkedAs (count_of entries.now) (links_of entries.now) links) }
         ensures few { IfOk result (λ _. steps.new ≤ steps.old + (length entries.now + length (mentioned entries.now)) * count_of entries.now) }
     {
-        join_nodes(alloc, entries, steps)
+        join_nodes(alloc, self.state, entries, steps)
     }
 
     fn rows<L: Ledger>(
