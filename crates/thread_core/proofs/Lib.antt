@@ -5,9 +5,14 @@ pub mod ForestLemmas
 pub mod Depths
 pub mod TreeLemmas
 pub mod RowLemmas
+pub mod WaitingLemmas
+pub mod UnderLemmas
+pub mod FamilyLemmas
 pub mod TableLemmas
 pub mod NumberLemmas
+pub mod IdLemmas
 pub mod MergeLemmas
+pub mod OrderLemmas
 pub mod TopThreadLemmas
 pub mod Depth
 pub mod PairLemmas
@@ -20,3 +25,5 @@ pub mod PlacesOnce
 pub mod DeepRows
 pub mod Rising
 pub mod Siblings
+pub mod NodeLemmas
+pub mod JoinLemmas

@@ -45,7 +45,7 @@ same_id-exact a b h =
     let right : a.right ≡ b.right = (bytes_decides a.right b.right).0 parts.1 in
     λ i. record { left = left i; right = right i }
 
-owner_is : (place : ℕ) (entries : List Entry) (id : Id) → ((p : ℕ) × (owner_from place entries id ≡ real p) × (p < place + length entries)) ⊎ (owner_from place entries id ≡ dummy id)
+pub owner_is : (place : ℕ) (entries : List Entry) (id : Id) → ((p : ℕ) × (owner_from place entries id ≡ real p) × (p < place + length entries)) ⊎ (owner_from place entries id ≡ dummy id)
 owner_is place [] id = inr refl
 owner_is place (entry ∷ entries) id = by_test (has_id entry id) (owner_is (place + 1) entries id)
   where
@@ -63,7 +63,7 @@ index-below (other ∷ ids) id h = by_test (same_id id other) h (λ k. index-bel
     by_test true k later = omega arith
     by_test false k later = let lt = later k in omega (arith, lt)
 
-any-filter : (id : Id) (q : Id → Bool) (ids : List Id) → q id ≡ true → list_any (same_id id) ids ≡ true → list_any (same_id id) (filter q ids) ≡ true
+pub any-filter : (id : Id) (q : Id → Bool) (ids : List Id) → q id ≡ true → list_any (same_id id) ids ≡ true → list_any (same_id id) (filter q ids) ≡ true
 any-filter id q [] keeps h = h
 any-filter id q (other ∷ ids) keeps h = by_tests (same_id id other) (q other) refl refl h (λ k. any-filter id q ids keeps k)
   where
@@ -74,7 +74,7 @@ any-filter id q (other ∷ ids) keeps h = by_tests (same_id id other) (q other) 
     by_tests false true a b k later = rw a (later k)
     by_tests false false a b k later = later k
 
-any-distinct : (id : Id) (ids : List Id) → list_any (same_id id) ids ≡ true → list_any (same_id id) (distinct ids) ≡ true
+pub any-distinct : (id : Id) (ids : List Id) → list_any (same_id id) ids ≡ true → list_any (same_id id) (distinct ids) ≡ true
 any-distinct id [] h = h
 any-distinct id (other ∷ ids) h = by_test (same_id id other) refl h (λ k. any-distinct id ids k)
   where
@@ -147,7 +147,7 @@ numbered_at entries [] i d h all = absurd (let bad : i < 0 = h in omega (arith, 
 numbered_at entries (r ∷ refs) zero d h all = all.0
 numbered_at entries (r ∷ refs) (suc i) d h all = numbered_at entries refs i d (let g : suc i < suc (length refs) = h in omega (arith, g)) all.1
 
-same_id-self : (a : Id) → same_id a a ≡ true
+pub same_id-self : (a : Id) → same_id a a ≡ true
 same_id-self a = let l = (bytes_decides a.left a.left).1 refl in let r = (bytes_decides a.right a.right).1 refl in rw (l, r) refl
 
 any-middle : (id : Id) (before after : List Id) → list_any (same_id id) (before ++ id ∷ after) ≡ true

@@ -8,3 +8,5 @@ pub mod RowLaws
 pub mod Parts
 pub mod PlaceLaws
 pub mod SiblingLaws
+pub mod Nodes
+pub mod Ids

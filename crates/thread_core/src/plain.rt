@@ -7,6 +7,7 @@ ghost use Rattle.thread_core.specs.Parts.{containers_of};
 ghost use Rattle.thread_core.specs.Threads.{rows_of, rows_of_containers};
 
 use crate::entry::Entry;
+use crate::family::{Family, Taken};
 use crate::forest::find_tops;
 use crate::joining::join_plain;
 use crate::links::find_parent;
@@ -38,18 +39,20 @@ fn parent_table(
 }
 
 /// Steps 2 to 6 over a list of parents.
-fn table_rows(
+pub fn table_rows(
     alloc: Global,
     entries: &[Entry],
-    parents: &[Option<usize>],
+    parents: Vec<Option<usize>>,
 ) -> Result<Vec<Row>, Memory>
-    ensures { IfOk result (λ rows. rows.items ≡ rows_of_containers entries.now (containers_of parents.now (length entries.now))) }
+    ensures { IfOk result (λ rows. rows.items ≡ rows_of_containers entries.now (containers_of parents.items (length entries.now))) }
 {
-    let tops = find_tops(alloc, parents, entries.len())?;
+    let all = Family::new(alloc, parents, entries.len())?;
+    let tops = find_tops(alloc, &all)?;
     let ordered = order_trees(alloc, entries, tops)?;
     let merged = merge_trees(alloc, entries, ordered)?;
     let trees = order_trees(alloc, entries, merged.trees)?;
-    tree_rows(alloc, entries, parents, &merged.links, &trees)
+    let taken = Taken::new(alloc, merged.links)?;
+    tree_rows(alloc, entries, &all, &taken, &trees)
 }
 
 /// Threads by lists of pairs: the plain program of the definitions. It counts no steps.
@@ -79,6 +82,6 @@ impl Threader for PlainThreader {
         _steps: &mut Steps<L>,
     ) -> Result<Vec<Row>, Memory> {
         let parents = parent_table(alloc, links.links(), links.count())?;
-        table_rows(alloc, entries, &parents)
+        table_rows(alloc, entries, parents)
     }
 }

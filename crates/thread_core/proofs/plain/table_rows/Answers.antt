@@ -2,7 +2,7 @@ use Rattle.std.proofs.Common.{◌≡◌, ap, subst, ◌∙◌, flat_map, length,
 use Rattle.std.specs.Result.{IfOk}
 use Rattle.thread_core.specs.Forest.{top_trees, trees_by_date}
 use Rattle.thread_core.specs.Merge.{merged_trees}
-use Rattle.thread_core.specs.Parts.{containers_of}
+use Rattle.thread_core.specs.Parts.{by_parents, containers_of, ByParents}
 use Rattle.thread_core.specs.Threads.{children_of, rows_of_tree, rows_of_containers}
 use Rattle.thread_core.specs.declared.row.Row.{Row}
 use Rattle.thread_core.specs.declared.tree.Tree.{Tree}
@@ -10,12 +10,13 @@ use Rattle.thread_core.proofs.plain.table_rows.Goals as goal
 
 pub returns : goal.returns
 returns c =
-    let ordered : c.in_ok-ordered.ordered.items ≡ trees_by_date c.args.entries.now (top_trees (containers_of c.args.parents.now (length c.args.entries.now)))
-    = c.in_ok-ordered.ensures ∙ ap (trees_by_date c.args.entries.now) c.in_ok-tops.ensures in
-    let links = c.deref.ensures.value ∙ c.in_ok-merged.ensures.links ∙ ap (λ (ts : List Tree). (merged_trees c.args.entries.now ts).links) ordered in
-    let trees = c.deref-2.ensures.value ∙ c.in_ok-trees.ensures
+    let family = c.in_ok-all.ensures in
+    let ordered : c.in_ok-ordered.ordered.items ≡ trees_by_date c.args.entries.now (top_trees (containers_of c.args.parents.items (length c.args.entries.now)))
+    = c.in_ok-ordered.ensures ∙ ap (trees_by_date c.args.entries.now) (c.in_ok-tops.ensures ∙ ap (λ (f : ByParents). top_trees (by_parents f)) family) in
+    let links = c.in_ok-taken.ensures ∙ c.in_ok-merged.ensures.links ∙ ap (λ (ts : List Tree). (merged_trees c.args.entries.now ts).links) ordered in
+    let trees = c.deref.ensures.value ∙ c.in_ok-trees.ensures
     ∙ ap (trees_by_date c.args.entries.now) (c.in_ok-merged.ensures.trees ∙ ap (λ (ts : List Tree). (merged_trees c.args.entries.now ts).trees) ordered) in
-    let all : flat_map (rows_of_tree c.args.entries.now (children_of c.args.entries.now (containers_of c.args.parents.now (length c.args.entries.now)) c.deref.result.now)) c.deref-2.result.now
-    ≡ rows_of_containers c.args.entries.now (containers_of c.args.parents.now (length c.args.entries.now))
-    = λ i. flat_map (rows_of_tree c.args.entries.now (children_of c.args.entries.now (containers_of c.args.parents.now (length c.args.entries.now)) (links i))) (trees i) in
+    let all : flat_map (rows_of_tree c.args.entries.now (children_of c.args.entries.now (by_parents c.in_ok-all.all) c.in_ok-taken.taken)) c.deref.result.now
+    ≡ rows_of_containers c.args.entries.now (containers_of c.args.parents.items (length c.args.entries.now))
+    = λ i. flat_map (rows_of_tree c.args.entries.now (children_of c.args.entries.now (by_parents (family i)) (links i))) (trees i) in
     subst (λ (rs : List Row). IfOk c.tree_rows.result (λ rows. rows.items ≡ rs)) all c.tree_rows.ensures

@@ -1,0 +1,65 @@
+//! The threader of numbered nodes.
+
+ghost use Rattle.std.specs.Prelude.{◌≡◌, ◌≤◌, ◌+◌, ◌*◌, IfOk, length};
+ghost use Rattle.thread_core.specs.Containers.{count_of, mentioned};
+ghost use Rattle.thread_core.specs.Links.{IsLinkedAs, links_of, parent_of};
+ghost use Rattle.thread_core.specs.Threads.{rows_of};
+
+use crate::entry::Entry;
+use crate::node_joining::join_nodes;
+use crate::nodes::{Nodes, read_parents};
+use crate::plain::table_rows;
+use crate::row::Row;
+use crate::steps::Steps;
+use crate::threader::Threader;
+use mail_core::Memory;
+use std::alloc::Global;
+use std::hash::RandomState;
+use std::sync::ledger::Ledger;
+
+/// Threads by numbered nodes, with ids in a hash map. Its steps are the parent numbers that it
+/// reads.
+#[derive(Clone, Copy)]
+pub struct NodeThreader {
+    state: RandomState,
+}
+
+impl NodeThreader {
+    /// A threader whose hash map has this state (RFC 5256 section 3, THREAD=REFERENCES). It takes
+    /// no memory and reads no parent number. No answer depends on the state, only the time does.
+    pub fn new(state: RandomState) -> NodeThreader {
+        NodeThreader { state }
+    }
+}
+
+impl Threader for NodeThreader {
+    type Links = Nodes;
+
+    ghost linked = { λ nodes. nodes };
+
+    fn join<L: Ledger>(
+        &self,
+        alloc: Global,
+        entries: &[Entry],
+        steps: &mut Steps<L>,
+    ) -> Result<Nodes, Memory>
+        ensures step_one { IfOk result (λ links. IsLinkedAs (count_of entries.now) (links_of entries.now) links) }
+        ensures few { IfOk result (λ _. steps.new ≤ steps.old + (length entries.now + length (mentioned entries.now)) * count_of entries.now) }
+    {
+        join_nodes(alloc, self.state, entries, steps)
+    }
+
+    fn rows<L: Ledger>(
+        &self,
+        alloc: Global,
+        entries: &[Entry],
+        links: Nodes,
+        steps: &mut Steps<L>,
+    ) -> Result<Vec<Row>, Memory>
+        ensures steps_two_to_six { IfOk result (λ rows. rows.items ≡ rows_of entries.now links.count (parent_of links.links)) }
+        ensures few { steps.new ≤ steps.old + links.count }
+    {
+        let parents = read_parents(alloc, &links, steps)?;
+        table_rows(alloc, entries, parents)
+    }
+}
