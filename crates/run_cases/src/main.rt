@@ -17,9 +17,8 @@ use archive_run::{DayClock, run};
 use mail_core::Day;
 use mbox_core::device::{Counted, Tap, read_all, write_bytes};
 use std::alloc::{AllocError, AllocGlobal, Global};
-use std::fs;
-use std::io;
 use std::rt::Files;
+use std::{fs, io};
 
 /// More bytes than any run here reads or writes.
 const ROOM: usize = 65_536;
