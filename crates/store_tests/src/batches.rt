@@ -1,0 +1,118 @@
+//! Many messages at once, and a walk over a list by the messages' numbers.
+use archive_store::{AddStop, Report, Store, StoreFault};
+use archive_tables::rows::read_place;
+use archive_tables::texts::messages;
+use mail_core::Instant;
+use mbox_core::{Envelope, Item, Sender};
+use sqlite::MemStore;
+use std::alloc::Global;
+use std::process::Abort;
+use std::test::Fail;
+
+fn item<'a>(text: &'a [u8]) -> Result<Item<'a>, Fail> {
+    let sender = Sender::read(b"a@b").ok_or("a sender")?;
+    let arrival = Instant::new(1_046_772_000).ok_or("an instant")?;
+    Ok(Item::new(Envelope { sender, arrival }, text).ok_or("a message")?)
+}
+
+/// A store with the list `soc`.
+fn with_list(alloc: Global) -> Result<Store<MemStore>, Fail> {
+    let mut store = Store::open_in_memory(alloc)?;
+    store.list_add("soc")?;
+    Ok(store)
+}
+
+fn added(
+    rt: &impl Abort,
+    alloc: Global,
+    store: &mut Store<MemStore>,
+    items: &[Item<'_>],
+    wanted: Report,
+) -> Result<(), Fail> {
+    match store.add_all(alloc, "soc", items) {
+        Ok(report) => {
+            assert_eq!(rt; report, wanted);
+            Ok(())
+        }
+        Err(stop) => Err(Fail::from(stop.fault)),
+    }
+}
+
+#[test]
+fn new_and_known_and_too_large(rt: HostRuntime) -> Result<(), Fail> {
+    let mut store = with_list(rt.alloc())?;
+    let mut large = Vec::new(rt.alloc());
+    large.resize(4_194_305, b'x')?;
+    let items = [
+        item(b"one")?,
+        item(b"two\n")?,
+        item(&large)?,
+        item(b"one\n")?,
+    ];
+    let first = Report {
+        new: 2,
+        known: 1,
+        too_large: 1,
+    };
+    added(&rt, rt.alloc(), &mut store, &items, first)?;
+    let again = Report {
+        new: 0,
+        known: 3,
+        too_large: 1,
+    };
+    added(&rt, rt.alloc(), &mut store, &items, again)?;
+    assert_eq!(&rt; store.rows(rt.alloc(), "soc")?.len(), 2);
+    Ok(())
+}
+
+#[test]
+fn none_of_no_messages(rt: HostRuntime) -> Result<(), Fail> {
+    let mut store = with_list(rt.alloc())?;
+    let none = Report {
+        new: 0,
+        known: 0,
+        too_large: 0,
+    };
+    added(&rt, rt.alloc(), &mut store, &[], none)
+}
+
+#[test]
+fn no_list_to_add_to(rt: HostRuntime) -> Result<(), Fail> {
+    let mut store = with_list(rt.alloc())?;
+    let items = [item(b"one")?];
+    let stop = AddStop {
+        done: 0,
+        fault: StoreFault::NoList,
+    };
+    assert!(&rt; store.add_all(rt.alloc(), "a", &items) == Err(stop));
+    Ok(())
+}
+
+#[test]
+fn lists_by_name(rt: HostRuntime) -> Result<(), Fail> {
+    let mut store = with_list(rt.alloc())?;
+    assert!(&rt; store.has_list("soc")?);
+    assert!(&rt; !store.has_list("so")?);
+    Ok(())
+}
+
+#[test]
+fn a_walk_over_a_list(rt: HostRuntime) -> Result<(), Fail> {
+    let mut store = with_list(rt.alloc())?;
+    store.list_add("a")?;
+    let texts: [&[u8]; 2] = [b"one\n", b"two\n"];
+    for text in texts {
+        store.add(rt.alloc(), "soc", &item(text)?)?;
+        store.add(rt.alloc(), "a", &item(text)?)?;
+    }
+    let mut conn = store.into_connection();
+    let places = messages::places(&mut conn, "soc")?;
+    assert_eq!(&rt; places.len(), 2);
+    for (place, text) in places.iter().zip(texts) {
+        let number = read_place(place)?;
+        let found = messages::message_at(&mut conn, number)?.ok_or("a message")?;
+        assert_eq!(&rt; found.text.as_slice(), text);
+    }
+    assert!(&rt; messages::message_at(&mut conn, 0)?.is_none());
+    Ok(())
+}
