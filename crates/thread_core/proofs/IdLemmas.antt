@@ -1,5 +1,5 @@
 -- Ids are numbered in one pass.
-use Rattle.std.proofs.Common.{◌≡◌, ℕ, zero, suc, ◌+◌, ◌-◌, ◌<◌, ◌≤◌, Bool, true, false, not, cond, ◌&&◌, ◌||◌, ◌⊎◌, inl, inr, List, [], ◌∷◌, ◌++◌, length, take, get_or, map, filter, is_none, Option, Some, None, refl, sym, ◌∙◌, ap, subst, arith, add-one, append_assoc, length-append, nat_lt}
+use Rattle.std.proofs.Common.{◌≡◌, ℕ, suc, ◌+◌, ◌<◌, Bool, true, false, not, cond, ◌&&◌, ◌||◌, ◌⊎◌, inl, inr, List, [], ◌∷◌, ◌++◌, length, take, get_or, filter, is_none, Option, Some, None, refl, sym, ◌∙◌, ap, subst, arith, add-one, append_assoc, length-append}
 use Rattle.std.specs.List.{list_any}
 use Rattle.std.specs.Option.{option_map_or}
 use Rattle.std.proofs.lemmas.List.{append-nil, take_more}
@@ -9,9 +9,8 @@ use Rattle.std.proofs.lemmas.Grind.{flat_map-append}
 use Rattle.mail_core.specs.MsgIds.{Id}
 use Rattle.thread_core.specs.Containers.{Container, real, dummy, is_dummy, same_id, has_id, owner, owner_from, distinct, index_of, mentioned, dummies, number, count_of, number_of_id}
 use Rattle.thread_core.specs.Ids.{place_of, dummies_of, number_among, AreNoted}
-use Rattle.thread_core.specs.Parts.{AreNumbered}
 use Rattle.thread_core.specs.declared.entry.Entry.{Entry}
-use Rattle.thread_core.proofs.NumberLemmas.{same_id-exact, any-filter, any-distinct, same_id-self, owner_is}
+use Rattle.thread_core.proofs.NumberLemmas.{same_id-exact, any-filter, any-distinct, owner_is}
 
 pub same_id-sym : (a b : Id) → same_id a b ≡ same_id b a
 same_id-sym a b = by_tests (same_id a b) (same_id b a) refl refl

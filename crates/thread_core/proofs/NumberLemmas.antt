@@ -10,8 +10,8 @@ use Rattle.thread_core.specs.Containers.{same_id}
 use Rattle.thread_core.specs.Containers.{real, dummy, has_id, owner, owner_from, is_dummy, distinct, index_of, mentioned, dummies, number, count_of, number_of_id}
 use Rattle.std.proofs.Common.{append_assoc, fold}
 use Rattle.std.proofs.lemmas.Grind.{flat_map-append}
-use Rattle.std.proofs.lemmas.List.{length-drop, take-append-drop}
-use Rattle.thread_core.specs.Links.{Link, answered, Request, try, anew, requests_between, requests_from, request_of_message}
+use Rattle.std.proofs.lemmas.List.{take-append-drop}
+use Rattle.thread_core.specs.Links.{Link, answered, Request, requests_between, requests_from, request_of_message}
 use Rattle.thread_core.specs.Parts.{AreNumbered, distinct_onto}
 use Rattle.thread_core.specs.declared.entry.Entry.{Entry}
 
@@ -125,22 +125,6 @@ onto_step ids others old new left d some within item before is =
     ∙ ap (λ (v : Id). v ∷ filter (λ other. not (same_id v other)) (distinct_onto (drop (left - 1 + 1) ids) others)) item
     ∙ sym step
 
--- the requests between references from a place on
-pub between_more : (num : Id → ℕ) (refs : List Id) (i : ℕ) (d e : Id) → i + 1 < length refs
-    → requests_between num (drop i refs) ≡ try (num (get_or refs (i + 1) e)) (num (get_or refs i d)) ∷ requests_between num (drop (i + 1) refs)
-between_more num refs i d e h =
-    let less : i < length refs = omega arith in
-    ap (requests_between num) (drop_more refs i d less ∙ ap (λ (rs : List Id). get_or refs i d ∷ rs) (drop_more refs (i + 1) e h))
-    ∙ ap (λ (rs : List Id). try (num (get_or refs (i + 1) e)) (num (get_or refs i d)) ∷ requests_between num rs) (sym (drop_more refs (i + 1) e h))
-
-few_between : (num : Id → ℕ) (refs : List Id) → length refs ≤ 1 → requests_between num refs ≡ []
-few_between num [] h = refl
-few_between num (r ∷ []) h = refl
-few_between num (r ∷ s ∷ refs) h = absurd (let bad : suc (suc (length refs)) ≤ 1 = h in omega (arith, bad))
-
-pub between_end : (num : Id → ℕ) (refs : List Id) (i : ℕ) → length refs ≤ i + 1 → requests_between num (drop i refs) ≡ []
-between_end num refs i h = few_between num (drop i refs) (let e = length-drop i refs in omega (arith, e))
-
 -- each of these ids is mentioned
 pub numbered_at : (entries : List Entry) (refs : List Id) (i : ℕ) (d : Id) → i < length refs → AreNumbered entries refs → number_of_id entries (get_or refs i d) < count_of entries
 numbered_at entries [] i d h all = absurd (let bad : i < 0 = h in omega (arith, bad))
@@ -180,26 +164,3 @@ requests_more num entries i d h = ap (requests_from num i) (drop_more entries i 
 pub fold-append : (links : List Link) (xs ys : List Request) → fold answered links (xs ++ ys) ≡ fold answered (fold answered links xs) ys
 fold-append links [] ys = refl
 fold-append links (x ∷ xs) ys = fold-append (answered links x) xs ys
-
--- the links after one more message
-pub message_more : (num : Id → ℕ) (entries : List Entry) (links next all : List Link) (i : ℕ) (d : Entry) → i < length entries
-    → fold answered links (requests_from num i (drop i entries)) ≡ all
-    → next ≡ answered (fold answered links (requests_between num (get_or entries i d).refs)) (request_of_message num i (get_or entries i d).refs)
-    → fold answered next (requests_from num (i + 1) (drop (i + 1) entries)) ≡ all
-message_more num entries links next all i d h before is =
-    ap (λ (ls : List Link). fold answered ls (requests_from num (i + 1) (drop (i + 1) entries))) is
-    ∙ sym (fold-append links (requests_between num (get_or entries i d).refs) (request_of_message num i (get_or entries i d).refs ∷ requests_from num (i + 1) (drop (i + 1) entries)))
-    ∙ ap (fold answered links) (sym (requests_more num entries i d h)) ∙ before
-
--- the request of a message by its last reference
-pub request_drop : (num : Id → ℕ) (place : ℕ) (refs : List Id) → length refs ≡ 0 → request_of_message num place refs ≡ Request.drop place
-request_drop num place [] e = refl
-request_drop num place (r ∷ refs) e = absurd (let bad : suc (length refs) ≡ 0 = e in omega (arith, bad))
-
-pub request_anew : (num : Id → ℕ) (place : ℕ) (refs : List Id) (d : Id) → 0 < length refs → request_of_message num place refs ≡ anew place (num (get_or refs (length refs - 1) d))
-request_anew num place [] d h = absurd (let bad : 0 < 0 = h in omega (arith, bad))
-request_anew num place (r ∷ []) d h = refl
-request_anew num place (r ∷ s ∷ refs) d h =
-    let later = request_anew num place (s ∷ refs) d (let w : 0 < suc (length refs) = omega arith in w) in
-    let z : suc (suc (length refs)) - 1 ≡ suc (suc (length refs) - 1) = omega arith in
-    later ∙ ap (λ (k : ℕ). anew place (num (get_or (r ∷ s ∷ refs) k d))) (sym z)

@@ -55,7 +55,9 @@ pub fn table_rows(
     tree_rows(alloc, entries, &all, &taken, &trees)
 }
 
-/// Threads by lists of pairs: the plain program of the definitions. It counts no steps.
+/// Threads by lists of pairs: the plain program of the definitions (RFC 5256 section 3,
+/// THREAD=REFERENCES), for short lists. It counts no steps. One link takes the square of the links
+/// in time, one id as long as the list, and one subject as many comparisons as there are threads.
 pub struct PlainThreader;
 
 impl Threader for PlainThreader {
@@ -67,11 +69,9 @@ impl Threader for PlainThreader {
         &self,
         alloc: Global,
         entries: &[Entry],
-        _steps: &mut Steps<L>,
+        steps: &mut Steps<L>,
     ) -> Result<Pairs, Memory> {
-        let pairs = join_plain(alloc, entries)?;
-        let _links = pairs.links();
-        Ok(pairs)
+        join_plain(alloc, entries, steps)
     }
 
     fn rows<L: Ledger>(

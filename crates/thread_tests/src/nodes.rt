@@ -2,14 +2,17 @@
 
 ghost use Rattle.std.specs.Prelude.{◌≡◌, ◌<◌};
 
-use mail_core::{Instant, MsgId, Octets};
+use mail_core::{Instant, Memory, MsgId, Octets};
 use std::alloc::Global;
+use std::cell::Cell;
 use std::hash::RandomState;
 use std::marker::Brand;
 use std::sync::ledger::{Blank, Ledger};
 use std::test::Fail;
 use thread_core::nodes::{self, Nodes};
-use thread_core::{Entry, NodeThreader, PlainThreader, References, Row, Steps, Threader, threads};
+use thread_core::{
+    Entry, NodeThreader, Pairs, PlainThreader, References, Row, Steps, Threader, threads,
+};
 
 /// The id of a number.
 fn msg_id(alloc: Global, number: usize) -> Result<MsgId, Fail> {
@@ -137,6 +140,53 @@ fn rows_follow_the_given_nodes(rt: HostRuntime) -> Result<(), Fail> {
     assert_eq!(rt; apart.as_slice(), [row(0, 0), row(0, 1)].as_slice());
     let linked = rows_of_two::<Brand>(rt.alloc(), &threader, true, Blank::new(1))?;
     assert_eq!(rt; linked.as_slice(), [row(0, 0), row(1, 1)].as_slice());
+    Ok(())
+}
+
+/// A threader that counts its calls and hands them on to the plain one.
+#[derive(Drop)]
+struct Counted {
+    joins: Cell<usize>,
+    rows: Cell<usize>,
+}
+
+impl Threader for Counted {
+    type Links = Pairs;
+
+    ghost linked = { λ pairs. pairs };
+
+    fn join<L: Ledger>(
+        &self,
+        alloc: Global,
+        entries: &[Entry],
+        steps: &mut Steps<L>,
+    ) -> Result<Pairs, Memory> {
+        self.joins.set(self.joins.get().wrapping_add(1));
+        PlainThreader.join(alloc, entries, steps)
+    }
+
+    fn rows<L: Ledger>(
+        &self,
+        alloc: Global,
+        entries: &[Entry],
+        links: Pairs,
+        steps: &mut Steps<L>,
+    ) -> Result<Vec<Row>, Memory> {
+        self.rows.set(self.rows.get().wrapping_add(1));
+        PlainThreader.rows(alloc, entries, links, steps)
+    }
+}
+
+#[test]
+fn threads_joins_once_and_makes_rows_once(rt: HostRuntime) -> Result<(), Fail> {
+    let counted = Counted {
+        joins: Cell::new(0),
+        rows: Cell::new(0),
+    };
+    let entries = two_entries(rt.alloc())?;
+    let rows = threads(rt.alloc(), &counted, &entries)?;
+    assert_eq!(rt; rows.len(), 2);
+    assert_eq!(rt; (counted.joins.get(), counted.rows.get()), (1, 1));
     Ok(())
 }
 

@@ -1,4 +1,4 @@
-use Rattle.std.proofs.Common.{◌≡◌, ◌+◌, ℕ, Bool, cond, rules, sym, ap, ◌∙◌}
+use Rattle.std.proofs.Common.{◌≡◌, ◌+◌, Bool, cond, rules, sym, ap, ◌∙◌}
 use Rattle.std.specs.HashMap.{get_by}
 use Rattle.mail_core.specs.MsgIds.{Id}
 use Rattle.thread_core.specs.Containers.{same_id}

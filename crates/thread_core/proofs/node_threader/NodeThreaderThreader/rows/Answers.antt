@@ -1,4 +1,4 @@
-use Rattle.std.proofs.Common.{◌≡◌, subst, ◌∙◌, map, List}
+use Rattle.std.proofs.Common.{◌≡◌, subst, map, List}
 use Rattle.std.specs.Result.{IfOk}
 use Rattle.thread_core.specs.Links.{parent_of}
 use Rattle.thread_core.specs.Forest.{numbers}
