@@ -54,6 +54,6 @@ fn tokens(rt: HostRuntime) {
         (long, false),
         (&long[1..], true),
     ] {
-        assert_eq!(&rt; is_token(text), is, "{text}");
+        assert_eq!(&rt; is_token(text.as_bytes()), is, "{text}");
     }
 }
