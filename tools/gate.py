@@ -12,8 +12,10 @@ import importlib.machinery, importlib.util, os, re, resource, shutil, sys
 
 import wrong_bodies
 
+# The most that a check was seen to take.
+CHECK_BYTES = 5_000_000_000
 # What of rt is used here and in wrong_bodies.
-NAMES = ("ci", "edits_alone", "edits_of", "must_fail", "must_fail_all", "read_edit", "unread", "checked", "rtlib")
+NAMES = ("ci", "edits_alone", "edits_of", "must_fail", "must_fail_all", "read_edit", "unread", "checked", "processors", "free", "rtlib")
 
 
 def load_rt():
@@ -31,6 +33,11 @@ def load_rt():
     if lacking:
         sys.exit(f"check: this toolchain's rt has no {' and no '.join(lacking)}: run ./check --all\n0 passed, 1 failed")
     return rt
+
+
+def lanes(rt):
+    """Returns how many checks run side by side, as rt reads it of RT_JOBS: each then has one job, which takes the fewest processor minutes."""
+    return max(1, min(rt.processors(), rt.free() // CHECK_BYTES))
 
 
 def summary(counts):
@@ -54,6 +61,7 @@ def main(words):
         print(*texts, **how)
 
     rt.print = say
+    os.environ.setdefault("RT_JOBS", str(lanes(rt)))
     if words[:1] == ["--wrong-bodies"]:
         status = rt.edits_alone(words[1:])
         print(summary(counts))
