@@ -5,12 +5,16 @@
 its own. Here its call `must_fail_all` is replaced by `wrong_bodies.try_all`; the order of work, the lanes side by side, the
 proofs, the runs and the count at the end are rt's.
 
-  gate.py                         the whole gate, at the top of the repository
-  gate.py --wrong-bodies [NAME..] the wrong bodies alone, over the libraries that earlier checks built
+Of the wrong bodies it tries those that are due (`due.py`), and says which it leaves.
+
+  gate.py                         the gate, at the top of the repository
+  gate.py --every                 the same, with every wrong body
+  gate.py --wrong-bodies [NAME..] the wrong bodies alone, each of these crates or of all, over the libraries that earlier checks
+                                  built; it writes the record of those that were all refused
 """
 import importlib.machinery, importlib.util, os, re, resource, shutil, sys
 
-import wrong_bodies
+import due, wrong_bodies
 
 # The most that a check was seen to take.
 CHECK_BYTES = 5_000_000_000
@@ -50,23 +54,53 @@ def summary(counts):
     )
 
 
+def leave_what_is_not_due(rt):
+    """Has rt see no edits of the crates whose wrong bodies are not due, and returns how many were left, by crate."""
+    record, found, left = due.Record(), rt.edits_of, {}
+
+    def edits_of(crate):
+        good, bad = found(crate)
+        if good and not record.is_due(crate):
+            left[crate.name] = len(good)
+            return [], bad
+        return good, bad
+
+    rt.edits_of = edits_of
+    return left
+
+
+def alone(rt, names, counts):
+    """Tries every wrong body of these crates, or of all, and writes down which crates had all of theirs refused."""
+    record, status = due.Record(), 0
+    for crate in rt.rtlib.crates_below(os.getcwd()):
+        if not rt.edits_of(crate)[0] or names and crate.name not in names:
+            continue
+        failed = rt.edits_alone([crate.name])
+        record.note(crate, not failed)
+        status = status or failed
+    print(summary(counts))
+    return status
+
+
 def main(words):
-    rt, counts = load_rt(), wrong_bodies.Counts()
+    rt, counts, left = load_rt(), wrong_bodies.Counts(), {}
     rt.must_fail_all = lambda crate, edits, flags: wrong_bodies.try_all(rt, crate, edits, counts)
 
     def say(*texts, **how):
         # (the count of the whole run comes last)
         if texts and re.fullmatch(r"\d+ passed, \d+ failed", str(texts[0])):
+            for name, count in sorted(left.items()):
+                print(f"check: left the {count} wrong bodies of {name}, whose text is as recorded")
             print(summary(counts))
         print(*texts, **how)
 
     rt.print = say
     os.environ.setdefault("RT_JOBS", str(lanes(rt)))
     if words[:1] == ["--wrong-bodies"]:
-        status = rt.edits_alone(words[1:])
-        print(summary(counts))
-        return status
-    if words:
+        return alone(rt, words[1:], counts)
+    if words == []:
+        left = leave_what_is_not_due(rt)
+    elif words != ["--every"]:
         sys.exit(__doc__)
     return rt.ci()
 
