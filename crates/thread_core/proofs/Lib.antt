@@ -27,3 +27,4 @@ pub mod Rising
 pub mod Siblings
 pub mod NodeLemmas
 pub mod JoinLemmas
+pub mod SubjectLemmas

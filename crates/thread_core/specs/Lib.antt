@@ -10,3 +10,4 @@ pub mod PlaceLaws
 pub mod SiblingLaws
 pub mod Nodes
 pub mod Ids
+pub mod Subjects

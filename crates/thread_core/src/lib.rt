@@ -30,6 +30,7 @@ mod row;
 mod rows;
 mod sorting;
 mod steps;
+mod subjects;
 mod threader;
 mod top_thread;
 mod tree;

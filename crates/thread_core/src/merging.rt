@@ -22,9 +22,9 @@ pub struct Merged {
 
 /// The messages of one subject at the top.
 #[derive(Drop)]
-struct Group {
-    dummy: bool,
-    messages: Vec<usize>,
+pub struct Group {
+    pub dummy: bool,
+    pub messages: Vec<usize>,
 }
 
 /// The base subject of the message at a place.
@@ -94,7 +94,7 @@ fn find_leaders(alloc: Global, entries: &[Entry], trees: &[Tree]) -> Result<Vec<
 }
 
 /// Whether a tree is a dummy.
-fn is_dummy(tree: &Tree) -> bool
+pub fn is_dummy(tree: &Tree) -> bool
     ensures { result ≡ is_dummy_tree tree.now }
 {
     match tree {
@@ -104,7 +104,7 @@ fn is_dummy(tree: &Tree) -> bool
 }
 
 /// Adds a message, or the children of a dummy.
-fn push_messages(messages: &mut Vec<usize>, tree: &Tree) -> Result<(), Memory>
+pub fn push_messages(messages: &mut Vec<usize>, tree: &Tree) -> Result<(), Memory>
     ensures { OnOk result (messages.new.items ≡ messages.old.items ++ messages_of tree.now) }
 {
     match tree {
@@ -136,7 +136,11 @@ fn find_group(
 }
 
 /// The messages that are no replies.
-fn find_plain(alloc: Global, entries: &[Entry], messages: &[usize]) -> Result<Vec<usize>, Memory>
+pub fn find_plain(
+    alloc: Global,
+    entries: &[Entry],
+    messages: &[usize],
+) -> Result<Vec<usize>, Memory>
     ensures { IfOk result (λ v. v.items ≡ plain_of entries.now messages.now) }
 {
     let mut plain = Vec::from_slice(alloc, messages)?;
@@ -192,7 +196,11 @@ fn link_under(
 
 /// Adds the links of the messages of a group that become children of its first plain one.
 #[tactic(auto, using(crate::proofs::MergeLemmas::no_links_dummy, crate::proofs::MergeLemmas::no_links_none, crate::proofs::MergeLemmas::links_of_one, crate::proofs::MergeLemmas::links_of_two))]
-fn push_links(links: &mut Vec<(usize, usize)>, group: &Group, plain: &[usize]) -> Result<(), Memory>
+pub fn push_links(
+    links: &mut Vec<(usize, usize)>,
+    group: &Group,
+    plain: &[usize],
+) -> Result<(), Memory>
     ensures { OnOk result (links.new.items ≡ links.old.items ++ links_under_first plain.now (taken_of_group group.now.dummy group.now.messages.items plain.now)) }
 {
     if group.dummy || plain.is_empty() {
@@ -219,7 +227,7 @@ fn dummy_over(
 }
 
 /// Adds what a group leaves at the top.
-fn push_group(
+pub fn push_group(
     alloc: Global,
     trees: &mut Vec<Tree>,
     group: Group,
@@ -243,7 +251,7 @@ fn push_group(
 }
 
 /// The trees without a subject before others.
-fn keep_without_subject(
+pub fn keep_without_subject(
     entries: &[Entry],
     mut trees: Vec<Tree>,
     merged: Vec<Tree>,

@@ -17,15 +17,15 @@ use std::alloc::Global;
 use std::hash::RandomState;
 use std::sync::ledger::Ledger;
 
-/// Threads by numbered nodes, with ids in a hash map. Its steps are the parent numbers that it
-/// reads.
+/// Threads by numbered nodes, with ids and subjects in hash maps. Its steps are the parent numbers
+/// that it reads.
 #[derive(Clone, Copy)]
 pub struct NodeThreader {
     state: RandomState,
 }
 
 impl NodeThreader {
-    /// A threader whose hash map has this state (RFC 5256 section 3, THREAD=REFERENCES). It takes
+    /// A threader whose hash maps have this state (RFC 5256 section 3, THREAD=REFERENCES). It takes
     /// no memory and reads no parent number. No answer depends on the state, only the time does.
     pub fn new(state: RandomState) -> NodeThreader {
         NodeThreader { state }
@@ -60,6 +60,6 @@ impl Threader for NodeThreader {
         ensures few { steps.new ≤ steps.old + links.count }
     {
         let parents = read_parents(alloc, &links, steps)?;
-        table_rows(alloc, entries, parents)
+        table_rows(alloc, entries, parents, Some(self.state))
     }
 }

@@ -11,15 +11,16 @@ use crate::family::{Family, Taken};
 use crate::forest::find_tops;
 use crate::joining::join_plain;
 use crate::links::find_parent;
-use crate::merging::merge_trees;
 use crate::order::order_trees;
 use crate::pairs::Pairs;
 use crate::row::Row;
 use crate::rows::tree_rows;
 use crate::steps::Steps;
+use crate::subjects::merge;
 use crate::threader::Threader;
 use mail_core::Memory;
 use std::alloc::Global;
+use std::hash::RandomState;
 use std::sync::ledger::Ledger;
 
 /// The parent of each container.
@@ -38,18 +39,19 @@ fn parent_table(
     Ok(parents)
 }
 
-/// Steps 2 to 6 over a list of parents.
+/// Steps 2 to 6 over a list of parents, with a table of subjects where a state for it is given.
 pub fn table_rows(
     alloc: Global,
     entries: &[Entry],
     parents: Vec<Option<usize>>,
+    state: Option<RandomState>,
 ) -> Result<Vec<Row>, Memory>
     ensures { IfOk result (λ rows. rows.items ≡ rows_of_containers entries.now (containers_of parents.items (length entries.now))) }
 {
     let all = Family::new(alloc, parents, entries.len())?;
     let tops = find_tops(alloc, &all)?;
     let ordered = order_trees(alloc, entries, tops)?;
-    let merged = merge_trees(alloc, entries, ordered)?;
+    let merged = merge(alloc, state, entries, ordered)?;
     let trees = order_trees(alloc, entries, merged.trees)?;
     let taken = Taken::new(alloc, merged.links)?;
     tree_rows(alloc, entries, &all, &taken, &trees)
@@ -82,6 +84,6 @@ impl Threader for PlainThreader {
         _steps: &mut Steps<L>,
     ) -> Result<Vec<Row>, Memory> {
         let parents = parent_table(alloc, links.links(), links.count())?;
-        table_rows(alloc, entries, parents)
+        table_rows(alloc, entries, parents, None)
     }
 }

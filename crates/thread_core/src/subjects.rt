@@ -1,0 +1,214 @@
+//! Step 5 by a table of subjects: each tree goes to the first message of its subject.
+
+ghost use Rattle.std.specs.HashMap.{get_by};
+ghost use Rattle.std.specs.List.{list_any};
+ghost use Rattle.std.specs.Prelude.{◌≡◌, ◌≢◌, ◌&&◌, ◌||◌, ◌∷◌, ◌++◌, [], ℕ, List, Some, bytes_eq, if◌then◌else◌, flat_map, get_or, is_none, length, map, IfOk, OnOk};
+ghost use Rattle.thread_core.specs.declared.entry.Entry.{Entry};
+ghost use Rattle.thread_core.specs.declared.tree.Tree.{Tree};
+ghost use Rattle.thread_core.specs.Forest.{key};
+ghost use Rattle.thread_core.specs.Merge.{base_of, is_dummy_tree, merged_group, merged_trees, messages_of, subject};
+ghost use Rattle.thread_core.specs.Subjects.{lead_of, picked, AreLeaders};
+
+use crate::entry::Entry;
+use crate::family::{list_at, list_children};
+use crate::merging::{
+    Group, Merged, find_plain, is_dummy, keep_without_subject, merge_trees, push_group, push_links,
+    push_messages,
+};
+use crate::order::find_key;
+use crate::tree::{Places, Tree};
+use mail_core::{Memory, Octets};
+use std::alloc::Global;
+use std::collections::HashMap;
+use std::hash::RandomState;
+
+/// The first message of each subject, in order and by subject.
+#[derive(Drop)]
+struct Leaders {
+    places: Vec<usize>,
+    table: HashMap<Octets, usize, RandomState>,
+}
+
+/// Gives a subject a message unless it has one. The answer says whether it had none.
+fn add_subject(
+    alloc: Global,
+    table: &mut HashMap<Octets, usize, RandomState>,
+    base: &Octets,
+    place: usize,
+) -> Result<bool, Memory>
+    ensures added { IfOk result (λ added. added ≡ is_none (get_by (bytes_eq base.now) table.old)) }
+    ensures table { OnOk result ((other : List ℕ) → get_by (bytes_eq other) table.new ≡ (if is_none (get_by (bytes_eq base.now) table.old) && bytes_eq base.now other then Some place else get_by (bytes_eq other) table.old)) }
+{
+    if table.contains_key(base) {
+        return Ok(false);
+    }
+    table.insert(base.try_copy(alloc)?, place)?;
+    Ok(true)
+}
+
+impl Leaders {
+    /// Puts a message behind the others, if it is the first of a subject that is not empty.
+    fn add_place(&mut self, alloc: Global, base: &Octets, place: usize) -> Result<(), Memory>
+        ensures { (entries : List Entry) (subjects : List (List ℕ)) → base_of entries place ≡ base.now → length base.now ≢ 0 → AreLeaders entries subjects self.old.places.items (λ other. get_by (bytes_eq other) self.old.table) → OnOk result (AreLeaders entries (subjects ++ base_of entries place ∷ []) self.new.places.items (λ other. get_by (bytes_eq other) self.new.table)) }
+    {
+        let added = add_subject(alloc, &mut self.table, base, place)?;
+        if added {
+            self.places.push(place)?;
+        }
+        Ok(())
+    }
+
+    /// Puts a message behind the others, if it is the first of its subject and that is not empty.
+    fn note(&mut self, alloc: Global, entries: &[Entry], place: usize) -> Result<(), Memory>
+        ensures { (subjects : List (List ℕ)) → AreLeaders entries.now subjects self.old.places.items (λ other. get_by (bytes_eq other) self.old.table) → OnOk result (AreLeaders entries.now (subjects ++ base_of entries.now place ∷ []) self.new.places.items (λ other. get_by (bytes_eq other) self.new.table)) }
+    {
+        match entries.get(place) {
+            None => Ok(()),
+            Some(entry) => {
+                if entry.base.as_slice().is_empty() {
+                    return Ok(());
+                }
+                self.add_place(alloc, &entry.base, place)
+            }
+        }
+    }
+
+    /// The first messages of the subjects of trees.
+    fn new(
+        alloc: Global,
+        state: RandomState,
+        entries: &[Entry],
+        trees: &[Tree],
+    ) -> Result<Leaders, Memory>
+        ensures { IfOk result (λ all. AreLeaders entries.now (map (subject entries.now) trees.now) all.places.items (λ other. get_by (bytes_eq other) all.table)) }
+    {
+        let mut all = Leaders {
+            places: Vec::new(alloc),
+            table: HashMap::with_hasher(alloc, state),
+        };
+        for tree in trees {
+            all.note(alloc, entries, find_key(entries, tree))?;
+        }
+        Ok(all)
+    }
+
+    /// The first message of a message's subject, if that is not empty.
+    fn lead(&self, entries: &[Entry], place: usize) -> Option<usize>
+        ensures { result ≡ lead_of entries.now (λ other. get_by (bytes_eq other) self.now.table) place }
+    {
+        match entries.get(place) {
+            None => None,
+            Some(entry) => self.table.get(&entry.base).copied(),
+        }
+    }
+
+    /// The first message of each tree's subject, if that is not empty.
+    fn leads(
+        &self,
+        alloc: Global,
+        entries: &[Entry],
+        trees: &[Tree],
+    ) -> Result<Vec<Option<usize>>, Memory>
+        ensures { IfOk result (λ v. v.items ≡ map (λ (tree : Tree). lead_of entries.now (λ other. get_by (bytes_eq other) self.now.table) (key entries.now tree)) trees.now) }
+    {
+        let mut leads = Vec::new(alloc);
+        for tree in trees {
+            leads.push(self.lead(entries, find_key(entries, tree)))?;
+        }
+        Ok(leads)
+    }
+}
+
+/// Adds the tree of a number to a group, if there is one.
+#[tactic(auto, using(crate::proofs::SubjectLemmas::picked_dummy, crate::proofs::SubjectLemmas::picked_no_dummy, crate::proofs::SubjectLemmas::picked_messages, crate::proofs::SubjectLemmas::picked_no_messages))]
+fn pick_tree(group: &mut Group, trees: &[Tree], number: usize) -> Result<(), Memory>
+    ensures dummy { OnOk result (group.new.dummy ≡ (group.old.dummy || list_any is_dummy_tree (picked trees.now (number ∷ [])))) }
+    ensures messages { OnOk result (group.new.messages.items ≡ group.old.messages.items ++ flat_map messages_of (picked trees.now (number ∷ []))) }
+{
+    match trees.get(number) {
+        None => Ok(()),
+        Some(tree) => {
+            group.dummy = group.dummy || is_dummy(tree);
+            push_messages(&mut group.messages, tree)
+        }
+    }
+}
+
+/// The trees of some numbers as a group.
+#[tactic(auto, using(crate::proofs::SubjectLemmas::dummies_more, crate::proofs::SubjectLemmas::messages_more))]
+fn pick_group(alloc: Global, trees: &[Tree], numbers: &[usize]) -> Result<Group, Memory>
+    ensures dummy { IfOk result (λ group. group.dummy ≡ list_any is_dummy_tree (picked trees.now numbers.now)) }
+    ensures messages { IfOk result (λ group. group.messages.items ≡ flat_map messages_of (picked trees.now numbers.now)) }
+{
+    let mut group = Group {
+        dummy: false,
+        messages: Vec::new(alloc),
+    };
+    for number in numbers {
+        pick_tree(&mut group, trees, *number)?;
+    }
+    Ok(group)
+}
+
+/// What becomes of groups, by the numbers of the trees of each leader.
+#[tactic(auto, using(crate::proofs::SubjectLemmas::listed_trees, crate::proofs::SubjectLemmas::listed_links))]
+fn merge_listed(
+    alloc: Global,
+    entries: &[Entry],
+    trees: &[Tree],
+    leaders: &[usize],
+    lists: &[Places],
+) -> Result<Merged, Memory>
+    ensures trees { IfOk result (λ merged. merged.trees.items ≡ flat_map (λ (leader : ℕ). (merged_group entries.now (picked trees.now (get_or lists.now leader []))).trees) leaders.now) }
+    ensures links { IfOk result (λ merged. merged.links.items ≡ flat_map (λ (leader : ℕ). (merged_group entries.now (picked trees.now (get_or lists.now leader []))).links) leaders.now) }
+{
+    let mut merged = Vec::new(alloc);
+    let mut links = Vec::new(alloc);
+    for leader in leaders {
+        let group = pick_group(alloc, trees, list_at(lists, *leader))?;
+        let plain = find_plain(alloc, entries, &group.messages)?;
+        push_links(&mut links, &group, &plain)?;
+        push_group(alloc, &mut merged, group, &plain)?;
+    }
+    Ok(Merged {
+        trees: merged,
+        links,
+    })
+}
+
+/// The trees after the merge, by a table of this state.
+fn merge_by_table(
+    alloc: Global,
+    state: RandomState,
+    entries: &[Entry],
+    trees: Vec<Tree>,
+) -> Result<Merged, Memory>
+    ensures trees { IfOk result (λ merged. merged.trees.items ≡ (merged_trees entries.now trees.items).trees) }
+    ensures links { IfOk result (λ merged. merged.links.items ≡ (merged_trees entries.now trees.items).links) }
+{
+    let leaders = Leaders::new(alloc, state, entries, &trees)?;
+    let leads = leaders.leads(alloc, entries, &trees)?;
+    let lists = list_children(alloc, &leads)?;
+    let merged = merge_listed(alloc, entries, &trees, &leaders.places, &lists)?;
+    Ok(Merged {
+        trees: keep_without_subject(entries, trees, merged.trees)?,
+        links: merged.links,
+    })
+}
+
+/// The trees after the merge, given those before it in order: by a table where a state for it is
+/// given, else by comparisons.
+pub fn merge(
+    alloc: Global,
+    state: Option<RandomState>,
+    entries: &[Entry],
+    trees: Vec<Tree>,
+) -> Result<Merged, Memory>
+    ensures trees { IfOk result (λ merged. merged.trees.items ≡ (merged_trees entries.now trees.items).trees) }
+    ensures links { IfOk result (λ merged. merged.links.items ≡ (merged_trees entries.now trees.items).links) }
+{
+    match state {
+        Some(state) => merge_by_table(alloc, state, entries, trees),
+        None => merge_trees(alloc, entries, trees),
+    }
+}
