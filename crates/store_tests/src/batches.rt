@@ -38,29 +38,47 @@ fn added(
     }
 }
 
-#[test]
-fn new_and_known_and_too_large(rt: HostRuntime) -> Result<(), Fail> {
-    let mut store = with_list(rt.alloc())?;
-    let mut large = Vec::new(rt.alloc());
-    large.resize(4_194_305, b'x')?;
-    let items = [
-        item(b"one")?,
-        item(b"two\n")?,
-        item(&large)?,
-        item(b"one\n")?,
-    ];
+/// Adds the same messages twice.
+fn added_twice(
+    rt: &impl Abort,
+    alloc: Global,
+    store: &mut Store<MemStore>,
+    items: &[Item<'_>],
+) -> Result<(), Fail> {
     let first = Report {
         new: 2,
         known: 1,
         too_large: 1,
     };
-    added(&rt, rt.alloc(), &mut store, &items, first)?;
+    added(rt, alloc, store, items, first)?;
     let again = Report {
         new: 0,
         known: 3,
         too_large: 1,
     };
-    added(&rt, rt.alloc(), &mut store, &items, again)?;
+    added(rt, alloc, store, items, again)
+}
+
+/// Two messages, one that is too large, and the first again.
+fn four_messages(
+    rt: &impl Abort,
+    alloc: Global,
+    store: &mut Store<MemStore>,
+    large: &[u8],
+) -> Result<(), Fail> {
+    let one = item(b"one")?;
+    let two = item(b"two\n")?;
+    let third = item(large)?;
+    let same = item(b"one\n")?;
+    added_twice(rt, alloc, store, &[one, two, third, same])
+}
+
+#[test]
+fn new_and_known_and_too_large(rt: HostRuntime) -> Result<(), Fail> {
+    let mut store = with_list(rt.alloc())?;
+    let mut large = Vec::new(rt.alloc());
+    large.resize(4_194_305, b'x')?;
+    four_messages(&rt, rt.alloc(), &mut store, &large)?;
     assert_eq!(&rt; store.rows(rt.alloc(), "soc")?.len(), 2);
     Ok(())
 }

@@ -209,10 +209,12 @@ fn withdrawals<'a, S: Alter>(
     run(rt, alloc, store, &told, &wanted)
 }
 
+/// The command that adds a message.
 pub fn add<'a>(list: &'a str, item: &'a Item<'a>) -> Command<'a> {
     Command::Add { list, item }
 }
 
+/// The command that withdraws a message.
 pub fn withdraw<'a>(list: &'a str, key: &'a Key, by: Party) -> Command<'a> {
     Command::Withdraw { list, key, by }
 }
@@ -261,6 +263,7 @@ fn embargoes<'a, S: Alter>(
     run(rt, alloc, store, &told, &wanted)
 }
 
+/// The command that holds a message back.
 pub fn embargo<'a>(list: &'a str, key: &'a Key, until: Day) -> Command<'a> {
     Command::Embargo { list, key, until }
 }
