@@ -7,6 +7,7 @@ pub mod CommentTable
 pub mod DayLemmas
 pub mod FieldExamples
 pub mod FieldLemmas
+pub mod HeaderExamples
 pub mod LineLemmas
 pub mod MonthLemmas
 pub mod MsgIdExamples

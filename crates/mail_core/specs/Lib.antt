@@ -4,6 +4,8 @@ pub mod Calendar
 pub mod Comments
 pub mod Ends
 pub mod Fields
+pub mod Gathering
+pub mod Headers
 pub mod Lines
 pub mod MsgIds
 pub mod Pieces
