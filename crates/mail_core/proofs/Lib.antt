@@ -8,6 +8,7 @@ pub mod DayLemmas
 pub mod FieldExamples
 pub mod FieldLemmas
 pub mod HeaderExamples
+pub mod HeaderLemmas
 pub mod LineLemmas
 pub mod MonthLemmas
 pub mod MsgIdExamples

@@ -1,10 +1,11 @@
 -- The scan, piece by piece, over places of the text.
-use Rattle.std.proofs.Common.{◌≡◌, ◌≢◌, ℕ, zero, suc, ◌+◌, ◌-◌, ◌<◌, ◌≤◌, false, List, [], ◌∷◌, length, refl, arith, ap, ◌∙◌, sym, Option, Some, None, drop, get_or, length-drop, drop-drop}
+use Rattle.std.proofs.Common.{◌≡◌, ◌≢◌, ℕ, zero, suc, ◌+◌, ◌-◌, ◌<◌, ◌≤◌, false, List, [], ◌∷◌, length, refl, arith, ap, ◌∙◌, sym, Option, Some, None, ◌++◌, take, drop, get_or, length-append, length-drop, drop-drop}
+use Rattle.std.specs.Option.{option_to_list}
 use Rattle.mail_core.specs.Comments.{closing_rest}
 use Rattle.mail_core.specs.Quotes.{after_quote}
 use Rattle.mail_core.specs.MsgIds.{Id, id_at}
 use Rattle.mail_core.specs.MsgIds.{next_piece, add_identity, ids_from, ids_of}
-use Rattle.mail_core.specs.Ends.{ClosesAt}
+use Rattle.mail_core.specs.Headers.{first_of}
 use Rattle.mail_core.proofs.CommentLemmas.{not_equal}
 use Rattle.mail_core.proofs.CommentTable.{drop-at, drop-past}
 
@@ -65,12 +66,13 @@ unfolding id_at
 no_id b [] h = refl
 no_id b (c ∷ bs) h = rw (not_equal b 60 h, id_at) refl
 
-pub scan_comment : (text : List ℕ) (i e : ℕ) → i < length text → get_or text i 0 ≡ 40 → ClosesAt text (i + 1) e → e ≤ length text → ids_of (drop i text) ≡ ids_of (drop e text)
-scan_comment text i e lt h w le =
-    let c = w.closes le in scan_step text i e 40 None (omega (arith, c.0)) le h (piece-comment _ _ c.1)
+pub scan_comment : (text : List ℕ) (i e : ℕ) → i < length text → get_or text i 0 ≡ 40 → i < e → e ≤ length text
+    → closing_rest false 1 (drop (i + 1) text) ≡ Some (drop e text) → ids_of (drop i text) ≡ ids_of (drop e text)
+scan_comment text i e lt h less le c = scan_step text i e 40 None less le h (piece-comment _ _ c)
 
-pub scan_open : (text : List ℕ) (i e : ℕ) → i < length text → get_or text i 0 ≡ 40 → ClosesAt text (i + 1) e → length text < e → ids_of (drop i text) ≡ ids_of (drop (i + 1) text)
-scan_open text i e lt h w gt = scan_step text i (i + 1) 40 None (omega arith) (omega arith) h (piece-open _ (w.stays_open gt))
+pub scan_open : (text : List ℕ) (i : ℕ) → i < length text → get_or text i 0 ≡ 40
+    → closing_rest false 1 (drop (i + 1) text) ≡ None → ids_of (drop i text) ≡ ids_of (drop (i + 1) text)
+scan_open text i lt h c = scan_step text i (i + 1) 40 None (omega arith) (omega arith) h (piece-open _ c)
 
 pub scan_quote : (text : List ℕ) (i e : ℕ) → i < length text → get_or text i 0 ≡ 34 → i < e → e ≤ length text
     → after_quote false (drop (i + 1) text) ≡ Some (drop e text) → ids_of (drop i text) ≡ ids_of (drop e text)
@@ -96,3 +98,37 @@ scan_other text i lt p q r = scan_step text i (i + 1) (get_or text i 0) None (om
 
 pub ids-past : (text : List ℕ) (i : ℕ) → length text ≤ i → ids_of (drop i text) ≡ []
 ids-past text i h = ap ids_of (drop-past text i h) ∙ ids-end 0
+
+-- no text has more identities than bytes
+pub ids-few : (k : ℕ) (text : List ℕ) → length (ids_from k text) ≤ length text
+unfolding ids_from
+ids-few k [] = omega (arith, ap length (ids-end k))
+ids-few (suc k) (b ∷ bs) = let h = ids-few k bs in let g : length (ids_from k bs) ≤ suc (length bs) = omega (arith, h) in g
+ids-few zero (b ∷ bs) = go (next_piece b bs).0 (ids_from (length bs - length (next_piece b bs).1) bs) (ids-few (length bs - length (next_piece b bs).1) bs)
+  where
+    go : (o : Option Id) (ids : List Id) → length ids ≤ length bs → length (add_identity o ids) ≤ suc (length bs)
+    go None ids h = omega (arith, h)
+    go (Some id) ids h = let g : suc (length ids) ≤ suc (length bs) = omega (arith, h) in g
+
+-- the last of one at most is the first
+pub popped : (ids items kept : List Id) (n : ℕ) (o : Option Id) → items ≡ take 1 ids → items ≡ kept ++ option_to_list o
+    → n ≡ length items → kept ≡ take (n - 1) items → o ≡ first_of ids
+popped [] items kept n o one split len left = go o (sym here ∙ split)
+  where
+    here : items ≡ []
+    here = one
+
+    go : (o : Option Id) → [] ≡ kept ++ option_to_list o → o ≡ None
+    go None e = refl
+    go (Some id) e = absurd (let bad : 0 ≡ length (kept ++ id ∷ []) = ap length e in omega (arith, bad, length-append kept (id ∷ [])))
+popped (i ∷ ids) items kept n o one split len left = go o (sym one ∙ split)
+  where
+    few : n - 1 ≡ 0
+    few = let e : length items ≡ 1 = ap length one in omega (arith, len, e)
+
+    none : kept ≡ []
+    none = left ∙ ap (λ (k : ℕ). take k items) few
+
+    go : (o : Option Id) → i ∷ [] ≡ kept ++ option_to_list o → o ≡ Some i
+    go None e = absurd (let bad : i ∷ [] ≡ [] = e ∙ ap (λ (l : List Id). l ++ []) none in cc)
+    go (Some id) e = let same : i ∷ [] ≡ id ∷ [] = e ∙ ap (λ (l : List Id). l ++ id ∷ []) none in let k : id ≡ i = cc in ap (λ (x : Id). Some x) k

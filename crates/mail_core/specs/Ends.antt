@@ -1,9 +1,22 @@
--- Where the comment closes that is open from a place on.
-use Rattle.std.specs.Prelude.{◌≡◌, ℕ, ◌+◌, ◌<◌, ◌≤◌, List, length, false, Some, None, drop}
-use Rattle.mail_core.specs.Comments.{closing_rest}
+-- Which comments of a text are closed, from the last place back.
+use Rattle.std.specs.Prelude.{ℕ, ◌+◌, ◌-◌, ◌++◌, List, [], ◌∷◌, Bool, true, false, nat_lt}
+use Rattle.mail_core.specs.Comments.{CommentMark, comment_mark}
+use Rattle.mail_core.specs.Comments.CommentMark.{opening, closing, escape, ordinary}
 
--- e is the place behind the closing parenthesis of the comment inside which k stands, or one past the end where none closes it
-pub record ClosesAt (text : List ℕ) (k e : ℕ) : Type 0 where
-  pub within : e ≤ length text + 1
-  pub closes : e ≤ length text → (k < e) × (closing_rest false 1 (drop k text) ≡ Some (drop e text))
-  pub stays_open : length text < e → closing_rest false 1 (drop k text) ≡ None
+-- what a byte makes of the count behind it; `quoted` is that count where a backslash quotes the next byte
+abbrev pub count_before : CommentMark → (count quoted : ℕ) → ℕ
+count_before opening count quoted = count - 1
+count_before closing count quoted = count + 1
+count_before escape count quoted = quoted
+count_before ordinary count quoted = count
+
+-- how many of the comments that are open before a text it closes; true: its first byte is quoted by a backslash
+unfoldable pub closed_in : Bool → List ℕ → ℕ
+closed_in q [] = 0
+closed_in true (b ∷ bs) = closed_in false bs
+closed_in false (b ∷ bs) = count_before (comment_mark b) (closed_in false bs) (closed_in true bs)
+
+-- for each byte, the last one first, whether a comment that it opens is closed behind it
+unfoldable pub closings_of : List ℕ → List Bool
+closings_of [] = []
+closings_of (b ∷ bs) = closings_of bs ++ nat_lt 0 (closed_in false bs) ∷ []

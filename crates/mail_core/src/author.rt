@@ -1,6 +1,7 @@
 //! Who wrote a message (RFC 5322 section 3.6.2).
 ghost use Rattle.std.specs.Prelude.{◌≡◌, MatchOption, Some, None, IfOk};
-ghost use Rattle.mail_core.specs.Author.{in_angles, address_in, trim_end, trimmed, author_of};
+ghost use Rattle.std.specs.Option.{option_copied};
+ghost use Rattle.mail_core.specs.Author.{in_angles, address_in, trim_end, trimmed as without_blanks, key_of_body, author_of};
 
 use crate::field_blocks::is_blank_byte;
 use crate::field_reading::behind_blanks;
@@ -46,20 +47,34 @@ fn before_blanks<'a>(text: &'a [u8]) -> &'a [u8]
     front
 }
 
+/// The text without the spaces and tabs at its ends.
+pub fn trimmed<'a>(text: &'a [u8]) -> &'a [u8]
+    ensures { result.now ≡ without_blanks text.entry.now }
+{
+    before_blanks(behind_blanks(text))
+}
+
+/// The author that the body of a From field names, in a form that can be compared.
+pub(crate) fn key_of_field(alloc: Global, from: Option<&[u8]>) -> Result<Vec<u8>, Memory>
+    ensures { IfOk result (λ key. key.items ≡ key_of_body (option_copied from.entry)) }
+{
+    let Some(folded) = from else {
+        return Ok(Vec::new(alloc));
+    };
+    let body = unfold(alloc, folded)?;
+    let key = trimmed(address(body.as_slice()));
+    Ok(
+        key.iter()
+            .map(|byte| byte.to_ascii_lowercase())
+            .collect(alloc)?,
+    )
+}
+
 /// The author of a message in a form that can be compared: the address of its first From field, in ASCII lower case,
 /// or the whole body where no address stands in angle brackets. Empty where there is no From field. `Memory` where
 /// no memory is left.
 pub fn author_key(alloc: Global, text: &[u8]) -> Result<Vec<u8>, Memory>
     ensures { IfOk result (λ key. key.items ≡ author_of text.now) }
 {
-    let Some(folded) = first(text, b"from") else {
-        return Ok(Vec::new(alloc));
-    };
-    let body = unfold(alloc, folded)?;
-    let key = before_blanks(behind_blanks(address(body.as_slice())));
-    Ok(
-        key.iter()
-            .map(|byte| byte.to_ascii_lowercase())
-            .collect(alloc)?,
-    )
+    key_of_field(alloc, first(text, b"from"))
 }

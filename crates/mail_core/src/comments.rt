@@ -1,48 +1,83 @@
 //! Where comments end (RFC 5322 section 3.2.2).
 ghost use Rattle.std.specs.Prelude.{◌≡◌, ◌≢◌, ℕ, ◌+◌, ◌-◌, ◌<◌, ◌≤◌, length, IfOk, MatchOption, Some, None, false, drop, vec_len, slice_index};
 ghost use Rattle.mail_core.specs.Comments.{closing_rest};
-ghost use Rattle.mail_core.specs.Ends.{ClosesAt};
+ghost use Rattle.mail_core.specs.Ends.{closings_of};
 
 use crate::refusal::Memory;
-use memchr::memchr;
 use std::alloc::Global;
+use std::marker::Model;
 
-/// Where the first opening parenthesis stands, or the end of a text that has none.
-pub(crate) fn first_open(text: &[u8]) -> usize
-    ensures within { result ≤ length text.now }
-    ensures none { (k : ℕ) → k < result → slice_index text.now k ≢ 40 }
+/// For each byte of a text, the last one first, whether a comment that it opens is closed behind it.
+fn closings(alloc: Global, text: &[u8]) -> Result<Vec<bool>, Memory>
+    ensures { IfOk result (λ closed. closed.items ≡ closings_of text.now) }
 {
-    match memchr(b'(', text) {
-        Some(at) => at,
-        None => text.len(),
-    }
-}
-
-/// For each place of a text, where the comment closes that is open there. The places stand from the last back.
-pub(crate) fn comment_ends(alloc: Global, text: &[u8]) -> Result<Vec<usize>, Memory>
-    ensures len { IfOk result (λ ends. vec_len ends ≡ length text.now + 2) }
-    ensures ends { IfOk result (λ ends. (k : ℕ) → k ≤ length text.now + 1 → ClosesAt text.now k (slice_index ends.items (length text.now + 1 - k))) }
-{
-    let none = text.len() + 1;
-    let mut ends = Vec::with_capacity(alloc, text.len() + 2)?;
-    ends.push(none)?;
-    ends.push(none)?;
-    let mut after = none;
-    let mut next = none;
+    let mut closed = Vec::with_capacity(alloc, text.len())?;
+    let mut after: usize = 0;
+    let mut next: usize = 0;
     let mut k = text.len();
     while k > 0 {
         k -= 1;
-        let end = match text[k] {
-            b')' => k + 1,
-            b'(' => ends[none - next],
+        closed.push(next > 0)?;
+        let here = match text[k] {
+            b')' => next + 1,
+            b'(' => next.saturating_sub(1),
             b'\\' => after,
             _ => next,
         };
-        ends.push(end)?;
         after = next;
-        next = end;
+        next = here;
     }
-    Ok(ends)
+    Ok(closed)
+}
+
+/// The comments of a text. Which of them are closed is found where the first is asked for, from there on, and takes a
+/// byte for each byte. Clauses see it as the text.
+#[derive(Drop)]
+pub(crate) struct Comments<'a> {
+    text: &'a [u8],
+    from: usize,
+    closed: Vec<bool>,
+}
+
+impl<'a> Model for Comments<'a> {
+    ghost use Rattle.std.specs.Prelude.{◌≡◌, ◌≤◌, List, ℕ, length, drop};
+    ghost use Rattle.mail_core.specs.Ends.{closings_of};
+
+    ghost Value = { List ℕ };
+
+    ghost view = { λ s. s.text.now };
+
+    ghost invariant = { λ s. (s.from ≤ length s.text.now) × (s.closed.items ≡ closings_of (drop s.from s.text.now)) };
+}
+
+impl<'a> Comments<'a> {
+    pub(crate) fn of(alloc: Global, text: &'a [u8]) -> Comments<'a>
+        ensures { result ≡ text.entry.now }
+    {
+        Comments {
+            text,
+            from: text.len(),
+            closed: Vec::new(alloc),
+        }
+    }
+
+    /// The place behind the comment that is opened at a place. `None` where it is not closed.
+    pub(crate) fn end(&mut self, alloc: Global, at: usize) -> Result<Option<usize>, Memory>
+        requires { at < length self.old }
+        ensures same { self.new ≡ self.old }
+        ensures end { IfOk result (λ end. MatchOption end (closing_rest false 1 (drop (at + 1) self.old) ≡ None)
+            (λ e. (at + 1 < e) × (e ≤ length self.old) × (closing_rest false 1 (drop (at + 1) self.old) ≡ Some (drop e self.old)))) }
+    {
+        if at < self.from {
+            self.closed = closings(alloc, &self.text[at..])?;
+            self.from = at;
+        }
+        if self.closed[self.text.len() - 1 - at] {
+            Ok(comment_end(self.text, at + 1))
+        } else {
+            Ok(None)
+        }
+    }
 }
 
 /// The place behind the comment inside which a place stands, found by one scan and no memory.

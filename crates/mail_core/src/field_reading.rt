@@ -107,7 +107,7 @@ fn read_field<'a>(block: &'a [u8]) -> Option<Field<'a>>
 }
 
 /// The first field of a text, and what follows it.
-fn next_field<'a>(text: &'a [u8]) -> Option<(Field<'a>, &'a [u8])>
+pub(crate) fn next_field<'a>(text: &'a [u8]) -> Option<(Field<'a>, &'a [u8])>
     ensures { MatchOption result (fields_of text.entry.now ≡ []) (λ found. fields_of text.entry.now ≡ found.0 ∷ fields_of found.1.now) }
 {
     let mut rest = text;

@@ -12,7 +12,7 @@ pub fn fields<'a>(text: &'a [u8]) -> Fields<'a>
 }
 
 /// Whether a field has this name, but for ASCII case.
-fn is_named(field: &Field<'_>, name: &[u8]) -> bool
+pub(crate) fn is_named(field: &Field<'_>, name: &[u8]) -> bool
     ensures { result ≡ has_name name.now field.now }
 {
     field.name.eq_ignore_ascii_case(name)

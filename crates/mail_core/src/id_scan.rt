@@ -1,30 +1,30 @@
 //! The msg-ids of a text.
-ghost use Rattle.std.specs.Prelude.{◌≡◌, IfOk};
+ghost use Rattle.std.specs.Prelude.{◌≡◌, IfOk, take};
 ghost use Rattle.mail_core.specs.MsgIds.{ids_of};
+ghost use Rattle.mail_core.specs.Headers.{first_of};
 
-use crate::comments::{comment_ends, first_open};
+use crate::comments::Comments;
 use crate::id_reading::read_id;
 use crate::msg_id::MsgId;
 use crate::quotes::quote_end;
 use crate::refusal::Memory;
 use std::alloc::Global;
 
-/// The msg-ids of an unfolded text, in order: what stands in comments and in quoted strings is passed over.
-/// `Memory` where no memory is left.
-pub fn ids(alloc: Global, text: &[u8]) -> Result<Vec<MsgId>, Memory>
-    ensures { IfOk result (λ found. found.items ≡ ids_of text.now) }
+/// The first msg-ids of an unfolded text, so many at most.
+fn scan(alloc: Global, text: &[u8], most: usize) -> Result<Vec<MsgId>, Memory>
+    ensures { IfOk result (λ found. found.items ≡ take most (ids_of text.now)) }
 {
-    let from = first_open(text);
-    let (_, rest) = text.split_at(from);
-    let ends = comment_ends(alloc, rest)?;
     let mut found = Vec::new(alloc);
+    let mut comments = Comments::of(alloc, text);
     let mut quotes_end = true;
     let mut at = 0;
-    while at < text.len() {
+    while at < text.len() && found.len() < most {
         let byte = text[at];
         if byte == b'(' {
-            let end = from + ends[text.len() - at];
-            at = if end <= text.len() { end } else { at + 1 };
+            match comments.end(alloc, at)? {
+                Some(end) => at = end,
+                None => at += 1,
+            }
         } else if byte == b'"' {
             at += 1;
             if quotes_end {
@@ -46,4 +46,20 @@ pub fn ids(alloc: Global, text: &[u8]) -> Result<Vec<MsgId>, Memory>
         }
     }
     Ok(found)
+}
+
+/// The msg-ids of an unfolded text, in order: what stands in comments and in quoted strings is passed over.
+/// `Memory` where no memory is left.
+pub fn ids(alloc: Global, text: &[u8]) -> Result<Vec<MsgId>, Memory>
+    ensures { IfOk result (λ found. found.items ≡ ids_of text.now) }
+{
+    scan(alloc, text, text.len())
+}
+
+/// The first msg-id of an unfolded text, as `ids` finds it, if there is one, without the others. `Memory`
+/// where no memory is left.
+pub fn first_id(alloc: Global, text: &[u8]) -> Result<Option<MsgId>, Memory>
+    ensures { IfOk result (λ found. found ≡ first_of (ids_of text.now)) }
+{
+    Ok(scan(alloc, text, 1)?.pop())
 }
