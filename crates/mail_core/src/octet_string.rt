@@ -43,7 +43,8 @@ impl Octets {
     pub fn into_vec(self) -> Vec<u8>
         ensures { result.items ≡ self }
     {
-        self.bytes
+        let Octets { bytes } = self;
+        bytes
     }
 
     /// The same bytes once more. `Memory` where no memory is left.

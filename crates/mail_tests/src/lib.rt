@@ -6,6 +6,8 @@ mod calendar;
 #[cfg(test)]
 mod fields;
 #[cfg(test)]
+mod headers;
+#[cfg(test)]
 mod long;
 #[cfg(test)]
 mod msg_ids;

@@ -1,6 +1,6 @@
 //! Message identifiers of known texts.
 use crate::long::repeated;
-use mail_core::{MsgId, Octets, ids, unfold};
+use mail_core::{MsgId, Octets, first_id, ids, unfold};
 use std::alloc::{AllocError, Global};
 use std::hash::{DefaultHasher, Hash, Hasher};
 use std::process::Abort;
@@ -12,10 +12,19 @@ fn id(alloc: Global, left: &[u8], right: &[u8]) -> Result<MsgId, AllocError> {
     Ok(MsgId::new(left, right))
 }
 
-fn assert_ids(rt: &impl Abort, found: &[MsgId], wanted: &[(&[u8], &[u8])]) {
+pub fn assert_ids(rt: &impl Abort, found: &[MsgId], wanted: &[(&[u8], &[u8])]) {
     assert_eq!(rt; found.len(), wanted.len());
     for (id, (left, right)) in found.iter().zip(wanted) {
         assert_eq!(rt; (id.left(), id.right()), (*left, *right));
+    }
+}
+
+/// Whether an id has these sides, or is missing as they are.
+pub fn is_id(found: &Option<MsgId>, wanted: Option<(&[u8], &[u8])>) -> bool {
+    match (found, wanted) {
+        (Some(id), Some((left, right))) => id.left() == left && id.right() == right,
+        (None, None) => true,
+        _ => false,
     }
 }
 
@@ -57,14 +66,26 @@ fn known_texts_have_their_ids(rt: HostRuntime) -> Result<(), Fail> {
     Ok(())
 }
 
+#[test]
+fn the_first_id_of_a_text_is_found_alone(rt: HostRuntime) -> Result<(), Fail> {
+    for (text, wanted) in &TEXTS {
+        let text = unfold(rt.alloc(), text)?;
+        let found = first_id(rt.alloc(), &text)?;
+        assert!(rt; is_id(&found, wanted.first().copied()), "of {text:?}");
+    }
+    Ok(())
+}
+
 const ONE_ID: &[(&[u8], &[u8])] = &[(b"a", b"b")];
 
 // parts, each with how often it stands, and the ids of the whole
-static LONG_TEXTS: [(&[(&[u8], usize)], &[(&[u8], &[u8])]); 5] = [
+static LONG_TEXTS: [(&[(&[u8], usize)], &[(&[u8], &[u8])]); 6] = [
     // open comments
     (&[(b"(", 10_000), (b"<a@b>", 1)], ONE_ID),
     // nested ones
     (&[(b"(", 10_000), (b")", 10_000), (b"<a@b>", 1)], ONE_ID),
+    // closed ones in open ones
+    (&[(b"((\\)x)", 300_000), (b"<a@b>", 1)], ONE_ID),
     // open comments and an open quote
     (
         &[
