@@ -5,7 +5,7 @@ use Rattle.std.proofs.lemmas.Bool.Decides.{nat_tests}
 use Rattle.std.proofs.lemmas.List.{get_or_at, get_or_append_left}
 use Rattle.mail_core.specs.Comments.{CommentMark, comment_mark, closing_rest}
 use Rattle.mail_core.specs.Comments.CommentMark.{opening, closing, escape, ordinary}
-use Rattle.mail_core.specs.Ends.{count_before, closed_in, closings_of}
+use Rattle.mail_core.specs.Closings.{count_before, closed_in, closings_of}
 use Rattle.mail_core.proofs.CommentLemmas.{closing_rest-end, closing_rest-quoted, closing_rest-opening, closing_rest-closing, closing_rest-backslash, closing_rest-ordinary}
 
 pub drop-past : (xs : List ℕ) (k : ℕ) → length xs ≤ k → drop k xs ≡ []

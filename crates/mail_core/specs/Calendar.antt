@@ -33,21 +33,37 @@ days_before y m d = days_before_year y + (days_of_months y (m - 1) + d - 1)
 abbrev pub day_number : ℕ → ℕ → ℕ → ℤ
 day_number y m d = pos (days_before y m d) -ℤ pos (days_before 1970 1 1)
 
+-- the years of the archive's days, and the last year of all dates
+abbrev pub first_year : ℕ
+first_year = 1900
+
+abbrev pub last_year : ℕ
+last_year = 9998
+
+abbrev pub last_of_four_digits : ℕ
+last_of_four_digits = 9999
+
 -- the date exists, in the years 0 to 9999
 abbrev pub is_date : ℕ → ℕ → ℕ → Bool
 is_date y m d =
-    nat_le y 9999 && (nat_le 1 m && nat_le m 12) && (nat_le 1 d && nat_le d (month_days y m))
+    nat_le y last_of_four_digits && (nat_le 1 m && nat_le m 12) && (nat_le 1 d && nat_le d (month_days y m))
 
 abbrev pub day_number_of : ℕ → ℕ → ℕ → Option ℤ
 day_number_of y m d = if is_date y m d then Some (day_number y m d) else None
 
 -- The days of the archive: 1900-01-01 to 9998-12-31, as numbers of days since 1970-01-01.
+abbrev pub first_day : ℤ
+first_day = neg_ℤ (pos 25_567)
+
+abbrev pub last_day : ℤ
+last_day = pos 2_932_531
+
 abbrev pub is_day : ℤ → Bool
-is_day z = int_le (neg_ℤ (pos 25_567)) z && int_le z (pos 2_932_531)
+is_day z = int_le first_day z && int_le z last_day
 
 -- the day of a date that the calendar has, in the years 1900 to 9998
 abbrev pub day_of_date : ℤ → ℕ → ℕ → Option ℤ
-day_of_date (pos y) m d = if nat_le 1900 y && nat_le y 9998 then day_number_of y m d else None
+day_of_date (pos y) m d = if nat_le first_year y && nat_le y last_year then day_number_of y m d else None
 day_of_date (negsuc y) m d = None
 
 -- an ASCII digit
@@ -80,19 +96,34 @@ abbrev pub weekday : ℤ → ℕ
 weekday z = unsigned_abs (int_rem_euclid (z +ℤ pos 3) (pos 7))
 
 -- The instants of the archive: seconds since 1970-01-01 00:00:00 UTC, from 1900-01-01 00:00:00 to 9998-12-31 23:59:59.
+abbrev pub first_instant : ℤ
+first_instant = neg_ℤ (pos 2_208_988_800)
+
+abbrev pub last_instant : ℤ
+last_instant = pos 253_370_764_799
+
 abbrev pub is_instant : ℤ → Bool
-is_instant z = int_le (neg_ℤ (pos 2_208_988_800)) z && int_le z (pos 253_370_764_799)
+is_instant z = int_le first_instant z && int_le z last_instant
 
 abbrev pub instant_at : ℤ → Option ℤ
 instant_at z = if is_instant z then Some z else None
 
--- the day, in UTC, of an instant: whole days of 86,400 seconds, rounded down
+abbrev pub seconds_of_a_day : ℕ
+seconds_of_a_day = 86_400
+
+-- the day, in UTC, of an instant: whole days, rounded down
 abbrev pub day_of_instant : ℤ → ℤ
-day_of_instant z = int_div_euclid z (pos 86_400)
+day_of_instant z = int_div_euclid z (pos seconds_of_a_day)
 
 -- The months of the archive, as numbers: year times 12 plus month minus 1, from January 1900 to December 9998.
+abbrev pub first_month : ℕ
+first_month = 22_800
+
+abbrev pub last_month : ℕ
+last_month = 119_987
+
 abbrev pub is_month : ℕ → Bool
-is_month i = nat_le 22_800 i && nat_le i 119_987
+is_month i = nat_le first_month i && nat_le i last_month
 
 -- the first day of a month
 abbrev pub month_start : ℕ → ℤ
@@ -109,14 +140,14 @@ last_begun (suc i) z = if int_le (month_start (suc i)) z then suc i else last_be
 
 -- the month of a day and of an instant, in UTC
 unfoldable pub month_of_day : ℤ → ℕ
-month_of_day z = last_begun 119_987 z
+month_of_day z = last_begun last_month z
 
 abbrev pub month_of_instant : ℤ → ℕ
 month_of_instant z = month_of_day (day_of_instant z)
 
 abbrev pub month_of_numbers : Option ℕ → Option ℕ → Option ℕ
 month_of_numbers (Some y) (Some m) =
-    if (nat_le 1900 y && nat_le y 9998) && (nat_le 1 m && nat_le m 12) then Some (12 * y + (m - 1)) else None
+    if (nat_le first_year y && nat_le y last_year) && (nat_le 1 m && nat_le m 12) then Some (12 * y + (m - 1)) else None
 month_of_numbers _ _ = None
 
 -- the month that a text writes as `yyyy-mm`

@@ -1,8 +1,8 @@
 pub mod Author
 pub mod Bytes
 pub mod Calendar
+pub mod Closings
 pub mod Comments
-pub mod Ends
 pub mod Fields
 pub mod Gathering
 pub mod Headers

@@ -13,7 +13,8 @@ use std::alloc::Global;
 
 /// The text between the last `<` and the first `>` behind it.
 fn between_angles<'a>(text: &'a [u8]) -> Option<&'a [u8]>
-    ensures { MatchOption result (in_angles text.entry.now ≡ None) (λ address. in_angles text.entry.now ≡ Some address.now) }
+    ensures { MatchOption result (in_angles text.entry.now ≡ None)
+        (λ address. in_angles text.entry.now ≡ Some address.now) }
 {
     let open = memrchr(b'<', text)?;
     let (_, behind) = text.split_at(open + 1);

@@ -1,7 +1,7 @@
 //! Where comments end (RFC 5322 section 3.2.2).
-ghost use Rattle.std.specs.Prelude.{◌≡◌, ◌≢◌, ℕ, ◌+◌, ◌-◌, ◌<◌, ◌≤◌, length, IfOk, MatchOption, Some, None, false, drop, vec_len, slice_index};
+ghost use Rattle.std.specs.Prelude.{◌≡◌, ◌+◌, ◌<◌, ◌≤◌, length, IfOk, MatchOption, Some, None, false, drop};
 ghost use Rattle.mail_core.specs.Comments.{closing_rest};
-ghost use Rattle.mail_core.specs.Ends.{closings_of};
+ghost use Rattle.mail_core.specs.Closings.{closings_of};
 
 use crate::refusal::Memory;
 use std::alloc::Global;
@@ -41,7 +41,7 @@ pub(crate) struct Comments<'a> {
 
 impl<'a> Model for Comments<'a> {
     ghost use Rattle.std.specs.Prelude.{◌≡◌, ◌≤◌, List, ℕ, length, drop};
-    ghost use Rattle.mail_core.specs.Ends.{closings_of};
+    ghost use Rattle.mail_core.specs.Closings.{closings_of};
 
     ghost Value = { List ℕ };
 
@@ -65,8 +65,10 @@ impl<'a> Comments<'a> {
     pub(crate) fn end(&mut self, alloc: Global, at: usize) -> Result<Option<usize>, Memory>
         requires { at < length self.old }
         ensures same { self.new ≡ self.old }
-        ensures end { IfOk result (λ end. MatchOption end (closing_rest false 1 (drop (at + 1) self.old) ≡ None)
-            (λ e. (at + 1 < e) × (e ≤ length self.old) × (closing_rest false 1 (drop (at + 1) self.old) ≡ Some (drop e self.old)))) }
+        ensures end { IfOk result (λ end. MatchOption end
+            (closing_rest false 1 (drop (at + 1) self.old) ≡ None)
+            (λ e. (at + 1 < e) × (e ≤ length self.old)
+            × (closing_rest false 1 (drop (at + 1) self.old) ≡ Some (drop e self.old)))) }
     {
         if at < self.from {
             self.closed = closings(alloc, &self.text[at..])?;
@@ -83,7 +85,9 @@ impl<'a> Comments<'a> {
 /// The place behind the comment inside which a place stands, found by one scan and no memory.
 pub(crate) fn comment_end(text: &[u8], from: usize) -> Option<usize>
     requires { from ≤ length text.now }
-    ensures { MatchOption result (closing_rest false 1 (drop from text.now) ≡ None) (λ end. (from < end) × (end ≤ length text.now) × (closing_rest false 1 (drop from text.now) ≡ Some (drop end text.now))) }
+    ensures { MatchOption result (closing_rest false 1 (drop from text.now) ≡ None)
+        (λ end. (from < end) × (end ≤ length text.now)
+        × (closing_rest false 1 (drop from text.now) ≡ Some (drop end text.now))) }
 {
     let mut at = from;
     let mut depth: usize = 1;

@@ -49,8 +49,8 @@ impl<'a> Fields<'a> {
     }
 }
 
-/// Whether a byte may stand in a field's name.
-fn is_name(byte: u8) -> bool
+/// Whether a byte may stand in the name of a field.
+fn is_ftext(byte: u8) -> bool
     ensures { result ≡ is_name_byte byte }
 {
     byte >= 33 && byte <= 126 && byte != b':'
@@ -62,7 +62,7 @@ fn name_len(text: &[u8]) -> usize
     ensures within { result ≤ length text.now }
 {
     for (len, byte) in text.iter().enumerate() {
-        if !is_name(*byte) {
+        if !is_ftext(*byte) {
             return len;
         }
     }
@@ -108,7 +108,8 @@ fn read_field<'a>(block: &'a [u8]) -> Option<Field<'a>>
 
 /// The first field of a text, and what follows it.
 pub(crate) fn next_field<'a>(text: &'a [u8]) -> Option<(Field<'a>, &'a [u8])>
-    ensures { MatchOption result (fields_of text.entry.now ≡ []) (λ found. fields_of text.entry.now ≡ found.0 ∷ fields_of found.1.now) }
+    ensures { MatchOption result (fields_of text.entry.now ≡ [])
+        (λ found. fields_of text.entry.now ≡ found.0 ∷ fields_of found.1.now) }
 {
     let mut rest = text;
     while let Some((block, after)) = first_block(rest) {

@@ -21,7 +21,8 @@ pub(crate) fn is_named(field: &Field<'_>, name: &[u8]) -> bool
 /// The body of the first header field of this name, which is compared without ASCII case. `None` where there is no
 /// such field. It takes no memory.
 pub fn first<'a>(text: &'a [u8], name: &[u8]) -> Option<&'a [u8]>
-    ensures { MatchOption result (field_of text.entry.now name.now ≡ None) (λ body. field_of text.entry.now name.now ≡ Some body.now) }
+    ensures { MatchOption result (field_of text.entry.now name.now ≡ None)
+        (λ body. field_of text.entry.now name.now ≡ Some body.now) }
 {
     let field = fields(text).find(|field| is_named(field, name))?;
     Some(field.body)

@@ -1,7 +1,7 @@
 //! What a message says of itself in its header (RFC 5322 sections 3.6.1 to 3.6.5).
-ghost use Rattle.std.specs.Prelude.{◌≡◌, ◌∷◌, [], IfOk, OnOk, None};
+ghost use Rattle.std.specs.Prelude.{◌≡◌, IfOk};
 ghost use Rattle.std.specs.Option.{option_copied};
-ghost use Rattle.mail_core.specs.Fields.{fields_of, unfolded};
+ghost use Rattle.mail_core.specs.Fields.{unfolded};
 ghost use Rattle.mail_core.specs.Author.{key_of_body};
 ghost use Rattle.mail_core.specs.Headers.{header_of, or_empty, ids_in_field, first_of, own_id_in, references_in, sent_date_in, unfolded_subject_in, subject_line_in};
 ghost use Rattle.mail_core.specs.Gathering.{or_field, with_field};
@@ -37,7 +37,14 @@ impl<'a> Model for Header<'a> {
 
     ghost Value = { Bodies };
 
-    ghost view = { λ s. record { message_id = option_copied s.message_id; references = option_copied s.references; in_reply_to = option_copied s.in_reply_to; date = option_copied s.date; from = option_copied s.from; subject = option_copied s.subject } };
+    ghost view = { λ s. record {
+      message_id = option_copied s.message_id;
+      references = option_copied s.references;
+      in_reply_to = option_copied s.in_reply_to;
+      date = option_copied s.date;
+      from = option_copied s.from;
+      subject = option_copied s.subject;
+    } };
 }
 
 /// The body that was found before, and else that of this field, where it has the name.

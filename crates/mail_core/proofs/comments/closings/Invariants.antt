@@ -1,5 +1,5 @@
 use Rattle.std.proofs.Common.{◌≡◌, ◌+◌, ◌≤◌, length, drop, true, false}
-use Rattle.mail_core.specs.Ends.{closed_in, closings_of}
+use Rattle.mail_core.specs.Closings.{closed_in, closings_of}
 use Rattle.mail_core.proofs.comments.closings.Given as goal
 
 abbrev pub invariant-loop-k : goal.invariant-loop-k

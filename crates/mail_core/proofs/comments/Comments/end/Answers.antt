@@ -1,6 +1,6 @@
 use Rattle.std.proofs.Common.{◌≡◌, ◌≤◌, ℕ, List, length, drop, length-drop, arith, ap, ◌∙◌, sym, subst}
 use Rattle.std.proofs.lemmas.List.{take_rest}
-use Rattle.mail_core.specs.Ends.{closings_of}
+use Rattle.mail_core.specs.Closings.{closings_of}
 use Rattle.mail_core.specs.declared.comments.Comments.TheInside.{Inside}
 use Rattle.mail_core.proofs.CommentTable.{closings-length, not_closed}
 use Rattle.mail_core.proofs.comments.Comments.end.Goals.{then-at-self+in_ok-self-inside, else-at-self, then-index, else-index}
