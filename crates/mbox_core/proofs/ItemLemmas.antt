@@ -172,3 +172,20 @@ none_whole t h = cases (is_whole t) refl h
     cases : (w : Bool) → is_whole t ≡ w → NoneSeparates (lines (if w then t else t ++ 10 ∷ [])) → NoneSeparates (lines t)
     cases true e g = g
     cases false e g = let o = open_text t e in none_on_last (lines t) o.0 (subst (λ (ls : List (List ℕ)). NoneSeparates ls) o.1 g)
+
+-- a whole text is whole
+lf_at_end : (t : List ℕ) (n : ℕ) → length (t ++ 10 ∷ []) ≡ suc n → length t ≡ n → is_whole (t ++ 10 ∷ []) ≡ true
+lf_at_end t n long h = rw (long, never n, sub_one n, get_or_at t 10 [] 0 n h) refl
+  where
+    sub_one : (n : ℕ) → suc n - 1 ≡ n
+    sub_one n = omega arith
+
+completed : (t : List ℕ) (w : Bool) → is_whole t ≡ w → is_whole (if w then t else t ++ 10 ∷ []) ≡ true
+completed t true h = h
+completed t false h = lf_at_end t (length t) (let long = length-append t (10 ∷ []) in omega (arith, long)) refl
+
+pub is_whole-whole : (t : List ℕ) → is_whole (whole t) ≡ true
+is_whole-whole t = completed t (is_whole t) refl
+
+pub whole-whole : (t : List ℕ) → whole (whole t) ≡ whole t
+whole-whole t = rw (is_whole-whole t) refl

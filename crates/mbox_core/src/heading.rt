@@ -17,7 +17,7 @@ const WEEKDAYS: &[u8] = b"MonTueWedThuFriSatSun";
 const MONTHS: &[u8] = b"JanFebMarAprMayJunJulAugSepOctNovDec";
 
 /// The n-th of some names of three letters.
-fn name(n: u8, names: &[u8]) -> [u8; 3]
+fn nth_name(n: u8, names: &[u8]) -> [u8; 3]
     requires { 3 * n + 2 < length names.now }
     ensures { result ≡ name_at n names.now }
 {
@@ -26,7 +26,7 @@ fn name(n: u8, names: &[u8]) -> [u8; 3]
 }
 
 /// Two digits.
-fn pair(n: u32) -> [u8; 2]
+fn digit_pair(n: u32) -> [u8; 2]
     requires { n < 100 }
     ensures { result ≡ as_two_digits n }
 {
@@ -41,7 +41,7 @@ fn day_pair(n: u32) -> [u8; 2]
     if n < 10 {
         [b' ', (48 + n) as u8]
     } else {
-        pair(n)
+        digit_pair(n)
     }
 }
 
@@ -58,14 +58,14 @@ fn date_line(weekday: u8, date: Date, seconds: u32) -> [u8; 26]
       day = date.day;
     }) seconds) ++ 10 ∷ [] }
 {
-    let [w0, w1, w2] = name(weekday, WEEKDAYS);
-    let [m0, m1, m2] = name(date.month - 1, MONTHS);
+    let [w0, w1, w2] = nth_name(weekday, WEEKDAYS);
+    let [m0, m1, m2] = nth_name(date.month - 1, MONTHS);
     let [d0, d1] = day_pair(date.day as u32);
-    let [h0, h1] = pair(seconds / 3600);
-    let [n0, n1] = pair(seconds / 60 % 60);
-    let [s0, s1] = pair(seconds % 60);
-    let [y0, y1] = pair(date.year as u32 / 100);
-    let [y2, y3] = pair(date.year as u32 % 100);
+    let [h0, h1] = digit_pair(seconds / 3600);
+    let [n0, n1] = digit_pair(seconds / 60 % 60);
+    let [s0, s1] = digit_pair(seconds % 60);
+    let [y0, y1] = digit_pair(date.year as u32 / 100);
+    let [y2, y3] = digit_pair(date.year as u32 % 100);
     [
         b' ', w0, w1, w2, b' ', m0, m1, m2, b' ', d0, d1, b' ', h0, h1, b':', n0, n1, b':', s0, s1,
         b' ', y0, y1, y2, y3, b'\n',

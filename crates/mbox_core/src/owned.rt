@@ -68,6 +68,27 @@ impl OwnedItem {
         })
     }
 
+    /// Its text, without what the whole text adds.
+    pub fn text(&self) -> &[u8]
+        ensures { result.now ≡ self.now.text }
+    {
+        &self.text
+    }
+
+    /// Its arrival.
+    pub fn arrival(&self) -> Instant
+        ensures { result ≡ self.now.envelope.arrival }
+    {
+        self.arrival
+    }
+
+    /// The vector that holds its text, which takes no memory.
+    pub fn into_text(self) -> Vec<u8>
+        ensures { result.items ≡ self.text }
+    {
+        self.text
+    }
+
     /// The message, with its bytes lent.
     pub fn as_item(&self) -> Item<'_>
         ensures { result ≡ self.now }

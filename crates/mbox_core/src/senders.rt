@@ -23,13 +23,13 @@ impl<'a> Sender<'a> {
         if is_sender_token(text) {
             return Some(Sender::One(text));
         }
-        let (left, right) = around_at(text)?;
+        let (left, right) = tokens_around_at(text)?;
         Some(Sender::At(left, right))
     }
 }
 
 /// The two tokens of a text that has ` at ` between them.
-fn around_at<'a>(text: &'a [u8]) -> Option<(&'a [u8], &'a [u8])>
+fn tokens_around_at<'a>(text: &'a [u8]) -> Option<(&'a [u8], &'a [u8])>
     ensures some { IfSome result (λ p. (sender_test p.0.now ≡ true) × (sender_test p.1.now ≡ true)
         × (text.entry.now ≡ spaced (p.0.now ∷ codes "at" ∷ p.1.now ∷ []))) }
     ensures none { IfNone result ((left right : List ℕ) → sender_test left ≡ true → sender_test right ≡ true

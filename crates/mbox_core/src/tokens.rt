@@ -26,7 +26,7 @@ pub(crate) fn first_token<'a>(text: &'a [u8]) -> Option<(&'a [u8], &'a [u8])>
     Some((token, rest))
 }
 
-fn digit(b: u8) -> bool
+fn is_digit_byte(b: u8) -> bool
     ensures { result ≡ is_digit b }
 {
     48 <= b && b <= 57
@@ -38,7 +38,7 @@ fn lower_byte(b: u8) -> u8
     if 65 <= b && b <= 90 { b + 32 } else { b }
 }
 
-fn two(text: &[u8], at: usize) -> Option<u32>
+fn two_digits_at(text: &[u8], at: usize) -> Option<u32>
     requires { at < 100 }
     ensures value { result ≡ two_at text.now at }
     ensures bound { IfSome result (λ n. n < 100) }
@@ -48,7 +48,7 @@ fn two(text: &[u8], at: usize) -> Option<u32>
     }
     let high = text[at];
     let low = text[at + 1];
-    if digit(high) && digit(low) {
+    if is_digit_byte(high) && is_digit_byte(low) {
         Some(10 * (high as u32 - 48) + (low as u32 - 48))
     } else {
         None
@@ -62,13 +62,13 @@ pub(crate) fn read_day(text: &[u8]) -> Option<u32>
     ensures bound { IfSome result (λ n. n < 100) }
 {
     if text.len() == 1 {
-        if digit(text[0]) {
+        if is_digit_byte(text[0]) {
             Some(text[0] as u32 - 48)
         } else {
             None
         }
     } else if text.len() == 2 {
-        two(text, 0)
+        two_digits_at(text, 0)
     } else {
         None
     }
@@ -81,7 +81,7 @@ fn read_second(text: &[u8]) -> Option<u32>
     if text.len() == 5 {
         Some(0)
     } else if text.len() == 8 && text[5] == b':' {
-        two(text, 6)
+        two_digits_at(text, 6)
     } else {
         None
     }
@@ -93,8 +93,8 @@ pub(crate) fn read_clock(text: &[u8]) -> Option<u32>
     ensures value { result ≡ clock_of text.now }
     ensures bound { IfSome result (λ n. n < 86400) }
 {
-    let hour = two(text, 0)?;
-    let minute = two(text, 3)?;
+    let hour = two_digits_at(text, 0)?;
+    let minute = two_digits_at(text, 3)?;
     let second = read_second(text)?;
     if text.len() <= 2 || text[2] != b':' {
         return None;
@@ -118,8 +118,8 @@ pub(crate) fn read_year(text: &[u8]) -> Option<u32>
     ensures bound { IfSome result (λ n. n < 10000) }
 {
     if text.len() == 4 {
-        let high = two(text, 0)?;
-        let low = two(text, 2)?;
+        let high = two_digits_at(text, 0)?;
+        let low = two_digits_at(text, 2)?;
         Some(100 * high + low)
     } else {
         None

@@ -13,7 +13,7 @@ use crate::separators::Envelope;
 const SHORT: usize = 225;
 
 /// Puts bytes into a line, from `at` on.
-fn put(line: &mut [u8; 256], at: usize, bytes: &[u8])
+fn copy_at(line: &mut [u8; 256], at: usize, bytes: &[u8])
     requires { at + length bytes.now ≤ 256 }
     ensures { line.new ≡ take at line.old ++ (bytes.now ++ drop (at + length bytes.now) line.old) }
 {
@@ -26,9 +26,9 @@ fn short_line(sender: &[u8], end: [u8; 26]) -> [u8; 256]
     ensures { take (31 + length sender.now) result ≡ codes "From " ++ (sender.now ++ end) }
 {
     let mut line = [0; 256];
-    put(&mut line, 0, b"From ");
-    put(&mut line, 5, sender);
-    put(&mut line, 5 + sender.len(), &end);
+    copy_at(&mut line, 0, b"From ");
+    copy_at(&mut line, 5, sender);
+    copy_at(&mut line, 5 + sender.len(), &end);
     line
 }
 

@@ -2,8 +2,8 @@ use Rattle.std.proofs.Common.{◌≡◌, ◌∷◌, ℕ, List, true, false, ◌+
 use Rattle.std.specs.Str.{bytes_eq}
 use Rattle.mbox_core.specs.Separator.{is_sender_token}
 use Rattle.mbox_core.proofs.SenderLemmas.{space_at, cut_at}
-use Rattle.mbox_core.proofs.senders.around_at.Goals.{else-is_sender_token-via-then-is_sender_token+else-is_sender_token-2, else-is_sender_token-via-else-is_sender_token}
-use Rattle.mbox_core.proofs.senders.around_at.Goals as goal
+use Rattle.mbox_core.proofs.senders.tokens_around_at.Goals.{else-is_sender_token-via-then-is_sender_token+else-is_sender_token-2, else-is_sender_token-via-else-is_sender_token}
+use Rattle.mbox_core.proofs.senders.tokens_around_at.Goals as goal
 
 pub returns-in_err-memchr-clause-none : goal.returns-in_err-memchr-clause-none
 returns-in_err-memchr-clause-none c = rw c.from_residual.ensures (λ left right l r e.
