@@ -20,6 +20,14 @@ fn is_copied(alloc: Global, bytes: &[u8], complete: bool) -> Result<bool, Fail> 
     Ok(copy.complete == complete && is_same(&copy, &item))
 }
 
+/// Whether a copy of the one message of an mbox gives its text and its arrival.
+fn gives_its_parts(alloc: Global, bytes: &[u8]) -> Result<bool, Fail> {
+    let item = cut(bytes)?.next().ok_or("no message")?;
+    let owned = OwnedItem::of(alloc, &item)?;
+    let same = owned.text() == item.text && owned.arrival() == item.envelope.arrival;
+    Ok(same && owned.into_text().as_slice() == item.text)
+}
+
 #[test]
 fn a_copy_is_the_message(rt: HostRuntime) -> Result<(), Fail> {
     let mboxes: [(&[u8], bool); 3] = [
@@ -32,6 +40,7 @@ fn a_copy_is_the_message(rt: HostRuntime) -> Result<(), Fail> {
     ];
     for (number, (bytes, complete)) in mboxes.iter().enumerate() {
         assert!(rt; is_copied(rt.alloc(), bytes, *complete)?, "mbox {number}");
+        assert!(rt; gives_its_parts(rt.alloc(), bytes)?, "mbox {number}");
     }
     Ok(())
 }

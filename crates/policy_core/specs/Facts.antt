@@ -1,5 +1,5 @@
 -- What is asked of a policy: may this reader read this message on this day. (profile: the archive's own rules of access)
-use Rattle.std.specs.Prelude.{ℕ, ℤ, List, Bool, true, false, int_lt, ◌-ℤ◌, Option, Some, None}
+use Rattle.std.specs.Prelude.{ℕ, ℤ, List, Bool, true, false, int_lt, nat_le, ◌-ℤ◌, Option, Some, None}
 use Rattle.policy_core.specs.declared.access.Standing.{Standing}
 use Rattle.policy_core.specs.declared.access.Standing.TheVariants.{Public, Member, Subscriber, Moderator}
 use Rattle.policy_core.specs.declared.access.Withdrawn.{Withdrawn}
@@ -25,6 +25,20 @@ is_embargoed f = is_before_until f.day f.embargo_until
 -- how old the message is on the reading day, in days; negative where it arrives after that day
 abbrev pub age : Facts → ℤ
 age f = f.day -ℤ f.arrival_day
+
+-- the longest age that can be asked for, in days
+abbrev pub most_days : ℕ
+most_days = 36_500
+
+-- the order of standings, from the least to the most
+abbrev pub rank_of : Standing → ℕ
+rank_of Public = 0
+rank_of Member = 1
+rank_of Subscriber = 2
+rank_of Moderator = 3
+
+abbrev pub is_at_least : Standing → Standing → Bool
+is_at_least least standing = nat_le (rank_of least) (rank_of standing)
 
 abbrev pub same_standing : Standing → Standing → Bool
 same_standing Public Public = true

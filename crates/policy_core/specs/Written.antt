@@ -11,6 +11,7 @@ use Rattle.policy_core.specs.declared.access.Withdrawn.{Withdrawn}
 use Rattle.policy_core.specs.declared.access.Withdrawn.TheVariants.{No, Author, Board}
 use Rattle.policy_core.specs.declared.faults.PolicyFault.{PolicyFault}
 use Rattle.policy_core.specs.declared.faults.PolicyFault.TheVariants.{NotToml, UnknownKey, WrongType, BadName, DuplicateName, BadValue, TooManyRules}
+use Rattle.policy_core.specs.Facts.{most_days}
 use Rattle.policy_core.specs.Names.{is_name}
 use Rattle.policy_core.specs.Rules.{Rule}
 
@@ -125,9 +126,9 @@ texts_refusal n test given = first_of (
 unfoldable pub embargo_refusal : ℕ → Option Data → Option PolicyFault
 embargo_refusal n given = refuse (WrongType n) (fails (λ d. is_some (as_bool d)) given)
 
--- whole days, 0 to 36,500
+-- whole days, from 0 to the longest age
 abbrev pub is_age : ℤ → Bool
-is_age z = int_le (pos 0) z && int_le z (pos 36_500)
+is_age z = int_le (pos 0) z && int_le z (pos most_days)
 
 unfoldable pub age_refusal : ℕ → Option Data → Option PolicyFault
 age_refusal n given = first_of (

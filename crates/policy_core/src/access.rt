@@ -1,9 +1,14 @@
 //! What is asked of a policy, and what it answers.
 ghost use Rattle.std.specs.Prelude.{◌≡◌};
-ghost use Rattle.policy_core.specs.Facts.{is_embargoed, age};
+ghost use Rattle.policy_core.specs.Facts.{is_embargoed, age, rank_of, is_at_least};
+ghost use Rattle.policy_core.specs.Written.{standing_named};
 
+use crate::words::Word;
 use mail_core::Day;
 use std::marker::Model;
+
+/// The longest age that a policy or a command can ask for, in days.
+pub const MOST_DAYS: i64 = 36_500;
 
 /// What a reader is to a list, from the least to the most. Who has no grant on the list is `Public`.
 #[derive(Clone, Copy, Debug, PartialEq, Eq, PartialOrd, Ord, Hash)]
@@ -12,6 +17,34 @@ pub enum Standing {
     Member,
     Subscriber,
     Moderator,
+}
+
+impl Standing {
+    /// The standing of this word: `public`, `member`, `subscriber` or `moderator`. `None` for another word.
+    pub fn read(word: &str) -> Option<Standing>
+        ensures { result ≡ standing_named word.now }
+    {
+        Standing::named(word)
+    }
+
+    /// Its place among the standings, from 0 for `Public` to 3 for `Moderator`.
+    pub fn rank(self) -> u8
+        ensures { result ≡ rank_of self }
+    {
+        match self {
+            Standing::Public => 0,
+            Standing::Member => 1,
+            Standing::Subscriber => 2,
+            Standing::Moderator => 3,
+        }
+    }
+
+    /// Whether it is this standing or a higher one: the order of the type is that of the ranks.
+    pub fn is_at_least(self, least: Standing) -> bool
+        ensures { result ≡ is_at_least least self }
+    {
+        self >= least
+    }
 }
 
 /// Whether a message is withdrawn, and by whom: its author, or the list's board.

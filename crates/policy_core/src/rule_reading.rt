@@ -7,6 +7,7 @@ ghost use Rattle.policy_core.specs.Names.{is_name};
 ghost use Rattle.policy_core.specs.Reading.{Reads, ReadsInMemory, IsTextArray, texts, names_of};
 ghost use Rattle.policy_core.specs.Written.{allows_at, is_rule_key, keys_of, texts_in, text_at, day_in, refuse, is_text, name_refusal, effect_refusal, texts_refusal, embargo_refusal, age_refusal, day_refusal, rule_refusal, rule_of};
 
+use crate::access::MOST_DAYS;
 use crate::faults::PolicyFault;
 use crate::names::is_name;
 use crate::rules::Rule;
@@ -14,9 +15,6 @@ use crate::words::{Word, effect_named, is_rule_key};
 use mail_core::Day;
 use std::alloc::Global;
 use toml::{Table, Value};
-
-/// The longest `age_min`.
-const MOST_DAYS: i64 = 36_500;
 
 /// The rule of this number, which comes after others.
 pub(crate) fn read_rule(

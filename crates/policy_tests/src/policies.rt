@@ -339,3 +339,24 @@ fn a_refusal_prints_its_number_its_name_and_its_rule(rt: HostRuntime) -> Result<
     }
     Ok(())
 }
+
+static STANDINGS: [(&str, Option<Standing>, u8); 6] = [
+    ("public", Some(Standing::Public), 0),
+    ("member", Some(Standing::Member), 1),
+    ("subscriber", Some(Standing::Subscriber), 2),
+    ("moderator", Some(Standing::Moderator), 3),
+    ("Member", None, 0),
+    ("", None, 0),
+];
+
+#[test]
+fn standings_have_words_and_ranks(rt: HostRuntime) {
+    for (word, wanted, rank) in &STANDINGS {
+        let standing = Standing::read(word);
+        assert!(rt; standing == *wanted, "{word}");
+        if let Some(standing) = standing {
+            assert_eq!(rt; standing.rank(), *rank);
+            assert_eq!(rt; standing.is_at_least(Standing::Subscriber), *rank >= 2);
+        }
+    }
+}
