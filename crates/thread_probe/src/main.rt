@@ -55,7 +55,10 @@ fn entry(alloc: Global, item: &Item<'_>) -> anyhow::Result<Entry> {
     Ok(Entry {
         id: own.pop(),
         refs: references(alloc, item.text)?,
-        sent: sent(first(item.text, b"date").unwrap_or(b""), item.envelope.arrival),
+        sent: sent(
+            first(item.text, b"date").unwrap_or(b""),
+            item.envelope.arrival,
+        ),
         base: Octets::new(subject.text.into_bytes()),
         reply: subject.reply,
     })
@@ -160,7 +163,10 @@ fn main(rt: HostRuntime) -> anyhow::Result<()> {
         (Some(call), None) if call.as_str() == "rows" => {
             print_rows(&rt, &thread(alloc, RandomState::new(&rt)?, &entries)?)?
         }
-        (None, None) => println!(rt; "{}", thread(alloc, RandomState::new(&rt)?, &entries)?.len())?,
+        (None, None) => println!(rt;
+            "{}",
+            thread(alloc, RandomState::new(&rt)?, &entries)?.len()
+        )?,
         _ => bail!("words: time ROUNDS, rows, or entries"),
     }
     Ok(())
