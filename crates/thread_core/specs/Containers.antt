@@ -1,11 +1,13 @@
--- Containers (RFC 5256, section 3, THREAD=REFERENCES, step 1.A): one for each message, and one for each mentioned id that no message has.
+-- Containers (RFC 5256, section 3, THREAD=REFERENCES, step 1.A): one for each message, and one for each mentioned id
+-- that no message has.
 use Rattle.std.specs.Prelude.{ℕ, ◌+◌, Bool, true, false, not, if◌then◌else◌, List, [], ◌∷◌, length, filter, flat_map, ◌&&◌, bytes_eq}
 use Rattle.std.specs.Option.{option_map_or}
 use Rattle.mail_core.specs.MsgIds.{Id}
 use Rattle.thread_core.specs.declared.entry.Entry.{Entry}
 
 -- The container of the message at a place of the mailbox, or the dummy of an id.
--- "If no message can be found with a given Message ID, create a dummy message with this ID. Use this dummy message for all subsequent references to this ID."
+-- "If no message can be found with a given Message ID, create a dummy message with this ID. Use this dummy message
+-- for all subsequent references to this ID."
 pub data Container : Type 0 where
   real : (place : ℕ) → Container
   dummy : (id : Id) → Container
@@ -19,8 +21,11 @@ abbrev pub has_id : Entry → Id → Bool
 has_id entry id = option_map_or (same_id id) entry.id false
 
 -- The container of an id among the messages from a place on: that of the first message that has the id, else its dummy.
--- "If two or more messages have the same Message ID, then only use that Message ID in the first (lowest sequence number) message, and assign a unique Message ID to each of the subsequent messages with a duplicate of that Message ID."
--- A unique id is one that no reference names, so it has no other effect than this: no id leads to such a message, nor to one without an id.
+-- "If two or more messages have the same Message ID, then only use that Message ID in the first (lowest sequence
+-- number) message, and assign a unique Message ID to each of the subsequent messages with a duplicate of that Message
+-- ID."
+-- A unique id is one that no reference names, so it has no other effect than this: no id leads to such a message, nor
+-- to one without an id.
 abbrev pub owner_from : ℕ → List Entry → Id → Container
 owner_from place [] id = dummy id
 owner_from place (entry ∷ entries) id = if has_id entry id then real place else owner_from (place + 1) entries id

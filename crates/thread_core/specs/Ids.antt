@@ -18,7 +18,9 @@ dummies_of entries refs = filter (λ id. is_dummy (owner entries id)) (distinct 
 -- the number of an id, if a message or so many references have it
 abbrev pub number_among : List Entry → List Id → Id → Option ℕ
 number_among entries refs id =
-    option_map_or (λ place. Some place) (place_of (owner entries id)) (if list_any (same_id id) (dummies_of entries refs) then Some (length entries + index_of (dummies_of entries refs) id) else None)
+    option_map_or (λ place. Some place) (place_of (owner entries id))
+    (if list_any (same_id id) (dummies_of entries refs)
+    then Some (length entries + index_of (dummies_of entries refs) id) else None)
 
 -- A count, and a number for each id: those of the containers of so many references.
 pub record AreNoted (entries : List Entry) (refs : List Id) (count : ℕ) (number : Id → Option ℕ) : Type 0 where

@@ -1,6 +1,9 @@
 -- Threads of one subject are gathered (RFC 5256, section 3, THREAD=REFERENCES, step 5), group by group.
 --
--- The RFC walks twice over the threads below the root with a table of subjects. In step 5.B the table gets the first thread of each subject; a later dummy replaces a message, and a later message that is no reply replaces a reply. So before step 5.C the table has for each subject its first dummy; without a dummy, its first message that is no reply; without such, its first reply. In step 5.C each other thread is merged with the table's:
+-- The RFC walks twice over the threads below the root with a table of subjects. In step 5.B the table gets the first
+-- thread of each subject; a later dummy replaces a message, and a later message that is no reply replaces a reply. So
+-- before step 5.C the table has for each subject its first dummy; without a dummy, its first message that is no
+-- reply; without such, its first reply. In step 5.C each other thread is merged with the table's:
 --
 --   both are dummies               its children go to the table's dummy
 --   the table's alone is a dummy   it becomes a child of the dummy
@@ -11,7 +14,8 @@
 --
 --   has a dummy                        the first dummy takes all others, other dummies by their children (first and second rule)
 --   no dummy, one that is no reply     it takes all replies (third rule)
---   no dummy, two or more no replies   the first takes the replies before the second (third rule); the second makes a new dummy over both (fourth rule), which takes all that follow (second rule)
+--   no dummy, two or more no replies   the first takes the replies before the second (third rule); the second makes a
+--                                      new dummy over both (fourth rule), which takes all that follow (second rule)
 --   replies alone, two or more         a new dummy over all (fourth rule, then the second)
 --   one reply alone                    stays as it is
 use Rattle.std.specs.Prelude.{ℕ, Bool, true, false, not, ◌==◌, List, [], ◌∷◌, ◌++◌, map, filter, flat_map, slice_get, bytes_eq}
@@ -29,7 +33,8 @@ base_of entries place = option_map_or (λ (entry : Entry). entry.base) (slice_ge
 abbrev pub is_reply : List Entry → ℕ → Bool
 is_reply entries place = option_map_or (λ (entry : Entry). entry.reply) (slice_get entries place) false
 
--- Step 5.B.i. "Find the subject of this thread, by using the base subject from either the current message or its first child if the current message is a dummy. This is the thread subject."
+-- Step 5.B.i. "Find the subject of this thread, by using the base subject from either the current message or its
+-- first child if the current message is a dummy. This is the thread subject."
 abbrev pub subject : List Entry → Tree → List ℕ
 subject entries tree = base_of entries (key entries tree)
 
@@ -42,19 +47,22 @@ abbrev pub is_dummy_tree : Tree → Bool
 is_dummy_tree (Message place) = false
 is_dummy_tree (DummyOver places) = true
 
--- What a group leaves at the top. `dummy` says that it has a dummy; `messages` are its messages and the children of its dummies, in order; `plain` are those of them that are no replies.
+-- What a group leaves at the top. `dummy` says that it has a dummy; `messages` are its messages and the children of
+-- its dummies, in order; `plain` are those of them that are no replies.
 abbrev pub trees_of_group : (dummy : Bool) (messages plain : List ℕ) → List Tree
 trees_of_group true messages plain = DummyOver messages ∷ []
 trees_of_group false messages [] = trees_of_dummy messages
 trees_of_group false messages (first ∷ []) = Message first ∷ []
-trees_of_group false messages (first ∷ second ∷ others) = DummyOver (first ∷ second ∷ after_first (λ place. place == second) messages) ∷ []
+trees_of_group false messages (first ∷ second ∷ others) =
+    DummyOver (first ∷ second ∷ after_first (λ place. place == second) messages) ∷ []
 
 -- the messages of a group that become children of its first plain one: all replies, or those before the second plain one
 abbrev pub taken_of_group : (dummy : Bool) (messages plain : List ℕ) → List ℕ
 taken_of_group true messages plain = []
 taken_of_group false messages [] = []
 taken_of_group false messages (first ∷ []) = filter (λ place. not (place == first)) messages
-taken_of_group false messages (first ∷ second ∷ others) = filter (λ place. not (place == first)) (before_first (λ place. place == second) messages)
+taken_of_group false messages (first ∷ second ∷ others) =
+    filter (λ place. not (place == first)) (before_first (λ place. place == second) messages)
 
 -- as links under the first plain one
 abbrev pub links_under_first : List ℕ → List ℕ → List Link
@@ -71,7 +79,11 @@ plain_of entries places = filter (λ place. not (is_reply entries place)) places
 
 abbrev pub merged_messages : List Entry → Bool → List ℕ → MergedTop
 merged_messages entries dummy messages =
-    record { trees = trees_of_group dummy messages (plain_of entries messages); links = links_under_first (plain_of entries messages) (taken_of_group dummy messages (plain_of entries messages)) }
+    record {
+      trees = trees_of_group dummy messages (plain_of entries messages);
+      links = links_under_first (plain_of entries messages)
+          (taken_of_group dummy messages (plain_of entries messages));
+    }
 
 -- what becomes of a group
 abbrev pub merged_group : List Entry → List Tree → MergedTop
@@ -103,4 +115,7 @@ without_subject entries trees = group_of entries trees []
 abbrev pub merged_trees : List Entry → List Tree → MergedTop
 merged_trees entries trees =
     let gathered = map (merged_group entries) (groups entries trees) in
-    record { trees = without_subject entries trees ++ flat_map (λ (m : MergedTop). m.trees) gathered; links = flat_map (λ (m : MergedTop). m.links) gathered }
+    record {
+      trees = without_subject entries trees ++ flat_map (λ (m : MergedTop). m.trees) gathered;
+      links = flat_map (λ (m : MergedTop). m.links) gathered;
+    }

@@ -29,7 +29,10 @@ fn add(
     number: usize,
 ) -> Result<bool, Memory>
     ensures added { IfOk result (λ added. added ≡ is_none (get_by (same_id id.now) numbers.old)) }
-    ensures numbers { OnOk result ((other : Id) → get_by (same_id other) numbers.new ≡ (if is_none (get_by (same_id id.now) numbers.old) && same_id id.now other then Some number else get_by (same_id other) numbers.old)) }
+    ensures numbers { OnOk result ((other : Id)
+        → get_by (same_id other) numbers.new
+        ≡ (if is_none (get_by (same_id id.now) numbers.old) && same_id id.now other
+        then Some number else get_by (same_id other) numbers.old)) }
 {
     if numbers.contains_key(id) {
         return Ok(false);
@@ -45,7 +48,10 @@ fn add_message(
     entry: &Entry,
     place: usize,
 ) -> Result<(), Memory>
-    ensures { (before : List Entry) → length before ≡ place → ((id : Id) → get_by (same_id id) numbers.old ≡ place_of (owner before id)) → OnOk result ((id : Id) → get_by (same_id id) numbers.new ≡ place_of (owner (before ++ entry.now ∷ []) id)) }
+    ensures { (before : List Entry) → length before ≡ place
+        → ((id : Id) → get_by (same_id id) numbers.old ≡ place_of (owner before id))
+        → OnOk result ((id : Id) → get_by (same_id id) numbers.new
+        ≡ place_of (owner (before ++ entry.now ∷ []) id)) }
 {
     match &entry.id {
         None => Ok(()),
@@ -75,7 +81,10 @@ impl Ids {
     /// Gives an id the next number unless it has one. More numbers than there are take more memory
     /// than there is.
     fn note(&mut self, alloc: Global, id: &MsgId) -> Result<(), Memory>
-        ensures { (entries : List Entry) (refs : List Id) → AreNoted entries refs self.old.count (λ other. get_by (same_id other) self.old.numbers) → OnOk result (AreNoted entries (refs ++ id.now ∷ []) self.new.count (λ other. get_by (same_id other) self.new.numbers)) }
+        ensures { (entries : List Entry) (refs : List Id)
+            → AreNoted entries refs self.old.count (λ other. get_by (same_id other) self.old.numbers)
+            → OnOk result (AreNoted entries (refs ++ id.now ∷ []) self.new.count
+            (λ other. get_by (same_id other) self.new.numbers)) }
     {
         let next = self.count.checked_add(1).ok_or(Memory)?;
         let added = add(alloc, &mut self.numbers, id, self.count)?;
@@ -87,7 +96,10 @@ impl Ids {
 
     /// The same for each of some ids in turn.
     fn note_all(&mut self, alloc: Global, ids: &[MsgId]) -> Result<(), Memory>
-        ensures { (entries : List Entry) (refs : List Id) → AreNoted entries refs self.old.count (λ other. get_by (same_id other) self.old.numbers) → OnOk result (AreNoted entries (refs ++ ids.now) self.new.count (λ other. get_by (same_id other) self.new.numbers)) }
+        ensures { (entries : List Entry) (refs : List Id)
+            → AreNoted entries refs self.old.count (λ other. get_by (same_id other) self.old.numbers)
+            → OnOk result (AreNoted entries (refs ++ ids.now) self.new.count
+            (λ other. get_by (same_id other) self.new.numbers)) }
     {
         for id in ids {
             self.note(alloc, id)?;
@@ -97,7 +109,8 @@ impl Ids {
 
     /// The numbers of the ids of messages and of their references.
     pub fn new(alloc: Global, state: RandomState, entries: &[Entry]) -> Result<Ids, Memory>
-        ensures { IfOk result (λ ids. AreNoted entries.now (mentioned entries.now) ids.count (λ other. get_by (same_id other) ids.numbers)) }
+        ensures { IfOk result (λ ids. AreNoted entries.now (mentioned entries.now) ids.count
+            (λ other. get_by (same_id other) ids.numbers)) }
     {
         let mut ids = Ids {
             numbers: number_messages(alloc, state, entries)?,
@@ -118,7 +131,9 @@ impl Ids {
 
     /// The number of an id that has one, else 0.
     fn number(&self, id: &MsgId) -> usize
-        ensures { (entries : List Entry) → AreNoted entries (mentioned entries) self.now.count (λ other. get_by (same_id other) self.now.numbers) → number_of_id entries id.now < count_of entries → result ≡ number_of_id entries id.now }
+        ensures { (entries : List Entry) → AreNoted entries (mentioned entries) self.now.count
+            (λ other. get_by (same_id other) self.now.numbers)
+            → number_of_id entries id.now < count_of entries → result ≡ number_of_id entries id.now }
     {
         match self.numbers.get(id) {
             Some(number) => *number,
@@ -128,7 +143,9 @@ impl Ids {
 
     /// The numbers of references.
     pub fn numbers(&self, alloc: Global, refs: &[MsgId]) -> Result<Vec<usize>, Memory>
-        ensures { (entries : List Entry) → AreNoted entries (mentioned entries) self.now.count (λ other. get_by (same_id other) self.now.numbers) → AreNumbered entries refs.now → IfOk result (λ v. v.items ≡ map (number_of_id entries) refs.now) }
+        ensures { (entries : List Entry) → AreNoted entries (mentioned entries) self.now.count
+            (λ other. get_by (same_id other) self.now.numbers) → AreNumbered entries refs.now
+            → IfOk result (λ v. v.items ≡ map (number_of_id entries) refs.now) }
     {
         let mut numbers = Vec::new(alloc);
         for id in refs {

@@ -3,7 +3,10 @@
 ghost use Rattle.std.specs.Prelude.{◌≡◌, ◌==◌, ◌∷◌, ◌++◌, [], ℕ, not, bytes_eq, filter, flat_map, map, position, IfOk, OnOk};
 ghost use Rattle.thread_core.specs.declared.tree.Tree.{Tree};
 ghost use Rattle.std.specs.List.{after_first, before_first, list_any};
-ghost use Rattle.thread_core.specs.Merge.{base_of, distinct_subjects, group_of, is_dummy_tree, is_reply, links_under_first, merged_trees, messages_of, plain_of, subject, taken_of_group, trees_of_group, with_subject, without_subject};
+ghost use Rattle.thread_core.specs.Merge.{base_of, distinct_subjects, group_of, is_dummy_tree, is_reply};
+ghost use Rattle.thread_core.specs.Merge.{links_under_first, merged_messages, merged_trees, messages_of};
+ghost use Rattle.thread_core.specs.Merge.{plain_of, subject, taken_of_group, trees_of_group, with_subject};
+ghost use Rattle.thread_core.specs.Merge.{without_subject};
 ghost use Rattle.thread_core.specs.Parts.{merged_for};
 
 use crate::entry::Entry;
@@ -18,6 +21,31 @@ use std::alloc::Global;
 pub struct Merged {
     pub trees: Vec<Tree>,
     pub links: Vec<(usize, usize)>,
+}
+
+impl Merged {
+    /// No trees and no links, which takes no memory.
+    pub fn new(alloc: Global) -> Merged
+        ensures trees { result.trees.items ≡ [] }
+        ensures links { result.links.items ≡ [] }
+    {
+        Merged {
+            trees: Vec::new(alloc),
+            links: Vec::new(alloc),
+        }
+    }
+
+    /// Adds what becomes of a group.
+    pub fn add(&mut self, alloc: Global, entries: &[Entry], group: Group) -> Result<(), Memory>
+        ensures trees { OnOk result (self.new.trees.items
+            ≡ self.old.trees.items ++ (merged_messages entries.now group.dummy group.messages.items).trees) }
+        ensures links { OnOk result (self.new.links.items
+            ≡ self.old.links.items ++ (merged_messages entries.now group.dummy group.messages.items).links) }
+    {
+        let plain = find_plain(alloc, entries, &group.messages)?;
+        push_links(&mut self.links, &group, &plain)?;
+        push_group(alloc, &mut self.trees, group, &plain)
+    }
 }
 
 /// The messages of one subject at the top.
@@ -70,7 +98,8 @@ fn has_no_subject(entries: &[Entry], tree: &Tree) -> bool
 
 /// Puts a message before those of other subjects, and drops its subject there.
 fn put_leader(entries: &[Entry], leaders: &mut Vec<usize>, place: usize) -> Result<(), Memory>
-    ensures { OnOk result (map (base_of entries.now) leaders.new.items ≡ with_subject (base_of entries.now place) (map (base_of entries.now) leaders.old.items)) }
+    ensures { OnOk result (map (base_of entries.now) leaders.new.items
+        ≡ with_subject (base_of entries.now place) (map (base_of entries.now) leaders.old.items)) }
 {
     if base_at(entries, place).is_empty() {
         return Ok(());
@@ -82,7 +111,8 @@ fn put_leader(entries: &[Entry], leaders: &mut Vec<usize>, place: usize) -> Resu
 
 /// A message for each subject that is not empty, in the order of the trees.
 fn find_leaders(alloc: Global, entries: &[Entry], trees: &[Tree]) -> Result<Vec<usize>, Memory>
-    ensures { IfOk result (λ v. map (base_of entries.now) v.items ≡ distinct_subjects (map (subject entries.now) trees.now)) }
+    ensures { IfOk result (λ v. map (base_of entries.now) v.items
+        ≡ distinct_subjects (map (subject entries.now) trees.now)) }
 {
     let mut leaders = Vec::new(alloc);
     let mut left = trees.len();
@@ -121,8 +151,10 @@ fn find_group(
     trees: &[Tree],
     leader: usize,
 ) -> Result<Group, Memory>
-    ensures dummy { IfOk result (λ group. group.dummy ≡ list_any is_dummy_tree (group_of entries.now trees.now (base_of entries.now leader))) }
-    ensures messages { IfOk result (λ group. group.messages.items ≡ flat_map messages_of (group_of entries.now trees.now (base_of entries.now leader))) }
+    ensures dummy { IfOk result (λ group. group.dummy
+        ≡ list_any is_dummy_tree (group_of entries.now trees.now (base_of entries.now leader))) }
+    ensures messages { IfOk result (λ group. group.messages.items
+        ≡ flat_map messages_of (group_of entries.now trees.now (base_of entries.now leader))) }
 {
     let mut dummy = false;
     let mut messages = Vec::new(alloc);
@@ -136,11 +168,7 @@ fn find_group(
 }
 
 /// The messages that are no replies.
-pub fn find_plain(
-    alloc: Global,
-    entries: &[Entry],
-    messages: &[usize],
-) -> Result<Vec<usize>, Memory>
+fn find_plain(alloc: Global, entries: &[Entry], messages: &[usize]) -> Result<Vec<usize>, Memory>
     ensures { IfOk result (λ v. v.items ≡ plain_of entries.now messages.now) }
 {
     let mut plain = Vec::from_slice(alloc, messages)?;
@@ -184,7 +212,8 @@ fn link_under(
     children: &[usize],
     first: usize,
 ) -> Result<(), Memory>
-    ensures { OnOk result (links.new.items ≡ links.old.items ++ map (λ (p : ℕ). (p, first)) (filter (λ (p : ℕ). not (p == first)) children.now)) }
+    ensures { OnOk result (links.new.items ≡ links.old.items
+        ++ map (λ (p : ℕ). (p, first)) (filter (λ (p : ℕ). not (p == first)) children.now)) }
 {
     for child in children {
         if *child != first {
@@ -196,12 +225,9 @@ fn link_under(
 
 /// Adds the links of the messages of a group that become children of its first plain one.
 #[tactic(auto, using(crate::proofs::MergeLemmas::no_links_dummy, crate::proofs::MergeLemmas::no_links_none, crate::proofs::MergeLemmas::links_of_one, crate::proofs::MergeLemmas::links_of_two))]
-pub fn push_links(
-    links: &mut Vec<(usize, usize)>,
-    group: &Group,
-    plain: &[usize],
-) -> Result<(), Memory>
-    ensures { OnOk result (links.new.items ≡ links.old.items ++ links_under_first plain.now (taken_of_group group.now.dummy group.now.messages.items plain.now)) }
+fn push_links(links: &mut Vec<(usize, usize)>, group: &Group, plain: &[usize]) -> Result<(), Memory>
+    ensures { OnOk result (links.new.items ≡ links.old.items
+        ++ links_under_first plain.now (taken_of_group group.now.dummy group.now.messages.items plain.now)) }
 {
     if group.dummy || plain.is_empty() {
         return Ok(());
@@ -219,7 +245,8 @@ fn dummy_over(
     second: usize,
     messages: &[usize],
 ) -> Result<Tree, Memory>
-    ensures { IfOk result (λ tree. tree ≡ Tree.DummyOver (first ∷ second ∷ after_first (λ (p : ℕ). p == second) messages.now)) }
+    ensures { IfOk result (λ tree. tree
+        ≡ Tree.DummyOver (first ∷ second ∷ after_first (λ (p : ℕ). p == second) messages.now)) }
 {
     let mut places = Vec::from_slice(alloc, &[first, second])?;
     places.extend_from_slice(after(messages, second))?;
@@ -227,13 +254,14 @@ fn dummy_over(
 }
 
 /// Adds what a group leaves at the top.
-pub fn push_group(
+fn push_group(
     alloc: Global,
     trees: &mut Vec<Tree>,
     group: Group,
     plain: &[usize],
 ) -> Result<(), Memory>
-    ensures { OnOk result (trees.new.items ≡ trees.old.items ++ trees_of_group group.dummy group.messages.items plain.now) }
+    ensures { OnOk result (trees.new.items ≡ trees.old.items
+        ++ trees_of_group group.dummy group.messages.items plain.now) }
 {
     if group.dummy {
         trees.push(Tree::DummyOver(Places::of(group.messages)))?;
@@ -271,21 +299,16 @@ fn merge_groups(
     trees: &[Tree],
     leaders: &[usize],
 ) -> Result<Merged, Memory>
-    ensures trees { IfOk result (λ merged. merged.trees.items ≡ flat_map (λ (leader : ℕ). (merged_for entries.now trees.now leader).trees) leaders.now) }
-    ensures links { IfOk result (λ merged. merged.links.items ≡ flat_map (λ (leader : ℕ). (merged_for entries.now trees.now leader).links) leaders.now) }
+    ensures trees { IfOk result (λ merged. merged.trees.items
+        ≡ flat_map (λ (leader : ℕ). (merged_for entries.now trees.now leader).trees) leaders.now) }
+    ensures links { IfOk result (λ merged. merged.links.items
+        ≡ flat_map (λ (leader : ℕ). (merged_for entries.now trees.now leader).links) leaders.now) }
 {
-    let mut merged = Vec::new(alloc);
-    let mut links = Vec::new(alloc);
+    let mut merged = Merged::new(alloc);
     for leader in leaders {
-        let group = find_group(alloc, entries, trees, *leader)?;
-        let plain = find_plain(alloc, entries, &group.messages)?;
-        push_links(&mut links, &group, &plain)?;
-        push_group(alloc, &mut merged, group, &plain)?;
+        merged.add(alloc, entries, find_group(alloc, entries, trees, *leader)?)?;
     }
-    Ok(Merged {
-        trees: merged,
-        links,
-    })
+    Ok(merged)
 }
 
 /// The trees after the merge, given those before it in order.

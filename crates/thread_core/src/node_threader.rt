@@ -15,6 +15,7 @@ use crate::threader::Threader;
 use mail_core::Memory;
 use std::alloc::Global;
 use std::hash::RandomState;
+use std::marker::Model;
 use std::sync::ledger::Ledger;
 
 /// Threads by numbered nodes, with ids and subjects in hash maps. Its steps are the parent numbers
@@ -24,10 +25,22 @@ pub struct NodeThreader {
     state: RandomState,
 }
 
+impl Model for NodeThreader {
+    ghost use Rattle.std.specs.declared.random_state.RandomState.{RandomState};
+
+    ghost Value = { RandomState };
+
+    ghost view = { λ s. s.state };
+
+    ghost inverse = { λ state. record { state = state } };
+}
+
 impl NodeThreader {
     /// A threader whose hash maps have this state (RFC 5256 section 3, THREAD=REFERENCES). It takes
     /// no memory and reads no parent number. No answer depends on the state, only the time does.
-    pub fn new(state: RandomState) -> NodeThreader {
+    pub fn new(state: RandomState) -> NodeThreader
+        ensures { result ≡ state }
+    {
         NodeThreader { state }
     }
 }
@@ -44,7 +57,8 @@ impl Threader for NodeThreader {
         steps: &mut Steps<L>,
     ) -> Result<Nodes, Memory>
         ensures step_one { IfOk result (λ links. IsLinkedAs (count_of entries.now) (links_of entries.now) links) }
-        ensures few { IfOk result (λ _. steps.new ≤ steps.old + (length entries.now + length (mentioned entries.now)) * count_of entries.now) }
+        ensures few { IfOk result (λ _. steps.new ≤ steps.old
+            + (length entries.now + length (mentioned entries.now)) * count_of entries.now) }
     {
         join_nodes(alloc, self.state, entries, steps)
     }
@@ -56,7 +70,8 @@ impl Threader for NodeThreader {
         links: Nodes,
         steps: &mut Steps<L>,
     ) -> Result<Vec<Row>, Memory>
-        ensures steps_two_to_six { IfOk result (λ rows. rows.items ≡ rows_of entries.now links.count (parent_of links.links)) }
+        ensures steps_two_to_six { IfOk result
+            (λ rows. rows.items ≡ rows_of entries.now links.count (parent_of links.links)) }
         ensures few { steps.new ≤ steps.old + links.count }
     {
         let parents = read_parents(alloc, &links, steps)?;

@@ -46,7 +46,8 @@ pub fn table_rows(
     parents: Vec<Option<usize>>,
     state: Option<RandomState>,
 ) -> Result<Vec<Row>, Memory>
-    ensures { IfOk result (λ rows. rows.items ≡ rows_of_containers entries.now (containers_of parents.items (length entries.now))) }
+    ensures { IfOk result (λ rows. rows.items
+        ≡ rows_of_containers entries.now (containers_of parents.items (length entries.now))) }
 {
     let all = Family::new(alloc, parents, entries.len())?;
     let tops = find_tops(alloc, &all)?;

@@ -2,7 +2,8 @@
 
 ghost use Rattle.std.specs.HashMap.{get_by};
 ghost use Rattle.std.specs.List.{list_any};
-ghost use Rattle.std.specs.Prelude.{◌≡◌, ◌≢◌, ◌&&◌, ◌||◌, ◌∷◌, ◌++◌, [], ℕ, List, Some, bytes_eq, if◌then◌else◌, flat_map, get_or, is_none, length, map, IfOk, OnOk};
+ghost use Rattle.std.specs.Prelude.{◌≡◌, ◌≢◌, ◌&&◌, ◌||◌, ◌∷◌, ◌++◌, [], ℕ, List, Some, bytes_eq};
+ghost use Rattle.std.specs.Prelude.{if◌then◌else◌, flat_map, get_or, is_none, length, map, IfOk, OnOk};
 ghost use Rattle.thread_core.specs.declared.entry.Entry.{Entry};
 ghost use Rattle.thread_core.specs.declared.tree.Tree.{Tree};
 ghost use Rattle.thread_core.specs.Forest.{key};
@@ -11,10 +12,7 @@ ghost use Rattle.thread_core.specs.Subjects.{lead_of, picked, AreLeaders};
 
 use crate::entry::Entry;
 use crate::family::{list_at, list_children};
-use crate::merging::{
-    Group, Merged, find_plain, is_dummy, keep_without_subject, merge_trees, push_group, push_links,
-    push_messages,
-};
+use crate::merging::{Group, Merged, is_dummy, keep_without_subject, merge_trees, push_messages};
 use crate::order::find_key;
 use crate::tree::{Places, Tree};
 use mail_core::{Memory, Octets};
@@ -37,7 +35,10 @@ fn add_subject(
     place: usize,
 ) -> Result<bool, Memory>
     ensures added { IfOk result (λ added. added ≡ is_none (get_by (bytes_eq base.now) table.old)) }
-    ensures table { OnOk result ((other : List ℕ) → get_by (bytes_eq other) table.new ≡ (if is_none (get_by (bytes_eq base.now) table.old) && bytes_eq base.now other then Some place else get_by (bytes_eq other) table.old)) }
+    ensures table { OnOk result ((other : List ℕ)
+        → get_by (bytes_eq other) table.new
+        ≡ (if is_none (get_by (bytes_eq base.now) table.old) && bytes_eq base.now other
+        then Some place else get_by (bytes_eq other) table.old)) }
 {
     if table.contains_key(base) {
         return Ok(false);
@@ -49,7 +50,11 @@ fn add_subject(
 impl Leaders {
     /// Puts a message behind the others, if it is the first of a subject that is not empty.
     fn add_place(&mut self, alloc: Global, base: &Octets, place: usize) -> Result<(), Memory>
-        ensures { (entries : List Entry) (subjects : List (List ℕ)) → base_of entries place ≡ base.now → length base.now ≢ 0 → AreLeaders entries subjects self.old.places.items (λ other. get_by (bytes_eq other) self.old.table) → OnOk result (AreLeaders entries (subjects ++ base_of entries place ∷ []) self.new.places.items (λ other. get_by (bytes_eq other) self.new.table)) }
+        ensures { (entries : List Entry) (subjects : List (List ℕ)) → base_of entries place ≡ base.now
+            → length base.now ≢ 0 → AreLeaders entries subjects self.old.places.items
+            (λ other. get_by (bytes_eq other) self.old.table)
+            → OnOk result (AreLeaders entries (subjects ++ base_of entries place ∷ []) self.new.places.items
+            (λ other. get_by (bytes_eq other) self.new.table)) }
     {
         let added = add_subject(alloc, &mut self.table, base, place)?;
         if added {
@@ -60,7 +65,12 @@ impl Leaders {
 
     /// Puts a message behind the others, if it is the first of its subject and that is not empty.
     fn note(&mut self, alloc: Global, entries: &[Entry], place: usize) -> Result<(), Memory>
-        ensures { (subjects : List (List ℕ)) → AreLeaders entries.now subjects self.old.places.items (λ other. get_by (bytes_eq other) self.old.table) → OnOk result (AreLeaders entries.now (subjects ++ base_of entries.now place ∷ []) self.new.places.items (λ other. get_by (bytes_eq other) self.new.table)) }
+        ensures { (subjects : List (List ℕ))
+            → AreLeaders entries.now subjects self.old.places.items
+            (λ other. get_by (bytes_eq other) self.old.table)
+            → OnOk result (AreLeaders entries.now (subjects
+            ++ base_of entries.now place ∷ []) self.new.places.items
+            (λ other. get_by (bytes_eq other) self.new.table)) }
     {
         match entries.get(place) {
             None => Ok(()),
@@ -80,7 +90,9 @@ impl Leaders {
         entries: &[Entry],
         trees: &[Tree],
     ) -> Result<Leaders, Memory>
-        ensures { IfOk result (λ all. AreLeaders entries.now (map (subject entries.now) trees.now) all.places.items (λ other. get_by (bytes_eq other) all.table)) }
+        ensures { IfOk result (λ all. AreLeaders entries.now
+            (map (subject entries.now) trees.now) all.places.items
+            (λ other. get_by (bytes_eq other) all.table)) }
     {
         let mut all = Leaders {
             places: Vec::new(alloc),
@@ -109,7 +121,9 @@ impl Leaders {
         entries: &[Entry],
         trees: &[Tree],
     ) -> Result<Vec<Option<usize>>, Memory>
-        ensures { IfOk result (λ v. v.items ≡ map (λ (tree : Tree). lead_of entries.now (λ other. get_by (bytes_eq other) self.now.table) (key entries.now tree)) trees.now) }
+        ensures { IfOk result (λ v. v.items
+            ≡ map (λ (tree : Tree). lead_of entries.now
+            (λ other. get_by (bytes_eq other) self.now.table) (key entries.now tree)) trees.now) }
     {
         let mut leads = Vec::new(alloc);
         for tree in trees {
@@ -122,8 +136,10 @@ impl Leaders {
 /// Adds the tree of a number to a group, if there is one.
 #[tactic(auto, using(crate::proofs::SubjectLemmas::picked_dummy, crate::proofs::SubjectLemmas::picked_no_dummy, crate::proofs::SubjectLemmas::picked_messages, crate::proofs::SubjectLemmas::picked_no_messages))]
 fn pick_tree(group: &mut Group, trees: &[Tree], number: usize) -> Result<(), Memory>
-    ensures dummy { OnOk result (group.new.dummy ≡ (group.old.dummy || list_any is_dummy_tree (picked trees.now (number ∷ [])))) }
-    ensures messages { OnOk result (group.new.messages.items ≡ group.old.messages.items ++ flat_map messages_of (picked trees.now (number ∷ []))) }
+    ensures dummy { OnOk result (group.new.dummy
+        ≡ (group.old.dummy || list_any is_dummy_tree (picked trees.now (number ∷ [])))) }
+    ensures messages { OnOk result (group.new.messages.items ≡ group.old.messages.items
+        ++ flat_map messages_of (picked trees.now (number ∷ []))) }
 {
     match trees.get(number) {
         None => Ok(()),
@@ -138,7 +154,8 @@ fn pick_tree(group: &mut Group, trees: &[Tree], number: usize) -> Result<(), Mem
 #[tactic(auto, using(crate::proofs::SubjectLemmas::dummies_more, crate::proofs::SubjectLemmas::messages_more))]
 fn pick_group(alloc: Global, trees: &[Tree], numbers: &[usize]) -> Result<Group, Memory>
     ensures dummy { IfOk result (λ group. group.dummy ≡ list_any is_dummy_tree (picked trees.now numbers.now)) }
-    ensures messages { IfOk result (λ group. group.messages.items ≡ flat_map messages_of (picked trees.now numbers.now)) }
+    ensures messages { IfOk result (λ group. group.messages.items
+        ≡ flat_map messages_of (picked trees.now numbers.now)) }
 {
     let mut group = Group {
         dummy: false,
@@ -159,21 +176,22 @@ fn merge_listed(
     leaders: &[usize],
     lists: &[Places],
 ) -> Result<Merged, Memory>
-    ensures trees { IfOk result (λ merged. merged.trees.items ≡ flat_map (λ (leader : ℕ). (merged_group entries.now (picked trees.now (get_or lists.now leader []))).trees) leaders.now) }
-    ensures links { IfOk result (λ merged. merged.links.items ≡ flat_map (λ (leader : ℕ). (merged_group entries.now (picked trees.now (get_or lists.now leader []))).links) leaders.now) }
+    ensures trees { IfOk result (λ merged. merged.trees.items
+        ≡ flat_map (λ (leader : ℕ). (merged_group entries.now
+        (picked trees.now (get_or lists.now leader []))).trees) leaders.now) }
+    ensures links { IfOk result (λ merged. merged.links.items
+        ≡ flat_map (λ (leader : ℕ). (merged_group entries.now
+        (picked trees.now (get_or lists.now leader []))).links) leaders.now) }
 {
-    let mut merged = Vec::new(alloc);
-    let mut links = Vec::new(alloc);
+    let mut merged = Merged::new(alloc);
     for leader in leaders {
-        let group = pick_group(alloc, trees, list_at(lists, *leader))?;
-        let plain = find_plain(alloc, entries, &group.messages)?;
-        push_links(&mut links, &group, &plain)?;
-        push_group(alloc, &mut merged, group, &plain)?;
+        merged.add(
+            alloc,
+            entries,
+            pick_group(alloc, trees, list_at(lists, *leader))?,
+        )?;
     }
-    Ok(Merged {
-        trees: merged,
-        links,
-    })
+    Ok(merged)
 }
 
 /// The trees after the merge, by a table of this state.

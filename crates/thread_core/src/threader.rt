@@ -28,7 +28,8 @@ pub trait Threader {
         entries: &[Entry],
         steps: &mut Steps<L>,
     ) -> Result<Self::Links, Memory>
-        ensures step_one { IfOk result (λ links. IsLinkedAs (count_of entries.now) (links_of entries.now) (linked links)) };
+        ensures step_one { IfOk result (λ links. IsLinkedAs (count_of entries.now) (links_of entries.now)
+            (linked links)) };
 
     /// Steps 2 to 6 over any links, in preorder: the first containers are the messages, by place,
     /// and the others are dummies. A refusal drops the links.
@@ -40,7 +41,9 @@ pub trait Threader {
         steps: &mut Steps<L>,
     ) -> Result<Vec<Row>, Memory>
         requires { length entries.now ≤ (linked links).count }
-        ensures steps_two_to_six { IfOk result (λ rows. rows.items ≡ rows_of entries.now (linked links).count (parent_of (linked links).links)) };
+        ensures steps_two_to_six { IfOk result
+            (λ rows. rows.items ≡ rows_of entries.now (linked links).count
+            (parent_of (linked links).links)) };
 }
 
 /// The threads of a mailbox in preorder, by both parts of a threader.

@@ -323,6 +323,8 @@ enum Shape {
     ThroughDummies,
     /// Threads of ten.
     Ordinary,
+    /// The first makes a chain of all others; each other asks for a link under its end, and gives its own link up.
+    TakenApart,
 }
 
 /// The references of a message of a long list.
@@ -361,6 +363,16 @@ fn long_refs(alloc: Global, shape: Shape, place: usize, count: usize) -> Result<
                 refs.push(place - 1)?;
             }
         }
+        Shape::TakenApart => {
+            if place > 0 {
+                refs.push(count.wrapping_sub(1))?;
+                refs.push(place.wrapping_add(1000000))?;
+            } else {
+                for other in 1..count {
+                    refs.push(other)?;
+                }
+            }
+        }
         Shape::Alone | Shape::OneSubject | Shape::OnePlain => {}
     }
     Ok(refs)
@@ -384,6 +396,7 @@ fn long_entry(alloc: Global, shape: Shape, place: usize, count: usize) -> Result
     match shape {
         Shape::OneSubject => entry(alloc, Some(place), &refs, sent, b"x", place > 0),
         Shape::OnePlain => entry(alloc, Some(place), &refs, sent, b"x", false),
+        Shape::TakenApart => entry(alloc, Some(place), &refs, sent, b"", false),
         Shape::Alone => {
             let base = subject(alloc, place)?;
             entry(alloc, Some(place), &refs, 0, &base, false)
@@ -509,6 +522,24 @@ fn ordinary_threads(rt: HostRuntime) -> Result<(), Fail> {
         measure(rt.alloc(), &threader, Shape::Ordinary, 50000)?,
         (50000, 9)
     );
+    Ok(())
+}
+
+#[test]
+fn a_long_chain_taken_apart(rt: HostRuntime) -> Result<(), Fail> {
+    let threader = NodeThreader::new(RandomState::new(&rt)?);
+    assert_eq!(rt;
+        measure(rt.alloc(), &threader, Shape::TakenApart, 50000)?,
+        (50000, 1)
+    );
+    Ok(())
+}
+
+#[test]
+fn both_threaders_agree_on_a_chain_taken_apart(rt: HostRuntime) -> Result<(), Fail> {
+    let threader = NodeThreader::new(RandomState::new(&rt)?);
+    let entries = long_list(rt.alloc(), Shape::TakenApart, 400)?;
+    assert!(rt; is_same(rt.alloc(), &threader, &entries)?);
     Ok(())
 }
 

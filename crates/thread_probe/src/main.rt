@@ -1,0 +1,173 @@
+//! Threads the messages of an mbox on standard input, and times it, for the benchmark `bench/threads.py`.
+//!
+//! `time ROUNDS` prints the nanoseconds of the fastest of so many rounds. `rows` prints the depth and the place of each
+//! row, `-` for a dummy. `entries` prints what threads ask of each message: its sent date in seconds, 1 for a reply, its
+//! base subject, its id and its references, in hexadecimal, the sides of an id apart. Without words it prints how many
+//! rows there are.
+#![tactic(auto)]
+
+use anyhow::bail;
+use mail_core::{MsgId, Octets, first, ids, sent, unfold};
+use mbox_core::device::{Counted, read_all};
+use mbox_core::{Item, cut};
+use std::alloc::Global;
+use std::env;
+use std::hash::RandomState;
+use std::time::Instant;
+use subject_core::base;
+use thread_core::{Entry, NodeThreader, References, Row, threads};
+
+/// The unfolded body of the first header field of this name, empty where there is none.
+fn field(alloc: Global, text: &[u8], name: &[u8]) -> anyhow::Result<Vec<u8>> {
+    let body = first(text, name).unwrap_or(b"");
+    let Ok(whole) = unfold(alloc, body) else {
+        bail!("no memory");
+    };
+    Ok(whole)
+}
+
+/// The ids in the first header field of this name.
+fn field_ids(alloc: Global, text: &[u8], name: &[u8]) -> anyhow::Result<Vec<MsgId>> {
+    let body = field(alloc, text, name)?;
+    let Ok(all) = ids(alloc, &body) else {
+        bail!("no memory");
+    };
+    Ok(all)
+}
+
+/// The ids of References, or the first of In-Reply-To where there are none.
+fn references(alloc: Global, text: &[u8]) -> anyhow::Result<References> {
+    let mut refs = field_ids(alloc, text, b"references")?;
+    if refs.is_empty() {
+        refs = field_ids(alloc, text, b"in-reply-to")?;
+        refs.truncate(1);
+    }
+    Ok(References::new(refs))
+}
+
+fn entry(alloc: Global, item: &Item<'_>) -> anyhow::Result<Entry> {
+    let subject = field(alloc, item.text, b"subject")?;
+    let Ok(subject) = base(alloc, &subject) else {
+        bail!("no memory");
+    };
+    let mut own = field_ids(alloc, item.text, b"message-id")?;
+    own.truncate(1);
+    Ok(Entry {
+        id: own.pop(),
+        refs: references(alloc, item.text)?,
+        sent: sent(
+            first(item.text, b"date").unwrap_or(b""),
+            item.envelope.arrival,
+        ),
+        base: Octets::new(subject.text.into_bytes()),
+        reply: subject.reply,
+    })
+}
+
+fn entries(alloc: Global, mbox: &[u8]) -> anyhow::Result<Vec<Entry>> {
+    let Ok(messages) = cut(mbox) else {
+        bail!("no mbox");
+    };
+    let mut all = Vec::new(alloc);
+    for item in messages {
+        all.push(entry(alloc, &item)?)?;
+    }
+    Ok(all)
+}
+
+fn thread(alloc: Global, state: RandomState, entries: &[Entry]) -> anyhow::Result<Vec<Row>> {
+    let Ok(rows) = threads(alloc, &NodeThreader::new(state), entries) else {
+        bail!("no memory");
+    };
+    Ok(rows)
+}
+
+/// The nanoseconds of the fastest of so many rounds.
+fn time(rt: &HostRuntime, rounds: u32, entries: &[Entry]) -> anyhow::Result<u128> {
+    let state = RandomState::new(rt)?;
+    let mut best = u128::MAX;
+    for _ in 0..rounds {
+        let begun = Instant::now(rt)?;
+        let rows = thread(rt.alloc(), state, entries)?;
+        best = best.min(begun.elapsed(rt)?.as_nanos());
+        if rows.len() < entries.len() {
+            bail!("rows are missing");
+        }
+    }
+    Ok(best)
+}
+
+fn push_hex(text: &mut String, bytes: &[u8]) -> anyhow::Result<()> {
+    for byte in bytes {
+        for digit in [byte >> 4, byte & 15] {
+            text.push(char::from_digit(u32::from(digit), 16).unwrap_or('-'))?;
+        }
+    }
+    Ok(())
+}
+
+fn push_id(text: &mut String, id: &MsgId) -> anyhow::Result<()> {
+    push_hex(text, id.left())?;
+    text.push('.')?;
+    push_hex(text, id.right())
+}
+
+/// What threads ask of a message, as a line.
+fn line(alloc: Global, entry: &Entry) -> anyhow::Result<String> {
+    let mut text = format!(in alloc; "{} {} ", entry.sent.seconds(), u8::from(entry.reply))?;
+    push_hex(&mut text, entry.base.as_slice())?;
+    text.push(' ')?;
+    match &entry.id {
+        None => text.push('-')?,
+        Some(id) => push_id(&mut text, id)?,
+    }
+    for id in entry.refs.as_slice() {
+        text.push(' ')?;
+        push_id(&mut text, id)?;
+    }
+    Ok(text)
+}
+
+fn print_entries(rt: &HostRuntime, entries: &[Entry]) -> anyhow::Result<()> {
+    for entry in entries {
+        let text = line(rt.alloc(), entry)?;
+        println!(rt; "{text}")?;
+    }
+    Ok(())
+}
+
+fn print_rows(rt: &HostRuntime, rows: &[Row]) -> anyhow::Result<()> {
+    for row in rows {
+        match row.place {
+            Some(place) => println!(rt; "{} {place}", row.depth)?,
+            None => println!(rt; "{} -", row.depth)?,
+        }
+    }
+    Ok(())
+}
+
+fn main(rt: HostRuntime) -> anyhow::Result<()> {
+    let alloc = rt.alloc();
+    let words: Vec<String> = env::args(&rt)?.collect(alloc)?;
+    let mut input = Counted::new(rt.reader());
+    let Ok(mbox) = read_all(alloc, &mut input) else {
+        bail!("standard input cannot be read");
+    };
+    let entries = entries(alloc, &mbox)?;
+    let mut words = words.iter().skip(1);
+    match (words.next(), words.next()) {
+        (Some(call), Some(rounds)) if call.as_str() == "time" => {
+            println!(rt; "{}", time(&rt, rounds.parse()?, &entries)?)?
+        }
+        (Some(call), None) if call.as_str() == "entries" => print_entries(&rt, &entries)?,
+        (Some(call), None) if call.as_str() == "rows" => {
+            print_rows(&rt, &thread(alloc, RandomState::new(&rt)?, &entries)?)?
+        }
+        (None, None) => println!(rt;
+            "{}",
+            thread(alloc, RandomState::new(&rt)?, &entries)?.len()
+        )?,
+        _ => bail!("words: time ROUNDS, rows, or entries"),
+    }
+    Ok(())
+}
