@@ -1,0 +1,5 @@
+//! What is shown of a small list to the public and to a moderator.
+#![tactic(auto)]
+
+#[cfg(test)]
+mod views;

@@ -1,0 +1,262 @@
+//! A list of four messages, of which the first is withdrawn.
+use archive_machine::{Key, Message};
+use archive_results::{
+    Ask, Asked, Header, Line, Reader, TreeLine, allowed_headers, asked, author_lines, header_of,
+    is_shown, month_lines, thread_lines, tree_lines,
+};
+use mail_core::{Day, Month};
+use mbox_core::{Item, OwnedItem, cut};
+use policy_core::{Policy, Standing, Withdrawn};
+use std::alloc::Global;
+use std::test::Fail;
+use thread_core::PlainThreader;
+
+const POLICY: &str = "
+[[rule]]
+name = \"withdrawn\"
+effect = \"deny\"
+standings = [\"public\"]
+withdrawn = [\"author\", \"board\"]
+
+[[rule]]
+name = \"all\"
+effect = \"allow\"
+";
+
+const MBOX: &[u8] = b"From anna@example.org Tue Mar  4 10:00:00 2003
+From: Anna <ANNA@example.org>
+Message-ID: <1@x>
+Subject: Hello
+
+One.
+
+From bob@example.org Wed Mar 12 10:30:00 2003
+From: bob@example.org
+In-Reply-To: <1@x>
+Subject: Re: Hello
+
+Two.
+
+From anna@example.org Wed Mar 12 10:31:00 2003
+From: anna@example.org
+Date: 12 Mar 2003 10:30 +0000
+In-Reply-To: <1@x>
+Subject:  Re: [soc]
+ Hello 
+
+From anna@example.org Wed Mar 12 10:32:00 2003
+From: anna@example.org
+Date: 28 Feb 2003 10:00 +0000
+Subject: Tea
+
+";
+
+fn ask<'a>(policy: &'a Policy) -> Result<Ask<'a>, Fail> {
+    Ok(Ask {
+        policy,
+        reader: Reader::Nobody,
+        list: "soc",
+        day: Day::read(b"2003-03-20").ok_or("no day")?,
+    })
+}
+
+fn message(alloc: Global, item: &Item<'_>, withdrawn: Withdrawn) -> Result<Message, Fail> {
+    Ok(Message {
+        key: Key::of(item),
+        item: OwnedItem::of(alloc, item)?,
+        withdrawn,
+        embargo_until: None,
+    })
+}
+
+/// The messages of the mbox, the first withdrawn by its author.
+fn messages(alloc: Global) -> Result<Vec<Message>, Fail> {
+    let mut found = Vec::new(alloc);
+    let mut withdrawn = Withdrawn::Author;
+    for item in cut(MBOX)? {
+        found.push(message(alloc, &item, withdrawn)?)?;
+        withdrawn = Withdrawn::No;
+    }
+    Ok(found)
+}
+
+fn headers(alloc: Global, messages: &[Message]) -> Result<Vec<Header>, Fail> {
+    let mut found = Vec::new(alloc);
+    for message in messages {
+        found.push(header_of(alloc, message)?)?;
+    }
+    Ok(found)
+}
+
+/// The headers of what a reader of this standing may read.
+fn view(alloc: Global, standing: Standing) -> Result<Vec<Header>, Fail> {
+    let policy = Policy::read(alloc, POLICY)?;
+    let messages = messages(alloc)?;
+    let headers = headers(alloc, &messages)?;
+    Ok(allowed_headers(alloc, &ask(&policy)?, standing, headers)?)
+}
+
+/// The subjects of some lines, each after `|`.
+fn subjects(alloc: Global, lines: &[Line]) -> Result<Vec<u8>, Fail> {
+    let mut text = Vec::new(alloc);
+    for line in lines {
+        text.push(b'|')?;
+        text.extend_from_slice(line.subject.as_slice())?;
+    }
+    Ok(text)
+}
+
+fn push_row(text: &mut Vec<u8>, row: &TreeLine) -> Result<(), Fail> {
+    text.push(if row.depth == 0 { b'0' } else { b'1' })?;
+    match &row.line {
+        Some(line) => text.extend_from_slice(line.subject.as_slice())?,
+        None => text.push(b'-')?,
+    }
+    Ok(())
+}
+
+/// Depth and subject of each row, `-` for a message that is missing.
+fn outline(alloc: Global, rows: &[TreeLine]) -> Result<Vec<u8>, Fail> {
+    let mut text = Vec::new(alloc);
+    for row in rows {
+        push_row(&mut text, row)?;
+    }
+    Ok(text)
+}
+
+fn month(alloc: Global, standing: Standing, month: &[u8]) -> Result<Vec<u8>, Fail> {
+    let month = Month::read(month).ok_or("no month")?;
+    let lines = month_lines(alloc, view(alloc, standing)?, month)?;
+    subjects(alloc, &lines)
+}
+
+fn author(alloc: Global, standing: Standing, key: &[u8]) -> Result<Vec<u8>, Fail> {
+    let lines = author_lines(alloc, view(alloc, standing)?, key)?;
+    subjects(alloc, &lines)
+}
+
+fn tree(alloc: Global, standing: Standing) -> Result<Vec<u8>, Fail> {
+    let rows = tree_lines(alloc, &PlainThreader, view(alloc, standing)?)?;
+    outline(alloc, &rows)
+}
+
+/// The key of the message at a place of the mbox.
+fn key(alloc: Global, place: usize) -> Result<Key, Fail> {
+    let messages = messages(alloc)?;
+    match messages.get(place) {
+        Some(message) => Ok(message.key),
+        None => Ok(Key::read("").ok_or("no message")?),
+    }
+}
+
+fn thread(alloc: Global, standing: Standing, place: usize) -> Result<Vec<u8>, Fail> {
+    let key = key(alloc, place)?;
+    match thread_lines(alloc, &PlainThreader, view(alloc, standing)?, &key)? {
+        Some(rows) => outline(alloc, &rows),
+        None => Ok(b"none".to_vec(alloc)?),
+    }
+}
+
+#[test]
+fn months_are_by_sent_date_and_then_in_mailbox_order(rt: HostRuntime) -> Result<(), Fail> {
+    let cases: [(Standing, &[u8], &[u8]); 4] = [
+        (Standing::Public, b"2003-03", b"|Re: Hello|Re: [soc] Hello"),
+        (
+            Standing::Moderator,
+            b"2003-03",
+            b"|Hello|Re: Hello|Re: [soc] Hello",
+        ),
+        (Standing::Public, b"2003-02", b"|Tea"),
+        (Standing::Public, b"2003-04", b""),
+    ];
+    for (number, (standing, asked, want)) in cases.iter().enumerate() {
+        assert!(rt;
+            month(rt.alloc(), *standing, asked)?.as_slice() == *want,
+            "case {number}"
+        );
+    }
+    Ok(())
+}
+
+#[test]
+fn authors_are_by_key_in_lower_case(rt: HostRuntime) -> Result<(), Fail> {
+    let cases: [(Standing, &[u8], &[u8]); 4] = [
+        (
+            Standing::Public,
+            b"anna@example.org",
+            b"|Tea|Re: [soc] Hello",
+        ),
+        (
+            Standing::Moderator,
+            b"anna@example.org",
+            b"|Tea|Hello|Re: [soc] Hello",
+        ),
+        (Standing::Moderator, b"ANNA@example.org", b""),
+        (Standing::Public, b"", b""),
+    ];
+    for (number, (standing, asked, want)) in cases.iter().enumerate() {
+        assert!(rt;
+            author(rt.alloc(), *standing, asked)?.as_slice() == *want,
+            "case {number}"
+        );
+    }
+    Ok(())
+}
+
+#[test]
+fn threads_are_as_if_the_withdrawn_message_had_never_come(rt: HostRuntime) -> Result<(), Fail> {
+    let cases: [(Standing, &[u8]); 2] = [
+        (Standing::Public, b"0Tea0-1Re: Hello1Re: [soc] Hello"),
+        (Standing::Moderator, b"0Tea0Hello1Re: Hello1Re: [soc] Hello"),
+    ];
+    for (number, (standing, want)) in cases.iter().enumerate() {
+        assert!(rt;
+            tree(rt.alloc(), *standing)?.as_slice() == *want,
+            "case {number}"
+        );
+    }
+    Ok(())
+}
+
+#[test]
+fn one_thread_is_that_of_its_message(rt: HostRuntime) -> Result<(), Fail> {
+    let cases: [(Standing, usize, &[u8]); 4] = [
+        (Standing::Public, 0, b"none"),
+        (Standing::Public, 2, b"0-1Re: Hello1Re: [soc] Hello"),
+        (Standing::Moderator, 0, b"0Hello1Re: Hello1Re: [soc] Hello"),
+        (Standing::Public, 3, b"0Tea"),
+    ];
+    for (number, (standing, place, want)) in cases.iter().enumerate() {
+        assert!(rt;
+            thread(rt.alloc(), *standing, *place)?.as_slice() == *want,
+            "case {number}"
+        );
+    }
+    Ok(())
+}
+
+/// What a reader of this standing gets of the first message, and whether the view has it.
+fn first(alloc: Global, standing: Standing) -> Result<(Vec<u8>, bool), Fail> {
+    let policy = Policy::read(alloc, POLICY)?;
+    let item = cut(MBOX)?.next().ok_or("no message")?;
+    let held = Some(message(alloc, &item, Withdrawn::Board)?);
+    let ask = ask(&policy)?;
+    let shown = match &held {
+        Some(message) => is_shown(&ask, standing, message),
+        None => false,
+    };
+    match asked(alloc, &ask, standing, &held)? {
+        Asked::Served(text) => Ok((text, shown)),
+        Asked::Denied(rule) => Ok((rule.as_bytes().to_vec(alloc)?, shown)),
+        Asked::Absent => Ok((Vec::new(alloc), shown)),
+    }
+}
+
+#[test]
+fn one_message_is_served_or_denied_by_its_rule(rt: HostRuntime) -> Result<(), Fail> {
+    let (text, shown) = first(rt.alloc(), Standing::Public)?;
+    assert!(rt; text.as_slice() == b"withdrawn".as_slice() && !shown);
+    let (text, shown) = first(rt.alloc(), Standing::Moderator)?;
+    assert!(rt; text.ends_with(b"\n\nOne.\n") && shown);
+    Ok(())
+}
