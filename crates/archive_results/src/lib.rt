@@ -1,0 +1,16 @@
+//! What a reader is shown of a list: the view, one message, and the results that are made of the view (`specs/`), and the
+//! same as code over messages and over the index of a list. It knows no store.
+#![tactic(auto)]
+
+mod access;
+mod asking;
+mod entries;
+mod headers;
+mod lines;
+mod trimming;
+
+pub use access::{Marks, allows, asked, is_shown, marks_of};
+pub use asking::{Ask, Asked, Reader};
+pub use entries::{entry_of, line_of, sent_date};
+pub use headers::{Header, header_of};
+pub use lines::{Line, TreeLine};
