@@ -3,3 +3,4 @@ pub mod Texts
 pub mod Links
 pub mod Rows
 pub mod Pages
+pub mod Laws

@@ -12,7 +12,8 @@ row depth parts = codes "<div class=\"d" ++ (decimal (min depth 20) ++ (codes "\
 
 -- a list: its name leads to its threads, and `mbox` to its messages as a file
 unfoldable pub list_row : (list : List ℕ) → List ℕ
-list_row list = row 0 (link (list_path list (codes "/threads")) list ∷ link (list_path list (codes "/mbox")) (codes "mbox") ∷ [])
+list_row list = row 0 (
+    link (list_path list (codes "/threads")) list ∷ link (list_path list (codes "/mbox")) (codes "mbox") ∷ [])
 
 -- a message: when it was sent, by whom, its subject, its thread
 unfoldable pub message_row : (list : List ℕ) → (depth : ℕ) → Line → List ℕ

@@ -3,6 +3,7 @@
 
 mod date_texts;
 mod escapes;
+pub mod laws;
 mod links;
 mod pages;
 mod rows;

@@ -25,7 +25,8 @@ fn push_depth(page: &mut Vec<u8>, depth: usize) -> Result<(), AllocError>
 
 /// Adds the beginning of a row.
 fn push_start(page: &mut Vec<u8>, depth: usize) -> Result<(), AllocError>
-    ensures { OnOk result (page.new.items ≡ page.old.items ++ (codes "<div class=\"d" ++ (decimal (min depth 20) ++ codes "\">"))) }
+    ensures { OnOk result (page.new.items
+        ≡ page.old.items ++ (codes "<div class=\"d" ++ (decimal (min depth 20) ++ codes "\">"))) }
 {
     page.extend_from_slice(b"<div class=\"d")?;
     push_depth(page, depth)?;

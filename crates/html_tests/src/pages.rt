@@ -32,7 +32,17 @@ static PAGES: [(Ask, &[Row], &[u8]); 6] = [
             (0, Some((K1, 1_046_772_000, b"anna@example.org", b"Hello"))),
             (1, Some((K2, 1_047_465_000, b"", b"Re: Hello"))),
         ],
-        b"<!DOCTYPE html>\n<html><head><title>soc: threads</title></head><body>\n<h1>soc: threads</h1>\n<div class=\"d0\"><a href=\"/l/soc/month/2003-03\">2003-03-04 10:00</a> <a href=\"/l/soc/by/anna%40example.org\">anna@example.org</a> <a href=\"/l/soc/m/1111111111111111111111111111111111111111111111111111111111111111\">Hello</a> <a href=\"/l/soc/t/1111111111111111111111111111111111111111111111111111111111111111\">thread</a></div>\n<div class=\"d1\"><a href=\"/l/soc/month/2003-03\">2003-03-12 10:30</a> (none) <a href=\"/l/soc/m/22222222222222222222222222222222222222222222222222222222222222ff\">Re: Hello</a> <a href=\"/l/soc/t/22222222222222222222222222222222222222222222222222222222222222ff\">thread</a></div>\n</body></html>\n",
+        b"<!DOCTYPE html>\n\
+          <html><head><title>soc: threads</title></head><body>\n\
+          <h1>soc: threads</h1>\n\
+          <div class=\"d0\"><a href=\"/l/soc/month/2003-03\">2003-03-04 10:00</a> \
+          <a href=\"/l/soc/by/anna%40example.org\">anna@example.org</a> \
+          <a href=\"/l/soc/m/1111111111111111111111111111111111111111111111111111111111111111\">Hello</a> \
+          <a href=\"/l/soc/t/1111111111111111111111111111111111111111111111111111111111111111\">thread</a></div>\n\
+          <div class=\"d1\"><a href=\"/l/soc/month/2003-03\">2003-03-12 10:30</a> (none) \
+          <a href=\"/l/soc/m/22222222222222222222222222222222222222222222222222222222222222ff\">Re: Hello</a> \
+          <a href=\"/l/soc/t/22222222222222222222222222222222222222222222222222222222222222ff\">thread</a></div>\n\
+          </body></html>\n",
     ),
     (
         Ask::Thread,
@@ -44,27 +54,63 @@ static PAGES: [(Ask, &[Row], &[u8]); 6] = [
             ),
             (21, Some((K2, -1, b"a~b-c._d+e@f", b""))),
         ],
-        b"<!DOCTYPE html>\n<html><head><title>soc: thread</title></head><body>\n<h1>soc: thread</h1>\n<div class=\"d0\">(missing)</div>\n<div class=\"d20\"><a href=\"/l/soc/month/2000-02\">2000-02-29 23:59</a> <a href=\"/l/soc/by/%22o%27brien%22%40x.org\">&quot;o'brien&quot;@x.org</a> <a href=\"/l/soc/m/1111111111111111111111111111111111111111111111111111111111111111\">1 &lt; 2 &amp; ??</a> <a href=\"/l/soc/t/1111111111111111111111111111111111111111111111111111111111111111\">thread</a></div>\n<div class=\"d20\"><a href=\"/l/soc/month/1969-12\">1969-12-31 23:59</a> <a href=\"/l/soc/by/a~b-c._d%2Be%40f\">a~b-c._d+e@f</a> <a href=\"/l/soc/m/22222222222222222222222222222222222222222222222222222222222222ff\">(no subject)</a> <a href=\"/l/soc/t/22222222222222222222222222222222222222222222222222222222222222ff\">thread</a></div>\n</body></html>\n",
+        b"<!DOCTYPE html>\n\
+          <html><head><title>soc: thread</title></head><body>\n\
+          <h1>soc: thread</h1>\n\
+          <div class=\"d0\">(missing)</div>\n\
+          <div class=\"d20\"><a href=\"/l/soc/month/2000-02\">2000-02-29 23:59</a> \
+          <a href=\"/l/soc/by/%22o%27brien%22%40x.org\">&quot;o'brien&quot;@x.org</a> \
+          <a href=\"/l/soc/m/1111111111111111111111111111111111111111111111111111111111111111\">1 &lt; 2 &amp; ??</a> \
+          <a href=\"/l/soc/t/1111111111111111111111111111111111111111111111111111111111111111\">thread</a></div>\n\
+          <div class=\"d20\"><a href=\"/l/soc/month/1969-12\">1969-12-31 23:59</a> \
+          <a href=\"/l/soc/by/a~b-c._d%2Be%40f\">a~b-c._d+e@f</a> \
+          <a href=\"/l/soc/m/22222222222222222222222222222222222222222222222222222222222222ff\">(no subject)</a> \
+          <a href=\"/l/soc/t/22222222222222222222222222222222222222222222222222222222222222ff\">thread</a></div>\n\
+          </body></html>\n",
     ),
     (
         Ask::Month(b"1900-01"),
         &[(9, Some((K2, -2_208_988_800, b"\xff\x7f\x1f", b"a\tb>")))],
-        b"<!DOCTYPE html>\n<html><head><title>soc: 1900-01</title></head><body>\n<h1>soc: 1900-01</h1>\n<div class=\"d0\"><a href=\"/l/soc/month/1900-01\">1900-01-01 00:00</a> <a href=\"/l/soc/by/%FF%7F%1F\">???</a> <a href=\"/l/soc/m/22222222222222222222222222222222222222222222222222222222222222ff\">a?b&gt;</a> <a href=\"/l/soc/t/22222222222222222222222222222222222222222222222222222222222222ff\">thread</a></div>\n</body></html>\n",
+        b"<!DOCTYPE html>\n\
+          <html><head><title>soc: 1900-01</title></head><body>\n\
+          <h1>soc: 1900-01</h1>\n\
+          <div class=\"d0\"><a href=\"/l/soc/month/1900-01\">1900-01-01 00:00</a> \
+          <a href=\"/l/soc/by/%FF%7F%1F\">???</a> \
+          <a href=\"/l/soc/m/22222222222222222222222222222222222222222222222222222222222222ff\">a?b&gt;</a> \
+          <a href=\"/l/soc/t/22222222222222222222222222222222222222222222222222222222222222ff\">thread</a></div>\n\
+          </body></html>\n",
     ),
     (
         Ask::Month(b"9998-12"),
         &[(0, Some((K1, 253_370_764_799, b"a", b"b")))],
-        b"<!DOCTYPE html>\n<html><head><title>soc: 9998-12</title></head><body>\n<h1>soc: 9998-12</h1>\n<div class=\"d0\"><a href=\"/l/soc/month/9998-12\">9998-12-31 23:59</a> <a href=\"/l/soc/by/a\">a</a> <a href=\"/l/soc/m/1111111111111111111111111111111111111111111111111111111111111111\">b</a> <a href=\"/l/soc/t/1111111111111111111111111111111111111111111111111111111111111111\">thread</a></div>\n</body></html>\n",
+        b"<!DOCTYPE html>\n\
+          <html><head><title>soc: 9998-12</title></head><body>\n\
+          <h1>soc: 9998-12</h1>\n\
+          <div class=\"d0\"><a href=\"/l/soc/month/9998-12\">9998-12-31 23:59</a> \
+          <a href=\"/l/soc/by/a\">a</a> \
+          <a href=\"/l/soc/m/1111111111111111111111111111111111111111111111111111111111111111\">b</a> \
+          <a href=\"/l/soc/t/1111111111111111111111111111111111111111111111111111111111111111\">thread</a></div>\n\
+          </body></html>\n",
     ),
     (
         Ask::Author(b"<anna>/\xc3\xa9"),
         &[],
-        b"<!DOCTYPE html>\n<html><head><title>soc: by &lt;anna&gt;/??</title></head><body>\n<h1>soc: by &lt;anna&gt;/??</h1>\n</body></html>\n",
+        b"<!DOCTYPE html>\n\
+          <html><head><title>soc: by &lt;anna&gt;/??</title></head><body>\n\
+          <h1>soc: by &lt;anna&gt;/??</h1>\n\
+          </body></html>\n",
     ),
     (
         Ask::Author(b"a/b"),
         &[(0, Some((K1, 0, b"a/b", b" x ")))],
-        b"<!DOCTYPE html>\n<html><head><title>soc: by a/b</title></head><body>\n<h1>soc: by a/b</h1>\n<div class=\"d0\"><a href=\"/l/soc/month/1970-01\">1970-01-01 00:00</a> <a href=\"/l/soc/by/a%2Fb\">a/b</a> <a href=\"/l/soc/m/1111111111111111111111111111111111111111111111111111111111111111\"> x </a> <a href=\"/l/soc/t/1111111111111111111111111111111111111111111111111111111111111111\">thread</a></div>\n</body></html>\n",
+        b"<!DOCTYPE html>\n\
+          <html><head><title>soc: by a/b</title></head><body>\n\
+          <h1>soc: by a/b</h1>\n\
+          <div class=\"d0\"><a href=\"/l/soc/month/1970-01\">1970-01-01 00:00</a> \
+          <a href=\"/l/soc/by/a%2Fb\">a/b</a> \
+          <a href=\"/l/soc/m/1111111111111111111111111111111111111111111111111111111111111111\"> x </a> \
+          <a href=\"/l/soc/t/1111111111111111111111111111111111111111111111111111111111111111\">thread</a></div>\n\
+          </body></html>\n",
     ),
 ];
 
@@ -134,11 +180,21 @@ fn pages_of_a_list_are_these_bytes(rt: HostRuntime) -> Result<(), Fail> {
 static LISTS: [(&[&str], &[u8]); 2] = [
     (
         &[],
-        b"<!DOCTYPE html>\n<html><head><title>Lists</title></head><body>\n<h1>Lists</h1>\n</body></html>\n",
+        b"<!DOCTYPE html>\n\
+          <html><head><title>Lists</title></head><body>\n\
+          <h1>Lists</h1>\n\
+          </body></html>\n",
     ),
     (
         &["abc", "soc-2"],
-        b"<!DOCTYPE html>\n<html><head><title>Lists</title></head><body>\n<h1>Lists</h1>\n<div class=\"d0\"><a href=\"/l/abc/threads\">abc</a> <a href=\"/l/abc/mbox\">mbox</a></div>\n<div class=\"d0\"><a href=\"/l/soc-2/threads\">soc-2</a> <a href=\"/l/soc-2/mbox\">mbox</a></div>\n</body></html>\n",
+        b"<!DOCTYPE html>\n\
+          <html><head><title>Lists</title></head><body>\n\
+          <h1>Lists</h1>\n\
+          <div class=\"d0\"><a href=\"/l/abc/threads\">abc</a> \
+          <a href=\"/l/abc/mbox\">mbox</a></div>\n\
+          <div class=\"d0\"><a href=\"/l/soc-2/threads\">soc-2</a> \
+          <a href=\"/l/soc-2/mbox\">mbox</a></div>\n\
+          </body></html>\n",
     ),
 ];
 
