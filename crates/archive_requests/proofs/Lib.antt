@@ -1,0 +1,3 @@
+mod RouteExamples
+mod RequestExamples
+mod HeadExamples
