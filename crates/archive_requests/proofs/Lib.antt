@@ -1,3 +1,4 @@
+pub mod HeadLemmas
 mod RouteExamples
 mod RequestExamples
 mod HeadExamples

@@ -31,3 +31,22 @@ pub enum HeadRead {
     /// More fields or bytes than a head may have: 431 (RFC 6585, section 5).
     TooLarge,
 }
+
+/// What at most 8,192 bytes are, where no bytes that follow can change it. None: they hold no head yet.
+pub(crate) fn settled(bytes: &[u8]) -> Option<HeadRead>
+    requires { length bytes.now ≤ 8192 }
+    ensures read { IfSome result (λ read. IsFinal bytes.now read) }
+    ensures more { result ≡ None → HasNoRequest bytes.now }
+{
+    let mut fields = [EMPTY_HEADER_SPAN; MOST_FIELDS];
+    match parse_request(bytes, &mut fields) {
+        Ok(Status::Complete(spans)) => Some(HeadRead::Whole(Head {
+            spans,
+            fields,
+            filled: bytes.len(),
+        })),
+        Ok(Status::Partial) => None,
+        Err(Error::TooManyHeaders) => Some(HeadRead::TooLarge),
+        Err(_) => Some(HeadRead::Bad),
+    }
+}

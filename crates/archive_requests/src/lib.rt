@@ -4,10 +4,12 @@
 #![tactic(auto)]
 
 pub use heads::{Head, HeadRead, MOST_BYTES, MOST_FIELDS};
+pub use reading::read_head;
 pub use requests::Request;
 pub use routes::Route;
 
 mod bearer;
 mod heads;
+mod reading;
 mod requests;
 mod routes;
