@@ -9,7 +9,7 @@ use crate::requests::Request;
 use mbox_core::device::{DeviceFailure, Source};
 
 /// What was read of a request.
-#[derive(Clone, Copy, Debug, Drop)]
+#[derive(Debug, Clone, Copy, PartialEq, Eq, Drop)]
 pub enum RequestRead<'b> {
     /// A whole head, and what it asks for.
     Whole(Request<'b>),
