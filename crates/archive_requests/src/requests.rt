@@ -38,7 +38,7 @@ fn path_of(target: &str) -> &str
 
 impl Head {
     /// What the request asks for. `bytes` are those that the head was read from.
-    pub fn request<'b>(&self, bytes: &'b [u8]) -> Request<'b>
+    pub(crate) fn request<'b>(&self, bytes: &'b [u8]) -> Request<'b>
         requires { IsRequestWithin bytes.now self.now.fields self.now.spans }
         ensures { (h : RequestHead) → IsHeadAt bytes.now h self.now → named_request result ≡ request_of h }
     {

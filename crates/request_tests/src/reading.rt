@@ -44,20 +44,51 @@ static ASKING: [(&[u8], Option<&str>, &str); 10] = [
     (b"GET / HTTP/1.1\r\n\r\n", None, "/"),
     (b"GET / HTTP/1.0\n\n", None, "/"),
     (b"\r\n\nGET /nope HTTP/1.1\r\nHost: a\n\r\n", None, "/nope"),
-    (b"GET /l/soc/mbox?a=1?b HTTP/1.1\r\n\r\nGET /second HTTP/1.1\r\n\r\n", None, "/l/soc/mbox"),
-    (b"GET /l/%73oc/by/a%40b#c HTTP/1.1\r\n\r\n", None, "/l/%73oc/by/a%40b#c"),
-    (b"GET / HTTP/1.1\r\nProxy-Authorization: x\r\n\r\n", None, "/"),
-    (b"GET / HTTP/1.1\r\nAuthorization: Bearer 0123456789abcdef\r\n\r\n", Some("0123456789abcdef"), "/"),
-    (b"GET / HTTP/1.1\r\na: b\r\naUTHORIZATION:bEARER    0123456789abcdef \t\r\n\r\n", Some("0123456789abcdef"), "/"),
-    (b"GET /?x HTTP/1.1\r\nAuthorization: Bearer 0123456789-._~+/ab=\r\n\r\n", Some("0123456789-._~+/ab="), "/"),
-    (b"GET / HTTP/1.1\r\nAuthorization: Bearer 0123456789abcdef\r\nHost: a\r\n\r\nHost", Some("0123456789abcdef"), "/"),
+    (
+        b"GET /l/soc/mbox?a=1?b HTTP/1.1\r\n\r\nGET /second HTTP/1.1\r\n\r\n",
+        None,
+        "/l/soc/mbox",
+    ),
+    (
+        b"GET /l/%73oc/by/a%40b#c HTTP/1.1\r\n\r\n",
+        None,
+        "/l/%73oc/by/a%40b#c",
+    ),
+    (
+        b"GET / HTTP/1.1\r\nProxy-Authorization: x\r\n\r\n",
+        None,
+        "/",
+    ),
+    (
+        b"GET / HTTP/1.1\r\nAuthorization: Bearer 0123456789abcdef\r\n\r\n",
+        Some("0123456789abcdef"),
+        "/",
+    ),
+    (
+        b"GET / HTTP/1.1\r\na: b\r\naUTHORIZATION:bEARER    0123456789abcdef \t\r\n\r\n",
+        Some("0123456789abcdef"),
+        "/",
+    ),
+    (
+        b"GET /?x HTTP/1.1\r\nAuthorization: Bearer 0123456789-._~+/ab=\r\n\r\n",
+        Some("0123456789-._~+/ab="),
+        "/",
+    ),
+    (
+        b"GET / HTTP/1.1\r\nAuthorization: Bearer 0123456789abcdef\r\nHost: a\r\n\r\nHost",
+        Some("0123456789abcdef"),
+        "/",
+    ),
 ];
 
 #[test]
 fn whole_requests_in_pieces_of_each_size(rt: HostRuntime) -> Result<(), Fail> {
     for (text, token, path) in &ASKING {
         for most in 1..30 {
-            assert!(rt; gives_in_pieces(text, most, asking(*token, path)), "{path} by {most}");
+            assert!(rt;
+                gives_in_pieces(text, most, asking(*token, path)),
+                "{path} by {most}"
+            );
         }
     }
     Ok(())
@@ -74,23 +105,65 @@ static OTHERS: [(&[u8], RequestRead<'static>); 27] = [
     (b"GET / HTTP/1.1 \r\n\r\n", RequestRead::Malformed),
     (b"G@T / HTTP/1.1\r\n\r\n", RequestRead::Malformed),
     (b"GET / HTTP/1.1\r\nHost\r\n\r\n", RequestRead::Malformed),
-    (b"GET / HTTP/1.1\r\nHost : a\r\n\r\n", RequestRead::Malformed),
-    (b"GET / HTTP/1.1\r\nHost: a\r\n b\r\n\r\n", RequestRead::Malformed),
+    (
+        b"GET / HTTP/1.1\r\nHost : a\r\n\r\n",
+        RequestRead::Malformed,
+    ),
+    (
+        b"GET / HTTP/1.1\r\nHost: a\r\n b\r\n\r\n",
+        RequestRead::Malformed,
+    ),
     (b"GET /\xff HTTP/1.1\r\n\r\n", RequestRead::Malformed),
     (b"GET / HTTP/1.1\r\nHost: a\r\n", RequestRead::Malformed),
     (b"GET * HTTP/1.1\r\n\r\n", RequestRead::Whole(Request::Bad)),
-    (b"OPTIONS * HTTP/1.1\r\n\r\n", RequestRead::Whole(Request::Bad)),
-    (b"GET http://localhost/ HTTP/1.1\r\n\r\n", RequestRead::Whole(Request::Bad)),
-    (b"POST /nope HTTP/1.1\r\n\r\n", RequestRead::Whole(Request::OtherMethod)),
-    (b"HEAD / HTTP/1.1\r\nAuthorization:\r\n\r\n", RequestRead::Whole(Request::OtherMethod)),
-    (b"get / HTTP/1.1\r\n\r\n", RequestRead::Whole(Request::OtherMethod)),
-    (b"GET / HTTP/1.1\r\nAuthorization:\r\n\r\n", RequestRead::Whole(Request::Unauthorized)),
-    (b"GET /nope HTTP/1.1\r\nAuthorization: Bearer\r\n\r\n", RequestRead::Whole(Request::Unauthorized)),
-    (b"GET / HTTP/1.1\r\nAuthorization: Bearer\t0123456789abcdef\r\n\r\n", RequestRead::Whole(Request::Unauthorized)),
-    (b"GET / HTTP/1.1\r\nAuthorization: Bearer \t0123456789abcdef\r\n\r\n", RequestRead::Whole(Request::Unauthorized)),
-    (b"GET / HTTP/1.1\r\nAuthorization: Bearer 0123456789abcde\r\n\r\n", RequestRead::Whole(Request::Unauthorized)),
-    (b"GET / HTTP/1.1\r\nAuthorization: Basic 0123456789abcdef\r\n\r\n", RequestRead::Whole(Request::Unauthorized)),
-    (b"GET / HTTP/1.1\r\nAuthorization: 0123456789abcdef\r\n\r\n", RequestRead::Whole(Request::Unauthorized)),
+    (
+        b"OPTIONS * HTTP/1.1\r\n\r\n",
+        RequestRead::Whole(Request::Bad),
+    ),
+    (
+        b"GET http://localhost/ HTTP/1.1\r\n\r\n",
+        RequestRead::Whole(Request::Bad),
+    ),
+    (
+        b"POST /nope HTTP/1.1\r\n\r\n",
+        RequestRead::Whole(Request::OtherMethod),
+    ),
+    (
+        b"HEAD / HTTP/1.1\r\nAuthorization:\r\n\r\n",
+        RequestRead::Whole(Request::OtherMethod),
+    ),
+    (
+        b"get / HTTP/1.1\r\n\r\n",
+        RequestRead::Whole(Request::OtherMethod),
+    ),
+    (
+        b"GET / HTTP/1.1\r\nAuthorization:\r\n\r\n",
+        RequestRead::Whole(Request::Unauthorized),
+    ),
+    (
+        b"GET /nope HTTP/1.1\r\nAuthorization: Bearer\r\n\r\n",
+        RequestRead::Whole(Request::Unauthorized),
+    ),
+    (
+        b"GET / HTTP/1.1\r\nAuthorization: Bearer\t0123456789abcdef\r\n\r\n",
+        RequestRead::Whole(Request::Unauthorized),
+    ),
+    (
+        b"GET / HTTP/1.1\r\nAuthorization: Bearer \t0123456789abcdef\r\n\r\n",
+        RequestRead::Whole(Request::Unauthorized),
+    ),
+    (
+        b"GET / HTTP/1.1\r\nAuthorization: Bearer 0123456789abcde\r\n\r\n",
+        RequestRead::Whole(Request::Unauthorized),
+    ),
+    (
+        b"GET / HTTP/1.1\r\nAuthorization: Basic 0123456789abcdef\r\n\r\n",
+        RequestRead::Whole(Request::Unauthorized),
+    ),
+    (
+        b"GET / HTTP/1.1\r\nAuthorization: 0123456789abcdef\r\n\r\n",
+        RequestRead::Whole(Request::Unauthorized),
+    ),
     (
         b"GET / HTTP/1.1\r\nAuthorization: Bearer 0123456789abcdef\r\nauthorization: Bearer 0123456789abcdef\r\n\r\n",
         RequestRead::Whole(Request::Bad),
@@ -121,7 +194,10 @@ fn beginning(count: usize) -> RequestRead<'static> {
 #[test]
 fn each_beginning_of_a_request(rt: HostRuntime) -> Result<(), Fail> {
     for count in 0..=REQUEST.len() {
-        assert!(rt; gives_in_pieces(&REQUEST[..count], 5, beginning(count)), "{count} bytes");
+        assert!(rt;
+            gives_in_pieces(&REQUEST[..count], 5, beginning(count)),
+            "{count} bytes"
+        );
     }
     Ok(())
 }
@@ -170,10 +246,26 @@ fn head_of(alloc: Global, fields: usize, size: usize, whole: bool) -> Result<Vec
 
 /// Heads by their fields beside the long one and their length, where one is asked for; whether they are whole; what is read.
 static SIZES: [(usize, usize, bool, RequestRead<'static>); 9] = [
-    (64, 0, true, RequestRead::Whole(Request::Asks { token: None, path: "/" })),
+    (
+        64,
+        0,
+        true,
+        RequestRead::Whole(Request::Asks {
+            token: None,
+            path: "/",
+        }),
+    ),
     (65, 0, true, RequestRead::TooLarge),
     (64, 500, true, RequestRead::TooLarge),
-    (3, 8192, true, RequestRead::Whole(Request::Asks { token: None, path: "/" })),
+    (
+        3,
+        8192,
+        true,
+        RequestRead::Whole(Request::Asks {
+            token: None,
+            path: "/",
+        }),
+    ),
     (3, 8193, true, RequestRead::TooLarge),
     (3, 9000, true, RequestRead::TooLarge),
     (3, 8191, false, RequestRead::Malformed),
@@ -182,7 +274,13 @@ static SIZES: [(usize, usize, bool, RequestRead<'static>); 9] = [
 ];
 
 /// Whether this is read of such a head.
-fn gives_of_size(alloc: Global, fields: usize, size: usize, whole: bool, expected: RequestRead<'_>) -> Result<bool, Memory> {
+fn gives_of_size(
+    alloc: Global,
+    fields: usize,
+    size: usize,
+    whole: bool,
+    expected: RequestRead<'_>,
+) -> Result<bool, Memory> {
     let head = head_of(alloc, fields, size, whole)?;
     Ok((size == 0 || head.len() == size) && gives_in_pieces(&head, 1000, expected))
 }
@@ -190,7 +288,10 @@ fn gives_of_size(alloc: Global, fields: usize, size: usize, whole: bool, expecte
 #[test]
 fn heads_as_large_as_may_be(rt: HostRuntime) -> Result<(), Fail> {
     for (fields, size, whole, expected) in &SIZES {
-        assert!(rt; gives_of_size(rt.alloc(), *fields, *size, *whole, *expected)?, "{fields} fields, {size} bytes");
+        assert!(rt;
+            gives_of_size(rt.alloc(), *fields, *size, *whole, *expected)?,
+            "{fields} fields, {size} bytes"
+        );
     }
     Ok(())
 }

@@ -6,15 +6,48 @@ use std::test::Fail;
 
 static ROUTES: [(&str, Option<Route<'static>>); 19] = [
     ("/", Some(Route::Lists)),
-    ("/l/soc/m/k1", Some(Route::Message { list: "soc", key: "k1" })),
-    ("/l/soc/month/2003-03", Some(Route::Month { list: "soc", month: "2003-03" })),
+    (
+        "/l/soc/m/k1",
+        Some(Route::Message {
+            list: "soc",
+            key: "k1",
+        }),
+    ),
+    (
+        "/l/soc/month/2003-03",
+        Some(Route::Month {
+            list: "soc",
+            month: "2003-03",
+        }),
+    ),
     ("/l/soc/threads", Some(Route::Threads { list: "soc" })),
-    ("/l/soc/t/k1", Some(Route::Thread { list: "soc", key: "k1" })),
-    ("/l/soc/by/a%40b", Some(Route::Author { list: "soc", author: "a%40b" })),
+    (
+        "/l/soc/t/k1",
+        Some(Route::Thread {
+            list: "soc",
+            key: "k1",
+        }),
+    ),
+    (
+        "/l/soc/by/a%40b",
+        Some(Route::Author {
+            list: "soc",
+            author: "a%40b",
+        }),
+    ),
     ("/l/soc/mbox", Some(Route::Mbox { list: "soc" })),
     ("/l/%73oc/mbox", Some(Route::Mbox { list: "%73oc" })),
-    ("/l/m/m/m", Some(Route::Message { list: "m", key: "m" })),
-    ("/l/threads/threads", Some(Route::Threads { list: "threads" })),
+    (
+        "/l/m/m/m",
+        Some(Route::Message {
+            list: "m",
+            key: "m",
+        }),
+    ),
+    (
+        "/l/threads/threads",
+        Some(Route::Threads { list: "threads" }),
+    ),
     ("", None),
     ("//", None),
     ("/l/soc", None),
