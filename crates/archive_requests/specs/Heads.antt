@@ -1,6 +1,6 @@
 -- The head that some bytes begin with, within 8,192 bytes and 64 fields (RFC 9112, sections 2 to 5; RFC 6585, section 5, for
 -- 431; profile: the two bounds).
-use Rattle.std.specs.Prelude.{◌≡◌, ◌≤◌, ◌<◌, ◌++◌, ◌⊎◌, ℕ, List, length, take, ⊤}
+use Rattle.std.specs.Prelude.{◌≡◌, ◌≢◌, ◌≤◌, ◌<◌, ◌++◌, ◌⊎◌, ℕ, List, length, take, slice_index, ⊤}
 use Rattle.httparse.specs.Grammar.{RequestHead, ReadsRequest, print_request, HasNoRequest}
 use Rattle.httparse.specs.Spans.{IsRequestAt, IsRequestWithin, RequestExceeds}
 use Rattle.archive_requests.specs.declared.heads.Head.{Head}
@@ -30,6 +30,10 @@ pub record IsHeadAt (given : List ℕ) (h : RequestHead) (head : Head) : Type 0 
   pub filled : head.filled ≡ length given
   pub within : IsRequestWithin given head.fields head.spans
   pub at : IsRequestAt given head.fields head.spans h
+
+-- no line feed is among the bytes
+abbrev pub HasNoLine : List ℕ → Type 0
+HasNoLine bytes = (k : ℕ) → k < length bytes → slice_index bytes k ≢ 10
 
 -- it is the head h
 abbrev pub IsWholeOf : List ℕ → RequestHead → HeadRead → Type 0

@@ -1,7 +1,7 @@
 //! Reading the bytes of a head from a source.
-ghost use Rattle.std.specs.Prelude.{◌≡◌, ◌≢◌, ◌≤◌, ◌<◌, ◌+◌, ◌++◌, ◌⊎◌, ℕ, List, length, take, slice_index, false, IfOk, OnOk, OnErr};
+ghost use Rattle.std.specs.Prelude.{◌≡◌, ◌≤◌, ◌<◌, ◌+◌, ◌++◌, ◌⊎◌, ℕ, List, length, take, false, IfOk, OnOk, OnErr};
 ghost use Rattle.httparse.specs.Grammar.{HasNoRequest};
-ghost use Rattle.archive_requests.specs.Heads.{IsReadAs, IsFinal};
+ghost use Rattle.archive_requests.specs.Heads.{HasNoLine, IsReadAs, IsFinal};
 
 use crate::heads::{HeadRead, MOST_BYTES, settled};
 use mbox_core::device::{DeviceFailure, Source};
@@ -31,7 +31,7 @@ fn at_most(bytes: &[u8]) -> HeadRead
 
 /// Whether a line feed is among the bytes.
 fn has_line(bytes: &[u8]) -> bool
-    ensures { result ≡ false → (k : ℕ) → k < length bytes.now → slice_index bytes.now k ≢ 10 }
+    ensures { result ≡ false → HasNoLine bytes.now }
 {
     memchr(b'\n', bytes).is_some()
 }
@@ -39,9 +39,11 @@ fn has_line(bytes: &[u8]) -> bool
 /// One read: how many bytes came, and whether a line feed is among them.
 fn read_noted<R: Source>(input: &mut R, buffer: &mut [u8]) -> Result<(usize, bool), DeviceFailure>
     requires { 0 < length buffer.old }
-    ensures bytes { IfOk result (λ r. (r.0 ≤ length buffer.new) × (R.told input.new ≡ R.told input.old ++ take r.0 buffer.new)
-        × (r.1 ≡ false → (k : ℕ) → k < length (take r.0 buffer.new) → slice_index (take r.0 buffer.new) k ≢ 10)) }
-    ensures ends { IfOk result (λ r. ((r.0 ≡ 0) × (R.ends input.new ≡ R.ends input.old + 1)) ⊎ ((0 < r.0) × (R.ends input.new ≡ R.ends input.old))) }
+    ensures bytes { IfOk result (λ r. (r.0 ≤ length buffer.new)
+        × (R.told input.new ≡ R.told input.old ++ take r.0 buffer.new)
+        × (r.1 ≡ false → HasNoLine (take r.0 buffer.new))) }
+    ensures ends { IfOk result (λ r. ((r.0 ≡ 0) × (R.ends input.new ≡ R.ends input.old + 1))
+        ⊎ ((0 < r.0) × (R.ends input.new ≡ R.ends input.old))) }
     ensures quiet { OnOk result (R.failures input.new ≡ R.failures input.old) }
     ensures fault { OnErr result (R.failures input.old < R.failures input.new) }
     ensures lost { OnErr result (R.told input.new ≡ R.told input.old) }
@@ -58,9 +60,11 @@ fn read_more<R: Source>(
 ) -> Result<(usize, bool), DeviceFailure>
     requires { filled < length buffer.old }
     ensures bytes { IfOk result (λ r. (piece : List ℕ) × (length piece ≡ r.0) × (filled + r.0 ≤ length buffer.old)
-        × (R.told input.new ≡ R.told input.old ++ piece) × (take (filled + r.0) buffer.new ≡ take filled buffer.old ++ piece)
-        × (r.1 ≡ false → (k : ℕ) → k < length piece → slice_index piece k ≢ 10)) }
-    ensures ends { IfOk result (λ r. ((r.0 ≡ 0) × (R.ends input.new ≡ R.ends input.old + 1)) ⊎ ((0 < r.0) × (R.ends input.new ≡ R.ends input.old))) }
+        × (R.told input.new ≡ R.told input.old ++ piece)
+        × (take (filled + r.0) buffer.new ≡ take filled buffer.old ++ piece)
+        × (r.1 ≡ false → HasNoLine piece)) }
+    ensures ends { IfOk result (λ r. ((r.0 ≡ 0) × (R.ends input.new ≡ R.ends input.old + 1))
+        ⊎ ((0 < r.0) × (R.ends input.new ≡ R.ends input.old))) }
     ensures quiet { OnOk result (R.failures input.new ≡ R.failures input.old) }
     ensures fault { OnErr result (R.failures input.old < R.failures input.new) }
     ensures lost { OnErr result (R.told input.new ≡ R.told input.old) }
