@@ -1,3 +1,4 @@
 pub mod CallLemmas
 pub mod ImportLemmas
 pub mod AskLemmas
+pub mod WriteLemmas
