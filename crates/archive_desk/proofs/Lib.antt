@@ -2,3 +2,4 @@ pub mod CallLemmas
 pub mod ImportLemmas
 pub mod AskLemmas
 pub mod WriteLemmas
+pub mod ExportLemmas

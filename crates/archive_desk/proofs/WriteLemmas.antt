@@ -71,4 +71,4 @@ next_written messages i message item within is same =
 
 -- and behind the last nothing does
 pub none_written : (messages : List Message) (i : ℕ) → length messages ≤ i → written (items_of (drop i messages)) ≡ []
-none_written messages i past = ap (λ ms. written (items_of ms)) (drop_all messages i past)
+none_written messages i past = ap (λ ms. written (items_of ms)) (drop_all i messages past)

@@ -49,7 +49,10 @@ fn read_list<S: Alter>(
 }
 
 /// The reader's standing on the list and the day: nobody is the public.
-pub(crate) fn find_standing<S: Alter>(store: &mut Store<S>, ask: &Ask<'_>) -> Result<Standing, DeskFault>
+pub(crate) fn find_standing<S: Alter>(
+    store: &mut Store<S>,
+    ask: &Ask<'_>,
+) -> Result<Standing, DeskFault>
     ensures found { Asks S.Store store.old store.new reason result (λ a. standing_reason a ask.now)
         (λ a standing. standing ≡ reader_standing a ask.now) }
     ensures fault { IfErr result (λ fault. IsAskFault fault) }
