@@ -18,7 +18,7 @@ use Rattle.archive_store.specs.Told.{Goes, GoesIfOpen, Asks}
 use Rattle.archive_store.specs.declared.store.Store.{Store}
 use Rattle.archive_store.specs.declared.faults.StoreFault.{StoreFault}
 use Rattle.archive_store.specs.declared.faults.StoreFault.TheVariants.{BadName, BadText, ListExists, NoList, PersonExists, NoPerson, TokenTaken, NoMessage, AlreadyWithdrawn, NotWithdrawn, BadDays, ListFull, TooLarge, Memory, Store as Failed}
-use Rattle.archive_store.proofs.Joins.{goes_as, goes_as_if_open}
+use Rattle.archive_store.proofs.Joins.{goes_as}
 use Rattle.archive_results.specs.Access.{Ask, Refusal, no_list, no_person, is_shown, reader_standing, standing_ranked, view_of}
 use Rattle.archive_results.specs.Access.{Asked, asked_on, asked_of}
 use Rattle.archive_desk.specs.Asking.{standing_reason}

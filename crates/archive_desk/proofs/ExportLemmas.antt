@@ -1,5 +1,5 @@
 -- The text of an export, and why it stops.
-use Rattle.std.proofs.Common.{◌≡◌, refl, sym, ap, ◌∙◌, subst, ℕ, ◌<◌, ◌^◌, min, List, [], ◌∷◌, ◌++◌, length, map, Option, Some, None, Result, Ok, Err}
+use Rattle.std.proofs.Common.{◌≡◌, refl, ap, ◌∙◌, subst, ℕ, ◌<◌, ◌^◌, min, List, [], ◌∷◌, ◌++◌, length, map, Option, Some, None, Err}
 use Rattle.std.specs.Prelude.{MatchOption, option_map}
 use Rattle.sqlite.specs.Store.{Ghosts}
 use Rattle.mbox_core.specs.Division.{Item}
@@ -7,7 +7,7 @@ use Rattle.mbox_core.specs.Written.{IsCutShort, written}
 use Rattle.archive_machine.specs.Records.{Archive}
 use Rattle.archive_machine.specs.Messages.{remembered}
 use Rattle.archive_machine.specs.declared.messages.Message.{Message}
-use Rattle.archive_store.specs.Told.{Goes, GoesIfOpen, Calls, Asks}
+use Rattle.archive_store.specs.Told.{Goes, GoesIfOpen, Calls}
 use Rattle.archive_store.specs.declared.store.Store.{Store}
 use Rattle.archive_store.proofs.Joins.{goes_as}
 use Rattle.archive_results.specs.Access.{Ask, Refusal, ask_refusal, view_of}

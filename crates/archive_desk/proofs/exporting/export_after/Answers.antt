@@ -1,7 +1,5 @@
-use Rattle.std.proofs.Common.{◌≡◌, ◌++◌, ◌<◌, ◌^◌, length, min, subst, ap, ◌∙◌, map}
+use Rattle.std.proofs.Common.{◌≡◌, ◌++◌, ◌<◌, ◌^◌, length, min, subst}
 use Rattle.mbox_core.specs.Written.{IsCutShort, written}
-use Rattle.archive_machine.specs.Messages.{remembered}
-use Rattle.archive_results.specs.Access.{view_of}
 use Rattle.archive_desk.specs.Exporting.{exported, items_of}
 use Rattle.archive_desk.proofs.ExportLemmas.{whole_out, part_out, not_viewed, nothing_out}
 use Rattle.archive_desk.proofs.exporting.export_after.Goals as goal
