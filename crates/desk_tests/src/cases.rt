@@ -45,6 +45,7 @@ pub fn by_nobody<'a>(policy: &'a Policy) -> Result<Ask<'a>, Fail> {
 #[derive(Clone, Copy, Debug, PartialEq, Eq)]
 pub enum Case {
     Imports,
+    Large,
     Messages,
     Exports,
 }
@@ -58,6 +59,7 @@ fn tell<S: Alter>(
 ) -> Result<(), Fail> {
     match case {
         Case::Imports => imports::imports(rt, alloc, store),
+        Case::Large => imports::large(rt, alloc, store),
         Case::Messages => messages::messages(rt, alloc, store),
         Case::Exports => exports::exports(rt, alloc, store),
     }
@@ -65,7 +67,7 @@ fn tell<S: Alter>(
 
 #[test]
 fn stores_over_memory(rt: HostRuntime) -> Result<(), Fail> {
-    for case in [Case::Imports, Case::Messages, Case::Exports] {
+    for case in [Case::Imports, Case::Large, Case::Messages, Case::Exports] {
         let mut store = Store::open_in_memory(rt.alloc())?;
         tell(&rt, rt.alloc(), &mut store, case)?;
     }

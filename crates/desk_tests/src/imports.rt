@@ -43,8 +43,7 @@ pub fn imports<S: Alter>(rt: &impl Abort, alloc: Global, store: &mut Store<S>) -
     ] {
         assert_eq!(rt; import(store, alloc, list, mbox), wanted);
     }
-    holds_three(rt, alloc, store)?;
-    large(rt, alloc, store)
+    holds_three(rt, alloc, store)
 }
 
 /// The list holds the first, the second and the third message, the second as it came first.
@@ -61,13 +60,16 @@ fn holds_three<S: Alter>(rt: &impl Abort, alloc: Global, store: &mut Store<S>) -
         assert_eq!(rt; message.item.as_item().text, text);
     }
     let came = cut(TWO)?.nth(1).ok_or("a second message")?;
-    assert_eq!(rt; second.item.as_item().envelope, came.envelope);
+    let item = second.item.as_item();
+    assert_eq!(rt; item.envelope.sender, came.envelope.sender);
+    assert_eq!(rt; item.envelope.arrival, came.envelope.arrival);
     assert!(rt; second.key == Key::of(&came));
     Ok(())
 }
 
 /// A whole text of 4,194,304 bytes is kept, one byte more is too large, and the import goes on behind it.
-fn large<S: Alter>(rt: &impl Abort, alloc: Global, store: &mut Store<S>) -> Result<(), Fail> {
+pub fn large<S: Alter>(rt: &impl Abort, alloc: Global, store: &mut Store<S>) -> Result<(), Fail> {
+    store.list_add("soc")?;
     let mut mbox = Vec::new(alloc);
     for extra in [0, 1] {
         mbox.extend_from_slice(b"From a@b Tue Mar  4 10:00:00 2003\n")?;
