@@ -69,8 +69,8 @@ module _ {S : Type 0} (g : Ghosts S) (old new : Store S) (ask : Ask) where
         goes_as g old new (λ a b. (b ≡ a) × (ask_reason a ask ≡ None) × (headers ≡ map header_of (view_of a ask)))
         (λ a b. (b ≡ a) × (thread_reason a ask key ≡ None) × (thread_lines key (map shown_of (view_of a ask)) ≡ Some rows))
         (λ a b h.
-            let is = sym (says (view_of a ask) h.2) in
-            (h.0, then_reason (ask_reason a ask) (thread_lines key (map shown_of (view_of a ask))) h.1 ∙ ap without_thread is, is)) indexed
+        let is = sym (says (view_of a ask) h.2) in
+        (h.0, then_reason (ask_reason a ask) (thread_lines key (map shown_of (view_of a ask))) h.1 ∙ ap without_thread is, is)) indexed
 
     -- the view does not hold it
     pub no_thread_from : (key : List ℕ) → ((view : List Remembered) → headers ≡ map header_of view → None ≡ thread_lines key (map shown_of view))

@@ -11,7 +11,9 @@ ghost use Rattle.archive_desk.specs.Listing.{IsThreadFault, thread_reason};
 
 use crate::faults::DeskFault;
 use crate::viewing::view;
-use archive_results::{Ask, Header, Line, TreeLine, author_lines, header_of, month_lines, thread_lines, tree_lines};
+use archive_results::{
+    Ask, Header, Line, TreeLine, author_lines, header_of, month_lines, thread_lines, tree_lines,
+};
 use archive_store::{Key, Message, Store};
 use mail_core::{Memory, Month};
 use sqlite::Alter;

@@ -11,7 +11,8 @@ use std::process::Abort;
 use std::test::Fail;
 
 /// Two messages, the second an answer to the first.
-pub const TWO: &[u8] = b"From anna@example.org Tue Mar  4 10:00:00 2003\nFrom: Anna <anna@example.org>\nSubject: Hello\n\nOne.\n\nFrom bob@example.org Wed Mar 12 10:30:00 2003\nSubject: Re: Hello\n\nTwo.\n\n";
+pub const TWO: &[u8] =
+    b"From anna@example.org Tue Mar  4 10:00:00 2003\nFrom: Anna <anna@example.org>\nSubject: Hello\n\nOne.\n\nFrom bob@example.org Wed Mar 12 10:30:00 2003\nSubject: Re: Hello\n\nTwo.\n\n";
 
 /// What the public may not see: a message that was withdrawn.
 pub const WITHDRAWN: &str = "

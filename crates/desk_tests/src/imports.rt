@@ -9,7 +9,8 @@ use std::process::Abort;
 use std::test::Fail;
 
 /// The second of the two messages under another separator line, and a third.
-const OVERLAPPING: &[u8] = b"From eve@example.org Thu Mar 13 10:30:00 2003\nSubject: Re: Hello\n\nTwo.\n\nFrom carl@example.org Fri Mar 14 10:30:00 2003\n\nThree.\n";
+const OVERLAPPING: &[u8] =
+    b"From eve@example.org Thu Mar 13 10:30:00 2003\nSubject: Re: Hello\n\nTwo.\n\nFrom carl@example.org Fri Mar 14 10:30:00 2003\n\nThree.\n";
 
 /// A line that is no separator line stands first, at offset 1.
 const BROKEN: &[u8] = b"\nhi\nFrom anna@example.org Tue Mar  4 10:00:00 2003\n\nOne.\n";
@@ -53,7 +54,10 @@ fn holds_three<S: Alter>(rt: &impl Abort, alloc: Global, store: &mut Store<S>) -
         return Err(Fail::from("three messages"));
     };
     for (message, text) in [
-        (first, b"From: Anna <anna@example.org>\nSubject: Hello\n\nOne.\n".as_slice()),
+        (
+            first,
+            b"From: Anna <anna@example.org>\nSubject: Hello\n\nOne.\n".as_slice(),
+        ),
         (second, b"Subject: Re: Hello\n\nTwo.\n".as_slice()),
         (third, b"\nThree.\n".as_slice()),
     ] {
