@@ -1,0 +1,5 @@
+pub mod Asking
+pub mod Exporting
+pub mod Faults
+pub mod Importing
+pub mod Listing
