@@ -1,0 +1,2 @@
+pub mod ReplyExamples
+pub mod HeadLemmas

@@ -1,0 +1,5 @@
+//! The archive's pages: from the bytes of a request to the bytes of a reply (RFC 9112).
+#![tactic(auto)]
+
+mod replies;
+mod writing;
