@@ -1,0 +1,139 @@
+-- Worked examples of views. Day 12115 is 2003-03-04, and day 12143 is 2003-04-01.
+use Rattle.std.proofs.Common.{◌≡◌, ℕ, ℤ, pos, List, [], ◌∷◌, map, Option, Some, None, true, false, refl, codes}
+use Rattle.policy_core.specs.declared.access.Standing.TheVariants.{Public, Member, Moderator}
+use Rattle.policy_core.specs.declared.access.Withdrawn.TheVariants.{No, Author, Board}
+use Rattle.policy_core.specs.Rules.{Rule, open_rule}
+use Rattle.archive_machine.specs.Records.{Message, Archive}
+use Rattle.archive_results.specs.Access.{Ask, view_of, reader_standing, marks_of, facts_of, asked_of, served, denied_by, absent, ask_refusal, no_list, no_person}
+
+-- arrived on 2003-03-04, and withdrawn by its author
+abbrev first : Message
+first = record {
+  list = codes "soc";
+  key = codes "k1";
+  sender = codes "a@b";
+  arrival = pos 1046772000;
+  text = codes "One.\n";
+  withdrawn = pos 1;
+  embargo = None;
+}
+
+-- held back until 2003-04-01
+abbrev second : Message
+second = record first { key = codes "k2"; text = codes "Two.\n"; withdrawn = pos 0; embargo = Some (pos 12143) }
+
+-- the same key and text in another list
+abbrev elsewhere : Message
+elsewhere = record second { list = codes "other" }
+
+-- `mo` is a moderator of `soc` up to 2003-03-31, and a member for good; `sue` is a moderator of another list
+abbrev archive : Archive
+archive = record {
+  lists = codes "soc" ∷ codes "other" ∷ [];
+  persons = record { name = codes "mo"; token = codes "0123456789abcdef" } ∷ record { name = codes "sue"; token = codes "0123456789abcdeF" } ∷ [];
+  grants = record { person = codes "mo"; list = codes "soc"; rank = pos 3; from_day = pos 12000; until_day = pos 12142 }
+      ∷ record { person = codes "mo"; list = codes "soc"; rank = pos 1; from_day = pos 12000; until_day = pos 20000 }
+      ∷ record { person = codes "sue"; list = codes "other"; rank = pos 3; from_day = pos 12000; until_day = pos 20000 } ∷ [];
+  messages = first ∷ elsewhere ∷ second ∷ [];
+}
+
+abbrev withdrawn_rule : Rule
+withdrawn_rule = record open_rule { name = codes "withdrawn"; allows = false; standings = Some (Public ∷ Member ∷ []); withdrawn = Some (Author ∷ Board ∷ []) }
+
+abbrev embargo_rule : Rule
+embargo_rule = record open_rule { name = codes "embargo"; allows = false; embargo = Some true }
+
+abbrev all_rule : Rule
+all_rule = record open_rule { name = codes "all" }
+
+abbrev rules : List Rule
+rules = withdrawn_rule ∷ all_rule ∷ []
+
+abbrev by : List Rule → Option (List ℕ) → ℤ → Ask
+by these reader day = record { rules = these; reader = reader; list = codes "soc"; day = day }
+
+abbrev keys_seen : Ask → List (List ℕ)
+keys_seen ask = map (λ m. m.key) (view_of archive ask)
+
+-- ---- standings
+
+a_moderator_up_to_the_last_day : reader_standing archive (by rules (Some (codes "mo")) (pos 12142)) ≡ Moderator
+a_moderator_up_to_the_last_day = refl
+
+then_a_member : reader_standing archive (by rules (Some (codes "mo")) (pos 12143)) ≡ Member
+then_a_member = refl
+
+-- a grant counts on its own list alone
+of_another_list : reader_standing archive (by rules (Some (codes "sue")) (pos 12131)) ≡ Public
+of_another_list = refl
+
+nobody_is_the_public : reader_standing archive (by rules None (pos 12131)) ≡ Public
+nobody_is_the_public = refl
+
+-- ---- facts: the reading day is that of the question, and the arrival day that of the message
+the_facts : facts_of (by rules None (pos 12131)) Public (marks_of second)
+    ≡ record { list = codes "soc"; standing = Public; day = pos 12131; arrival_day = pos 12115; withdrawn = No; embargo_until = Some (pos 12143) }
+the_facts = refl
+
+withdrawn_by_the_board : (marks_of (record first { withdrawn = pos 2 })).withdrawn ≡ Board
+withdrawn_by_the_board = refl
+
+-- ---- views
+
+-- the public does not see what was withdrawn, and nothing of another list
+the_public : view_of archive (by rules None (pos 12131)) ≡ second ∷ []
+the_public = refl
+
+a_moderator : view_of archive (by rules (Some (codes "mo")) (pos 12131)) ≡ first ∷ second ∷ []
+a_moderator = refl
+
+no_moderator_any_more : keys_seen (by rules (Some (codes "mo")) (pos 12143)) ≡ codes "k2" ∷ []
+no_moderator_any_more = refl
+
+-- no rule fits
+without_rules : view_of archive (by [] (Some (codes "mo")) (pos 12131)) ≡ []
+without_rules = refl
+
+-- an embargo is on before its until day
+under_embargo : keys_seen (by (embargo_rule ∷ all_rule ∷ []) None (pos 12142)) ≡ codes "k1" ∷ []
+under_embargo = refl
+
+on_its_until_day : keys_seen (by (embargo_rule ∷ all_rule ∷ []) None (pos 12143)) ≡ codes "k1" ∷ codes "k2" ∷ []
+on_its_until_day = refl
+
+-- a message is younger than no days where it comes after the reading day
+before_it_came : keys_seen (by (record all_rule { age_min = Some 0 } ∷ []) None (pos 12114)) ≡ []
+before_it_came = refl
+
+on_the_day_it_came : keys_seen (by (record all_rule { age_min = Some 0 } ∷ []) None (pos 12115)) ≡ codes "k1" ∷ codes "k2" ∷ []
+on_the_day_it_came = refl
+
+-- ---- one message
+
+denied_to_the_public : asked_of archive (by rules None (pos 12131)) (codes "k1") ≡ denied_by (codes "withdrawn")
+denied_to_the_public = refl
+
+served_to_a_moderator : asked_of archive (by rules (Some (codes "mo")) (pos 12131)) (codes "k1") ≡ served (codes "One.\n")
+served_to_a_moderator = refl
+
+denied_by_default : asked_of archive (by [] None (pos 12131)) (codes "k2") ≡ denied_by (codes "default")
+denied_by_default = refl
+
+an_unknown_key : asked_of archive (by [] None (pos 12131)) (codes "k3") ≡ absent
+an_unknown_key = refl
+
+-- a key that another list holds
+a_key_of_another_list : asked_of archive (record (by rules None (pos 12131)) { list = codes "other" }) (codes "k1") ≡ absent
+a_key_of_another_list = refl
+
+-- ---- refusals
+
+-- the list is looked for before the person
+list_first : ask_refusal archive (record (by [] (Some (codes "who")) (pos 0)) { list = codes "xyz" }) ≡ Some no_list
+list_first = refl
+
+then_the_person : ask_refusal archive (by [] (Some (codes "who")) (pos 0)) ≡ Some no_person
+then_the_person = refl
+
+nobody_is_no_unknown_person : ask_refusal archive (by [] None (pos 0)) ≡ None
+nobody_is_no_unknown_person = refl

@@ -1,0 +1,3 @@
+pub mod AccessExamples
+pub mod ShownExamples
+pub mod ResultExamples

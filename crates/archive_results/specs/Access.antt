@@ -1,0 +1,125 @@
+-- Who may read which message: the view of a reader is the messages of a list that the policy allows. (profile: the archive's
+-- own rules of access)
+use Rattle.std.specs.Prelude.{ℕ, ℤ, pos, List, Bool, true, false, not, filter, Option, Some, None, if◌then◌else◌}
+use Rattle.std.specs.Ordering.{int_eq}
+use Rattle.std.specs.Option.{option_map_or}
+use Rattle.mail_core.specs.Calendar.{day_of_instant}
+use Rattle.policy_core.specs.declared.access.Standing.{Standing}
+use Rattle.policy_core.specs.declared.access.Standing.TheVariants.{Public, Member, Subscriber, Moderator}
+use Rattle.policy_core.specs.declared.access.Withdrawn.{Withdrawn}
+use Rattle.policy_core.specs.declared.access.Withdrawn.TheVariants.{No, Author, Board}
+use Rattle.policy_core.specs.Facts.{Facts}
+use Rattle.policy_core.specs.Rules.{Rule}
+use Rattle.policy_core.specs.Verdict.{Ruling, allowed, denied, verdict_of}
+use Rattle.archive_machine.specs.Records.{Message, Archive}
+use Rattle.archive_machine.specs.Questions.{has_list, has_person, standing_of, messages_in, message_of}
+use Rattle.archive_results.specs.declared.asking.Reader.{Reader}
+use Rattle.archive_results.specs.declared.asking.Reader.TheVariants.{Nobody, Person}
+use Rattle.archive_results.specs.declared.asking.Asked.{Asked as Told}
+use Rattle.archive_results.specs.declared.asking.Asked.TheVariants.{Served, Denied, Absent}
+
+-- What is asked: under these rules, by this person or by nobody, of this list, on this day.
+pub record Ask : Type 0 where
+  pub rules : List Rule
+  pub reader : Option (List ℕ)
+  pub list : List ℕ
+  pub day : ℤ
+
+-- the name of a reader
+abbrev pub name_of : Reader → Option (List ℕ)
+name_of Nobody = None
+name_of (Person name) = Some name.now
+
+-- ---- the facts that a policy is asked about
+
+-- the standing of a rank: 1 is a member, 2 a subscriber, 3 a moderator
+abbrev pub standing_ranked : ℤ → Standing
+standing_ranked rank =
+    if int_eq rank (pos 3) then Moderator
+    else if int_eq rank (pos 2) then Subscriber
+    else if int_eq rank (pos 1) then Member
+    else Public
+
+-- who withdrew a message, by number: 1 its author, 2 the board
+abbrev pub withdrawal_numbered : ℤ → Withdrawn
+withdrawal_numbered number = if int_eq number (pos 2) then Board else if int_eq number (pos 1) then Author else No
+
+-- the reader's standing on the list and the day; nobody is the public
+abbrev pub reader_standing : Archive → Ask → Standing
+reader_standing archive ask = option_map_or (λ person. standing_ranked (standing_of archive person ask.list ask.day)) ask.reader Public
+
+-- What a policy asks of a message: when it came, who withdrew it, and the day up to which it is held back.
+pub record Marks : Type 0 where
+  pub arrival : ℤ
+  pub withdrawn : Withdrawn
+  pub embargo_until : Option ℤ
+
+abbrev pub marks_of : Message → Marks
+marks_of m = record { arrival = m.arrival; withdrawn = withdrawal_numbered m.withdrawn; embargo_until = m.embargo }
+
+abbrev pub facts_of : Ask → Standing → Marks → Facts
+facts_of ask standing marks = record {
+  list = ask.list;
+  standing = standing;
+  day = ask.day;
+  arrival_day = day_of_instant marks.arrival;
+  withdrawn = marks.withdrawn;
+  embargo_until = marks.embargo_until;
+}
+
+-- what the policy says of a message of these marks to a reader of this standing
+abbrev pub ruling_on : Ask → Standing → Marks → Ruling
+ruling_on ask standing marks = verdict_of ask.rules (facts_of ask standing marks)
+
+abbrev pub is_allowance : Ruling → Bool
+is_allowance (allowed rule) = true
+is_allowance (denied rule) = false
+
+abbrev pub allows : Ask → Standing → Marks → Bool
+allows ask standing marks = is_allowance (ruling_on ask standing marks)
+
+abbrev pub is_shown : Ask → Standing → Message → Bool
+is_shown ask standing m = allows ask standing (marks_of m)
+
+-- ---- the view, and one message
+
+-- The view of a reader: the list's messages that the policy allows, in mailbox order.
+abbrev pub view_of : Archive → Ask → List Message
+view_of archive ask = filter (is_shown ask (reader_standing archive ask)) (messages_in archive ask.list)
+
+-- What who asks for a message by its key gets: its whole text, the rule that denies it, or that the list does not hold it.
+pub data Asked : Type 0 where
+  served : (text : List ℕ) → Asked
+  denied_by : (rule : List ℕ) → Asked
+  absent : Asked
+
+abbrev pub asked_by : Message → Ruling → Asked
+asked_by m (allowed rule) = served m.text
+asked_by m (denied rule) = denied_by rule
+
+-- of the message that the list holds, if it does
+abbrev pub asked_on : Ask → Standing → Option Message → Asked
+asked_on ask standing held = option_map_or (λ m. asked_by m (ruling_on ask standing (marks_of m))) held absent
+
+abbrev pub asked_of : Archive → Ask → (key : List ℕ) → Asked
+asked_of archive ask key = asked_on ask (reader_standing archive ask) (message_of archive ask.list key)
+
+-- what an answer of the code says
+abbrev pub told : Told → Asked
+told (Served text) = served text.items
+told (Denied rule) = denied_by rule.now
+told Absent = absent
+
+-- ---- refusals
+
+-- G1 and G2
+pub data Refusal : Type 0 where
+  no_list : Refusal
+  no_person : Refusal
+
+-- the list is looked for before the person
+abbrev pub ask_refusal : Archive → Ask → Option Refusal
+ask_refusal archive ask =
+    if not (has_list archive ask.list) then Some no_list
+    else if option_map_or (λ person. not (has_person archive person)) ask.reader false then Some no_person
+    else None

@@ -1,0 +1,4 @@
+pub mod Access
+pub mod Shown
+pub mod Results
+pub mod Index

@@ -1,0 +1,74 @@
+-- What is shown of a view. Each is a function of the view alone, so that nothing of a message that is not in it can show.
+use Rattle.std.specs.Prelude.{ℕ, ◌-◌, ◌==◌, int_lt, Bool, List, [], ◌∷◌, map, filter, take, drop, position, slice_get, bytes_eq, Option, option_map, if◌then◌else◌}
+use Rattle.std.specs.Option.{option_and_then}
+use Rattle.mail_core.specs.Calendar.{month_of_instant}
+use Rattle.mbox_core.specs.Written.{written}
+use Rattle.thread_core.specs.Threads.{threads_of}
+use Rattle.thread_core.specs.TopThread.{top_thread_of}
+use Rattle.thread_core.specs.declared.row.Row.{Row}
+use Rattle.archive_results.specs.Shown.{Shown, Line, entry_of, line_of}
+
+-- the line of each message
+abbrev pub lines_of : List Shown → List Line
+lines_of view = map line_of view
+
+-- ---- by sent date
+
+-- a line before the first that was not sent before it
+abbrev pub with_line : Line → List Line → List Line
+with_line l [] = l ∷ []
+with_line l (m ∷ ms) = if int_lt m.sent l.sent then m ∷ with_line l ms else l ∷ m ∷ ms
+
+-- Lines by sent date; those of one sent date stay in their order (RFC 5256, section 2.2).
+abbrev pub by_sent : List Line → List Line
+by_sent [] = []
+by_sent (l ∷ ls) = with_line l (by_sent ls)
+
+abbrev pub is_of_month : ℕ → Line → Bool
+is_of_month month l = month_of_instant l.sent == month
+
+abbrev pub is_of_author : List ℕ → Line → Bool
+is_of_author key l = bytes_eq l.author key
+
+-- the messages whose sent date lies in a month, by sent date and then in mailbox order
+abbrev pub month_lines : (month : ℕ) → List Shown → List Line
+month_lines month view = by_sent (filter (is_of_month month) (lines_of view))
+
+-- the messages of an author key, by sent date and then in mailbox order
+abbrev pub author_lines : (key : List ℕ) → List Shown → List Line
+author_lines key view = by_sent (filter (is_of_author key) (lines_of view))
+
+-- ---- threads
+
+-- a row of a thread: a message's line, or none for a message that is missing
+pub record TreeLine : Type 0 where
+  pub depth : ℕ
+  pub line : Option Line
+
+-- a row with the line at its place in place of the place
+abbrev pub tree_line : List Line → Row → TreeLine
+tree_line lines row = record { depth = row.depth; line = option_and_then (slice_get lines) row.place }
+
+abbrev pub rows_of : List Shown → List Row
+rows_of view = threads_of (map (λ s. entry_of s.item) view)
+
+-- all threads (RFC 5256, section 3, THREAD=REFERENCES)
+abbrev pub tree_lines : List Shown → List TreeLine
+tree_lines view = map (tree_line (lines_of view)) (rows_of view)
+
+-- the elements of a range: from its first, up to the one before its end
+abbrev pub within : {X : Type 0} → ℕ × ℕ → List X → List X
+within range xs = take (range.1 - range.0) (drop range.0 xs)
+
+abbrev pub place_of : (key : List ℕ) → List Line → Option ℕ
+place_of key lines = position (λ l. bytes_eq l.key key) lines
+
+-- The rows of the top thread that holds a message; none where the view does not hold it.
+abbrev pub thread_lines : (key : List ℕ) → List Shown → Option (List TreeLine)
+thread_lines key view = option_map (λ range. map (tree_line (lines_of view)) (within range (rows_of view)))
+    (option_and_then (top_thread_of (rows_of view)) (place_of key (lines_of view)))
+
+-- ---- mbox (RFC 4155)
+
+abbrev pub export_text : List Shown → List ℕ
+export_text view = written (map (λ s. s.item) view)

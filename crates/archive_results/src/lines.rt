@@ -1,0 +1,39 @@
+//! Lines of messages.
+use archive_machine::Key;
+use mail_core::Instant;
+use std::marker::Model;
+
+/// A message in a list.
+#[derive(Drop)]
+pub struct Line {
+    pub key: Key,
+    /// The sent date (RFC 5256, section 2.2).
+    pub sent: Instant,
+    /// The author key, in ASCII lower case; empty where there is no From field.
+    pub author: Vec<u8>,
+    /// The subject, unfolded and without the spaces and tabs at its ends; empty where there is no Subject field.
+    pub subject: Vec<u8>,
+}
+
+impl Model for Line {
+    ghost use Rattle.archive_results.specs.Shown.{Line as Shown};
+
+    ghost Value = { Shown };
+
+    ghost view = { λ l. record { key = l.key; sent = l.sent; author = l.author.items; subject = l.subject.items } };
+}
+
+/// A row of a thread: how deep it stands, 0 at the top, and its message's line. `None` stands for a message that is missing.
+#[derive(Drop)]
+pub struct TreeLine {
+    pub depth: usize,
+    pub line: Option<Line>,
+}
+
+impl Model for TreeLine {
+    ghost use Rattle.archive_results.specs.Results.{TreeLine as Shown};
+
+    ghost Value = { Shown };
+
+    ghost view = { λ t. record { depth = t.depth; line = t.line } };
+}
