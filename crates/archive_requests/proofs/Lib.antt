@@ -1,0 +1,4 @@
+pub mod HeadLemmas
+mod RouteExamples
+mod RequestExamples
+mod HeadExamples

@@ -1,0 +1,60 @@
+-- The head that some bytes begin with, within 8,192 bytes and 64 fields (RFC 9112, sections 2 to 5; RFC 6585, section 5, for
+-- 431; profile: the two bounds).
+use Rattle.std.specs.Prelude.{◌≡◌, ◌≤◌, ◌<◌, ◌++◌, ◌⊎◌, ℕ, List, length, take, ⊤}
+use Rattle.httparse.specs.Grammar.{RequestHead, ReadsRequest, print_request, HasNoRequest}
+use Rattle.httparse.specs.Spans.{IsRequestAt, IsRequestWithin, RequestExceeds}
+use Rattle.archive_requests.specs.declared.heads.Head.{Head}
+use Rattle.archive_requests.specs.declared.heads.HeadRead.{HeadRead}
+use Rattle.archive_requests.specs.declared.heads.HeadRead.TheVariants.{Whole, Bad, TooLarge}
+
+-- the bytes begin with this head, of at most 8,192 bytes and 64 fields
+pub record BeginsWith (given : List ℕ) (head : RequestHead) : Type 0 where
+  pub rest : List ℕ
+  pub reads : ReadsRequest given head rest
+  pub short : length (print_request head) ≤ 8192
+  pub few : length head.fields ≤ 64
+
+-- the bytes begin with a head of at most 8,192 bytes, but of more than 64 fields
+pub record Exceeds (given : List ℕ) (head : RequestHead) : Type 0 where
+  pub rest : List ℕ
+  pub reads : ReadsRequest given head rest
+  pub short : length (print_request head) ≤ 8192
+  pub many : 64 < length head.fields
+
+-- some bytes can follow that make the bytes begin with a head
+abbrev pub CanBecome : List ℕ → Type 0
+CanBecome given = (more : List ℕ) × (h : RequestHead) × (rest : List ℕ) × ReadsRequest (given ++ more) h rest
+
+-- the spans are those of this head in the bytes
+pub record IsHeadAt (given : List ℕ) (h : RequestHead) (head : Head) : Type 0 where
+  pub filled : head.filled ≡ length given
+  pub within : IsRequestWithin given head.fields head.spans
+  pub at : IsRequestAt given head.fields head.spans h
+
+-- it is the head h
+abbrev pub IsWholeOf : List ℕ → RequestHead → HeadRead → Type 0
+IsWholeOf given h (Whole head) = IsHeadAt given h head
+IsWholeOf given h Bad = ⊥
+IsWholeOf given h TooLarge = ⊥
+
+-- P of a head that was read
+abbrev pub IfWhole : HeadRead → (Head → Type 0) → Type 0
+IfWhole (Whole head) P = P head
+IfWhole Bad P = ⊤
+IfWhole TooLarge P = ⊤
+
+-- What was read of an input whose bytes are all of these, of which the given ones came.
+pub record IsReadAs (given all : List ℕ) (read : HeadRead) : Type 0 where
+  -- the head that the input begins with, and no other
+  pub head : (h : RequestHead) → BeginsWith all h → IsWholeOf given h read
+  pub whole : IfWhole read (λ head. (h : RequestHead) × BeginsWith given h × IsHeadAt given h head)
+  -- too large where it begins with a head of more fields
+  pub many : (h : RequestHead) → Exceeds all h → read ≡ TooLarge
+  -- too large where its first 8,192 bytes hold no head and could still become one
+  pub long : 8192 ≤ length all → HasNoRequest (take 8192 all) → CanBecome (take 8192 all) → read ≡ TooLarge
+  -- and else only where so many bytes came, or more than 64 whole fields
+  pub large : read ≡ TooLarge → (8192 ≤ length given) ⊎ RequestExceeds 64 given
+
+-- Whatever bytes follow, it is what the whole input is read as.
+abbrev pub IsFinal : List ℕ → HeadRead → Type 0
+IsFinal given read = (more : List ℕ) → IsReadAs given (given ++ more) read

@@ -1,0 +1,6 @@
+pub mod Heads
+pub mod Bearer
+pub mod Requests
+pub mod Routes
+pub mod Asked
+pub mod Routing

@@ -1,0 +1,54 @@
+-- Which page a path names. (profile: the routes are this project's)
+use Rattle.std.specs.Prelude.{ℕ, ◌==◌, if◌then◌else◌, List, [], ◌∷◌, bytes_eq, codes, Option, Some, None}
+use Rattle.percent_encoding.specs.Percent.{percent_decode}
+
+-- `key` and `month` as they stand in the path, `author` percent-decoded (RFC 3986, section 2.1)
+pub data Route : Type 0 where
+  lists : Route
+  message : (list key : List ℕ) → Route
+  month : (list month : List ℕ) → Route
+  threads : (list : List ℕ) → Route
+  thread : (list key : List ℕ) → Route
+  author : (list author : List ℕ) → Route
+  mbox : (list : List ℕ) → Route
+
+abbrev pub onto_first : ℕ → List (List ℕ) → List (List ℕ)
+onto_first b [] = (b ∷ []) ∷ []
+onto_first b (segment ∷ segments) = (b ∷ segment) ∷ segments
+
+-- the texts between the slashes, the empty ones too
+abbrev pub segments : List ℕ → List (List ℕ)
+segments [] = [] ∷ []
+segments (b ∷ bs) = if b == 47 then [] ∷ segments bs else onto_first b (segments bs)
+
+-- a parameter is one byte or more
+abbrev pub given : {A : Type 0} → List ℕ → A → Option A
+given [] a = None
+given (b ∷ bs) a = Some a
+
+-- what follows `/l/LIST`
+abbrev pub list_route : (list : List ℕ) → List (List ℕ) → Option Route
+list_route list (word ∷ []) =
+    if bytes_eq word (codes "threads") then Some (threads list)
+    else if bytes_eq word (codes "mbox") then Some (mbox list)
+    else None
+list_route list (word ∷ parameter ∷ []) =
+    if bytes_eq word (codes "m") then given parameter (message list parameter)
+    else if bytes_eq word (codes "month") then given parameter (month list parameter)
+    else if bytes_eq word (codes "t") then given parameter (thread list parameter)
+    else if bytes_eq word (codes "by") then given parameter (author list (percent_decode parameter))
+    else None
+list_route list _ = None
+
+abbrev pub if_listed : (word list : List ℕ) → Option Route → Option Route
+if_listed word [] route = None
+if_listed word (b ∷ bs) route = if bytes_eq word (codes "l") then route else None
+
+-- the route of the segments of a path, the first of which stands before the first slash
+abbrev pub route_of_segments : List (List ℕ) → Option Route
+route_of_segments ([] ∷ [] ∷ []) = Some lists
+route_of_segments ([] ∷ word ∷ list ∷ rest) = if_listed word list (list_route list rest)
+route_of_segments _ = None
+
+abbrev pub route_of : (path : List ℕ) → Option Route
+route_of path = route_of_segments (segments path)

@@ -1,0 +1,44 @@
+-- The routes of the router, and what the code's values name.
+use Rattle.std.specs.Prelude.{ℕ, List, [], codes, Result, Ok, Err}
+use Rattle.percent_encoding.specs.Percent.{percent_decode}
+use Rattle.matchit.specs.Rows.{RowsOf}
+use Rattle.matchit.specs.Router.{RouteOf, route_from}
+use Rattle.matchit.specs.Order.{placed}
+use Rattle.matchit.specs.Route.{Scan, parse_route}
+use Rattle.matchit.specs.declared.error.InsertError.{InsertError}
+use Rattle.archive_requests.specs.Routes.{Route, lists, message, month, threads, thread, author, mbox}
+use Rattle.archive_requests.specs.declared.routes.Route.{Route as Found}
+use Rattle.archive_requests.specs.declared.routes.Route.TheVariants as found
+use Rattle.archive_requests.specs.declared.routes.Page.{Page}
+use Rattle.archive_requests.specs.declared.routes.Page.TheVariants.{Lists, Message, Month, Threads, Thread, Author, Mbox}
+
+abbrev pub Pages : Type 0
+Pages = RowsOf (RouteOf Page)
+
+abbrev pub with_scan : Result Scan InsertError → Page → Pages → Pages
+with_scan (Ok s) page rows = placed ((route_from s page).pattern, route_from s page) rows
+with_scan (Err e) page rows = rows
+
+-- the rows with one route more
+abbrev pub with_route : List ℕ → Page → Pages → Pages
+with_route text page rows = with_scan (parse_route text) page rows
+
+unfoldable pub pages : Pages
+pages =
+    with_route (codes "/l/{list}/mbox") Mbox
+    (with_route (codes "/l/{list}/by/{author}") Author
+    (with_route (codes "/l/{list}/t/{key}") Thread
+    (with_route (codes "/l/{list}/threads") Threads
+    (with_route (codes "/l/{list}/month/{month}") Month
+    (with_route (codes "/l/{list}/m/{key}") Message
+    (with_route (codes "/") Lists []))))))
+
+-- a route of the code, as the definition names it
+abbrev pub named_route : Found → Route
+named_route found.Lists = lists
+named_route (found.Message list key) = message list.now key.now
+named_route (found.Month list text) = month list.now text.now
+named_route (found.Threads list) = threads list.now
+named_route (found.Thread list key) = thread list.now key.now
+named_route (found.Author list who) = author list.now (percent_decode who.now)
+named_route (found.Mbox list) = mbox list.now

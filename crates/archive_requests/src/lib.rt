@@ -1,0 +1,15 @@
+//! Requests of HTTP/1.1: the head that some bytes begin with, what it asks for, who asks, and the route of its path.
+//!
+//! It knows no store and no page.
+#![tactic(auto)]
+
+pub use heads::{Head, HeadRead, MOST_BYTES, MOST_FIELDS};
+pub use reading::read_head;
+pub use requests::Request;
+pub use routes::Route;
+
+mod bearer;
+mod heads;
+mod reading;
+mod requests;
+mod routes;
