@@ -1,0 +1,29 @@
+-- The rows of pages, one a line. (profile)
+use Rattle.std.specs.Prelude.{ℕ, min, decimal, List, [], ◌∷◌, ◌++◌, codes}
+use Rattle.std.specs.Option.{option_map_or}
+use Rattle.mbox_core.specs.Separator.{spaced}
+use Rattle.archive_results.specs.Shown.{Line}
+use Rattle.archive_results.specs.Results.{TreeLine}
+use Rattle.archive_html.specs.Links.{link, list_path, month_link, author_link, message_link, thread_link}
+
+-- a row: its parts with one space between them, at a depth of 20 at most
+abbrev pub row : (depth : ℕ) → (parts : List (List ℕ)) → List ℕ
+row depth parts = codes "<div class=\"d" ++ (decimal (min depth 20) ++ (codes "\">" ++ (spaced parts ++ codes "</div>\n")))
+
+-- a list: its name leads to its threads, and `mbox` to its messages as a file
+unfoldable pub list_row : (list : List ℕ) → List ℕ
+list_row list = row 0 (link (list_path list (codes "/threads")) list ∷ link (list_path list (codes "/mbox")) (codes "mbox") ∷ [])
+
+-- a message: when it was sent, by whom, its subject, its thread
+unfoldable pub message_row : (list : List ℕ) → (depth : ℕ) → Line → List ℕ
+message_row list depth line = row depth (
+    month_link list line.sent ∷ author_link list line.author
+    ∷ message_link list line.key line.subject ∷ thread_link list line.key ∷ [])
+
+-- a message that others refer to and that is not there
+unfoldable pub missing_row : List ℕ
+missing_row = row 0 (codes "(missing)" ∷ [])
+
+-- a row of a thread
+unfoldable pub tree_row : (list : List ℕ) → TreeLine → List ℕ
+tree_row list tree = option_map_or (message_row list tree.depth) tree.line missing_row

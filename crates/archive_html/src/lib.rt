@@ -1,0 +1,4 @@
+//! The archive's pages: HTML in ASCII, as definitions (`specs/`), and writing them.
+#![tactic(auto)]
+
+mod texts;
