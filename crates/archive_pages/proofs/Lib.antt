@@ -1,2 +1,4 @@
 pub mod ReplyExamples
-pub mod HeadLemmas
+mod HeadLemmas
+pub mod LawLemmas
+pub mod AccessLaws

@@ -1,2 +1,4 @@
 pub mod Replies
 pub mod Seen
+pub mod Answers
+pub mod Laws

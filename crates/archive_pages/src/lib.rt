@@ -1,5 +1,6 @@
 //! The archive's pages: from the bytes of a request to the bytes of a reply (RFC 9112).
 #![tactic(auto)]
 
+pub mod laws;
 mod replies;
 mod writing;
