@@ -4,7 +4,7 @@ use Rattle.policy_core.specs.declared.access.Standing.TheVariants.{Public, Membe
 use Rattle.policy_core.specs.declared.access.Withdrawn.TheVariants.{No, Author, Board}
 use Rattle.policy_core.specs.Rules.{Rule, open_rule}
 use Rattle.archive_machine.specs.Records.{Message, Archive}
-use Rattle.archive_results.specs.Access.{Ask, view_of, reader_standing, marks_of, facts_of, asked_of, served, denied_by, absent, ask_refusal, no_list, no_person}
+use Rattle.archive_results.specs.Access.{Ask, view_of, reader_standing, marks_of, facts_of, ruling_on, asked_of, served, denied_by, absent, ask_refusal, no_list, no_person}
 
 -- arrived on 2003-03-04, and withdrawn by its author
 abbrev first : Message
@@ -73,50 +73,63 @@ nobody_is_the_public = refl
 -- ---- facts: the reading day is that of the question, and the arrival day that of the message
 the_facts : facts_of (by rules None (pos 12131)) Public (marks_of second)
     ≡ record { list = codes "soc"; standing = Public; day = pos 12131; arrival_day = pos 12115; withdrawn = No; embargo_until = Some (pos 12143) }
+unfolding marks_of
 the_facts = refl
 
 withdrawn_by_the_board : (marks_of (record first { withdrawn = pos 2 })).withdrawn ≡ Board
+unfolding marks_of
 withdrawn_by_the_board = refl
 
 -- ---- views
 
 -- the public does not see what was withdrawn, and nothing of another list
 the_public : view_of archive (by rules None (pos 12131)) ≡ second ∷ []
+unfolding marks_of ruling_on
 the_public = refl
 
 a_moderator : view_of archive (by rules (Some (codes "mo")) (pos 12131)) ≡ first ∷ second ∷ []
+unfolding marks_of ruling_on
 a_moderator = refl
 
 no_moderator_any_more : keys_seen (by rules (Some (codes "mo")) (pos 12143)) ≡ codes "k2" ∷ []
+unfolding marks_of ruling_on
 no_moderator_any_more = refl
 
 -- no rule fits
 without_rules : view_of archive (by [] (Some (codes "mo")) (pos 12131)) ≡ []
+unfolding marks_of ruling_on
 without_rules = refl
 
 -- an embargo is on before its until day
 under_embargo : keys_seen (by (embargo_rule ∷ all_rule ∷ []) None (pos 12142)) ≡ codes "k1" ∷ []
+unfolding marks_of ruling_on
 under_embargo = refl
 
 on_its_until_day : keys_seen (by (embargo_rule ∷ all_rule ∷ []) None (pos 12143)) ≡ codes "k1" ∷ codes "k2" ∷ []
+unfolding marks_of ruling_on
 on_its_until_day = refl
 
 -- a message is younger than no days where it comes after the reading day
 before_it_came : keys_seen (by (record all_rule { age_min = Some 0 } ∷ []) None (pos 12114)) ≡ []
+unfolding marks_of ruling_on
 before_it_came = refl
 
 on_the_day_it_came : keys_seen (by (record all_rule { age_min = Some 0 } ∷ []) None (pos 12115)) ≡ codes "k1" ∷ codes "k2" ∷ []
+unfolding marks_of ruling_on
 on_the_day_it_came = refl
 
 -- ---- one message
 
 denied_to_the_public : asked_of archive (by rules None (pos 12131)) (codes "k1") ≡ denied_by (codes "withdrawn")
+unfolding marks_of ruling_on
 denied_to_the_public = refl
 
 served_to_a_moderator : asked_of archive (by rules (Some (codes "mo")) (pos 12131)) (codes "k1") ≡ served (codes "One.\n")
+unfolding marks_of ruling_on
 served_to_a_moderator = refl
 
 denied_by_default : asked_of archive (by [] None (pos 12131)) (codes "k2") ≡ denied_by (codes "default")
+unfolding marks_of ruling_on
 denied_by_default = refl
 
 an_unknown_key : asked_of archive (by [] None (pos 12131)) (codes "k3") ≡ absent

@@ -1,3 +1,6 @@
 pub mod AccessExamples
-pub mod ShownExamples
+pub mod AccessLemmas
 pub mod ResultExamples
+pub mod ShownExamples
+pub mod ShownLemmas
+pub mod TrimLemmas

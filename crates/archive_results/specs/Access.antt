@@ -54,7 +54,7 @@ pub record Marks : Type 0 where
   pub withdrawn : Withdrawn
   pub embargo_until : Option ℤ
 
-abbrev pub marks_of : Message → Marks
+unfoldable pub marks_of : Message → Marks
 marks_of m = record { arrival = m.arrival; withdrawn = withdrawal_numbered m.withdrawn; embargo_until = m.embargo }
 
 abbrev pub facts_of : Ask → Standing → Marks → Facts
@@ -68,7 +68,7 @@ facts_of ask standing marks = record {
 }
 
 -- what the policy says of a message of these marks to a reader of this standing
-abbrev pub ruling_on : Ask → Standing → Marks → Ruling
+unfoldable pub ruling_on : Ask → Standing → Marks → Ruling
 ruling_on ask standing marks = verdict_of ask.rules (facts_of ask standing marks)
 
 abbrev pub is_allowance : Ruling → Bool

@@ -25,18 +25,18 @@ abbrev pub body_of : List ℕ → Item → List ℕ
 body_of name item = unwrap_or (field_of item.text name) []
 
 -- the sent date (RFC 5256, section 2.2), and the arrival where the Date field is not valid or missing
-abbrev pub sent_date : Item → ℤ
+unfoldable pub sent_date : Item → ℤ
 sent_date item = sent_of (body_of (codes "date") item) item.envelope.arrival
 
 -- the author key: the address of the first From field, in lower case
-abbrev pub author : Item → List ℕ
+unfoldable pub author : Item → List ℕ
 author item = author_of item.text
 
-abbrev pub subject_body : Item → List ℕ
+unfoldable pub subject_body : Item → List ℕ
 subject_body item = unfolded (body_of (codes "subject") item)
 
 -- the ids that a field of this name has
-abbrev pub ids_in : List ℕ → Item → List Id
+unfoldable pub ids_in : List ℕ → Item → List Id
 ids_in name item = ids_of (unfolded (body_of name item))
 
 -- the first id of the Message-ID field (RFC 5322, section 3.6.4)

@@ -2,8 +2,15 @@
 //! same as code over messages and over the index of a list. It knows no store.
 #![tactic(auto)]
 
+mod access;
 mod asking;
+mod entries;
+mod headers;
 mod lines;
+mod trimming;
 
+pub use access::{Marks, allows, asked, is_shown, marks_of};
 pub use asking::{Ask, Asked, Reader};
+pub use entries::{entry_of, line_of, sent_date};
+pub use headers::{Header, header_of};
 pub use lines::{Line, TreeLine};

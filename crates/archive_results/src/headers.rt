@@ -1,0 +1,43 @@
+//! Messages without their texts.
+ghost use Rattle.std.specs.Prelude.{◌≡◌, ℕ, List, IfOk};
+ghost use Rattle.archive_machine.specs.Messages.{remembered};
+ghost use Rattle.archive_results.specs.Index.{header_of};
+
+use crate::access::{Marks, marks_of};
+use crate::entries::{entry_of, line_of};
+use crate::lines::Line;
+use archive_machine::Message;
+use mail_core::Memory;
+use std::alloc::Global;
+use std::marker::Model;
+use thread_core::Entry;
+
+/// A message without its text: what a policy asks of it, its line, and what it says about threads.
+#[derive(Drop)]
+pub struct Header {
+    pub marks: Marks,
+    pub line: Line,
+    pub entry: Entry,
+}
+
+impl Model for Header {
+    ghost use Rattle.archive_results.specs.Index.{Header as Shown};
+
+    ghost Value = { Shown };
+
+    ghost view = { λ h. record { marks = h.marks; line = h.line; entry = h.entry } };
+}
+
+/// The header of a message. `Memory` where no memory is left. No byte of the message behind its header is read.
+pub fn header_of(alloc: Global, message: &Message) -> Result<Header, Memory>
+    ensures { (list : List ℕ) → IfOk result (λ header. header ≡ header_of (remembered list message.now)) }
+{
+    let item = message.item.as_item();
+    let line = line_of(alloc, message.key, &item)?;
+    let entry = entry_of(alloc, &item)?;
+    Ok(Header {
+        marks: marks_of(message),
+        line,
+        entry,
+    })
+}
