@@ -1,4 +1,11 @@
 pub mod HeadLemmas
+pub mod SegmentLemmas
+pub mod WalkLemmas
+pub mod RouteCases
+pub mod InsertLemmas
+pub mod ParamLemmas
+pub mod MatchLemmas
+pub mod TargetLemmas
+mod HeadExamples
 mod RouteExamples
 mod RequestExamples
-mod HeadExamples

@@ -6,7 +6,7 @@
 pub use heads::{Head, HeadRead, MOST_BYTES, MOST_FIELDS};
 pub use reading::read_head;
 pub use requests::Request;
-pub use routes::Route;
+pub use routes::{Route, decoded, route_of};
 
 mod bearer;
 mod heads;
