@@ -1,9 +1,8 @@
 -- Worked examples of pages, byte for byte.
-use Rattle.std.proofs.Common.{◌≡◌, ℤ, pos, negsuc, List, [], ◌∷◌, ◌++◌, Some, None, refl, codes}
+use Rattle.std.proofs.Common.{◌≡◌, pos, negsuc, [], ◌∷◌, ◌++◌, Some, None, refl, codes}
 use Rattle.std.specs.Fmt.{digits}
 use Rattle.mbox_core.specs.Written.{year_after, month_after, date_after}
 use Rattle.archive_results.specs.Shown.{Line}
-use Rattle.archive_results.specs.Results.{TreeLine}
 use Rattle.archive_html.specs.DateTexts.{instant_text, instant_month_text, month_text}
 use Rattle.archive_html.specs.Texts.{shown_text}
 use Rattle.archive_html.specs.Links.{escaped, month_link, author_link, subject_text, message_link, thread_link}

@@ -1,5 +1,5 @@
 -- Links between pages. (RFC 3986 for escapes; profile: the routes)
-use Rattle.std.specs.Prelude.{ℕ, ◌+◌, ◌/◌, ◌%◌, ◌==◌, nat_lt, ℤ, Bool, ◌||◌, if◌then◌else◌, List, [], ◌∷◌, ◌++◌, flat_map, codes}
+use Rattle.std.specs.Prelude.{ℕ, ◌+◌, ◌/◌, ◌%◌, ◌==◌, nat_lt, ℤ, Bool, ◌||◌, if◌then◌else◌, List, [], ◌∷◌, ◌++◌, length, flat_map, codes}
 use Rattle.std.specs.List.{list_any}
 use Rattle.std.specs.Char.{is_ascii_alphanumeric}
 use Rattle.archive_html.specs.DateTexts.{instant_text, instant_month_text}
@@ -38,13 +38,12 @@ month_link list sent = link (list_path list (codes "/month/" ++ instant_month_te
 
 -- an author key, which leads to all that this author wrote; `(none)` without a link where it is empty
 unfoldable pub author_link : (list author : List ℕ) → List ℕ
-author_link list [] = codes "(none)"
-author_link list (b ∷ bs) = link (list_path list (codes "/by/" ++ escaped (b ∷ bs))) (shown_text (b ∷ bs))
+author_link list author =
+    if length author == 0 then codes "(none)" else link (list_path list (codes "/by/" ++ escaped author)) (shown_text author)
 
 -- a subject as it is shown, and `(no subject)` for an empty one
 unfoldable pub subject_text : List ℕ → List ℕ
-subject_text [] = codes "(no subject)"
-subject_text (b ∷ bs) = shown_text (b ∷ bs)
+subject_text subject = if length subject == 0 then codes "(no subject)" else shown_text subject
 
 -- a subject, which leads to the message
 unfoldable pub message_link : (list key subject : List ℕ) → List ℕ

@@ -1,4 +1,11 @@
 //! The archive's pages: HTML in ASCII, as definitions (`specs/`), and writing them.
 #![tactic(auto)]
 
+mod date_texts;
+mod escapes;
+mod links;
+mod pages;
+mod rows;
 mod texts;
+
+pub use pages::{author_page, lists_page, month_page, thread_page, threads_page};
