@@ -1,0 +1,212 @@
+-- Questions of the desk, from those of the store.
+use Rattle.std.proofs.Common.{◌≡◌, refl, sym, ap, ◌∙◌, subst, ℕ, Bool, true, false, not, cond, List, [], ◌∷◌, map, filter, Option, Some, None, Result, Ok, Err}
+use Rattle.std.specs.Prelude.{MatchOption, option_map}
+use Rattle.std.specs.Option.{option_map_or, option_and_then}
+use Rattle.sqlite.specs.Store.{Ghosts}
+use Rattle.policy_core.specs.declared.access.Standing.{Standing}
+use Rattle.policy_core.specs.declared.access.Standing.TheVariants.{Public, Member, Subscriber, Moderator}
+use Rattle.archive_machine.specs.Records.{Archive}
+use Rattle.archive_machine.specs.Records.{Message as Remembered}
+use Rattle.archive_machine.specs.Commands.{no_list as unknown_list, no_person as unknown_person}
+use Rattle.archive_machine.specs.Commands.{Refusal as Declined}
+use Rattle.archive_machine.specs.Questions.{has_list, has_person, list_refusal, message_of, messages_in, standing_of}
+use Rattle.archive_machine.specs.Messages.{remembered}
+use Rattle.archive_machine.specs.declared.messages.Message.{Message}
+use Rattle.archive_store.specs.Replies.{refusal}
+use Rattle.archive_store.specs.Words.{standing_rank}
+use Rattle.archive_store.specs.Told.{Goes, GoesIfOpen, Asks}
+use Rattle.archive_store.specs.declared.store.Store.{Store}
+use Rattle.archive_store.specs.declared.faults.StoreFault.{StoreFault}
+use Rattle.archive_store.specs.declared.faults.StoreFault.TheVariants.{BadName, BadText, ListExists, NoList, PersonExists, NoPerson, TokenTaken, NoMessage, AlreadyWithdrawn, NotWithdrawn, BadDays, ListFull, TooLarge, Memory, Store as Failed}
+use Rattle.archive_store.proofs.Joins.{goes_as, goes_as_if_open}
+use Rattle.archive_results.specs.Access.{Ask, Refusal, no_list, no_person, is_shown, reader_standing, standing_ranked, view_of}
+use Rattle.archive_results.specs.Access.{Asked, asked_on, asked_of}
+use Rattle.archive_desk.specs.Asking.{standing_reason}
+use Rattle.archive_desk.specs.declared.faults.DeskFault.{DeskFault}
+use Rattle.archive_desk.proofs.CallLemmas.{calls_after}
+use Rattle.archive_desk.specs.Faults.{Reason, refused, reason, reason_by, desk_fault, ask_reason, IsAskFault}
+
+-- ---- what the store refuses
+
+reasoned : (fault : StoreFault) → reason (desk_fault fault) ≡ option_map reason_by (refusal fault)
+reasoned BadName = refl
+reasoned BadText = refl
+reasoned ListExists = refl
+reasoned NoList = refl
+reasoned PersonExists = refl
+reasoned NoPerson = refl
+reasoned TokenTaken = refl
+reasoned NoMessage = refl
+reasoned AlreadyWithdrawn = refl
+reasoned NotWithdrawn = refl
+reasoned BadDays = refl
+reasoned ListFull = refl
+reasoned TooLarge = refl
+reasoned Memory = refl
+reasoned Failed = refl
+
+pub is_ask_fault : (fault : StoreFault) → IsAskFault (desk_fault fault)
+is_ask_fault BadName = tt
+is_ask_fault BadText = tt
+is_ask_fault ListExists = tt
+is_ask_fault NoList = tt
+is_ask_fault PersonExists = tt
+is_ask_fault NoPerson = tt
+is_ask_fault TokenTaken = tt
+is_ask_fault NoMessage = tt
+is_ask_fault AlreadyWithdrawn = tt
+is_ask_fault NotWithdrawn = tt
+is_ask_fault BadDays = tt
+is_ask_fault ListFull = tt
+is_ask_fault TooLarge = tt
+is_ask_fault Memory = tt
+is_ask_fault Failed = tt
+
+module _ {S : Type 0} (g : Ghosts S) (old new : Store S) {A : Type 0} (refuses : Archive → Option Declined) (Says : Archive → A → Type 0) where
+  -- a question that the store answers
+  pub desk_answered : (answer : A) → Goes g old new (λ a b. (b ≡ a) × (refuses a ≡ None) × Says a answer)
+      → Asks g old new {A = A} reason (Ok answer) (λ a. option_map reason_by (refuses a)) Says
+  desk_answered answer it =
+      goes_as g old new (λ a b. (b ≡ a) × (refuses a ≡ None) × Says a answer) (λ a b. (b ≡ a) × (option_map reason_by (refuses a) ≡ None) × Says a answer)
+      (λ a b h. (h.0, ap (option_map reason_by) h.1, h.2)) it
+
+  -- one that it refuses
+  pub desk_declined : (fault : StoreFault)
+      → MatchOption (refusal fault) (GoesIfOpen g old new (λ a b. b ≡ a)) (λ why. Goes g old new (λ a b. (b ≡ a) × (refuses a ≡ Some why)))
+      → Asks g old new {A = A} reason (Err (desk_fault fault)) (λ a. option_map reason_by (refuses a)) Says
+  desk_declined fault it =
+      subst (λ r. MatchOption r (GoesIfOpen g old new (λ a b. b ≡ a)) (λ why. Goes g old new (λ a b. (b ≡ a) × (option_map reason_by (refuses a) ≡ Some why))))
+      (sym (reasoned fault)) (by_reason (refusal fault) it)
+    where
+      by_reason : (r : Option Declined)
+          → MatchOption r (GoesIfOpen g old new (λ a b. b ≡ a)) (λ why. Goes g old new (λ a b. (b ≡ a) × (refuses a ≡ Some why)))
+          → MatchOption (option_map reason_by r) (GoesIfOpen g old new (λ a b. b ≡ a)) (λ why. Goes g old new (λ a b. (b ≡ a) × (option_map reason_by (refuses a) ≡ Some why)))
+      by_reason None same = same
+      by_reason (Some why) same =
+          goes_as g old new (λ a b. (b ≡ a) × (refuses a ≡ Some why)) (λ a b. (b ≡ a) × (option_map reason_by (refuses a) ≡ Some (reason_by why)))
+          (λ a b h. (h.0, ap (option_map reason_by) h.1)) same
+
+-- ---- the list, and then the reader
+
+-- the list is looked for first
+pub no_such_list : (a : Archive) (ask : Ask) (why : Reason) → option_map reason_by (list_refusal a ask.list) ≡ Some why → ask_reason a ask ≡ Some why
+no_such_list a ask why is = by_test (has_list a ask.list) (cond (option_map_or (λ person. not (has_person a person)) ask.reader false) (Some no_person) None) is
+  where
+    by_test : (t : Bool) (rest : Option Refusal) → option_map reason_by (cond (not t) (Some unknown_list) None) ≡ Some why
+        → option_map refused (cond (not t) (Some no_list) rest) ≡ Some why
+    by_test true rest e = absurd (cc)
+    by_test false rest e = e
+
+list_there : (a : Archive) (list : List ℕ) → option_map reason_by (list_refusal a list) ≡ None → has_list a list ≡ true
+list_there a list is = by_test (has_list a list) is
+  where
+    by_test : (t : Bool) → option_map reason_by (cond (not t) (Some unknown_list) None) ≡ None → t ≡ true
+    by_test true e = refl
+    by_test false e = absurd (cc)
+
+-- where it is there, the reader decides
+pub by_reader_alone : (a : Archive) (ask : Ask) → option_map reason_by (list_refusal a ask.list) ≡ None → ask_reason a ask ≡ standing_reason a ask
+by_reader_alone a ask there = by_reader ask.reader (has_list a ask.list) (list_there a ask.list there)
+  where
+    by_person : (u : Bool) → option_map refused (cond (not u) (Some no_person) None) ≡ option_map reason_by (cond (not u) (Some unknown_person) None)
+    by_person true = refl
+    by_person false = refl
+
+    by_reader : (reader : Option (List ℕ)) (t : Bool) → t ≡ true
+        → option_map refused (cond (not t) (Some no_list) (cond (option_map_or (λ person. not (has_person a person)) reader false) (Some no_person) None))
+        ≡ option_map reason_by (option_and_then (λ person. cond (not (has_person a person)) (Some unknown_person) (cond (not t) (Some unknown_list) None)) reader)
+    by_reader reader false e = absurd (cc)
+    by_reader None true e = refl
+    by_reader (Some person) true e = by_person (has_person a person)
+
+module _ {S : Type 0} (g : Ghosts S) (ask : Ask) where
+  -- the list is not there, or memory or the database was at fault
+  pub list_refused : (old new : Store S) {A B : Type 0} (fault : DeskFault) (Says : Archive → A → Type 0) (Says' : Archive → B → Type 0)
+      → Asks g old new {A = A} reason (Err fault) (λ a. option_map reason_by (list_refusal a ask.list)) Says
+      → Asks g old new {A = B} reason (Err fault) (λ a. ask_reason a ask) Says'
+  list_refused old new fault Says Says' it = by_reason (reason fault) it
+    where
+      by_reason : (r : Option Reason)
+          → MatchOption r (GoesIfOpen g old new (λ a b. b ≡ a)) (λ why. Goes g old new (λ a b. (b ≡ a) × (option_map reason_by (list_refusal a ask.list) ≡ Some why)))
+          → MatchOption r (GoesIfOpen g old new (λ a b. b ≡ a)) (λ why. Goes g old new (λ a b. (b ≡ a) × (ask_reason a ask ≡ Some why)))
+      by_reason None same = same
+      by_reason (Some why) same =
+          goes_as g old new (λ a b. (b ≡ a) × (option_map reason_by (list_refusal a ask.list) ≡ Some why)) (λ a b. (b ≡ a) × (ask_reason a ask ≡ Some why))
+          (λ a b h. (h.0, no_such_list a ask why h.1)) same
+
+  -- the reader's standing, after what was found of the list
+  pub standing_after : (old mid new : Store S) (First : Archive → Type 0) (result : Result Standing DeskFault)
+      → Goes g old mid (λ a b. (b ≡ a) × (option_map reason_by (list_refusal a ask.list) ≡ None) × First a)
+      → Asks g mid new reason result (λ a. standing_reason a ask) (λ a standing. standing ≡ reader_standing a ask)
+      → Asks g old new reason result (λ a. ask_reason a ask) (λ a standing. First a × (standing ≡ reader_standing a ask))
+  standing_after old mid new First result before asks =
+      calls_after g old mid new reason (λ a b. (b ≡ a) × (option_map reason_by (list_refusal a ask.list) ≡ None) × First a)
+      (λ a b standing. (b ≡ a) × (standing_reason a ask ≡ None) × (standing ≡ reader_standing a ask))
+      (λ a b standing. (b ≡ a) × (ask_reason a ask ≡ None) × (First a × (standing ≡ reader_standing a ask)))
+      (λ a b why. (b ≡ a) × (standing_reason a ask ≡ Some why)) (λ a b why. (b ≡ a) × (ask_reason a ask ≡ Some why)) (λ a b _. b ≡ a) (λ a b _. b ≡ a)
+      (λ a b c standing first it. (
+        it.0 ∙ first.0,
+        by_reader_alone a ask first.1 ∙ subst (λ x. standing_reason x ask ≡ None) first.0 it.1,
+        (first.2, subst (λ x. standing ≡ reader_standing x ask) first.0 it.2),
+      ))
+      (λ a b c why first it. (it.0 ∙ first.0, by_reader_alone a ask first.1 ∙ subst (λ x. standing_reason x ask ≡ Some why) first.0 it.1))
+      (λ a b c fault first it. it ∙ first.0) result before asks
+
+-- ---- the standing
+
+ranked : (standing : Standing) → standing_ranked (standing_rank standing) ≡ standing
+ranked Public = refl
+ranked Member = refl
+ranked Subscriber = refl
+ranked Moderator = refl
+
+pub standing_is : (a : Archive) (ask : Ask) (person : List ℕ) (standing : Standing) → ask.reader ≡ Some person
+    → standing_rank standing ≡ standing_of a person ask.list ask.day → standing ≡ reader_standing a ask
+standing_is a ask person standing is rank =
+    sym (ranked standing) ∙ ap standing_ranked rank
+    ∙ ap (λ r. option_map_or (λ p. standing_ranked (standing_of a p ask.list ask.day)) r Public) (sym is)
+
+-- ---- the view
+
+map_kept : {A B : Type 0} (f : A → B) (test : B → Bool) (xs : List A) → map f (filter (λ x. test (f x)) xs) ≡ filter test (map f xs)
+map_kept f test [] = refl
+map_kept f test (x ∷ xs) = by_test (test (f x)) (map_kept f test xs)
+  where
+    by_test : (t : Bool) → map f (filter (λ y. test (f y)) xs) ≡ filter test (map f xs)
+        → map f (cond t (x ∷ filter (λ y. test (f y)) xs) (filter (λ y. test (f y)) xs)) ≡ cond t (f x ∷ filter test (map f xs)) (filter test (map f xs))
+    by_test true h = ap (λ ys. f x ∷ ys) h
+    by_test false h = h
+
+pub viewed : (a : Archive) (ask : Ask) (standing : Standing) (found kept : List Message) → map (remembered ask.list) found ≡ messages_in a ask.list
+    → standing ≡ reader_standing a ask → kept ≡ filter (λ m. is_shown ask standing (remembered ask.list m)) found
+    → map (remembered ask.list) kept ≡ view_of a ask
+viewed a ask standing found kept all is e = ap (map (remembered ask.list)) e ∙ map_kept (remembered ask.list) (is_shown ask standing) found
+    ∙ ap (filter (is_shown ask standing)) all ∙ ap (λ s. filter (is_shown ask s) (messages_in a ask.list)) is
+
+-- ---- one message
+
+pub asked_is : (a : Archive) (ask : Ask) (key : List ℕ) (standing : Standing) (found : Option Message) (answer : Asked)
+    → option_map (remembered ask.list) found ≡ message_of a ask.list key → standing ≡ reader_standing a ask
+    → answer ≡ asked_on ask standing (option_map (remembered ask.list) found) → answer ≡ asked_of a ask key
+asked_is a ask key standing found answer held is e = e ∙ ap (asked_on ask standing) held ∙ ap (λ s. asked_on ask s (message_of a ask.list key)) is
+
+-- ---- the calls
+
+module _ {S : Type 0} (g : Ghosts S) (old new : Store S) (ask : Ask) (standing : Standing) where
+  pub view_found : (found kept : List Message)
+      → Goes g old new (λ a b. (b ≡ a) × (ask_reason a ask ≡ None) × ((map (remembered ask.list) found ≡ messages_in a ask.list) × (standing ≡ reader_standing a ask)))
+      → kept ≡ filter (λ m. is_shown ask standing (remembered ask.list m)) found
+      → Goes g old new (λ a b. (b ≡ a) × (ask_reason a ask ≡ None) × (map (remembered ask.list) kept ≡ view_of a ask))
+  view_found found kept goes is =
+      goes_as g old new (λ a b. (b ≡ a) × (ask_reason a ask ≡ None) × ((map (remembered ask.list) found ≡ messages_in a ask.list) × (standing ≡ reader_standing a ask)))
+      (λ a b. (b ≡ a) × (ask_reason a ask ≡ None) × (map (remembered ask.list) kept ≡ view_of a ask))
+      (λ a b h. (h.0, h.1, viewed a ask standing found kept h.2.0 h.2.1 is)) goes
+
+  pub message_found : (key : List ℕ) (found : Option Message) (answer : Asked)
+      → Goes g old new (λ a b. (b ≡ a) × (ask_reason a ask ≡ None) × ((option_map (remembered ask.list) found ≡ message_of a ask.list key) × (standing ≡ reader_standing a ask)))
+      → answer ≡ asked_on ask standing (option_map (remembered ask.list) found)
+      → Goes g old new (λ a b. (b ≡ a) × (ask_reason a ask ≡ None) × (answer ≡ asked_of a ask key))
+  message_found key found answer goes is =
+      goes_as g old new (λ a b. (b ≡ a) × (ask_reason a ask ≡ None) × ((option_map (remembered ask.list) found ≡ message_of a ask.list key) × (standing ≡ reader_standing a ask)))
+      (λ a b. (b ≡ a) × (ask_reason a ask ≡ None) × (answer ≡ asked_of a ask key))
+      (λ a b h. (h.0, h.1, asked_is a ask key standing found answer h.2.0 h.2.1 is)) goes

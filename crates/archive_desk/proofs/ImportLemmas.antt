@@ -1,0 +1,125 @@
+-- What an import says, from what its calls say.
+use Rattle.std.proofs.Common.{◌≡◌, refl, sym, ap, ◌∙◌, subst, inl, inr, ℕ, Bool, true, false, not, cond, List, take, Option, Some, None, Result, Ok, Err}
+use Rattle.std.specs.Prelude.{MatchOption, option_map}
+use Rattle.sqlite.specs.Store.{Ghosts}
+use Rattle.mbox_core.specs.Division.{Item, Divides}
+use Rattle.mbox_core.specs.declared.faults.MboxFault.{MboxFault}
+use Rattle.mbox_core.specs.declared.faults.MboxFault.TheVariants.{Preamble, Read, Memory}
+use Rattle.archive_machine.specs.Records.{Archive}
+use Rattle.archive_machine.specs.Commands.{Refusal, no_list, bad_name, bad_text, list_exists, person_exists, no_person, token_taken, no_message, already_withdrawn, not_withdrawn, bad_days, list_full, too_large}
+use Rattle.archive_machine.specs.Questions.{has_list, list_refusal}
+use Rattle.archive_store.specs.Batches.{IsRefusedAt}
+use Rattle.archive_store.specs.Replies.{refusal}
+use Rattle.archive_store.specs.Told.{Goes, GoesIfOpen, Calls}
+use Rattle.archive_store.specs.declared.store.Store.{Store}
+use Rattle.archive_store.specs.declared.faults.StoreFault.{StoreFault}
+use Rattle.archive_store.specs.declared.faults.StoreFault.TheVariants.{Memory as NoMemory}
+use Rattle.archive_store.proofs.Joins.{goes_as, goes_as_if_open}
+use Rattle.archive_desk.proofs.CallLemmas.{calls_after}
+use Rattle.archive_desk.specs.Importing.{Cause, no_mbox, not_taken, stop_reason, IsCutStop, HasAdded, IsImported, IsRefusedAdd, IsRefusedImport, IsBrokenAdd, IsBrokenImport}
+use Rattle.archive_desk.specs.declared.importing.Report.{Report}
+use Rattle.archive_desk.specs.declared.importing.ImportStop.{ImportStop}
+use Rattle.archive_desk.specs.declared.importing.ImportFault.{ImportFault}
+use Rattle.archive_desk.specs.declared.importing.ImportFault.TheVariants.{Mbox, Store as Stored}
+
+-- ---- the list is not there
+
+-- the one refusal of a question on a list
+pub missing : (a : Archive) (list : List ℕ) (why : Refusal) → list_refusal a list ≡ Some why → (no_list ≡ why) × (has_list a list ≡ false)
+missing a list why is = by_test (has_list a list) is
+  where
+    by_test : (t : Bool) → cond (not t) (Some no_list) None ≡ Some why → (no_list ≡ why) × (t ≡ false)
+    by_test true e = absurd (cc)
+    by_test false e = (cc, refl)
+
+pub refused_list : (list text : List ℕ) (a b : Archive) (why : Refusal) → b ≡ a → list_refusal a list ≡ Some why → IsRefusedImport list text a b 0 (not_taken why)
+refused_list list text a b why same is =
+    let it = missing a list why is in
+    subst (λ r. IsRefusedImport list text a b 0 (not_taken r)) it.0 (refl, same, it.1)
+
+module _ {S : Type 0} (g : Ghosts S) (old new : Store S) (list text : List ℕ) where
+  abbrev Says : Archive → Archive → Report → Type 0
+  Says a b report = IsImported list text a b report
+
+  abbrev Refuses : Archive → Archive → ℕ × Cause → Type 0
+  Refuses a b why = IsRefusedImport list text a b why.0 why.1
+
+  abbrev Stops : Archive → Archive → ImportStop → Type 0
+  Stops a b stop = IsBrokenImport list text a b stop.done stop.fault
+
+  pub list_not_found : (fault : StoreFault)
+      → MatchOption (refusal fault) (GoesIfOpen g old new (λ a b. b ≡ a)) (λ why. Goes g old new (λ a b. (b ≡ a) × (list_refusal a list ≡ Some why)))
+      → Calls g old new {A = Report} stop_reason (Err (record { done = 0; fault = Stored fault })) Says Refuses Stops
+  list_not_found fault asked = by_reason (refusal fault) asked
+    where
+      by_reason : (r : Option Refusal)
+          → MatchOption r (GoesIfOpen g old new (λ a b. b ≡ a)) (λ why. Goes g old new (λ a b. (b ≡ a) × (list_refusal a list ≡ Some why)))
+          → MatchOption (option_map (λ (cause : Cause). (0, cause)) (option_map not_taken r)) (GoesIfOpen g old new (λ a b. Stops a b (record { done = 0; fault = Stored fault })))
+          (λ why. Goes g old new (λ a b. Refuses a b why))
+      by_reason None it =
+          goes_as_if_open g old new (λ a b. b ≡ a) (λ a b. Stops a b (record { done = 0; fault = Stored fault })) (λ a b same. inl (refl, same)) it
+      by_reason (Some why) it =
+          goes_as g old new (λ a b. (b ≡ a) × (list_refusal a list ≡ Some why)) (λ a b. Refuses a b (0, not_taken why)) (λ a b h. refused_list list text a b why h.0 h.1) it
+
+  -- ---- the file is not cut
+
+  pub not_cut : (fault : ImportFault) → IsCutStop text fault
+      → Goes g old new (λ a b. (b ≡ a) × (list_refusal a list ≡ None) × (has_list a list ≡ true))
+      → Calls g old new {A = Report} stop_reason (Err (record { done = 0; fault = fault })) Says Refuses Stops
+  not_cut (Mbox (Preamble offset)) why before =
+      goes_as g old new (λ a b. (b ≡ a) × (list_refusal a list ≡ None) × (has_list a list ≡ true)) (λ a b. Refuses a b (0, no_mbox offset))
+      (λ a b h. (refl, h.0, h.2, why)) before
+  not_cut (Mbox Read) why before = absurd why
+  not_cut (Mbox Memory) why before = absurd why
+  not_cut (Stored fault) why before = subst (λ f. Calls g old new {A = Report} stop_reason (Err (record { done = 0; fault = Stored f })) Says Refuses Stops) (sym why)
+      (before.0, (λ returned ready up. let it = before.1 returned ready in (it.0, inl (refl, it.1.0))))
+
+-- ---- its messages are added
+
+pub refused_add : (list text : List ℕ) (items : List Item) (a b c : Archive) (done : ℕ) (cause : Cause) → Divides text items
+    → (b ≡ a) × (list_refusal a list ≡ None) × (has_list a list ≡ true) → IsRefusedAdd list items b c done cause → IsRefusedImport list text a c done cause
+refused_add list text items a b c done cause divides before refused =
+    by_cause cause (subst (λ x. IsRefusedAdd list items x c done cause) before.0 refused)
+  where
+    by_cause : (cause : Cause) → IsRefusedAdd list items a c done cause → IsRefusedImport list text a c done cause
+    by_cause (no_mbox offset) it = absurd it
+    by_cause (not_taken no_list) it = absurd (let never : true ≡ false = sym before.2 ∙ it.1.1 in cc)
+    by_cause (not_taken list_full) it = (items, divides, it.0, it.1)
+    by_cause (not_taken bad_name) it = absurd it.1
+    by_cause (not_taken bad_text) it = absurd it.1
+    by_cause (not_taken list_exists) it = absurd it.1
+    by_cause (not_taken person_exists) it = absurd it.1
+    by_cause (not_taken no_person) it = absurd it.1
+    by_cause (not_taken token_taken) it = absurd it.1
+    by_cause (not_taken no_message) it = absurd it.1
+    by_cause (not_taken already_withdrawn) it = absurd it.1
+    by_cause (not_taken not_withdrawn) it = absurd it.1
+    by_cause (not_taken bad_days) it = absurd it.1
+    by_cause (not_taken too_large) it = absurd it.1
+
+pub broken_add : (list text : List ℕ) (items : List Item) (a b c : Archive) (done : ℕ) (fault : ImportFault) → Divides text items
+    → b ≡ a → IsBrokenAdd list items b c done fault → IsBrokenImport list text a c done fault
+broken_add list text items a b c done (Mbox fault) divides same broken = absurd broken
+broken_add list text items a b c done (Stored fault) divides same broken =
+    inr (items, divides, subst (λ x. IsBrokenAdd list items x c done (Stored fault)) same broken)
+
+pub completed : (list text : List ℕ) (items : List Item) (a b c : Archive) (report : Report) → Divides text items
+    → (b ≡ a) × (list_refusal a list ≡ None) × (has_list a list ≡ true) → HasAdded list items b c report → IsImported list text a c report
+completed list text items a b c report divides before added =
+    record { is_there = before.2; items = items; divided = divides; added = subst (λ x. HasAdded list items x c report) before.0 added }
+
+module _ {S : Type 0} (g : Ghosts S) (old mid new : Store S) (list text : List ℕ) (items : List Item) (divides : Divides text items) where
+  -- the list is there, the file is cut, and its messages are added
+  pub import_after : (result : Result Report ImportStop) → Goes g old mid (λ a b. (b ≡ a) × (list_refusal a list ≡ None) × (has_list a list ≡ true))
+      → Calls g mid new stop_reason result (λ a b report. HasAdded list items a b report) (λ a b why. IsRefusedAdd list items a b why.0 why.1)
+      (λ a b stop. IsBrokenAdd list items a b stop.done stop.fault)
+      → Calls g old new stop_reason result (λ a b report. IsImported list text a b report) (λ a b why. IsRefusedImport list text a b why.0 why.1)
+      (λ a b stop. IsBrokenImport list text a b stop.done stop.fault)
+  import_after result before call =
+      calls_after g old mid new stop_reason (λ a b. (b ≡ a) × (list_refusal a list ≡ None) × (has_list a list ≡ true))
+      (λ a b report. HasAdded list items a b report) (λ a b report. IsImported list text a b report)
+      (λ a b why. IsRefusedAdd list items a b why.0 why.1) (λ a b why. IsRefusedImport list text a b why.0 why.1)
+      (λ a b stop. IsBrokenAdd list items a b stop.done stop.fault) (λ a b stop. IsBrokenImport list text a b stop.done stop.fault)
+      (λ a b c report first it. completed list text items a b c report divides first it)
+      (λ a b c why first it. refused_add list text items a b c why.0 why.1 divides first it)
+      (λ a b c stop first it. broken_add list text items a b c stop.done stop.fault divides first.0 it) result before call

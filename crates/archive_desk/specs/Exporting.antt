@@ -1,0 +1,37 @@
+-- The view as an mbox, written to a device.
+use Rattle.std.specs.Prelude.{◌≡◌, ◌<◌, ◌^◌, ℕ, List, length, map, Option, Some, None, option_map}
+use Rattle.mbox_core.specs.Division.{Item}
+use Rattle.mbox_core.specs.Written.{IsCutShort}
+use Rattle.archive_machine.specs.Records.{Archive}
+use Rattle.archive_machine.specs.declared.messages.Message.{Message}
+use Rattle.archive_results.specs.Access.{Ask, view_of}
+use Rattle.archive_results.specs.Results.{export_text}
+use Rattle.archive_results.specs.Shown.{shown_of}
+use Rattle.archive_desk.specs.Faults.{Reason, refused, not_in_view, not_written, declined, reason}
+use Rattle.archive_desk.specs.declared.exporting.ExportStop.{ExportStop}
+use Rattle.archive_desk.specs.declared.faults.DeskFault.{DeskFault}
+use Rattle.archive_desk.specs.declared.faults.DeskFault.TheVariants.{Write}
+
+abbrev pub items_of : List Message → List Item
+items_of = map (λ (m : Message). m.item)
+
+-- the text of an export
+abbrev pub exported : Archive → Ask → List ℕ
+exported archive ask = export_text (map shown_of (view_of archive ask))
+
+-- how many bytes were written, and why it stopped; none where memory or the database was at fault
+abbrev pub stop_reason : ExportStop → Option (ℕ × Reason)
+stop_reason stop = option_map (λ why. (stop.written, why)) (reason stop.fault)
+
+-- G1 and G2, where what is asked is refused; G6, and then exactly the first bytes of the text were written, where the writer
+-- told fewer than 2^64 bytes
+abbrev pub IsExportRefused : Option Reason → List ℕ → List ℕ → List ℕ → ℕ → Reason → Type 0
+IsExportRefused asked before after text count (refused why) = asked ≡ Some (refused why)
+IsExportRefused asked before after text count not_written = (asked ≡ None) × (length after < 2 ^ 64 → IsCutShort before after text count)
+IsExportRefused asked before after text count not_in_view = ⊥
+IsExportRefused asked before after text count (declined why) = ⊥
+
+-- the writer failed; else nothing was written
+abbrev pub IsExportStop : List ℕ → List ℕ → ℕ → ℕ → ℕ → DeskFault → Type 0
+IsExportStop before after failed fails count Write = failed < fails
+IsExportStop before after failed fails count other = (count ≡ 0) × (after ≡ before) × (fails ≡ failed)

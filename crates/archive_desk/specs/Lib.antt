@@ -1,0 +1,4 @@
+pub mod Asking
+pub mod Exporting
+pub mod Faults
+pub mod Importing

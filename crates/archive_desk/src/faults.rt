@@ -1,0 +1,52 @@
+//! Why a question is not answered.
+ghost use Rattle.archive_desk.specs.Faults.{desk_fault};
+
+use archive_store::StoreFault;
+use std::error::Error;
+use std::fmt;
+
+/// Why a question is not answered. It prints its number and its name.
+#[derive(Clone, Copy, Debug, PartialEq, Eq, Drop)]
+pub enum DeskFault {
+    /// G1: there is no list of this name.
+    NoList,
+    /// G2: there is no person of this name.
+    NoPerson,
+    /// G3: the view does not hold the message whose thread is asked for.
+    NotInView,
+    /// G4: the store refused, for E14 or E15.
+    Store(StoreFault),
+    /// G5: no memory was left.
+    Memory,
+    /// G6: the writer failed.
+    Write,
+}
+
+impl From<StoreFault> for DeskFault {
+    ghost use Rattle.std.specs.Prelude.{◌≡◌};
+
+    ghost from_gives = { λ fault desk. desk ≡ desk_fault fault };
+
+    fn from(fault: StoreFault) -> DeskFault {
+        match fault {
+            StoreFault::NoList => DeskFault::NoList,
+            StoreFault::NoPerson => DeskFault::NoPerson,
+            _ => DeskFault::Store(fault),
+        }
+    }
+}
+
+impl fmt::Display for DeskFault {
+    fn fmt<W: fmt::Write>(&self, f: &mut fmt::Formatter<W>) -> fmt::Result {
+        f.write_str(match self {
+            DeskFault::NoList => "G1 NoList",
+            DeskFault::NoPerson => "G2 NoPerson",
+            DeskFault::NotInView => "G3 NotInView",
+            DeskFault::Store(_) => "G4 Store",
+            DeskFault::Memory => "G5 Memory",
+            DeskFault::Write => "G6 Write",
+        })
+    }
+}
+
+impl Error for DeskFault {}

@@ -1,0 +1,142 @@
+//! Taking the messages of a file into a list.
+ghost use Rattle.std.specs.Prelude.{◌≡◌, true, IfOk, IfErr};
+ghost use Rattle.mbox_core.specs.Division.{Divides};
+ghost use Rattle.archive_machine.specs.Questions.{has_list, list_refusal};
+ghost use Rattle.archive_store.specs.Replies.{refusal};
+ghost use Rattle.archive_store.specs.Batches.{tally_of as store_tally};
+ghost use Rattle.archive_store.specs.Told.{Asks, Calls};
+ghost use Rattle.archive_desk.specs.Importing.{HasAdded, IsBrokenAdd, IsBrokenImport, IsCutStop, IsImported, IsRefusedAdd, IsRefusedImport, stop_reason, tally_of};
+ghost use Rattle.archive_desk.specs.declared.importing.ImportFault.TheVariants.{Store as Stored};
+
+use archive_store::{AddStop, Report as Counts, Store, StoreFault};
+use mbox_core::{Item, MboxFault, cut};
+use sqlite::Alter;
+use std::alloc::Global;
+use std::error::Error;
+use std::fmt;
+
+/// What became of the messages of a file: how many were new on the list, how many it held, and how many are too large.
+#[derive(Clone, Copy, Debug, PartialEq, Eq)]
+pub struct Report {
+    pub new: u64,
+    pub known: u64,
+    pub too_large: u64,
+}
+
+/// Where an import stopped: the first `done` messages of the file were taken in, known or too large, and no other was
+/// taken in.
+#[derive(Clone, Copy, Debug, PartialEq, Eq)]
+pub struct ImportStop {
+    pub done: u64,
+    pub fault: ImportFault,
+}
+
+/// Why an import stopped. It prints its number and its name.
+#[derive(Clone, Copy, Debug, PartialEq, Eq)]
+pub enum ImportFault {
+    /// M1: the file is no mbox.
+    Mbox(MboxFault),
+    /// E4: there is no such list. E12: the list holds 50,000 messages, and the next is not on it. E14, E15.
+    Store(StoreFault),
+}
+
+impl fmt::Display for ImportFault {
+    fn fmt<W: fmt::Write>(&self, f: &mut fmt::Formatter<W>) -> fmt::Result {
+        match self {
+            ImportFault::Mbox(fault) => write!(f, "{fault}"),
+            ImportFault::Store(fault) => write!(f, "{fault}"),
+        }
+    }
+}
+
+impl Error for ImportFault {}
+
+/// Adds the messages of an mbox (RFC 4155) to a list, one after the other. A message that the list holds is known and
+/// changes nothing, one that is too large is passed over. The list is looked up before the file is cut: E4 where there
+/// is no such list, M1 where the file's first line that is not empty is no separator line, E12 where the list holds
+/// 50,000 messages and the next is not on it. After a stop the same file can be imported again.
+pub fn import<S: Alter>(
+    store: &mut Store<S>,
+    alloc: Global,
+    list: &str,
+    mbox: &[u8],
+) -> Result<Report, ImportStop>
+    ensures imports { Calls S.Store store.old store.new stop_reason result
+        (λ a b report. IsImported list.now mbox.now a b report)
+        (λ a b why. IsRefusedImport list.now mbox.now a b why.0 why.1)
+        (λ a b stop. IsBrokenImport list.now mbox.now a b stop.done stop.fault) }
+{
+    if let Err(fault) = find_list(store, list) {
+        return Err(ImportStop {
+            done: 0,
+            fault: ImportFault::Store(fault),
+        });
+    }
+    match cut_items(alloc, mbox) {
+        Ok(items) => add_items(store, alloc, list, &items),
+        Err(fault) => Err(ImportStop { done: 0, fault }),
+    }
+}
+
+/// E4 where there is no such list.
+fn find_list<S: Alter>(store: &mut Store<S>, list: &str) -> Result<(), StoreFault>
+    ensures found { Asks S.Store store.old store.new refusal result (λ a. list_refusal a list.now) (λ a _. has_list a list.now ≡ true) }
+{
+    match store.has_list(list) {
+        Ok(true) => Ok(()),
+        Ok(false) => Err(StoreFault::NoList),
+        Err(fault) => Err(fault),
+    }
+}
+
+/// The messages of a file. Their texts are the file's own bytes.
+fn cut_items<'a>(alloc: Global, mbox: &'a [u8]) -> Result<Vec<Item<'a>>, ImportFault>
+    ensures divided { IfOk result (λ items. Divides mbox.entry.now items.items) }
+    ensures fault { IfErr result (λ fault. IsCutStop mbox.entry.now fault) }
+{
+    let messages = match cut(mbox) {
+        Ok(messages) => messages,
+        Err(fault) => return Err(ImportFault::Mbox(fault)),
+    };
+    match messages.collect(alloc) {
+        Ok(items) => Ok(items),
+        Err(_) => Err(ImportFault::Store(StoreFault::Memory)),
+    }
+}
+
+/// Adds messages to a list, and counts what became of them.
+fn add_items<S: Alter>(
+    store: &mut Store<S>,
+    alloc: Global,
+    list: &str,
+    items: &[Item<'_>],
+) -> Result<Report, ImportStop>
+    ensures added { Calls S.Store store.old store.new stop_reason result
+        (λ a b report. HasAdded list.now items.entry.now a b report)
+        (λ a b why. IsRefusedAdd list.now items.entry.now a b why.0 why.1)
+        (λ a b stop. IsBrokenAdd list.now items.entry.now a b stop.done stop.fault) }
+{
+    match store.add_all(alloc, list, items) {
+        Ok(counts) => Ok(report_of(counts)),
+        Err(stop) => Err(stop_of(stop)),
+    }
+}
+
+fn report_of(counts: Counts) -> Report
+    ensures { tally_of result ≡ store_tally counts }
+{
+    Report {
+        new: counts.new as u64,
+        known: counts.known as u64,
+        too_large: counts.too_large as u64,
+    }
+}
+
+fn stop_of(stop: AddStop) -> ImportStop
+    ensures { result ≡ record { done = stop.done; fault = Stored stop.fault } }
+{
+    ImportStop {
+        done: stop.done as u64,
+        fault: ImportFault::Store(stop.fault),
+    }
+}

@@ -1,0 +1,14 @@
+//! What a reader is shown of a list, and how a file is taken into one. It stands on the store, and knows no tables.
+#![tactic(auto)]
+
+mod exporting;
+mod faults;
+mod importing;
+mod messages;
+mod viewing;
+
+pub use exporting::{ExportStop, export, export_after};
+pub use faults::DeskFault;
+pub use importing::{ImportFault, ImportStop, Report, import};
+pub use messages::message;
+pub use viewing::view;

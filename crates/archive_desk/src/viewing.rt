@@ -1,0 +1,100 @@
+//! The view: the one place where the policy is applied.
+ghost use Rattle.std.specs.Prelude.{◌≡◌, map, filter, option_map, IfErr};
+ghost use Rattle.policy_core.specs.Verdict.{ruling};
+ghost use Rattle.archive_machine.specs.Questions.{list_refusal, messages_in};
+ghost use Rattle.archive_machine.specs.Messages.{remembered};
+ghost use Rattle.archive_results.specs.Access.{facts_of, is_shown, marks_of, reader_standing, ruling_on, view_of};
+ghost use Rattle.archive_store.specs.Told.{Asks};
+ghost use Rattle.archive_desk.specs.Asking.{standing_reason};
+ghost use Rattle.archive_desk.specs.Faults.{IsAskFault, ask_reason, reason, reason_by};
+
+use crate::faults::DeskFault;
+use archive_results::{Ask, Reader};
+use archive_store::{Message, Store};
+use policy_core::{Facts, Standing, Verdict};
+use sqlite::Alter;
+use std::alloc::Global;
+
+/// The messages of the list that the policy lets the reader see on the day, in mailbox order. G1 where there is no such
+/// list, G2 where there is no such person.
+pub fn view<S: Alter>(
+    store: &mut Store<S>,
+    alloc: Global,
+    ask: &Ask<'_>,
+) -> Result<Vec<Message>, DeskFault>
+    ensures shown { Asks S.Store store.old store.new reason result (λ a. ask_reason a ask.now)
+        (λ a found. map (remembered ask.now.list) found.items ≡ view_of a ask.now) }
+    ensures fault { IfErr result (λ fault. IsAskFault fault) }
+{
+    let mut messages = read_list(store, alloc, ask)?;
+    match find_standing(store, ask) {
+        Ok(standing) => {
+            keep_shown(ask, standing, &mut messages);
+            Ok(messages)
+        }
+        Err(fault) => Err(fault),
+    }
+}
+
+/// All messages of the list.
+fn read_list<S: Alter>(
+    store: &mut Store<S>,
+    alloc: Global,
+    ask: &Ask<'_>,
+) -> Result<Vec<Message>, DeskFault>
+    ensures held { Asks S.Store store.old store.new reason result (λ a. option_map reason_by (list_refusal a ask.now.list))
+        (λ a found. map (remembered ask.now.list) found.items ≡ messages_in a ask.now.list) }
+    ensures fault { IfErr result (λ fault. IsAskFault fault) }
+{
+    Ok(store.rows(alloc, ask.list)?)
+}
+
+/// The reader's standing on the list and the day: nobody is the public.
+pub(crate) fn find_standing<S: Alter>(store: &mut Store<S>, ask: &Ask<'_>) -> Result<Standing, DeskFault>
+    ensures found { Asks S.Store store.old store.new reason result (λ a. standing_reason a ask.now)
+        (λ a standing. standing ≡ reader_standing a ask.now) }
+    ensures fault { IfErr result (λ fault. IsAskFault fault) }
+{
+    match ask.reader {
+        Reader::Nobody => Ok(Standing::Public),
+        Reader::Person(name) => Ok(store.standing(name, ask.list, ask.day)?),
+    }
+}
+
+/// Drops the messages that the policy denies.
+fn keep_shown(ask: &Ask<'_>, standing: Standing, messages: &mut Vec<Message>)
+    ensures { messages.new.items ≡ filter (λ m. is_shown ask.now standing (remembered ask.now.list m)) messages.old.items }
+{
+    messages.retain(|message| is_shown(ask, standing, message));
+}
+
+fn is_shown(ask: &Ask<'_>, standing: Standing, message: &Message) -> bool
+    ensures { result ≡ is_shown ask.now standing (remembered ask.now.list message.now) }
+{
+    match rule_on(ask, standing, message) {
+        Verdict::Allowed(_) => true,
+        Verdict::Denied(_) => false,
+    }
+}
+
+/// What the policy says of a message to a reader of this standing. Nothing else asks a policy.
+pub(crate) fn rule_on<'p>(ask: &Ask<'p>, standing: Standing, message: &Message) -> Verdict<'p>
+    ensures { ruling result ≡ ruling_on ask.entry.now standing (marks_of (remembered ask.entry.now.list message.now)) }
+{
+    let policy = ask.policy;
+    policy.verdict(&facts_of(ask, standing, message))
+}
+
+/// What the policy is asked about a message.
+fn facts_of<'a>(ask: &Ask<'a>, standing: Standing, message: &Message) -> Facts<'a>
+    ensures { result ≡ facts_of ask.entry.now standing (marks_of (remembered ask.entry.now.list message.now)) }
+{
+    Facts {
+        list: ask.list,
+        standing,
+        day: ask.day,
+        arrival_day: message.item.as_item().envelope.arrival.day(),
+        withdrawn: message.withdrawn,
+        embargo_until: message.embargo_until,
+    }
+}
