@@ -1,4 +1,5 @@
 pub mod ReplyExamples
 mod HeadLemmas
-pub mod LawLemmas
-pub mod AccessLaws
+mod LawLemmas
+mod AccessLaws
+pub mod ServingLemmas

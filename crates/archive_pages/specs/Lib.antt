@@ -2,3 +2,4 @@ pub mod Replies
 pub mod Seen
 pub mod Answers
 pub mod Laws
+pub mod Serving

@@ -1,6 +1,7 @@
 -- Replies, and their bytes (RFC 9112).
-use Rattle.std.specs.Prelude.{◌≡◌, ◌≤◌, ◌⊎◌, ℕ, Bool, true, false, List, [], ◌∷◌, ◌++◌, length, take, flat_map, if◌then◌else◌, codes, decimal, Result, MatchResult}
+use Rattle.std.specs.Prelude.{◌≡◌, ◌<◌, ◌^◌, ◌⊎◌, ℕ, Bool, true, false, List, [], ◌∷◌, ◌++◌, length, flat_map, if◌then◌else◌, codes, decimal, Result, MatchResult}
 use Rattle.http.specs.StatusCode.{status_text}
+use Rattle.mbox_core.specs.Written.{IsCutShort}
 
 -- A reply. `sized`: the length of its body stands in the head; without it the body ends with the connection. `more`: further
 -- lines of the head.
@@ -86,11 +87,11 @@ unavailable = failed 503 []
 -- ---- a reply on its way out
 
 -- A reply of which this holds went out whole, with its status; or the writer failed, and exactly the first `written` bytes of
--- it went out.
+-- it went out, where the writer told fewer than 2^64 bytes.
 abbrev pub Sends : {E : Type 0} → (written : E → ℕ) → (Reply → Type 0) → (told_before told_after : List ℕ) → Result ℕ E → Type 0
 Sends written IsRight before after result = (reply : Reply) × IsRight reply × MatchResult result
     (λ status. (status ≡ reply.status) × (after ≡ before ++ reply_bytes reply))
-    (λ fault. (written fault ≤ length (reply_bytes reply)) × (after ≡ before ++ take (written fault) (reply_bytes reply)))
+    (λ fault. length after < 2 ^ 64 → IsCutShort before after (reply_bytes reply) (written fault))
 
 -- this reply, or that for want of memory or the database
 abbrev pub Is : Reply → Reply → Type 0

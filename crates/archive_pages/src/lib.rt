@@ -2,5 +2,6 @@
 #![tactic(auto)]
 
 pub mod laws;
+mod finding;
 mod replies;
 mod writing;

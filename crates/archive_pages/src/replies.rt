@@ -86,3 +86,7 @@ pub(crate) enum Reply<'p> {
     /// Any other status.
     Failed(Failure),
 }
+
+/// No reply was made: no memory was left, or the database refused.
+#[derive(Clone, Copy, Debug, Drop)]
+pub(crate) struct Unavailable;
