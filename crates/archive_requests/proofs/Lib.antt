@@ -6,6 +6,7 @@ pub mod InsertLemmas
 pub mod ParamLemmas
 pub mod MatchLemmas
 pub mod TargetLemmas
+pub mod BearerLemmas
 mod HeadExamples
 mod RouteExamples
 mod RequestExamples

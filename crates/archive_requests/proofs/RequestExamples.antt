@@ -1,8 +1,7 @@
 -- Worked examples of requests and of bearer tokens.
-use Rattle.std.proofs.Common.{◌≡◌, ℕ, List, [], ◌∷◌, ◌++◌, Some, None, refl, codes}
+use Rattle.std.proofs.Common.{◌≡◌, ℕ, List, [], ◌∷◌, Some, None, refl, codes}
 use Rattle.httparse.specs.Grammar.{RequestHead, Field, crlf, trim_ows}
-use Rattle.archive_requests.specs.Bearer.{nobody, token, no_token, doubled, bearer_of}
-use Rattle.archive_requests.specs.Requests.{bad, other_method, unauthorized, asks, path_of, request_of}
+use Rattle.archive_requests.specs.Requests.{bad, other_method, unauthorized, asks, request_of}
 
 abbrev head : (method target : List ℕ) → List Field → RequestHead
 head method target fields =

@@ -15,6 +15,7 @@ pub data Bearer : Type 0 where
 abbrev pub NamedValue : Type 0
 NamedValue = List ℕ × List ℕ
 
+-- the name in any case
 abbrev pub is_authorization : NamedValue → Bool
 is_authorization field = str_eq_ignore_ascii_case field.0 (codes "authorization")
 

@@ -1,4 +1,14 @@
 //! What a request asks for.
+ghost use Rattle.std.specs.Prelude.{◌≡◌};
+ghost use Rattle.httparse.specs.Grammar.{RequestHead};
+ghost use Rattle.httparse.specs.Spans.{IsRequestWithin};
+ghost use Rattle.archive_requests.specs.Asked.{named_request};
+ghost use Rattle.archive_requests.specs.Heads.{IsHeadAt};
+ghost use Rattle.archive_requests.specs.Requests.{path_of, request_of};
+
+use crate::bearer::{Bearer, bearer_of};
+use crate::heads::Head;
+use std::str;
 
 /// What a request asks for, as its head alone says.
 #[derive(Clone, Copy, Debug, Drop)]
@@ -14,4 +24,44 @@ pub enum Request<'b> {
         token: Option<&'b str>,
         path: &'b str,
     },
+}
+
+// What stands before the first `?` of a target.
+fn path_of(target: &str) -> &str
+    ensures { result.now ≡ path_of target.now }
+{
+    match target.split_once('?') {
+        Some((path, _)) => path,
+        None => target,
+    }
+}
+
+impl Head {
+    /// What the request asks for. `bytes` are those that the head was read from.
+    pub fn request<'b>(&self, bytes: &'b [u8]) -> Request<'b>
+        requires { IsRequestWithin bytes.now self.now.fields self.now.spans }
+        ensures { (h : RequestHead) → IsHeadAt bytes.now h self.now → named_request result ≡ request_of h }
+    {
+        let Ok(target) = str::from_utf8(self.spans.path.of(bytes)) else {
+            return Request::Bad;
+        };
+        if !target.starts_with('/') {
+            return Request::Bad;
+        }
+        if self.spans.method.of(bytes) != b"GET".as_slice() {
+            return Request::OtherMethod;
+        }
+        match bearer_of(bytes, &self.fields[..self.spans.headers]) {
+            Bearer::Nobody => Request::Asks {
+                token: None,
+                path: path_of(target),
+            },
+            Bearer::Token(token) => Request::Asks {
+                token: Some(token),
+                path: path_of(target),
+            },
+            Bearer::NoToken => Request::Unauthorized,
+            Bearer::Doubled => Request::Bad,
+        }
+    }
 }
