@@ -1,0 +1,5 @@
+//! Whole pages, with ample memory.
+#![tactic(auto)]
+
+#[cfg(test)]
+mod pages;

@@ -1,0 +1,160 @@
+//! Pages byte for byte.
+use archive_html::{author_page, lists_page, month_page, thread_page, threads_page};
+use archive_machine::Key;
+use archive_results::{Line, TreeLine};
+use mail_core::{Instant, Month};
+use std::alloc::Global;
+use std::test::Fail;
+
+/// A row: its depth, and the key, the second, the author and the subject of its message.
+type Row = (
+    usize,
+    Option<(&'static str, i64, &'static [u8], &'static [u8])>,
+);
+
+/// What a page is asked for.
+#[derive(Clone, Copy)]
+enum Ask {
+    Month(&'static [u8]),
+    Author(&'static [u8]),
+    Threads,
+    Thread,
+}
+
+const K1: &str = "1111111111111111111111111111111111111111111111111111111111111111";
+
+const K2: &str = "22222222222222222222222222222222222222222222222222222222222222ff";
+
+static PAGES: [(Ask, &[Row], &[u8]); 6] = [
+    (
+        Ask::Threads,
+        &[
+            (0, Some((K1, 1_046_772_000, b"anna@example.org", b"Hello"))),
+            (1, Some((K2, 1_047_465_000, b"", b"Re: Hello"))),
+        ],
+        b"<!DOCTYPE html>\n<html><head><title>soc: threads</title></head><body>\n<h1>soc: threads</h1>\n<div class=\"d0\"><a href=\"/l/soc/month/2003-03\">2003-03-04 10:00</a> <a href=\"/l/soc/by/anna%40example.org\">anna@example.org</a> <a href=\"/l/soc/m/1111111111111111111111111111111111111111111111111111111111111111\">Hello</a> <a href=\"/l/soc/t/1111111111111111111111111111111111111111111111111111111111111111\">thread</a></div>\n<div class=\"d1\"><a href=\"/l/soc/month/2003-03\">2003-03-12 10:30</a> (none) <a href=\"/l/soc/m/22222222222222222222222222222222222222222222222222222222222222ff\">Re: Hello</a> <a href=\"/l/soc/t/22222222222222222222222222222222222222222222222222222222222222ff\">thread</a></div>\n</body></html>\n",
+    ),
+    (
+        Ask::Thread,
+        &[
+            (0, None),
+            (
+                20,
+                Some((K1, 951_868_799, b"\"o'brien\"@x.org", b"1 < 2 & \xc3\xa9")),
+            ),
+            (21, Some((K2, -1, b"a~b-c._d+e@f", b""))),
+        ],
+        b"<!DOCTYPE html>\n<html><head><title>soc: thread</title></head><body>\n<h1>soc: thread</h1>\n<div class=\"d0\">(missing)</div>\n<div class=\"d20\"><a href=\"/l/soc/month/2000-02\">2000-02-29 23:59</a> <a href=\"/l/soc/by/%22o%27brien%22%40x.org\">&quot;o'brien&quot;@x.org</a> <a href=\"/l/soc/m/1111111111111111111111111111111111111111111111111111111111111111\">1 &lt; 2 &amp; ??</a> <a href=\"/l/soc/t/1111111111111111111111111111111111111111111111111111111111111111\">thread</a></div>\n<div class=\"d20\"><a href=\"/l/soc/month/1969-12\">1969-12-31 23:59</a> <a href=\"/l/soc/by/a~b-c._d%2Be%40f\">a~b-c._d+e@f</a> <a href=\"/l/soc/m/22222222222222222222222222222222222222222222222222222222222222ff\">(no subject)</a> <a href=\"/l/soc/t/22222222222222222222222222222222222222222222222222222222222222ff\">thread</a></div>\n</body></html>\n",
+    ),
+    (
+        Ask::Month(b"1900-01"),
+        &[(9, Some((K2, -2_208_988_800, b"\xff\x7f\x1f", b"a\tb>")))],
+        b"<!DOCTYPE html>\n<html><head><title>soc: 1900-01</title></head><body>\n<h1>soc: 1900-01</h1>\n<div class=\"d0\"><a href=\"/l/soc/month/1900-01\">1900-01-01 00:00</a> <a href=\"/l/soc/by/%FF%7F%1F\">???</a> <a href=\"/l/soc/m/22222222222222222222222222222222222222222222222222222222222222ff\">a?b&gt;</a> <a href=\"/l/soc/t/22222222222222222222222222222222222222222222222222222222222222ff\">thread</a></div>\n</body></html>\n",
+    ),
+    (
+        Ask::Month(b"9998-12"),
+        &[(0, Some((K1, 253_370_764_799, b"a", b"b")))],
+        b"<!DOCTYPE html>\n<html><head><title>soc: 9998-12</title></head><body>\n<h1>soc: 9998-12</h1>\n<div class=\"d0\"><a href=\"/l/soc/month/9998-12\">9998-12-31 23:59</a> <a href=\"/l/soc/by/a\">a</a> <a href=\"/l/soc/m/1111111111111111111111111111111111111111111111111111111111111111\">b</a> <a href=\"/l/soc/t/1111111111111111111111111111111111111111111111111111111111111111\">thread</a></div>\n</body></html>\n",
+    ),
+    (
+        Ask::Author(b"<anna>/\xc3\xa9"),
+        &[],
+        b"<!DOCTYPE html>\n<html><head><title>soc: by &lt;anna&gt;/??</title></head><body>\n<h1>soc: by &lt;anna&gt;/??</h1>\n</body></html>\n",
+    ),
+    (
+        Ask::Author(b"a/b"),
+        &[(0, Some((K1, 0, b"a/b", b" x ")))],
+        b"<!DOCTYPE html>\n<html><head><title>soc: by a/b</title></head><body>\n<h1>soc: by a/b</h1>\n<div class=\"d0\"><a href=\"/l/soc/month/1970-01\">1970-01-01 00:00</a> <a href=\"/l/soc/by/a%2Fb\">a/b</a> <a href=\"/l/soc/m/1111111111111111111111111111111111111111111111111111111111111111\"> x </a> <a href=\"/l/soc/t/1111111111111111111111111111111111111111111111111111111111111111\">thread</a></div>\n</body></html>\n",
+    ),
+];
+
+fn line_of(
+    alloc: Global,
+    key: &str,
+    second: i64,
+    author: &[u8],
+    subject: &[u8],
+) -> Result<Line, Fail> {
+    Ok(Line {
+        key: Key::read(key).ok_or("a key")?,
+        sent: Instant::new(second).ok_or("an instant")?,
+        author: author.to_vec(alloc)?,
+        subject: subject.to_vec(alloc)?,
+    })
+}
+
+fn lines_of(alloc: Global, rows: &[Row]) -> Result<Vec<Line>, Fail> {
+    let mut lines = Vec::new(alloc);
+    for (_, message) in rows {
+        if let Some((key, second, author, subject)) = message {
+            lines.push(line_of(alloc, key, *second, author, subject)?)?;
+        }
+    }
+    Ok(lines)
+}
+
+fn tree_of(alloc: Global, rows: &[Row]) -> Result<Vec<TreeLine>, Fail> {
+    let mut tree = Vec::new(alloc);
+    for (depth, message) in rows {
+        let line = match message {
+            Some((key, second, author, subject)) => {
+                Some(line_of(alloc, key, *second, author, subject)?)
+            }
+            None => None,
+        };
+        tree.push(TreeLine {
+            depth: *depth,
+            line,
+        })?;
+    }
+    Ok(tree)
+}
+
+fn page_of(alloc: Global, ask: Ask, rows: &[Row]) -> Result<Vec<u8>, Fail> {
+    Ok(match ask {
+        Ask::Month(text) => {
+            let month = Month::read(text).ok_or("a month")?;
+            month_page(alloc, "soc", month, &lines_of(alloc, rows)?)?
+        }
+        Ask::Author(key) => author_page(alloc, "soc", key, &lines_of(alloc, rows)?)?,
+        Ask::Threads => threads_page(alloc, "soc", &tree_of(alloc, rows)?)?,
+        Ask::Thread => thread_page(alloc, "soc", &tree_of(alloc, rows)?)?,
+    })
+}
+
+#[test]
+fn pages_of_a_list_are_these_bytes(rt: HostRuntime) -> Result<(), Fail> {
+    for (number, (ask, rows, page)) in PAGES.iter().enumerate() {
+        let made = page_of(rt.alloc(), *ask, rows)?;
+        assert!(rt; made.as_slice() == *page, "page {number}");
+    }
+    Ok(())
+}
+
+static LISTS: [(&[&str], &[u8]); 2] = [
+    (
+        &[],
+        b"<!DOCTYPE html>\n<html><head><title>Lists</title></head><body>\n<h1>Lists</h1>\n</body></html>\n",
+    ),
+    (
+        &["abc", "soc-2"],
+        b"<!DOCTYPE html>\n<html><head><title>Lists</title></head><body>\n<h1>Lists</h1>\n<div class=\"d0\"><a href=\"/l/abc/threads\">abc</a> <a href=\"/l/abc/mbox\">mbox</a></div>\n<div class=\"d0\"><a href=\"/l/soc-2/threads\">soc-2</a> <a href=\"/l/soc-2/mbox\">mbox</a></div>\n</body></html>\n",
+    ),
+];
+
+fn page_of_lists(alloc: Global, names: &[&str]) -> Result<Vec<u8>, Fail> {
+    let mut given = Vec::new(alloc);
+    for name in names {
+        given.push(String::from_str(alloc, name)?)?;
+    }
+    Ok(lists_page(alloc, &given)?)
+}
+
+#[test]
+fn lists_are_linked_by_name(rt: HostRuntime) -> Result<(), Fail> {
+    for (number, (names, page)) in LISTS.iter().enumerate() {
+        let made = page_of_lists(rt.alloc(), names)?;
+        assert!(rt; made.as_slice() == *page, "lists {number}");
+    }
+    Ok(())
+}
