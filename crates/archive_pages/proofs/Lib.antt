@@ -3,3 +3,4 @@ mod HeadLemmas
 mod LawLemmas
 mod AccessLaws
 pub mod ServingLemmas
+mod HeadReading

@@ -3,3 +3,4 @@ pub mod Seen
 pub mod Answers
 pub mod Laws
 pub mod Serving
+pub mod Answered

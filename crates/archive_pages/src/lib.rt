@@ -2,6 +2,11 @@
 #![tactic(auto)]
 
 pub mod laws;
+mod answering;
+mod faults;
 mod finding;
 mod replies;
 mod writing;
+
+pub use answering::answer;
+pub use faults::ServeFault;
