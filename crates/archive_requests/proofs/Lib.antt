@@ -7,6 +7,7 @@ pub mod ParamLemmas
 pub mod MatchLemmas
 pub mod TargetLemmas
 pub mod BearerLemmas
+pub mod ReadingLemmas
 mod HeadExamples
 mod RouteExamples
 mod RequestExamples

@@ -3,4 +3,5 @@ pub mod Bearer
 pub mod Requests
 pub mod Routes
 pub mod Asked
+pub mod Reading
 pub mod Routing

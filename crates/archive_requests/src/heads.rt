@@ -14,7 +14,7 @@ pub const MOST_BYTES: usize = 8192;
 
 /// A head, as offsets into the bytes that were read.
 #[derive(Clone, Copy, Drop)]
-pub struct Head {
+pub(crate) struct Head {
     pub spans: RequestSpans,
     /// The first of them, as many as `spans.headers` says, are the head's fields.
     pub fields: [HeaderSpan; MOST_FIELDS],
@@ -24,7 +24,7 @@ pub struct Head {
 
 /// What the bytes of a request are.
 #[derive(Clone, Copy, Drop)]
-pub enum HeadRead {
+pub(crate) enum HeadRead {
     Whole(Head),
     /// No head, or only a part of one: 400 (RFC 9112, section 3).
     Bad,

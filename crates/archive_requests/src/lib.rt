@@ -3,12 +3,13 @@
 //! It knows no store and no page.
 #![tactic(auto)]
 
-pub use heads::{Head, HeadRead, MOST_BYTES, MOST_FIELDS};
-pub use reading::read_head;
+pub use heads::{MOST_BYTES, MOST_FIELDS};
+pub use reading::{RequestRead, read_request};
 pub use requests::Request;
 pub use routes::{Route, decoded, route_of};
 
 mod bearer;
+mod head_reading;
 mod heads;
 mod reading;
 mod requests;

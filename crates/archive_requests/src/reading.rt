@@ -1,103 +1,47 @@
-//! Reading a head from a source.
-ghost use Rattle.std.specs.Prelude.{◌≡◌, ◌≢◌, ◌≤◌, ◌<◌, ◌+◌, ◌++◌, ◌⊎◌, ℕ, List, length, take, slice_index, false, IfOk, OnOk, OnErr};
+//! Reading a request from a source.
+ghost use Rattle.std.specs.Prelude.{◌≡◌, ◌<◌, ◌+◌, ◌++◌, ◌⊎◌, ℕ, List, IfOk, OnOk, OnErr};
 ghost use Rattle.httparse.specs.Grammar.{HasNoRequest};
-ghost use Rattle.archive_requests.specs.Heads.{IsReadAs, IsFinal};
+ghost use Rattle.archive_requests.specs.Reading.{IsRequestAs, IsSettled};
 
-use crate::heads::{HeadRead, MOST_BYTES, settled};
+use crate::head_reading::read_head;
+use crate::heads::{HeadRead, MOST_BYTES};
+use crate::requests::Request;
 use mbox_core::device::{DeviceFailure, Source};
-use memchr::memchr;
 
-/// What the bytes before the input's end are, which are too few for the most.
-fn at_end(bytes: &[u8]) -> HeadRead
-    requires { length bytes.now < 8192 }
-    ensures { IsReadAs bytes.now bytes.now result }
-{
-    match settled(bytes) {
-        Some(read) => read,
-        None => HeadRead::Bad,
-    }
+/// What was read of a request.
+#[derive(Debug, Clone, Copy, PartialEq, Eq, Drop)]
+pub enum RequestRead<'b> {
+    /// A whole head, and what it asks for.
+    Whole(Request<'b>),
+    /// No head, or only a part of one: 400 (RFC 9112, section 3).
+    Malformed,
+    /// More fields or bytes than a head may have: 431 (RFC 6585, section 5).
+    TooLarge,
 }
 
-/// What a full buffer is.
-fn at_most(bytes: &[u8]) -> HeadRead
-    requires { length bytes.now ≡ 8192 }
-    ensures { IsFinal bytes.now result }
-{
-    match settled(bytes) {
-        Some(read) => read,
-        None => HeadRead::TooLarge,
-    }
-}
-
-/// Whether a line feed is among the bytes.
-fn has_line(bytes: &[u8]) -> bool
-    ensures { result ≡ false → (k : ℕ) → k < length bytes.now → slice_index bytes.now k ≢ 10 }
-{
-    memchr(b'\n', bytes).is_some()
-}
-
-/// One read: how many bytes came, and whether a line feed is among them.
-fn read_noted<R: Source>(input: &mut R, buffer: &mut [u8]) -> Result<(usize, bool), DeviceFailure>
-    requires { 0 < length buffer.old }
-    ensures bytes { IfOk result (λ r. (r.0 ≤ length buffer.new) × (R.told input.new ≡ R.told input.old ++ take r.0 buffer.new)
-        × (r.1 ≡ false → (k : ℕ) → k < length (take r.0 buffer.new) → slice_index (take r.0 buffer.new) k ≢ 10)) }
-    ensures ends { IfOk result (λ r. ((r.0 ≡ 0) × (R.ends input.new ≡ R.ends input.old + 1)) ⊎ ((0 < r.0) × (R.ends input.new ≡ R.ends input.old))) }
-    ensures quiet { OnOk result (R.failures input.new ≡ R.failures input.old) }
-    ensures fault { OnErr result (R.failures input.old < R.failures input.new) }
-    ensures lost { OnErr result (R.told input.new ≡ R.told input.old) }
-{
-    let count = input.read(buffer)?;
-    Ok((count, has_line(&buffer[..count])))
-}
-
-/// One read behind the bytes that came: how many more came, and whether a line feed is among them.
-fn read_more<R: Source>(
+/// Reads a request's head into the beginning of the buffer. It stops at the head's end, at bytes that no head begins
+/// with, at the input's end, or where the buffer is full; what follows the head is no part of the request. A read that
+/// fails stops it with no answer.
+pub fn read_request<'b, R: Source>(
     input: &mut R,
-    buffer: &mut [u8],
-    filled: usize,
-) -> Result<(usize, bool), DeviceFailure>
-    requires { filled < length buffer.old }
-    ensures bytes { IfOk result (λ r. (piece : List ℕ) × (length piece ≡ r.0) × (filled + r.0 ≤ length buffer.old)
-        × (R.told input.new ≡ R.told input.old ++ piece) × (take (filled + r.0) buffer.new ≡ take filled buffer.old ++ piece)
-        × (r.1 ≡ false → (k : ℕ) → k < length piece → slice_index piece k ≢ 10)) }
-    ensures ends { IfOk result (λ r. ((r.0 ≡ 0) × (R.ends input.new ≡ R.ends input.old + 1)) ⊎ ((0 < r.0) × (R.ends input.new ≡ R.ends input.old))) }
-    ensures quiet { OnOk result (R.failures input.new ≡ R.failures input.old) }
-    ensures fault { OnErr result (R.failures input.old < R.failures input.new) }
-    ensures lost { OnErr result (R.told input.new ≡ R.told input.old) }
-{
-    let (count, line) = read_noted(input, &mut buffer[filled..])?;
-    Ok((count, line))
-}
-
-/// Reads a request's head into the beginning of the buffer. It stops at the head's end, at bytes that no head
-/// begins with, at the input's end, or where the buffer is full. A read that fails stops it with no answer.
-pub fn read_head<R: Source>(
-    input: &mut R,
-    buffer: &mut [u8; MOST_BYTES],
-) -> Result<HeadRead, DeviceFailure>
+    buffer: &'b mut [u8; MOST_BYTES],
+) -> Result<RequestRead<'b>, DeviceFailure>
+    // The input was read to its end, or what came settles the answer, whatever bytes follow.
     ensures read { IfOk result (λ read. (given : List ℕ) × (R.told input.new ≡ R.told input.old ++ given)
-        × (given ≡ take (length given) buffer.new)
-        × (((R.ends input.new ≡ R.ends input.old + 1) × HasNoRequest given × IsReadAs given given read)
-        ⊎ ((R.ends input.new ≡ R.ends input.old) × IsFinal given read))) }
+        × (((R.ends input.new ≡ R.ends input.old + 1) × HasNoRequest given × IsRequestAs given given read)
+        ⊎ ((R.ends input.new ≡ R.ends input.old) × IsSettled given read))) }
     ensures quiet { OnOk result (R.failures input.new ≡ R.failures input.old) }
 
     // A read failed, and before it there was no whole head.
     ensures fault { OnErr result (R.failures input.old < R.failures input.new) }
     ensures part { OnErr result ((given : List ℕ) × (R.told input.new ≡ R.told input.old ++ given) × HasNoRequest given) }
 {
-    let mut filled = 0;
-    while filled < MOST_BYTES {
-        let (count, line) = read_more(input, buffer, filled)?;
-        if count == 0 {
-            return Ok(at_end(&buffer[..filled]));
+    match read_head(input, buffer)? {
+        HeadRead::Whole(head) => {
+            let came: &'b [u8] = &buffer[..head.filled];
+            Ok(RequestRead::Whole(head.request(came)))
         }
-        filled += count;
-        if line {
-            match settled(&buffer[..filled]) {
-                Some(read) => return Ok(read),
-                None => {}
-            }
-        }
+        HeadRead::Bad => Ok(RequestRead::Malformed),
+        HeadRead::TooLarge => Ok(RequestRead::TooLarge),
     }
-    Ok(at_most(buffer))
 }

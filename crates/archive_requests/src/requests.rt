@@ -11,7 +11,7 @@ use crate::heads::Head;
 use std::str;
 
 /// What a request asks for, as its head alone says.
-#[derive(Clone, Copy, Debug, Drop)]
+#[derive(Debug, Clone, Copy, PartialEq, Eq, Drop)]
 pub enum Request<'b> {
     /// The target begins with no slash, or there is more than one Authorization field: 400.
     Bad,

@@ -23,7 +23,7 @@ pub(crate) enum Page {
 }
 
 /// Which page a path names. Its parts are as they stand in the path.
-#[derive(Clone, Copy, Debug, Drop)]
+#[derive(Debug, Clone, Copy, PartialEq, Eq, Drop)]
 pub enum Route<'p> {
     /// All lists.
     Lists,

@@ -2,7 +2,7 @@ use Rattle.std.proofs.Common.{rules, arith, ◌≡◌, ◌++◌, ◌∙◌, List
 use Rattle.httparse.specs.Grammar.{HasNoRequest}
 use Rattle.std.proofs.lemmas.List.{append-nil, append_assoc, length-take-le}
 use Rattle.archive_requests.proofs.HeadLemmas.{no_byte, no_line, same_front, same_told}
-use Rattle.archive_requests.proofs.reading.read_head.Goals as goal
+use Rattle.archive_requests.proofs.head_reading.read_head.Goals as goal
 
 pub loop-filled-init : goal.loop-filled-init
 loop-filled-init g c = record {

@@ -1,7 +1,7 @@
 use Rattle.std.proofs.Common.{rules, arith, refl, inl}
 use Rattle.httparse.specs.Grammar.{HasNoRequest}
 use Rattle.archive_requests.proofs.HeadLemmas.{full_none}
-use Rattle.archive_requests.proofs.reading.at_most.Goals as goal
+use Rattle.archive_requests.proofs.head_reading.at_most.Goals as goal
 
 pub returns-in-None : goal.returns-in-None
 returns-in-None c =

@@ -1,7 +1,7 @@
 use Rattle.std.proofs.Common.{rules, arith, ◌≡◌, ◌-◌, length, take}
 use Rattle.std.proofs.lemmas.List.{length-take-le}
 use Rattle.archive_requests.proofs.HeadLemmas.{take_put}
-use Rattle.archive_requests.proofs.reading.read_more.Goals as goal
+use Rattle.archive_requests.proofs.head_reading.read_more.Goals as goal
 
 pub returns-clause-bytes : goal.returns-clause-bytes
 returns-clause-bytes g c =

@@ -1,6 +1,6 @@
 use Rattle.std.proofs.Common.{◌-◌, ◌≡◌, ◌≤◌, ◌++◌, take}
 use Rattle.httparse.specs.Grammar.{HasNoRequest}
-use Rattle.archive_requests.proofs.reading.read_head.Given as goal
+use Rattle.archive_requests.proofs.head_reading.read_head.Given as goal
 
 -- so many bytes came, they are the first of the buffer, and no head is in them
 abbrev pub invariant-loop-filled : goal.invariant-loop-filled

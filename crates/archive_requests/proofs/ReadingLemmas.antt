@@ -1,0 +1,93 @@
+-- From the head that was read to the request.
+use Rattle.std.proofs.Common.{◌≡◌, ◌≤◌, ◌+◌, ◌++◌, ◌⊎◌, ◌∙◌, inl, inr, ℕ, List, [], length, take, refl, sym, ap, subst, arith}
+use Rattle.std.proofs.lemmas.List.{length-take}
+use Rattle.httparse.specs.Grammar.{RequestHead, HasNoRequest}
+use Rattle.httparse.specs.Spans.{IsRequestWithin}
+use Rattle.archive_requests.specs.Asked.{named_request}
+use Rattle.archive_requests.specs.Heads.{BeginsWith, IsHeadAt, IsReadAs, IsFinal}
+use Rattle.archive_requests.specs.Reading.{IsRequestAs, IsSettled}
+use Rattle.archive_requests.specs.Requests.{request_of}
+use Rattle.archive_requests.specs.declared.heads.Head.{Head}
+use Rattle.archive_requests.specs.declared.heads.HeadRead.{HeadRead}
+use Rattle.archive_requests.specs.declared.heads.HeadRead.TheVariants as heads
+use Rattle.archive_requests.specs.declared.requests.Request.{Request}
+use Rattle.archive_requests.specs.declared.reading.RequestRead.{RequestRead}
+use Rattle.archive_requests.specs.declared.reading.RequestRead.TheVariants as requests
+
+-- the request is what the head that was read asks for
+pub data Carries (given : List ℕ) : HeadRead → RequestRead → Type 0 where
+  whole : (head : Head) (request : Request) → ((h : RequestHead) → IsHeadAt given h head → named_request request ≡ request_of h)
+      → Carries given (heads.Whole head) (requests.Whole request)
+  bad : Carries given heads.Bad requests.Malformed
+  large : Carries given heads.TooLarge requests.TooLarge
+
+request_as : (given all : List ℕ) (read : HeadRead) (request : RequestRead) → Carries given read request
+    → IsReadAs given all read → IsRequestAs given all request
+request_as given all _ _ (whole head request says) x = record {
+  head = λ h b. says h (x.head h b);
+  whole = (x.whole.0, x.whole.1, says x.whole.0 x.whole.2);
+  many = λ h e. absurd (let no : heads.Whole head ≡ heads.TooLarge = x.many h e in cc);
+  long = λ l n c. absurd (let no : heads.Whole head ≡ heads.TooLarge = x.long l n c in cc);
+  large = λ e. absurd (let no : requests.Whole request ≡ requests.TooLarge = e in cc);
+}
+request_as given all _ _ bad x = record {
+  head = λ h b. x.head h b;
+  whole = tt;
+  many = λ h e. absurd (let no : heads.Bad ≡ heads.TooLarge = x.many h e in cc);
+  long = λ l n c. absurd (let no : heads.Bad ≡ heads.TooLarge = x.long l n c in cc);
+  large = λ e. absurd (let no : requests.Malformed ≡ requests.TooLarge = e in cc);
+}
+request_as given all _ _ large x = record {
+  head = λ h b. x.head h b;
+  whole = tt;
+  many = λ h e. refl;
+  long = λ l n c. refl;
+  large = λ e. x.large refl;
+}
+
+module _ (before after : List ℕ) (met meets : ℕ) where
+  -- what `read_head` says of its answer
+  abbrev pub Came : List ℕ → HeadRead → Type 0
+  Came buffer read = (given : List ℕ) × (after ≡ before ++ given) × (given ≡ take (length given) buffer)
+      × (((meets ≡ met + 1) × HasNoRequest given × IsReadAs given given read) ⊎ ((meets ≡ met) × IsFinal given read))
+
+  -- what `read_request` says of its answer
+  abbrev pub Asked : RequestRead → Type 0
+  Asked request = (given : List ℕ) × (after ≡ before ++ given)
+      × (((meets ≡ met + 1) × HasNoRequest given × IsRequestAs given given request) ⊎ ((meets ≡ met) × IsSettled given request))
+
+  -- the head that was read
+  pub came_whole : (buffer : List ℕ) (head : Head) (c : Came buffer (heads.Whole head))
+      → (h : RequestHead) × BeginsWith c.0 h × IsHeadAt c.0 h head
+  came_whole buffer head c =
+      elim c.3 [
+        | inl ended ↦ ended.2.whole
+        | inr settled ↦ (settled.1 []).whole
+      ]
+
+  -- the bytes that came are the front of the buffer
+  pub came_front : (buffer : List ℕ) (head : Head) (c : Came buffer (heads.Whole head)) → take head.filled buffer ≡ c.0
+  came_front buffer head c = ap (λ n. take n buffer) (came_whole buffer head c).2.filled ∙ sym c.2
+
+  pub came_fits : (buffer : List ℕ) (head : Head) → Came buffer (heads.Whole head) → head.filled ≤ length buffer
+  came_fits buffer head c =
+      let size = ap length c.2 ∙ length-take (length c.0) buffer in
+      let filled = (came_whole buffer head c).2.filled in
+      omega (arith, size, filled)
+
+  pub came_within : (buffer : List ℕ) (head : Head) → Came buffer (heads.Whole head)
+      → IsRequestWithin (take head.filled buffer) head.fields head.spans
+  came_within buffer head c =
+      subst (λ bytes. IsRequestWithin bytes head.fields head.spans) (sym (came_front buffer head c)) (came_whole buffer head c).2.within
+
+  pub asked : (buffer : List ℕ) (read : HeadRead) (request : RequestRead) (c : Came buffer read) → Carries c.0 read request → Asked request
+  asked buffer read request c carries =
+      elim c.3 [
+        | inl ended ↦ (c.0, c.1, inl (ended.0, ended.1, request_as c.0 c.0 read request carries ended.2))
+        | inr settled ↦ (c.0, c.1, inr (settled.0, λ more. request_as c.0 (c.0 ++ more) read request carries (settled.1 more)))
+      ]
+
+  pub asked_whole : (buffer : List ℕ) (head : Head) (request : Request) (c : Came buffer (heads.Whole head))
+      → ((h : RequestHead) → IsHeadAt (take head.filled buffer) h head → named_request request ≡ request_of h) → Asked (requests.Whole request)
+  asked_whole buffer head request c says =
+      asked buffer (heads.Whole head) (requests.Whole request) c (whole head request (rw (came_front buffer head c) at says))
