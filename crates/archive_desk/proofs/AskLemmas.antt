@@ -18,7 +18,7 @@ use Rattle.archive_store.specs.Told.{Goes, GoesIfOpen, Asks}
 use Rattle.archive_store.specs.declared.store.Store.{Store}
 use Rattle.archive_store.specs.declared.faults.StoreFault.{StoreFault}
 use Rattle.archive_store.specs.declared.faults.StoreFault.TheVariants.{BadName, BadText, ListExists, NoList, PersonExists, NoPerson, TokenTaken, NoMessage, AlreadyWithdrawn, NotWithdrawn, BadDays, ListFull, TooLarge, Memory, Store as Failed}
-use Rattle.archive_store.proofs.Joins.{goes_as, goes_as_if_open}
+use Rattle.archive_store.proofs.Joins.{goes_as}
 use Rattle.archive_results.specs.Access.{Ask, Refusal, no_list, no_person, is_shown, reader_standing, standing_ranked, view_of}
 use Rattle.archive_results.specs.Access.{Asked, asked_on, asked_of}
 use Rattle.archive_desk.specs.Asking.{standing_reason}
@@ -183,13 +183,6 @@ pub viewed : (a : Archive) (ask : Ask) (standing : Standing) (found kept : List 
 viewed a ask standing found kept all is e = ap (map (remembered ask.list)) e ∙ map_kept (remembered ask.list) (is_shown ask standing) found
     ∙ ap (filter (is_shown ask standing)) all ∙ ap (λ s. filter (is_shown ask s) (messages_in a ask.list)) is
 
--- ---- one message
-
-pub asked_is : (a : Archive) (ask : Ask) (key : List ℕ) (standing : Standing) (found : Option Message) (answer : Asked)
-    → option_map (remembered ask.list) found ≡ message_of a ask.list key → standing ≡ reader_standing a ask
-    → answer ≡ asked_on ask standing (option_map (remembered ask.list) found) → answer ≡ asked_of a ask key
-asked_is a ask key standing found answer held is e = e ∙ ap (asked_on ask standing) held ∙ ap (λ s. asked_on ask s (message_of a ask.list key)) is
-
 -- ---- the calls
 
 module _ {S : Type 0} (g : Ghosts S) (old new : Store S) (ask : Ask) (standing : Standing) where
@@ -202,11 +195,29 @@ module _ {S : Type 0} (g : Ghosts S) (old new : Store S) (ask : Ask) (standing :
       (λ a b. (b ≡ a) × (ask_reason a ask ≡ None) × (map (remembered ask.list) kept ≡ view_of a ask))
       (λ a b h. (h.0, h.1, viewed a ask standing found kept h.2.0 h.2.1 is)) goes
 
-  pub message_found : (key : List ℕ) (found : Option Message) (answer : Asked)
-      → Goes g old new (λ a b. (b ≡ a) × (ask_reason a ask ≡ None) × ((option_map (remembered ask.list) found ≡ message_of a ask.list key) × (standing ≡ reader_standing a ask)))
-      → answer ≡ asked_on ask standing (option_map (remembered ask.list) found)
-      → Goes g old new (λ a b. (b ≡ a) × (ask_reason a ask ≡ None) × (answer ≡ asked_of a ask key))
-  message_found key found answer goes is =
-      goes_as g old new (λ a b. (b ≡ a) × (ask_reason a ask ≡ None) × ((option_map (remembered ask.list) found ≡ message_of a ask.list key) × (standing ≡ reader_standing a ask)))
-      (λ a b. (b ≡ a) × (ask_reason a ask ≡ None) × (answer ≡ asked_of a ask key))
-      (λ a b h. (h.0, h.1, asked_is a ask key standing found answer h.2.0 h.2.1 is)) goes
+module _ {S : Type 0} (g : Ghosts S) (ask : Ask) where
+  -- what is said of a message that the list holds
+  pub answer_told : (old new : Store S) (standing : Standing) (held : Option Remembered) (answer : Asked)
+      → Goes g old new (λ a b. (b ≡ a) × (standing_reason a ask ≡ None) × (standing ≡ reader_standing a ask)) → answer ≡ asked_on ask standing held
+      → Goes g old new (λ a b. (b ≡ a) × (standing_reason a ask ≡ None) × (answer ≡ asked_on ask (reader_standing a ask) held))
+  answer_told old new standing held answer goes is =
+      goes_as g old new (λ a b. (b ≡ a) × (standing_reason a ask ≡ None) × (standing ≡ reader_standing a ask))
+      (λ a b. (b ≡ a) × (standing_reason a ask ≡ None) × (answer ≡ asked_on ask (reader_standing a ask) held))
+      (λ a b h. (h.0, h.1, is ∙ ap (λ s. asked_on ask s held) h.2)) goes
+
+  pub answer_after : (old mid new : Store S) {X : Type 0} (say : X → Asked) (key : List ℕ) (held : Option Remembered) (result : Result X DeskFault)
+      → Goes g old mid (λ a b. (b ≡ a) × (option_map reason_by (list_refusal a ask.list) ≡ None) × (held ≡ message_of a ask.list key))
+      → Asks g mid new reason result (λ a. standing_reason a ask) (λ a answer. say answer ≡ asked_on ask (reader_standing a ask) held)
+      → Asks g old new reason result (λ a. ask_reason a ask) (λ a answer. say answer ≡ asked_of a ask key)
+  answer_after old mid new say key held result before asks =
+      calls_after g old mid new reason (λ a b. (b ≡ a) × (option_map reason_by (list_refusal a ask.list) ≡ None) × (held ≡ message_of a ask.list key))
+      (λ a b answer. (b ≡ a) × (standing_reason a ask ≡ None) × (say answer ≡ asked_on ask (reader_standing a ask) held))
+      (λ a b answer. (b ≡ a) × (ask_reason a ask ≡ None) × (say answer ≡ asked_of a ask key))
+      (λ a b why. (b ≡ a) × (standing_reason a ask ≡ Some why)) (λ a b why. (b ≡ a) × (ask_reason a ask ≡ Some why)) (λ a b _. b ≡ a) (λ a b _. b ≡ a)
+      (λ a b c answer first it. (
+        it.0 ∙ first.0,
+        by_reader_alone a ask first.1 ∙ subst (λ x. standing_reason x ask ≡ None) first.0 it.1,
+        subst (λ x. say answer ≡ asked_on ask (reader_standing x ask) held) first.0 it.2 ∙ ap (asked_on ask (reader_standing a ask)) first.2,
+      ))
+      (λ a b c why first it. (it.0 ∙ first.0, by_reader_alone a ask first.1 ∙ subst (λ x. standing_reason x ask ≡ Some why) first.0 it.1))
+      (λ a b c fault first it. it ∙ first.0) result before asks

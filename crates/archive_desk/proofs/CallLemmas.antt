@@ -1,6 +1,6 @@
 -- Calls that follow one another, whatever they answer.
 use Rattle.std.proofs.Common.{◌≡◌, refl, Option, Some, None, Result, Ok, Err}
-use Rattle.std.specs.Prelude.{MatchResult, MatchOption}
+use Rattle.std.specs.Prelude.{MatchOption}
 use Rattle.sqlite.specs.Store.{Ghosts}
 use Rattle.archive_machine.specs.Records.{Archive}
 use Rattle.archive_machine.specs.Commands.{Refusal}
@@ -10,7 +10,7 @@ use Rattle.archive_store.specs.declared.store.Store.{Store}
 use Rattle.archive_store.specs.declared.faults.StoreFault.{StoreFault}
 use Rattle.archive_store.specs.Replies.{refusal, Answers}
 use Rattle.archive_store.specs.Told.{Goes, GoesIfOpen, Calls, Asks}
-use Rattle.archive_store.proofs.Joins.{asked, ask_refused, ask_failed, goes_on, goes_on_if_open, goes_as, goes_as_if_open, stays_there}
+use Rattle.archive_store.proofs.Joins.{asked, ask_refused, ask_failed, goes_on, goes_on_if_open, goes_as, goes_as_if_open}
 
 module _ {S : Type 0} (g : Ghosts S) where
   -- a question of the store, in the words for the layers above

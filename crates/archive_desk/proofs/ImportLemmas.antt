@@ -1,19 +1,16 @@
 -- What an import says, from what its calls say.
-use Rattle.std.proofs.Common.{◌≡◌, refl, sym, ap, ◌∙◌, subst, inl, inr, ℕ, Bool, true, false, not, cond, List, take, Option, Some, None, Result, Ok, Err}
+use Rattle.std.proofs.Common.{◌≡◌, refl, sym, ◌∙◌, subst, inl, inr, ℕ, Bool, true, false, not, cond, List, Option, Some, None, Result, Err}
 use Rattle.std.specs.Prelude.{MatchOption, option_map}
 use Rattle.sqlite.specs.Store.{Ghosts}
 use Rattle.mbox_core.specs.Division.{Item, Divides}
-use Rattle.mbox_core.specs.declared.faults.MboxFault.{MboxFault}
 use Rattle.mbox_core.specs.declared.faults.MboxFault.TheVariants.{Preamble, Read, Memory}
 use Rattle.archive_machine.specs.Records.{Archive}
 use Rattle.archive_machine.specs.Commands.{Refusal, no_list, bad_name, bad_text, list_exists, person_exists, no_person, token_taken, no_message, already_withdrawn, not_withdrawn, bad_days, list_full, too_large}
 use Rattle.archive_machine.specs.Questions.{has_list, list_refusal}
-use Rattle.archive_store.specs.Batches.{IsRefusedAt}
 use Rattle.archive_store.specs.Replies.{refusal}
 use Rattle.archive_store.specs.Told.{Goes, GoesIfOpen, Calls}
 use Rattle.archive_store.specs.declared.store.Store.{Store}
 use Rattle.archive_store.specs.declared.faults.StoreFault.{StoreFault}
-use Rattle.archive_store.specs.declared.faults.StoreFault.TheVariants.{Memory as NoMemory}
 use Rattle.archive_store.proofs.Joins.{goes_as, goes_as_if_open}
 use Rattle.archive_desk.proofs.CallLemmas.{calls_after}
 use Rattle.archive_desk.specs.Importing.{Cause, no_mbox, not_taken, stop_reason, IsCutStop, HasAdded, IsImported, IsRefusedAdd, IsRefusedImport, IsBrokenAdd, IsBrokenImport}

@@ -1,3 +1,5 @@
 pub mod CallLemmas
 pub mod ImportLemmas
 pub mod AskLemmas
+pub mod WriteLemmas
+pub mod ExportLemmas

@@ -1,10 +1,10 @@
 -- Why a question is not answered.
 use Rattle.std.specs.Prelude.{Option, Some, None, option_map}
 use Rattle.archive_machine.specs.Records.{Archive}
-use Rattle.archive_machine.specs.Commands.{Refusal as Declined, bad_name, bad_text, list_exists, no_list as unknown_list, person_exists, no_person as unknown_person, token_taken, no_message, already_withdrawn, not_withdrawn, bad_days, list_full, too_large}
+use Rattle.archive_machine.specs.Commands.{Refusal as Declined, no_list as unknown_list, no_person as unknown_person}
 use Rattle.archive_store.specs.Replies.{refusal}
 use Rattle.archive_store.specs.declared.faults.StoreFault.{StoreFault}
-use Rattle.archive_store.specs.declared.faults.StoreFault.TheVariants.{BadName, BadText, ListExists, NoList as UnknownList, PersonExists, NoPerson as UnknownPerson, TokenTaken, NoMessage, AlreadyWithdrawn, NotWithdrawn, BadDays, ListFull, TooLarge, Memory as NoMemory, Store as Failed}
+use Rattle.archive_store.specs.declared.faults.StoreFault.TheVariants.{NoList as UnknownList, NoPerson as UnknownPerson}
 use Rattle.archive_results.specs.Access.{Ask, Refusal, no_list, no_person, ask_refusal}
 use Rattle.archive_desk.specs.declared.faults.DeskFault.{DeskFault}
 use Rattle.archive_desk.specs.declared.faults.DeskFault.TheVariants.{NoList, NoPerson, NotInView, Store, Memory, Write}

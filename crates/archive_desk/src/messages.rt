@@ -1,18 +1,18 @@
 //! One message, asked for by its key.
-ghost use Rattle.std.specs.Prelude.{◌≡◌, IfErr, IfOk, option_map};
+ghost use Rattle.std.specs.Prelude.{◌≡◌, IfErr, option_map};
 ghost use Rattle.archive_machine.specs.Questions.{list_refusal, message_of};
 ghost use Rattle.archive_machine.specs.Messages.{remembered};
-ghost use Rattle.archive_results.specs.Access.{asked_of, asked_on, told};
+ghost use Rattle.archive_results.specs.Access.{asked_of, asked_on, reader_standing, told};
 ghost use Rattle.archive_store.specs.Told.{Asks};
+ghost use Rattle.archive_desk.specs.Asking.{standing_reason};
 ghost use Rattle.archive_desk.specs.Faults.{IsAskFault, ask_reason, reason, reason_by};
 
 use crate::faults::DeskFault;
-use crate::viewing::{find_standing, rule_on};
-use archive_results::{Ask, Asked};
+use crate::viewing::find_standing;
+use archive_results::{Ask, Asked, asked};
 use archive_store::{Key, Message, Store};
-use policy_core::{Standing, Verdict};
 use sqlite::Alter;
-use std::alloc::{AllocError, Global};
+use std::alloc::Global;
 
 /// The message of a key, as far as the policy lets the reader see it on the day: it never reads the list. G1 where there is
 /// no such list, G2 where there is no such person.
@@ -26,12 +26,8 @@ pub fn message<'p, S: Alter>(
         (λ a answer. told answer ≡ asked_of a ask.entry.now key.now) }
     ensures fault { IfErr result (λ fault. IsAskFault fault) }
 {
-    let held = find_row(store, ask, key)?;
-    match find_standing(store, ask) {
-        Ok(standing) => match asked(alloc, ask, standing, &held) {
-            Ok(answer) => Ok(answer),
-            Err(_) => Err(DeskFault::Memory),
-        },
+    match find_row(store, ask, key) {
+        Ok(held) => answer_on(store, alloc, ask, &held),
         Err(fault) => Err(fault),
     }
 }
@@ -49,20 +45,20 @@ fn find_row<S: Alter>(
     Ok(store.row(ask.list, key)?)
 }
 
-/// What a reader of this standing gets who asks for a message that the list holds, or for one that it does not hold.
-fn asked<'p>(
+/// What the reader gets of a message that the list holds, or of one that it does not hold.
+fn answer_on<'p, S: Alter>(
+    store: &mut Store<S>,
     alloc: Global,
     ask: &Ask<'p>,
-    standing: Standing,
     held: &Option<Message>,
-) -> Result<Asked<'p>, AllocError>
-    ensures { IfOk result (λ answer. told answer ≡ asked_on ask.entry.now standing (option_map (remembered ask.entry.now.list) held.now)) }
+) -> Result<Asked<'p>, DeskFault>
+    ensures asked { Asks S.Store store.old store.new reason result (λ a. standing_reason a ask.entry.now)
+        (λ a answer. told answer ≡ asked_on ask.entry.now (reader_standing a ask.entry.now) (option_map (remembered ask.entry.now.list) held.now)) }
+    ensures fault { IfErr result (λ fault. IsAskFault fault) }
 {
-    let Some(message) = held else {
-        return Ok(Asked::Absent);
-    };
-    match rule_on(ask, standing, message) {
-        Verdict::Allowed(_) => Ok(Asked::Served(message.item.as_item().text.to_vec(alloc)?)),
-        Verdict::Denied(rule) => Ok(Asked::Denied(rule)),
+    let standing = find_standing(store, ask)?;
+    match asked(alloc, ask, standing, held) {
+        Ok(answer) => Ok(answer),
+        Err(_) => Err(DeskFault::Memory),
     }
 }

@@ -1,17 +1,16 @@
 //! The view: the one place where the policy is applied.
 ghost use Rattle.std.specs.Prelude.{◌≡◌, map, filter, option_map, IfErr};
-ghost use Rattle.policy_core.specs.Verdict.{ruling};
 ghost use Rattle.archive_machine.specs.Questions.{list_refusal, messages_in};
 ghost use Rattle.archive_machine.specs.Messages.{remembered};
-ghost use Rattle.archive_results.specs.Access.{facts_of, is_shown, marks_of, reader_standing, ruling_on, view_of};
+ghost use Rattle.archive_results.specs.Access.{is_shown, reader_standing, view_of};
 ghost use Rattle.archive_store.specs.Told.{Asks};
 ghost use Rattle.archive_desk.specs.Asking.{standing_reason};
 ghost use Rattle.archive_desk.specs.Faults.{IsAskFault, ask_reason, reason, reason_by};
 
 use crate::faults::DeskFault;
-use archive_results::{Ask, Reader};
+use archive_results::{Ask, Reader, is_shown};
 use archive_store::{Message, Store};
-use policy_core::{Facts, Standing, Verdict};
+use policy_core::Standing;
 use sqlite::Alter;
 use std::alloc::Global;
 
@@ -50,7 +49,10 @@ fn read_list<S: Alter>(
 }
 
 /// The reader's standing on the list and the day: nobody is the public.
-pub(crate) fn find_standing<S: Alter>(store: &mut Store<S>, ask: &Ask<'_>) -> Result<Standing, DeskFault>
+pub(crate) fn find_standing<S: Alter>(
+    store: &mut Store<S>,
+    ask: &Ask<'_>,
+) -> Result<Standing, DeskFault>
     ensures found { Asks S.Store store.old store.new reason result (λ a. standing_reason a ask.now)
         (λ a standing. standing ≡ reader_standing a ask.now) }
     ensures fault { IfErr result (λ fault. IsAskFault fault) }
@@ -66,35 +68,4 @@ fn keep_shown(ask: &Ask<'_>, standing: Standing, messages: &mut Vec<Message>)
     ensures { messages.new.items ≡ filter (λ m. is_shown ask.now standing (remembered ask.now.list m)) messages.old.items }
 {
     messages.retain(|message| is_shown(ask, standing, message));
-}
-
-fn is_shown(ask: &Ask<'_>, standing: Standing, message: &Message) -> bool
-    ensures { result ≡ is_shown ask.now standing (remembered ask.now.list message.now) }
-{
-    match rule_on(ask, standing, message) {
-        Verdict::Allowed(_) => true,
-        Verdict::Denied(_) => false,
-    }
-}
-
-/// What the policy says of a message to a reader of this standing. Nothing else asks a policy.
-pub(crate) fn rule_on<'p>(ask: &Ask<'p>, standing: Standing, message: &Message) -> Verdict<'p>
-    ensures { ruling result ≡ ruling_on ask.entry.now standing (marks_of (remembered ask.entry.now.list message.now)) }
-{
-    let policy = ask.policy;
-    policy.verdict(&facts_of(ask, standing, message))
-}
-
-/// What the policy is asked about a message.
-fn facts_of<'a>(ask: &Ask<'a>, standing: Standing, message: &Message) -> Facts<'a>
-    ensures { result ≡ facts_of ask.entry.now standing (marks_of (remembered ask.entry.now.list message.now)) }
-{
-    Facts {
-        list: ask.list,
-        standing,
-        day: ask.day,
-        arrival_day: message.item.as_item().envelope.arrival.day(),
-        withdrawn: message.withdrawn,
-        embargo_until: message.embargo_until,
-    }
 }

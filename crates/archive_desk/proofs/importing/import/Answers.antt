@@ -1,4 +1,4 @@
-use Rattle.std.proofs.Common.{◌≡◌, sym, subst}
+use Rattle.std.proofs.Common.{sym, subst}
 use Rattle.mbox_core.specs.Division.{Divides}
 use Rattle.archive_desk.proofs.ImportLemmas.{import_after, not_cut}
 use Rattle.archive_desk.proofs.importing.import.Goals as goal

@@ -1,0 +1,91 @@
+//! The worked cases for any store, and the stores that are told them.
+use crate::{exports, imports, messages};
+use archive_results::{Ask, Reader};
+use archive_store::Store;
+use mail_core::Day;
+use policy_core::Policy;
+use sqlite::{Alter, Connection, Files, Options};
+use sqlite_disk::Memory;
+use std::alloc::Global;
+use std::process::Abort;
+use std::test::Fail;
+
+/// Two messages, the second an answer to the first.
+pub const TWO: &[u8] = b"From anna@example.org Tue Mar  4 10:00:00 2003\nFrom: Anna <anna@example.org>\nSubject: Hello\n\nOne.\n\nFrom bob@example.org Wed Mar 12 10:30:00 2003\nSubject: Re: Hello\n\nTwo.\n\n";
+
+/// What the public may not see: a message that was withdrawn.
+pub const WITHDRAWN: &str = "
+[[rule]]
+name = \"withdrawn\"
+effect = \"deny\"
+standings = [\"public\"]
+withdrawn = [\"author\", \"board\"]
+
+[[rule]]
+name = \"all\"
+effect = \"allow\"
+";
+
+/// The day of a text.
+pub fn day(text: &str) -> Result<Day, Fail> {
+    Ok(Day::read(text.as_bytes()).ok_or("a day")?)
+}
+
+/// Nobody's question on the list `soc` on 20 March 2003.
+pub fn by_nobody<'a>(policy: &'a Policy) -> Result<Ask<'a>, Fail> {
+    Ok(Ask {
+        policy,
+        reader: Reader::Nobody,
+        list: "soc",
+        day: day("2003-03-20")?,
+    })
+}
+
+/// What a store is told and asked.
+#[derive(Clone, Copy, Debug, PartialEq, Eq)]
+pub enum Case {
+    Imports,
+    Messages,
+    Exports,
+}
+
+/// Tells an empty store a case.
+fn tell<S: Alter>(
+    rt: &impl Abort,
+    alloc: Global,
+    store: &mut Store<S>,
+    case: Case,
+) -> Result<(), Fail> {
+    match case {
+        Case::Imports => imports::imports(rt, alloc, store),
+        Case::Messages => messages::messages(rt, alloc, store),
+        Case::Exports => exports::exports(rt, alloc, store),
+    }
+}
+
+#[test]
+fn stores_over_memory(rt: HostRuntime) -> Result<(), Fail> {
+    for case in [Case::Imports, Case::Messages, Case::Exports] {
+        let mut store = Store::open_in_memory(rt.alloc())?;
+        tell(&rt, rt.alloc(), &mut store, case)?;
+    }
+    Ok(())
+}
+
+#[test]
+fn a_store_over_a_file(rt: HostRuntime) -> Result<(), Fail> {
+    let files = Files {
+        log: Memory::new(rt.alloc()),
+        db: Memory::new(rt.alloc()),
+    };
+    if !files.may_be_used() {
+        return Err(Fail::from("files that may be used"));
+    }
+    let Ok(connection) = Connection::open_files(rt.alloc(), files, Options::new(1)) else {
+        return Err(Fail::from("an open file"));
+    };
+    let Ok(mut store) = Store::adopt(connection) else {
+        return Err(Fail::from("a store"));
+    };
+    tell(&rt, rt.alloc(), &mut store, Case::Imports)
+}

@@ -1,0 +1,80 @@
+//! Files that are taken into a list.
+use crate::cases::TWO;
+use archive_desk::{ImportFault, ImportStop, Report, import};
+use archive_store::{Key, Store, StoreFault};
+use mbox_core::{MboxFault, cut};
+use sqlite::Alter;
+use std::alloc::Global;
+use std::process::Abort;
+use std::test::Fail;
+
+/// The second of the two messages under another separator line, and a third.
+const OVERLAPPING: &[u8] = b"From eve@example.org Thu Mar 13 10:30:00 2003\nSubject: Re: Hello\n\nTwo.\n\nFrom carl@example.org Fri Mar 14 10:30:00 2003\n\nThree.\n";
+
+/// A line that is no separator line stands first, at offset 1.
+const BROKEN: &[u8] = b"\nhi\nFrom anna@example.org Tue Mar  4 10:00:00 2003\n\nOne.\n";
+
+fn counted(new: u64, known: u64, too_large: u64) -> Result<Report, ImportStop> {
+    Ok(Report {
+        new,
+        known,
+        too_large,
+    })
+}
+
+fn stopped(fault: ImportFault) -> Result<Report, ImportStop> {
+    Err(ImportStop { done: 0, fault })
+}
+
+/// Imports that follow one another on an empty archive.
+pub fn imports<S: Alter>(rt: &impl Abort, alloc: Global, store: &mut Store<S>) -> Result<(), Fail> {
+    store.list_add("soc")?;
+    let no_list = stopped(ImportFault::Store(StoreFault::NoList));
+    let no_mbox = stopped(ImportFault::Mbox(MboxFault::Preamble(1)));
+    for (list, mbox, wanted) in [
+        ("soc", b"".as_slice(), counted(0, 0, 0)),
+        ("soc", b"\n\n".as_slice(), counted(0, 0, 0)),
+        ("soc", TWO, counted(2, 0, 0)),
+        ("soc", TWO, counted(0, 2, 0)),
+        ("soc", OVERLAPPING, counted(1, 1, 0)),
+        ("soc", BROKEN, no_mbox),
+        ("xyz", TWO, no_list),
+        ("xyz", BROKEN, no_list),
+    ] {
+        assert_eq!(rt; import(store, alloc, list, mbox), wanted);
+    }
+    holds_three(rt, alloc, store)?;
+    large(rt, alloc, store)
+}
+
+/// The list holds the first, the second and the third message, the second as it came first.
+fn holds_three<S: Alter>(rt: &impl Abort, alloc: Global, store: &mut Store<S>) -> Result<(), Fail> {
+    let rows = store.rows(alloc, "soc")?;
+    let [first, second, third] = rows.as_slice() else {
+        return Err(Fail::from("three messages"));
+    };
+    for (message, text) in [
+        (first, b"From: Anna <anna@example.org>\nSubject: Hello\n\nOne.\n".as_slice()),
+        (second, b"Subject: Re: Hello\n\nTwo.\n".as_slice()),
+        (third, b"\nThree.\n".as_slice()),
+    ] {
+        assert_eq!(rt; message.item.as_item().text, text);
+    }
+    let came = cut(TWO)?.nth(1).ok_or("a second message")?;
+    assert_eq!(rt; second.item.as_item().envelope, came.envelope);
+    assert!(rt; second.key == Key::of(&came));
+    Ok(())
+}
+
+/// A whole text of 4,194,304 bytes is kept, one byte more is too large, and the import goes on behind it.
+fn large<S: Alter>(rt: &impl Abort, alloc: Global, store: &mut Store<S>) -> Result<(), Fail> {
+    let mut mbox = Vec::new(alloc);
+    for extra in [0, 1] {
+        mbox.extend_from_slice(b"From a@b Tue Mar  4 10:00:00 2003\n")?;
+        mbox.resize(mbox.len() + 4_194_303 + extra, b'x')?;
+        mbox.extend_from_slice(b"\n\n")?;
+    }
+    mbox.extend_from_slice(b"From a@b Tue Mar  4 10:00:00 2003\nsmall\n")?;
+    assert_eq!(rt; import(store, alloc, "soc", &mbox), counted(2, 0, 1));
+    Ok(())
+}
