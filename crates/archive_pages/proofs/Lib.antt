@@ -4,3 +4,5 @@ mod LawLemmas
 mod AccessLaws
 pub mod ServingLemmas
 mod HeadReading
+mod DeskLemmas
+pub mod AnswerExamples

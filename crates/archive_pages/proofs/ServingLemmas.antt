@@ -76,3 +76,13 @@ module _ {S : Type 0} (g : Ghosts S) where
     serves_after old mid new P Says Says' first says (inr (second, sent)) =
         inr (goes_as_if_open g old new (λ a c. (b : Archive) × ((b ≡ a) × P a) × (c ≡ b)) (λ a c. c ≡ a) (λ a c (b, h, k). k ∙ h.0)
         (goes_on_if_open g old mid new (λ a b. (b ≡ a) × P a) (λ b c. c ≡ b) first second), sent)
+
+    -- what was found, or 503
+    pub serves_either : (old new : Store S) {A F : Type 0} (search_result : Result A F) (made : A → Reply) (Holds : Archive → A → Type 0) (Says : Archive → Reply → Type 0)
+        → MatchResult search_result (λ x. Goes g old new (λ a b. (b ≡ a) × Holds a x)) (λ _. GoesIfOpen g old new (λ a b. b ≡ a))
+        → ((a : Archive) (x : A) → Holds a x → Says a (made x))
+        → MatchResult search_result (λ x. Sends written (Is (made x)) before after result) (λ _. Sends written (λ r. r ≡ unavailable) before after result)
+        → Serves g old new written Says before after result
+    serves_either old new (Ok x) made Holds Says goes says sent =
+        serves_found old new (made x) Says (goes_as g old new (λ a b. (b ≡ a) × Holds a x) (λ a b. (b ≡ a) × Says a (made x)) (λ a b h. (h.0, says a x h.1)) goes) sent
+    serves_either old new (Err e) made Holds Says goes says sent = serves_none old new Says goes sent

@@ -2,16 +2,14 @@
 ghost use Rattle.std.specs.Prelude.{◌≡◌, ◌<◌, ◌++◌, ℕ, List, OnOk, OnErr, IfErr};
 ghost use Rattle.httparse.specs.Grammar.{HasNoRequest};
 ghost use Rattle.archive_store.specs.Told.{Goes};
-ghost use Rattle.archive_requests.specs.Asked.{named_request};
 ghost use Rattle.archive_requests.specs.Reading.{IsRequestAs};
-ghost use Rattle.archive_pages.specs.Answers.{request_reply};
 ghost use Rattle.archive_pages.specs.Answered.{ByOutcome, IsAnswered, Reads, written_of};
-ghost use Rattle.archive_pages.specs.Serving.{Serves};
 
 use crate::faults::ServeFault;
+use crate::paths::answer_request;
 use crate::replies::Failure;
 use crate::writing::write_failure;
-use archive_requests::{MOST_BYTES, Request, RequestRead, read_request};
+use archive_requests::{MOST_BYTES, RequestRead, read_request};
 use archive_store::Store;
 use http::StatusCode;
 use mail_core::Day;
@@ -19,22 +17,6 @@ use mbox_core::device::{Sink, Source, WriteFault};
 use policy_core::Policy;
 use sqlite::Alter;
 use std::alloc::Global;
-
-/// Answers what a request asks for.
-fn answer_request<S: Alter, W: Sink>(
-    store: &mut Store<S>,
-    alloc: Global,
-    policy: &Policy,
-    day: Day,
-    request: &Request<'_>,
-    output: &mut W,
-) -> Result<StatusCode, WriteFault>
-    ensures sent { Serves S.Store store.old store.new (λ e. e.written) (λ a reply. reply ≡ request_reply a policy.now day (named_request request.now)) (W.told output.old) (W.told output.new) result }
-    ensures quiet { OnOk result (W.failures output.new ≡ W.failures output.old) }
-    ensures cause { OnErr result (W.failures output.old < W.failures output.new) }
-{
-    write_failure(output, Failure::Unavailable)
-}
 
 /// Answers what was read of a request.
 fn answer_read<S: Alter, W: Sink>(

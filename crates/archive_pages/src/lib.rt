@@ -5,7 +5,9 @@ pub mod laws;
 mod answering;
 mod faults;
 mod finding;
+mod paths;
 mod replies;
+mod routing;
 mod writing;
 
 pub use answering::answer;
