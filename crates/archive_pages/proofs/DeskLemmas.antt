@@ -1,0 +1,83 @@
+-- What the answers of the desk say of a reply.
+use Rattle.std.proofs.Common.{◌≡◌, ◌∙◌, ◌++◌, ◌-◌, ◌^◌, inl, inr, ℕ, List, Bool, true, false, not, cond, min, Option, Some, None, Result, Ok, Err, MatchOption, length, refl, sym, ap, subst, codes}
+use Rattle.std.specs.Prelude.{option_map, if◌then◌else◌}
+use Rattle.std.specs.Option.{option_map_or}
+use Rattle.std.specs.Fmt.{digits}
+use Rattle.sqlite.specs.Store.{Ghosts}
+use Rattle.mbox_core.specs.Written.{IsCutShort}
+use Rattle.mbox_core.specs.declared.device.writing.WriteFault.{WriteFault}
+use Rattle.archive_machine.specs.Records.{Archive}
+use Rattle.archive_machine.specs.Questions.{has_list, has_person}
+use Rattle.archive_results.specs.Access.{Ask, Refusal, no_list, no_person, ask_refusal}
+use Rattle.archive_results.specs.Results.{export_text}
+use Rattle.archive_store.specs.Told.{Goes, GoesIfOpen}
+use Rattle.archive_store.specs.declared.store.Store.{Store}
+use Rattle.archive_store.proofs.Joins.{goes_as}
+use Rattle.archive_desk.specs.Exporting.{IsExportRefused, exported, stop_reason}
+use Rattle.archive_desk.specs.declared.exporting.ExportStop.{ExportStop}
+use Rattle.archive_desk.specs.Faults.{Reason, refused, not_written, ask_reason}
+use Rattle.archive_pages.specs.Replies.{Reply, Sends, head_bytes, mbox_reply, not_found, unavailable}
+use Rattle.archive_pages.specs.Answers.{listed_reply, shown_view}
+use Rattle.archive_pages.specs.Serving.{Serves}
+use Rattle.archive_pages.proofs.ServingLemmas.{if_open}
+
+-- ---- G1
+
+abbrev refusal_by : (listed unknown : Bool) → Option Reason
+refusal_by listed unknown = option_map refused (if not listed then Some no_list else if unknown then Some no_person else None)
+
+listed_by : (listed unknown : Bool) → refusal_by listed unknown ≡ None → listed ≡ true
+listed_by true unknown is = refl
+listed_by false unknown is = absurd (cc)
+
+pub on_listed : (a : Archive) (ask : Ask) (made : Reply) → ask_reason a ask ≡ None → listed_reply a ask.list made ≡ made
+on_listed a ask made is = ap (λ b. cond b made not_found)
+    (listed_by (has_list a ask.list) (option_map_or (λ person. not (has_person a person)) ask.reader false) is)
+
+-- ---- a fault that is answered by 503
+
+module _ {S : Type 0} (g : Ghosts S) (old new : Store S) where
+  pub stops : {R : Type 0} (o : Option R) (Refuses : Archive → R → Type 0)
+      → MatchOption o (GoesIfOpen g old new (λ a b. b ≡ a)) (λ why. Goes g old new (λ a b. (b ≡ a) × Refuses a why)) → GoesIfOpen g old new (λ a b. b ≡ a)
+  stops None Refuses said = said
+  stops (Some why) Refuses said =
+      if_open g old new (λ a b. b ≡ a) (goes_as g old new (λ a b. (b ≡ a) × Refuses a why) (λ a b. b ≡ a) (λ a b h. h.0) said)
+
+-- ---- an mbox
+
+abbrev mbox_head : List ℕ
+mbox_head = codes "HTTP/1.1 200 OK\r\nContent-Type: application/mbox\r\nConnection: close\r\n\r\n"
+
+mbox_head_is : (text : List ℕ) → mbox_head ≡ head_bytes (mbox_reply text)
+unfolding digits head_bytes
+mbox_head_is text = refl
+
+abbrev MboxReply : Ask → Archive → Reply → Type 0
+MboxReply ask a reply = reply ≡ listed_reply a ask.list (mbox_reply (export_text (shown_view a ask)))
+
+module _ {S : Type 0} (g : Ghosts S) (old new : Store S) (ask : Ask) (before after : List ℕ) where
+  pub exported_whole : (count : ℕ) → Goes g old new (λ a b. (b ≡ a) × (ask_reason a ask ≡ None) × (after ≡ before ++ (mbox_head ++ exported a ask))
+      × (count ≡ min (length (mbox_head ++ exported a ask)) (2 ^ 64 - 1)))
+      → Serves g old new {E = WriteFault} (λ e. e.written) (MboxReply ask) before after (Ok 200)
+  exported_whole count goes = inl (goes_as g old new (λ a b. (b ≡ a) × (ask_reason a ask ≡ None) × (after ≡ before ++ (mbox_head ++ exported a ask))
+      × (count ≡ min (length (mbox_head ++ exported a ask)) (2 ^ 64 - 1)))
+      (λ a b. (b ≡ a) × Sends {E = WriteFault} (λ e. e.written) (MboxReply ask a) before after (Ok 200))
+      (λ a b h. (h.0, (mbox_reply (exported a ask), sym (on_listed a ask (mbox_reply (exported a ask)) h.1),
+      (refl, h.2 ∙ ap (λ x. before ++ (x ++ exported a ask)) (mbox_head_is (exported a ask)))))) goes)
+
+  pub exported_part : (count : ℕ) → Goes g old new (λ a b. (b ≡ a) × IsExportRefused (ask_reason a ask) before after (mbox_head ++ exported a ask) count not_written)
+      → Serves g old new {E = WriteFault} (λ e. e.written) (MboxReply ask) before after (Err (record { written = count }))
+  exported_part count goes = inl (goes_as g old new (λ a b. (b ≡ a) × IsExportRefused (ask_reason a ask) before after (mbox_head ++ exported a ask) count not_written)
+      (λ a b. (b ≡ a) × Sends {E = WriteFault} (λ e. e.written) (MboxReply ask a) before after (Err (record { written = count })))
+      (λ a b h. (h.0, (mbox_reply (exported a ask), sym (on_listed a ask (mbox_reply (exported a ask)) h.1.0),
+      (λ low. subst (λ x. IsCutShort before after (x ++ exported a ask) count) (mbox_head_is (exported a ask)) (h.1.1 low))))) goes)
+
+  pub exported_none : (stop : ExportStop) (mid : List ℕ) (result : Result ℕ WriteFault)
+      → MatchOption (stop_reason stop) (GoesIfOpen g old new (λ a b. b ≡ a))
+      (λ why. Goes g old new (λ a b. (b ≡ a) × IsExportRefused (ask_reason a ask) before mid (mbox_head ++ exported a ask) why.0 why.1)) → mid ≡ before
+      → Sends {E = WriteFault} (λ e. e.written) (λ r. r ≡ unavailable) mid after result
+      → Serves g old new {E = WriteFault} (λ e. e.written) (MboxReply ask) before after result
+  exported_none stop mid result said same sent = inr (
+    stops g old new (stop_reason stop) (λ a why. IsExportRefused (ask_reason a ask) before mid (mbox_head ++ exported a ask) why.0 why.1) said,
+    subst (λ m. Sends {E = WriteFault} (λ e. e.written) (λ r. r ≡ unavailable) m after result) same sent,
+  )

@@ -1,0 +1,8 @@
+pub mod ReplyExamples
+mod HeadLemmas
+mod LawLemmas
+mod AccessLaws
+pub mod ServingLemmas
+mod HeadReading
+mod DeskLemmas
+pub mod AnswerExamples

@@ -1,0 +1,89 @@
+-- The reply to a request, as a function of the archive, the policy, the day and the head (RFC 9110, RFC 9112; RFC 6750, section
+-- 3; profile: the routes and the order of the checks).
+use Rattle.std.specs.Prelude.{ℕ, ℤ, List, map, Option, Some, None, option_map, if◌then◌else◌}
+use Rattle.std.specs.Option.{option_map_or}
+use Rattle.httparse.specs.Grammar.{RequestHead}
+use Rattle.mail_core.specs.Calendar.{month_of_text}
+use Rattle.policy_core.specs.Rules.{Rule}
+use Rattle.archive_machine.specs.Records.{Archive}
+use Rattle.archive_machine.specs.Questions.{has_list, list_names, person_of_token}
+use Rattle.archive_machine.specs.Keys.{is_key}
+use Rattle.archive_results.specs.Access.{Ask, Asked, served, denied_by, absent, asked_of, view_of}
+use Rattle.archive_results.specs.Shown.{Shown, shown_of}
+use Rattle.archive_results.specs.Results.{month_lines, author_lines, tree_lines, thread_lines, export_text}
+use Rattle.archive_html.specs.Pages.{lists_page, month_page, author_page, threads_page, thread_page}
+use Rattle.archive_requests.specs.Requests.{Request, bad, other_method, unauthorized as no_token, asks, request_of}
+use Rattle.archive_requests.specs.Routes.{Route, lists, message, month, threads, thread, author, mbox, route_of}
+use Rattle.archive_pages.specs.Replies.{Reply, page_reply, message_reply, mbox_reply, bad_request, unauthorized, forbidden, not_found, not_allowed}
+
+-- ---- who asks
+
+-- Whom a request is answered: nobody, or the person who has its token. None: nobody has that token.
+abbrev pub reader_of : Archive → (token : Option (List ℕ)) → Option (Option (List ℕ))
+reader_of archive None = Some None
+reader_of archive (Some token) = option_map Some (person_of_token archive token)
+
+abbrev pub asking : List Rule → ℤ → (reader : Option (List ℕ)) → (list : List ℕ) → Ask
+asking rules day reader list = record { rules = rules; reader = reader; list = list; day = day }
+
+-- what the reader is shown of the list: the messages that the policy allows, in mailbox order
+abbrev pub shown_view : Archive → Ask → List Shown
+shown_view archive ask = map shown_of (view_of archive ask)
+
+-- ---- the answer of a route
+
+-- of one message, asked for by its key
+abbrev pub asked_reply : Asked → Reply
+asked_reply (served text) = message_reply text
+asked_reply (denied_by rule) = forbidden rule
+asked_reply absent = not_found
+
+abbrev pub keyed_reply : Archive → Ask → (key : List ℕ) → Reply
+keyed_reply archive ask key = if is_key key then asked_reply (asked_of archive ask key) else not_found
+
+abbrev pub month_reply : (list text : List ℕ) → List Shown → Reply
+month_reply list text view = option_map_or (λ m. page_reply (month_page list m (month_lines m view))) (month_of_text text) not_found
+
+abbrev pub thread_reply : (list key : List ℕ) → List Shown → Reply
+thread_reply list key view =
+    option_map_or (λ rows. page_reply (thread_page list rows)) (if is_key key then thread_lines key view else None) not_found
+
+-- of every other route on a list: a function of what the reader is shown, alone
+abbrev pub view_reply : Route → List Shown → Reply
+view_reply lists view = not_found
+view_reply (message list key) view = not_found
+view_reply (month list text) view = month_reply list text view
+view_reply (threads list) view = page_reply (threads_page list (tree_lines view))
+view_reply (thread list key) view = thread_reply list key view
+view_reply (author list key) view = page_reply (author_page list key (author_lines key view))
+view_reply (mbox list) view = mbox_reply (export_text view)
+
+-- where the list is there
+abbrev pub listed_reply : Archive → (list : List ℕ) → Reply → Reply
+listed_reply archive list reply = if has_list archive list then reply else not_found
+
+abbrev pub route_reply : Archive → (ask_of : List ℕ → Ask) → Route → Reply
+route_reply archive ask_of lists = page_reply (lists_page (list_names archive))
+route_reply archive ask_of (message list key) = listed_reply archive list (keyed_reply archive (ask_of list) key)
+route_reply archive ask_of (month list text) = listed_reply archive list (view_reply (month list text) (shown_view archive (ask_of list)))
+route_reply archive ask_of (threads list) = listed_reply archive list (view_reply (threads list) (shown_view archive (ask_of list)))
+route_reply archive ask_of (thread list key) = listed_reply archive list (view_reply (thread list key) (shown_view archive (ask_of list)))
+route_reply archive ask_of (author list key) = listed_reply archive list (view_reply (author list key) (shown_view archive (ask_of list)))
+route_reply archive ask_of (mbox list) = listed_reply archive list (view_reply (mbox list) (shown_view archive (ask_of list)))
+
+-- ---- the checks, in their order
+
+-- no route fits the path: 404
+abbrev pub path_reply : Archive → List Rule → ℤ → (path : List ℕ) → (reader : Option (List ℕ)) → Reply
+path_reply archive rules day path reader = option_map_or (route_reply archive (asking rules day reader)) (route_of path) not_found
+
+-- the token is looked at before the path
+abbrev pub request_reply : Archive → List Rule → ℤ → Request → Reply
+request_reply archive rules day bad = bad_request
+request_reply archive rules day other_method = not_allowed
+request_reply archive rules day no_token = unauthorized
+request_reply archive rules day (asks token path) =
+    option_map_or (path_reply archive rules day path) (reader_of archive token) unauthorized
+
+abbrev pub reply_of : Archive → List Rule → ℤ → RequestHead → Reply
+reply_of archive rules day head = request_reply archive rules day (request_of head)

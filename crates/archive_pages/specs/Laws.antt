@@ -1,0 +1,145 @@
+-- What the replies are, in words of the policy and of the results.
+use Rattle.std.specs.Prelude.{◌≡◌, ◌↔◌, ◌⊎◌, ℕ, ℤ, Bool, true, false, List, ◌∷◌, ◌++◌, codes, Option, Some, None, is_some}
+use Rattle.std.specs.List.{AllByRecursion}
+use Rattle.httparse.specs.Grammar.{RequestHead}
+use Rattle.mail_core.specs.Calendar.{month_of_text}
+use Rattle.policy_core.specs.Facts.{Facts}
+use Rattle.policy_core.specs.Rules.{Rule, fits}
+use Rattle.archive_machine.specs.Records.{Archive, Message}
+use Rattle.archive_machine.specs.Questions.{has_list, list_names, message_of}
+use Rattle.archive_machine.specs.Keys.{is_key}
+use Rattle.archive_results.specs.Access.{Ask, facts_of, marks_of, reader_standing, is_shown}
+use Rattle.archive_results.specs.Results.{TreeLine, month_lines, author_lines, tree_lines, thread_lines, export_text}
+use Rattle.archive_html.specs.Pages.{month_page, author_page, threads_page, thread_page}
+use Rattle.archive_requests.specs.Requests.{asks, request_of}
+use Rattle.archive_requests.specs.Routes.{Route, lists, message, month, threads, thread, author, mbox, route_of}
+use Rattle.archive_pages.specs.Replies.{page_reply, message_reply, mbox_reply, forbidden}
+use Rattle.archive_pages.specs.Answers.{reader_of, asking, shown_view, reply_of}
+
+-- ---- what a request asks for
+
+-- A request is a reader's, for this route: its target begins with a slash, its method is GET, and it has no token, or that of a
+-- person.
+pub record AsksFor (archive : Archive) (head : RequestHead) (reader : Option (List ℕ)) (route : Route) : Type 0 where
+  pub token : Option (List ℕ)
+  pub path : List ℕ
+  pub request : request_of head ≡ asks token path
+  pub who : reader_of archive token ≡ Some reader
+  pub where_to : route_of path ≡ Some route
+
+-- for a message by its key, of a list that is there
+pub record AsksForMessage (archive : Archive) (head : RequestHead) (reader : Option (List ℕ)) (list key : List ℕ) : Type 0 where
+  pub asks_for : AsksFor archive head reader (message list key)
+  pub listed : has_list archive list ≡ true
+  pub keyed : is_key key ≡ true
+
+-- ---- one message
+
+-- the facts of a message, on which the rules decide
+abbrev pub facts_on : Archive → Ask → Message → Facts
+facts_on archive ask m = facts_of ask (reader_standing archive ask) (marks_of m)
+
+-- no rule fits
+abbrev pub NoneFits : List Rule → Facts → Type 0
+NoneFits rules f = AllByRecursion (λ r. fits r f ≡ false) rules
+
+-- it fits, and no rule before it does
+pub record IsFirstToFit (rules : List Rule) (f : Facts) (rule : Rule) : Type 0 where
+  pub before : List Rule
+  pub after : List Rule
+  pub stand : rules ≡ before ++ rule ∷ after
+  pub none : NoneFits before f
+  pub fit : fits rule f ≡ true
+
+-- the first rule that fits allows it
+pub record IsAllowed (rules : List Rule) (f : Facts) : Type 0 where
+  pub rule : Rule
+  pub first : IsFirstToFit rules f rule
+  pub allows : rule.allows ≡ true
+
+-- the first rule that fits denies it, and has this name
+pub record IsDeniedBy (rules : List Rule) (f : Facts) (name : List ℕ) : Type 0 where
+  pub rule : Rule
+  pub first : IsFirstToFit rules f rule
+  pub denies : rule.allows ≡ false
+  pub named : rule.name ≡ name
+
+-- the message of this key that the list holds, and this of the facts on which the rules decide
+abbrev pub OfHeld : Archive → Ask → (key : List ℕ) → (Facts → Type 0) → Type 0
+OfHeld archive ask key P = (m : Message) × (message_of archive ask.list key ≡ Some m) × P (facts_on archive ask m)
+
+-- A message is served exactly where the list holds it and the first rule that fits allows it. Then the reply is its whole text.
+pub record ServesWhatIsAllowed (archive : Archive) (rules : List Rule) (day : ℤ) (head : RequestHead) : Type 0 where
+  pub exactly : (reader : Option (List ℕ)) (list key : List ℕ) → AsksForMessage archive head reader list key
+      → ((reply_of archive rules day head).status ≡ 200) ↔ OfHeld archive (asking rules day reader list) key (IsAllowed rules)
+  pub whole : (reader : Option (List ℕ)) (list key : List ℕ) → AsksForMessage archive head reader list key
+      → (m : Message) → message_of archive list key ≡ Some m → IsAllowed rules (facts_on archive (asking rules day reader list) m)
+      → reply_of archive rules day head ≡ message_reply m.text
+
+-- 403 is answered exactly to a request for a message that the list holds and the rules deny. Then the reply names the first rule
+-- that fits, and `default` where none fits.
+pub record DeniesWhatIsDenied (archive : Archive) (rules : List Rule) (day : ℤ) (head : RequestHead) : Type 0 where
+  pub exactly : ((reply_of archive rules day head).status ≡ 403) ↔ ((reader : Option (List ℕ)) × (list : List ℕ) × (key : List ℕ)
+      × AsksForMessage archive head reader list key
+      × OfHeld archive (asking rules day reader list) key (λ f. ((name : List ℕ) × IsDeniedBy rules f name) ⊎ NoneFits rules f))
+  pub named : (reader : Option (List ℕ)) (list key name : List ℕ) → AsksForMessage archive head reader list key
+      → OfHeld archive (asking rules day reader list) key (λ f. IsDeniedBy rules f name) → reply_of archive rules day head ≡ forbidden name
+  pub default : (reader : Option (List ℕ)) (list key : List ℕ) → AsksForMessage archive head reader list key
+      → OfHeld archive (asking rules day reader list) key (NoneFits rules) → reply_of archive rules day head ≡ forbidden (codes "default")
+
+-- ---- listings
+
+-- Every other reply on a list that is there shows the results of RFC 5256 and RFC 4155 over the messages that the rules allow,
+-- and nothing else.
+pub record ShowsWhatIsAllowed (archive : Archive) (rules : List Rule) (day : ℤ) (head : RequestHead) : Type 0 where
+  pub view : (ask : Ask) (m : Message) → (is_shown ask (reader_standing archive ask) m ≡ true) ↔ IsAllowed ask.rules (facts_on archive ask m)
+  pub of_month : (reader : Option (List ℕ)) (list text : List ℕ) (m : ℕ) → AsksFor archive head reader (month list text) → has_list archive list ≡ true
+      → month_of_text text ≡ Some m
+      → reply_of archive rules day head ≡ page_reply (month_page list m (month_lines m (shown_view archive (asking rules day reader list))))
+  pub of_author : (reader : Option (List ℕ)) (list key : List ℕ) → AsksFor archive head reader (author list key) → has_list archive list ≡ true
+      → reply_of archive rules day head ≡ page_reply (author_page list key (author_lines key (shown_view archive (asking rules day reader list))))
+  pub of_threads : (reader : Option (List ℕ)) (list : List ℕ) → AsksFor archive head reader (threads list) → has_list archive list ≡ true
+      → reply_of archive rules day head ≡ page_reply (threads_page list (tree_lines (shown_view archive (asking rules day reader list))))
+  pub of_thread : (reader : Option (List ℕ)) (list key : List ℕ) (rows : List TreeLine) → AsksFor archive head reader (thread list key)
+      → has_list archive list ≡ true → is_key key ≡ true → thread_lines key (shown_view archive (asking rules day reader list)) ≡ Some rows
+      → reply_of archive rules day head ≡ page_reply (thread_page list rows)
+  pub of_mbox : (reader : Option (List ℕ)) (list : List ℕ) → AsksFor archive head reader (mbox list) → has_list archive list ≡ true
+      → reply_of archive rules day head ≡ mbox_reply (export_text (shown_view archive (asking rules day reader list)))
+
+-- ---- what a withheld message leaves in a listing: nothing
+
+-- the list of a route
+abbrev pub list_of : Route → Option (List ℕ)
+list_of lists = None
+list_of (message list key) = Some list
+list_of (month list text) = Some list
+list_of (threads list) = Some list
+list_of (thread list key) = Some list
+list_of (author list key) = Some list
+list_of (mbox list) = Some list
+
+-- the route of one message by its key
+abbrev pub is_of_message : Route → Bool
+is_of_message (message list key) = true
+is_of_message lists = false
+is_of_message (month list text) = false
+is_of_message (threads list) = false
+is_of_message (thread list key) = false
+is_of_message (author list key) = false
+is_of_message (mbox list) = false
+
+-- Two archives with the same list names, asked for one path by one token, which is a person's in both or in neither. What the two
+-- readers are shown of the list that the path names is equal in key, sender, arrival and whole text.
+pub record LookAlike (rules : List Rule) (day : ℤ) (token : Option (List ℕ)) (path : List ℕ) (a b : Archive) : Type 0 where
+  pub names : list_names a ≡ list_names b
+  pub known : is_some (reader_of a token) ≡ is_some (reader_of b token)
+  pub views : (route : Route) (list : List ℕ) (x y : Option (List ℕ)) → route_of path ≡ Some route → list_of route ≡ Some list
+      → reader_of a token ≡ Some x → reader_of b token ≡ Some y
+      → shown_view a (asking rules day x list) ≡ shown_view b (asking rules day y list)
+
+-- Then the replies are equal, byte for byte, but where one message is asked for by its key.
+abbrev pub EqualViews : Type 0
+EqualViews = (rules : List Rule) (day : ℤ) (head : RequestHead) (a b : Archive)
+    → ((token : Option (List ℕ)) (path : List ℕ) → request_of head ≡ asks token path → LookAlike rules day token path a b
+    × ((route : Route) → route_of path ≡ Some route → is_of_message route ≡ false))
+    → reply_of a rules day head ≡ reply_of b rules day head

@@ -1,0 +1,6 @@
+pub mod Replies
+pub mod Seen
+pub mod Answers
+pub mod Laws
+pub mod Serving
+pub mod Answered

@@ -1,0 +1,20 @@
+-- The replies of the code, as the definition's.
+use Rattle.archive_pages.specs.Replies.{Reply, page_reply, message_reply, bad_request, unauthorized, forbidden, not_found, not_allowed, head_too_large, unavailable}
+use Rattle.archive_pages.specs.declared.replies.Failure.{Failure}
+use Rattle.archive_pages.specs.declared.replies.Failure.TheVariants.{BadRequest, Unauthorized, NotFound, NotAllowed, HeadTooLarge, Unavailable}
+use Rattle.archive_pages.specs.declared.replies.Reply.{Reply as Made}
+use Rattle.archive_pages.specs.declared.replies.Reply.TheVariants.{Page, Message, Forbidden, Failed}
+
+abbrev pub failure_reply : Failure → Reply
+failure_reply BadRequest = bad_request
+failure_reply Unauthorized = unauthorized
+failure_reply NotFound = not_found
+failure_reply NotAllowed = not_allowed
+failure_reply HeadTooLarge = head_too_large
+failure_reply Unavailable = unavailable
+
+abbrev pub reply_made : Made → Reply
+reply_made (Page page) = page_reply page.items
+reply_made (Message text) = message_reply text.items
+reply_made (Forbidden rule) = forbidden rule.now
+reply_made (Failed failure) = failure_reply failure

@@ -1,0 +1,62 @@
+//! What is asked of the store and of the desk.
+ghost use Rattle.std.specs.Prelude.{◌≡◌, option_map, string_bytes};
+ghost use Rattle.archive_machine.specs.Questions.{list_names, person_of_token};
+ghost use Rattle.archive_html.specs.Pages.{lists_page};
+ghost use Rattle.archive_pages.specs.Answers.{keyed_reply, listed_reply};
+ghost use Rattle.archive_pages.specs.Replies.{page_reply};
+ghost use Rattle.archive_pages.specs.Seen.{reply_made};
+ghost use Rattle.archive_pages.specs.Serving.{Finds};
+
+use crate::replies::{Failure, Reply, Unavailable};
+use archive_desk::{DeskFault, message};
+use archive_html::lists_page;
+use archive_results::{Ask, Asked};
+use archive_store::{Key, Store};
+use sqlite::Alter;
+use std::alloc::Global;
+
+/// The name of the person who has a token, if somebody has it.
+pub(crate) fn find_person<S: Alter>(store: &mut Store<S>, token: &str) -> Result<Option<String>, Unavailable>
+    ensures { Finds S.Store store.old store.new result (λ a name. option_map string_bytes name ≡ person_of_token a token.now) }
+{
+    match store.person_of_token(token) {
+        Ok(name) => Ok(name),
+        Err(_) => Err(Unavailable),
+    }
+}
+
+/// The page of all lists.
+pub(crate) fn find_lists<S: Alter>(store: &mut Store<S>, alloc: Global) -> Result<Reply<'static>, Unavailable>
+    ensures { Finds S.Store store.old store.new result (λ a reply. reply_made reply ≡ page_reply (lists_page (list_names a))) }
+{
+    let names = match store.lists(alloc) {
+        Ok(names) => names,
+        Err(_) => return Err(Unavailable),
+    };
+    match lists_page(alloc, &names) {
+        Ok(page) => Ok(Reply::Page(page)),
+        Err(_) => Err(Unavailable),
+    }
+}
+
+/// What a reader gets who asks for a message by its key.
+pub(crate) fn find_message<'p, S: Alter>(
+    store: &mut Store<S>,
+    alloc: Global,
+    ask: &Ask<'p>,
+    key: &str,
+) -> Result<Reply<'p>, Unavailable>
+    ensures { Finds S.Store store.old store.new result
+        (λ a reply. reply_made reply ≡ listed_reply a ask.entry.now.list (keyed_reply a ask.entry.now key.now)) }
+{
+    let Some(key) = Key::read(key) else {
+        return Ok(Reply::Failed(Failure::NotFound));
+    };
+    match message(store, alloc, ask, &key) {
+        Ok(Asked::Served(text)) => Ok(Reply::Message(text)),
+        Ok(Asked::Denied(rule)) => Ok(Reply::Forbidden(rule)),
+        Ok(Asked::Absent) => Ok(Reply::Failed(Failure::NotFound)),
+        Err(DeskFault::NoList) => Ok(Reply::Failed(Failure::NotFound)),
+        Err(_) => Err(Unavailable),
+    }
+}

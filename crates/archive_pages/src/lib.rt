@@ -1,0 +1,14 @@
+//! The archive's pages: from the bytes of a request to the bytes of a reply (RFC 9112).
+#![tactic(auto)]
+
+pub mod laws;
+mod answering;
+mod faults;
+mod finding;
+mod paths;
+mod replies;
+mod routing;
+mod writing;
+
+pub use answering::answer;
+pub use faults::ServeFault;
