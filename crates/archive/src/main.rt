@@ -3,7 +3,7 @@
 
 mod clock;
 
-use archive_run::{BAD_WORDS, DONE, REFUSED, Refusal, run, tell};
+use archive_run::{BAD_WORDS, DONE, REFUSED, Refusal, SystemFiles, run, tell};
 use clock::SystemDay;
 use mbox_core::device::{Counted, write_bytes};
 use std::alloc::{AllocError, Global};
@@ -34,7 +34,16 @@ fn run_streams(rt: &HostRuntime, words: &[&str]) -> u8 {
     let mut clock = SystemDay { rt };
     let mut input = Counted::new(rt.reader());
     let mut output = Counted::new(&mut gathered);
-    let status = run(rt, words, &mut clock, &mut input, &mut output, &mut faults);
+    let files = SystemFiles { rt };
+    let status = run(
+        alloc,
+        &files,
+        words,
+        &mut clock,
+        &mut input,
+        &mut output,
+        &mut faults,
+    );
     if gathered.flush().is_err() && status == DONE {
         tell(alloc, &mut faults, &Refusal::Write);
         return REFUSED;

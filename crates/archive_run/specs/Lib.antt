@@ -1,2 +1,3 @@
 pub mod Sifting
+pub mod Refusals
 pub mod Running

@@ -4,10 +4,12 @@
 
 mod clock;
 mod faults;
+mod files;
 mod running;
 mod sifting;
 
 pub use clock::DayClock;
 pub use faults::{Refusal, tell};
+pub use files::{FileFault, ReadFiles, SystemFiles};
 pub use running::{BAD_WORDS, DONE, REFUSED, run};
 pub use sifting::{SiftFault, SiftWords, sift};

@@ -1,24 +1,23 @@
 //! Running the order that words give.
-ghost use Rattle.std.specs.Prelude.{◌≡◌, ◌≤◌, List, map, option_map, true, Some, Ok, IfSome, IfOk, IfErr, OnOk};
+ghost use Rattle.std.specs.Prelude.{◌≡◌, ◌≤◌, ◌⊎◌, ◌+◌, List, map, option_map, string_bytes, true, false, Some, None, Ok, IfOk, IfErr, OnOk};
 ghost use Rattle.clap.specs.Words.{takes};
 ghost use Rattle.policy_core.specs.Rules.{Rule};
 ghost use Rattle.policy_core.specs.Written.{written_policy};
 ghost use Rattle.archive_words.specs.Program.{archive_app};
 ghost use Rattle.archive_words.specs.Orders.{ordered};
 ghost use Rattle.archive_words.specs.Values.{SiftValues};
-ghost use Rattle.archive_run.specs.Running.{IsPolicy, IsPolicyRefusal, IsReadingDay, SiftsOn};
+ghost use Rattle.archive_run.specs.Refusals.{TellsOf};
+ghost use Rattle.archive_run.specs.Running.{IsPolicyRefusal, IsPolicyOf, IsPolicyCause, IsDayBy, needs_day, streams, SiftsBy, IsSiftCause, IsRunSiftCause};
 
 use crate::clock::DayClock;
 use crate::faults::{Refusal, tell};
+use crate::files::{FileFault, ReadFiles};
 use crate::sifting::{SiftFault, SiftWords, sift};
 use archive_words::{Order, OrderStop, SiftOrder, order};
 use mail_core::Day;
 use mbox_core::device::{Sink, Source, write_bytes};
 use policy_core::{Policy, PolicyFault};
-use std::alloc::{AllocGlobal, Global};
-use std::fs;
-use std::io::ErrorKind;
-use std::rt::Files;
+use std::alloc::Global;
 
 /// Exit status: the order was carried out.
 pub const DONE: u8 = 0;
@@ -31,16 +30,14 @@ pub const BAD_WORDS: u8 = 2;
 
 /// The text of a policy's file, which is read whole. Read: it is not there, or a read failed (F1). NotToml: it is not
 /// UTF-8 (P1). Memory: there was no memory to hold it (F5).
-fn read_text<RT: Files + AllocGlobal>(rt: &RT, file: &str) -> Result<String, Refusal> {
-    let bytes = match fs::read(rt, file) {
+fn read_text<F: ReadFiles>(alloc: Global, files: &F, name: &str) -> Result<String, Refusal>
+    ensures ok { IfOk result (λ text. F.gives files.now name.now (Ok (string_bytes text))) }
+    ensures refused { IfErr result (IsPolicyCause F.gives files.now (Some name.now)) }
+{
+    let bytes = match files.read_file(alloc, name) {
         Ok(bytes) => bytes,
-        Err(error) => {
-            return Err(if error.kind() == ErrorKind::OutOfMemory {
-                Refusal::Memory
-            } else {
-                Refusal::Read
-            });
-        }
+        Err(FileFault::Memory) => return Err(Refusal::Memory),
+        Err(FileFault::Read) => return Err(Refusal::Read),
     };
     match String::from_utf8(bytes) {
         Ok(text) => Ok(text),
@@ -60,19 +57,24 @@ fn read_policy(alloc: Global, text: &str) -> Result<Policy, Refusal>
 }
 
 /// The policy of a file, or the open one where none is named.
-fn asked_policy<RT: Files + AllocGlobal>(rt: &RT, file: Option<&str>) -> Result<Policy, Refusal>
-    ensures { IfOk result (IsPolicy (option_map (λ f. f.now) file.entry)) }
+fn asked_policy<F: ReadFiles>(
+    alloc: Global,
+    files: &F,
+    name: Option<&str>,
+) -> Result<Policy, Refusal>
+    ensures ok { IfOk result (IsPolicyOf F.gives files.now (option_map (λ n. n.now) name.entry)) }
+    ensures refused { IfErr result (IsPolicyCause F.gives files.now (option_map (λ n. n.now) name.entry)) }
 {
-    let Some(file) = file else {
+    let Some(name) = name else {
         return Ok(Policy::open());
     };
-    let text = read_text(rt, file)?;
-    read_policy(rt.alloc(), text.as_str())
+    let text = read_text(alloc, files, name)?;
+    read_policy(alloc, text.as_str())
 }
 
 /// The reading day: as asked for, or the clock's where an age or a policy is asked for. Else no rule looks at it.
 fn reading_day<C: DayClock>(asked: &SiftOrder, clock: &mut C) -> Option<Day>
-    ensures { IfSome result (IsReadingDay asked.now) }
+    ensures { IsDayBy C.gives asked.now.day (needs_day asked.now) clock.old clock.new result }
 {
     if asked.day.is_some() {
         asked.day
@@ -92,7 +94,13 @@ fn sift_by<C: DayClock, R: Source, W: Sink>(
     input: &mut R,
     output: &mut W,
 ) -> Result<(), Refusal>
-    ensures { OnOk result (SiftsOn policy.now asked.now (R.told input.old) (R.told input.new) (W.told output.old) (W.told output.new)) }
+    ensures ok { OnOk result (SiftsBy C.gives asked.now clock.old clock.new
+        (streams (R.told input.old) (R.failures input.old) (W.told output.old) (W.failures output.old))
+        (streams (R.told input.new) (R.failures input.new) (W.told output.new) (W.failures output.new)) policy.now) }
+    ensures end { OnOk result (R.ends input.new ≡ R.ends input.old + 1) }
+    ensures cause { IfErr result (IsSiftCause C.gives asked.now clock.old clock.new
+        (streams (R.told input.old) (R.failures input.old) (W.told output.old) (W.failures output.old))
+        (streams (R.told input.new) (R.failures input.new) (W.told output.new) (W.failures output.new)) policy.now) }
 {
     let Some(day) = reading_day(asked, clock) else {
         return Err(Refusal::Clock);
@@ -111,24 +119,33 @@ fn sift_by<C: DayClock, R: Source, W: Sink>(
 }
 
 /// Reads the policy, asks the day, and then sifts.
-fn run_sift<RT: Files + AllocGlobal, C: DayClock, R: Source, W: Sink>(
-    rt: &RT,
+fn run_sift<F: ReadFiles, C: DayClock, R: Source, W: Sink>(
+    alloc: Global,
+    files: &F,
     asked: &SiftOrder,
     clock: &mut C,
     input: &mut R,
     output: &mut W,
 ) -> Result<(), Refusal>
-    ensures { OnOk result ((rules : List Rule) × IsPolicy asked.now.policy rules × SiftsOn rules asked.now (R.told input.old) (R.told input.new) (W.told output.old) (W.told output.new)) }
+    ensures ok { OnOk result ((rules : List Rule) × IsPolicyOf F.gives files.now asked.now.policy rules
+        × SiftsBy C.gives asked.now clock.old clock.new
+        (streams (R.told input.old) (R.failures input.old) (W.told output.old) (W.failures output.old))
+        (streams (R.told input.new) (R.failures input.new) (W.told output.new) (W.failures output.new)) rules) }
+    ensures end { OnOk result (R.ends input.new ≡ R.ends input.old + 1) }
+    ensures cause { IfErr result (IsRunSiftCause F.gives files.now C.gives asked.now clock.old clock.new
+        (streams (R.told input.old) (R.failures input.old) (W.told output.old) (W.failures output.old))
+        (streams (R.told input.new) (R.failures input.new) (W.told output.new) (W.failures output.new))) }
 {
-    let policy = asked_policy(rt, asked.policy)?;
-    sift_by(rt.alloc(), &policy, asked, clock, input, output)
+    let policy = asked_policy(alloc, files, asked.policy)?;
+    sift_by(alloc, &policy, asked, clock, input, output)
 }
 
 /// Carries out what the words order, which do not begin with the program's name, and answers the exit status: 0 done,
 /// 1 refused, 2 bad words. Help and the version go to the output; a refusal is one line, and what is wrong with bad
 /// words is a text, both to `faults`.
-pub fn run<RT: Files + AllocGlobal, C: DayClock, R: Source, W: Sink, E: Sink>(
-    rt: &RT,
+pub fn run<F: ReadFiles, C: DayClock, R: Source, W: Sink, E: Sink>(
+    alloc: Global,
+    files: &F,
     words: &[&str],
     clock: &mut C,
     input: &mut R,
@@ -136,14 +153,35 @@ pub fn run<RT: Files + AllocGlobal, C: DayClock, R: Source, W: Sink, E: Sink>(
     faults: &mut E,
 ) -> u8
     ensures status { result ≤ 2 }
+
+    // At 0 an order to sift is carried out, whole: by the rules of the named file, on the day that was given or told.
     ensures sifted { (asked : SiftValues) → takes archive_app (map (λ w. w.now) words.now) ≡ true
         → ordered (map (λ w. w.now) words.now) ≡ Some (Order.Sift asked) → result ≡ 0
-        → (rules : List Rule) × IsPolicy asked.policy rules × SiftsOn rules asked
-        (R.told input.old) (R.told input.new) (W.told output.old) (W.told output.new) }
+        → (rules : List Rule) × IsPolicyOf F.gives files.now asked.policy rules
+        × SiftsBy C.gives asked clock.old clock.new
+        (streams (R.told input.old) (R.failures input.old) (W.told output.old) (W.failures output.old))
+        (streams (R.told input.new) (R.failures input.new) (W.told output.new) (W.failures output.new)) rules
+        × (R.ends input.new ≡ R.ends input.old + 1) }
+    ensures silent { result ≡ 0 → E.told faults.new ≡ E.told faults.old }
+
+    // At 1 one line tells the refusal, which has its cause; or there was no memory to read the words.
+    ensures refused { result ≡ 1 → (refusal : Refusal)
+        × (E.failures faults.new ≡ E.failures faults.old → TellsOf refusal (E.told faults.old) (E.told faults.new)) }
+    ensures cause { (asked : SiftValues) → takes archive_app (map (λ w. w.now) words.now) ≡ true
+        → ordered (map (λ w. w.now) words.now) ≡ Some (Order.Sift asked) → result ≡ 1 → (refusal : Refusal)
+        × (E.failures faults.new ≡ E.failures faults.old → TellsOf refusal (E.told faults.old) (E.told faults.new))
+        × (((refusal ≡ Refusal.Memory) × (clock.new ≡ clock.old) × (input.new ≡ input.old) × (output.new ≡ output.old))
+        ⊎ IsRunSiftCause F.gives files.now C.gives asked clock.old clock.new
+        (streams (R.told input.old) (R.failures input.old) (W.told output.old) (W.failures output.old))
+        (streams (R.told input.new) (R.failures input.new) (W.told output.new) (W.failures output.new)) refusal) }
+
+    // At 2 the words order nothing, and nothing is touched.
+    ensures bad { result ≡ 2 → (takes archive_app (map (λ w. w.now) words.now) ≡ false)
+        ⊎ (ordered (map (λ w. w.now) words.now) ≡ None) }
+    ensures untouched { result ≡ 2 → (clock.new ≡ clock.old) × (input.new ≡ input.old) × (output.new ≡ output.old) }
 {
-    let alloc = rt.alloc();
     match order(alloc, words) {
-        Ok(Order::Sift(asked)) => match run_sift(rt, &asked, clock, input, output) {
+        Ok(Order::Sift(asked)) => match run_sift(alloc, files, &asked, clock, input, output) {
             Ok(()) => DONE,
             Err(refusal) => {
                 tell(alloc, faults, &refusal);

@@ -13,13 +13,17 @@ use Rattle.std.specs.Str.{bytes_eq}
 use Rattle.std.specs.Str.Parse.{AllDigits, IsNumeral, ParsesUnsigned, digits_value, without_leading_plus}
 use Rattle.clap.specs.Words.{Row, Text, is_simple}
 use Rattle.clap.proofs.OnLiterals.{clap_on_literals}
-use Rattle.archive_words.specs.Program.{archive_app, dated_app, sift_app}
-use Rattle.archive_words.specs.Orders.{is_decimal, age_of_text, sift_of, order_of}
+use Rattle.archive_words.specs.Program.{archive_app, tables_app, person_app, bare_app, dated_app, sift_app, list_add_app, person_add_app, grant_app, revoke_app, withdraw_app, restore_app, embargo_app, lift_app}
+use Rattle.archive_words.specs.Orders.{is_decimal, age_of_text}
 
 -- the command line is of the kind whose matches `clap` gives as a function of the words
 pub simple : is_simple archive_app ≡ true
-unfolding archive_app sift_app dated_app clap_on_literals
+unfolding archive_app bare_app sift_app dated_app clap_on_literals
 simple = refl
+
+pub tables_simple : is_simple tables_app ≡ true
+unfolding tables_app person_app bare_app list_add_app person_add_app grant_app revoke_app withdraw_app restore_app embargo_app lift_app clap_on_literals
+tables_simple = refl
 
 pub not_true : (b : Bool) → (b ≡ true → ⊥) → b ≡ false
 not_true true h = absurd (h refl)
@@ -31,13 +35,10 @@ pub pair_up : {B N R : Type 0} (f : B → N × R) (o : Option B) (n : N) (r : R)
 pair_up f None n r h k = cc
 pair_up f (Some b) n r h k = let p = same_Some _ _ h in let q = same_Some _ _ k in rw (p, q) refl
 
-pub order_of-sift : (o : Option (Text × List Row)) (n : Text) (rs : List Row) → o ≡ Some (n, rs) → bytes_eq n (codes "sift") ≡ true
-    → order_of o ≡ sift_of rs
-order_of-sift o n rs e h = rw (e, h) refl
-
-pub order_of-other : (o : Option (Text × List Row)) (n : Text) (rs : List Row) → o ≡ Some (n, rs) → bytes_eq n (codes "sift") ≡ false
-    → order_of o ≡ None
-order_of-other o n rs e h = rw (e, h) refl
+-- the matches of a subcommand, as they were found
+pub found : {R : Type 0} (f : Option (Text × List Row) → R) (o : Option (Text × List Row)) (n : Text) (rs : List Row) → o ≡ Some (n, rs)
+    → f o ≡ f (Some (n, rs))
+found f o n rs e = ap f e
 
 -- ---- ages
 

@@ -9,11 +9,18 @@ use Rattle.mail_core.specs.Calendar.{day_of_text}
 use Rattle.policy_core.specs.declared.access.Standing.{Standing}
 use Rattle.policy_core.specs.declared.access.Standing.TheVariants.{Public}
 use Rattle.policy_core.specs.Written.{standing_named}
+use Rattle.archive_words.specs.declared.commands.GrantKind.{GrantKind}
+use Rattle.archive_words.specs.declared.commands.GrantKind.TheVariants.{Member, Subscriber, Moderator}
+use Rattle.archive_words.specs.declared.commands.WithdrawnBy.{WithdrawnBy}
+use Rattle.archive_words.specs.declared.commands.WithdrawnBy.TheVariants.{Author, Board}
 use Rattle.archive_words.specs.declared.orders.Order.{Order}
 use Rattle.archive_words.specs.declared.orders.Order.TheVariants.{Sift}
 use Rattle.archive_words.specs.declared.orders.OrderStop.{OrderStop}
 use Rattle.archive_words.specs.declared.orders.OrderStop.TheVariants.{Help, Words, Memory}
-use Rattle.archive_words.specs.Program.{archive_app}
+use Rattle.archive_words.specs.Values.{TableValues, TableCommand, list_add, person_add, grant, revoke, withdraw, restore, embargo, lift}
+use Rattle.archive_words.specs.Program.{archive_app, tables_app}
+
+-- ---- values
 
 -- one decimal digit or more, and nothing else
 abbrev pub is_decimal : List ℕ → Bool
@@ -25,10 +32,34 @@ unfoldable pub age_of_text : List ℕ → Option ℕ
 age_of_text text =
     if is_decimal text && nat_le (digits_value 10 text) 36500 then Some (digits_value 10 text) else None
 
+abbrev pub kind_named : List ℕ → Option GrantKind
+kind_named word =
+    if bytes_eq word (codes "member") then Some Member
+    else if bytes_eq word (codes "subscriber") then Some Subscriber
+    else if bytes_eq word (codes "moderator") then Some Moderator
+    else None
+
+abbrev pub party_named : List ℕ → Option WithdrawnBy
+party_named word =
+    if bytes_eq word (codes "author") then Some Author
+    else if bytes_eq word (codes "board") then Some Board
+    else None
+
 -- a value that need not be given: nothing, or what its reader makes of the text
 abbrev pub given : {A : Type 0} → (List ℕ → Option A) → Option Text → Option (Option A)
 given read None = Some None
 given read (Some text) = option_map (λ a. Some a) (read text)
+
+-- what follows on a value, where there is one
+abbrev pub on : {A B : Type 0} → Option A → (A → Option B) → Option B
+on None next = None
+on (Some a) next = next a
+
+-- a value that has to be given, and that its reader has to take
+abbrev pub read_in : {A : Type 0} → (List ℕ → Option A) → List ℕ → List Row → Option A
+read_in read name rows = on (first_of name rows) read
+
+-- ---- sift
 
 -- the list that the messages are taken to be of: any text is the name of one
 abbrev pub list_of : Option Text → Text
@@ -56,7 +87,67 @@ sift_of rows = sift_with
     (list_of (first_of (codes "list") rows))
     (standing_of (first_of (codes "standing") rows))
 
--- the order of the subcommand that the words name, with the values that were found; no subcommand is `sift`
+-- ---- commands over a database
+
+abbrev pub list_add_of : List Row → Option TableCommand
+list_add_of rows = on (first_of (codes "name") rows) (λ name. Some (list_add name))
+
+abbrev pub person_add_of : List Row → Option TableCommand
+person_add_of rows =
+    on (first_of (codes "name") rows) (λ name.
+    on (first_of (codes "token") rows) (λ token. Some (person_add name token)))
+
+abbrev pub grant_of : List Row → Option TableCommand
+grant_of rows =
+    on (first_of (codes "person") rows) (λ person.
+    on (first_of (codes "list") rows) (λ list.
+    on (read_in kind_named (codes "kind") rows) (λ kind.
+    on (read_in day_of_text (codes "from") rows) (λ from.
+    on (read_in day_of_text (codes "until") rows) (λ until. Some (grant person list kind from until))))))
+
+abbrev pub revoke_of : List Row → Option TableCommand
+revoke_of rows =
+    on (first_of (codes "person") rows) (λ person.
+    on (first_of (codes "list") rows) (λ list.
+    on (read_in kind_named (codes "kind") rows) (λ kind. Some (revoke person list kind))))
+
+-- a command on a message, from its list and its key
+abbrev pub message_of : List Row → (Text → Text → Option TableCommand) → Option TableCommand
+message_of rows next = on (first_of (codes "list") rows) (λ list. on (first_of (codes "key") rows) (λ key. next list key))
+
+abbrev pub withdraw_of : List Row → Option TableCommand
+withdraw_of rows = message_of rows (λ list key. on (read_in party_named (codes "by") rows) (λ by. Some (withdraw list key by)))
+
+abbrev pub restore_of : List Row → Option TableCommand
+restore_of rows = message_of rows (λ list key. Some (restore list key))
+
+abbrev pub embargo_of : List Row → Option TableCommand
+embargo_of rows =
+    message_of rows (λ list key. on (read_in day_of_text (codes "until") rows) (λ until. Some (embargo list key until)))
+
+abbrev pub lift_of : List Row → Option TableCommand
+lift_of rows = message_of rows (λ list key. Some (lift list key))
+
+abbrev pub command_named : Text → List Row → Option TableCommand
+command_named name rows =
+    if bytes_eq name (codes "list-add") then list_add_of rows
+    else if bytes_eq name (codes "person-add") then person_add_of rows
+    else if bytes_eq name (codes "grant") then grant_of rows
+    else if bytes_eq name (codes "revoke") then revoke_of rows
+    else if bytes_eq name (codes "withdraw") then withdraw_of rows
+    else if bytes_eq name (codes "restore") then restore_of rows
+    else if bytes_eq name (codes "embargo") then embargo_of rows
+    else if bytes_eq name (codes "lift") then lift_of rows
+    else None
+
+abbrev pub tables_of : Text → List Row → Option TableValues
+tables_of name rows =
+    on (first_of (codes "db") rows) (λ file.
+    on (command_named name rows) (λ command. Some (record { file = file; command = command })))
+
+-- ---- orders
+
+-- the order of the command that the words name, with the values that were found; no command is `sift`
 abbrev pub order_of : Option (Text × List Row) → Option Order
 order_of None = Some (Sift (record { day = None; min_age = None; policy = None; list = codes "inbox"; standing = Public }))
 order_of (Some (name, rows)) = if bytes_eq name (codes "sift") then sift_of rows else None
@@ -64,6 +155,15 @@ order_of (Some (name, rows)) = if bytes_eq name (codes "sift") then sift_of rows
 -- the order of some words, where the program takes them
 abbrev pub ordered : List Text → Option Order
 ordered words = order_of (subcommand_of archive_app words)
+
+-- the command over a database that the words name
+abbrev pub table_order_of : Option (Text × List Row) → Option TableValues
+table_order_of None = None
+table_order_of (Some (name, rows)) = tables_of name rows
+
+-- the order of some words over a database
+abbrev pub table_ordered : List Text → Option TableValues
+table_ordered words = table_order_of (subcommand_of tables_app words)
 
 -- the stop says that there was no memory
 abbrev pub IsMemory : OrderStop → Type 0

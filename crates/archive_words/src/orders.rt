@@ -1,4 +1,5 @@
 //! What the words of a command line order.
+use crate::commands::TableCommand;
 use mail_core::Day;
 use policy_core::Standing;
 use std::marker::Model;
@@ -32,6 +33,22 @@ impl<'a> Model for SiftOrder<'a> {
     ghost Value = { SiftValues };
 
     ghost view = { λ o. record { day = o.day; min_age = o.min_age; policy = option_map (λ t. t.now) o.policy; list = o.list.now; standing = o.standing } };
+}
+
+/// A command over the tables of a database.
+#[derive(Debug, Drop)]
+pub struct TableOrder<'a> {
+    /// The name of the database's file.
+    pub file: &'a str,
+    pub command: TableCommand<'a>,
+}
+
+impl<'a> Model for TableOrder<'a> {
+    ghost use Rattle.archive_words.specs.Values.{TableValues, command_of};
+
+    ghost Value = { TableValues };
+
+    ghost view = { λ o. record { file = o.file.now; command = command_of o.command } };
 }
 
 /// Why words order nothing.

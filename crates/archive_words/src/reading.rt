@@ -1,16 +1,18 @@
 //! Reading the words of a command line.
 ghost use Rattle.std.specs.Prelude.{◌≡◌, ◌≢◌, ◌⊎◌, Some, None, false, IfOk, IfErr, MatchResult, map, option_map, codes};
-ghost use Rattle.clap.specs.Words.{app_of, rule_of, takes, subcommand_rows_of, first_value, found_of};
+ghost use Rattle.clap.specs.Words.{takes, subcommand_rows_of, found_of, rows_of, first_of};
 ghost use Rattle.clap.specs.Values.{kind_of};
-ghost use Rattle.clap.specs.declared.builder.Command.TheViews.{out-Command};
 ghost use Rattle.mail_core.specs.Calendar.{day_of_text};
 ghost use Rattle.policy_core.specs.Written.{standing_named};
-ghost use Rattle.archive_words.specs.Program.{archive_app, dated_app, sift_app, option_rule, versioned};
-ghost use Rattle.archive_words.specs.Orders.{is_decimal, age_of_text, given, list_of, standing_of, sift_with, order_of, ordered, IsMemory};
+ghost use Rattle.archive_words.specs.Program.{archive_app, tables_app};
+ghost use Rattle.archive_words.specs.Values.{command_of};
+ghost use Rattle.archive_words.specs.Orders.{is_decimal, table_order_of, table_ordered, age_of_text, kind_named, party_named, given, list_of, standing_of, read_in, sift_of, list_add_of, person_add_of, grant_of, revoke_of, withdraw_of, restore_of, embargo_of, lift_of, command_named, tables_of, order_of, ordered, IsMemory};
 
-use crate::orders::{Order, OrderStop, SiftOrder};
+use crate::building;
+use crate::commands::{GrantKind, TableCommand, WithdrawnBy};
+use crate::orders::{Order, OrderStop, SiftOrder, TableOrder};
 use clap::error::ErrorKind;
-use clap::{Arg, ArgMatches, Command, Error};
+use clap::{ArgMatches, Command, Error};
 use mail_core::Day;
 use policy_core::Standing;
 use std::alloc::{AllocError, Global};
@@ -18,28 +20,9 @@ use std::alloc::{AllocError, Global};
 /// The greatest age that can be asked for, in days.
 const MAX_AGE: u32 = 36500;
 
-const VERSION: &str = "0.1.0";
-
-const ARCHIVE_HELP: &str =
-    "Keeps mailing lists. Without a command it is `sift`, and every message passes";
-
-const SIFT_HELP: &str =
-    "Write the messages of an mbox that pass: standard input to standard output";
-
-const DAY_HELP: &str =
-    "The reading day, yyyy-mm-dd [default: today in UTC, where an age or a policy is asked for]";
-
-const MIN_AGE_HELP: &str =
-    "Only messages that arrived at least this many days before the reading day";
-
-const POLICY_HELP: &str = "The file with the policy [default: everybody may read everything]";
-
-const LIST_HELP: &str = "The list that the messages are taken to be of [default: inbox]";
-
-const STANDING_HELP: &str =
-    "The reader's standing: public, member, subscriber or moderator [default: public]";
-
 const DEFAULT_LIST: &str = "inbox";
+
+const A_DAY: &str = "a day of the calendar is yyyy-mm-dd, from 1900-01-01 to 9998-12-31";
 
 /// A value that its reader refuses.
 #[derive(Debug, Clone, Copy, Drop)]
@@ -49,70 +32,27 @@ struct BadValue<'a> {
     wanted: &'a str,
 }
 
-/// An option `--NAME VALUE`, with its line in the help.
-fn option<'a>(alloc: Global, name: &'a str, value: &'a str, help: &'a str) -> Arg<'a>
-    ensures rule { rule_of result ≡ option_rule name.entry.now }
-    ensures local { result.global ≡ false }
+/// The text of an argument.
+fn text_of<'a>(inner: &ArgMatches<'a>, name: &str) -> Option<&'a str>
+    ensures { option_map (λ t. t.now) result ≡ first_of name.now (rows_of (found_of inner.now)) }
 {
-    Arg::new(alloc, name)
-        .long(name)
-        .value_name(value)
-        .help(help)
+    inner.get_str(name)
 }
 
-/// `sift` with the options of the day and of the age.
-fn dated_command<'a>(alloc: Global) -> Result<Command<'a>, AllocError>
-    ensures { IfOk result (λ c. (app_of c ≡ dated_app) × ((out-Command c).has_globals ≡ false)) }
+/// The text of an argument that has to be given.
+fn needed<'a>(inner: &ArgMatches<'a>, name: &'a str) -> Result<&'a str, BadValue<'a>>
+    ensures { MatchResult result
+        (λ text. first_of name.entry.now (rows_of (found_of inner.now)) ≡ Some text.now)
+        (λ _. first_of name.entry.now (rows_of (found_of inner.now)) ≡ None) }
 {
-    let day = option(alloc, "day", "DAY", DAY_HELP);
-    let min_age = option(alloc, "min-age", "DAYS", MIN_AGE_HELP);
-    let command = Command::new(alloc, "sift").arg(day)?.arg(min_age)?;
-    Ok(command)
-}
-
-fn sift_command<'a>(alloc: Global) -> Result<Command<'a>, AllocError>
-    ensures { IfOk result (λ c. (app_of c ≡ sift_app) × ((out-Command c).has_globals ≡ false)) }
-{
-    let policy = option(alloc, "policy", "FILE", POLICY_HELP);
-    let list = option(alloc, "list", "NAME", LIST_HELP);
-    let standing = option(alloc, "standing", "STANDING", STANDING_HELP);
-    let dated = dated_command(alloc)?;
-    let ruled = dated.arg(policy)?;
-    let listed = ruled.arg(list)?;
-    let command = listed.arg(standing)?;
-    Ok(described(command, SIFT_HELP))
-}
-
-/// The command with its line in the help, which changes nothing in how words are read.
-fn described<'a>(command: Command<'a>, about: &'a str) -> Command<'a>
-    ensures app { app_of result ≡ app_of command.entry }
-    ensures local { (out-Command result).has_globals ≡ (out-Command command.entry).has_globals }
-{
-    command.about(about)
-}
-
-/// The command with the version, whose words do not begin with the program's name.
-fn versioned<'a>(command: Command<'a>) -> Command<'a>
-    ensures { app_of result ≡ versioned (app_of command.entry) }
-{
-    command.version(VERSION).no_binary_name(true)
-}
-
-/// The command with the name that its usage begins with.
-fn named<'a>(command: Command<'a>) -> Result<Command<'a>, AllocError>
-    ensures { IfOk result (λ c. app_of c ≡ app_of command.entry) }
-{
-    let named = command.bin_name("archive")?;
-    Ok(named)
-}
-
-#[tactic(auto, unfolding(crate::specs::Program::archive_app))]
-fn program<'a>(alloc: Global) -> Result<Command<'a>, AllocError>
-    ensures { IfOk result (λ c. app_of c ≡ archive_app) }
-{
-    let sift = sift_command(alloc)?;
-    let command = described(Command::new(alloc, "archive"), ARCHIVE_HELP);
-    named(versioned(command))?.subcommand(sift)
+    match text_of(inner, name) {
+        Some(text) => Ok(text),
+        None => Err(BadValue {
+            option: name,
+            text: "",
+            wanted: "a value has to be given",
+        }),
+    }
 }
 
 /// An age in days: decimal digits, 0 to 36500.
@@ -138,6 +78,7 @@ fn is_decimal(text: &[u8]) -> bool
     text.iter().all(|b| b.is_ascii_digit())
 }
 
+/// The day of an option, where it is given.
 fn given_day<'a>(text: Option<&'a str>) -> Result<Option<Day>, BadValue<'a>>
     ensures { MatchResult result
         (λ day. given day_of_text (option_map (λ t. t.now) text.entry) ≡ Some day)
@@ -151,11 +92,12 @@ fn given_day<'a>(text: Option<&'a str>) -> Result<Option<Day>, BadValue<'a>>
         None => Err(BadValue {
             option: "--day <DAY>",
             text,
-            wanted: "a day is yyyy-mm-dd, from 1900-01-01 to 9998-12-31",
+            wanted: A_DAY,
         }),
     }
 }
 
+/// The age of an option, where it is given.
 fn given_age<'a>(text: Option<&'a str>) -> Result<Option<u32>, BadValue<'a>>
     ensures { MatchResult result
         (λ age. given age_of_text (option_map (λ t. t.now) text.entry) ≡ Some age)
@@ -215,22 +157,91 @@ fn given_list<'a>(name: Option<&'a str>) -> &'a str
     }
 }
 
+/// The day of an argument.
+fn day_of<'a>(inner: &ArgMatches<'a>, name: &'a str, option: &'a str) -> Result<Day, BadValue<'a>>
+    ensures { MatchResult result
+        (λ day. read_in day_of_text name.entry.now (rows_of (found_of inner.now)) ≡ Some day)
+        (λ _. read_in day_of_text name.entry.now (rows_of (found_of inner.now)) ≡ None) }
+{
+    let text = needed(inner, name)?;
+    match Day::read(text.as_bytes()) {
+        Some(day) => Ok(day),
+        None => Err(BadValue {
+            option,
+            text,
+            wanted: A_DAY,
+        }),
+    }
+}
+
+/// What the word of a kind means.
+fn read_kind(word: &str) -> Option<GrantKind>
+    ensures { result ≡ kind_named word.now }
+{
+    match word {
+        "member" => Some(GrantKind::Member),
+        "subscriber" => Some(GrantKind::Subscriber),
+        "moderator" => Some(GrantKind::Moderator),
+        _ => None,
+    }
+}
+
+/// The argument KIND.
+fn kind_of_grant<'a>(inner: &ArgMatches<'a>) -> Result<GrantKind, BadValue<'a>>
+    ensures { MatchResult result
+        (λ kind. read_in kind_named (codes "kind") (rows_of (found_of inner.now)) ≡ Some kind)
+        (λ _. read_in kind_named (codes "kind") (rows_of (found_of inner.now)) ≡ None) }
+{
+    let text = needed(inner, "kind")?;
+    match read_kind(text) {
+        Some(kind) => Ok(kind),
+        None => Err(BadValue {
+            option: "<KIND>",
+            text,
+            wanted: "a kind is member, subscriber or moderator",
+        }),
+    }
+}
+
+/// What the word of a party means.
+fn read_party(word: &str) -> Option<WithdrawnBy>
+    ensures { result ≡ party_named word.now }
+{
+    match word {
+        "author" => Some(WithdrawnBy::Author),
+        "board" => Some(WithdrawnBy::Board),
+        _ => None,
+    }
+}
+
+/// The argument BY.
+fn party_of_withdrawal<'a>(inner: &ArgMatches<'a>) -> Result<WithdrawnBy, BadValue<'a>>
+    ensures { MatchResult result
+        (λ by. read_in party_named (codes "by") (rows_of (found_of inner.now)) ≡ Some by)
+        (λ _. read_in party_named (codes "by") (rows_of (found_of inner.now)) ≡ None) }
+{
+    let text = needed(inner, "by")?;
+    match read_party(text) {
+        Some(by) => Ok(by),
+        None => Err(BadValue {
+            option: "<BY>",
+            text,
+            wanted: "a message is withdrawn by author or board",
+        }),
+    }
+}
+
 /// The order of `sift`'s matches.
 fn sift_order<'a>(inner: &ArgMatches<'a>) -> Result<Order<'a>, BadValue<'a>>
-    ensures { let day = given day_of_text (first_value (found_of inner.now) (codes "day")) in
-        let min_age = given age_of_text (first_value (found_of inner.now) (codes "min-age")) in
-        let policy = first_value (found_of inner.now) (codes "policy") in
-        let list = list_of (first_value (found_of inner.now) (codes "list")) in
-        let standing = standing_of (first_value (found_of inner.now) (codes "standing")) in
-        MatchResult result
-        (λ order. sift_with day min_age policy list standing ≡ Some order)
-        (λ _. sift_with day min_age policy list standing ≡ None) }
+    ensures { MatchResult result
+        (λ order. sift_of (rows_of (found_of inner.now)) ≡ Some order)
+        (λ _. sift_of (rows_of (found_of inner.now)) ≡ None) }
 {
-    let day = given_day(inner.get_str("day"))?;
-    let min_age = given_age(inner.get_str("min-age"))?;
-    let standing = given_standing(inner.get_str("standing"))?;
-    let policy = inner.get_str("policy");
-    let list = given_list(inner.get_str("list"));
+    let day = given_day(text_of(inner, "day"))?;
+    let min_age = given_age(text_of(inner, "min-age"))?;
+    let standing = given_standing(text_of(inner, "standing"))?;
+    let policy = text_of(inner, "policy");
+    let list = given_list(text_of(inner, "list"));
     Ok(Order::Sift(SiftOrder {
         day,
         min_age,
@@ -240,7 +251,124 @@ fn sift_order<'a>(inner: &ArgMatches<'a>) -> Result<Order<'a>, BadValue<'a>>
     }))
 }
 
-/// The order of the subcommand that was met.
+fn list_add<'a>(inner: &ArgMatches<'a>) -> Result<TableCommand<'a>, BadValue<'a>>
+    ensures { MatchResult result
+        (λ command. list_add_of (rows_of (found_of inner.now)) ≡ Some (command_of command))
+        (λ _. list_add_of (rows_of (found_of inner.now)) ≡ None) }
+{
+    let name = needed(inner, "name")?;
+    Ok(TableCommand::ListAdd { name })
+}
+
+fn person_add<'a>(inner: &ArgMatches<'a>) -> Result<TableCommand<'a>, BadValue<'a>>
+    ensures { MatchResult result
+        (λ command. person_add_of (rows_of (found_of inner.now)) ≡ Some (command_of command))
+        (λ _. person_add_of (rows_of (found_of inner.now)) ≡ None) }
+{
+    let name = needed(inner, "name")?;
+    let token = needed(inner, "token")?;
+    Ok(TableCommand::PersonAdd { name, token })
+}
+
+fn grant<'a>(inner: &ArgMatches<'a>) -> Result<TableCommand<'a>, BadValue<'a>>
+    ensures { MatchResult result
+        (λ command. grant_of (rows_of (found_of inner.now)) ≡ Some (command_of command))
+        (λ _. grant_of (rows_of (found_of inner.now)) ≡ None) }
+{
+    let person = needed(inner, "person")?;
+    let list = needed(inner, "list")?;
+    let kind = kind_of_grant(inner)?;
+    let from = day_of(inner, "from", "<FROM>")?;
+    let until = day_of(inner, "until", "<UNTIL>")?;
+    Ok(TableCommand::Grant {
+        person,
+        list,
+        kind,
+        from,
+        until,
+    })
+}
+
+fn revoke<'a>(inner: &ArgMatches<'a>) -> Result<TableCommand<'a>, BadValue<'a>>
+    ensures { MatchResult result
+        (λ command. revoke_of (rows_of (found_of inner.now)) ≡ Some (command_of command))
+        (λ _. revoke_of (rows_of (found_of inner.now)) ≡ None) }
+{
+    let person = needed(inner, "person")?;
+    let list = needed(inner, "list")?;
+    let kind = kind_of_grant(inner)?;
+    Ok(TableCommand::Revoke { person, list, kind })
+}
+
+fn withdraw<'a>(inner: &ArgMatches<'a>) -> Result<TableCommand<'a>, BadValue<'a>>
+    ensures { MatchResult result
+        (λ command. withdraw_of (rows_of (found_of inner.now)) ≡ Some (command_of command))
+        (λ _. withdraw_of (rows_of (found_of inner.now)) ≡ None) }
+{
+    let list = needed(inner, "list")?;
+    let key = needed(inner, "key")?;
+    let by = party_of_withdrawal(inner)?;
+    Ok(TableCommand::Withdraw { list, key, by })
+}
+
+fn restore<'a>(inner: &ArgMatches<'a>) -> Result<TableCommand<'a>, BadValue<'a>>
+    ensures { MatchResult result
+        (λ command. restore_of (rows_of (found_of inner.now)) ≡ Some (command_of command))
+        (λ _. restore_of (rows_of (found_of inner.now)) ≡ None) }
+{
+    let list = needed(inner, "list")?;
+    let key = needed(inner, "key")?;
+    Ok(TableCommand::Restore { list, key })
+}
+
+fn embargo<'a>(inner: &ArgMatches<'a>) -> Result<TableCommand<'a>, BadValue<'a>>
+    ensures { MatchResult result
+        (λ command. embargo_of (rows_of (found_of inner.now)) ≡ Some (command_of command))
+        (λ _. embargo_of (rows_of (found_of inner.now)) ≡ None) }
+{
+    let list = needed(inner, "list")?;
+    let key = needed(inner, "key")?;
+    let until = day_of(inner, "until", "<UNTIL>")?;
+    Ok(TableCommand::Embargo { list, key, until })
+}
+
+fn lift<'a>(inner: &ArgMatches<'a>) -> Result<TableCommand<'a>, BadValue<'a>>
+    ensures { MatchResult result
+        (λ command. lift_of (rows_of (found_of inner.now)) ≡ Some (command_of command))
+        (λ _. lift_of (rows_of (found_of inner.now)) ≡ None) }
+{
+    let list = needed(inner, "list")?;
+    let key = needed(inner, "key")?;
+    Ok(TableCommand::Lift { list, key })
+}
+
+/// The command of this name.
+fn table_command<'a>(
+    name: &'a str,
+    inner: &ArgMatches<'a>,
+) -> Result<TableCommand<'a>, BadValue<'a>>
+    ensures { MatchResult result
+        (λ command. command_named name.entry.now (rows_of (found_of inner.now)) ≡ Some (command_of command))
+        (λ _. command_named name.entry.now (rows_of (found_of inner.now)) ≡ None) }
+{
+    match name {
+        "list-add" => list_add(inner),
+        "person-add" => person_add(inner),
+        "grant" => grant(inner),
+        "revoke" => revoke(inner),
+        "withdraw" => withdraw(inner),
+        "restore" => restore(inner),
+        "embargo" => embargo(inner),
+        "lift" => lift(inner),
+        _ => Err(BadValue {
+            option: "COMMAND",
+            text: name,
+            wanted: "there is no such command",
+        }),
+    }
+}
+
+/// The order of the command that was met.
 fn read_order<'a>(matches: &ArgMatches<'a>) -> Result<Order<'a>, BadValue<'a>>
     ensures { MatchResult result
         (λ order. order_of (subcommand_rows_of matches.now) ≡ Some order)
@@ -254,14 +382,55 @@ fn read_order<'a>(matches: &ArgMatches<'a>) -> Result<Order<'a>, BadValue<'a>>
             list: DEFAULT_LIST,
             standing: Standing::Public,
         })),
-        Some((name, inner)) => match name {
-            "sift" => sift_order(inner),
-            _ => Err(BadValue {
-                option: "COMMAND",
-                text: name,
-                wanted: "there is no such command",
-            }),
-        },
+        Some((name, inner)) => named_order(name, inner),
+    }
+}
+
+/// The order of a command of this name.
+fn named_order<'a>(name: &'a str, inner: &ArgMatches<'a>) -> Result<Order<'a>, BadValue<'a>>
+    ensures { MatchResult result
+        (λ order. order_of (Some (name.entry.now, rows_of (found_of inner.now))) ≡ Some order)
+        (λ _. order_of (Some (name.entry.now, rows_of (found_of inner.now))) ≡ None) }
+{
+    match name {
+        "sift" => sift_order(inner),
+        _ => Err(no_command(name)),
+    }
+}
+
+/// The order of the command over a database that was met.
+fn read_table_order<'a>(matches: &ArgMatches<'a>) -> Result<TableOrder<'a>, BadValue<'a>>
+    ensures { MatchResult result
+        (λ order. table_order_of (subcommand_rows_of matches.now) ≡ Some order)
+        (λ _. table_order_of (subcommand_rows_of matches.now) ≡ None) }
+{
+    match matches.subcommand() {
+        None => Err(no_command("")),
+        Some((name, inner)) => named_table_order(name, inner),
+    }
+}
+
+/// The order of a command over a database of this name.
+fn named_table_order<'a>(
+    name: &'a str,
+    inner: &ArgMatches<'a>,
+) -> Result<TableOrder<'a>, BadValue<'a>>
+    ensures { MatchResult result
+        (λ order. tables_of name.entry.now (rows_of (found_of inner.now)) ≡ Some order)
+        (λ _. tables_of name.entry.now (rows_of (found_of inner.now)) ≡ None) }
+{
+    let file = needed(inner, "db")?;
+    match table_command(name, inner) {
+        Ok(command) => Ok(TableOrder { file, command }),
+        Err(bad) => Err(bad),
+    }
+}
+
+fn no_command<'a>(name: &'a str) -> BadValue<'a> {
+    BadValue {
+        option: "COMMAND",
+        text: name,
+        wanted: "there is no such command",
     }
 }
 
@@ -284,16 +453,13 @@ fn stop_of(alloc: Global, error: &Error) -> OrderStop
     }
 }
 
-/// The text of a value that its reader refuses, with the usage, as `clap` writes it for its own.
-fn bad_value_text(
-    alloc: Global,
-    command: &mut Command<'_>,
-    bad: &BadValue<'_>,
-) -> Result<String, AllocError> {
+/// The text of a value that its reader refuses, with the usage of its command, as `clap` writes it for its own.
+fn bad_value_text(alloc: Global, name: &str, bad: &BadValue<'_>) -> Result<String, AllocError> {
     let option = bad.option;
     let text = bad.text;
     let wanted = bad.wanted;
     let message = format!(in alloc; "invalid value '{text}' for '{option}': {wanted}")?;
+    let mut command = building::command_named(alloc, name)?;
     let error = command.error(ErrorKind::ValueValidation, message.as_str())?;
     error.to_string(alloc)
 }
@@ -305,7 +471,7 @@ pub fn order<'a>(alloc: Global, words: &'a [&'a str]) -> Result<Order<'a>, Order
         ⊎ ((takes archive_app (map (λ w. w.now) words.entry.now) ≡ false)
         ⊎ (ordered (map (λ w. w.now) words.entry.now) ≡ None))) }
 {
-    let Ok(mut command) = program(alloc) else {
+    let Ok(mut command) = building::program(alloc) else {
         return Err(OrderStop::Memory);
     };
     let matches = match command.try_get_matches_from_mut(words) {
@@ -314,7 +480,30 @@ pub fn order<'a>(alloc: Global, words: &'a [&'a str]) -> Result<Order<'a>, Order
     };
     match read_order(&matches) {
         Ok(order) => Ok(order),
-        Err(bad) => match bad_value_text(alloc, &mut command, &bad) {
+        Err(bad) => match bad_value_text(alloc, matches.subcommand_name().unwrap_or(""), &bad) {
+            Ok(text) => Err(OrderStop::Words(text)),
+            Err(_) => Err(OrderStop::Memory),
+        },
+    }
+}
+
+/// The order of some words over a database, which do not begin with the program's name.
+pub fn table_order<'a>(alloc: Global, words: &'a [&'a str]) -> Result<TableOrder<'a>, OrderStop>
+    ensures ok { IfOk result (λ order. table_ordered (map (λ w. w.now) words.entry.now) ≡ Some order) }
+    ensures refused { IfErr result (λ stop. IsMemory stop
+        ⊎ ((takes tables_app (map (λ w. w.now) words.entry.now) ≡ false)
+        ⊎ (table_ordered (map (λ w. w.now) words.entry.now) ≡ None))) }
+{
+    let Ok(mut command) = building::table_program(alloc) else {
+        return Err(OrderStop::Memory);
+    };
+    let matches = match command.try_get_matches_from_mut(words) {
+        Ok(matches) => matches,
+        Err(error) => return Err(stop_of(alloc, &error)),
+    };
+    match read_table_order(&matches) {
+        Ok(order) => Ok(order),
+        Err(bad) => match bad_value_text(alloc, matches.subcommand_name().unwrap_or(""), &bad) {
             Ok(text) => Err(OrderStop::Words(text)),
             Err(_) => Err(OrderStop::Memory),
         },

@@ -13,7 +13,7 @@
 #![tactic(auto)]
 
 use anyhow::{Context, bail};
-use archive_run::{DayClock, run};
+use archive_run::{DayClock, SystemFiles, run};
 use mail_core::Day;
 use mbox_core::device::{Counted, Tap, read_all, write_bytes};
 use std::alloc::{AllocError, AllocGlobal, Global};
@@ -62,7 +62,16 @@ impl Stage {
         let mut input = Tap::new(alloc, &self.input, passes)?;
         let mut output = Tap::new(alloc, b"", room)?;
         let mut faults = Tap::new(alloc, b"", ROOM)?;
-        let status = run(rt, words, &mut clock, &mut input, &mut output, &mut faults);
+        let files = SystemFiles { rt };
+        let status = run(
+            alloc,
+            &files,
+            words,
+            &mut clock,
+            &mut input,
+            &mut output,
+            &mut faults,
+        );
         Ok(Ran {
             status,
             output,

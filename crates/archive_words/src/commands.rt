@@ -1,0 +1,59 @@
+//! Commands on the tables of a database.
+use mail_core::Day;
+
+/// What a grant makes of a person on a list.
+#[derive(Debug, Clone, Copy, PartialEq, Eq)]
+pub enum GrantKind {
+    Member,
+    Subscriber,
+    Moderator,
+}
+
+/// Who withdraws a message.
+#[derive(Debug, Clone, Copy, PartialEq, Eq)]
+pub enum WithdrawnBy {
+    Author,
+    Board,
+}
+
+/// A command with its values. Names, tokens and keys are as they were given.
+#[derive(Debug, Clone, Copy)]
+pub enum TableCommand<'a> {
+    ListAdd {
+        name: &'a str,
+    },
+    PersonAdd {
+        name: &'a str,
+        token: &'a str,
+    },
+    Grant {
+        person: &'a str,
+        list: &'a str,
+        kind: GrantKind,
+        from: Day,
+        until: Day,
+    },
+    Revoke {
+        person: &'a str,
+        list: &'a str,
+        kind: GrantKind,
+    },
+    Withdraw {
+        list: &'a str,
+        key: &'a str,
+        by: WithdrawnBy,
+    },
+    Restore {
+        list: &'a str,
+        key: &'a str,
+    },
+    Embargo {
+        list: &'a str,
+        key: &'a str,
+        until: Day,
+    },
+    Lift {
+        list: &'a str,
+        key: &'a str,
+    },
+}
