@@ -1,7 +1,7 @@
 //! Who wrote a message (RFC 5322 section 3.6.2).
 ghost use Rattle.std.specs.Prelude.{◌≡◌, MatchOption, Some, None, IfOk};
 ghost use Rattle.std.specs.Option.{option_copied};
-ghost use Rattle.mail_core.specs.Author.{in_angles, address_in, trim_end, trimmed as without_blanks, key_of_body, author_of};
+ghost use Rattle.mail_core.specs.Author.{in_angles, address_in, trim_end, trimmed, key_of_body, author_of};
 
 use crate::field_blocks::is_blank_byte;
 use crate::field_reading::behind_blanks;
@@ -50,7 +50,7 @@ fn before_blanks<'a>(text: &'a [u8]) -> &'a [u8]
 
 /// The text without the spaces and tabs at its ends.
 pub fn trimmed<'a>(text: &'a [u8]) -> &'a [u8]
-    ensures { result.now ≡ without_blanks text.entry.now }
+    ensures { result.now ≡ trimmed text.entry.now }
 {
     before_blanks(behind_blanks(text))
 }
