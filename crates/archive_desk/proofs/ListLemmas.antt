@@ -1,20 +1,19 @@
 -- The headers of a view, and what is made of them.
-use Rattle.std.proofs.Common.{◌≡◌, refl, sym, ap, ◌∙◌, ℕ, ◌+◌, ◌<◌, ◌≤◌, List, [], ◌∷◌, ◌++◌, length, map, drop, get_or, append_assoc, Option, Some, None, Result, Ok, Err}
+use Rattle.std.proofs.Common.{◌≡◌, refl, sym, ap, ◌∙◌, ℕ, ◌+◌, ◌<◌, ◌≤◌, List, [], ◌∷◌, ◌++◌, length, map, drop, get_or, append_assoc, Option, Some, None}
 use Rattle.std.specs.Prelude.{MatchOption}
 use Rattle.std.proofs.lemmas.List.{append-nil, drop_all, drop_more}
 use Rattle.sqlite.specs.Store.{Ghosts}
-use Rattle.archive_machine.specs.Records.{Archive}
 use Rattle.archive_machine.specs.Records.{Message as Remembered}
 use Rattle.archive_machine.specs.Messages.{remembered}
 use Rattle.archive_machine.specs.declared.messages.Message.{Message}
-use Rattle.archive_store.specs.Told.{Goes, GoesIfOpen, Asks}
+use Rattle.archive_store.specs.Told.{Goes, GoesIfOpen}
 use Rattle.archive_store.specs.declared.store.Store.{Store}
 use Rattle.archive_store.proofs.Joins.{goes_as}
 use Rattle.archive_results.specs.Access.{Ask, view_of}
 use Rattle.archive_results.specs.Index.{Header, header_of}
 use Rattle.archive_results.specs.Results.{TreeLine, thread_lines}
 use Rattle.archive_results.specs.Shown.{shown_of}
-use Rattle.archive_desk.specs.Faults.{Reason, not_in_view, reason, ask_reason}
+use Rattle.archive_desk.specs.Faults.{Reason, not_in_view, ask_reason}
 use Rattle.archive_desk.specs.Listing.{or_then, without_thread, thread_reason}
 
 -- ---- a list that is made of another, element by element
