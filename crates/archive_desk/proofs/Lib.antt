@@ -3,3 +3,4 @@ pub mod ImportLemmas
 pub mod AskLemmas
 pub mod WriteLemmas
 pub mod ExportLemmas
+pub mod ListLemmas

@@ -2,3 +2,4 @@ pub mod Asking
 pub mod Exporting
 pub mod Faults
 pub mod Importing
+pub mod Listing

@@ -15,7 +15,7 @@ use sqlite::Alter;
 use std::alloc::Global;
 
 /// Where an export stopped: exactly the first `written` bytes of the text went out, those of the head among them.
-#[derive(Clone, Copy, Debug, PartialEq, Eq)]
+#[derive(Clone, Copy, Debug, PartialEq, Eq, Drop)]
 pub struct ExportStop {
     pub written: u64,
     pub fault: DeskFault,

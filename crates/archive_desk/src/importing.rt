@@ -25,14 +25,14 @@ pub struct Report {
 
 /// Where an import stopped: the first `done` messages of the file were taken in, known or too large, and no other was
 /// taken in.
-#[derive(Clone, Copy, Debug, PartialEq, Eq)]
+#[derive(Clone, Copy, Debug, PartialEq, Eq, Drop)]
 pub struct ImportStop {
     pub done: u64,
     pub fault: ImportFault,
 }
 
 /// Why an import stopped. It prints its number and its name.
-#[derive(Clone, Copy, Debug, PartialEq, Eq)]
+#[derive(Clone, Copy, Debug, PartialEq, Eq, Drop)]
 pub enum ImportFault {
     /// M1: the file is no mbox.
     Mbox(MboxFault),

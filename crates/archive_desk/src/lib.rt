@@ -4,11 +4,13 @@
 mod exporting;
 mod faults;
 mod importing;
+mod listing;
 mod messages;
 mod viewing;
 
 pub use exporting::{ExportStop, export, export_after};
 pub use faults::DeskFault;
 pub use importing::{ImportFault, ImportStop, Report, import};
+pub use listing::{author, month, thread, threads};
 pub use messages::message;
 pub use viewing::view;

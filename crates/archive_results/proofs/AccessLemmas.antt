@@ -1,7 +1,7 @@
 -- What is told of a message, by what the policy says of its marks.
-use Rattle.std.proofs.Common.{◌≡◌, ℕ, List, Some, ap, sym, ◌∙◌}
+use Rattle.std.proofs.Common.{◌≡◌, ℕ, List, Some, ap, ◌∙◌}
 use Rattle.policy_core.specs.declared.access.Standing.{Standing}
-use Rattle.policy_core.specs.Verdict.{Ruling, allowed, denied}
+use Rattle.policy_core.specs.Verdict.{allowed, denied}
 use Rattle.archive_machine.specs.Records.{Message}
 use Rattle.archive_results.specs.Access.{Ask, Marks, marks_of, ruling_on, asked_by, asked_on, served, denied_by}
 

@@ -1,5 +1,5 @@
 -- The index of a list: what is asked of the header of each message, and no text.
-use Rattle.std.specs.Prelude.{ℕ, List, map, filter}
+use Rattle.std.specs.Prelude.{◌≡◌, ℕ, List, map, filter}
 use Rattle.policy_core.specs.declared.access.Standing.{Standing}
 use Rattle.thread_core.specs.declared.entry.Entry.{Entry}
 use Rattle.archive_machine.specs.Records.{Message, Archive}
@@ -24,3 +24,14 @@ index_of archive list = map header_of (messages_in archive list)
 -- the headers of the messages that the policy allows
 abbrev pub allowed_headers : Ask → Standing → List Header → List Header
 allowed_headers ask standing headers = filter (λ h. allows ask standing h.marks) headers
+
+-- the lines of some headers, and what they say about threads
+abbrev pub lines_in : List Header → List Line
+lines_in headers = map (λ h. h.line) headers
+
+abbrev pub entries_in : List Header → List Entry
+entries_in headers = map (λ h. h.entry) headers
+
+-- these are the headers of the messages of a view
+abbrev pub IsIndexOf : List Message → List Header → Type 0
+IsIndexOf view headers = headers ≡ map header_of view

@@ -7,6 +7,8 @@ mod asking;
 mod entries;
 mod headers;
 mod lines;
+mod results;
+mod threads;
 mod trimming;
 
 pub use access::{Marks, allows, asked, is_shown, marks_of};
@@ -14,3 +16,5 @@ pub use asking::{Ask, Asked, Reader};
 pub use entries::{entry_of, line_of, sent_date};
 pub use headers::{Header, header_of};
 pub use lines::{Line, TreeLine};
+pub use results::{allowed_headers, author_lines, month_lines};
+pub use threads::{thread_lines, tree_lines};

@@ -11,7 +11,8 @@ use std::process::Abort;
 use std::test::Fail;
 
 /// Two messages, the second an answer to the first.
-pub const TWO: &[u8] = b"From anna@example.org Tue Mar  4 10:00:00 2003\nFrom: Anna <anna@example.org>\nSubject: Hello\n\nOne.\n\nFrom bob@example.org Wed Mar 12 10:30:00 2003\nSubject: Re: Hello\n\nTwo.\n\n";
+pub const TWO: &[u8] =
+    b"From anna@example.org Tue Mar  4 10:00:00 2003\nFrom: Anna <anna@example.org>\nSubject: Hello\n\nOne.\n\nFrom bob@example.org Wed Mar 12 10:30:00 2003\nSubject: Re: Hello\n\nTwo.\n\n";
 
 /// What the public may not see: a message that was withdrawn.
 pub const WITHDRAWN: &str = "
@@ -45,6 +46,7 @@ pub fn by_nobody<'a>(policy: &'a Policy) -> Result<Ask<'a>, Fail> {
 #[derive(Clone, Copy, Debug, PartialEq, Eq)]
 pub enum Case {
     Imports,
+    Large,
     Messages,
     Exports,
 }
@@ -58,6 +60,7 @@ fn tell<S: Alter>(
 ) -> Result<(), Fail> {
     match case {
         Case::Imports => imports::imports(rt, alloc, store),
+        Case::Large => imports::large(rt, alloc, store),
         Case::Messages => messages::messages(rt, alloc, store),
         Case::Exports => exports::exports(rt, alloc, store),
     }
@@ -65,7 +68,7 @@ fn tell<S: Alter>(
 
 #[test]
 fn stores_over_memory(rt: HostRuntime) -> Result<(), Fail> {
-    for case in [Case::Imports, Case::Messages, Case::Exports] {
+    for case in [Case::Imports, Case::Large, Case::Messages, Case::Exports] {
         let mut store = Store::open_in_memory(rt.alloc())?;
         tell(&rt, rt.alloc(), &mut store, case)?;
     }

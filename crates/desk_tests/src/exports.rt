@@ -23,10 +23,21 @@ pub fn exports<S: Alter>(rt: &impl Abort, alloc: Global, store: &mut Store<S>) -
         stops(rt, alloc, store, &ask, passes)?;
     }
     whole(rt, alloc, store, &ask)?;
-    let ask = Ask { policy: &policy, reader: Reader::Person("who"), list: "soc", day: ask.day };
+    let ask = Ask {
+        policy: &policy,
+        reader: Reader::Person("who"),
+        list: "soc",
+        day: ask.day,
+    };
     let mut out = Tap::new(alloc, b"", 1000)?;
-    let refused = ExportStop { written: 0, fault: DeskFault::NoPerson };
-    assert_eq!(rt; export_after(store, alloc, &ask, HEAD, &mut out), Err(refused));
+    let refused = ExportStop {
+        written: 0,
+        fault: DeskFault::NoPerson,
+    };
+    assert_eq!(rt;
+        export_after(store, alloc, &ask, HEAD, &mut out),
+        Err(refused)
+    );
     assert!(rt; out.bytes().is_empty());
     Ok(())
 }
@@ -40,24 +51,38 @@ fn stops<S: Alter>(
     passes: usize,
 ) -> Result<(), Fail> {
     let mut out = Tap::new(alloc, b"", passes)?;
-    let stopped = ExportStop { written: passes as u64, fault: DeskFault::Write };
+    let stopped = ExportStop {
+        written: passes as u64,
+        fault: DeskFault::Write,
+    };
     assert_eq!(rt; export(store, alloc, ask, &mut out), Err(stopped));
     assert_eq!(rt; Some(out.bytes()), TWO.get(..passes));
     let mut out = Tap::new(alloc, b"", passes)?;
-    assert_eq!(rt; export_after(store, alloc, ask, HEAD, &mut out), Err(stopped));
+    assert_eq!(rt;
+        export_after(store, alloc, ask, HEAD, &mut out),
+        Err(stopped)
+    );
     let text = HEAD.iter().chain(TWO.iter()).take(passes);
     assert!(rt; out.bytes().iter().eq(text));
     Ok(())
 }
 
 /// What was imported is written back, alone and behind a head.
-fn whole<S: Alter>(rt: &impl Abort, alloc: Global, store: &mut Store<S>, ask: &Ask<'_>) -> Result<(), Fail> {
+fn whole<S: Alter>(
+    rt: &impl Abort,
+    alloc: Global,
+    store: &mut Store<S>,
+    ask: &Ask<'_>,
+) -> Result<(), Fail> {
     let len = TWO.len() as u64;
     let mut out = Tap::new(alloc, b"", 1000)?;
     assert_eq!(rt; export(store, alloc, ask, &mut out), Ok(len));
     assert_eq!(rt; out.bytes(), TWO);
     let mut out = Tap::new(alloc, b"", 1000)?;
-    assert_eq!(rt; export_after(store, alloc, ask, HEAD, &mut out), Ok(len + 5));
+    assert_eq!(rt;
+        export_after(store, alloc, ask, HEAD, &mut out),
+        Ok(len + 5)
+    );
     assert!(rt; out.bytes().iter().eq(HEAD.iter().chain(TWO.iter())));
     Ok(())
 }

@@ -39,37 +39,146 @@ enum Wanted {
 const ONE: &[u8] = b"From: Anna <anna@example.org>\nSubject: Hello\n\nOne.\n";
 
 /// A policy, a reader, a list, a day, and what comes of the first message and how many the view holds.
-const CASES: [(&str, Reader<'static>, &str, &str, Wanted, Result<usize, DeskFault>); 12] = [
-    (WITHDRAWN, Reader::Nobody, "soc", "2003-03-20", Wanted::Rule("withdrawn"), Ok(1)),
-    (WITHDRAWN, Reader::Person("mo"), "soc", "2003-03-20", Wanted::Text(ONE), Ok(2)),
-    (WITHDRAWN, Reader::Person("mo"), "soc", "2003-04-01", Wanted::Rule("withdrawn"), Ok(1)),
-    (NONE, Reader::Person("mo"), "soc", "2003-03-20", Wanted::Rule("default"), Ok(0)),
-    (EMBARGO, Reader::Nobody, "soc", "2003-03-31", Wanted::Rule("embargo"), Ok(1)),
-    (EMBARGO, Reader::Nobody, "soc", "2003-04-01", Wanted::Text(ONE), Ok(2)),
-    (EMBARGO, Reader::Nobody, "soc", "2003-03-11", Wanted::Rule("embargo"), Ok(0)),
-    (WITHDRAWN, Reader::Nobody, "other", "2003-03-20", Wanted::Nothing, Ok(0)),
-    (WITHDRAWN, Reader::Person("mo"), "other", "2003-03-20", Wanted::Nothing, Ok(0)),
-    (WITHDRAWN, Reader::Person("who"), "soc", "2003-03-20", Wanted::Fault(DeskFault::NoPerson), Err(DeskFault::NoPerson)),
-    (WITHDRAWN, Reader::Nobody, "xyz", "2003-03-20", Wanted::Fault(DeskFault::NoList), Err(DeskFault::NoList)),
-    (WITHDRAWN, Reader::Person("who"), "xyz", "2003-03-20", Wanted::Fault(DeskFault::NoList), Err(DeskFault::NoList)),
+const CASES: [(
+    &str,
+    Reader<'static>,
+    &str,
+    &str,
+    Wanted,
+    Result<usize, DeskFault>,
+); 12] = [
+    (
+        WITHDRAWN,
+        Reader::Nobody,
+        "soc",
+        "2003-03-20",
+        Wanted::Rule("withdrawn"),
+        Ok(1),
+    ),
+    (
+        WITHDRAWN,
+        Reader::Person("mo"),
+        "soc",
+        "2003-03-20",
+        Wanted::Text(ONE),
+        Ok(2),
+    ),
+    (
+        WITHDRAWN,
+        Reader::Person("mo"),
+        "soc",
+        "2003-04-01",
+        Wanted::Rule("withdrawn"),
+        Ok(1),
+    ),
+    (
+        NONE,
+        Reader::Person("mo"),
+        "soc",
+        "2003-03-20",
+        Wanted::Rule("default"),
+        Ok(0),
+    ),
+    (
+        EMBARGO,
+        Reader::Nobody,
+        "soc",
+        "2003-03-31",
+        Wanted::Rule("embargo"),
+        Ok(1),
+    ),
+    (
+        EMBARGO,
+        Reader::Nobody,
+        "soc",
+        "2003-04-01",
+        Wanted::Text(ONE),
+        Ok(2),
+    ),
+    (
+        EMBARGO,
+        Reader::Nobody,
+        "soc",
+        "2003-03-11",
+        Wanted::Rule("embargo"),
+        Ok(0),
+    ),
+    (
+        WITHDRAWN,
+        Reader::Nobody,
+        "other",
+        "2003-03-20",
+        Wanted::Nothing,
+        Ok(0),
+    ),
+    (
+        WITHDRAWN,
+        Reader::Person("mo"),
+        "other",
+        "2003-03-20",
+        Wanted::Nothing,
+        Ok(0),
+    ),
+    (
+        WITHDRAWN,
+        Reader::Person("who"),
+        "soc",
+        "2003-03-20",
+        Wanted::Fault(DeskFault::NoPerson),
+        Err(DeskFault::NoPerson),
+    ),
+    (
+        WITHDRAWN,
+        Reader::Nobody,
+        "xyz",
+        "2003-03-20",
+        Wanted::Fault(DeskFault::NoList),
+        Err(DeskFault::NoList),
+    ),
+    (
+        WITHDRAWN,
+        Reader::Person("who"),
+        "xyz",
+        "2003-03-20",
+        Wanted::Fault(DeskFault::NoList),
+        Err(DeskFault::NoList),
+    ),
 ];
 
 /// The first message is withdrawn by its author and held back until 1 April 2003; `mo` is a moderator in March.
-pub fn messages<S: Alter>(rt: &impl Abort, alloc: Global, store: &mut Store<S>) -> Result<(), Fail> {
+pub fn messages<S: Alter>(
+    rt: &impl Abort,
+    alloc: Global,
+    store: &mut Store<S>,
+) -> Result<(), Fail> {
     let first = cut(TWO)?.next().ok_or("a first message")?;
     let key = Key::of(&first);
     store.list_add("soc")?;
     store.list_add("other")?;
     store.person_add("mo", "0123456789abcdef")?;
-    store.grant("mo", "soc", Kind::Moderator, day("2003-03-01")?, day("2003-03-31")?)?;
+    store.grant(
+        "mo",
+        "soc",
+        Kind::Moderator,
+        day("2003-03-01")?,
+        day("2003-03-31")?,
+    )?;
     import(store, alloc, "soc", TWO)?;
     store.withdraw("soc", &key, Party::Author)?;
     store.embargo("soc", &key, day("2003-04-01")?)?;
     for (policy, reader, list, text, wanted, count) in CASES.iter() {
         let policy = Policy::read(alloc, policy)?;
-        let ask = Ask { policy: &policy, reader: *reader, list, day: day(text)? };
+        let ask = Ask {
+            policy: &policy,
+            reader: *reader,
+            list,
+            day: day(text)?,
+        };
         asked(rt, alloc, store, &ask, &key, *wanted)?;
-        assert_eq!(rt; view(store, alloc, &ask).map(|messages| messages.len()), *count);
+        assert_eq!(rt;
+            view(store, alloc, &ask).map(|messages| messages.len()),
+            *count
+        );
     }
     Ok(())
 }

@@ -1,4 +1,4 @@
-use Rattle.std.proofs.Common.{◌∙◌, ℕ, List, Option, option_map, ap, sym, refl}
+use Rattle.std.proofs.Common.{◌∙◌, Option, option_map, ap, sym}
 use Rattle.mbox_core.specs.Division.{Item}
 use Rattle.archive_machine.specs.declared.messages.Message.{Message}
 use Rattle.archive_machine.specs.Messages.{remembered}

@@ -1,4 +1,4 @@
-use Rattle.std.proofs.Common.{rules, ◌≡◌, ◌∙◌, [], length, arith, take, ap, sym}
+use Rattle.std.proofs.Common.{◌≡◌, ◌∙◌, length, arith, take, ap, sym}
 use Rattle.std.proofs.lemmas.List.{nil_from_length}
 use Rattle.archive_results.proofs.ShownLemmas.{first_replied}
 use Rattle.archive_results.proofs.entries.references.Goals as goal

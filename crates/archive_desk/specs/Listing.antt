@@ -1,0 +1,28 @@
+-- Why a thread is not shown.
+use Rattle.std.specs.Prelude.{ℕ, List, map, Option, Some, None}
+use Rattle.archive_machine.specs.Records.{Archive}
+use Rattle.archive_results.specs.Access.{Ask, view_of}
+use Rattle.archive_results.specs.Results.{thread_lines}
+use Rattle.archive_results.specs.Shown.{shown_of}
+use Rattle.archive_desk.specs.Faults.{Reason, not_in_view, ask_reason}
+use Rattle.archive_desk.specs.declared.faults.DeskFault.{DeskFault}
+use Rattle.archive_desk.specs.declared.faults.DeskFault.TheVariants.{Write}
+
+-- a fault of a question on a thread: G1 to G5
+abbrev pub IsThreadFault : DeskFault → Type 0
+IsThreadFault Write = ⊥
+IsThreadFault other = Unit {0}
+
+-- G3 where there is no thread
+abbrev pub without_thread : {X : Type 0} → Option X → Option Reason
+without_thread None = Some not_in_view
+without_thread (Some rows) = None
+
+-- G1 and G2 come first
+abbrev pub or_then : Option Reason → Option Reason → Option Reason
+or_then None next = next
+or_then (Some why) next = Some why
+
+-- why a thread is not shown: what is asked is refused, or the view does not hold the message
+abbrev pub thread_reason : Archive → Ask → (key : List ℕ) → Option Reason
+thread_reason archive ask key = or_then (ask_reason archive ask) (without_thread (thread_lines key (map shown_of (view_of archive ask))))

@@ -1,0 +1,131 @@
+//! The lists of a month and of an author, and threads.
+ghost use Rattle.std.specs.Prelude.{◌≡◌, ℕ, List, map, Some, IfErr, IfOk};
+ghost use Rattle.archive_machine.specs.Messages.{remembered};
+ghost use Rattle.archive_results.specs.Access.{view_of};
+ghost use Rattle.archive_results.specs.Index.{IsIndexOf, header_of};
+ghost use Rattle.archive_results.specs.Results.{author_lines, month_lines, tree_lines, thread_lines};
+ghost use Rattle.archive_results.specs.Shown.{shown_of};
+ghost use Rattle.archive_store.specs.Told.{Asks};
+ghost use Rattle.archive_desk.specs.Faults.{IsAskFault, ask_reason, reason};
+ghost use Rattle.archive_desk.specs.Listing.{IsThreadFault, thread_reason};
+
+use crate::faults::DeskFault;
+use crate::viewing::view;
+use archive_results::{
+    Ask, Header, Line, TreeLine, author_lines, header_of, month_lines, thread_lines, tree_lines,
+};
+use archive_store::{Key, Message, Store};
+use mail_core::{Memory, Month};
+use sqlite::Alter;
+use std::alloc::Global;
+use thread_core::Threader;
+
+/// The messages of the view whose sent date lies in a month, by sent date and then in mailbox order. G1 where there is no
+/// such list, G2 where there is no such person.
+pub fn month<S: Alter>(
+    store: &mut Store<S>,
+    alloc: Global,
+    ask: &Ask<'_>,
+    month: Month,
+) -> Result<Vec<Line>, DeskFault>
+    ensures listed { Asks S.Store store.old store.new reason result (λ a. ask_reason a ask.now)
+        (λ a lines. lines.items ≡ month_lines month (map shown_of (view_of a ask.now))) }
+    ensures fault { IfErr result (λ fault. IsAskFault fault) }
+{
+    let headers = read_headers(store, alloc, ask)?;
+    match month_lines(alloc, headers, month) {
+        Ok(lines) => Ok(lines),
+        Err(_) => Err(DeskFault::Memory),
+    }
+}
+
+/// The messages of the view that have an author key, by sent date and then in mailbox order. G1 where there is no such list,
+/// G2 where there is no such person.
+pub fn author<S: Alter>(
+    store: &mut Store<S>,
+    alloc: Global,
+    ask: &Ask<'_>,
+    key: &[u8],
+) -> Result<Vec<Line>, DeskFault>
+    ensures listed { Asks S.Store store.old store.new reason result (λ a. ask_reason a ask.now)
+        (λ a lines. lines.items ≡ author_lines key.now (map shown_of (view_of a ask.now))) }
+    ensures fault { IfErr result (λ fault. IsAskFault fault) }
+{
+    let headers = read_headers(store, alloc, ask)?;
+    match author_lines(alloc, headers, key) {
+        Ok(lines) => Ok(lines),
+        Err(_) => Err(DeskFault::Memory),
+    }
+}
+
+/// The threads of the view (RFC 5256, section 3, THREAD=REFERENCES), in preorder. G1 where there is no such list, G2 where
+/// there is no such person.
+pub fn threads<T: Threader, S: Alter>(
+    store: &mut Store<S>,
+    alloc: Global,
+    ask: &Ask<'_>,
+    threader: &T,
+) -> Result<Vec<TreeLine>, DeskFault>
+    ensures listed { Asks S.Store store.old store.new reason result (λ a. ask_reason a ask.now)
+        (λ a rows. rows.items ≡ tree_lines (map shown_of (view_of a ask.now))) }
+    ensures fault { IfErr result (λ fault. IsAskFault fault) }
+{
+    let headers = read_headers(store, alloc, ask)?;
+    match tree_lines(alloc, threader, headers) {
+        Ok(rows) => Ok(rows),
+        Err(_) => Err(DeskFault::Memory),
+    }
+}
+
+/// The rows of the top thread of the view that holds the message of a key. G1 where there is no such list, G2 where there is
+/// no such person, G3 where the view does not hold the message.
+pub fn thread<T: Threader, S: Alter>(
+    store: &mut Store<S>,
+    alloc: Global,
+    ask: &Ask<'_>,
+    threader: &T,
+    key: &Key,
+) -> Result<Vec<TreeLine>, DeskFault>
+    ensures listed { Asks S.Store store.old store.new reason result (λ a. thread_reason a ask.now key.now)
+        (λ a rows. thread_lines key.now (map shown_of (view_of a ask.now)) ≡ Some rows.items) }
+    ensures fault { IfErr result (λ fault. IsThreadFault fault) }
+{
+    let headers = match read_headers(store, alloc, ask) {
+        Ok(headers) => headers,
+        Err(fault) => return Err(fault),
+    };
+    match thread_lines(alloc, threader, headers, key) {
+        Ok(Some(rows)) => Ok(rows),
+        Ok(None) => Err(DeskFault::NotInView),
+        Err(_) => Err(DeskFault::Memory),
+    }
+}
+
+/// The headers of the messages of the view, in mailbox order: the list is read once, and each header once.
+fn read_headers<S: Alter>(
+    store: &mut Store<S>,
+    alloc: Global,
+    ask: &Ask<'_>,
+) -> Result<Vec<Header>, DeskFault>
+    ensures held { Asks S.Store store.old store.new reason result (λ a. ask_reason a ask.now)
+        (λ a headers. IsIndexOf (view_of a ask.now) headers.items) }
+    ensures fault { IfErr result (λ fault. IsAskFault fault) }
+{
+    let messages = view(store, alloc, ask)?;
+    match headers_of(alloc, &messages) {
+        Ok(headers) => Ok(headers),
+        Err(_) => Err(DeskFault::Memory),
+    }
+}
+
+/// The headers of messages.
+fn headers_of(alloc: Global, messages: &[Message]) -> Result<Vec<Header>, Memory>
+    ensures { IfOk result (λ headers. (list : List ℕ) → headers.items ≡ map (λ m. header_of (remembered list m)) messages.now) }
+{
+    let mut headers = Vec::with_capacity(alloc, messages.len())?;
+    for message in messages.iter() {
+        let header = header_of(alloc, message)?;
+        headers.push(header)?;
+    }
+    Ok(headers)
+}

@@ -1,0 +1,78 @@
+-- What the headers of a view give is what the view gives.
+use Rattle.std.proofs.Common.{◌≡◌, ℕ, Bool, true, false, cond, List, [], ◌∷◌, map, filter, Option, Some, None, option_map, refl, ap, ◌∙◌}
+use Rattle.std.specs.Option.{option_and_then}
+use Rattle.policy_core.specs.declared.access.Standing.{Standing}
+use Rattle.thread_core.specs.Threads.{threads_of}
+use Rattle.thread_core.specs.TopThread.{top_thread_of}
+use Rattle.thread_core.specs.declared.entry.Entry.{Entry}
+use Rattle.thread_core.specs.declared.row.Row.{Row}
+use Rattle.archive_machine.specs.Records.{Message}
+use Rattle.archive_results.specs.Access.{Ask, is_shown}
+use Rattle.archive_results.specs.Shown.{Line, shown_of, entry_of}
+use Rattle.archive_results.specs.Results.{lines_of, by_sent, is_of_month, is_of_author, month_lines, author_lines, TreeLine, tree_line, rows_of, tree_lines, within, place_of, thread_lines}
+use Rattle.archive_results.specs.Index.{Header, header_of, IsIndexOf, allowed_headers, lines_in, entries_in}
+
+lines_of_view : (view : List Message) → lines_in (map header_of view) ≡ lines_of (map shown_of view)
+lines_of_view [] = refl
+lines_of_view (m ∷ ms) = rw (lines_of_view ms) refl
+
+entries_of_view : (view : List Message) → entries_in (map header_of view) ≡ map (λ s. entry_of s.item) (map shown_of view)
+entries_of_view [] = refl
+entries_of_view (m ∷ ms) = rw (entries_of_view ms) refl
+
+pub lines_are : (view : List Message) (headers : List Header) (lines : List Line) → IsIndexOf view headers → lines ≡ lines_in headers → lines ≡ lines_of (map shown_of view)
+lines_are view headers lines e h = h ∙ ap lines_in e ∙ lines_of_view view
+
+pub rows_are : (view : List Message) (headers : List Header) (entries : List Entry) (rows : List Row) → IsIndexOf view headers → entries ≡ entries_in headers → rows ≡ threads_of entries → rows ≡ rows_of (map shown_of view)
+rows_are view headers entries rows e h r = r ∙ ap threads_of (h ∙ ap entries_in e ∙ entries_of_view view)
+
+allowed_view : (ask : Ask) (standing : Standing) (messages : List Message) → allowed_headers ask standing (map header_of messages) ≡ map header_of (filter (is_shown ask standing) messages)
+allowed_view ask standing [] = refl
+allowed_view ask standing (m ∷ ms) = rw (allowed_view ask standing ms) (go (is_shown ask standing m) (filter (is_shown ask standing) ms))
+  where
+    go : (b : Bool) (rest : List Message) → cond b (header_of m ∷ map header_of rest) (map header_of rest) ≡ map header_of (cond b (m ∷ rest) rest)
+    go true rest = refl
+    go false rest = refl
+
+pub allowed_are : (ask : Ask) (standing : Standing) (messages : List Message) (headers shown : List Header) → IsIndexOf messages headers → shown ≡ allowed_headers ask standing headers
+    → IsIndexOf (filter (is_shown ask standing) messages) shown
+allowed_are ask standing messages headers shown e h = h ∙ ap (allowed_headers ask standing) e ∙ allowed_view ask standing messages
+
+pub month_is : (month : ℕ) (view : List Message) (headers : List Header) (found lines : List Line) → IsIndexOf view headers → found ≡ filter (is_of_month month) (lines_in headers) → lines ≡ by_sent found
+    → lines ≡ month_lines month (map shown_of view)
+month_is month view headers found lines e h s = s ∙ ap by_sent (h ∙ ap (filter (is_of_month month)) (lines_are view headers (lines_in headers) e refl))
+
+pub author_is : (key : List ℕ) (view : List Message) (headers : List Header) (found lines : List Line) → IsIndexOf view headers → found ≡ filter (is_of_author key) (lines_in headers) → lines ≡ by_sent found
+    → lines ≡ author_lines key (map shown_of view)
+author_is key view headers found lines e h s = s ∙ ap by_sent (h ∙ ap (filter (is_of_author key)) (lines_are view headers (lines_in headers) e refl))
+
+-- ---- threads
+
+pub trees_are : (view : List Message) (lines : List Line) (rows : List Row) (shown : List TreeLine) → lines ≡ lines_of (map shown_of view) → rows ≡ rows_of (map shown_of view) → shown ≡ map (tree_line lines) rows
+    → shown ≡ tree_lines (map shown_of view)
+trees_are view lines rows shown l r s = s ∙ ap (map (tree_line lines)) r ∙ ap (λ (ls : List Line). map (tree_line ls) (rows_of (map shown_of view))) l
+
+abbrev thread_from : List ℕ → List Line → List Row → Option (List TreeLine)
+thread_from key lines rows = option_map (λ range. map (tree_line lines) (within range rows)) (option_and_then (top_thread_of rows) (place_of key lines))
+
+thread_by_parts : (key : List ℕ) (view : List Message) (lines : List Line) (rows : List Row) → lines ≡ lines_of (map shown_of view) → rows ≡ rows_of (map shown_of view)
+    → thread_from key lines rows ≡ thread_lines key (map shown_of view)
+thread_by_parts key view lines rows l r = ap (λ (ls : List Line). thread_from key ls rows) l ∙ ap (thread_from key (lines_of (map shown_of view))) r
+
+pub no_place : (key : List ℕ) (view : List Message) (lines : List Line) → lines ≡ lines_of (map shown_of view) → None ≡ place_of key lines → None ≡ thread_lines key (map shown_of view)
+no_place key view lines l p =
+    ap (λ (place : Option ℕ). option_map (λ range. map (tree_line lines) (within range (rows_of (map shown_of view)))) (option_and_then (top_thread_of (rows_of (map shown_of view))) place)) p
+    ∙ thread_by_parts key view lines (rows_of (map shown_of view)) l refl
+
+pub no_thread : (key : List ℕ) (view : List Message) (lines : List Line) (rows : List Row) (place : ℕ) → lines ≡ lines_of (map shown_of view) → rows ≡ rows_of (map shown_of view)
+    → Some place ≡ place_of key lines → None ≡ top_thread_of rows place → None ≡ thread_lines key (map shown_of view)
+no_thread key view lines rows place l r p t =
+    ap (option_map (λ range. map (tree_line lines) (within range rows))) (t ∙ ap (option_and_then (top_thread_of rows)) p)
+    ∙ thread_by_parts key view lines rows l r
+
+pub one_thread : (key : List ℕ) (view : List Message) (lines : List Line) (rows part : List Row) (place : ℕ) (range : ℕ × ℕ) (shown : List TreeLine) → lines ≡ lines_of (map shown_of view) → rows ≡ rows_of (map shown_of view)
+    → Some place ≡ place_of key lines → Some range ≡ top_thread_of rows place → part ≡ within range rows → shown ≡ map (tree_line lines) part → Some shown ≡ thread_lines key (map shown_of view)
+one_thread key view lines rows part place range shown l r p t w s =
+    ap (λ (ts : List TreeLine). Some ts) (s ∙ ap (map (tree_line lines)) w)
+    ∙ ap (option_map (λ range. map (tree_line lines) (within range rows))) (t ∙ ap (option_and_then (top_thread_of rows)) p)
+    ∙ thread_by_parts key view lines rows l r
