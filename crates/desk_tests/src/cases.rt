@@ -1,5 +1,5 @@
 //! The worked cases for any store, and the stores that are told them.
-use crate::{exports, imports, messages};
+use crate::{exports, imports, listings, messages};
 use archive_results::{Ask, Reader};
 use archive_store::Store;
 use mail_core::Day;
@@ -49,6 +49,7 @@ pub enum Case {
     Large,
     Messages,
     Exports,
+    Listings,
 }
 
 /// Tells an empty store a case.
@@ -63,12 +64,19 @@ fn tell<S: Alter>(
         Case::Large => imports::large(rt, alloc, store),
         Case::Messages => messages::messages(rt, alloc, store),
         Case::Exports => exports::exports(rt, alloc, store),
+        Case::Listings => listings::listings(rt, alloc, store),
     }
 }
 
 #[test]
 fn stores_over_memory(rt: HostRuntime) -> Result<(), Fail> {
-    for case in [Case::Imports, Case::Large, Case::Messages, Case::Exports] {
+    for case in [
+        Case::Imports,
+        Case::Large,
+        Case::Messages,
+        Case::Exports,
+        Case::Listings,
+    ] {
         let mut store = Store::open_in_memory(rt.alloc())?;
         tell(&rt, rt.alloc(), &mut store, case)?;
     }

@@ -8,4 +8,6 @@ mod exports;
 #[cfg(test)]
 mod imports;
 #[cfg(test)]
+mod listings;
+#[cfg(test)]
 mod messages;

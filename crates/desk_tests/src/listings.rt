@@ -1,0 +1,157 @@
+//! Lists of months and of authors, and threads.
+use crate::cases::{TWO, WITHDRAWN, by_nobody};
+use archive_desk::{DeskFault, author, import, month, thread, threads};
+use archive_results::{Ask, Line, Reader, TreeLine};
+use archive_store::{Key, Party, Store};
+use mail_core::Month;
+use mbox_core::cut;
+use policy_core::Policy;
+use sqlite::Alter;
+use std::alloc::Global;
+use std::process::Abort;
+use std::test::Fail;
+use thread_core::PlainThreader;
+
+/// A row as it is to come: its depth, and the first byte of its author, none where the message is missing or has no author.
+type Row = (usize, Option<u8>);
+
+/// Messages whose authors are numbered, and the rows of their threads.
+const THREADS: [(&str, &[u8], &[Row]); 4] = [
+    (
+        "owners",
+        b"From a@b Tue Mar  4 10:00:00 2003\nFrom: 0\nMessage-ID: <a@x>\n\n0\n\nFrom a@b Tue Mar  4 10:00:01 2003\nFrom: 1\nReferences: <a@x> <b@x>\n\n1\n\nFrom a@b Tue Mar  4 10:00:02 2003\nFrom: 2\nMessage-ID: <b@x>\n\n2\n\n",
+        &[(0, Some(b'0')), (0, Some(b'2')), (1, Some(b'1'))],
+    ),
+    (
+        "loop",
+        b"From a@b Tue Mar  4 10:00:00 2003\nFrom: 0\nMessage-ID: <a@x>\nReferences: <b@x>\n\n0\n\nFrom a@b Tue Mar  4 10:00:01 2003\nFrom: 1\nMessage-ID: <b@x>\nReferences: <a@x>\n\n1\n\n",
+        &[(0, Some(b'1')), (1, Some(b'0'))],
+    ),
+    (
+        "missing",
+        b"From a@b Tue Mar  4 10:00:00 2003\nFrom: 0\nIn-Reply-To: <p@x>\n\n0\n\nFrom a@b Tue Mar  4 10:00:01 2003\nFrom: 1\nIn-Reply-To: <p@x>\n\n1\n\n",
+        &[(0, None), (1, Some(b'0')), (1, Some(b'1'))],
+    ),
+    (
+        "subjects",
+        b"From a@b Tue Mar  4 10:00:00 2003\nFrom: 0\nSubject: x\n\n0\n\nFrom a@b Tue Mar  4 10:00:01 2003\nFrom: 1\nSubject: Re: x\n\n1\n\nFrom a@b Tue Mar  4 10:00:02 2003\nFrom: 2\nSubject: x\n\n2\n\nFrom a@b Tue Mar  4 10:00:03 2003\nFrom: 3\nSubject: Re: x\n\n3\n\n",
+        &[
+            (0, None),
+            (1, Some(b'0')),
+            (2, Some(b'1')),
+            (1, Some(b'2')),
+            (1, Some(b'3')),
+        ],
+    ),
+];
+
+/// Threads, months and authors on an empty archive.
+pub fn listings<S: Alter>(
+    rt: &impl Abort,
+    alloc: Global,
+    store: &mut Store<S>,
+) -> Result<(), Fail> {
+    let policy = Policy::open();
+    let ask = by_nobody(&policy)?;
+    for (list, mbox, wanted) in THREADS.iter() {
+        store.list_add(list)?;
+        import(store, alloc, list, mbox)?;
+        let ask = Ask {
+            policy: &policy,
+            reader: Reader::Nobody,
+            list,
+            day: ask.day,
+        };
+        let rows = threads(store, alloc, &ask, &PlainThreader)?;
+        are_rows(rt, &rows, wanted)?;
+    }
+    store.list_add("soc")?;
+    import(store, alloc, "soc", TWO)?;
+    by_month(rt, alloc, store, &ask)?;
+    by_author(rt, alloc, store, &ask)?;
+    withheld(rt, alloc, store)
+}
+
+fn are_rows(rt: &impl Abort, rows: &[TreeLine], wanted: &[Row]) -> Result<(), Fail> {
+    assert_eq!(rt; rows.len(), wanted.len());
+    for (row, want) in rows.iter().zip(wanted.iter()) {
+        let shown = row
+            .line
+            .as_ref()
+            .and_then(|line| line.author.first().copied());
+        assert_eq!(rt; (row.depth, shown), *want);
+    }
+    Ok(())
+}
+
+fn are_subjects(rt: &impl Abort, lines: &[Line], wanted: &[&[u8]]) -> Result<(), Fail> {
+    assert_eq!(rt; lines.len(), wanted.len());
+    for (line, want) in lines.iter().zip(wanted.iter()) {
+        assert_eq!(rt; line.subject.as_slice(), *want);
+    }
+    Ok(())
+}
+
+/// Two messages are of March 2003, and none of April; an unknown list has no month.
+fn by_month<S: Alter>(
+    rt: &impl Abort,
+    alloc: Global,
+    store: &mut Store<S>,
+    ask: &Ask<'_>,
+) -> Result<(), Fail> {
+    let march = Month::read(b"2003-03").ok_or("a month")?;
+    let april = Month::read(b"2003-04").ok_or("a month")?;
+    are_subjects(
+        rt,
+        &month(store, alloc, ask, march)?,
+        &[b"Hello".as_slice(), b"Re: Hello".as_slice()],
+    )?;
+    are_subjects(rt, &month(store, alloc, ask, april)?, &[])?;
+    let unknown = Ask {
+        policy: ask.policy,
+        reader: Reader::Nobody,
+        list: "xyz",
+        day: ask.day,
+    };
+    assert!(rt; matches!(month(store, alloc, &unknown, march), Err(DeskFault::NoList)));
+    Ok(())
+}
+
+/// The author is compared as the key that it is; the second message has no author.
+fn by_author<S: Alter>(
+    rt: &impl Abort,
+    alloc: Global,
+    store: &mut Store<S>,
+    ask: &Ask<'_>,
+) -> Result<(), Fail> {
+    are_subjects(
+        rt,
+        &author(store, alloc, ask, b"anna@example.org")?,
+        &[b"Hello".as_slice()],
+    )?;
+    are_subjects(rt, &author(store, alloc, ask, b"Anna@example.org")?, &[])?;
+    are_subjects(
+        rt,
+        &author(store, alloc, ask, b"")?,
+        &[b"Re: Hello".as_slice()],
+    )
+}
+
+/// The thread of a message, and none of one that the policy withholds; it is withdrawn, and the other is as if it were alone.
+fn withheld<S: Alter>(rt: &impl Abort, alloc: Global, store: &mut Store<S>) -> Result<(), Fail> {
+    let policy = Policy::read(alloc, WITHDRAWN)?;
+    let ask = by_nobody(&policy)?;
+    let first = Key::of(&cut(TWO)?.next().ok_or("a first message")?);
+    let second = Key::of(&cut(TWO)?.nth(1).ok_or("a second message")?);
+    let rows = thread(store, alloc, &ask, &PlainThreader, &second)?;
+    are_rows(rt, &rows, &[(0, Some(b'a')), (1, None)])?;
+    store.withdraw("soc", &first, Party::Board)?;
+    assert!(rt;
+        matches!(
+            thread(store, alloc, &ask, &PlainThreader, &first),
+            Err(DeskFault::NotInView)
+        )
+    );
+    let rows = thread(store, alloc, &ask, &PlainThreader, &second)?;
+    are_rows(rt, &rows, &[(0, None)])
+}
