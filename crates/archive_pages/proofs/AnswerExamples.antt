@@ -90,9 +90,11 @@ an_mbox_without_messages = refl
 -- ---- two messages, the first withdrawn by its author
 
 abbrev two : Archive
-two = record soc { messages =
-    record { list = codes "soc"; key = codes "1111111111111111111111111111111111111111111111111111111111111111"; sender = codes "anna@example.org"; arrival = pos 1046772000; text = codes "From: Anna <anna@example.org>\nSubject: Hello\n\nOne.\n"; withdrawn = pos 1; embargo = None }
-    ∷ record { list = codes "soc"; key = codes "2222222222222222222222222222222222222222222222222222222222222222"; sender = codes "bob@example.org"; arrival = pos 1047465000; text = codes "Subject: Re: Hello\n\nTwo.\n"; withdrawn = pos 0; embargo = None } ∷ [] }
+two = record soc {
+  messages =
+      record { list = codes "soc"; key = codes "1111111111111111111111111111111111111111111111111111111111111111"; sender = codes "anna@example.org"; arrival = pos 1046772000; text = codes "From: Anna <anna@example.org>\nSubject: Hello\n\nOne.\n"; withdrawn = pos 1; embargo = None }
+      ∷ record { list = codes "soc"; key = codes "2222222222222222222222222222222222222222222222222222222222222222"; sender = codes "bob@example.org"; arrival = pos 1047465000; text = codes "Subject: Re: Hello\n\nTwo.\n"; withdrawn = pos 0; embargo = None } ∷ [];
+}
 
 -- the public sees no withdrawn message
 abbrev example : List Rule

@@ -35,7 +35,9 @@ fn answer_read<T: Threader, S: Alter, W: Sink>(
     ensures cause { OnErr result (W.failures output.old < W.failures output.new) }
 {
     match read {
-        RequestRead::Whole(request) => answer_request(store, alloc, policy, threader, day, request, output),
+        RequestRead::Whole(request) => answer_request(
+            store, alloc, policy, threader, day, request, output,
+        ),
         RequestRead::Malformed => write_failure(output, Failure::BadRequest),
         RequestRead::TooLarge => write_failure(output, Failure::HeadTooLarge),
     }

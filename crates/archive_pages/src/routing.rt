@@ -22,7 +22,8 @@ use std::alloc::Global;
 use thread_core::Threader;
 
 /// The head of an mbox.
-const MBOX_HEAD: &[u8] = b"HTTP/1.1 200 OK\r\nContent-Type: application/mbox\r\nConnection: close\r\n\r\n";
+const MBOX_HEAD: &[u8] =
+    b"HTTP/1.1 200 OK\r\nContent-Type: application/mbox\r\nConnection: close\r\n\r\n";
 
 /// Writes the reply that was found, or 503 where none was.
 fn write_found<W: Sink>(
