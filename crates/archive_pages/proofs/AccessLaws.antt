@@ -92,7 +92,6 @@ module _ (archive : Archive) (ask : Ask) (m : Message) where
 -- ---- one message
 
 module _ (archive : Archive) (rules : List Rule) (day : ℤ) (head : RequestHead) where
-
   module _ (reader : Option (List ℕ)) (list key : List ℕ) where
     abbrev ask : Ask
     ask = asking rules day reader list

@@ -62,15 +62,27 @@ module _ {S : Type 0} (g : Ghosts S) (old new : Store S) (ask : Ask) (before aft
   exported_whole count goes = inl (goes_as g old new (λ a b. (b ≡ a) × (ask_reason a ask ≡ None) × (after ≡ before ++ (mbox_head ++ exported a ask))
       × (count ≡ min (length (mbox_head ++ exported a ask)) (2 ^ 64 - 1)))
       (λ a b. (b ≡ a) × Sends {E = WriteFault} (λ e. e.written) (MboxReply ask a) before after (Ok 200))
-      (λ a b h. (h.0, (mbox_reply (exported a ask), sym (on_listed a ask (mbox_reply (exported a ask)) h.1),
-      (refl, h.2 ∙ ap (λ x. before ++ (x ++ exported a ask)) (mbox_head_is (exported a ask)))))) goes)
+      (λ a b h. (
+        h.0,
+        (
+          mbox_reply (exported a ask),
+          sym (on_listed a ask (mbox_reply (exported a ask)) h.1),
+          (refl, h.2 ∙ ap (λ x. before ++ (x ++ exported a ask)) (mbox_head_is (exported a ask))),
+        ),
+      )) goes)
 
   pub exported_part : (count : ℕ) → Goes g old new (λ a b. (b ≡ a) × IsExportRefused (ask_reason a ask) before after (mbox_head ++ exported a ask) count not_written)
       → Serves g old new {E = WriteFault} (λ e. e.written) (MboxReply ask) before after (Err (record { written = count }))
   exported_part count goes = inl (goes_as g old new (λ a b. (b ≡ a) × IsExportRefused (ask_reason a ask) before after (mbox_head ++ exported a ask) count not_written)
       (λ a b. (b ≡ a) × Sends {E = WriteFault} (λ e. e.written) (MboxReply ask a) before after (Err (record { written = count })))
-      (λ a b h. (h.0, (mbox_reply (exported a ask), sym (on_listed a ask (mbox_reply (exported a ask)) h.1.0),
-      (λ low. subst (λ x. IsCutShort before after (x ++ exported a ask) count) (mbox_head_is (exported a ask)) (h.1.1 low))))) goes)
+      (λ a b h. (
+        h.0,
+        (
+          mbox_reply (exported a ask),
+          sym (on_listed a ask (mbox_reply (exported a ask)) h.1.0),
+          (λ low. subst (λ x. IsCutShort before after (x ++ exported a ask) count) (mbox_head_is (exported a ask)) (h.1.1 low)),
+        ),
+      )) goes)
 
   pub exported_none : (stop : ExportStop) (mid : List ℕ) (result : Result ℕ WriteFault)
       → MatchOption (stop_reason stop) (GoesIfOpen g old new (λ a b. b ≡ a))

@@ -5,4 +5,3 @@ mod AccessLaws
 pub mod ServingLemmas
 mod HeadReading
 mod DeskLemmas
-pub mod AnswerExamples

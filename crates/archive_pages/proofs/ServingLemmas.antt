@@ -74,8 +74,11 @@ module _ {S : Type 0} (g : Ghosts S) where
         (λ a c (b, h, k). (k.0 ∙ h.0, sends_as written (Says a) (Says' a) before after result (λ r it. says a r h.1 it) (subst (λ x. Sends written (Says x) before after result) h.0 k.1)))
         (goes_on g old mid new (λ a b. (b ≡ a) × P a) (λ b c. (c ≡ b) × Sends written (Says b) before after result) first second))
     serves_after old mid new P Says Says' first says (inr (second, sent)) =
-        inr (goes_as_if_open g old new (λ a c. (b : Archive) × ((b ≡ a) × P a) × (c ≡ b)) (λ a c. c ≡ a) (λ a c (b, h, k). k ∙ h.0)
-        (goes_on_if_open g old mid new (λ a b. (b ≡ a) × P a) (λ b c. c ≡ b) first second), sent)
+        inr (
+          goes_as_if_open g old new (λ a c. (b : Archive) × ((b ≡ a) × P a) × (c ≡ b)) (λ a c. c ≡ a) (λ a c (b, h, k). k ∙ h.0)
+              (goes_on_if_open g old mid new (λ a b. (b ≡ a) × P a) (λ b c. c ≡ b) first second),
+          sent,
+        )
 
     -- what was found, or 503
     pub serves_either : (old new : Store S) {A F : Type 0} (search_result : Result A F) (made : A → Reply) (Holds : Archive → A → Type 0) (Says : Archive → Reply → Type 0)

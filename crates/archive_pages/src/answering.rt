@@ -17,12 +17,14 @@ use mbox_core::device::{Sink, Source, WriteFault};
 use policy_core::Policy;
 use sqlite::Alter;
 use std::alloc::Global;
+use thread_core::Threader;
 
 /// Answers what was read of a request.
-fn answer_read<S: Alter, W: Sink>(
+fn answer_read<T: Threader, S: Alter, W: Sink>(
     store: &mut Store<S>,
     alloc: Global,
     policy: &Policy,
+    threader: &T,
     day: Day,
     read: &RequestRead<'_>,
     output: &mut W,
@@ -33,7 +35,9 @@ fn answer_read<S: Alter, W: Sink>(
     ensures cause { OnErr result (W.failures output.old < W.failures output.new) }
 {
     match read {
-        RequestRead::Whole(request) => answer_request(store, alloc, policy, day, request, output),
+        RequestRead::Whole(request) => answer_request(
+            store, alloc, policy, threader, day, request, output,
+        ),
         RequestRead::Malformed => write_failure(output, Failure::BadRequest),
         RequestRead::TooLarge => write_failure(output, Failure::HeadTooLarge),
     }
@@ -42,10 +46,11 @@ fn answer_read<S: Alter, W: Sink>(
 /// Answers one request: reads its head from `input`, writes the reply to `output`, and answers the status of the reply, which went
 /// out whole. The store stays as it is. S1 where the input failed before it told a head: nothing was written. S2 where the
 /// output failed. Where memory or the database refuses before the first byte of the reply, the reply is 503.
-pub fn answer<S: Alter, R: Source, W: Sink>(
+pub fn answer<T: Threader, S: Alter, R: Source, W: Sink>(
     store: &mut Store<S>,
     alloc: Global,
     policy: &Policy,
+    threader: &T,
     day: Day,
     input: &mut R,
     output: &mut W,
@@ -64,7 +69,7 @@ pub fn answer<S: Alter, R: Source, W: Sink>(
     let Ok(read) = read_request(input, &mut buffer) else {
         return Err(ServeFault::Read);
     };
-    match answer_read(store, alloc, policy, day, &read, output) {
+    match answer_read(store, alloc, policy, threader, day, &read, output) {
         Ok(status) => Ok(status),
         Err(fault) => Err(ServeFault::Write {
             written: fault.written,

@@ -16,7 +16,10 @@ use sqlite::Alter;
 use std::alloc::Global;
 
 /// The name of the person who has a token, if somebody has it.
-pub(crate) fn find_person<S: Alter>(store: &mut Store<S>, token: &str) -> Result<Option<String>, Unavailable>
+pub(crate) fn find_person<S: Alter>(
+    store: &mut Store<S>,
+    token: &str,
+) -> Result<Option<String>, Unavailable>
     ensures { Finds S.Store store.old store.new result (λ a name. option_map string_bytes name ≡ person_of_token a token.now) }
 {
     match store.person_of_token(token) {
@@ -26,7 +29,10 @@ pub(crate) fn find_person<S: Alter>(store: &mut Store<S>, token: &str) -> Result
 }
 
 /// The page of all lists.
-pub(crate) fn find_lists<S: Alter>(store: &mut Store<S>, alloc: Global) -> Result<Reply<'static>, Unavailable>
+pub(crate) fn find_lists<S: Alter>(
+    store: &mut Store<S>,
+    alloc: Global,
+) -> Result<Reply<'static>, Unavailable>
     ensures { Finds S.Store store.old store.new result (λ a reply. reply_made reply ≡ page_reply (lists_page (list_names a))) }
 {
     let names = match store.lists(alloc) {

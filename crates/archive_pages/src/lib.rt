@@ -1,10 +1,11 @@
 //! The archive's pages: from the bytes of a request to the bytes of a reply (RFC 9112).
 #![tactic(auto)]
 
-pub mod laws;
 mod answering;
 mod faults;
 mod finding;
+pub mod laws;
+mod listing;
 mod paths;
 mod replies;
 mod routing;

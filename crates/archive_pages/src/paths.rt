@@ -10,9 +10,13 @@ ghost use Rattle.archive_pages.specs.Serving.{Serves};
 
 use crate::finding::find_person;
 use crate::replies::Failure;
+use crate::routing::{
+    answer_author, answer_lists, answer_mbox, answer_message, answer_month, answer_thread,
+    answer_threads,
+};
 use crate::writing::write_failure;
-use archive_requests::{Request, Route, route_of};
-use archive_results::Reader;
+use archive_requests::{Request, Route, decoded, route_of};
+use archive_results::{Ask, Reader};
 use archive_store::Store;
 use http::StatusCode;
 use mail_core::Day;
@@ -20,12 +24,14 @@ use mbox_core::device::{Sink, WriteFault};
 use policy_core::Policy;
 use sqlite::Alter;
 use std::alloc::Global;
+use thread_core::Threader;
 
 /// Answers what a route leads to.
-fn answer_route<S: Alter, W: Sink>(
+fn answer_route<T: Threader, S: Alter, W: Sink>(
     store: &mut Store<S>,
     alloc: Global,
     policy: &Policy,
+    threader: &T,
     day: Day,
     reader: Reader<'_>,
     route: &Route<'_>,
@@ -36,14 +42,74 @@ fn answer_route<S: Alter, W: Sink>(
     ensures quiet { OnOk result (W.failures output.new ≡ W.failures output.old) }
     ensures cause { OnErr result (W.failures output.old < W.failures output.new) }
 {
-    write_failure(output, Failure::Unavailable)
+    match route {
+        Route::Lists => answer_lists(store, alloc, output),
+        Route::Message { list, key } => {
+            let ask = Ask {
+                policy,
+                reader,
+                list,
+                day,
+            };
+            answer_message(store, alloc, &ask, key, output)
+        }
+        Route::Month { list, month } => {
+            let ask = Ask {
+                policy,
+                reader,
+                list,
+                day,
+            };
+            answer_month(store, alloc, &ask, month, output)
+        }
+        Route::Threads { list } => {
+            let ask = Ask {
+                policy,
+                reader,
+                list,
+                day,
+            };
+            answer_threads(store, alloc, &ask, threader, output)
+        }
+        Route::Thread { list, key } => {
+            let ask = Ask {
+                policy,
+                reader,
+                list,
+                day,
+            };
+            answer_thread(store, alloc, &ask, threader, key, output)
+        }
+        Route::Author { list, author } => {
+            let ask = Ask {
+                policy,
+                reader,
+                list,
+                day,
+            };
+            match decoded(alloc, author) {
+                Ok(author) => answer_author(store, alloc, &ask, &author, output),
+                Err(_) => write_failure(output, Failure::Unavailable),
+            }
+        }
+        Route::Mbox { list } => {
+            let ask = Ask {
+                policy,
+                reader,
+                list,
+                day,
+            };
+            answer_mbox(store, alloc, &ask, output)
+        }
+    }
 }
 
 /// Answers a path: 404 where no route leads there.
-fn answer_path<S: Alter, W: Sink>(
+fn answer_path<T: Threader, S: Alter, W: Sink>(
     store: &mut Store<S>,
     alloc: Global,
     policy: &Policy,
+    threader: &T,
     day: Day,
     reader: Reader<'_>,
     path: &str,
@@ -55,17 +121,20 @@ fn answer_path<S: Alter, W: Sink>(
     ensures cause { OnErr result (W.failures output.old < W.failures output.new) }
 {
     match route_of(alloc, path) {
-        Ok(Some(route)) => answer_route(store, alloc, policy, day, reader, &route, output),
+        Ok(Some(route)) => answer_route(
+            store, alloc, policy, threader, day, reader, &route, output,
+        ),
         Ok(None) => write_failure(output, Failure::NotFound),
         Err(_) => write_failure(output, Failure::Unavailable),
     }
 }
 
 /// Answers a path to whoever has a token: 401 where nobody has it.
-fn answer_holder<S: Alter, W: Sink>(
+fn answer_holder<T: Threader, S: Alter, W: Sink>(
     store: &mut Store<S>,
     alloc: Global,
     policy: &Policy,
+    threader: &T,
     day: Day,
     token: &str,
     path: &str,
@@ -77,17 +146,27 @@ fn answer_holder<S: Alter, W: Sink>(
     ensures cause { OnErr result (W.failures output.old < W.failures output.new) }
 {
     match find_person(store, token) {
-        Ok(Some(name)) => answer_path(store, alloc, policy, day, Reader::Person(name.as_str()), path, output),
+        Ok(Some(name)) => answer_path(
+            store,
+            alloc,
+            policy,
+            threader,
+            day,
+            Reader::Person(name.as_str()),
+            path,
+            output,
+        ),
         Ok(None) => write_failure(output, Failure::Unauthorized),
         Err(_) => write_failure(output, Failure::Unavailable),
     }
 }
 
 /// Answers what a request asks for.
-pub(crate) fn answer_request<S: Alter, W: Sink>(
+pub(crate) fn answer_request<T: Threader, S: Alter, W: Sink>(
     store: &mut Store<S>,
     alloc: Global,
     policy: &Policy,
+    threader: &T,
     day: Day,
     request: &Request<'_>,
     output: &mut W,
@@ -101,7 +180,19 @@ pub(crate) fn answer_request<S: Alter, W: Sink>(
         Request::Bad => write_failure(output, Failure::BadRequest),
         Request::OtherMethod => write_failure(output, Failure::NotAllowed),
         Request::Unauthorized => write_failure(output, Failure::Unauthorized),
-        Request::Asks { token: None, path } => answer_path(store, alloc, policy, day, Reader::Nobody, path, output),
-        Request::Asks { token: Some(token), path } => answer_holder(store, alloc, policy, day, token, path, output),
+        Request::Asks { token: None, path } => answer_path(
+            store,
+            alloc,
+            policy,
+            threader,
+            day,
+            Reader::Nobody,
+            path,
+            output,
+        ),
+        Request::Asks {
+            token: Some(token),
+            path,
+        } => answer_holder(store, alloc, policy, threader, day, token, path, output),
     }
 }

@@ -1,14 +1,15 @@
 //! The answer of a route.
 ghost use Rattle.std.specs.Prelude.{◌≡◌, ◌<◌, OnOk, OnErr, MatchResult};
-ghost use Rattle.archive_html.specs.Pages.{lists_page};
+ghost use Rattle.archive_html.specs.Pages.{author_page, lists_page, threads_page};
 ghost use Rattle.archive_machine.specs.Questions.{list_names};
-ghost use Rattle.archive_results.specs.Results.{export_text};
-ghost use Rattle.archive_pages.specs.Answers.{keyed_reply, listed_reply, shown_view};
+ghost use Rattle.archive_results.specs.Results.{author_lines, export_text, tree_lines};
+ghost use Rattle.archive_pages.specs.Answers.{keyed_reply, listed_reply, month_reply, shown_view, thread_reply};
 ghost use Rattle.archive_pages.specs.Replies.{Is, Sends, mbox_reply, page_reply, unavailable};
 ghost use Rattle.archive_pages.specs.Seen.{reply_made};
 ghost use Rattle.archive_pages.specs.Serving.{Serves};
 
 use crate::finding::{find_lists, find_message};
+use crate::listing::{find_author, find_month, find_thread, find_threads};
 use crate::replies::{Failure, Reply, Unavailable};
 use crate::writing::{write_failure, write_reply};
 use archive_desk::{DeskFault, export_after};
@@ -18,9 +19,11 @@ use http::StatusCode;
 use mbox_core::device::{Sink, WriteFault};
 use sqlite::Alter;
 use std::alloc::Global;
+use thread_core::Threader;
 
 /// The head of an mbox.
-const MBOX_HEAD: &[u8] = b"HTTP/1.1 200 OK\r\nContent-Type: application/mbox\r\nConnection: close\r\n\r\n";
+const MBOX_HEAD: &[u8] =
+    b"HTTP/1.1 200 OK\r\nContent-Type: application/mbox\r\nConnection: close\r\n\r\n";
 
 /// Writes the reply that was found, or 503 where none was.
 fn write_found<W: Sink>(
@@ -41,7 +44,7 @@ fn write_found<W: Sink>(
 }
 
 /// Answers the page of all lists.
-fn answer_lists<S: Alter, W: Sink>(
+pub(crate) fn answer_lists<S: Alter, W: Sink>(
     store: &mut Store<S>,
     alloc: Global,
     output: &mut W,
@@ -56,7 +59,7 @@ fn answer_lists<S: Alter, W: Sink>(
 }
 
 /// Answers a message, asked for by its key.
-fn answer_message<S: Alter, W: Sink>(
+pub(crate) fn answer_message<S: Alter, W: Sink>(
     store: &mut Store<S>,
     alloc: Global,
     ask: &Ask<'_>,
@@ -73,7 +76,7 @@ fn answer_message<S: Alter, W: Sink>(
 }
 
 /// Answers the messages of a list, as an mbox. No reply but this one ends with the connection.
-fn answer_mbox<S: Alter, W: Sink>(
+pub(crate) fn answer_mbox<S: Alter, W: Sink>(
     store: &mut Store<S>,
     alloc: Global,
     ask: &Ask<'_>,
@@ -98,4 +101,73 @@ fn answer_mbox<S: Alter, W: Sink>(
         DeskFault::Store(_) => write_failure(output, Failure::Unavailable),
         DeskFault::Memory => write_failure(output, Failure::Unavailable),
     }
+}
+
+/// Answers the page of a month, which the path has as `yyyy-mm`.
+pub(crate) fn answer_month<S: Alter, W: Sink>(
+    store: &mut Store<S>,
+    alloc: Global,
+    ask: &Ask<'_>,
+    month: &str,
+    output: &mut W,
+) -> Result<StatusCode, WriteFault>
+    ensures sent { Serves S.Store store.old store.new (λ e. e.written)
+        (λ a reply. reply ≡ listed_reply a ask.now.list (month_reply ask.now.list month.now (shown_view a ask.now))) (W.told output.old) (W.told output.new) result }
+    ensures quiet { OnOk result (W.failures output.new ≡ W.failures output.old) }
+    ensures cause { OnErr result (W.failures output.old < W.failures output.new) }
+{
+    let found = find_month(store, alloc, ask, month);
+    write_found(alloc, output, &found)
+}
+
+/// Answers the page of an author, whose key stands in the path with escapes.
+pub(crate) fn answer_author<S: Alter, W: Sink>(
+    store: &mut Store<S>,
+    alloc: Global,
+    ask: &Ask<'_>,
+    author: &[u8],
+    output: &mut W,
+) -> Result<StatusCode, WriteFault>
+    ensures sent { Serves S.Store store.old store.new (λ e. e.written)
+        (λ a reply. reply ≡ listed_reply a ask.now.list (page_reply (author_page ask.now.list author.now (author_lines author.now (shown_view a ask.now))))) (W.told output.old) (W.told output.new) result }
+    ensures quiet { OnOk result (W.failures output.new ≡ W.failures output.old) }
+    ensures cause { OnErr result (W.failures output.old < W.failures output.new) }
+{
+    let found = find_author(store, alloc, ask, author);
+    write_found(alloc, output, &found)
+}
+
+/// Answers the page of all threads.
+pub(crate) fn answer_threads<T: Threader, S: Alter, W: Sink>(
+    store: &mut Store<S>,
+    alloc: Global,
+    ask: &Ask<'_>,
+    threader: &T,
+    output: &mut W,
+) -> Result<StatusCode, WriteFault>
+    ensures sent { Serves S.Store store.old store.new (λ e. e.written)
+        (λ a reply. reply ≡ listed_reply a ask.now.list (page_reply (threads_page ask.now.list (tree_lines (shown_view a ask.now))))) (W.told output.old) (W.told output.new) result }
+    ensures quiet { OnOk result (W.failures output.new ≡ W.failures output.old) }
+    ensures cause { OnErr result (W.failures output.old < W.failures output.new) }
+{
+    let found = find_threads(store, alloc, ask, threader);
+    write_found(alloc, output, &found)
+}
+
+/// Answers the page of the thread that holds the message of a key.
+pub(crate) fn answer_thread<T: Threader, S: Alter, W: Sink>(
+    store: &mut Store<S>,
+    alloc: Global,
+    ask: &Ask<'_>,
+    threader: &T,
+    key: &str,
+    output: &mut W,
+) -> Result<StatusCode, WriteFault>
+    ensures sent { Serves S.Store store.old store.new (λ e. e.written)
+        (λ a reply. reply ≡ listed_reply a ask.now.list (thread_reply ask.now.list key.now (shown_view a ask.now))) (W.told output.old) (W.told output.new) result }
+    ensures quiet { OnOk result (W.failures output.new ≡ W.failures output.old) }
+    ensures cause { OnErr result (W.failures output.old < W.failures output.new) }
+{
+    let found = find_thread(store, alloc, ask, threader, key);
+    write_found(alloc, output, &found)
 }

@@ -9,7 +9,10 @@ use mbox_core::device::{Sink, WriteFault, write_bytes, write_two};
 use std::alloc::{AllocError, Global};
 
 /// Writes a reply that no request changes. It takes no memory.
-pub(crate) fn write_failure<W: Sink>(output: &mut W, failure: Failure) -> Result<StatusCode, WriteFault>
+pub(crate) fn write_failure<W: Sink>(
+    output: &mut W,
+    failure: Failure,
+) -> Result<StatusCode, WriteFault>
     ensures sent { Sends (λ e. e.written) (λ r. r ≡ failure_reply failure) (W.told output.old) (W.told output.new) result }
     ensures quiet { OnOk result (W.failures output.new ≡ W.failures output.old) }
     ensures cause { OnErr result (W.failures output.old < W.failures output.new) }
@@ -19,11 +22,18 @@ pub(crate) fn write_failure<W: Sink>(output: &mut W, failure: Failure) -> Result
 }
 
 /// The head of a reply whose length it tells.
-fn sized_head(alloc: Global, status: StatusCode, content_type: &str, body: &[u8]) -> Result<String, AllocError>
+fn sized_head(
+    alloc: Global,
+    status: StatusCode,
+    content_type: &str,
+    body: &[u8],
+) -> Result<String, AllocError>
     ensures { IfOk result (λ head. string_bytes head ≡ head_bytes (sized status content_type.now body.now)) }
 {
     let length = body.len();
-    format!(in alloc; "HTTP/1.1 {status}\r\nContent-Type: {content_type}\r\nContent-Length: {length}\r\nConnection: close\r\n\r\n")
+    format!(in alloc;
+        "HTTP/1.1 {status}\r\nContent-Type: {content_type}\r\nContent-Length: {length}\r\nConnection: close\r\n\r\n"
+    )
 }
 
 /// Writes a reply whose length its head tells. Where there is no memory for its head, 503 goes out in its place.
@@ -48,27 +58,47 @@ fn write_sized<W: Sink>(
 }
 
 /// Writes the denial of a message by a rule.
-fn write_denial<W: Sink>(alloc: Global, output: &mut W, rule: &str) -> Result<StatusCode, WriteFault>
+fn write_denial<W: Sink>(
+    alloc: Global,
+    output: &mut W,
+    rule: &str,
+) -> Result<StatusCode, WriteFault>
     ensures sent { Sends (λ e. e.written) (Is (forbidden rule.now)) (W.told output.old) (W.told output.new) result }
     ensures quiet { OnOk result (W.failures output.new ≡ W.failures output.old) }
     ensures cause { OnErr result (W.failures output.old < W.failures output.new) }
 {
     let status = StatusCode::FORBIDDEN;
     match format!(in alloc; "{status}: {rule}\n") {
-        Ok(body) => write_sized(alloc, output, status, "text/plain; charset=us-ascii", body.as_bytes()),
+        Ok(body) => write_sized(
+            alloc,
+            output,
+            status,
+            "text/plain; charset=us-ascii",
+            body.as_bytes(),
+        ),
         Err(_) => write_failure(output, Failure::Unavailable),
     }
 }
 
 /// Writes a reply, and answers its status. Where there is no memory for its head, 503 goes out in its place. Where the writer
 /// fails, exactly the first `written` bytes went out.
-pub(crate) fn write_reply<W: Sink>(alloc: Global, output: &mut W, reply: &Reply<'_>) -> Result<StatusCode, WriteFault>
+pub(crate) fn write_reply<W: Sink>(
+    alloc: Global,
+    output: &mut W,
+    reply: &Reply<'_>,
+) -> Result<StatusCode, WriteFault>
     ensures sent { Sends (λ e. e.written) (Is (reply_made reply.now)) (W.told output.old) (W.told output.new) result }
     ensures quiet { OnOk result (W.failures output.new ≡ W.failures output.old) }
     ensures cause { OnErr result (W.failures output.old < W.failures output.new) }
 {
     match reply {
-        Reply::Page(page) => write_sized(alloc, output, StatusCode::OK, "text/html; charset=us-ascii", page),
+        Reply::Page(page) => write_sized(
+            alloc,
+            output,
+            StatusCode::OK,
+            "text/html; charset=us-ascii",
+            page,
+        ),
         Reply::Message(text) => write_sized(alloc, output, StatusCode::OK, "message/rfc822", text),
         Reply::Forbidden(rule) => write_denial(alloc, output, rule),
         Reply::Failed(failure) => write_failure(output, *failure),
