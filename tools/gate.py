@@ -12,7 +12,7 @@ Of the wrong bodies it tries those that are due (`due.py`), and says which it le
   gate.py --wrong-bodies [NAME..] the wrong bodies alone, each of these crates or of all, over the libraries that earlier checks
                                   built; it writes the record of those that were all refused
 """
-import importlib.machinery, importlib.util, os, re, resource, shutil, sys
+import importlib.machinery, importlib.util, os, re, resource, shutil, sys, threading
 
 import due, wrong_bodies
 
@@ -37,6 +37,18 @@ def load_rt():
     if lacking:
         sys.exit(f"check: this toolchain's rt has no {' and no '.join(lacking)}: run ./check --all\n0 passed, 1 failed")
     return rt
+
+
+def remember_checks(rt):
+    """Has rt remember, for each thread, what the last check said."""
+    checked, rt.heard = rt.checked, threading.local()
+
+    def remembered(*words, **how):
+        ran = checked(*words, **how)
+        rt.heard.stdout = ran.stdout
+        return ran
+
+    rt.checked = remembered
 
 
 def lanes(rt):
@@ -95,6 +107,7 @@ def main(words):
         print(*texts, **how)
 
     rt.print = say
+    remember_checks(rt)
     os.environ.setdefault("RT_JOBS", str(lanes(rt)))
     if words[:1] == ["--wrong-bodies"]:
         return alone(rt, words[1:], counts)

@@ -171,6 +171,8 @@ class Tried:
 
     def __init__(self, rt, crate):
         self.rt, self.crate = rt, crate
+        # the last check that this thread ran
+        self.heard = rt.heard
         self.verdicts, self.checks, self.alones = {}, 0, 0
         # by function: those for which it is known to wait
         self.blocks = collections.defaultdict(set)
@@ -285,7 +287,8 @@ class Tried:
             self.checks += 1
             well, text = self.rt.must_fail(self.crate, edit.file, ONE_JOB)
         text = text.partition(f"{edit.name}: ")[2] or text
-        if well and EMPTY.search(text):
+        # (of what the checker said, rt's text has the beginning alone)
+        if well and EMPTY.search(f"{text}\n{self.heard.stdout}"):
             well, text = False, f"SHOWS NOTHING: {text}"
         self.verdicts[edit.name] = well, text
 
