@@ -5,3 +5,4 @@ mod AccessLaws
 pub mod ServingLemmas
 mod HeadReading
 mod DeskLemmas
+pub mod AnswerExamples

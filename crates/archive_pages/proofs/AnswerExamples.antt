@@ -1,0 +1,103 @@
+-- Worked examples of replies to requests.
+use Rattle.std.proofs.Common.{◌≡◌, ℕ, ℤ, pos, List, [], ◌∷◌, ◌++◌, length, Option, Some, None, true, false, refl, codes}
+use Rattle.std.specs.Fmt.{digits}
+use Rattle.httparse.specs.Grammar.{RequestHead, Field, crlf, trim_ows}
+use Rattle.policy_core.specs.Rules.{Rule, open_rule}
+use Rattle.policy_core.specs.declared.access.Standing.TheVariants.{Public}
+use Rattle.policy_core.specs.declared.access.Withdrawn.TheVariants.{Author, Board}
+use Rattle.archive_machine.specs.Records.{Message, Archive}
+use Rattle.archive_results.specs.Access.{marks_of, ruling_on}
+use Rattle.archive_html.specs.DateTexts.{month_text}
+use Rattle.archive_html.specs.Rows.{list_row}
+use Rattle.archive_html.specs.Pages.{page_head, page_foot}
+use Rattle.archive_pages.specs.Replies.{Reply, head_bytes, reply_bytes, bad_request, unauthorized, not_allowed, not_found}
+use Rattle.archive_pages.specs.Answers.{reply_of}
+
+-- an archive with one list and one person, no message, and the open policy
+abbrev soc : Archive
+soc = record { lists = codes "soc" ∷ []; persons = record { name = codes "mo"; token = codes "0123456789abcdef" } ∷ []; grants = []; messages = [] }
+
+abbrev opened : List Rule
+opened = open_rule ∷ []
+
+abbrev asks : (method target : List ℕ) → List Field → RequestHead
+asks method target fields = record { blank = []; method = method; target = target; minor = 1; line_end = crlf; fields = fields; last = crlf }
+
+abbrev gets : (target : List ℕ) → Reply
+gets target = reply_of soc opened (pos 12131) (asks (codes "GET") target [])
+
+abbrev authorization : List ℕ → Field
+authorization value = record { name = codes "Authorization"; raw = value; end = crlf }
+
+the_lists : reply_bytes (gets (codes "/"))
+    ≡ codes "HTTP/1.1 200 OK\r\nContent-Type: text/html; charset=us-ascii\r\nContent-Length: 178\r\nConnection: close\r\n\r\n<!DOCTYPE html>\n<html><head><title>Lists</title></head><body>\n<h1>Lists</h1>\n<div class=\"d0\"><a href=\"/l/soc/threads\">soc</a> <a href=\"/l/soc/mbox\">mbox</a></div>\n</body></html>\n"
+unfolding digits head_bytes page_head page_foot list_row
+the_lists = refl
+
+with_a_query : gets (codes "/?x=1") ≡ gets (codes "/")
+with_a_query = refl
+
+a_month_without_messages : reply_bytes (gets (codes "/l/soc/month/2003-04"))
+    ≡ codes "HTTP/1.1 200 OK\r\nContent-Type: text/html; charset=us-ascii\r\nContent-Length: 106\r\nConnection: close\r\n\r\n<!DOCTYPE html>\n<html><head><title>soc: 2003-04</title></head><body>\n<h1>soc: 2003-04</h1>\n</body></html>\n"
+unfolding digits head_bytes page_head page_foot month_text
+a_month_without_messages = refl
+
+no_month : gets (codes "/l/soc/month/2003-13") ≡ not_found
+no_month = refl
+
+not_a_path : reply_of soc opened (pos 12131) (asks (codes "OPTIONS") (codes "*") []) ≡ bad_request
+not_a_path = refl
+
+-- the method is looked at before the path
+a_post : reply_of soc opened (pos 12131) (asks (codes "POST") (codes "/nope") []) ≡ not_allowed
+a_post = refl
+
+-- the token is looked at before the path
+an_unknown_token : reply_of soc opened (pos 12131) (asks (codes "GET") (codes "/nope") (authorization (codes "Bearer 0123456789abcdeF") ∷ [])) ≡ unauthorized
+unfolding trim_ows
+an_unknown_token = refl
+
+two_tokens : reply_of soc opened (pos 12131) (asks (codes "GET") (codes "/") (authorization (codes "Bearer 0123456789abcdef") ∷ authorization [] ∷ [])) ≡ bad_request
+unfolding trim_ows
+two_tokens = refl
+
+a_known_token : reply_of soc opened (pos 12131) (asks (codes "GET") (codes "/") (authorization (codes " bearer  0123456789abcdef") ∷ [])) ≡ gets (codes "/")
+unfolding trim_ows
+a_known_token = refl
+
+nowhere : gets (codes "/nope") ≡ not_found
+nowhere = refl
+
+no_such_list : gets (codes "/l/xyz/threads") ≡ not_found
+no_such_list = refl
+
+no_key : gets (codes "/l/soc/m/1111") ≡ not_found
+no_key = refl
+
+an_mbox_without_messages : reply_bytes (gets (codes "/l/soc/mbox")) ≡ codes "HTTP/1.1 200 OK\r\nContent-Type: application/mbox\r\nConnection: close\r\n\r\n"
+unfolding digits head_bytes
+an_mbox_without_messages = refl
+
+-- ---- two messages, the first withdrawn by its author
+
+abbrev two : Archive
+two = record soc {
+  messages =
+      record { list = codes "soc"; key = codes "1111111111111111111111111111111111111111111111111111111111111111"; sender = codes "anna@example.org"; arrival = pos 1046772000; text = codes "From: Anna <anna@example.org>\nSubject: Hello\n\nOne.\n"; withdrawn = pos 1; embargo = None }
+      ∷ record { list = codes "soc"; key = codes "2222222222222222222222222222222222222222222222222222222222222222"; sender = codes "bob@example.org"; arrival = pos 1047465000; text = codes "Subject: Re: Hello\n\nTwo.\n"; withdrawn = pos 0; embargo = None } ∷ [];
+}
+
+-- the public sees no withdrawn message
+abbrev example : List Rule
+example = record open_rule { name = codes "withdrawn"; allows = false; standings = Some (Public ∷ []); withdrawn = Some (Author ∷ Board ∷ []) }
+    ∷ record open_rule { name = codes "all" } ∷ []
+
+a_withdrawn_message : reply_bytes (reply_of two example (pos 12131) (asks (codes "GET") (codes "/l/soc/m/1111111111111111111111111111111111111111111111111111111111111111") []))
+    ≡ codes "HTTP/1.1 403 Forbidden\r\nContent-Type: text/plain; charset=us-ascii\r\nContent-Length: 25\r\nConnection: close\r\n\r\n403 Forbidden: withdrawn\n"
+unfolding digits head_bytes marks_of ruling_on
+a_withdrawn_message = refl
+
+a_message : reply_bytes (reply_of two example (pos 12131) (asks (codes "GET") (codes "/l/soc/m/2222222222222222222222222222222222222222222222222222222222222222") []))
+    ≡ codes "HTTP/1.1 200 OK\r\nContent-Type: message/rfc822\r\nContent-Length: 25\r\nConnection: close\r\n\r\nSubject: Re: Hello\n\nTwo.\n"
+unfolding digits head_bytes marks_of ruling_on
+a_message = refl
