@@ -1,0 +1,121 @@
+//! The stores, and what they are told and asked.
+use crate::{devices, pages, requests};
+use archive_pages::answer;
+use archive_store::Store;
+use mail_core::Day;
+use mbox_core::device::{Counted, Tap};
+use policy_core::Policy;
+use sqlite::Alter;
+use std::alloc::Global;
+use std::io::{self, Read};
+use std::process::Abort;
+use std::test::Fail;
+use thread_core::PlainThreader;
+
+/// Two messages, the second an answer to the first.
+pub const TWO: &[u8] =
+    b"From anna@example.org Tue Mar  4 10:00:00 2003\nFrom: Anna <anna@example.org>\nSubject: Hello\n\nOne.\n\n\
+      From bob@example.org Wed Mar 12 10:30:00 2003\nSubject: Re: Hello\n\nTwo.\n\n";
+
+/// The second of the two alone.
+pub const SECOND: &[u8] =
+    b"From bob@example.org Wed Mar 12 10:30:00 2003\nSubject: Re: Hello\n\nTwo.\n\n";
+
+/// A reader that gives at most so many bytes at once.
+#[derive(Drop)]
+struct Slow<'a> {
+    rest: &'a [u8],
+    most: usize,
+}
+
+impl<'a> Read for Slow<'a> {
+    fn read(&mut self, buffer: &mut [u8]) -> io::Result<usize> {
+        let count = buffer.len().min(self.rest.len()).min(self.most);
+        buffer[..count].copy_from_slice(&self.rest[..count]);
+        self.rest = &self.rest[count..];
+        Ok(count)
+    }
+}
+
+/// The day of each request.
+pub fn today() -> Result<Day, Fail> {
+    Ok(Day::read(b"2003-03-20").ok_or("a day")?)
+}
+
+/// Whether a request that comes in pieces of at most so many bytes gets just this reply, and `answer` tells its status.
+pub fn gets<S: Alter>(
+    alloc: Global,
+    store: &mut Store<S>,
+    policy: &Policy,
+    request: &[u8],
+    most: usize,
+    reply: &[u8],
+) -> Result<bool, Fail> {
+    let mut input = Counted::new(Slow {
+        rest: request,
+        most,
+    });
+    let mut output = Tap::new(alloc, b"", 3000)?;
+    let told = answer(
+        store,
+        alloc,
+        policy,
+        &PlainThreader,
+        today()?,
+        &mut input,
+        &mut output,
+    );
+    let Ok(status) = told else {
+        return Ok(false);
+    };
+    Ok(output.bytes() == reply && reply.get(9..12) == Some(status.as_str().as_bytes()))
+}
+
+/// What a store is told and asked.
+#[derive(Clone, Copy, Debug, PartialEq, Eq)]
+enum Case {
+    Requests,
+    Heads,
+    Devices,
+    Pages,
+    Withdrawn,
+    Withheld,
+    Alone,
+}
+
+/// Tells an empty store a case.
+fn tell<S: Alter>(
+    rt: &impl Abort,
+    alloc: Global,
+    store: &mut Store<S>,
+    case: Case,
+) -> Result<(), Fail> {
+    store.list_add("soc")?;
+    store.person_add("mo", "0123456789abcdef")?;
+    match case {
+        Case::Requests => requests::requests(rt, alloc, store),
+        Case::Heads => requests::heads(rt, alloc, store),
+        Case::Devices => devices::devices(rt, alloc, store),
+        Case::Pages => pages::pages(rt, alloc, store),
+        Case::Withdrawn => pages::withdrawn(rt, alloc, store),
+        Case::Withheld => pages::withheld(rt, alloc, store),
+        Case::Alone => pages::alone(rt, alloc, store),
+    }
+}
+
+#[test]
+fn stores_over_memory(rt: HostRuntime) -> Result<(), Fail> {
+    for case in [
+        Case::Requests,
+        Case::Heads,
+        Case::Devices,
+        Case::Pages,
+        Case::Withdrawn,
+        Case::Withheld,
+        Case::Alone,
+    ] {
+        let mut store = Store::open_in_memory(rt.alloc())?;
+        tell(&rt, rt.alloc(), &mut store, case)?;
+    }
+    Ok(())
+}

@@ -1,0 +1,11 @@
+//! The replies to known requests, byte for byte.
+#![tactic(auto)]
+
+#[cfg(test)]
+mod cases;
+#[cfg(test)]
+mod devices;
+#[cfg(test)]
+mod pages;
+#[cfg(test)]
+mod requests;

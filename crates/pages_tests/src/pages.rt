@@ -1,0 +1,223 @@
+//! Requests for messages and for lists of them.
+use crate::cases::{SECOND, TWO, gets, today};
+use crate::requests::NOT_FOUND;
+use archive_desk::import;
+use archive_store::{Key, Kind, Party, Store};
+use mbox_core::cut;
+use policy_core::Policy;
+use sqlite::Alter;
+use std::alloc::Global;
+use std::process::Abort;
+use std::test::Fail;
+
+/// What the public may not see: a message that was withdrawn.
+const WITHDRAWN: &str = "
+[[rule]]
+name = \"withdrawn\"
+effect = \"deny\"
+standings = [\"public\"]
+withdrawn = [\"author\", \"board\"]
+
+[[rule]]
+name = \"all\"
+effect = \"allow\"
+";
+
+/// The reply that is the first message.
+const FIRST: &[u8] =
+    b"HTTP/1.1 200 OK\r\nContent-Type: message/rfc822\r\nContent-Length: 51\r\nConnection: close\r\n\r\n\
+      From: Anna <anna@example.org>\nSubject: Hello\n\nOne.\n";
+
+/// The page of the author of the first message.
+const BY_ANNA: &[u8] =
+    b"HTTP/1.1 200 OK\r\nContent-Type: text/html; charset=us-ascii\r\nContent-Length: 453\r\nConnection: close\r\n\r\n\
+      <!DOCTYPE html>\n<html><head><title>soc: by anna@example.org</title></head><body>\n\
+      <h1>soc: by anna@example.org</h1>\n<div class=\"d0\"><a href=\"/l/soc/month/2003-03\">2003-03-04 10:00</a> \
+      <a href=\"/l/soc/by/anna%40example.org\">anna@example.org</a> \
+      <a href=\"/l/soc/m/a9fda901d43094a70ddaab56f97a3ed4ab7d9e3f14e4c1717930bee493395661\">Hello</a> \
+      <a href=\"/l/soc/t/a9fda901d43094a70ddaab56f97a3ed4ab7d9e3f14e4c1717930bee493395661\">thread</a></div>\n\
+      </body></html>\n";
+
+/// Requests, and the reply to each where all may see both messages.
+static OF_TWO: [(&str, &[u8]); 8] = [
+    (
+        "GET /l/soc/threads HTTP/1.1\r\n\r\n",
+        b"HTTP/1.1 200 OK\r\nContent-Type: text/html; charset=us-ascii\r\nContent-Length: 703\r\nConnection: close\r\n\r\n\
+          <!DOCTYPE html>\n<html><head><title>soc: threads</title></head><body>\n<h1>soc: threads</h1>\n\
+          <div class=\"d0\"><a href=\"/l/soc/month/2003-03\">2003-03-04 10:00</a> \
+          <a href=\"/l/soc/by/anna%40example.org\">anna@example.org</a> \
+          <a href=\"/l/soc/m/a9fda901d43094a70ddaab56f97a3ed4ab7d9e3f14e4c1717930bee493395661\">Hello</a> \
+          <a href=\"/l/soc/t/a9fda901d43094a70ddaab56f97a3ed4ab7d9e3f14e4c1717930bee493395661\">thread</a></div>\n\
+          <div class=\"d1\"><a href=\"/l/soc/month/2003-03\">2003-03-12 10:30</a> (none) \
+          <a href=\"/l/soc/m/d41bdfeadb4b458370ddcfa1a3a8aa91197973a0a547288c06ee2a2ae4dbf327\">Re: Hello</a> \
+          <a href=\"/l/soc/t/d41bdfeadb4b458370ddcfa1a3a8aa91197973a0a547288c06ee2a2ae4dbf327\">thread</a></div>\n\
+          </body></html>\n",
+    ),
+    (
+        "GET /l/soc/t/d41bdfeadb4b458370ddcfa1a3a8aa91197973a0a547288c06ee2a2ae4dbf327 HTTP/1.1\r\n\r\n",
+        b"HTTP/1.1 200 OK\r\nContent-Type: text/html; charset=us-ascii\r\nContent-Length: 701\r\nConnection: close\r\n\r\n\
+          <!DOCTYPE html>\n<html><head><title>soc: thread</title></head><body>\n<h1>soc: thread</h1>\n\
+          <div class=\"d0\"><a href=\"/l/soc/month/2003-03\">2003-03-04 10:00</a> \
+          <a href=\"/l/soc/by/anna%40example.org\">anna@example.org</a> \
+          <a href=\"/l/soc/m/a9fda901d43094a70ddaab56f97a3ed4ab7d9e3f14e4c1717930bee493395661\">Hello</a> \
+          <a href=\"/l/soc/t/a9fda901d43094a70ddaab56f97a3ed4ab7d9e3f14e4c1717930bee493395661\">thread</a></div>\n\
+          <div class=\"d1\"><a href=\"/l/soc/month/2003-03\">2003-03-12 10:30</a> (none) \
+          <a href=\"/l/soc/m/d41bdfeadb4b458370ddcfa1a3a8aa91197973a0a547288c06ee2a2ae4dbf327\">Re: Hello</a> \
+          <a href=\"/l/soc/t/d41bdfeadb4b458370ddcfa1a3a8aa91197973a0a547288c06ee2a2ae4dbf327\">thread</a></div>\n\
+          </body></html>\n",
+    ),
+    (
+        "GET /l/soc/month/2003-03 HTTP/1.1\r\n\r\n",
+        b"HTTP/1.1 200 OK\r\nContent-Type: text/html; charset=us-ascii\r\nContent-Length: 703\r\nConnection: close\r\n\r\n\
+          <!DOCTYPE html>\n<html><head><title>soc: 2003-03</title></head><body>\n<h1>soc: 2003-03</h1>\n\
+          <div class=\"d0\"><a href=\"/l/soc/month/2003-03\">2003-03-04 10:00</a> \
+          <a href=\"/l/soc/by/anna%40example.org\">anna@example.org</a> \
+          <a href=\"/l/soc/m/a9fda901d43094a70ddaab56f97a3ed4ab7d9e3f14e4c1717930bee493395661\">Hello</a> \
+          <a href=\"/l/soc/t/a9fda901d43094a70ddaab56f97a3ed4ab7d9e3f14e4c1717930bee493395661\">thread</a></div>\n\
+          <div class=\"d0\"><a href=\"/l/soc/month/2003-03\">2003-03-12 10:30</a> (none) \
+          <a href=\"/l/soc/m/d41bdfeadb4b458370ddcfa1a3a8aa91197973a0a547288c06ee2a2ae4dbf327\">Re: Hello</a> \
+          <a href=\"/l/soc/t/d41bdfeadb4b458370ddcfa1a3a8aa91197973a0a547288c06ee2a2ae4dbf327\">thread</a></div>\n\
+          </body></html>\n",
+    ),
+    ("GET /l/soc/by/anna%40example.org HTTP/1.1\r\n\r\n", BY_ANNA),
+    ("GET /l/soc/by/anna@example.org HTTP/1.1\r\n\r\n", BY_ANNA),
+    (
+        "GET /l/soc/mbox HTTP/1.1\r\n\r\n",
+        b"HTTP/1.1 200 OK\r\nContent-Type: application/mbox\r\nConnection: close\r\n\r\n\
+          From anna@example.org Tue Mar  4 10:00:00 2003\nFrom: Anna <anna@example.org>\nSubject: Hello\n\nOne.\n\n\
+          From bob@example.org Wed Mar 12 10:30:00 2003\nSubject: Re: Hello\n\nTwo.\n\n",
+    ),
+    (
+        "GET /l/soc/m/a9fda901d43094a70ddaab56f97a3ed4ab7d9e3f14e4c1717930bee493395661 HTTP/1.1\r\n\r\n",
+        FIRST,
+    ),
+    (
+        "GET /l/soc/m/d41bdfeadb4b458370ddcfa1a3a8aa91197973a0a547288c06ee2a2ae4dbf320 HTTP/1.1\r\n\r\n",
+        NOT_FOUND,
+    ),
+];
+
+/// Requests, and the reply to each where the public may not see the first message.
+static OF_WITHDRAWN: [(&str, &[u8]); 5] = [
+    (
+        "GET /l/soc/m/a9fda901d43094a70ddaab56f97a3ed4ab7d9e3f14e4c1717930bee493395661 HTTP/1.1\r\n\r\n",
+        b"HTTP/1.1 403 Forbidden\r\nContent-Type: text/plain; charset=us-ascii\r\nContent-Length: 25\r\n\
+          Connection: close\r\n\r\n403 Forbidden: withdrawn\n",
+    ),
+    (
+        "GET /l/soc/m/a9fda901d43094a70ddaab56f97a3ed4ab7d9e3f14e4c1717930bee493395661 HTTP/1.1\r\n\
+         Authorization: Bearer 0123456789abcdef\r\n\r\n",
+        FIRST,
+    ),
+    (
+        "GET /l/soc/t/a9fda901d43094a70ddaab56f97a3ed4ab7d9e3f14e4c1717930bee493395661 HTTP/1.1\r\n\r\n",
+        NOT_FOUND,
+    ),
+    (
+        "GET /l/soc/by/anna@example.org HTTP/1.1\r\nAuthorization: Bearer 0123456789abcdef\r\n\r\n",
+        BY_ANNA,
+    ),
+    (
+        "GET /l/soc/m/d41bdfeadb4b458370ddcfa1a3a8aa91197973a0a547288c06ee2a2ae4dbf327 HTTP/1.1\r\n\r\n",
+        b"HTTP/1.1 200 OK\r\nContent-Type: message/rfc822\r\nContent-Length: 25\r\nConnection: close\r\n\r\n\
+          Subject: Re: Hello\n\nTwo.\n",
+    ),
+];
+
+/// Requests of the public, and the reply to each where it sees the second message alone.
+static OF_SECOND: [(&str, &[u8]); 5] = [
+    (
+        "GET /l/soc/threads HTTP/1.1\r\n\r\n",
+        b"HTTP/1.1 200 OK\r\nContent-Type: text/html; charset=us-ascii\r\nContent-Length: 380\r\nConnection: close\r\n\r\n\
+          <!DOCTYPE html>\n<html><head><title>soc: threads</title></head><body>\n<h1>soc: threads</h1>\n\
+          <div class=\"d0\"><a href=\"/l/soc/month/2003-03\">2003-03-12 10:30</a> (none) \
+          <a href=\"/l/soc/m/d41bdfeadb4b458370ddcfa1a3a8aa91197973a0a547288c06ee2a2ae4dbf327\">Re: Hello</a> \
+          <a href=\"/l/soc/t/d41bdfeadb4b458370ddcfa1a3a8aa91197973a0a547288c06ee2a2ae4dbf327\">thread</a></div>\n\
+          </body></html>\n",
+    ),
+    (
+        "GET /l/soc/mbox HTTP/1.1\r\n\r\n",
+        b"HTTP/1.1 200 OK\r\nContent-Type: application/mbox\r\nConnection: close\r\n\r\n\
+          From bob@example.org Wed Mar 12 10:30:00 2003\nSubject: Re: Hello\n\nTwo.\n\n",
+    ),
+    (
+        "GET /l/soc/month/2003-03 HTTP/1.1\r\n\r\n",
+        b"HTTP/1.1 200 OK\r\nContent-Type: text/html; charset=us-ascii\r\nContent-Length: 380\r\nConnection: close\r\n\r\n\
+          <!DOCTYPE html>\n<html><head><title>soc: 2003-03</title></head><body>\n<h1>soc: 2003-03</h1>\n\
+          <div class=\"d0\"><a href=\"/l/soc/month/2003-03\">2003-03-12 10:30</a> (none) \
+          <a href=\"/l/soc/m/d41bdfeadb4b458370ddcfa1a3a8aa91197973a0a547288c06ee2a2ae4dbf327\">Re: Hello</a> \
+          <a href=\"/l/soc/t/d41bdfeadb4b458370ddcfa1a3a8aa91197973a0a547288c06ee2a2ae4dbf327\">thread</a></div>\n\
+          </body></html>\n",
+    ),
+    (
+        "GET /l/soc/by/anna@example.org HTTP/1.1\r\n\r\n",
+        b"HTTP/1.1 200 OK\r\nContent-Type: text/html; charset=us-ascii\r\nContent-Length: 130\r\nConnection: close\r\n\r\n\
+          <!DOCTYPE html>\n<html><head><title>soc: by anna@example.org</title></head><body>\n\
+          <h1>soc: by anna@example.org</h1>\n</body></html>\n",
+    ),
+    (
+        "GET /l/soc/t/a9fda901d43094a70ddaab56f97a3ed4ab7d9e3f14e4c1717930bee493395661 HTTP/1.1\r\n\r\n",
+        NOT_FOUND,
+    ),
+];
+
+/// Each request of a table gets its reply.
+fn all_get<S: Alter>(
+    rt: &impl Abort,
+    alloc: Global,
+    store: &mut Store<S>,
+    policy: &Policy,
+    table: &[(&str, &[u8])],
+) -> Result<(), Fail> {
+    for (request, reply) in table {
+        assert!(rt;
+            gets(alloc, store, policy, request.as_bytes(), 8192, reply)?,
+            "{request}"
+        );
+    }
+    Ok(())
+}
+
+/// Two messages that all may see.
+pub fn pages<S: Alter>(rt: &impl Abort, alloc: Global, store: &mut Store<S>) -> Result<(), Fail> {
+    import(store, alloc, "soc", TWO)?;
+    all_get(rt, alloc, store, &Policy::open(), &OF_TWO)
+}
+
+/// Imports the two messages, and withdraws the first.
+fn withdraw_first<S: Alter>(alloc: Global, store: &mut Store<S>) -> Result<(), Fail> {
+    import(store, alloc, "soc", TWO)?;
+    let first = Key::of(&cut(TWO)?.next().ok_or("a first message")?);
+    store.withdraw("soc", &first, Party::Author)?;
+    Ok(())
+}
+
+/// The first message is withdrawn: denied to the public, and served to a moderator.
+pub fn withdrawn<S: Alter>(
+    rt: &impl Abort,
+    alloc: Global,
+    store: &mut Store<S>,
+) -> Result<(), Fail> {
+    withdraw_first(alloc, store)?;
+    store.grant("mo", "soc", Kind::Moderator, today()?, today()?)?;
+    let policy = Policy::read(alloc, WITHDRAWN)?;
+    all_get(rt, alloc, store, &policy, &OF_WITHDRAWN)
+}
+
+/// What the public sees where the first message is withdrawn.
+pub fn withheld<S: Alter>(
+    rt: &impl Abort,
+    alloc: Global,
+    store: &mut Store<S>,
+) -> Result<(), Fail> {
+    withdraw_first(alloc, store)?;
+    let policy = Policy::read(alloc, WITHDRAWN)?;
+    all_get(rt, alloc, store, &policy, &OF_SECOND)
+}
+
+/// What the public sees where the first message never came: the same.
+pub fn alone<S: Alter>(rt: &impl Abort, alloc: Global, store: &mut Store<S>) -> Result<(), Fail> {
+    import(store, alloc, "soc", SECOND)?;
+    let policy = Policy::read(alloc, WITHDRAWN)?;
+    all_get(rt, alloc, store, &policy, &OF_SECOND)
+}
