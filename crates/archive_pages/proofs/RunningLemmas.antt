@@ -1,12 +1,12 @@
 -- A request after a run of commands.
-use Rattle.std.proofs.Common.{◌≡◌, ◌++◌, ◌⊎◌, inl, inr, ℕ, ℤ, List, Result, Ok, Err, subst}
+use Rattle.std.proofs.Common.{◌≡◌, ◌++◌, inl, inr, ℕ, ℤ, List, Result, Ok, Err, subst}
 use Rattle.sqlite.specs.Store.{Ghosts}
 use Rattle.httparse.specs.Grammar.{RequestHead, HasNoRequest}
 use Rattle.policy_core.specs.Rules.{Rule}
 use Rattle.archive_machine.specs.Records.{Archive}
 use Rattle.archive_store.specs.Told.{IsReady, archive_in, HasReturned, Goes}
 use Rattle.archive_store.specs.declared.store.Store.{Store}
-use Rattle.archive_pages.specs.Replies.{Sends, unavailable}
+use Rattle.archive_pages.specs.Replies.{Sends, Is, unavailable}
 use Rattle.archive_pages.specs.Answers.{reply_of}
 use Rattle.archive_pages.specs.Serving.{Serves}
 use Rattle.archive_pages.specs.Answered.{IsAnswered, Reads, ByOutcome, written_of}
@@ -29,13 +29,13 @@ module _ {S : Type 0} (g : Ghosts S) (mid new : Store S) (archive : Archive) (re
     (ran : HasReturned g mid → IsReady g mid × (archive_in g mid ≡ archive)) (rules : List Rule) (day : ℤ) where
   module _ {E : Type 0} (written : E → ℕ) (before after : List ℕ) (result : Result ℕ E) where
     sent_from : (h : RequestHead) → Serves g mid new written (λ a reply. reply ≡ reply_of a rules day h) before after result
-        → Sends written (λ reply. (reply ≡ reply_of archive rules day h) ⊎ (reply ≡ unavailable)) before after result
+        → Sends written (Is (reply_of archive rules day h)) before after result
     sent_from h (inl goes) =
         let it = ran (goes.0 returned) in
-        sends_as written (λ reply. reply ≡ reply_of (archive_in g mid) rules day h) (λ reply. (reply ≡ reply_of archive rules day h) ⊎ (reply ≡ unavailable)) before after result
+        sends_as written (λ reply. reply ≡ reply_of (archive_in g mid) rules day h) (Is (reply_of archive rules day h)) before after result
         (λ reply is. inl (subst (λ a. reply ≡ reply_of a rules day h) it.1 is)) (goes.1 returned it.0).1.1
     sent_from h (inr (goes, sent)) =
-        sends_as written (λ reply. reply ≡ unavailable) (λ reply. (reply ≡ reply_of archive rules day h) ⊎ (reply ≡ unavailable)) before after result (λ reply is. inr is) sent
+        sends_as written (λ reply. reply ≡ unavailable) (Is (reply_of archive rules day h)) before after result (λ reply is. inr is) sent
 
     answered_from : (given all : List ℕ) → IsAnswered g mid new rules day given all written before after result
         → IsAnsweredFrom archive rules day given all written before after result

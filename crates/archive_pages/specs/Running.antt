@@ -1,11 +1,11 @@
 -- What a call that carries commands out and then answers a request says.
-use Rattle.std.specs.Prelude.{◌≡◌, ◌≤◌, ◌<◌, ◌++◌, ◌⊎◌, ℕ, ℤ, List, length, take, Result}
+use Rattle.std.specs.Prelude.{◌≡◌, ◌≤◌, ◌<◌, ◌⊎◌, ℕ, ℤ, List, length, take, Result}
 use Rattle.httparse.specs.Grammar.{RequestHead, HasNoRequest}
 use Rattle.httparse.specs.Spans.{RequestExceeds}
 use Rattle.policy_core.specs.Rules.{Rule}
 use Rattle.archive_machine.specs.Records.{Archive}
 use Rattle.archive_requests.specs.Heads.{BeginsWith, Exceeds, CanBecome}
-use Rattle.archive_pages.specs.Replies.{Sends, bad_request, head_too_large, unavailable}
+use Rattle.archive_pages.specs.Replies.{Sends, Is, bad_request, head_too_large}
 use Rattle.archive_pages.specs.Answers.{reply_of}
 
 -- What goes out of this archive to an input whose bytes are all of these, of which the given ones came. It is `IsAnswered`
@@ -14,7 +14,7 @@ pub record IsAnsweredFrom {E : Type 0} (archive : Archive) (rules : List Rule) (
     (written : E → ℕ) (told_before told_after : List ℕ) (result : Result ℕ E) : Type 0 where
   -- to the head that the input begins with, the reply of the definition, or 503
   pub head : (h : RequestHead) → BeginsWith all h
-      → Sends written (λ reply. (reply ≡ reply_of archive rules day h) ⊎ (reply ≡ unavailable)) told_before told_after result
+      → Sends written (Is (reply_of archive rules day h)) told_before told_after result
   -- to no such head 400 or 431
   pub none : ((h : RequestHead) → ¬ BeginsWith all h)
       → Sends written (λ reply. (reply ≡ bad_request) ⊎ (reply ≡ head_too_large)) told_before told_after result
