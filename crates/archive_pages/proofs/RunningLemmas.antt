@@ -10,7 +10,7 @@ use Rattle.archive_pages.specs.Replies.{Sends, Is, unavailable}
 use Rattle.archive_pages.specs.Answers.{reply_of}
 use Rattle.archive_pages.specs.Serving.{Serves}
 use Rattle.archive_pages.specs.Answered.{IsAnswered, Reads, ByOutcome, written_of}
-use Rattle.archive_pages.specs.Running.{IsAnsweredFrom}
+use Rattle.archive_pages.specs.Running.{IsAnsweredFrom, AnswersFrom}
 use Rattle.archive_pages.specs.declared.faults.ServeFault.{ServeFault}
 use Rattle.archive_pages.specs.declared.faults.ServeFault.TheVariants.{Read, Write}
 use Rattle.archive_pages.proofs.ServingLemmas.{sends_as}
@@ -51,8 +51,7 @@ module _ {S : Type 0} (g : Ghosts S) (mid new : Store S) (archive : Archive) (re
   pub answers_from : (result : Result ℕ ServeFault) (told_before told_after : List ℕ) (ends_before ends_after : ℕ) (before after : List ℕ)
       → ByOutcome result (Reads told_before told_after ends_before ends_after (λ given all. IsAnswered g mid new rules day given all written_of before after result))
       ((given : List ℕ) × (told_after ≡ told_before ++ given) × HasNoRequest given × (after ≡ before) × Goes g mid new (λ a b. b ≡ a))
-      → ByOutcome result (Reads told_before told_after ends_before ends_after (λ given all. IsAnsweredFrom archive rules day given all written_of before after result))
-      ((given : List ℕ) × (told_after ≡ told_before ++ given) × HasNoRequest given × (after ≡ before))
+      → AnswersFrom archive rules day told_before told_after ends_before ends_after before after result
   answers_from result told_before told_after ends_before ends_after before after =
       by_outcome result
       (reads told_before told_after ends_before ends_after (λ given all. IsAnswered g mid new rules day given all written_of before after result)

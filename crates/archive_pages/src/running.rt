@@ -1,13 +1,11 @@
 //! Commands one after the other, and then a request: the reply is of the archive that the machine makes of the commands.
-ghost use Rattle.std.specs.Prelude.{◌≡◌, ◌++◌, ℕ, List, None, map, IfOk, IfErr};
-ghost use Rattle.httparse.specs.Grammar.{HasNoRequest};
+ghost use Rattle.std.specs.Prelude.{◌≡◌, None, map, IfOk, IfErr};
 ghost use Rattle.archive_machine.specs.Runs.{run};
 ghost use Rattle.archive_tables.specs.Making.{empty_archive};
 ghost use Rattle.archive_store.specs.Replies.{refusal};
 ghost use Rattle.archive_store.specs.Running.{command_of};
 ghost use Rattle.archive_store.specs.Told.{IsReady, archive_in, HasReturned};
-ghost use Rattle.archive_pages.specs.Answered.{ByOutcome, Reads, written_of};
-ghost use Rattle.archive_pages.specs.Running.{IsAnsweredFrom};
+ghost use Rattle.archive_pages.specs.Running.{AnswersFrom};
 
 use crate::answering::answer;
 use crate::faults::ServeFault;
@@ -32,11 +30,9 @@ pub fn run_and_answer<T: Threader, S: Alter, R: Source, W: Sink>(
     input: &mut R,
     output: &mut W,
 ) -> Result<Result<StatusCode, ServeFault>, RunStop>
-    ensures answered { IfOk result (λ answer. HasReturned S.Store store.new → IsReady S.Store store.old → ByOutcome answer
-        (Reads (R.told input.old) (R.told input.new) (R.ends input.old) (R.ends input.new)
-        (λ given all. IsAnsweredFrom (run (archive_in S.Store store.old) (map command_of commands.entry.now)).archive policy.now day given all
-        written_of (W.told output.old) (W.told output.new) answer))
-        ((given : List ℕ) × (R.told input.new ≡ R.told input.old ++ given) × HasNoRequest given × (W.told output.new ≡ W.told output.old))) }
+    ensures answered { IfOk result (λ answer. HasReturned S.Store store.new → IsReady S.Store store.old
+        → AnswersFrom (run (archive_in S.Store store.old) (map command_of commands.entry.now)).archive policy.now day
+        (R.told input.old) (R.told input.new) (R.ends input.old) (R.ends input.new) (W.told output.old) (W.told output.new) answer) }
     ensures stopped { IfErr result (λ stop. (refusal stop.fault ≡ None) × (input.new ≡ input.old) × (output.new ≡ output.old)) }
 {
     match store.run(alloc, commands) {
@@ -56,11 +52,8 @@ pub fn run_and_answer_in_memory<T: Threader, R: Source, W: Sink>(
     input: &mut R,
     output: &mut W,
 ) -> Result<Result<StatusCode, ServeFault>, StoreFault>
-    ensures answered { IfOk result (λ answer. ByOutcome answer
-        (Reads (R.told input.old) (R.told input.new) (R.ends input.old) (R.ends input.new)
-        (λ given all. IsAnsweredFrom (run empty_archive (map command_of commands.entry.now)).archive policy.now day given all
-        written_of (W.told output.old) (W.told output.new) answer))
-        ((given : List ℕ) × (R.told input.new ≡ R.told input.old ++ given) × HasNoRequest given × (W.told output.new ≡ W.told output.old))) }
+    ensures answered { IfOk result (λ answer. AnswersFrom (run empty_archive (map command_of commands.entry.now)).archive policy.now day
+        (R.told input.old) (R.told input.new) (R.ends input.old) (R.ends input.new) (W.told output.old) (W.told output.new) answer) }
     ensures stopped { IfErr result (λ fault. (refusal fault ≡ None) × (input.new ≡ input.old) × (output.new ≡ output.old)) }
 {
     let mut store = Store::open_in_memory(alloc)?;
