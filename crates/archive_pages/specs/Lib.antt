@@ -4,3 +4,4 @@ pub mod Answers
 pub mod Laws
 pub mod Serving
 pub mod Answered
+pub mod Running

@@ -9,7 +9,9 @@ mod listing;
 mod paths;
 mod replies;
 mod routing;
+mod running;
 mod writing;
 
 pub use answering::answer;
 pub use faults::ServeFault;
+pub use running::{run_and_answer, run_and_answer_in_memory};

@@ -1,0 +1,59 @@
+-- A request after a run of commands.
+use Rattle.std.proofs.Common.{◌≡◌, ◌++◌, inl, inr, ℕ, ℤ, List, Result, Ok, Err, subst}
+use Rattle.sqlite.specs.Store.{Ghosts}
+use Rattle.httparse.specs.Grammar.{RequestHead, HasNoRequest}
+use Rattle.policy_core.specs.Rules.{Rule}
+use Rattle.archive_machine.specs.Records.{Archive}
+use Rattle.archive_store.specs.Told.{IsReady, archive_in, HasReturned, Goes}
+use Rattle.archive_store.specs.declared.store.Store.{Store}
+use Rattle.archive_pages.specs.Replies.{Sends, Is, unavailable}
+use Rattle.archive_pages.specs.Answers.{reply_of}
+use Rattle.archive_pages.specs.Serving.{Serves}
+use Rattle.archive_pages.specs.Answered.{IsAnswered, Reads, ByOutcome, written_of}
+use Rattle.archive_pages.specs.Running.{IsAnsweredFrom, AnswersFrom}
+use Rattle.archive_pages.specs.declared.faults.ServeFault.{ServeFault}
+use Rattle.archive_pages.specs.declared.faults.ServeFault.TheVariants.{Read, Write}
+use Rattle.archive_pages.proofs.ServingLemmas.{sends_as}
+
+by_outcome : (result : Result ℕ ServeFault) {A B X Y : Type 0} → (A → B) → (X → Y) → ByOutcome result A X → ByOutcome result B Y
+by_outcome (Ok status) answered unread it = answered it
+by_outcome (Err (Write written)) answered unread it = answered it
+by_outcome (Err Read) answered unread it = unread it
+
+reads : (told_before told_after : List ℕ) (ends_before ends_after : ℕ) (P Q : List ℕ → List ℕ → Type 0) → ((given all : List ℕ) → P given all → Q given all)
+    → Reads told_before told_after ends_before ends_after P → Reads told_before told_after ends_before ends_after Q
+reads told_before told_after ends_before ends_after P Q weaker (given, told, inl (ended, says)) = (given, told, inl (ended, weaker given given says))
+reads told_before told_after ends_before ends_after P Q weaker (given, told, inr (unended, says)) = (given, told, inr (unended, (λ more. weaker given (given ++ more) (says more))))
+
+module _ {S : Type 0} (g : Ghosts S) (mid new : Store S) (archive : Archive) (returned : HasReturned g new)
+    (ran : HasReturned g mid → IsReady g mid × (archive_in g mid ≡ archive)) (rules : List Rule) (day : ℤ) where
+  module _ {E : Type 0} (written : E → ℕ) (before after : List ℕ) (result : Result ℕ E) where
+    sent_from : (h : RequestHead) → Serves g mid new written (λ a reply. reply ≡ reply_of a rules day h) before after result
+        → Sends written (Is (reply_of archive rules day h)) before after result
+    sent_from h (inl goes) =
+        let it = ran (goes.0 returned) in
+        sends_as written (λ reply. reply ≡ reply_of (archive_in g mid) rules day h) (Is (reply_of archive rules day h)) before after result
+        (λ reply is. inl (subst (λ a. reply ≡ reply_of a rules day h) it.1 is)) (goes.1 returned it.0).1.1
+    sent_from h (inr (goes, sent)) =
+        sends_as written (λ reply. reply ≡ unavailable) (Is (reply_of archive rules day h)) before after result (λ reply is. inr is) sent
+
+    answered_from : (given all : List ℕ) → IsAnswered g mid new rules day given all written before after result
+        → IsAnsweredFrom archive rules day given all written before after result
+    answered_from given all it = record {
+      head = λ h begins. sent_from h (it.head h begins);
+      none = λ no. (it.none no).1;
+      many = it.many;
+      long = it.long;
+      few = it.few;
+    }
+
+  -- `answer` after the run
+  pub answers_from : (result : Result ℕ ServeFault) (told_before told_after : List ℕ) (ends_before ends_after : ℕ) (before after : List ℕ)
+      → ByOutcome result (Reads told_before told_after ends_before ends_after (λ given all. IsAnswered g mid new rules day given all written_of before after result))
+      ((given : List ℕ) × (told_after ≡ told_before ++ given) × HasNoRequest given × (after ≡ before) × Goes g mid new (λ a b. b ≡ a))
+      → AnswersFrom archive rules day told_before told_after ends_before ends_after before after result
+  answers_from result told_before told_after ends_before ends_after before after =
+      by_outcome result
+      (reads told_before told_after ends_before ends_after (λ given all. IsAnswered g mid new rules day given all written_of before after result)
+      (λ given all. IsAnsweredFrom archive rules day given all written_of before after result) (answered_from written_of before after result))
+      (λ (given, told, none, silent, goes). (given, told, none, silent))

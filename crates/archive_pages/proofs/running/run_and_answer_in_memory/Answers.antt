@@ -1,0 +1,16 @@
+use Rattle.std.proofs.Common.{map, subst}
+use Rattle.sqlite.proofs.Callers.{memory_is_clean}
+use Rattle.archive_machine.specs.Runs.{run}
+use Rattle.archive_store.specs.Held.{held_of}
+use Rattle.archive_store.specs.Running.{command_of}
+use Rattle.archive_pages.specs.Running.{AnswersFrom}
+use Rattle.archive_pages.proofs.running.run_and_answer_in_memory.Goals as goal
+
+pub returns-in-Ok-clause-answered : goal.returns-in-Ok-clause-answered
+returns-in-Ok-clause-answered g c =
+    let made = c.in_ok-store.ensures.made (memory_is_clean (held_of c.in_ok-store.store)) in
+    subst
+    (λ archive. AnswersFrom (run archive (map command_of c.args.commands.now)).archive c.args.policy.now c.args.day (g.R.Source.told c.args.input.now)
+    (g.R.Source.told c.run_and_answer.new.input) (g.R.Source.ends c.args.input.now) (g.R.Source.ends c.run_and_answer.new.input) (g.W.Sink.told c.args.output.now)
+    (g.W.Sink.told c.run_and_answer.new.output) c.in-Ok.answer)
+    made.1 (c.in-Ok.ensures.answered (memory_is_clean (held_of c.run_and_answer.new.store)) made.0)
