@@ -3,6 +3,7 @@ use crate::cases::{TWO, WITHDRAWN, day};
 use archive_desk::{DeskFault, import, message, view};
 use archive_results::{Ask, Asked, Reader};
 use archive_store::{Key, Kind, Party, Store};
+use mail_core::Day;
 use mbox_core::{Item, cut};
 use policy_core::Policy;
 use sqlite::Alter;
@@ -39,14 +40,16 @@ enum Wanted {
 const ONE: &[u8] = b"From: Anna <anna@example.org>\nSubject: Hello\n\nOne.\n";
 
 /// A policy, a reader, a list, a day, and what comes of the first message and how many the view holds.
-const CASES: [(
-    &str,
+type Case = (
+    &'static str,
     Reader<'static>,
-    &str,
-    &str,
+    &'static str,
+    &'static str,
     Wanted,
     Result<usize, DeskFault>,
-); 12] = [
+);
+
+const CASES: [Case; 12] = [
     (
         WITHDRAWN,
         Reader::Nobody,
@@ -146,13 +149,8 @@ const CASES: [(
 ];
 
 /// The first message is withdrawn by its author and held back until 1 April 2003; `mo` is a moderator in March.
-pub fn messages<S: Alter>(
-    rt: &impl Abort,
-    alloc: Global,
-    store: &mut Store<S>,
-) -> Result<(), Fail> {
-    let first = cut(TWO)?.next().ok_or("a first message")?;
-    let key = Key::of(&first);
+fn held_back<S: Alter>(alloc: Global, store: &mut Store<S>) -> Result<Key, Fail> {
+    let key = Key::of(&cut(TWO)?.next().ok_or("a first message")?);
     store.list_add("soc")?;
     store.list_add("other")?;
     store.person_add("mo", "0123456789abcdef")?;
@@ -166,21 +164,43 @@ pub fn messages<S: Alter>(
     import(store, alloc, "soc", TWO)?;
     store.withdraw("soc", &key, Party::Author)?;
     store.embargo("soc", &key, day("2003-04-01")?)?;
-    for (policy, reader, list, text, wanted, count) in CASES.iter() {
-        let policy = Policy::read(alloc, policy)?;
-        let ask = Ask {
-            policy: &policy,
-            reader: *reader,
-            list,
-            day: day(text)?,
-        };
-        asked(rt, alloc, store, &ask, &key, *wanted)?;
-        assert_eq!(rt;
-            view(store, alloc, &ask).map(|messages| messages.len()),
-            *count
-        );
+    Ok(key)
+}
+
+/// Asks for that message, and for the view.
+pub fn messages<S: Alter>(
+    rt: &impl Abort,
+    alloc: Global,
+    store: &mut Store<S>,
+) -> Result<(), Fail> {
+    let key = held_back(alloc, store)?;
+    for case in CASES.iter() {
+        told(rt, alloc, store, &key, case)?;
     }
     Ok(())
+}
+
+fn told<S: Alter>(
+    rt: &impl Abort,
+    alloc: Global,
+    store: &mut Store<S>,
+    key: &Key,
+    case: &Case,
+) -> Result<(), Fail> {
+    let (text, reader, list, on, wanted, count) = *case;
+    let on = day(on)?;
+    let policy = Policy::read(alloc, text)?;
+    let ask = asking(&policy, reader, list, on);
+    asked(rt, alloc, store, &ask, key, wanted, count)
+}
+
+fn asking<'a>(policy: &'a Policy, reader: Reader<'a>, list: &'a str, day: Day) -> Ask<'a> {
+    Ask {
+        policy,
+        reader,
+        list,
+        day,
+    }
 }
 
 fn asked<S: Alter>(
@@ -190,6 +210,7 @@ fn asked<S: Alter>(
     ask: &Ask<'_>,
     key: &Key,
     wanted: Wanted,
+    count: Result<usize, DeskFault>,
 ) -> Result<(), Fail> {
     match (message(store, alloc, ask, key), wanted) {
         (Ok(Asked::Served(text)), Wanted::Text(want)) => assert_eq!(rt; text.as_slice(), want),
@@ -198,5 +219,9 @@ fn asked<S: Alter>(
         (Err(fault), Wanted::Fault(want)) => assert_eq!(rt; fault, want),
         _ => return Err(Fail::from("another answer")),
     }
+    assert_eq!(rt;
+        view(store, alloc, ask).map(|messages| messages.len()),
+        count
+    );
     Ok(())
 }
