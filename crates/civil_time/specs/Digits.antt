@@ -1,0 +1,45 @@
+-- Decimal digits in ASCII, read and written.
+use Rattle.std.specs.Prelude.{ℕ, ◌+◌, ◌-◌, ◌*◌, ◌/◌, ◌%◌, nat_le, Bool, ◌&&◌, if◌then◌else◌, List, [], ◌∷◌, ◌++◌, Option, Some, None}
+
+-- ---- read
+
+-- an ASCII digit
+abbrev pub is_digit : ℕ → Bool
+is_digit b = nat_le 48 b && nat_le b 57
+
+-- the number that two digits write
+abbrev pub two_digits : ℕ → ℕ → Option ℕ
+two_digits a b = if is_digit a && is_digit b then Some (10 * (a - 48) + (b - 48)) else None
+
+-- the number that four digits write
+abbrev pub four_digits : ℕ → ℕ → ℕ → ℕ → Option ℕ
+four_digits a b c d =
+    if (is_digit a && is_digit b) && (is_digit c && is_digit d)
+    then Some (1000 * (a - 48) + 100 * (b - 48) + 10 * (c - 48) + (d - 48)) else None
+
+abbrev pub one_digit : ℕ → Option ℕ
+one_digit a = if is_digit a then Some (a - 48) else None
+
+-- a number of one digit or two
+abbrev pub one_or_two : List ℕ → Option ℕ
+one_or_two (a ∷ []) = one_digit a
+one_or_two (a ∷ b ∷ []) = two_digits a b
+one_or_two _ = None
+
+-- a number of two digits
+abbrev pub just_two : List ℕ → Option ℕ
+just_two (a ∷ b ∷ []) = two_digits a b
+just_two _ = None
+
+-- a number of four digits
+abbrev pub just_four : List ℕ → Option ℕ
+just_four (a ∷ b ∷ c ∷ d ∷ []) = four_digits a b c d
+just_four _ = None
+
+-- ---- written
+
+abbrev pub as_two_digits : ℕ → List ℕ
+as_two_digits n = (48 + n / 10) ∷ (48 + n % 10) ∷ []
+
+abbrev pub as_four_digits : ℕ → List ℕ
+as_four_digits n = as_two_digits (n / 100) ++ as_two_digits (n % 100)
