@@ -1,0 +1,9 @@
+pub mod CalendarExamples
+pub mod CalendarLemmas
+pub mod DateLemmas
+pub mod DayLemmas
+pub mod DigitLemmas
+pub mod MonthLemmas
+pub mod NameLemmas
+pub mod TextExamples
+pub mod TextLemmas
