@@ -5,10 +5,11 @@ use Rattle.mail_core.specs.Fields.{header_blocks, fields_of, unfolded}
 use Rattle.mail_core.specs.Comments.{closing_rest, comment_mark}
 use Rattle.mail_core.specs.Quotes.{quote_mark, after_quote, unquoted}
 use Rattle.mail_core.specs.MsgIds.{Id, id_at, right_from, sides_of, is_left, is_right, next_piece, ids_from}
-use Rattle.mail_core.specs.Calendar.{days_before_year, days_of_months}
+use Rattle.civil_time.specs.Calendar.{days_before_year, days_of_months}
 use Rattle.mail_core.specs.Tokens.{tokens_of, tokens_from, token_at, kind_of}
-use Rattle.mail_core.specs.Zones.{hours_west}
-use Rattle.mail_core.specs.Sent.{date_at, second_at, time_at, signed_zone_at, month_of}
+use Rattle.civil_time.specs.Zones.{hours_west}
+use Rattle.mail_core.specs.Sent.{date_at, second_at, time_at, signed_zone_at}
+use Rattle.civil_time.specs.Names.{month_of}
 use Rattle.mail_core.specs.Headers.{own_id_of, references_of, sent_date_of, unfolded_subject_of, subject_line_of}
 
 abbrev id : List ℕ → List ℕ → Id

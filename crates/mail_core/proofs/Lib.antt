@@ -1,16 +1,12 @@
 pub mod AuthorLemmas
-pub mod CalendarExamples
-pub mod CalendarLemmas
 pub mod CommentCounts
 pub mod CommentLemmas
 pub mod CommentTable
-pub mod DayLemmas
 pub mod FieldExamples
 pub mod FieldLemmas
 pub mod HeaderExamples
 pub mod HeaderLemmas
 pub mod LineLemmas
-pub mod MonthLemmas
 pub mod MsgIdExamples
 pub mod MsgIdLemmas
 pub mod PieceLemmas

@@ -1,10 +1,11 @@
 -- Worked examples of sent dates and zones; the arrival is 2003-03-04 10:00:00.
 use Rattle.std.proofs.Common.{◌≡◌, [], ◌∷◌, refl, codes, pos, negsuc, neg_ℤ, ◌++◌, Some, None}
 use Rattle.mail_core.specs.Comments.{closing_rest, comment_mark}
-use Rattle.mail_core.specs.Calendar.{days_before_year, days_of_months}
+use Rattle.civil_time.specs.Calendar.{days_before_year, days_of_months}
 use Rattle.mail_core.specs.Tokens.{tokens_of, tokens_from, token_at, kind_of}
-use Rattle.mail_core.specs.Zones.{hours_west, zone_of}
-use Rattle.mail_core.specs.Sent.{sent_of, date_at, second_at, time_at, signed_zone_at, month_of}
+use Rattle.civil_time.specs.Zones.{hours_west, zone_of}
+use Rattle.mail_core.specs.Sent.{sent_of, date_at, second_at, time_at, signed_zone_at}
+use Rattle.civil_time.specs.Names.{month_of}
 
 -- Tue, 4 Mar 49 10:00 EST
 rfc_zone : sent_of (codes "Tue, 4 Mar 49 10:00 EST") (pos 1046772000) ≡ pos 2498482800

@@ -1,6 +1,6 @@
 -- The last step of a sent date.
 use Rattle.std.proofs.Common.{◌≡◌, ◌∙◌, ap, sym, List, ℤ, pos, ◌+ℤ◌, ◌*ℤ◌, Option, Some, None, unwrap_or}
-use Rattle.mail_core.specs.Calendar.{instant_at}
+use Rattle.civil_time.specs.Calendar.{instant_at}
 use Rattle.mail_core.specs.Tokens.{Token}
 use Rattle.mail_core.specs.Sent.{date_at, without_weekday, seconds_of, sent_at}
 

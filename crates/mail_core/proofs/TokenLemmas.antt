@@ -3,7 +3,7 @@ use Rattle.std.proofs.Common.{◌≡◌, ℕ, zero, suc, ◌+◌, ◌-◌, ◌�
 use Rattle.std.specs.List.{prefix_len, take_while}
 use Rattle.std.specs.Char.{is_ascii_alphabetic}
 use Rattle.mail_core.specs.Comments.{closing_rest}
-use Rattle.mail_core.specs.Calendar.{is_digit}
+use Rattle.civil_time.specs.Digits.{is_digit}
 use Rattle.mail_core.specs.Tokens.{Token, is_white, kind_by, kind_of, token_at, add_token, tokens_from, tokens_of}
 use Rattle.mail_core.specs.Tokens.Kind.{white, digit, letter, paren, other}
 use Rattle.mail_core.specs.Tokens.Token.{digits, letters, sign}

@@ -37,11 +37,5 @@ space = 32
 abbrev pub colon : ℕ
 colon = 58
 
-abbrev pub plus : ℕ
-plus = 43
-
 abbrev pub comma : ℕ
 comma = 44
-
-abbrev pub hyphen : ℕ
-hyphen = 45

@@ -1,6 +1,5 @@
 pub mod Author
 pub mod Bytes
-pub mod Calendar
 pub mod Closings
 pub mod Comments
 pub mod Fields
@@ -13,4 +12,3 @@ pub mod Quotes
 pub mod Sent
 pub mod TokenViews
 pub mod Tokens
-pub mod Zones

@@ -1,29 +1,18 @@
 -- The sent date of a Date body: RFC 5322 sections 3.3 and 4.3; RFC 5256 section 2.2, where the arrival stands for
 -- INTERNALDATE. Profile: a body that is no date, or of no instant, gives the arrival.
-use Rattle.std.specs.Prelude.{ℕ, ◌+◌, ◌-◌, ◌*◌, nat_le, min, List, [], ◌∷◌, Option, Some, None, unwrap_or, if◌then◌else◌, ℤ, pos, ◌-ℤ◌, ◌+ℤ◌, ◌*ℤ◌, codes}
+use Rattle.std.specs.Prelude.{ℕ, ◌+◌, ◌*◌, nat_le, List, [], ◌∷◌, Option, Some, None, unwrap_or, if◌then◌else◌, ℤ, pos, ◌-ℤ◌, ◌+ℤ◌, ◌*ℤ◌}
 use Rattle.mail_core.specs.Bytes.{comma, colon}
-use Rattle.mail_core.specs.Calendar.{is_digit, two_digits, four_digits, day_number_of, instant_at}
+use Rattle.civil_time.specs.Calendar.{day_number_of, instant_at}
+use Rattle.civil_time.specs.Clock.{clock_seconds}
+use Rattle.civil_time.specs.Digits.{one_digit, two_digits, four_digits, one_or_two, just_two}
 use Rattle.mail_core.specs.Tokens.{Token, tokens_of, digits_first, letters_first, sign_first, after_sign}
-use Rattle.mail_core.specs.Zones.{is_name, signed_zone, zone_of}
+use Rattle.civil_time.specs.Names.{month_of}
+use Rattle.civil_time.specs.Zones.{signed_zone, zone_of}
 
 infixl 10 ◌>>=◌
 abbrev pub ◌>>=◌ : {A B : Type 0} → Option A → (A → Option B) → Option B
 None >>= f = None
 (Some x) >>= f = f x
-
-abbrev pub one_digit : ℕ → Option ℕ
-one_digit a = if is_digit a then Some (a - 48) else None
-
--- a number of one digit or two
-abbrev pub one_or_two : List ℕ → Option ℕ
-one_or_two (a ∷ []) = one_digit a
-one_or_two (a ∷ b ∷ []) = two_digits a b
-one_or_two _ = None
-
--- a number of two digits
-abbrev pub just_two : List ℕ → Option ℕ
-just_two (a ∷ b ∷ []) = two_digits a b
-just_two _ = None
 
 -- a year of two digits: 00 to 49 are 2000 to 2049, 50 to 99 are 1950 to 1999
 abbrev pub in_century : ℕ → ℕ
@@ -40,26 +29,6 @@ year_of (a ∷ b ∷ c ∷ []) = do
   Some (1900 + (100 * high + low))
 year_of (a ∷ b ∷ c ∷ d ∷ []) = four_digits a b c d
 year_of _ = None
-
--- the month of its name of three letters, in any case
-unfoldable pub month_of : List ℕ → Option ℕ
-month_of name =
-    if is_name name (codes "jan") then Some 1
-    else (if is_name name (codes "feb") then Some 2
-    else (if is_name name (codes "mar") then Some 3
-    else (if is_name name (codes "apr") then Some 4
-    else (if is_name name (codes "may") then Some 5
-    else (if is_name name (codes "jun") then Some 6
-    else (if is_name name (codes "jul") then Some 7
-    else (if is_name name (codes "aug") then Some 8
-    else (if is_name name (codes "sep") then Some 9
-    else (if is_name name (codes "oct") then Some 10
-    else (if is_name name (codes "nov") then Some 11
-    else (if is_name name (codes "dec") then Some 12 else None)))))))))))
-
--- a number that is not larger than this one
-abbrev pub up_to : ℕ → ℕ → Option ℕ
-up_to high n = if nat_le n high then Some n else None
 
 -- the first token is left out where it is letters, and a comma behind it: the weekday is not read
 abbrev pub without_comma : List Token → List Token
@@ -80,13 +49,12 @@ date_at ts = do
   number ← day_number_of y m d
   Some (number, year.1)
 
--- a second from 00 to 60, of which the last is read as 59
+-- a second of two digits
 unfoldable pub second_at : List Token → Option (ℕ × List Token)
 second_at ts = do
   second ← digits_first ts
   n ← just_two second.0
-  s ← up_to 60 n
-  Some (min s 59, second.1)
+  Some (n, second.1)
 
 -- the second behind a second colon, 0 where there is none
 abbrev pub seconds_at : List Token → Option (ℕ × List Token)
@@ -98,12 +66,11 @@ time_at ts = do
   hour ← digits_first ts
   rest ← after_sign colon hour.1
   minute ← digits_first rest
-  hh ← one_or_two hour.0
-  h ← up_to 23 hh
-  mm ← just_two minute.0
-  m ← up_to 59 mm
+  h ← one_or_two hour.0
+  m ← just_two minute.0
   second ← seconds_at minute.1
-  Some (3600 * h + 60 * m + second.0, second.1)
+  seconds ← clock_seconds h m second.0
+  Some (seconds, second.1)
 
 -- a sign and digits
 unfoldable pub signed_zone_at : List Token → Option ℤ

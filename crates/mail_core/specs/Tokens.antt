@@ -5,7 +5,7 @@ use Rattle.std.specs.List.{prefix_len, take_while}
 use Rattle.std.specs.Char.{is_ascii_alphabetic}
 use Rattle.mail_core.specs.Bytes.{tab, lf, cr, space, open_paren}
 use Rattle.mail_core.specs.Comments.{closing_rest}
-use Rattle.mail_core.specs.Calendar.{is_digit}
+use Rattle.civil_time.specs.Digits.{is_digit}
 
 pub data Token : Type 0 where
   digits : List ℕ → Token

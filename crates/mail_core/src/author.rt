@@ -6,8 +6,8 @@ ghost use Rattle.mail_core.specs.Author.{in_angles, address_in, trim_end, trimme
 use crate::field_blocks::is_blank_byte;
 use crate::field_reading::behind_blanks;
 use crate::header::first;
-use crate::refusal::Memory;
 use crate::unfolding::unfold;
+use civil_time::Memory;
 use memchr::{memchr, memrchr};
 use std::alloc::Global;
 

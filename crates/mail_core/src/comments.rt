@@ -3,7 +3,7 @@ ghost use Rattle.std.specs.Prelude.{◌≡◌, ◌+◌, ◌<◌, ◌≤◌, leng
 ghost use Rattle.mail_core.specs.Comments.{closing_rest};
 ghost use Rattle.mail_core.specs.Closings.{closings_of};
 
-use crate::refusal::Memory;
+use civil_time::Memory;
 use std::alloc::Global;
 use std::marker::Model;
 

@@ -5,7 +5,7 @@ ghost use Rattle.mail_core.specs.MsgIds.{id_at, quoted_id, plain_id};
 use crate::id_sides::{divide, right_end};
 use crate::msg_id::MsgId;
 use crate::quotes::{quote_end, unquote};
-use crate::refusal::Memory;
+use civil_time::Memory;
 use std::alloc::Global;
 
 /// The msg-id whose quoted left side begins here, behind `<"`, and the place behind it.

@@ -7,7 +7,7 @@ use crate::comments::Comments;
 use crate::id_reading::read_id;
 use crate::msg_id::MsgId;
 use crate::quotes::quote_end;
-use crate::refusal::Memory;
+use civil_time::Memory;
 use std::alloc::Global;
 
 /// The first msg-ids of an unfolded text, so many at most.

@@ -10,11 +10,10 @@ use crate::author::{key_of_field, trimmed};
 use crate::field_reading::{Field, next_field};
 use crate::header::is_named;
 use crate::id_scan::{first_id, ids};
-use crate::instants::Instant;
 use crate::msg_id::MsgId;
-use crate::refusal::Memory;
 use crate::sent_date::sent;
 use crate::unfolding::unfold;
+use civil_time::{Instant, Memory};
 use std::alloc::Global;
 use std::marker::Model;
 

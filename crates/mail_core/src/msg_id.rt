@@ -2,7 +2,7 @@
 ghost use Rattle.std.specs.Prelude.{◌≡◌, IfOk};
 
 use crate::octet_string::Octets;
-use crate::refusal::Memory;
+use civil_time::Memory;
 use std::alloc::Global;
 use std::marker::Model;
 

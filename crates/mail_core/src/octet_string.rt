@@ -5,7 +5,7 @@ ghost use Rattle.std.specs.Cmp.Rules.{comparing, hashing};
 ghost use Rattle.std.specs.Hash as fed;
 ghost use Rattle.std.proofs.Common.{rules};
 
-use crate::refusal::Memory;
+use civil_time::Memory;
 use std::alloc::Global;
 use std::hash::{Hash, Hasher};
 use std::marker::Model;

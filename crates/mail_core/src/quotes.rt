@@ -2,7 +2,7 @@
 ghost use Rattle.std.specs.Prelude.{◌≡◌, ◌<◌, ◌≤◌, length, IfOk, MatchOption, Some, None, false, drop};
 ghost use Rattle.mail_core.specs.Quotes.{after_quote, unquoted};
 
-use crate::refusal::Memory;
+use civil_time::Memory;
 use std::alloc::Global;
 
 /// The place behind the quote that ends the quoted string whose text begins here.

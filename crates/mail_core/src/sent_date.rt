@@ -1,45 +1,15 @@
 //! When a message was sent (RFC 5322 sections 3.3 and 4.3).
-ghost use Rattle.std.specs.Prelude.{◌≡◌, ◌≤◌, MatchOption, IfSome, Some, None, pos, neg_ℤ, ◌≤ℤ◌, unwrap_or};
+ghost use Rattle.std.specs.Prelude.{◌≡◌, ◌<◌, MatchOption, IfSome, Some, None, pos, neg_ℤ, ◌≤ℤ◌, unwrap_or};
 ghost use Rattle.mail_core.specs.Tokens.{tokens_of};
-ghost use Rattle.mail_core.specs.Sent.{one_digit, one_or_two, just_two, year_of, month_of, up_to, without_comma, without_weekday, date_at, second_at, seconds_at, time_at, signed_zone_at, zone_at, seconds_of, sent_of};
+ghost use Rattle.mail_core.specs.Sent.{year_of, without_comma, without_weekday, date_at, second_at, seconds_at, time_at, signed_zone_at, zone_at, seconds_of, sent_of};
 
-use crate::calendar::day_number;
-use crate::digits::{four_digits, two_digits};
-use crate::instants::Instant;
 use crate::tokens::{behind_sign, next_digits, next_letters, next_sign};
-use crate::zones::{is_called, read_signed_zone, zone};
-
-/// The number that a digit writes.
-fn digit(a: u8) -> Option<u8>
-    ensures value { result ≡ one_digit a }
-    ensures small { IfSome result (λ n. n ≤ 9) }
-{
-    if a.is_ascii_digit() {
-        return Some(a - b'0');
-    }
-    None
-}
-
-/// A number of one digit or two.
-fn read_one_or_two(digits: &[u8]) -> Option<u8>
-    ensures { result ≡ one_or_two digits.now }
-{
-    match digits {
-        [a] => digit(*a),
-        [a, b] => two_digits(*a, *b),
-        _ => None,
-    }
-}
-
-/// A number of two digits.
-fn read_two(digits: &[u8]) -> Option<u8>
-    ensures { result ≡ just_two digits.now }
-{
-    match digits {
-        [a, b] => two_digits(*a, *b),
-        _ => None,
-    }
-}
+use civil_time::calendar::day_number;
+use civil_time::clocks::seconds_of_day;
+use civil_time::digits::{digit, four_digits, read_one_or_two, read_two, two_digits};
+use civil_time::names::read_month;
+use civil_time::zones::read_signed_zone;
+use civil_time::{Instant, zone};
 
 /// A year of two, three or four digits.
 fn read_year(digits: &[u8]) -> Option<u16>
@@ -58,58 +28,6 @@ fn read_year(digits: &[u8]) -> Option<u16>
         [a, b, c, d] => four_digits(*a, *b, *c, *d),
         _ => None,
     }
-}
-
-/// The month, from 1, of its name of three letters.
-#[tactic(auto, unfolding(crate::specs::Sent::month_of))]
-fn read_month(name: &[u8]) -> Option<u8>
-    ensures { result ≡ month_of name.now }
-{
-    if is_called(name, b"jan") {
-        return Some(1);
-    }
-    if is_called(name, b"feb") {
-        return Some(2);
-    }
-    if is_called(name, b"mar") {
-        return Some(3);
-    }
-    if is_called(name, b"apr") {
-        return Some(4);
-    }
-    if is_called(name, b"may") {
-        return Some(5);
-    }
-    if is_called(name, b"jun") {
-        return Some(6);
-    }
-    if is_called(name, b"jul") {
-        return Some(7);
-    }
-    if is_called(name, b"aug") {
-        return Some(8);
-    }
-    if is_called(name, b"sep") {
-        return Some(9);
-    }
-    if is_called(name, b"oct") {
-        return Some(10);
-    }
-    if is_called(name, b"nov") {
-        return Some(11);
-    }
-    if is_called(name, b"dec") {
-        return Some(12);
-    }
-    None
-}
-
-/// A number that is not larger than `high`.
-fn at_most(high: u8, number: u8) -> Option<u8>
-    ensures value { result ≡ up_to high number }
-    ensures small { IfSome result (λ n. n ≤ high) }
-{
-    if number <= high { Some(number) } else { None }
 }
 
 /// The text behind a comma, where one comes first, and else the text.
@@ -150,19 +68,16 @@ fn read_date<'a>(text: &'a [u8]) -> Option<(i32, &'a [u8])>
 /// The second that comes first, and what follows it.
 #[tactic(auto, unfolding(crate::specs::Sent::second_at))]
 fn read_second<'a>(text: &'a [u8]) -> Option<(u8, &'a [u8])>
-    ensures value { MatchOption result (second_at (tokens_of text.entry.now) ≡ None) (λ found. second_at (tokens_of text.entry.now) ≡ Some (found.0, tokens_of found.1.now)) }
-    ensures small { IfSome result (λ found. found.0 ≤ 59) }
+    ensures { MatchOption result (second_at (tokens_of text.entry.now) ≡ None) (λ found. second_at (tokens_of text.entry.now) ≡ Some (found.0, tokens_of found.1.now)) }
 {
     let (second, rest) = next_digits(text)?;
     let number = read_two(second)?;
-    let second = at_most(60, number)?;
-    Some((second.min(59), rest))
+    Some((number, rest))
 }
 
 /// The second behind a colon that comes first, 0 where none does, and what follows it.
 fn read_seconds<'a>(text: &'a [u8]) -> Option<(u8, &'a [u8])>
-    ensures value { MatchOption result (seconds_at (tokens_of text.entry.now) ≡ None) (λ found. seconds_at (tokens_of text.entry.now) ≡ Some (found.0, tokens_of found.1.now)) }
-    ensures small { IfSome result (λ found. found.0 ≤ 59) }
+    ensures { MatchOption result (seconds_at (tokens_of text.entry.now) ≡ None) (λ found. seconds_at (tokens_of text.entry.now) ≡ Some (found.0, tokens_of found.1.now)) }
 {
     match behind_sign(text, b':') {
         Some(rest) => read_second(rest),
@@ -174,18 +89,16 @@ fn read_seconds<'a>(text: &'a [u8]) -> Option<(u8, &'a [u8])>
 #[tactic(auto, unfolding(crate::specs::Sent::time_at))]
 fn read_time<'a>(text: &'a [u8]) -> Option<(u32, &'a [u8])>
     ensures value { MatchOption result (time_at (tokens_of text.entry.now) ≡ None) (λ found. time_at (tokens_of text.entry.now) ≡ Some (found.0, tokens_of found.1.now)) }
-    ensures small { IfSome result (λ found. found.0 ≤ 86_399) }
+    ensures small { IfSome result (λ found. found.0 < 86_400) }
 {
     let (hour, rest) = next_digits(text)?;
     let rest = behind_sign(rest, b':')?;
     let (minute, rest) = next_digits(rest)?;
-    let hour = at_most(23, read_one_or_two(hour)?)?;
-    let minute = at_most(59, read_two(minute)?)?;
+    let hour = read_one_or_two(hour)?;
+    let minute = read_two(minute)?;
     let (second, rest) = read_seconds(rest)?;
-    Some((
-        3600 * hour as u32 + 60 * minute as u32 + second as u32,
-        rest,
-    ))
+    let seconds = seconds_of_day(hour, minute, second)?;
+    Some((seconds, rest))
 }
 
 /// The zone of a sign and digits that come first.

@@ -2,7 +2,7 @@
 ghost use Rattle.std.specs.Prelude.{◌≡◌, ◌∷◌, ◌≤◌, [], length, MatchOption, Some, None};
 ghost use Rattle.std.specs.List.{prefix_len};
 ghost use Rattle.std.specs.Char.{is_ascii_alphabetic};
-ghost use Rattle.mail_core.specs.Calendar.{is_digit};
+ghost use Rattle.civil_time.specs.Digits.{is_digit};
 ghost use Rattle.mail_core.specs.Tokens.{is_white, tokens_of, digits_first, letters_first, sign_first, after_sign};
 ghost use Rattle.mail_core.specs.TokenViews.{seen};
 

@@ -3,7 +3,7 @@ ghost use Rattle.std.specs.Prelude.{◌≡◌, ◌<◌, length, drop, IfOk};
 ghost use Rattle.mail_core.specs.Fields.{folds, is_fold, unfolded};
 
 use crate::field_blocks::is_blank_byte;
-use crate::refusal::Memory;
+use civil_time::Memory;
 use std::alloc::Global;
 
 /// Whether an LF stands at this place, directly before space or tab.

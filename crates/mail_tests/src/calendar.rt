@@ -1,6 +1,9 @@
 //! What known dates are, and that each call answers.
-use mail_core::calendar::day_number;
-use mail_core::{Day, Instant, Memory, Month};
+use civil_time::calendar::day_number;
+use civil_time::clocks::seconds_of_day;
+use civil_time::digits::{digit_pair, read_four, read_one_or_two, read_two};
+use civil_time::names::{month_name, names_weekday, read_month, weekday_name};
+use civil_time::{Day, Instant, Memory, Month};
 use std::test::Fail;
 
 static DAYS: [((i16, u8, u8), i32, u8); 7] = [
@@ -125,4 +128,64 @@ fn a_month_is_read_from_exactly_seven_bytes(rt: HostRuntime) {
     for (text, index) in &TEXTS_OF_MONTHS {
         assert_eq!(rt; Month::read(text).map(|month| month.index()), *index);
     }
+}
+
+static WRITTEN: [(i64, &[u8; 10], &[u8; 5]); 6] = [
+    (-2_208_988_800, b"1900-01-01", b"00:00"),
+    (-1, b"1969-12-31", b"23:59"),
+    (0, b"1970-01-01", b"00:00"),
+    (951_868_799, b"2000-02-29", b"23:59"),
+    (1_046_772_000, b"2003-03-04", b"10:00"),
+    (253_370_764_799, b"9998-12-31", b"23:59"),
+];
+
+#[test]
+fn what_is_written_of_an_instant_is_read_again(rt: HostRuntime) -> Result<(), Fail> {
+    for (seconds, day, time) in &WRITTEN {
+        let instant = Instant::new(*seconds).ok_or("no instant")?;
+        let text = instant.text();
+        assert_eq!(rt;
+            (instant.day().text(), instant.time_of_day_text()),
+            (**day, **time)
+        );
+        assert_eq!(rt;
+            (&text[..10], text[10], &text[11..]),
+            (&day[..], b' ', &time[..])
+        );
+        assert_eq!(rt;
+            (&instant.month().text()[..], Day::read(*day)),
+            (&day[..7], Some(instant.day()))
+        );
+        assert_eq!(rt; Month::read(&text[..7]), Some(instant.month()));
+    }
+    Ok(())
+}
+
+#[test]
+fn names_that_are_written_are_read_again(rt: HostRuntime) {
+    for month in 1u8..13 {
+        assert_eq!(rt; read_month(&month_name(month)), Some(month));
+    }
+    for weekday in 0u8..7 {
+        assert!(rt; names_weekday(&weekday_name(weekday)));
+    }
+    assert_eq!(rt; (read_month(b"Sept"), names_weekday(b"jan")), (None, false));
+}
+
+#[test]
+fn times_and_numbers_have_just_their_digits(rt: HostRuntime) {
+    assert_eq!(rt;
+        (seconds_of_day(23, 59, 60), seconds_of_day(24, 0, 0)),
+        (Some(86_399), None)
+    );
+    assert_eq!(rt;
+        (seconds_of_day(0, 60, 0), seconds_of_day(0, 0, 61)),
+        (None, None)
+    );
+    assert_eq!(rt; (read_one_or_two(b"7"), read_two(b"7")), (Some(7), None));
+    assert_eq!(rt;
+        (read_two(b"07"), read_four(b"2003")),
+        (Some(7), Some(2003))
+    );
+    assert_eq!(rt; digit_pair(7), *b"07");
 }

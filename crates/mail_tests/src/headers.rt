@@ -1,6 +1,7 @@
 //! What the headers of known messages say.
 use crate::msg_ids::{assert_ids, is_id};
-use mail_core::{Header, Instant, trimmed};
+use civil_time::Instant;
+use mail_core::{Header, trimmed};
 use std::test::Fail;
 
 static OWN_IDS: [(&[u8], Option<(&[u8], &[u8])>); 6] = [

@@ -1,6 +1,7 @@
 //! Sent dates and zones of known texts.
 use crate::long::repeated;
-use mail_core::{Instant, sent, zone};
+use civil_time::{Instant, zone};
+use mail_core::sent;
 use std::test::Fail;
 
 // 2003-03-04 10:00:00

@@ -1,21 +1,12 @@
 -- Numbers as they are written, and as they are read.
-use Rattle.std.proofs.Common.{◌≡◌, ℕ, zero, suc, ◌+◌, ◌-◌, ◌*◌, ◌/◌, ◌%◌, ◌<◌, ◌≤◌, Bool, true, not, ◌==◌, ◌&&◌, refl, arith, ap, ◌∙◌, Some, List, [], ◌∷◌, min}
+use Rattle.std.proofs.Common.{◌≡◌, ℕ, zero, suc, ◌+◌, ◌-◌, ◌*◌, ◌/◌, ◌%◌, ◌<◌, Bool, true, not, ◌==◌, ◌&&◌, refl, arith, ap, ◌∙◌, Some, List, [], ◌∷◌, min}
 use Rattle.std.proofs.lemmas.Bool.{le-leb}
 use Rattle.std.proofs.lemmas.Bool.Decides.{nat_tests}
-use Rattle.mail_core.specs.Calendar.{is_digit, two_digits}
-use Rattle.mbox_core.specs.Separator.{day_of, clock_of, second_of, year_of, month_of, is_weekday}
-use Rattle.mbox_core.specs.Written.{as_two_digits, as_four_digits, clock_text, name_at, weekday_names, month_names}
-
-digit_is : (n : ℕ) → n ≤ 9 → is_digit (48 + n) ≡ true
-digit_is n h = rw (le-leb 48 (48 + n) (omega arith), le-leb (48 + n) 57 (omega (arith, h))) refl
-
--- two digits, read
-pub two_read : (n : ℕ) → n < 100 → two_digits (48 + n / 10) (48 + n % 10) ≡ Some n
-two_read n h =
-    let high : n / 10 ≤ 9 = omega (arith, h) in
-    let low : n % 10 ≤ 9 = omega arith in
-    let same : 10 * (48 + n / 10 - 48) + (48 + n % 10 - 48) ≡ n = omega arith in
-    rw (digit_is (n / 10) high, digit_is (n % 10) low) (ap (λ x. Some x) same)
+use Rattle.civil_time.specs.Digits.{as_two_digits, as_four_digits}
+use Rattle.civil_time.specs.Names.{name_at, weekday_names, month_names}
+use Rattle.civil_time.proofs.DigitLemmas.{digit_is, two_read, four_read}
+use Rattle.mbox_core.specs.Separator.{day_of, clock_of, year_of}
+use Rattle.mbox_core.specs.Written.{clock_text}
 
 -- a day of one digit, and of two
 pub day_one : (n : ℕ) → n < 10 → day_of ((48 + n) ∷ []) ≡ Some n
@@ -28,12 +19,6 @@ pub day_two : (n : ℕ) → n < 100 → day_of (as_two_digits n) ≡ Some n
 unfolding day_of
 day_two n h = two_read n h
 
-second_read : (b : List ℕ) (h m s : ℕ) → s < 100 → second_of ((48 + h / 10) ∷ (48 + h % 10) ∷ 58 ∷ (48 + m / 10) ∷ (48 + m % 10) ∷ 58 ∷ as_two_digits s) ≡ Some s
-second_read b h m s lt = two_read s lt
-
-all_true : (a b c d : Bool) → a ≡ true → b ≡ true → c ≡ true → d ≡ true → (a && (b && (c && d))) ≡ true
-all_true a b c d p q r s = rw (p, q, r, s) refl
-
 pub clock_read : (n : ℕ) → n < 86400 → clock_of (clock_text n) ≡ Some n
 unfolding clock_of
 clock_read n h =
@@ -41,7 +26,7 @@ clock_read n h =
     let minute : n / 60 % 60 < 60 = omega arith in
     let second : n % 60 < 60 = omega arith in
     let least : min (n % 60) 59 ≡ n % 60 = omega arith in
-    let same : n / 3600 * 3600 + n / 60 % 60 * 60 + n % 60 ≡ n = omega arith in
+    let same : 3600 * (n / 3600) + 60 * (n / 60 % 60) + n % 60 ≡ n = omega arith in
     rw (
       two_read (n / 3600) (omega arith),
       two_read (n / 60 % 60) (omega arith),
@@ -49,43 +34,11 @@ clock_read n h =
       le-leb (n / 3600) 23 (omega arith),
       le-leb (n / 60 % 60) 59 (omega arith),
       le-leb (n % 60) 60 (omega arith),
-    ) (ap (λ x. Some (n / 3600 * 3600 + n / 60 % 60 * 60 + x)) least ∙ ap (λ x. Some x) same)
+    ) (ap (λ x. Some (3600 * (n / 3600) + 60 * (n / 60 % 60) + x)) least ∙ ap (λ x. Some x) same)
 
 pub year_read : (n : ℕ) → n < 10000 → year_of (as_four_digits n) ≡ Some n
 unfolding year_of
-year_read n h =
-    let high : n / 100 < 100 = omega (arith, h) in
-    let low : n % 100 < 100 = omega arith in
-    let same : 100 * (n / 100) + n % 100 ≡ n = omega arith in
-    rw (two_read (n / 100) high, two_read (n % 100) low) (ap (λ x. Some x) same)
-
--- the names are read
-pub weekday_read : (n : ℕ) → n < 7 → is_weekday (name_at n weekday_names) ≡ true
-unfolding is_weekday
-weekday_read zero h = refl
-weekday_read (suc zero) h = refl
-weekday_read (suc (suc zero)) h = refl
-weekday_read (suc (suc (suc zero))) h = refl
-weekday_read (suc (suc (suc (suc zero)))) h = refl
-weekday_read (suc (suc (suc (suc (suc zero))))) h = refl
-weekday_read (suc (suc (suc (suc (suc (suc zero)))))) h = refl
-weekday_read (suc (suc (suc (suc (suc (suc (suc n))))))) h = absurd (omega (arith, h))
-
-pub month_read : (n : ℕ) → n < 12 → month_of (name_at n month_names) ≡ Some n
-unfolding month_of
-month_read zero h = refl
-month_read (suc zero) h = refl
-month_read (suc (suc zero)) h = refl
-month_read (suc (suc (suc zero))) h = refl
-month_read (suc (suc (suc (suc zero)))) h = refl
-month_read (suc (suc (suc (suc (suc zero))))) h = refl
-month_read (suc (suc (suc (suc (suc (suc zero)))))) h = refl
-month_read (suc (suc (suc (suc (suc (suc (suc zero))))))) h = refl
-month_read (suc (suc (suc (suc (suc (suc (suc (suc zero)))))))) h = refl
-month_read (suc (suc (suc (suc (suc (suc (suc (suc (suc zero))))))))) h = refl
-month_read (suc (suc (suc (suc (suc (suc (suc (suc (suc (suc zero)))))))))) h = refl
-month_read (suc (suc (suc (suc (suc (suc (suc (suc (suc (suc (suc zero))))))))))) h = refl
-month_read (suc (suc (suc (suc (suc (suc (suc (suc (suc (suc (suc (suc n)))))))))))) h = absurd (omega (arith, h))
+year_read n h = four_read n h
 
 -- ---- bytes of a token
 

@@ -16,7 +16,7 @@ front_divides bytes b =
     let r = reads true (lines bytes) (lines_are bytes) in
     ((split_lines true (lines bytes)).front, r.rest, r.are, b, r.blocks)
 
-preamble_from : (bytes : List ℕ) → (u : Unblank (split_lines true (lines bytes)).front) → IsPreamble bytes (length (concat u.blanks))
+pub preamble_from : (bytes : List ℕ) → (u : Unblank (split_lines true (lines bytes)).front) → IsPreamble bytes (length (concat u.blanks))
 preamble_from bytes u =
     let r = reads true (lines bytes) (lines_are bytes) in
     let q = quiet_back true u.blanks (u.line ∷ u.more) (subst (Quiet true) u.are r.quiet) in

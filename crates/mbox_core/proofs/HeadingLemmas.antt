@@ -4,12 +4,16 @@ use Rattle.std.proofs.lemmas.Bool.Decides.{nat_tests}
 use Rattle.std.proofs.lemmas.Int.{ints}
 use Rattle.std.specs.Int.{int_rem_euclid}
 use Rattle.std.specs.List.{list_any}
-use Rattle.mail_core.specs.Calendar.{month_days, day_number_of, day_of_instant, weekday, is_instant, instant_at}
+use Rattle.civil_time.specs.Calendar.{month_days, day_of_instant, weekday, is_instant, instant_at}
 use Rattle.mail_core.specs.Lines.{onto_first_line}
 use Rattle.mbox_core.specs.Separator.{Envelope, IsSeparator, IsSentBy, AreSenderTokens, spaced, tokens, is_sender_token, day_of, instant_of}
-use Rattle.mbox_core.specs.Written.{Date, IsEnvelope, heading, time_text, date_text, date_after, days_since_1900, as_day_digits, as_two_digits, as_four_digits, clock_text, name_at, weekday_names, month_names}
-use Rattle.mbox_core.proofs.DateLemmas.{both, date_is, found_number, split_is}
-use Rattle.mbox_core.proofs.DigitLemmas.{is_plain, is_run, day_one, day_two, clock_read, year_read, weekday_read, month_read, two_plain, one_plain, four_plain, clock_plain, weekday_plain, month_plain}
+use Rattle.civil_time.specs.Dates.{Date, date_after, days_since_1900}
+use Rattle.mbox_core.specs.Written.{IsEnvelope, heading, time_text, date_text, as_day_digits, clock_text}
+use Rattle.civil_time.specs.Digits.{as_two_digits, as_four_digits}
+use Rattle.civil_time.specs.Names.{name_at, weekday_names, month_names}
+use Rattle.civil_time.proofs.DateLemmas.{both, date_is, found_number, split_is}
+use Rattle.mbox_core.proofs.DigitLemmas.{is_plain, is_run, day_one, day_two, clock_read, year_read, two_plain, one_plain, four_plain, clock_plain, weekday_plain, month_plain}
+use Rattle.civil_time.proofs.NameLemmas.{weekday_read, month_read}
 
 -- ---- tokens
 
@@ -202,8 +206,8 @@ heading_says e is =
       sender = is.sender.1;
       arrival = record {
         any_weekday = weekday_read (weekday day) (rest_small (day +ℤ pos 3));
-        month = date.month - 1;
-        is_month = month_read (date.month - 1) in_year;
+        month = date.month;
+        is_month = month_read (date.month - 1) in_year ∙ ap (λ m. Some m) month;
         day = date.day;
         is_day = day_read date.day (omega (arith, found.in_month, month_short date.year date.month));
         seconds = s;
@@ -213,7 +217,7 @@ heading_says e is =
         year = date.year;
         is_year = year_read date.year (omega (arith, found.last));
         day_number = day;
-        exists = ap (λ m. day_number_of date.year m date.day) month ∙ found_number n day date found split.low;
+        exists = found_number n day date found split.low;
         instant = instant_is z day s is.arrival split.same;
       };
     }

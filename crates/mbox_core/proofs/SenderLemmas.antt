@@ -1,13 +1,13 @@
 -- The senders of the code, and their written form.
 use Rattle.std.proofs.Common.{◌≡◌, ℕ, zero, suc, ◌<◌, ◌≤◌, Bool, true, false, ◌==◌, not, List, [], ◌∷◌, ◌++◌, length, take, drop, get_or, refl, arith, ap, ◌∙◌, sym, ℤ, codes, length-append, ◌⊎◌, inl, inr}
 use Rattle.std.proofs.lemmas.List.{get_or_at, take_at, drop_at}
-use Rattle.mail_core.specs.Calendar.{is_instant}
+use Rattle.civil_time.specs.Calendar.{is_instant}
 use Rattle.mbox_core.specs.Separator.{IsSenderText, is_sender_token, spaced}
 use Rattle.mbox_core.specs.Written.{IsEnvelope}
 use Rattle.mbox_core.specs.Senders.{IsSender, sender_text}
 use Rattle.mbox_core.specs.declared.senders.Sender.{Sender}
 use Rattle.mbox_core.specs.declared.senders.Sender.TheVariants.{One, At}
-use Rattle.mbox_core.proofs.DateLemmas.{both}
+use Rattle.civil_time.proofs.DateLemmas.{both}
 use Rattle.mbox_core.proofs.DigitLemmas.{is_run, is_plain}
 use Rattle.mbox_core.proofs.HeadingLemmas.{sender_run}
 

@@ -1,11 +1,12 @@
 -- The relation and the value.
-use Rattle.std.proofs.Common.{◌≡◌, ℕ, ◌+◌, Bool, true, false, ◌&&◌, List, [], ◌∷◌, ◌++◌, take, drop, refl, ap, ◌∙◌, sym, if◌then◌else◌, Option, Some, None, ℤ, pos, ◌+ℤ◌, ◌-ℤ◌, ◌*ℤ◌, codes, take-append-drop}
+use Rattle.std.proofs.Common.{◌≡◌, ℕ, Bool, true, false, ◌&&◌, List, [], ◌∷◌, ◌++◌, take, drop, refl, ap, ◌∙◌, sym, if◌then◌else◌, Option, Some, None, ℤ, pos, ◌+ℤ◌, ◌-ℤ◌, ◌*ℤ◌, codes, take-append-drop}
 use Rattle.std.specs.Str.{bytes_eq}
 use Rattle.std.specs.Option.{MatchOption, IfSome, IfNone, is_some}
 use Rattle.std.proofs.lemmas.Slice.Eq.{bytes_eq-Decides}
-use Rattle.mail_core.specs.Calendar.{day_number_of, instant_at}
-use Rattle.mail_core.specs.Zones.{zone_of}
-use Rattle.mbox_core.specs.Separator.{◌>>=◌, Envelope, IsSeparator, IsArrival, IsSentBy, separator_of, envelope_of, arrival_of, sent_by_one, sent_by_two, east_of, spaced, tokens, is_sender_token, is_weekday, month_of, day_of, clock_of, year_of, instant_of}
+use Rattle.civil_time.specs.Calendar.{day_number_of, instant_at}
+use Rattle.civil_time.specs.Zones.{zone_of}
+use Rattle.mbox_core.specs.Separator.{◌>>=◌, Envelope, IsSeparator, IsArrival, IsSentBy, separator_of, envelope_of, arrival_of, sent_by_one, sent_by_two, east_of, spaced, tokens, is_sender_token, day_of, clock_of, year_of, instant_of}
+use Rattle.civil_time.specs.Names.{is_weekday, month_of}
 
 pub bind_some : {A B : Type 0} (o : Option A) (f : A → Option B) (y : B) → (o >>= f) ≡ Some y → (x : A) × (o ≡ Some x) × (f x ≡ Some y)
 bind_some None f y h = absurd (cc)
@@ -41,7 +42,7 @@ arrival_says b c d e zone f arrival h =
     let s = bind_some (clock_of e) _ arrival n.2 in
     let o = bind_some (east_of zone) _ arrival s.2 in
     let y = bind_some (year_of f) _ arrival o.2 in
-    let i = bind_some (day_number_of y.0 (m.0 + 1) n.0) _ arrival y.2 in
+    let i = bind_some (day_number_of y.0 m.0 n.0) _ arrival y.2 in
     record {
       any_weekday = g.0;
       month = m.0;

@@ -1,11 +1,14 @@
 -- Separator lines (RFC 4155, appendix A). profile: also runs of spaces, `hh:mm`, a second 60, a zone before the year, and
 -- as the sender any token, or two with `at` between them, since mail tools write all of these.
-use Rattle.std.specs.Prelude.{◌≡◌, ℕ, ◌+◌, ◌-◌, ◌*◌, ◌==◌, nat_le, Bool, true, false, not, ◌&&◌, List, [], ◌∷◌, ◌++◌, length, take, drop, slice_index, if◌then◌else◌, Option, Some, None, ℤ, pos, ◌+ℤ◌, ◌-ℤ◌, ◌*ℤ◌, codes, min}
-use Rattle.std.specs.List.{list_any, position_from}
+use Rattle.std.specs.Prelude.{◌≡◌, ℕ, ◌+◌, ◌==◌, Bool, true, false, not, ◌&&◌, List, [], ◌∷◌, ◌++◌, length, take, drop, slice_index, if◌then◌else◌, Option, Some, None, ℤ, pos, ◌+ℤ◌, ◌-ℤ◌, ◌*ℤ◌, codes}
+use Rattle.std.specs.List.{list_any}
 use Rattle.std.specs.Str.{bytes_eq}
 use Rattle.mail_core.specs.Lines.{onto_first_line}
-use Rattle.mail_core.specs.Calendar.{is_digit, two_digits, day_number_of, instant_at}
-use Rattle.mail_core.specs.Zones.{zone_of}
+use Rattle.civil_time.specs.Calendar.{day_number_of, instant_at}
+use Rattle.civil_time.specs.Clock.{clock_seconds}
+use Rattle.civil_time.specs.Digits.{two_digits, one_or_two, just_four}
+use Rattle.civil_time.specs.Names.{month_of, is_weekday}
+use Rattle.civil_time.specs.Zones.{zone_of}
 
 -- whether a text begins with a byte of a token
 abbrev pub begins_token : List ℕ → Bool
@@ -22,17 +25,13 @@ abbrev pub ◌>>=◌ : {A B : Type 0} → Option A → (A → Option B) → Opti
 None >>= f = None
 (Some x) >>= f = f x
 
-abbrev pub lower : ℕ → ℕ
-lower b = if nat_le 65 b && nat_le b 90 then b + 32 else b
-
 -- the number that two digits at this place write
 abbrev pub two_at : List ℕ → ℕ → Option ℕ
 two_at t i = two_digits (slice_index t i) (slice_index t (i + 1))
 
 -- a day of one or two digits
 unfoldable pub day_of : List ℕ → Option ℕ
-day_of t = if length t == 1 then (if is_digit (slice_index t 0) then Some (slice_index t 0 - 48) else None)
-    else (if length t == 2 then two_at t 0 else None)
+day_of t = one_or_two t
 
 -- the seconds of a time, 0 where it has none
 abbrev pub second_of : List ℕ → Option ℕ
@@ -44,33 +43,11 @@ clock_of t = do
   hour ← two_at t 0
   minute ← two_at t 3
   second ← second_of t
-  if slice_index t 2 == 58 && (nat_le hour 23 && (nat_le minute 59 && nat_le second 60)) then Some (hour * 3600 + minute * 60 + min second 59) else None
+  if slice_index t 2 == 58 then clock_seconds hour minute second else None
 
 -- four digits
 unfoldable pub year_of : List ℕ → Option ℕ
-year_of t = if length t == 4 then (do
-  high ← two_at t 0
-  low ← two_at t 2
-  Some (100 * high + low)) else None
-
--- a name of three letters, in any case
-abbrev pub is_name : List ℕ → List ℕ → Bool
-is_name t name = length t == 3 && (lower (slice_index t 0) == slice_index name 0
-    && (lower (slice_index t 1) == slice_index name 1 && lower (slice_index t 2) == slice_index name 2))
-
-abbrev pub months : List (List ℕ)
-months = codes "jan" ∷ codes "feb" ∷ codes "mar" ∷ codes "apr" ∷ codes "may" ∷ codes "jun"
-    ∷ codes "jul" ∷ codes "aug" ∷ codes "sep" ∷ codes "oct" ∷ codes "nov" ∷ codes "dec" ∷ []
-
-abbrev pub weekdays : List (List ℕ)
-weekdays = codes "mon" ∷ codes "tue" ∷ codes "wed" ∷ codes "thu" ∷ codes "fri" ∷ codes "sat" ∷ codes "sun" ∷ []
-
--- January is 0
-unfoldable pub month_of : List ℕ → Option ℕ
-month_of t = position_from (is_name t) 0 months
-
-unfoldable pub is_weekday : List ℕ → Bool
-is_weekday t = list_any (is_name t) weekdays
+year_of t = just_four t
 
 -- a token of a sender: any run of bytes, but of no space and no LF, and not empty
 abbrev pub is_sender_token : List ℕ → Bool
@@ -125,7 +102,7 @@ pub record IsArrival (weekday month_name day_text time_text : List ℕ) (zone : 
   pub year : ℕ
   pub is_year : year_of year_text ≡ Some year
   pub day_number : ℤ
-  pub exists : day_number_of year (month + 1) day ≡ Some day_number
+  pub exists : day_number_of year month day ≡ Some day_number
   pub instant : instant_of day_number seconds east ≡ Some arrival
 
 -- A content says this envelope: `From `, and then six to nine tokens between runs of spaces, which are one or three of a
@@ -155,7 +132,7 @@ arrival_of weekday month_name day_text time_text offset year_text =
       seconds ← clock_of time_text
       east ← offset
       year ← year_of year_text
-      number ← day_number_of year (month + 1) day
+      number ← day_number_of year month day
       instant_of number seconds east) else None
 
 -- a sender of one token, and one of three, with an arrival

@@ -1,5 +1,5 @@
 //! Cutting an mbox into its messages.
-ghost use Rattle.std.specs.Prelude.{◌≡◌, ◌∷◌, ◌<◌, ◌≤◌, [], length, None, List, IfOk, IfErr, OnErr};
+ghost use Rattle.std.specs.Prelude.{◌≡◌, ◌∷◌, ◌<◌, ◌≤◌, [], length, Some, None, List, IfOk, IfErr, OnErr};
 ghost use Rattle.std.specs.Iterator.{YieldsFirst, item_count};
 ghost use Rattle.mbox_core.specs.Division.{Item as Message, Divides, IsPreamble, items_after, text_in, items_in, body};
 ghost use Rattle.mail_core.specs.Lines.{lines};
@@ -27,6 +27,16 @@ impl<'a> Model for Messages<'a> {
     ghost Value = { List Message };
 
     ghost view = { λ s. items_after s.next s.rest.now };
+}
+
+impl<'a> Messages<'a> {
+    /// The messages of what follows a separator line of this envelope.
+    pub fn after(envelope: Envelope<'a>, bytes: &'a [u8]) -> Messages<'a>
+        ensures { result ≡ items_after (Some envelope.entry) bytes.entry.now }
+    {
+        let next = Some(envelope);
+        Messages { next, rest: bytes }
+    }
 }
 
 /// A message's text, and what follows it.

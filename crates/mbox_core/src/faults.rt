@@ -11,6 +11,8 @@ pub enum MboxFault {
     Read,
     /// M3: a growth of memory was refused.
     Memory,
+    /// M4: more was fed after a fault, or after the end.
+    Failed,
 }
 
 impl fmt::Display for MboxFault {
@@ -19,6 +21,7 @@ impl fmt::Display for MboxFault {
             MboxFault::Preamble(offset) => write!(f, "M1 Preamble at {offset}"),
             MboxFault::Read => f.write_str("M2 Read"),
             MboxFault::Memory => f.write_str("M3 Memory"),
+            MboxFault::Failed => f.write_str("M4 Failed"),
         }
     }
 }

@@ -1,8 +1,10 @@
 //! The time of a separator line, as it is written (RFC 4155, appendix A).
-ghost use Rattle.std.specs.Prelude.{◌≡◌, ◌<◌, ◌≤◌, ◌∷◌, ◌++◌, ◌*◌, ◌+◌, [], length};
-ghost use Rattle.mbox_core.specs.Written.{as_two_digits, as_day_digits, name_at, weekday_names, month_names, date_text, time_text};
+ghost use Rattle.std.specs.Prelude.{◌≡◌, ◌<◌, ◌≤◌, ◌∷◌, ◌++◌, []};
+ghost use Rattle.mbox_core.specs.Written.{as_day_digits, date_text, time_text};
 
-use mail_core::Instant;
+use civil_time::Instant;
+use civil_time::digits::digit_pair;
+use civil_time::names::{month_name, weekday_name};
 
 /// A date of the civil calendar.
 #[derive(Clone, Copy)]
@@ -10,27 +12,6 @@ struct Date {
     year: u16,
     month: u8,
     day: u8,
-}
-
-const WEEKDAYS: &[u8] = b"MonTueWedThuFriSatSun";
-
-const MONTHS: &[u8] = b"JanFebMarAprMayJunJulAugSepOctNovDec";
-
-/// The n-th of some names of three letters.
-fn nth_name(n: u8, names: &[u8]) -> [u8; 3]
-    requires { 3 * n + 2 < length names.now }
-    ensures { result ≡ name_at n names.now }
-{
-    let at = 3 * n as usize;
-    [names[at], names[at + 1], names[at + 2]]
-}
-
-/// Two digits.
-fn digit_pair(n: u32) -> [u8; 2]
-    requires { n < 100 }
-    ensures { result ≡ as_two_digits n }
-{
-    [(48 + n / 10) as u8, (48 + n % 10) as u8]
 }
 
 /// A day in two columns.
@@ -58,8 +39,8 @@ fn date_line(weekday: u8, date: Date, seconds: u32) -> [u8; 26]
       day = date.day;
     }) seconds) ++ 10 ∷ [] }
 {
-    let [w0, w1, w2] = nth_name(weekday, WEEKDAYS);
-    let [m0, m1, m2] = nth_name(date.month - 1, MONTHS);
+    let [w0, w1, w2] = weekday_name(weekday);
+    let [m0, m1, m2] = month_name(date.month);
     let [d0, d1] = day_pair(date.day as u32);
     let [h0, h1] = digit_pair(seconds / 3600);
     let [n0, n1] = digit_pair(seconds / 60 % 60);

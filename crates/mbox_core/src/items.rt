@@ -66,7 +66,7 @@ impl<'a> Item<'a> {
 }
 
 /// Whether the whole text adds no LF.
-pub(crate) fn is_complete(text: &[u8]) -> bool
+pub fn is_complete(text: &[u8]) -> bool
     ensures { result ≡ is_whole text.now }
 {
     text.is_empty() || text[text.len() - 1] == b'\n'

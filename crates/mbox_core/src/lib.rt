@@ -7,7 +7,8 @@
 
 pub use cutting::{Messages, cut};
 pub use faults::MboxFault;
-pub use items::Item;
+pub use items::{Item, is_complete};
+pub use lines::last_line;
 pub use owned::{OwnedItem, written_sender};
 pub use senders::Sender;
 pub use separators::{Envelope, separator};

@@ -5,7 +5,7 @@ ghost use Rattle.mbox_core.specs.Senders.{sender_text};
 use crate::items::Item;
 use crate::senders::Sender;
 use crate::separators::Envelope;
-use mail_core::Instant;
+use civil_time::Instant;
 use std::alloc::{AllocError, Global};
 use std::marker::Model;
 
@@ -20,7 +20,7 @@ pub struct OwnedItem {
 
 impl Model for OwnedItem {
     ghost use Rattle.std.specs.Prelude.{◌≡◌, true};
-    ghost use Rattle.mail_core.specs.Calendar.{is_instant};
+    ghost use Rattle.civil_time.specs.Calendar.{is_instant};
     ghost use Rattle.mail_core.specs.Lines.{lines};
     ghost use Rattle.mbox_core.specs.Separator.{IsSenderText};
     ghost use Rattle.mbox_core.specs.Division.{Item as Message, NoneSeparates, is_whole, whole};

@@ -3,12 +3,10 @@ ghost use Rattle.std.specs.Prelude.{◌≡◌, ◌∷◌, ◌<◌, ◌≤◌, []
 ghost use Rattle.mbox_core.specs.Separator.{tokens, separator_of, envelope_of, arrival_of, sent_by_one, sent_by_two, IsSeparator, Envelope as Said};
 
 use crate::senders::Sender;
-use crate::tokens::{
-    first_token, is_sender_token, names_weekday, read_clock, read_day, read_instant, read_month,
-    read_year,
-};
-use mail_core::calendar::day_number;
-use mail_core::{Instant, zone};
+use crate::tokens::{first_token, is_sender_token, read_clock, read_day, read_instant, read_year};
+use civil_time::calendar::day_number;
+use civil_time::names::{names_weekday, read_month};
+use civil_time::{Instant, zone};
 use std::marker::Model;
 
 /// What a separator line says: who sent the message, and when it came. Its sender is one that can be written.
@@ -24,7 +22,7 @@ impl<'a> Model for Envelope<'a> {
     ghost Value = { Said };
 
     ghost use Rattle.std.specs.Prelude.{◌≡◌, true};
-    ghost use Rattle.mail_core.specs.Calendar.{is_instant};
+    ghost use Rattle.civil_time.specs.Calendar.{is_instant};
     ghost use Rattle.mbox_core.specs.Senders.{IsSender, sender_text};
 
     ghost view = { λ s. record { sender = sender_text s.sender; arrival = s.arrival } };
@@ -52,7 +50,7 @@ fn read_arrival(
     let seconds = read_clock(time_text)?;
     let east = offset?;
     let year = read_year(year_text)?;
-    let number = day_number(year as u16, month as u8 + 1, day as u8)?;
+    let number = day_number(year, month, day)?;
     read_instant(number, seconds, east)
 }
 

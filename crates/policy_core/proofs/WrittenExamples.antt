@@ -9,7 +9,7 @@ use Rattle.policy_core.specs.Names.{is_name}
 use Rattle.policy_core.specs.Rules.{open_rule}
 use Rattle.policy_core.specs.Written.{name_refusal, effect_refusal, texts_refusal, embargo_refusal, age_refusal, day_refusal, rule_refusal, rule_of, rules_refusal, tree_refusal, policy_of, written_policy}
 use Rattle.std.specs.Prelude.{⊤}
-use Rattle.mail_core.specs.Calendar.{days_before_year, days_of_months}
+use Rattle.civil_time.specs.Calendar.{days_before_year, days_of_months}
 
 -- what computes a policy of a tree
 unfoldable on_trees : ⊤

@@ -4,7 +4,7 @@ use Rattle.std.specs.Prelude.{ℕ, suc, ℤ, pos, List, [], ◌∷◌, ◌++◌,
 use Rattle.std.specs.List.{list_all, list_any}
 use Rattle.toml.specs.Data.{Data, Items, no_items, item, Members, no_members, member, get_member, as_str, as_integer, as_bool, as_array, as_table, array}
 use Rattle.toml.specs.Parse.{parse_document}
-use Rattle.mail_core.specs.Calendar.{day_of_text}
+use Rattle.civil_time.specs.Calendar.{day_of_text}
 use Rattle.policy_core.specs.declared.access.Standing.{Standing}
 use Rattle.policy_core.specs.declared.access.Standing.TheVariants.{Public, Member, Subscriber, Moderator}
 use Rattle.policy_core.specs.declared.access.Withdrawn.{Withdrawn}

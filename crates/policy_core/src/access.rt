@@ -4,7 +4,7 @@ ghost use Rattle.policy_core.specs.Facts.{is_embargoed, age, rank_of, is_at_leas
 ghost use Rattle.policy_core.specs.Written.{standing_named};
 
 use crate::words::Word;
-use mail_core::Day;
+use civil_time::Day;
 use std::marker::Model;
 
 /// The longest age that a policy or a command can ask for, in days.

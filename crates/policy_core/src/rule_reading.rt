@@ -12,7 +12,7 @@ use crate::faults::PolicyFault;
 use crate::names::is_name;
 use crate::rules::Rule;
 use crate::words::{Word, effect_named, is_rule_key};
-use mail_core::Day;
+use civil_time::Day;
 use std::alloc::Global;
 use toml::{Table, Value};
 

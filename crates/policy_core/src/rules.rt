@@ -10,7 +10,7 @@ ghost use Rattle.policy_core.specs.Verdict.{Fits, IsDecidedBy, denied, ruling, r
 use crate::access::{Facts, Standing, Verdict, Withdrawn};
 use crate::faults::PolicyFault;
 use crate::reading::read_policy;
-use mail_core::Day;
+use civil_time::Day;
 use std::alloc::Global;
 use std::marker::Model;
 

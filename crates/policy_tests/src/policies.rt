@@ -1,4 +1,4 @@
-use mail_core::Day;
+use civil_time::Day;
 use policy_core::{Facts, Policy, PolicyFault, Standing, Verdict, Withdrawn, is_name};
 use std::alloc::{AllocError, Global};
 use std::process::Abort;

@@ -3,7 +3,8 @@
 //! Words: the call, and how often. It prints the sum of what the calls counted.
 #![tactic(auto)]
 
-use mail_core::{Instant, Memory, author_key, fields, first, ids, sent, unfold};
+use civil_time::Instant;
+use mail_core::{Memory, author_key, fields, first, ids, sent, unfold};
 use mbox_core::cut;
 use mbox_core::device::{Counted, read_all};
 use std::alloc::Global;

@@ -7,10 +7,9 @@ mod answer;
 pub mod laws;
 mod pieces;
 mod reading;
-mod refusal;
 mod removal;
 mod spacing;
 
 pub use answer::{Base, Text};
+pub use civil_time::Memory;
 pub use reading::base;
-pub use refusal::Memory;

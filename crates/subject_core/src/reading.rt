@@ -4,9 +4,9 @@ ghost use Rattle.subject_core.specs.Pieces.{lower};
 ghost use Rattle.subject_core.specs.BaseSubject.{IsBase, base_of, is_reply};
 
 use crate::answer::{Base, Text};
-use crate::refusal::Memory;
 use crate::removal::kept;
 use crate::spacing::single_spaced;
+use civil_time::Memory;
 use std::alloc::Global;
 
 /// Moves a part of the bytes to the front, in ASCII lower case, and drops the rest.

@@ -2,7 +2,8 @@
 
 ghost use Rattle.std.specs.Prelude.{◌≡◌};
 
-use mail_core::{Instant, MsgId, Octets};
+use civil_time::Instant;
+use mail_core::{MsgId, Octets};
 use std::marker::Model;
 
 /// The message ids that a message refers to, in order. Clauses see it as the list of them.

@@ -2,7 +2,8 @@
 
 ghost use Rattle.std.specs.Prelude.{◌≡◌, ◌<◌};
 
-use mail_core::{Instant, Memory, MsgId, Octets};
+use civil_time::Instant;
+use mail_core::{Memory, MsgId, Octets};
 use std::alloc::Global;
 use std::cell::Cell;
 use std::hash::RandomState;

@@ -3,7 +3,8 @@
 ghost use Rattle.std.specs.Prelude.{◌≡◌, ◌<◌};
 
 use crate::walk::walked_threads;
-use mail_core::{Instant, MsgId, Octets};
+use civil_time::Instant;
+use mail_core::{MsgId, Octets};
 use std::alloc::Global;
 use std::marker::Brand;
 use std::sync::ledger::{Blank, Ledger};

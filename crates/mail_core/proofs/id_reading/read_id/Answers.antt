@@ -1,5 +1,5 @@
 use Rattle.std.proofs.Common.{◌≡◌, ℕ, ◌+◌, ◌<◌, ◌≤◌, ◌∙◌, arith, length, List, drop, Option, Some, None, Result, Ok, Err, IfOk, IfSome}
-use Rattle.mail_core.specs.declared.refusal.Memory.{Memory}
+use Rattle.civil_time.specs.declared.refusal.Memory.{Memory}
 use Rattle.mail_core.specs.MsgIds.{Id}
 use Rattle.mail_core.specs.declared.msg_id.MsgId.{MsgId}
 use Rattle.mail_core.proofs.SideLemmas.{id-quoted, id-plain, id-short}

@@ -1,6 +1,6 @@
 use Rattle.std.proofs.Common.{◌≡◌, ◌+◌, drop}
 use Rattle.std.specs.List.{prefix_len}
-use Rattle.mail_core.specs.Calendar.{is_digit}
+use Rattle.civil_time.specs.Digits.{is_digit}
 use Rattle.mail_core.proofs.tokens.digits_len.Given as goal
 
 abbrev pub invariant-loop-len : goal.invariant-loop-len

@@ -2,7 +2,7 @@ use Rattle.std.proofs.Common.{◌≡◌, ◌∷◌, ◌∙◌, sym, ap, List, �
 use Rattle.std.specs.List.{prefix_len}
 use Rattle.std.specs.Char.{is_ascii_alphabetic}
 use Rattle.std.proofs.lemmas.List.{nil_from_length}
-use Rattle.mail_core.specs.Calendar.{is_digit}
+use Rattle.civil_time.specs.Digits.{is_digit}
 use Rattle.mail_core.specs.Tokens.{tokens_of}
 use Rattle.mail_core.specs.Tokens.Token.{digits, letters}
 use Rattle.mail_core.proofs.CommentLemmas.{not_equal}

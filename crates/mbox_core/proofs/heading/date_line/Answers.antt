@@ -6,6 +6,6 @@ pub returns : goal.returns
 returns c =
     let date = c.args.date in
     line_is c.args.weekday (record { year = date.year; month = date.month; day = date.day }) c.args.seconds
-    c.nth_name.result c.nth_name-2.result c.day_pair.result c.digit_pair.result c.digit_pair-2.result c.digit_pair-3.result c.digit_pair-4.result c.digit_pair-5.result
+    c.weekday_name.result c.month_name.result c.day_pair.result c.digit_pair.result c.digit_pair-2.result c.digit_pair-3.result c.digit_pair-4.result c.digit_pair-5.result
     c.requires.weekday (omega (arith, c.requires.month))
-    c.nth_name.ensures c.nth_name-2.ensures c.day_pair.ensures c.digit_pair.ensures c.digit_pair-2.ensures c.digit_pair-3.ensures c.digit_pair-4.ensures c.digit_pair-5.ensures
+    c.weekday_name.ensures c.month_name.ensures c.day_pair.ensures c.digit_pair.ensures c.digit_pair-2.ensures c.digit_pair-3.ensures c.digit_pair-4.ensures c.digit_pair-5.ensures

@@ -1,9 +1,9 @@
 use Rattle.std.proofs.Common.{◌≡◌, pos, ap, ◌∙◌, refl, rules, unsigned_abs, w16, w64, FitsSigned}
 use Rattle.std.proofs.lemmas.Int.{to_z-of_z}
 use Rattle.std.specs.Int.{int_rem_euclid}
-use Rattle.mail_core.specs.Calendar.{weekday}
-use Rattle.mbox_core.specs.Written.{Date}
-use Rattle.mbox_core.proofs.DateLemmas.{date_back}
+use Rattle.civil_time.specs.Calendar.{weekday}
+use Rattle.civil_time.specs.Dates.{Date}
+use Rattle.civil_time.proofs.DateLemmas.{date_back}
 use Rattle.mbox_core.proofs.HeadingLemmas.{time_is, same_line}
 use Rattle.mbox_core.proofs.heading.time_line.Goals as goal
 

@@ -1,6 +1,6 @@
 use Rattle.std.proofs.Common.{◌≡◌, ◌∙◌, ◌<◌, ap, arith, ℕ, ℤ, pos, ◌+ℤ◌, ◌-ℤ◌, ◌*ℤ◌, to_z, of_z, w32, w64, FitsSigned}
 use Rattle.std.proofs.lemmas.Int.{ints}
-use Rattle.mail_core.specs.Calendar.{instant_at}
+use Rattle.civil_time.specs.Calendar.{instant_at}
 use Rattle.mbox_core.proofs.SeparatorLemmas.{instant_is}
 use Rattle.mbox_core.proofs.tokens.read_instant.Goals as goal
 
