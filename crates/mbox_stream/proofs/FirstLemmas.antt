@@ -1,0 +1,85 @@
+-- The lines in front of the first separator line, in bytes that may go on.
+use Rattle.std.proofs.Common.{◌≡◌, ℕ, ◌+◌, ◌<◌, ◌≤◌, true, false, List, [], ◌∷◌, ◌++◌, length, take, drop, arith, ap, ◌∙◌, sym, Some, None, append_assoc, subst, length-take, length-drop}
+use Rattle.std.proofs.lemmas.List.{take-append-drop}
+use Rattle.std.proofs.Math.Seq.{take-add}
+use Rattle.std.specs.List.{AllByRecursion}
+use Rattle.mail_core.specs.Lines.{lines, content}
+use Rattle.mbox_core.specs.Separator.{Envelope, separator_of}
+use Rattle.mbox_core.specs.Division.{IsBlank, is_blank}
+use Rattle.mbox_core.proofs.LineLemmas.{concat-lines, lines-nil, blank_says}
+use Rattle.mbox_core.proofs.SplitLemmas.{unblank_not, none_is}
+use Rattle.mbox_stream.specs.Stream.{settled_bytes, IsSettledPreamble}
+use Rattle.mbox_stream.specs.Window.{IsWhole, IsPassed, IsOpening}
+use Rattle.mbox_stream.proofs.WindowLemmas.{settled_nil, ended_whole, settled_append, whole_append}
+
+-- blank whole lines up to `at`
+pub record Blanks (bytes : List ℕ) (at : ℕ) : Type 0 where
+  pub low : at ≤ length bytes
+  pub whole : IsWhole (take at bytes)
+  pub blank : AllByRecursion IsBlank (lines (take at bytes))
+
+pub blanks_start : (bytes : List ℕ) → Blanks bytes 0
+blanks_start bytes = record {
+  low = omega arith;
+  whole = settled_nil;
+  blank = subst (λ (x : List (List ℕ)). AllByRecursion IsBlank x) (sym lines-nil) tt;
+}
+
+all_snoc : (ls : List (List ℕ)) (l : List ℕ) → AllByRecursion IsBlank ls → IsBlank l → AllByRecursion IsBlank (ls ++ l ∷ [])
+all_snoc [] l h b = (b, tt)
+all_snoc (m ∷ ls) l h b = (h.0, all_snoc ls l h.1 b)
+
+pub passed : (bytes : List ℕ) (at : ℕ) → Blanks bytes at → settled_bytes (drop at bytes) ≡ [] → IsPassed bytes at
+passed bytes at b none = record { low = b.low; whole = b.whole; blank = b.blank; rest = none }
+
+-- a whole line after them
+module _ (bytes : List ℕ) (at n : ℕ) (b : Blanks bytes at) (line : List ℕ) (is : line ≡ take (n + 1) (drop at bytes)) (long : n < length (drop at bytes))
+    (alone : lines line ≡ line ∷ []) (ended : IsWhole line) where
+  joined : take (at + (n + 1)) bytes ≡ take at bytes ++ line
+  joined = take-add at (n + 1) bytes ∙ ap (λ x. take at bytes ++ x) (sym is)
+
+  lines_joined : lines (take at bytes ++ line) ≡ lines (take at bytes) ++ line ∷ []
+  lines_joined = ended_whole (take at bytes) b.whole line ∙ ap (λ x. lines (take at bytes) ++ x) alone
+
+  pub blanks_more : is_blank line ≡ true → Blanks bytes (at + (n + 1))
+  blanks_more k =
+      let W : List ℕ → Type 0 = λ x. IsWhole x in
+      let A : List (List ℕ) → Type 0 = λ x. AllByRecursion IsBlank x in
+      record {
+        low = omega (arith, long, length-drop at bytes);
+        whole = subst W (sym joined) (whole_append (take at bytes) line b.whole ended);
+        blank = subst A (sym (ap lines joined ∙ lines_joined)) (all_snoc (lines (take at bytes)) line b.blank (blank_says line k));
+      }
+
+  pub opening : (e : Envelope) → separator_of (content line) ≡ Some e → IsOpening bytes (at + (n + 1)) e
+  opening e s = record {
+    low = omega (arith, long, length-drop at bytes);
+    blanks = take at bytes;
+    line = line;
+    parts = joined;
+    whole = b.whole;
+    whole_line = ended;
+    one_line = alone;
+    blank = b.blank;
+    says = s;
+  }
+
+  pub faulty : is_blank line ≡ false → separator_of (content line) ≡ None → IsSettledPreamble bytes at
+  faulty k s =
+      let rest = drop (n + 1) (drop at bytes) in
+      let parts : bytes ≡ (take at bytes ++ line) ++ rest =
+      sym (take-append-drop at bytes) ∙ ap (λ x. take at bytes ++ x) (sym (take-append-drop (n + 1) (drop at bytes)))
+      ∙ ap (λ x. take at bytes ++ (x ++ rest)) (sym is) ∙ sym (append_assoc (take at bytes) line rest) in
+      let whole = whole_append (take at bytes) line b.whole ended in
+      let settled : settled_bytes bytes ≡ (take at bytes ++ line) ++ settled_bytes rest = ap settled_bytes parts ∙ settled_append (take at bytes ++ line) rest whole in
+      record {
+        blanks = lines (take at bytes);
+        line = line;
+        rest = lines (settled_bytes rest);
+        are_lines = ap lines settled ∙ ended_whole (take at bytes ++ line) whole (settled_bytes rest)
+            ∙ ap (λ x. x ++ lines (settled_bytes rest)) lines_joined ∙ append_assoc (lines (take at bytes)) (line ∷ []) (lines (settled_bytes rest));
+        all_blank = b.blank;
+        some = unblank_not line k;
+        none = none_is line s;
+        at = sym (ap length (concat-lines (take at bytes)) ∙ (omega (arith, length-take at bytes, b.low)));
+      }
