@@ -1,38 +1,25 @@
 -- Commands keep an archive sound.
-use Rattle.std.proofs.Common.{◌≡◌, ℕ, ℤ, suc, ◌-◌, Bool, true, false, List, [], ◌∷◌, ◌++◌, length, refl, arith, Option, length-append, if◌then◌else◌}
-use Rattle.std.proofs.lemmas.List.{get_or_at}
+use Rattle.std.proofs.Common.{◌≡◌, ℕ, ℤ, Bool, true, false, List, refl, Option, if◌then◌else◌}
 use Rattle.std.proofs.lemmas.List.Elements.{All-map, All-push, All-weaker}
 use Rattle.mbox_core.specs.Division.{Item, is_whole, whole}
-use Rattle.mbox_core.specs.Written.{IsItem}
-use Rattle.mbox_core.proofs.ItemLemmas.{never, whole_none}
+use Rattle.mbox_core.specs.Written.{IsItem, whole_item}
 use Rattle.archive_machine.specs.Records.{Message, Archive}
 use Rattle.archive_machine.specs.Questions.{is_message}
 use Rattle.archive_machine.specs.Machine.{new_message, changed, with_change, withdrawn_by, embargoed}
 use Rattle.archive_machine.specs.Sound.{IsSoundMessage, IsSound, AddsItem}
 use Rattle.archive_machine.proofs.RunLemmas.{EachChangeKeeps}
 
--- ---- the whole text
-
-lf_at_end : (t : List ℕ) (n : ℕ) → length (t ++ 10 ∷ []) ≡ suc n → length t ≡ n → is_whole (t ++ 10 ∷ []) ≡ true
-lf_at_end t n long h = rw (long, never n, sub_one n, get_or_at t 10 [] 0 n h) refl
-  where
-    sub_one : (n : ℕ) → suc n - 1 ≡ n
-    sub_one n = omega arith
-
-completed : (t : List ℕ) (b : Bool) → is_whole t ≡ b → is_whole (if b then t else t ++ 10 ∷ []) ≡ true
-completed t true h = h
-completed t false h = lf_at_end t (length t) (let long = length-append t (10 ∷ []) in omega (arith, long)) refl
-
--- a whole text is whole
-pub is_whole-whole : (t : List ℕ) → is_whole (whole t) ≡ true
-is_whole-whole t = completed t (is_whole t) refl
+-- what is used of whole texts: the laws of mbox files
+pub record WholeLaws : Type 0 where
+  pub whole : (text : List ℕ) → is_whole (whole text) ≡ true
+  pub items : (item : Item) → IsItem item → IsItem (whole_item item)
 
 -- ---- a message that is added, and one that is changed
 
-new_is_sound : (list : List ℕ) (item : Item) → IsItem item → IsSoundMessage (new_message list item)
-new_is_sound list item is = record {
-  complete = is_whole-whole item.text;
-  item = record { envelope = is.envelope; none = whole_none (whole item.text) is.none };
+new_is_sound : WholeLaws → (list : List ℕ) (item : Item) → IsItem item → IsSoundMessage (new_message list item)
+new_is_sound laws list item is = record {
+  complete = laws.whole item.text;
+  item = laws.items item is;
   key = refl;
 }
 
@@ -56,13 +43,13 @@ withdrawal_is_sound party m sound = record { complete = sound.complete; item = s
 embargo_is_sound : (until : Option ℤ) (m : Message) → IsSoundMessage m → IsSoundMessage (embargoed until m)
 embargo_is_sound until m sound = record { complete = sound.complete; item = sound.item; key = sound.key }
 
-pub soundness : EachChangeKeeps IsSound AddsItem
-soundness = record {
+pub soundness : WholeLaws → EachChangeKeeps IsSound AddsItem
+soundness laws = record {
   lists = λ a name named new sound. sound;
   persons = λ a p named told new free sound. sound;
   grants = λ a g sound. sound;
   revokes = λ a person list rank sound. sound;
-  messages = λ a list item is new sound. All-push IsSoundMessage a.messages (new_message list item) sound (new_is_sound list item is);
+  messages = λ a list item is new sound. All-push IsSoundMessage a.messages (new_message list item) sound (new_is_sound laws list item is);
   withdrawals = λ a list key party. changes_are_sound a list key (withdrawn_by party) (withdrawal_is_sound party);
   embargoes = λ a list key until. changes_are_sound a list key (embargoed until) (embargo_is_sound until);
 }

@@ -8,6 +8,8 @@ ghost use Rattle.archive_machine.specs.Runs.{run};
 ghost use Rattle.archive_machine.specs.Questions.{AreListNames, list_names};
 ghost use Rattle.archive_machine.specs.Sound.{AddsItem, IsSound, HasNamesApart, HasNamesAndTokens};
 
+use mbox_core::laws::{whole_is_whole, whole_items_are_items};
+
 /// A command that is refused leaves the archive as it was.
 pub fn a_refusal_changes_nothing()
     ensures { (a : Archive) (command : Command) (why : Refusal) → (step a command).1 ≡ refused why → (step a command).0 ≡ a }
@@ -18,7 +20,10 @@ pub fn a_refusal_changes_nothing()
 pub fn commands_keep_soundness()
     ensures step { (a : Archive) (command : Command) → AddsItem command → IsSound a → IsSound (step a command).0 }
     ensures run { (a : Archive) (commands : List Command) → All AddsItem commands → IsSound a → IsSound (run a commands).archive }
-{}
+{
+    whole_is_whole();
+    whole_items_are_items();
+}
 
 /// Some commands and then others do what they do together, and are answered alike.
 pub fn commands_follow_one_another()

@@ -1,6 +1,6 @@
 //! A message of a list.
 use crate::keys::Key;
-use mail_core::Day;
+use civil_time::Day;
 use mbox_core::OwnedItem;
 use policy_core::Withdrawn;
 

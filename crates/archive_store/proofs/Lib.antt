@@ -8,3 +8,4 @@ pub mod BatchLemmas
 pub mod Joins
 mod JoinExamples
 pub mod ReopenLemmas
+pub mod WalkingLemmas

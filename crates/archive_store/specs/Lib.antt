@@ -7,3 +7,4 @@ pub mod Running
 pub mod Adopting
 pub mod Batches
 pub mod Told
+pub mod Walking

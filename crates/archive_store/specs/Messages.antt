@@ -1,7 +1,7 @@
 -- Which rows are messages.
 use Rattle.std.specs.Prelude.{◌≡◌, ℕ, true, List, IfSome, bytes_eq}
 use Rattle.std.specs.List.{All}
-use Rattle.mail_core.specs.Calendar.{is_day}
+use Rattle.civil_time.specs.Calendar.{is_day}
 use Rattle.mbox_core.specs.Written.{IsItem}
 use Rattle.policy_core.specs.declared.access.Withdrawn.{Withdrawn}
 use Rattle.archive_machine.specs.Records.{Message}

@@ -3,7 +3,7 @@ use crate::faults::StoreFault;
 use crate::store::Store;
 use crate::words::{Kind, day_number};
 use archive_tables::texts;
-use mail_core::Day;
+use civil_time::Day;
 use sqlite::Alter;
 
 impl<S: Alter> Store<S> {

@@ -15,6 +15,7 @@ mod questions;
 mod reading;
 mod running;
 mod store;
+mod walking;
 mod words;
 
 pub use adopting::AdoptStop;
@@ -24,4 +25,5 @@ pub use faults::StoreFault;
 pub use keys::key_of;
 pub use running::{Command, Outcome, RunStop};
 pub use store::Store;
+pub use walking::EachRow;
 pub use words::{Added, Kind, Party};

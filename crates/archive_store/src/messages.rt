@@ -9,7 +9,7 @@ use crate::words::{Added, Party, day_number};
 use archive_machine::Key;
 use archive_tables::rows::MarksRow;
 use archive_tables::texts;
-use mail_core::Day;
+use civil_time::Day;
 use mbox_core::Item;
 use sqlite::Alter;
 use std::alloc::Global;

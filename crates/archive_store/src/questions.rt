@@ -11,7 +11,7 @@ use crate::store::Store;
 use crate::words::day_number;
 use archive_tables::rows::{GrantRow, read_grant};
 use archive_tables::texts;
-use mail_core::Day;
+use civil_time::Day;
 use policy_core::Standing;
 use sqlite::{Alter, Error, Row};
 

@@ -1,18 +1,17 @@
 //! Questions on lists and their messages.
 ghost use Rattle.std.specs.Prelude.{◌≡◌, ◌≢◌, ℕ, List, map, string_bytes, None, false, IfOk, IfErr, IfSome, IfNone};
-ghost use Rattle.mail_core.specs.Calendar.{is_day};
-ghost use Rattle.archive_machine.specs.Records.{Message as Remembered};
-ghost use Rattle.archive_tables.specs.Rows.{name_shown, message_in, message_shown};
+ghost use Rattle.civil_time.specs.Calendar.{is_day};
+ghost use Rattle.archive_tables.specs.Rows.{name_shown, message_in};
 ghost use Rattle.archive_machine.specs.Messages.{remembered, number_of};
-ghost use Rattle.archive_store.specs.Messages.{AreOf, IsReadable};
+ghost use Rattle.archive_store.specs.Messages.{IsReadable};
 ghost use Rattle.archive_store.specs.Replies.{refusal};
 
 use crate::faults::StoreFault;
 use crate::store::Store;
 use archive_machine::{Key, Message};
-use archive_tables::rows::{MessageRow, read_message, read_name};
+use archive_tables::rows::{MessageRow, read_name};
 use archive_tables::texts;
-use mail_core::{Day, Instant};
+use civil_time::{Day, Instant};
 use mbox_core::OwnedItem;
 use policy_core::Withdrawn;
 use sqlite::{Alter, Row};
@@ -20,7 +19,7 @@ use std::alloc::Global;
 
 impl<S: Alter> Store<S> {
     ghost use Rattle.std.specs.Prelude.{◌≡◌, None, map, option_map, string_bytes};
-    ghost use Rattle.archive_machine.specs.Questions.{has_list, list_names, list_refusal, messages_in, message_of};
+    ghost use Rattle.archive_machine.specs.Questions.{has_list, list_names, list_refusal, message_of};
     ghost use Rattle.archive_tables.specs.Calls.{WasClean};
     ghost use Rattle.archive_store.specs.Held.{held_of};
     ghost use Rattle.archive_store.specs.Replies.{Answers};
@@ -42,19 +41,6 @@ impl<S: Alter> Store<S> {
     {
         let shown = texts::lists::list_names(&mut self.conn)?;
         read_names(alloc, &shown)
-    }
-
-    /// The messages of a list in mailbox order. E4 where there is no such list.
-    pub fn rows(&mut self, alloc: Global, list: &str) -> Result<Vec<Message>, StoreFault>
-        ensures answer { Answers S.Store (held_of self.old) (held_of self.new) result (λ a. list_refusal a list.now)
-            (λ a found. map (remembered list.now) found.items ≡ messages_in a list.now) }
-        ensures clean { WasClean S.Store (held_of self.old) (held_of self.new) }
-    {
-        if !texts::lists::has_list(&mut self.conn, list)? {
-            return Err(StoreFault::NoList);
-        }
-        let shown = texts::messages::messages(&mut self.conn, list)?;
-        read_rows(alloc, &shown)
     }
 
     /// The message of a list with a key, if the list holds it. E4 where there is no such list.
@@ -86,22 +72,8 @@ fn read_names(alloc: Global, rows: &[Row]) -> Result<Vec<String>, StoreFault>
     Ok(found)
 }
 
-/// The messages that rows show.
-fn read_rows(alloc: Global, rows: &[Row]) -> Result<Vec<Message>, StoreFault>
-    ensures read { IfOk result (λ found. (list : List ℕ) (shown : List Remembered) → rows.now ≡ map message_shown shown → AreOf list shown
-        → map (remembered list) found.items ≡ shown) }
-    ensures fault { IfErr result (λ fault. refusal fault ≡ None) }
-{
-    let mut found = Vec::with_capacity(alloc, rows.len())?;
-    for row in rows.iter() {
-        let message = read_or_fail(read_message(row)?)?;
-        found.push(message)?;
-    }
-    Ok(found)
-}
-
 /// E15 where a row is of no message.
-fn read_or_fail(row: MessageRow) -> Result<Message, StoreFault>
+pub(crate) fn read_or_fail(row: MessageRow) -> Result<Message, StoreFault>
     ensures read { IfOk result (λ message. (list : List ℕ) → remembered list message ≡ message_in list row) }
     ensures unread { IfErr result (λ _. (list : List ℕ) → ¬ IsReadable (message_in list row)) }
     ensures fault { IfErr result (λ fault. refusal fault ≡ None) }

@@ -1,5 +1,5 @@
 //! Commands one after the other.
-ghost use Rattle.std.specs.Prelude.{◌≡◌, true, map, is_some, IfOk, IfErr, Err, None};
+ghost use Rattle.std.specs.Prelude.{◌≡◌, ◌≤◌, true, length, map, is_some, IfOk, IfErr, Err, None};
 ghost use Rattle.archive_machine.specs.Machine.{step};
 ghost use Rattle.archive_tables.specs.Calls.{WasClean};
 ghost use Rattle.archive_store.specs.Held.{held_of};
@@ -10,7 +10,7 @@ use crate::faults::StoreFault;
 use crate::store::Store;
 use crate::words::{Added, Kind, Party};
 use archive_machine::Key;
-use mail_core::Day;
+use civil_time::Day;
 use mbox_core::Item;
 use sqlite::Alter;
 use std::alloc::Global;
@@ -157,6 +157,7 @@ impl<S: Alter> Store<S> {
     /// first command.
     pub fn run(&mut self, alloc: Global, commands: &[Command<'_>]) -> Result<Vec<Outcome>, RunStop>
         ensures step { Runs S.Store (held_of self.old) (held_of self.new) (map command_of commands.entry.now) result }
+        ensures bound { IfErr result (λ stop. stop.done ≤ length commands.entry.now) }
         ensures clean { WasClean S.Store (held_of self.old) (held_of self.new) }
         ensures stop { IfErr result (λ stop. refusal stop.fault ≡ None) }
     {

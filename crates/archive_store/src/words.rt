@@ -2,7 +2,7 @@
 ghost use Rattle.std.specs.Prelude.{◌≡◌};
 ghost use Rattle.archive_store.specs.Words.{rank_of, party_of};
 
-use mail_core::Day;
+use civil_time::Day;
 
 /// What a grant makes of a person on a list: one of the standings above `Public`.
 #[derive(Clone, Copy, Debug, PartialEq, Eq, Hash)]

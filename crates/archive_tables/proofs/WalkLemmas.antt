@@ -26,11 +26,11 @@ use Rattle.archive_machine.specs.Questions.{messages_in}
 use Rattle.archive_tables.specs.Schema.{archive_schema}
 use Rattle.archive_tables.specs.Tables.{IsHeld, AreTables, Holds, Numbered, row_of, read_of, message_cells, message_read, archive_in}
 use Rattle.archive_tables.specs.Rows.{message_shown, numbered_messages, places_in, message_at, place_shown}
-use Rattle.archive_tables.specs.Calls.{RestsOver}
+use Rattle.archive_tables.specs.Calls.{RowsRest}
 use Rattle.archive_tables.proofs.MessageLemmas.{message_back}
 use Rattle.archive_tables.proofs.MailboxLemmas.{of_list, has_list}
 use Rattle.archive_tables.proofs.RunLemmas.{stays}
-use Rattle.archive_tables.proofs.SelectLemmas.{plain_query, by_number, env_of, passes, hits, in_order, asked, leaves, asked_rests, refused_rests, alone, int_is, tie_is}
+use Rattle.archive_tables.proofs.SelectLemmas.{plain_query, by_number, env_of, passes, hits, in_order, asked, leaves, asked_rows, refused_rows, alone, int_is, tie_is}
 
 -- ---- the numbers of a list's messages
 
@@ -169,8 +169,8 @@ module _ (old new : State) {behind : Option Database} (k : IsHeld behind old) wh
         (stays old new k same).0,
       )
 
-  pub no_places : (list : List ℕ) (e : Error) → FailsToQuery places_text (Text list ∷ []) old new e → RestsOver behind old new
-  no_places list e h = refused_rests places_text 8 of_list number_cell by_number _ places_is.0 places_plain places_is.1 (λ t. refl) (Text list ∷ []) old new k e h
+  pub no_places : (list : List ℕ) (e : Error) → FailsToQuery places_text (Text list ∷ []) old new e → RowsRest behind old new
+  no_places list e h = refused_rows places_text 8 of_list number_cell by_number _ places_is.0 places_plain places_is.1 (λ t. refl) (Text list ∷ []) old new k e h
 
   pub at_found : (place : ℤ) (rows : List Row) → Shown at_text (Int place ∷ []) old new rows
       → (rows ≡ map (λ (r : Numbered Message). message_shown r.it) (filter (is_at place) (numbered_messages old.now.trees))) × (new.now ≡ old.now) × IsHeld behind new
@@ -185,8 +185,8 @@ module _ (old new : State) {behind : Option Database} (k : IsHeld behind old) wh
         (stays old new k same).0,
       )
 
-  pub none_at : (place : ℤ) (e : Error) → FailsToQuery at_text (Int place ∷ []) old new e → RestsOver behind old new
-  none_at place e h = refused_rests at_text 8 at_place all_cells by_number _ at_is.0 at_plain at_is.1 (λ t. refl) (Int place ∷ []) old new k e h
+  pub none_at : (place : ℤ) (e : Error) → FailsToQuery at_text (Int place ∷ []) old new e → RowsRest behind old new
+  none_at place e h = refused_rows at_text 8 at_place all_cells by_number _ at_is.0 at_plain at_is.1 (λ t. refl) (Int place ∷ []) old new k e h
 
-  pub at_rests : (place : ℤ) (rows : List Row) → Shown at_text (Int place ∷ []) old new rows → RestsOver behind old new
-  at_rests place rows h = asked_rests at_text 8 at_place all_cells by_number _ at_is.0 at_plain at_is.1 (λ t. refl) (Int place ∷ []) old new k rows h
+  pub at_rests : (place : ℤ) (rows : List Row) → Shown at_text (Int place ∷ []) old new rows → RowsRest behind old new
+  at_rests place rows h = asked_rows at_text 8 at_place all_cells by_number _ at_is.0 at_plain at_is.1 (λ t. refl) (Int place ∷ []) old new k rows h

@@ -36,6 +36,12 @@ RestsOver (Some db) old new = IsTrue new.is_open → StaysOver (Some db) old new
 abbrev pub Rests : State → State → Type 0
 Rests = RestsOver None
 
+-- A fault in a question on the rows: they are as they were, where the connection is still open; within a transaction that, or
+-- what was behind it.
+abbrev pub RowsRest : Option Database → State → State → Type 0
+RowsRest None old new = IsTrue new.is_open → (new.now ≡ old.now) × IsHeld None new
+RowsRest (Some db) old new = IsTrue new.is_open → ((new.now ≡ old.now) × IsHeld (Some db) new) ⊎ IsBackAt db new
+
 module _ {S : Type 0} (g : Ghosts S) (old new : Held S) where
   -- a write that succeeds
   abbrev pub Writes : {A : Type 0} → Result A Error → (Archive → Archive) → Type 0
@@ -80,7 +86,7 @@ module _ {S : Type 0} (g : Ghosts S) (old new : Held S) where
   AsksRows result Says =
       HasCleanDisk (state g new) → (behind : Option Database) → IsHeld behind (state g old)
       → MatchResult result (λ a. Says (state g old).now.trees a × ((state g new).now ≡ (state g old).now) × IsHeld behind (state g new))
-      (λ _. RestsOver behind (state g old) (state g new))
+      (λ _. RowsRest behind (state g old) (state g new))
 
   -- a disk that has returned what was written so far had done so before
   abbrev pub WasClean : Type 0

@@ -2,7 +2,7 @@
 use archive_store::{AddStop, Report, Store, StoreFault};
 use archive_tables::rows::read_place;
 use archive_tables::texts::messages;
-use mail_core::Instant;
+use civil_time::Instant;
 use mbox_core::{Envelope, Item, Sender};
 use sqlite::MemStore;
 use std::alloc::Global;

@@ -2,7 +2,7 @@
 use crate::questions::{are_names, day, item};
 use archive_store::limits::add_limited;
 use archive_store::{Added, Command, Key, Kind, Outcome, Party, Store, StoreFault};
-use mail_core::Day;
+use civil_time::Day;
 use mbox_core::Item;
 use policy_core::Withdrawn;
 use sqlite::Alter;

@@ -5,6 +5,7 @@
 mod adopting;
 #[cfg(test)]
 mod batches;
+pub mod callers;
 #[cfg(test)]
 mod cases;
 #[cfg(test)]

@@ -3,7 +3,7 @@ use crate::commands::{TOKEN, add, embargo, run, withdraw};
 use archive_store::{
     Added, Command, Key, Kind, Message, Outcome, Party, Store, StoreFault, key_of,
 };
-use mail_core::{Day, Instant};
+use civil_time::{Day, Instant};
 use mbox_core::{Envelope, Item, Sender};
 use policy_core::{Standing, Withdrawn};
 use sqlite::Alter;
@@ -135,7 +135,43 @@ pub fn is_as_filled<S: Alter>(
     assert_eq!(rt; second.withdrawn, Withdrawn::No);
     assert_eq!(rt; second.embargo_until, Some(day("2003-04-01")?));
     messages_by_key(rt, store)?;
+    a_walk_that_is_dropped(rt, alloc, store)?;
+    a_walk_to_the_end(rt, alloc, store, &rows)?;
     assert_eq!(rt; store.list_add("soc"), Err(StoreFault::ListExists));
+    Ok(())
+}
+
+/// A walk that is dropped at its first message, and one over a list that is not there.
+fn a_walk_that_is_dropped<S: Alter>(
+    rt: &impl Abort,
+    alloc: Global,
+    store: &mut Store<S>,
+) -> Result<(), Fail> {
+    assert!(rt; matches!(store.each_row(alloc, "xyz"), Err(StoreFault::NoList)));
+    let mut walk = store.each_row(alloc, "soc")?;
+    let first = walk.next()?.ok_or("a message")?;
+    is_first(rt, &first)?;
+    assert_eq!(rt; walk.left(), 1);
+    Ok(())
+}
+
+/// A walk gives these messages, one after the other, and then none.
+fn a_walk_to_the_end<S: Alter>(
+    rt: &impl Abort,
+    alloc: Global,
+    store: &mut Store<S>,
+    rows: &[Message],
+) -> Result<(), Fail> {
+    let mut walk = store.each_row(alloc, "soc")?;
+    assert_eq!(rt; walk.left(), rows.len());
+    for row in rows.iter() {
+        let message = walk.next()?.ok_or("a message")?;
+        assert!(rt; message.key == row.key);
+        assert_eq!(rt; message.item.as_item().text, row.item.as_item().text);
+    }
+    for _ in 0..2 {
+        assert!(rt; walk.next()?.is_none());
+    }
     Ok(())
 }
 

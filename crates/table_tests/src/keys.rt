@@ -1,6 +1,6 @@
 //! The keys of messages, and tokens.
 use archive_machine::{Key, is_token};
-use mail_core::Instant;
+use civil_time::Instant;
 use mbox_core::{Envelope, Item, Sender};
 use std::process::Abort;
 

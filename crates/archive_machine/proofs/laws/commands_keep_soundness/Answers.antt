@@ -4,7 +4,13 @@ use Rattle.archive_machine.proofs.SoundLemmas.{soundness}
 use Rattle.archive_machine.proofs.laws.commands_keep_soundness.Goals as goal
 
 pub returns-clause-step : goal.returns-clause-step
-returns-clause-step c = kept_by_steps IsSound AddsItem soundness
+returns-clause-step c = kept_by_steps IsSound AddsItem (soundness (record {
+  whole = c.whole_is_whole.ensures.whole;
+  items = c.whole_items_are_items.ensures;
+}))
 
 pub returns-clause-run : goal.returns-clause-run
-returns-clause-run c = kept_by_runs IsSound AddsItem soundness
+returns-clause-run c = kept_by_runs IsSound AddsItem (soundness (record {
+  whole = c.whole_is_whole.ensures.whole;
+  items = c.whole_items_are_items.ensures;
+}))

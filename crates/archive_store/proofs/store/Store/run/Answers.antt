@@ -67,3 +67,13 @@ returns-in-Err-push-clause-step g c = λ clean kept up.
     c.in-Ok-carry_out.ensures.told (c.in-Ok-carry_out.ensures.step clean before.0) (omega (arith, c.loop-command-test.true)) c.command-item.is refl in
     let len : vec_len c.loop-command.outcomes ≡ length outcomes = search rules in
     (ran.0, ran.1 ∙ ap (λ commands. (run (archive_of first) commands).archive) (sym (first_commands c.args.commands.now (c.len-done.result + 1) (at + 1) (ap (λ n. n + 1) (c.len-done.ensures ∙ len ∙ c.loop-command.invariant.0)))))
+
+pub returns-in-Err-clause-bound : goal.returns-in-Err-clause-bound
+returns-in-Err-clause-bound g c =
+    let len : vec_len c.loop-command.outcomes ≡ length c.loop-command.outcomes.items = search rules in
+    omega (arith, c.len.ensures, len, c.loop-command.invariant.0, c.loop-command-test.true)
+
+pub returns-in-Err-push-clause-bound : goal.returns-in-Err-push-clause-bound
+returns-in-Err-push-clause-bound g c =
+    let len : vec_len c.loop-command.outcomes ≡ length c.loop-command.outcomes.items = search rules in
+    omega (arith, c.len-done.ensures, len, c.loop-command.invariant.0, c.loop-command-test.true)

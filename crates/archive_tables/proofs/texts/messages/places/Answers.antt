@@ -9,13 +9,13 @@ use Rattle.sqlite.specs.Held.{state}
 use Rattle.sqlite.specs.State.{State, Shown, FailsToQuery}
 use Rattle.archive_tables.specs.Tables.{IsHeld}
 use Rattle.archive_tables.specs.Rows.{places_in, place_shown}
-use Rattle.archive_tables.specs.Calls.{RestsOver}
+use Rattle.archive_tables.specs.Calls.{RowsRest}
 use Rattle.archive_tables.proofs.WalkLemmas.{places_text, places_found, no_places}
 use Rattle.archive_tables.proofs.texts.messages.places.Goals as goal
 
 found : (old new : State) (behind : Option Database) (list : List ℕ) (r : Result (Vec Row Global) Error) → IsHeld behind old
     → IfOk r (λ rows. Shown places_text (Text list ∷ []) old new rows.items) → IfErr r (FailsToQuery places_text (Text list ∷ []) old new)
-    → MatchResult r (λ rows. (rows.items ≡ map place_shown (places_in old.now.trees list)) × (new.now ≡ old.now) × IsHeld behind new) (λ _. RestsOver behind old new)
+    → MatchResult r (λ rows. (rows.items ≡ map place_shown (places_in old.now.trees list)) × (new.now ≡ old.now) × IsHeld behind new) (λ _. RowsRest behind old new)
 found old new behind list (Ok rows) k ok err = places_found old new k list rows.items ok
 found old new behind list (Err e) k ok err = no_places old new k list e err
 

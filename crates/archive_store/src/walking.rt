@@ -1,0 +1,168 @@
+//! Walks over the messages of a list.
+ghost use Rattle.std.specs.Prelude.{◌≡◌, ◌+◌, ◌∷◌, [], ◌++◌, ℕ, ℤ, List, map, slice_get, None, IfOk, IfErr, MatchResult, MatchOption};
+ghost use Rattle.archive_machine.specs.Messages.{remembered};
+ghost use Rattle.archive_machine.specs.Questions.{list_refusal, messages_in};
+ghost use Rattle.archive_tables.specs.Calls.{WasClean};
+ghost use Rattle.archive_tables.specs.Rows.{place_shown};
+ghost use Rattle.archive_store.specs.Held.{held_of};
+ghost use Rattle.archive_store.specs.Replies.{refusal};
+ghost use Rattle.archive_store.specs.Told.{HadReturned};
+ghost use Rattle.archive_store.specs.Walking.{GivesNext, GivesAll, ShowsMessage, FindsPlaces, IsNotBegun, left_of};
+
+use crate::faults::StoreFault;
+use crate::reading::read_or_fail;
+use crate::store::Store;
+use archive_machine::Message;
+use archive_tables::rows::read_place;
+use archive_tables::texts;
+use sqlite::{Alter, Row};
+use std::alloc::Global;
+
+/// The messages of a list in mailbox order, one at a time. It holds the numbers of the messages, and no message. It may be
+/// dropped at any message, and leaves the store as it stands then: `P` is a parameter so that this is known of a walk that
+/// owns memory.
+pub struct EachRow<'a, S: Alter, P = Vec<i64>> {
+    store: &'a mut Store<S>,
+    places: P,
+    at: usize,
+}
+
+impl<S: Alter, P: Drop> Drop for EachRow<'_, S, P> {
+    fn drop(self)
+        ensures { self.exit.0.now ≡ self.entry.store.now }
+    {
+        let EachRow {
+            store: _,
+            places: _places,
+            at: _,
+        } = self;
+    }
+}
+
+impl<S: Alter> Store<S> {
+    ghost use Rattle.std.specs.Borrow.{sem, RestsIfErr};
+    ghost use Rattle.archive_store.specs.contracts.store.Store.{the_row};
+    ghost use Rattle.archive_store.specs.Replies.{Answers};
+    ghost use Rattle.archive_store.specs.Walking.{Begins, IsNotBegun};
+
+    /// The messages of a list in mailbox order. E4 where there is no such list.
+    pub fn rows(&mut self, alloc: Global, list: &str) -> Result<Vec<Message>, StoreFault>
+        ensures answer { Answers S.Store (held_of self.old) (held_of self.new) result (λ a. list_refusal a list.now)
+            (λ a found. map (remembered list.now) found.items ≡ messages_in a list.now) }
+        ensures clean { WasClean S.Store (held_of self.old) (held_of self.new) }
+    {
+        let mut walk = self.each_row(alloc, list)?;
+        read_rows(alloc, &mut walk)
+    }
+
+    /// Begins a walk over the messages of a list, in mailbox order. E4 where there is no such list.
+    pub fn each_row(&mut self, alloc: Global, list: &str) -> Result<EachRow<'_, S>, StoreFault>
+        ensures* refused { sem 𝓛 (RestsIfErr (the_row S.row S.Store) self.entry (λ walk. walk.store.ghost_name) result (IsNotBegun S.Store self.old list.now result)) }
+        ensures same_reference { IfOk result (λ walk. walk.store.ghost_name ≡ self.entry.ghost_name) }
+        ensures begun { IfOk result (λ walk. Begins S.Store self.old list.now walk) }
+    {
+        let places = find_places(self, alloc, list)?;
+        Ok(EachRow::new(self, places))
+    }
+}
+
+impl<'a, S: Alter> EachRow<'a, S> {
+    fn new(store: &'a mut Store<S>, places: Vec<i64>) -> EachRow<'a, S>
+        ensures same_reference { result.store.ghost_name ≡ store.entry.ghost_name }
+        ensures store { result.store.now ≡ store.old }
+        ensures places { result.places ≡ places }
+        ensures at { result.at ≡ 0 }
+    {
+        EachRow {
+            store,
+            places,
+            at: 0,
+        }
+    }
+
+    /// How many messages it has not given yet.
+    pub fn left(&self) -> usize
+        ensures { result ≡ left_of self.now }
+    {
+        self.places.len().saturating_sub(self.at)
+    }
+
+    /// The next message. `None` where all were given.
+    pub fn next(&mut self) -> Result<Option<Message>, StoreFault>
+        ensures same_reference { self.new.store.ghost_name ≡ self.old.store.ghost_name }
+        ensures given { GivesNext S.Store self.old self.new result }
+        ensures left { MatchResult result (λ found. MatchOption found ((left_of self.old ≡ 0) × (left_of self.new ≡ 0)) (λ _. left_of self.old ≡ left_of self.new + 1))
+            (λ _. left_of self.new ≡ left_of self.old) }
+        ensures fault { IfErr result (λ fault. refusal fault ≡ None) }
+        ensures clean { HadReturned S.Store self.old.store.now self.new.store.now }
+    {
+        let Some(place) = place_at(&self.places, self.at) else {
+            return Ok(None);
+        };
+        let message = message_at(self.store, place)?;
+        self.at += 1;
+        Ok(Some(message))
+    }
+}
+
+/// The messages that a walk has not given yet.
+fn read_rows<S: Alter>(alloc: Global, walk: &mut EachRow<'_, S>) -> Result<Vec<Message>, StoreFault>
+    ensures same_reference { walk.new.store.ghost_name ≡ walk.old.store.ghost_name }
+    ensures given { GivesAll S.Store walk.old walk.new result }
+    ensures fault { IfErr result (λ fault. refusal fault ≡ None) }
+    ensures clean { HadReturned S.Store walk.old.store.now walk.new.store.now }
+{
+    let mut found = Vec::with_capacity(alloc, walk.left())?;
+    while let Some(message) = walk.next()? {
+        found.push(message)?;
+    }
+    Ok(found)
+}
+
+/// The numbers of the list's messages. E4 where there is no such list.
+fn find_places<S: Alter>(
+    store: &mut Store<S>,
+    alloc: Global,
+    list: &str,
+) -> Result<Vec<i64>, StoreFault>
+    ensures refused { IsNotBegun S.Store store.old list.now result store.new }
+    ensures found { FindsPlaces S.Store store.old store.new list.now result }
+    ensures clean { HadReturned S.Store store.old store.new }
+{
+    if !texts::lists::has_list(&mut store.conn, list)? {
+        return Err(StoreFault::NoList);
+    }
+    let shown = texts::messages::places(&mut store.conn, list)?;
+    read_places(alloc, &shown)
+}
+
+/// The numbers that rows show.
+fn read_places(alloc: Global, rows: &[Row]) -> Result<Vec<i64>, StoreFault>
+    ensures read { IfOk result (λ found. (places : List ℤ) → rows.now ≡ map place_shown places → found.items ≡ places) }
+    ensures fault { IfErr result (λ fault. refusal fault ≡ None) }
+{
+    let mut found = Vec::with_capacity(alloc, rows.len())?;
+    for row in rows.iter() {
+        let place = read_place(row)?;
+        found.push(place)?;
+    }
+    Ok(found)
+}
+
+fn place_at(places: &[i64], at: usize) -> Option<i64>
+    ensures { result ≡ slice_get places.now at }
+{
+    places.get(at).copied()
+}
+
+/// The message of a number.
+fn message_at<S: Alter>(store: &mut Store<S>, place: i64) -> Result<Message, StoreFault>
+    ensures shown { ShowsMessage S.Store store.old store.new place result }
+    ensures fault { IfErr result (λ fault. refusal fault ≡ None) }
+    ensures clean { HadReturned S.Store store.old store.new }
+{
+    match texts::messages::message_at(&mut store.conn, place)? {
+        Some(row) => read_or_fail(row),
+        None => Err(StoreFault::Store),
+    }
+}
