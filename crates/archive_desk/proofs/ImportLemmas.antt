@@ -3,7 +3,7 @@ use Rattle.std.proofs.Common.{◌≡◌, refl, sym, ◌∙◌, subst, inl, inr, 
 use Rattle.std.specs.Prelude.{MatchOption, option_map}
 use Rattle.sqlite.specs.Store.{Ghosts}
 use Rattle.mbox_core.specs.Division.{Item, Divides}
-use Rattle.mbox_core.specs.declared.faults.MboxFault.TheVariants.{Preamble, Read, Memory}
+use Rattle.mbox_core.specs.declared.faults.MboxFault.TheVariants.{Preamble, Read, Memory, Failed}
 use Rattle.archive_machine.specs.Records.{Archive}
 use Rattle.archive_machine.specs.Commands.{Refusal, no_list, bad_name, bad_text, list_exists, person_exists, no_person, token_taken, no_message, already_withdrawn, not_withdrawn, bad_days, list_full, too_large}
 use Rattle.archive_machine.specs.Questions.{has_list, list_refusal}
@@ -68,6 +68,7 @@ module _ {S : Type 0} (g : Ghosts S) (old new : Store S) (list text : List ℕ) 
       (λ a b h. (refl, h.0, h.2, why)) before
   not_cut (Mbox Read) why before = absurd why
   not_cut (Mbox Memory) why before = absurd why
+  not_cut (Mbox Failed) why before = absurd why
   not_cut (Stored fault) why before = subst (λ f. Calls g old new {A = Report} stop_reason (Err (record { done = 0; fault = Stored f })) Says Refuses Stops) (sym why)
       (before.0, (λ returned ready up. let it = before.1 returned ready in (it.0, inl (refl, it.1.0))))
 

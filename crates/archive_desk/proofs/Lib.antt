@@ -4,3 +4,4 @@ pub mod AskLemmas
 pub mod WriteLemmas
 pub mod ExportLemmas
 pub mod ListLemmas
+pub mod IndexLemmas

@@ -1,11 +1,8 @@
 -- The headers of a view, and what is made of them.
-use Rattle.std.proofs.Common.{◌≡◌, refl, sym, ap, ◌∙◌, ℕ, ◌+◌, ◌<◌, ◌≤◌, List, [], ◌∷◌, ◌++◌, length, map, drop, get_or, append_assoc, Option, Some, None}
+use Rattle.std.proofs.Common.{◌≡◌, refl, sym, ap, ◌∙◌, ℕ, List, map, Option, Some, None}
 use Rattle.std.specs.Prelude.{MatchOption}
-use Rattle.std.proofs.lemmas.List.{append-nil, drop_all, drop_more}
 use Rattle.sqlite.specs.Store.{Ghosts}
 use Rattle.archive_machine.specs.Records.{Message as Remembered}
-use Rattle.archive_machine.specs.Messages.{remembered}
-use Rattle.archive_machine.specs.declared.messages.Message.{Message}
 use Rattle.archive_store.specs.Told.{Goes, GoesIfOpen}
 use Rattle.archive_store.specs.declared.store.Store.{Store}
 use Rattle.archive_store.proofs.Joins.{goes_as}
@@ -15,22 +12,6 @@ use Rattle.archive_results.specs.Results.{TreeLine, thread_lines}
 use Rattle.archive_results.specs.Shown.{shown_of}
 use Rattle.archive_desk.specs.Faults.{Reason, not_in_view, ask_reason}
 use Rattle.archive_desk.specs.Listing.{or_then, without_thread, thread_reason}
-
--- ---- a list that is made of another, element by element
-
-pub made_more : {A B : Type 0} (f : A → B) (all : List A) (i : ℕ) (d : A) (made more : List B) (y : B) → i < length all → d ≡ get_or all i d → y ≡ f d
-    → more ≡ made ++ y ∷ [] → map f all ≡ made ++ map f (drop i all) → map f all ≡ more ++ map f (drop (i + 1) all)
-made_more f all i d made more y within is same e h =
-    h ∙ ap (λ xs. made ++ map f xs) (drop_more all i d within ∙ ap (λ m. m ∷ drop (i + 1) all) (sym is))
-    ∙ ap (λ z. made ++ z ∷ map f (drop (i + 1) all)) (sym same)
-    ∙ sym (append_assoc made (y ∷ []) (map f (drop (i + 1) all))) ∙ ap (λ m. m ++ map f (drop (i + 1) all)) (sym e)
-
-pub made_all : {A B : Type 0} (f : A → B) (all : List A) (i : ℕ) (made : List B) → length all ≤ i → map f all ≡ made ++ map f (drop i all) → made ≡ map f all
-made_all f all i made past h = sym (h ∙ ap (λ xs. made ++ map f xs) (drop_all i all past) ∙ append-nil made)
-
-fused : {A B C : Type 0} (f : B → C) (g : A → B) (xs : List A) → map (λ x. f (g x)) xs ≡ map f (map g xs)
-fused f g [] = refl
-fused f g (x ∷ xs) = ap (λ ys. f (g x) ∷ ys) (fused f g xs)
 
 -- ---- why a thread is not shown
 
@@ -43,16 +24,6 @@ first_reason None next why e = absurd (cc)
 first_reason (Some x) next why e = e
 
 module _ {S : Type 0} (g : Ghosts S) (old new : Store S) (ask : Ask) where
-  -- the headers of the messages that are found
-  pub headers_from : (messages found : List Message) (headers : List Header)
-      → Goes g old new (λ a b. (b ≡ a) × (ask_reason a ask ≡ None) × (map (remembered ask.list) messages ≡ view_of a ask))
-      → found ≡ messages → headers ≡ map (λ m. header_of (remembered ask.list m)) found
-      → Goes g old new (λ a b. (b ≡ a) × (ask_reason a ask ≡ None) × (headers ≡ map header_of (view_of a ask)))
-  headers_from messages found headers goes same is =
-      goes_as g old new (λ a b. (b ≡ a) × (ask_reason a ask ≡ None) × (map (remembered ask.list) messages ≡ view_of a ask))
-      (λ a b. (b ≡ a) × (ask_reason a ask ≡ None) × (headers ≡ map header_of (view_of a ask)))
-      (λ a b h. (h.0, h.1, is ∙ ap (map (λ m. header_of (remembered ask.list m))) same ∙ fused header_of (remembered ask.list) messages ∙ ap (map header_of) h.2)) goes
-
   module _ (headers : List Header) (indexed : Goes g old new (λ a b. (b ≡ a) × (ask_reason a ask ≡ None) × (headers ≡ map header_of (view_of a ask)))) where
     -- what is made of them
     pub listed_from : (Says : List Remembered → Type 0) → ((view : List Remembered) → headers ≡ map header_of view → Says view)

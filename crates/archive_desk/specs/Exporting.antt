@@ -1,13 +1,16 @@
 -- The view as an mbox, written to a device.
-use Rattle.std.specs.Prelude.{◌≡◌, ◌<◌, ◌^◌, ℕ, List, length, map, Option, Some, None, option_map}
+use Rattle.std.specs.Prelude.{◌≡◌, ◌<◌, ◌^◌, ◌-◌, ◌++◌, ℕ, List, length, map, min, Option, Some, None, Result, option_map}
+use Rattle.sqlite.specs.Store.{Ghosts}
 use Rattle.mbox_core.specs.Division.{Item}
 use Rattle.mbox_core.specs.Written.{IsCutShort}
 use Rattle.archive_machine.specs.Records.{Archive}
 use Rattle.archive_machine.specs.declared.messages.Message.{Message}
+use Rattle.archive_store.specs.Told.{Calls}
+use Rattle.archive_store.specs.declared.store.Store.{Store}
 use Rattle.archive_results.specs.Access.{Ask, view_of}
 use Rattle.archive_results.specs.Results.{export_text}
 use Rattle.archive_results.specs.Shown.{shown_of}
-use Rattle.archive_desk.specs.Faults.{Reason, refused, not_in_view, not_written, declined, reason}
+use Rattle.archive_desk.specs.Faults.{Reason, refused, not_in_view, not_written, declined, reason, ask_reason}
 use Rattle.archive_desk.specs.declared.exporting.ExportStop.{ExportStop}
 use Rattle.archive_desk.specs.declared.faults.DeskFault.{DeskFault}
 use Rattle.archive_desk.specs.declared.faults.DeskFault.TheVariants.{Write}
@@ -30,6 +33,14 @@ IsExportRefused asked before after text count (refused why) = asked ≡ Some (re
 IsExportRefused asked before after text count not_written = (asked ≡ None) × (length after < 2 ^ 64 → IsCutShort before after text count)
 IsExportRefused asked before after text count not_in_view = ⊥
 IsExportRefused asked before after text count (declined why) = ⊥
+
+-- An export of this text: after Ok the writer got it, and the count is its length, as far as 64 bits go; else why it stopped.
+-- The archive stays.
+abbrev pub Exports : {S : Type 0} → Ghosts S → Store S → Store S → Result ℕ ExportStop → Ask → List ℕ → List ℕ → (Archive → List ℕ) → Type 0
+Exports g old new result ask before after text = Calls g old new stop_reason result
+    (λ a b count. (b ≡ a) × (ask_reason a ask ≡ None) × (after ≡ before ++ text a) × (count ≡ min (length (text a)) (2 ^ 64 - 1)))
+    (λ a b why. (b ≡ a) × IsExportRefused (ask_reason a ask) before after (text a) why.0 why.1)
+    (λ a b stop. b ≡ a)
 
 -- the writer failed; else nothing was written
 abbrev pub IsExportStop : List ℕ → List ℕ → ℕ → ℕ → ℕ → DeskFault → Type 0

@@ -2,6 +2,7 @@
 use Rattle.std.specs.Prelude.{Option, Some, None, option_map}
 use Rattle.archive_machine.specs.Records.{Archive}
 use Rattle.archive_machine.specs.Commands.{Refusal as Declined, no_list as unknown_list, no_person as unknown_person}
+use Rattle.archive_machine.specs.Questions.{list_refusal}
 use Rattle.archive_store.specs.Replies.{refusal}
 use Rattle.archive_store.specs.declared.faults.StoreFault.{StoreFault}
 use Rattle.archive_store.specs.declared.faults.StoreFault.TheVariants.{NoList as UnknownList, NoPerson as UnknownPerson}
@@ -47,3 +48,7 @@ desk_fault other = Store other
 -- why what is asked is refused
 abbrev pub ask_reason : Archive → Ask → Option Reason
 ask_reason archive ask = option_map refused (ask_refusal archive ask)
+
+-- why what is asked is refused before the reader is looked for
+abbrev pub list_reason : Archive → Ask → Option Reason
+list_reason archive ask = option_map reason_by (list_refusal archive ask.list)

@@ -2,7 +2,7 @@
 use Rattle.std.specs.Prelude.{◌≡◌, ◌⊎◌, ◌≤◌, ℕ, true, false, List, length, take, Option, Some, None, option_map}
 use Rattle.mbox_core.specs.Division.{Item, Divides, IsPreamble}
 use Rattle.mbox_core.specs.Faults.{IsCutFault}
-use Rattle.mbox_core.specs.declared.faults.MboxFault.TheVariants.{Preamble, Read, Memory}
+use Rattle.mbox_core.specs.declared.faults.MboxFault.TheVariants.{Preamble, Read, Memory, Failed}
 use Rattle.archive_machine.specs.Records.{Archive}
 use Rattle.archive_machine.specs.Commands.{Refusal, no_list, list_full}
 use Rattle.archive_machine.specs.Questions.{has_list}
@@ -30,6 +30,7 @@ abbrev pub cause_of : ImportFault → Option Cause
 cause_of (Mbox (Preamble offset)) = Some (no_mbox offset)
 cause_of (Mbox Read) = None
 cause_of (Mbox Memory) = None
+cause_of (Mbox Failed) = None
 cause_of (Store fault) = option_map not_taken (refusal fault)
 
 -- how many messages were done, and the cause; none where memory or the database was at fault

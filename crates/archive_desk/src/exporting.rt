@@ -1,9 +1,7 @@
 //! The view as an mbox.
-ghost use Rattle.std.specs.Prelude.{◌≡◌, ◌<◌, ◌^◌, ◌-◌, ◌++◌, min, length, map, None, OnOk, IfOk, IfErr, OnErr};
+ghost use Rattle.std.specs.Prelude.{◌≡◌, ◌<◌, ◌^◌, ◌-◌, ◌++◌, min, length, OnOk, IfOk, IfErr, OnErr};
 ghost use Rattle.mbox_core.specs.Written.{IsCutShort, written};
-ghost use Rattle.archive_store.specs.Told.{Calls};
-ghost use Rattle.archive_desk.specs.Exporting.{IsExportRefused, IsExportStop, exported, items_of, stop_reason};
-ghost use Rattle.archive_desk.specs.Faults.{ask_reason};
+ghost use Rattle.archive_desk.specs.Exporting.{Exports, IsExportStop, exported, items_of};
 
 use crate::faults::DeskFault;
 use crate::viewing::view;
@@ -22,20 +20,19 @@ pub struct ExportStop {
 }
 
 /// Writes the view as an mbox (RFC 4155): how many bytes that is. G1 where there is no such list, G2 where there is no such
-/// person, G6 where the writer failed. After another fault than G6 nothing was written.
+/// person, G6 where the writer failed, G4 where the store has no memory or fails. After another fault than G6 nothing was
+/// written.
 pub fn export<S: Alter, W: Sink>(
     store: &mut Store<S>,
     alloc: Global,
     ask: &Ask<'_>,
     out: &mut W,
 ) -> Result<u64, ExportStop>
-    ensures exported { Calls S.Store store.old store.new stop_reason result
-        (λ a b count. (b ≡ a) × (ask_reason a ask.now ≡ None) × (W.told out.new ≡ W.told out.old ++ exported a ask.now)
-        × (count ≡ min (length (exported a ask.now)) (2 ^ 64 - 1)))
-        (λ a b why. (b ≡ a) × IsExportRefused (ask_reason a ask.now) (W.told out.old) (W.told out.new) (exported a ask.now) why.0 why.1)
-        (λ a b stop. b ≡ a) }
+    ensures exported { Exports S.Store store.old store.new result ask.now (W.told out.old) (W.told out.new)
+        (λ a. exported a ask.now) }
     ensures quiet { OnOk result (W.failures out.new ≡ W.failures out.old) }
-    ensures cause { IfErr result (λ stop. IsExportStop (W.told out.old) (W.told out.new) (W.failures out.old) (W.failures out.new) stop.written stop.fault) }
+    ensures cause { IfErr result (λ stop. IsExportStop (W.told out.old) (W.told out.new)
+        (W.failures out.old) (W.failures out.new) stop.written stop.fault) }
 {
     export_after(store, alloc, ask, b"", out)
 }
@@ -48,13 +45,11 @@ pub fn export_after<S: Alter, W: Sink>(
     head: &[u8],
     out: &mut W,
 ) -> Result<u64, ExportStop>
-    ensures exported { Calls S.Store store.old store.new stop_reason result
-        (λ a b count. (b ≡ a) × (ask_reason a ask.now ≡ None) × (W.told out.new ≡ W.told out.old ++ (head.now ++ exported a ask.now))
-        × (count ≡ min (length (head.now ++ exported a ask.now)) (2 ^ 64 - 1)))
-        (λ a b why. (b ≡ a) × IsExportRefused (ask_reason a ask.now) (W.told out.old) (W.told out.new) (head.now ++ exported a ask.now) why.0 why.1)
-        (λ a b stop. b ≡ a) }
+    ensures exported { Exports S.Store store.old store.new result ask.now (W.told out.old) (W.told out.new)
+        (λ a. head.now ++ exported a ask.now) }
     ensures quiet { OnOk result (W.failures out.new ≡ W.failures out.old) }
-    ensures cause { IfErr result (λ stop. IsExportStop (W.told out.old) (W.told out.new) (W.failures out.old) (W.failures out.new) stop.written stop.fault) }
+    ensures cause { IfErr result (λ stop. IsExportStop (W.told out.old) (W.told out.new)
+        (W.failures out.old) (W.failures out.new) stop.written stop.fault) }
 {
     match view(store, alloc, ask) {
         Ok(messages) => match write_after(out, head, &messages) {

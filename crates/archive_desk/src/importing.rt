@@ -5,7 +5,8 @@ ghost use Rattle.archive_machine.specs.Questions.{has_list, list_refusal};
 ghost use Rattle.archive_store.specs.Replies.{refusal};
 ghost use Rattle.archive_store.specs.Batches.{tally_of as store_tally};
 ghost use Rattle.archive_store.specs.Told.{Asks, Calls};
-ghost use Rattle.archive_desk.specs.Importing.{HasAdded, IsBrokenAdd, IsBrokenImport, IsCutStop, IsImported, IsRefusedAdd, IsRefusedImport, stop_reason, tally_of};
+ghost use Rattle.archive_desk.specs.Importing.{HasAdded, IsBrokenAdd, IsBrokenImport, IsCutStop};
+ghost use Rattle.archive_desk.specs.Importing.{IsImported, IsRefusedAdd, IsRefusedImport, stop_reason, tally_of};
 ghost use Rattle.archive_desk.specs.declared.importing.ImportFault.TheVariants.{Store as Stored};
 
 use archive_store::{AddStop, Report as Counts, Store, StoreFault};
@@ -54,7 +55,8 @@ impl Error for ImportFault {}
 /// Adds the messages of an mbox (RFC 4155) to a list, one after the other. A message that the list holds is known and
 /// changes nothing, one that is too large is passed over. The list is looked up before the file is cut: E4 where there
 /// is no such list, M1 where the file's first line that is not empty is no separator line, E12 where the list holds
-/// 50,000 messages and the next is not on it. After a stop the same file can be imported again.
+/// 50,000 messages and the next is not on it, E14 where no memory is left, E15 where the database fails. After a stop the
+/// same file can be imported again.
 pub fn import<S: Alter>(
     store: &mut Store<S>,
     alloc: Global,
@@ -80,7 +82,8 @@ pub fn import<S: Alter>(
 
 /// E4 where there is no such list.
 fn find_list<S: Alter>(store: &mut Store<S>, list: &str) -> Result<(), StoreFault>
-    ensures found { Asks S.Store store.old store.new refusal result (λ a. list_refusal a list.now) (λ a _. has_list a list.now ≡ true) }
+    ensures found { Asks S.Store store.old store.new refusal result (λ a. list_refusal a list.now)
+        (λ a _. has_list a list.now ≡ true) }
 {
     match store.has_list(list) {
         Ok(true) => Ok(()),

@@ -4,6 +4,7 @@
 mod exporting;
 mod faults;
 mod importing;
+mod index;
 mod listing;
 mod messages;
 mod viewing;

@@ -1,8 +1,7 @@
 //! The lists of a month and of an author, and threads.
-ghost use Rattle.std.specs.Prelude.{◌≡◌, ℕ, List, map, Some, IfErr, IfOk};
-ghost use Rattle.archive_machine.specs.Messages.{remembered};
+ghost use Rattle.std.specs.Prelude.{◌≡◌, map, Some, IfErr};
 ghost use Rattle.archive_results.specs.Access.{view_of};
-ghost use Rattle.archive_results.specs.Index.{IsIndexOf, header_of};
+ghost use Rattle.archive_results.specs.Index.{IsIndexOf};
 ghost use Rattle.archive_results.specs.Results.{author_lines, month_lines, tree_lines, thread_lines};
 ghost use Rattle.archive_results.specs.Shown.{shown_of};
 ghost use Rattle.archive_store.specs.Told.{Asks};
@@ -10,18 +9,20 @@ ghost use Rattle.archive_desk.specs.Faults.{IsAskFault, ask_reason, reason};
 ghost use Rattle.archive_desk.specs.Listing.{IsThreadFault, thread_reason};
 
 use crate::faults::DeskFault;
-use crate::viewing::view;
+use crate::index::read_index;
+use crate::viewing::find_standing;
 use archive_results::{
-    Ask, Header, Line, TreeLine, author_lines, header_of, month_lines, thread_lines, tree_lines,
+    Ask, Header, Line, TreeLine, allowed_headers, author_lines, month_lines, thread_lines,
+    tree_lines,
 };
-use archive_store::{Key, Message, Store};
-use mail_core::{Memory, Month};
+use archive_store::{Key, Store};
+use civil_time::Month;
 use sqlite::Alter;
 use std::alloc::Global;
 use thread_core::Threader;
 
 /// The messages of the view whose sent date lies in a month, by sent date and then in mailbox order. G1 where there is no
-/// such list, G2 where there is no such person.
+/// such list, G2 where there is no such person; G5 where no memory is left, G4 where the store has none or fails.
 pub fn month<S: Alter>(
     store: &mut Store<S>,
     alloc: Global,
@@ -40,7 +41,7 @@ pub fn month<S: Alter>(
 }
 
 /// The messages of the view that have an author key, by sent date and then in mailbox order. G1 where there is no such list,
-/// G2 where there is no such person.
+/// G2 where there is no such person; G5 where no memory is left, G4 where the store has none or fails.
 pub fn author<S: Alter>(
     store: &mut Store<S>,
     alloc: Global,
@@ -59,7 +60,7 @@ pub fn author<S: Alter>(
 }
 
 /// The threads of the view (RFC 5256, section 3, THREAD=REFERENCES), in preorder. G1 where there is no such list, G2 where
-/// there is no such person.
+/// there is no such person; G5 where no memory is left, G4 where the store has none or fails.
 pub fn threads<T: Threader, S: Alter>(
     store: &mut Store<S>,
     alloc: Global,
@@ -78,7 +79,8 @@ pub fn threads<T: Threader, S: Alter>(
 }
 
 /// The rows of the top thread of the view that holds the message of a key. G1 where there is no such list, G2 where there is
-/// no such person, G3 where the view does not hold the message.
+/// no such person, G3 where the view does not hold the message; G5 where no memory is left, G4 where the store has none or
+/// fails.
 pub fn thread<T: Threader, S: Alter>(
     store: &mut Store<S>,
     alloc: Global,
@@ -111,21 +113,16 @@ fn read_headers<S: Alter>(
         (λ a headers. IsIndexOf (view_of a ask.now) headers.items) }
     ensures fault { IfErr result (λ fault. IsAskFault fault) }
 {
-    let messages = view(store, alloc, ask)?;
-    match headers_of(alloc, &messages) {
-        Ok(headers) => Ok(headers),
+    let headers = match read_index(store, alloc, ask) {
+        Ok(headers) => headers,
+        Err(fault) => return Err(fault),
+    };
+    let standing = match find_standing(store, ask) {
+        Ok(standing) => standing,
+        Err(fault) => return Err(fault),
+    };
+    match allowed_headers(alloc, ask, standing, headers) {
+        Ok(shown) => Ok(shown),
         Err(_) => Err(DeskFault::Memory),
     }
-}
-
-/// The headers of messages.
-fn headers_of(alloc: Global, messages: &[Message]) -> Result<Vec<Header>, Memory>
-    ensures { IfOk result (λ headers. (list : List ℕ) → headers.items ≡ map (λ m. header_of (remembered list m)) messages.now) }
-{
-    let mut headers = Vec::with_capacity(alloc, messages.len())?;
-    for message in messages.iter() {
-        let header = header_of(alloc, message)?;
-        headers.push(header)?;
-    }
-    Ok(headers)
 }

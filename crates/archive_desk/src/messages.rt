@@ -1,11 +1,11 @@
 //! One message, asked for by its key.
 ghost use Rattle.std.specs.Prelude.{◌≡◌, IfErr, option_map};
-ghost use Rattle.archive_machine.specs.Questions.{list_refusal, message_of};
+ghost use Rattle.archive_machine.specs.Questions.{message_of};
 ghost use Rattle.archive_machine.specs.Messages.{remembered};
 ghost use Rattle.archive_results.specs.Access.{asked_of, asked_on, reader_standing, told};
 ghost use Rattle.archive_store.specs.Told.{Asks};
 ghost use Rattle.archive_desk.specs.Asking.{standing_reason};
-ghost use Rattle.archive_desk.specs.Faults.{IsAskFault, ask_reason, reason, reason_by};
+ghost use Rattle.archive_desk.specs.Faults.{IsAskFault, ask_reason, list_reason, reason};
 
 use crate::faults::DeskFault;
 use crate::viewing::find_standing;
@@ -15,7 +15,8 @@ use sqlite::Alter;
 use std::alloc::Global;
 
 /// The message of a key, as far as the policy lets the reader see it on the day: it never reads the list. G1 where there is
-/// no such list, G2 where there is no such person.
+/// no such list, G2 where there is no such person; G5 where no memory is left for the text, G4 where the store has none or
+/// fails.
 pub fn message<'p, S: Alter>(
     store: &mut Store<S>,
     alloc: Global,
@@ -38,7 +39,7 @@ fn find_row<S: Alter>(
     ask: &Ask<'_>,
     key: &Key,
 ) -> Result<Option<Message>, DeskFault>
-    ensures held { Asks S.Store store.old store.new reason result (λ a. option_map reason_by (list_refusal a ask.now.list))
+    ensures held { Asks S.Store store.old store.new reason result (λ a. list_reason a ask.now)
         (λ a found. option_map (remembered ask.now.list) found ≡ message_of a ask.now.list key.now) }
     ensures fault { IfErr result (λ fault. IsAskFault fault) }
 {
@@ -53,7 +54,8 @@ fn answer_on<'p, S: Alter>(
     held: &Option<Message>,
 ) -> Result<Asked<'p>, DeskFault>
     ensures asked { Asks S.Store store.old store.new reason result (λ a. standing_reason a ask.entry.now)
-        (λ a answer. told answer ≡ asked_on ask.entry.now (reader_standing a ask.entry.now) (option_map (remembered ask.entry.now.list) held.now)) }
+        (λ a answer. told answer ≡ asked_on ask.entry.now (reader_standing a ask.entry.now)
+        (option_map (remembered ask.entry.now.list) held.now)) }
     ensures fault { IfErr result (λ fault. IsAskFault fault) }
 {
     let standing = find_standing(store, ask)?;

@@ -1,11 +1,11 @@
 //! The view: the one place where the policy is applied.
-ghost use Rattle.std.specs.Prelude.{◌≡◌, map, filter, option_map, IfErr};
-ghost use Rattle.archive_machine.specs.Questions.{list_refusal, messages_in};
+ghost use Rattle.std.specs.Prelude.{◌≡◌, map, filter, IfErr};
+ghost use Rattle.archive_machine.specs.Questions.{messages_in};
 ghost use Rattle.archive_machine.specs.Messages.{remembered};
 ghost use Rattle.archive_results.specs.Access.{is_shown, reader_standing, view_of};
 ghost use Rattle.archive_store.specs.Told.{Asks};
 ghost use Rattle.archive_desk.specs.Asking.{standing_reason};
-ghost use Rattle.archive_desk.specs.Faults.{IsAskFault, ask_reason, reason, reason_by};
+ghost use Rattle.archive_desk.specs.Faults.{IsAskFault, ask_reason, list_reason, reason};
 
 use crate::faults::DeskFault;
 use archive_results::{Ask, Reader, is_shown};
@@ -15,7 +15,7 @@ use sqlite::Alter;
 use std::alloc::Global;
 
 /// The messages of the list that the policy lets the reader see on the day, in mailbox order. G1 where there is no such
-/// list, G2 where there is no such person.
+/// list, G2 where there is no such person; G4 where the store has no memory or fails.
 pub fn view<S: Alter>(
     store: &mut Store<S>,
     alloc: Global,
@@ -36,12 +36,12 @@ pub fn view<S: Alter>(
 }
 
 /// All messages of the list.
-fn read_list<S: Alter>(
+pub(crate) fn read_list<S: Alter>(
     store: &mut Store<S>,
     alloc: Global,
     ask: &Ask<'_>,
 ) -> Result<Vec<Message>, DeskFault>
-    ensures held { Asks S.Store store.old store.new reason result (λ a. option_map reason_by (list_refusal a ask.now.list))
+    ensures held { Asks S.Store store.old store.new reason result (λ a. list_reason a ask.now)
         (λ a found. map (remembered ask.now.list) found.items ≡ messages_in a ask.now.list) }
     ensures fault { IfErr result (λ fault. IsAskFault fault) }
 {

@@ -35,3 +35,7 @@ entries_in headers = map (λ h. h.entry) headers
 -- these are the headers of the messages of a view
 abbrev pub IsIndexOf : List Message → List Header → Type 0
 IsIndexOf view headers = headers ≡ map header_of view
+
+-- this holds of every view whose headers these are
+abbrev pub OfEachView : List Header → (List Message → Type 0) → Type 0
+OfEachView headers Says = (view : List Message) → IsIndexOf view headers → Says view

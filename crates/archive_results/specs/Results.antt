@@ -1,7 +1,8 @@
 -- What is shown of a view. Each is a function of the view alone, so that nothing of a message that is not in it can show.
 use Rattle.std.specs.Prelude.{ℕ, ◌-◌, ◌==◌, int_lt, Bool, List, [], ◌∷◌, map, filter, take, drop, position, slice_get, bytes_eq, Option, option_map, if◌then◌else◌}
+use Rattle.std.specs.List.{list_any}
 use Rattle.std.specs.Option.{option_and_then}
-use Rattle.mail_core.specs.Calendar.{month_of_instant}
+use Rattle.civil_time.specs.Calendar.{month_of_instant}
 use Rattle.mbox_core.specs.Written.{written}
 use Rattle.thread_core.specs.Threads.{threads_of}
 use Rattle.thread_core.specs.TopThread.{top_thread_of}
@@ -62,6 +63,10 @@ within range xs = take (range.1 - range.0) (drop range.0 xs)
 
 abbrev pub place_of : (key : List ℕ) → List Line → Option ℕ
 place_of key lines = position (λ l. bytes_eq l.key key) lines
+
+-- whether a message of the view has this key
+abbrev pub holds : (key : List ℕ) → List Shown → Bool
+holds key view = list_any (λ s. bytes_eq s.key key) view
 
 -- The rows of the top thread that holds a message; none where the view does not hold it.
 abbrev pub thread_lines : (key : List ℕ) → List Shown → Option (List TreeLine)

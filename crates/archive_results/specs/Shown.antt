@@ -1,9 +1,7 @@
 -- What a reader sees of a message, and what of it the lists of messages and the threads need.
-use Rattle.std.specs.Prelude.{ℕ, ℤ, List, [], ◌∷◌, codes, Option, unwrap_or, slice_get}
-use Rattle.mail_core.specs.Fields.{field_of, unfolded}
-use Rattle.mail_core.specs.Author.{author_of, trimmed}
-use Rattle.mail_core.specs.MsgIds.{Id, ids_of}
-use Rattle.mail_core.specs.Sent.{sent_of}
+use Rattle.std.specs.Prelude.{ℕ, ℤ, List}
+use Rattle.mail_core.specs.Author.{author_of}
+use Rattle.mail_core.specs.Headers.{own_id_of, references_of, sent_date_of, unfolded_subject_of, subject_line_of}
 use Rattle.mbox_core.specs.Division.{Item}
 use Rattle.subject_core.specs.BaseSubject.{base_of, is_reply}
 use Rattle.thread_core.specs.declared.entry.Entry.{Entry}
@@ -18,56 +16,16 @@ pub record Shown : Type 0 where
 abbrev pub shown_of : Message → Shown
 shown_of m = record { key = m.key; item = item_of m }
 
--- ---- what the header of a message says
-
--- the body of its first field of a name, as it stands; empty where there is none
-abbrev pub body_of : List ℕ → Item → List ℕ
-body_of name item = unwrap_or (field_of item.text name) []
-
--- the sent date (RFC 5256, section 2.2), and the arrival where the Date field is not valid or missing
-unfoldable pub sent_date : Item → ℤ
-sent_date item = sent_of (body_of (codes "date") item) item.envelope.arrival
-
--- the author key: the address of the first From field, in lower case
-unfoldable pub author : Item → List ℕ
-author item = author_of item.text
-
-unfoldable pub subject_body : Item → List ℕ
-subject_body item = unfolded (body_of (codes "subject") item)
-
--- the ids that a field of this name has
-unfoldable pub ids_in : List ℕ → Item → List Id
-ids_in name item = ids_of (unfolded (body_of name item))
-
--- the first id of the Message-ID field (RFC 5322, section 3.6.4)
-abbrev pub own_id : Item → Option Id
-own_id item = slice_get (ids_in (codes "message-id") item) 0
-
--- the first of some, if there is one
-abbrev pub first_alone : List Id → List Id
-first_alone [] = []
-first_alone (id ∷ ids) = id ∷ []
-
--- some ids, or the first of others where there are none
-abbrev pub or_first_of : List Id → List Id → List Id
-or_first_of [] replied_to = first_alone replied_to
-or_first_of (id ∷ ids) replied_to = id ∷ ids
-
--- RFC 5256, section 3: all ids of References; without one, the first id of In-Reply-To alone
-abbrev pub references : Item → List Id
-references item = or_first_of (ids_in (codes "references") item) (ids_in (codes "in-reply-to") item)
-
--- what it says about threads
+-- What a message says about threads (RFC 5256, section 3): its own id, what it refers to, its sent date, which is the arrival
+-- where the Date field is not valid or missing, and its base subject.
 abbrev pub entry_of : Item → Entry
 entry_of item = record {
-  id = own_id item;
-  refs = references item;
-  sent = sent_date item;
-  base = base_of (subject_body item);
-  reply = is_reply (subject_body item);
+  id = own_id_of item.text;
+  refs = references_of item.text;
+  sent = sent_date_of item.text item.envelope.arrival;
+  base = base_of (unfolded_subject_of item.text);
+  reply = is_reply (unfolded_subject_of item.text);
 }
-
--- ---- lines
 
 -- A message in a list: its key, sent date and author key, and its subject, unfolded and without the spaces and tabs at its
 -- ends.
@@ -78,4 +36,9 @@ pub record Line : Type 0 where
   pub subject : List ℕ
 
 abbrev pub line_of : Shown → Line
-line_of s = record { key = s.key; sent = sent_date s.item; author = author s.item; subject = trimmed (subject_body s.item) }
+line_of s = record {
+  key = s.key;
+  sent = sent_date_of s.item.text s.item.envelope.arrival;
+  author = author_of s.item.text;
+  subject = subject_line_of s.item.text;
+}

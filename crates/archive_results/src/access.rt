@@ -6,7 +6,8 @@ ghost use Rattle.archive_results.specs.Access.{marks_of, ruling_on, allows, is_s
 
 use crate::asking::{Ask, Asked};
 use archive_machine::Message;
-use mail_core::{Day, Instant, Memory};
+use civil_time::{Day, Instant};
+use mail_core::Memory;
 use policy_core::{Facts, Standing, Verdict, Withdrawn};
 use std::alloc::Global;
 use std::marker::Model;
@@ -82,7 +83,8 @@ pub fn asked<'a>(
     standing: Standing,
     held: &Option<Message>,
 ) -> Result<Asked<'a>, Memory>
-    ensures { (list : List ℕ) → IfOk result (λ asked. told asked ≡ asked_on ask.now standing (option_map (remembered list) held.now)) }
+    ensures { (list : List ℕ) → IfOk result (λ asked.
+        told asked ≡ asked_on ask.now standing (option_map (remembered list) held.now)) }
 {
     let Some(message) = held else {
         return Ok(Asked::Absent);

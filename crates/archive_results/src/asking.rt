@@ -1,5 +1,5 @@
 //! What is asked of the archive, and what who asks for one message gets.
-use mail_core::Day;
+use civil_time::Day;
 use policy_core::Policy;
 use std::marker::Model;
 

@@ -4,10 +4,10 @@ ghost use Rattle.archive_machine.specs.Messages.{remembered};
 ghost use Rattle.archive_results.specs.Index.{header_of};
 
 use crate::access::{Marks, marks_of};
-use crate::entries::{entry_of, line_of};
+use crate::entries::{entry_in, line_in};
 use crate::lines::Line;
 use archive_machine::Message;
-use mail_core::Memory;
+use mail_core::{Header as Fields, Memory};
 use std::alloc::Global;
 use std::marker::Model;
 use thread_core::Entry;
@@ -28,13 +28,17 @@ impl Model for Header {
     ghost view = { λ h. record { marks = h.marks; line = h.line; entry = h.entry } };
 }
 
-/// The header of a message. `Memory` where no memory is left. No byte of the message behind its header is read.
+/// The header of a message, by one pass over its lines. `Memory` where no memory is left. No byte of the message behind its
+/// header is read.
 pub fn header_of(alloc: Global, message: &Message) -> Result<Header, Memory>
     ensures { (list : List ℕ) → IfOk result (λ header. header ≡ header_of (remembered list message.now)) }
 {
     let item = message.item.as_item();
-    let line = line_of(alloc, message.key, &item)?;
-    let entry = entry_of(alloc, &item)?;
+    let fields = Fields::of(item.text);
+    let sent = fields.sent(item.envelope.arrival);
+    let subject = fields.unfolded_subject(alloc)?;
+    let line = line_in(alloc, message.key, &fields, sent, &subject)?;
+    let entry = entry_in(alloc, &fields, sent, &subject)?;
     Ok(Header {
         marks: marks_of(message),
         line,

@@ -6,14 +6,14 @@ mod access;
 mod asking;
 mod entries;
 mod headers;
+pub mod laws;
 mod lines;
 mod results;
 mod threads;
-mod trimming;
 
 pub use access::{Marks, allows, asked, is_shown, marks_of};
 pub use asking::{Ask, Asked, Reader};
-pub use entries::{entry_of, line_of, sent_date};
+pub use entries::{entry_of, line_of};
 pub use headers::{Header, header_of};
 pub use lines::{Line, TreeLine};
 pub use results::{allowed_headers, author_lines, month_lines};

@@ -2,7 +2,8 @@
 ghost use Rattle.std.specs.Prelude.{◌≡◌, IfOk};
 
 use archive_machine::Key;
-use mail_core::{Instant, Memory};
+use civil_time::Instant;
+use mail_core::Memory;
 use std::alloc::Global;
 use std::marker::Model;
 

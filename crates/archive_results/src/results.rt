@@ -1,16 +1,16 @@
 //! The lists of a month and of an author.
-ghost use Rattle.std.specs.Prelude.{◌≡◌, List, IfOk, filter, map};
-ghost use Rattle.archive_machine.specs.Records.{Message};
+ghost use Rattle.std.specs.Prelude.{◌≡◌, IfOk, filter, map};
 ghost use Rattle.archive_results.specs.Access.{is_shown};
 ghost use Rattle.archive_results.specs.Shown.{shown_of};
 ghost use Rattle.archive_results.specs.Results.{by_sent, is_of_month, is_of_author, month_lines, author_lines};
-ghost use Rattle.archive_results.specs.Index.{IsIndexOf, allowed_headers, lines_in};
+ghost use Rattle.archive_results.specs.Index.{IsIndexOf, OfEachView, allowed_headers, lines_in};
 
 use crate::access::allows;
 use crate::asking::Ask;
 use crate::headers::Header;
 use crate::lines::Line;
-use mail_core::{Memory, Month};
+use civil_time::Month;
+use mail_core::Memory;
 use policy_core::Standing;
 use std::alloc::Global;
 
@@ -41,7 +41,8 @@ pub fn allowed_headers(
     headers: Vec<Header>,
 ) -> Result<Vec<Header>, Memory>
     ensures value { IfOk result (λ shown. shown.items ≡ allowed_headers ask.now standing headers.items) }
-    ensures view { (messages : List Message) → IsIndexOf messages headers.items → IfOk result (λ shown. IsIndexOf (filter (is_shown ask.now standing) messages) shown.items) }
+    ensures view { OfEachView headers.items (λ messages.
+        IfOk result (λ shown. IsIndexOf (filter (is_shown ask.now standing) messages) shown.items)) }
 {
     let shown = keep_allowed(alloc, ask, standing, headers)?;
     Ok(shown)
@@ -86,7 +87,8 @@ fn lines_of_author(alloc: Global, headers: Vec<Header>, key: &[u8]) -> Result<Ve
 /// Of a view whose headers these are, the messages whose sent date lies in a month, by sent date and then in mailbox order.
 /// `Memory` where no memory is left.
 pub fn month_lines(alloc: Global, headers: Vec<Header>, month: Month) -> Result<Vec<Line>, Memory>
-    ensures { (view : List Message) → IsIndexOf view headers.items → IfOk result (λ lines. lines.items ≡ month_lines month (map shown_of view)) }
+    ensures { OfEachView headers.items (λ view.
+        IfOk result (λ lines. lines.items ≡ month_lines month (map shown_of view))) }
 {
     let found = lines_of_month(alloc, headers, month)?;
     Ok(by_sent(found)?)
@@ -95,7 +97,8 @@ pub fn month_lines(alloc: Global, headers: Vec<Header>, month: Month) -> Result<
 /// Of a view whose headers these are, the messages of an author key, by sent date and then in mailbox order. `Memory` where
 /// no memory is left.
 pub fn author_lines(alloc: Global, headers: Vec<Header>, key: &[u8]) -> Result<Vec<Line>, Memory>
-    ensures { (view : List Message) → IsIndexOf view headers.items → IfOk result (λ lines. lines.items ≡ author_lines key.now (map shown_of view)) }
+    ensures { OfEachView headers.items (λ view.
+        IfOk result (λ lines. lines.items ≡ author_lines key.now (map shown_of view))) }
 {
     let found = lines_of_author(alloc, headers, key)?;
     Ok(by_sent(found)?)

@@ -1,10 +1,9 @@
 //! The threads of a view (RFC 5256, section 3, THREAD=REFERENCES).
-ghost use Rattle.std.specs.Prelude.{◌≡◌, List, IfOk, map, slice_get, bytes_eq, option_map};
+ghost use Rattle.std.specs.Prelude.{◌≡◌, IfOk, map, slice_get, bytes_eq, option_map};
 ghost use Rattle.std.specs.Option.{option_and_then};
-ghost use Rattle.archive_machine.specs.Records.{Message};
 ghost use Rattle.archive_results.specs.Shown.{shown_of};
 ghost use Rattle.archive_results.specs.Results.{tree_line, within, place_of, tree_lines, thread_lines};
-ghost use Rattle.archive_results.specs.Index.{IsIndexOf, lines_in, entries_in};
+ghost use Rattle.archive_results.specs.Index.{OfEachView, lines_in, entries_in};
 
 use crate::headers::Header;
 use crate::lines::{Line, TreeLine};
@@ -97,7 +96,8 @@ pub fn tree_lines<T: Threader>(
     threader: &T,
     headers: Vec<Header>,
 ) -> Result<Vec<TreeLine>, Memory>
-    ensures { (view : List Message) → IsIndexOf view headers.items → IfOk result (λ rows. rows.items ≡ tree_lines (map shown_of view)) }
+    ensures { OfEachView headers.items (λ view.
+        IfOk result (λ rows. rows.items ≡ tree_lines (map shown_of view))) }
 {
     let parts = split(alloc, headers)?;
     let rows = threads(alloc, threader, &parts.entries)?;
@@ -113,7 +113,8 @@ pub fn thread_lines<T: Threader>(
     headers: Vec<Header>,
     key: &Key,
 ) -> Result<Option<Vec<TreeLine>>, Memory>
-    ensures { (view : List Message) → IsIndexOf view headers.items → IfOk result (λ found. option_map (λ rows. rows.items) found ≡ thread_lines key.now (map shown_of view)) }
+    ensures { OfEachView headers.items (λ view. IfOk result (λ found.
+        option_map (λ rows. rows.items) found ≡ thread_lines key.now (map shown_of view))) }
 {
     let parts = split(alloc, headers)?;
     let Some(place) = place_of(&parts.lines, key) else {

@@ -2,7 +2,7 @@
 use crate::{exports, imports, listings, messages};
 use archive_results::{Ask, Reader};
 use archive_store::Store;
-use mail_core::Day;
+use civil_time::Day;
 use policy_core::Policy;
 use sqlite::{Alter, Connection, Files, Options};
 use sqlite_disk::Memory;

@@ -3,7 +3,7 @@ use crate::cases::{TWO, WITHDRAWN, by_nobody};
 use archive_desk::{DeskFault, author, import, month, thread, threads};
 use archive_results::{Ask, Line, Reader, TreeLine};
 use archive_store::{Key, Party, Store};
-use mail_core::Month;
+use civil_time::Month;
 use mbox_core::cut;
 use policy_core::Policy;
 use sqlite::Alter;

@@ -3,7 +3,7 @@ use crate::cases::{TWO, WITHDRAWN, day};
 use archive_desk::{DeskFault, import, message, view};
 use archive_results::{Ask, Asked, Reader};
 use archive_store::{Key, Kind, Party, Store};
-use mail_core::Day;
+use civil_time::Day;
 use mbox_core::{Item, cut};
 use policy_core::Policy;
 use sqlite::Alter;

@@ -4,7 +4,7 @@ use archive_results::{
     Ask, Asked, Header, Line, Reader, TreeLine, allowed_headers, asked, author_lines, header_of,
     is_shown, month_lines, thread_lines, tree_lines,
 };
-use mail_core::{Day, Month};
+use civil_time::{Day, Month};
 use mbox_core::{Item, OwnedItem, cut};
 use policy_core::{Policy, Standing, Withdrawn};
 use std::alloc::Global;

@@ -1,8 +1,8 @@
 use Rattle.std.proofs.Common.{arith}
 use Rattle.archive_machine.specs.Messages.{remembered}
 use Rattle.archive_results.specs.Index.{header_of}
-use Rattle.archive_desk.proofs.ListLemmas.{made_more, made_all}
-use Rattle.archive_desk.proofs.listing.headers_of.Goals as goal
+use Rattle.archive_desk.proofs.IndexLemmas.{made_more, made_all}
+use Rattle.archive_desk.proofs.index.headers_of.Goals as goal
 
 pub loop-message-preserved : goal.loop-message-preserved
 loop-message-preserved c = λ list.

@@ -1,7 +1,7 @@
 use Rattle.std.proofs.Common.{◌≡◌, ◌++◌, ℕ, List, map, drop}
 use Rattle.archive_machine.specs.Messages.{remembered}
 use Rattle.archive_results.specs.Index.{header_of}
-use Rattle.archive_desk.proofs.listing.headers_of.Given as goal
+use Rattle.archive_desk.proofs.index.headers_of.Given as goal
 
 abbrev pub invariant-loop-message : goal.invariant-loop-message
 invariant-loop-message l = (list : List ℕ)
