@@ -5,13 +5,14 @@ use Rattle.std.proofs.lemmas.Bool.{agree_below, agree_below_at, le-leb}
 use Rattle.std.proofs.lemmas.List.Elements.{All-head, All-tail}
 use Rattle.percent_encoding.specs.Percent.{percent_decode}
 use Rattle.percent_encoding.proofs.PercentLemmas.{round_trip}
-use Rattle.mail_core.specs.Calendar.{is_digit, four_digits, day_of_instant, month_of_instant, month_of_numbers}
-use Rattle.mail_core.proofs.MonthLemmas.{date_in_month, month_is}
-use Rattle.mbox_core.specs.Written.{days_since_1900}
-use Rattle.mbox_core.proofs.DateLemmas.{date_is, found_number, split_is}
-use Rattle.mbox_core.proofs.DigitLemmas.{two_read}
+use Rattle.civil_time.specs.Digits.{is_digit, four_digits}
+use Rattle.civil_time.specs.Calendar.{day_of_instant, month_of_instant, month_of_numbers}
+use Rattle.civil_time.proofs.MonthLemmas.{date_in_month, month_is}
+use Rattle.civil_time.specs.Dates.{days_since_1900, date_of_instant}
+use Rattle.civil_time.proofs.DateLemmas.{date_is, found_number, split_is}
+use Rattle.civil_time.proofs.DigitLemmas.{two_read}
 use Rattle.archive_html.specs.declared.escapes.TheConstants.{RESERVED}
-use Rattle.archive_html.specs.DateTexts.{date_of_instant, instant_month_text}
+use Rattle.civil_time.proofs.TextLemmas.{instant_month_read}
 use Rattle.archive_html.specs.Texts.{shown_byte, shown_text}
 use Rattle.archive_html.specs.Links.{escaped_byte, escaped}
 use Rattle.archive_html.specs.Laws.{IsByte, is_inert, ShownIsInert, EscapedIsInert, EscapesAreRead, MonthsAreRead}
@@ -57,33 +58,5 @@ escapes_are_read key small = ap percent_decode (sym (encoded key small)) ∙ rou
 
 -- ---- months
 
-digit_is : (n : ℕ) → n ≤ 9 → is_digit (48 + n) ≡ true
-digit_is n h = rw (le-leb 48 (48 + n) (omega arith), le-leb (48 + n) 57 (omega (arith, h))) refl
-
-four_read : (n : ℕ) → n < 10000 → four_digits (48 + n / 100 / 10) (48 + n / 100 % 10) (48 + n % 100 / 10) (48 + n % 100 % 10) ≡ Some n
-four_read n h =
-    let a : n / 100 / 10 ≤ 9 = omega (arith, h) in
-    let b : n / 100 % 10 ≤ 9 = omega arith in
-    let c : n % 100 / 10 ≤ 9 = omega arith in
-    let d : n % 100 % 10 ≤ 9 = omega arith in
-    let same : 1000 * (48 + n / 100 / 10 - 48) + 100 * (48 + n / 100 % 10 - 48) + 10 * (48 + n % 100 / 10 - 48) + (48 + n % 100 % 10 - 48) ≡ n = omega arith in
-    rw (digit_is (n / 100 / 10) a, digit_is (n / 100 % 10) b, digit_is (n % 100 / 10) c, digit_is (n % 100 % 10) d) (ap (λ x. Some x) same)
-
-numbers_are : (y m : ℕ) → 1900 ≤ y → y ≤ 9998 → 1 ≤ m → m ≤ 12 → month_of_numbers (Some y) (Some m) ≡ Some (12 * y + (m - 1))
-numbers_are y m first last low high = rw (le-leb 1900 y first, le-leb y 9998 last, le-leb 1 m low, le-leb m 12 high) refl
-
 pub months_are_read : MonthsAreRead
-unfolding instant_month_text
-months_are_read z h =
-    let split = split_is z h in
-    let day = day_of_instant z in
-    let n = days_since_1900 day in
-    let date = date_of_instant z in
-    let found = date_is n split.high in
-    let number = found_number n day date found split.low in
-    let i : ℕ = 12 * date.year + (date.month - 1) in
-    let lies = date_in_month date.year date.month date.day i day number refl in
-    let small : i ≤ 119_987 = omega (arith, found.last, found.in_year) in
-    let month : month_of_instant z ≡ i = month_is i day small lies in
-    rw (four_read date.year (omega (arith, found.last)), two_read date.month (omega (arith, found.in_year)))
-    (numbers_are date.year date.month found.first found.last found.some_month found.in_year ∙ ap (λ x. Some x) (sym month))
+months_are_read z h = instant_month_read z h

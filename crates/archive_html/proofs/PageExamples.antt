@@ -1,9 +1,9 @@
 -- Worked examples of pages, byte for byte.
 use Rattle.std.proofs.Common.{◌≡◌, pos, negsuc, [], ◌∷◌, ◌++◌, Some, None, refl, codes}
 use Rattle.std.specs.Fmt.{digits}
-use Rattle.mbox_core.specs.Written.{year_after, month_after, date_after}
+use Rattle.civil_time.specs.Dates.{year_after, month_after, date_after}
 use Rattle.archive_results.specs.Shown.{Line}
-use Rattle.archive_html.specs.DateTexts.{instant_text, instant_month_text, month_text}
+use Rattle.civil_time.specs.Texts.{instant_text, instant_month_text, month_text}
 use Rattle.archive_html.specs.Texts.{shown_text}
 use Rattle.archive_html.specs.Links.{escaped, month_link, author_link, subject_text, message_link, thread_link}
 use Rattle.archive_html.specs.Rows.{list_row, message_row, missing_row, tree_row}
@@ -20,37 +20,6 @@ an_address = refl
 -- capitals, and what stays
 an_odd_author : escaped (codes "a\"b /Z-._~9?" ++ 233 ∷ []) ≡ codes "a%22b%20%2FZ-._~9%3F%E9"
 an_odd_author = refl
-
--- ---- dates
-
-a_time : instant_text (pos 1046772000) ≡ codes "2003-03-04 10:00"
-unfolding instant_text date_after year_after month_after
-a_time = refl
-
--- the last second of a leap day
-late : instant_text (pos 951868799) ≡ codes "2000-02-29 23:59"
-unfolding instant_text date_after year_after month_after
-late = refl
-
-before_1970 : instant_text (negsuc 0) ≡ codes "1969-12-31 23:59"
-unfolding instant_text date_after year_after month_after
-before_1970 = refl
-
-the_first : instant_text (negsuc 2208988799) ≡ codes "1900-01-01 00:00"
-unfolding instant_text date_after year_after month_after
-the_first = refl
-
-a_month : instant_month_text (pos 1046772000) ≡ codes "2003-03"
-unfolding instant_month_text date_after year_after month_after
-a_month = refl
-
-a_month_by_number : month_text 24038 ≡ codes "2003-03"
-unfolding month_text
-a_month_by_number = refl
-
-a_december : month_text 24047 ≡ codes "2003-12"
-unfolding month_text
-a_december = refl
 
 -- ---- rows
 

@@ -2,8 +2,8 @@
 use Rattle.std.specs.Prelude.{◌≡◌, ℕ, ◌<◌, ◌==◌, nat_lt, Bool, true, not, ◌&&◌, ◌||◌, List, Some, ℤ}
 use Rattle.std.specs.List.{All, list_all}
 use Rattle.percent_encoding.specs.Percent.{percent_decode}
-use Rattle.mail_core.specs.Calendar.{is_instant, month_of_instant, month_of_text}
-use Rattle.archive_html.specs.DateTexts.{instant_month_text}
+use Rattle.civil_time.specs.Calendar.{is_instant, month_of_instant, month_of_text}
+use Rattle.civil_time.specs.Texts.{instant_month_text}
 use Rattle.archive_html.specs.Texts.{shown_text}
 use Rattle.archive_html.specs.Links.{escaped}
 

@@ -1,4 +1,3 @@
-pub mod DateTexts
 pub mod Texts
 pub mod Links
 pub mod Rows

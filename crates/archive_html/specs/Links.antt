@@ -2,7 +2,7 @@
 use Rattle.std.specs.Prelude.{ℕ, ◌+◌, ◌/◌, ◌%◌, ◌==◌, nat_lt, ℤ, Bool, ◌||◌, if◌then◌else◌, List, [], ◌∷◌, ◌++◌, length, flat_map, codes}
 use Rattle.std.specs.List.{list_any}
 use Rattle.std.specs.Char.{is_ascii_alphanumeric}
-use Rattle.archive_html.specs.DateTexts.{instant_text, instant_month_text}
+use Rattle.civil_time.specs.Texts.{instant_text, instant_month_text}
 use Rattle.archive_html.specs.Texts.{shown_text}
 
 -- ---- escapes

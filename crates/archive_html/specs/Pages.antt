@@ -3,7 +3,7 @@
 use Rattle.std.specs.Prelude.{ℕ, List, ◌++◌, flat_map, codes}
 use Rattle.archive_results.specs.Shown.{Line}
 use Rattle.archive_results.specs.Results.{TreeLine}
-use Rattle.archive_html.specs.DateTexts.{month_text}
+use Rattle.civil_time.specs.Texts.{month_text}
 use Rattle.archive_html.specs.Texts.{shown_text}
 use Rattle.archive_html.specs.Rows.{list_row, message_row, tree_row}
 

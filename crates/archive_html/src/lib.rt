@@ -1,7 +1,6 @@
 //! The archive's pages: HTML in ASCII, as definitions (`specs/`), and writing them.
 #![tactic(auto)]
 
-mod date_texts;
 mod escapes;
 pub mod laws;
 mod links;

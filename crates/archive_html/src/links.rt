@@ -2,15 +2,15 @@
 ghost use Rattle.std.specs.Prelude.{◌≡◌, ◌++◌, OnOk, codes};
 ghost use Rattle.archive_html.specs.Links.{month_link, author_link, subject_text, message_link, thread_link};
 
-use crate::date_texts::instant_text;
 use crate::escapes::push_escaped;
 use crate::texts::push_shown;
-use mail_core::Instant;
+use civil_time::Instant;
 use std::alloc::AllocError;
 
 /// Adds the beginning of a link to a page of a list.
 fn push_start(page: &mut Vec<u8>, list: &str, route: &[u8]) -> Result<(), AllocError>
-    ensures { OnOk result (page.new.items ≡ page.old.items ++ (codes "<a href=\"/l/" ++ (list.now ++ route.now))) }
+    ensures { OnOk result (page.new.items ≡ page.old.items
+        ++ (codes "<a href=\"/l/" ++ (list.now ++ route.now))) }
 {
     page.extend_from_slice(b"<a href=\"/l/")?;
     page.extend_from_slice(list.as_bytes())?;
@@ -26,7 +26,7 @@ pub(crate) fn push_month_link(
 ) -> Result<(), AllocError>
     ensures { OnOk result (page.new.items ≡ page.old.items ++ month_link list.now sent) }
 {
-    let text = instant_text(sent);
+    let text = sent.text();
     push_start(page, list, b"/month/")?;
     page.extend_from_slice(&text[..7])?;
     page.extend_from_slice(b"\">")?;
@@ -72,7 +72,8 @@ pub(crate) fn push_message_link(
     key: &str,
     subject: &[u8],
 ) -> Result<(), AllocError>
-    ensures { OnOk result (page.new.items ≡ page.old.items ++ message_link list.now key.now subject.now) }
+    ensures { OnOk result (page.new.items ≡ page.old.items
+        ++ message_link list.now key.now subject.now) }
 {
     push_start(page, list, b"/m/")?;
     page.extend_from_slice(key.as_bytes())?;

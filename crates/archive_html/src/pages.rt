@@ -3,11 +3,11 @@ ghost use Rattle.std.specs.Prelude.{◌≡◌, ◌++◌, OnOk, IfOk, map, flat_m
 ghost use Rattle.archive_html.specs.Rows.{list_row, message_row, tree_row};
 ghost use Rattle.archive_html.specs.Pages.{page, page_head, page_foot, titled, lists_page, month_page, author_page, threads_page, thread_page};
 
-use crate::date_texts::month_text;
 use crate::rows::{push_list, push_message, push_tree_line};
 use crate::texts::push_shown;
 use archive_results::{Line, TreeLine};
-use mail_core::{Memory, Month};
+use civil_time::Month;
+use mail_core::Memory;
 use std::alloc::{AllocError, Global};
 
 /// The title of a page of a list.
@@ -44,7 +44,8 @@ fn push_foot(page: &mut Vec<u8>) -> Result<(), AllocError>
 
 /// Adds a row for each list.
 fn push_lists(page: &mut Vec<u8>, names: &[String]) -> Result<(), AllocError>
-    ensures { OnOk result (page.new.items ≡ page.old.items ++ flat_map (λ name. list_row (string_bytes name)) names.now) }
+    ensures { OnOk result (page.new.items ≡ page.old.items
+        ++ flat_map (λ name. list_row (string_bytes name)) names.now) }
 {
     for name in names {
         push_list(page, name)?;
@@ -54,7 +55,8 @@ fn push_lists(page: &mut Vec<u8>, names: &[String]) -> Result<(), AllocError>
 
 /// Adds a row for each message, all at depth 0.
 fn push_lines(page: &mut Vec<u8>, list: &str, lines: &[Line]) -> Result<(), AllocError>
-    ensures { OnOk result (page.new.items ≡ page.old.items ++ flat_map (message_row list.now 0) lines.now) }
+    ensures { OnOk result (page.new.items ≡ page.old.items
+        ++ flat_map (message_row list.now 0) lines.now) }
 {
     for line in lines {
         push_message(page, list, 0, line)?;
@@ -64,7 +66,8 @@ fn push_lines(page: &mut Vec<u8>, list: &str, lines: &[Line]) -> Result<(), Allo
 
 /// Adds the rows of threads.
 fn push_tree_lines(page: &mut Vec<u8>, list: &str, rows: &[TreeLine]) -> Result<(), AllocError>
-    ensures { OnOk result (page.new.items ≡ page.old.items ++ flat_map (tree_row list.now) rows.now) }
+    ensures { OnOk result (page.new.items ≡ page.old.items
+        ++ flat_map (tree_row list.now) rows.now) }
 {
     for row in rows {
         push_tree_line(page, list, row)?;
@@ -89,7 +92,8 @@ fn lines_page(
     list: &str,
     lines: &[Line],
 ) -> Result<Vec<u8>, AllocError>
-    ensures { IfOk result (λ made. made.items ≡ page title.now (flat_map (message_row list.now 0) lines.now)) }
+    ensures { IfOk result (λ made. made.items ≡ page title.now
+        (flat_map (message_row list.now 0) lines.now)) }
 {
     let mut page = started(alloc, title)?;
     push_lines(&mut page, list, lines)?;
@@ -106,7 +110,7 @@ pub fn month_page(
 ) -> Result<Vec<u8>, Memory>
     ensures { IfOk result (λ page. page.items ≡ month_page list.now month lines.now) }
 {
-    let title = titled(alloc, list, &month_text(month))?;
+    let title = titled(alloc, list, &month.text())?;
     Ok(lines_page(alloc, &title, list, lines)?)
 }
 
@@ -131,7 +135,8 @@ fn rows_page(
     list: &str,
     rows: &[TreeLine],
 ) -> Result<Vec<u8>, AllocError>
-    ensures { IfOk result (λ made. made.items ≡ page title.now (flat_map (tree_row list.now) rows.now)) }
+    ensures { IfOk result (λ made. made.items ≡ page title.now
+        (flat_map (tree_row list.now) rows.now)) }
 {
     let mut page = started(alloc, title)?;
     push_tree_lines(&mut page, list, rows)?;

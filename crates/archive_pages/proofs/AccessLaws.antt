@@ -1,24 +1,23 @@
 -- Why the rules decide what a reply is.
-use Rattle.std.proofs.Common.{◌≡◌, ◌∙◌, ◌⊎◌, ◌↔◌, inl, inr, ℕ, ℤ, List, [], ◌∷◌, ◌++◌, ◌==◌, Bool, true, false, cond, Option, Some, None, refl, sym, ap, subst, codes}
+use Rattle.std.proofs.Common.{◌≡◌, ◌∙◌, ◌⊎◌, ◌↔◌, inl, inr, ℕ, ℤ, List, [], ◌∷◌, ◌++◌, ◌==◌, Bool, true, false, cond, Option, Some, None, refl, sym, ap, codes}
 use Rattle.std.specs.Option.{option_map_or}
-use Rattle.std.specs.List.{AllByRecursion}
 use Rattle.std.proofs.lemmas.Bool.{true≢false}
 use Rattle.httparse.specs.Grammar.{RequestHead}
-use Rattle.mail_core.specs.Calendar.{month_of_text}
+use Rattle.civil_time.specs.Calendar.{month_of_text}
 use Rattle.policy_core.specs.Facts.{Facts}
 use Rattle.policy_core.specs.Rules.{Rule, fits}
-use Rattle.policy_core.specs.Verdict.{Ruling, allowed, denied, ruling_by, verdict_of}
+use Rattle.policy_core.specs.Verdict.{allowed, denied, ruling_by, verdict_of}
 use Rattle.archive_machine.specs.Records.{Archive, Message}
 use Rattle.archive_machine.specs.Questions.{has_list, message_of}
 use Rattle.archive_machine.specs.Keys.{is_key}
-use Rattle.archive_results.specs.Access.{Ask, asked_on, asked_by, asked_of, facts_of, is_allowance, is_shown, marks_of, reader_standing, ruling_on}
+use Rattle.archive_results.specs.Access.{Ask, asked_on, asked_by, asked_of, is_allowance, is_shown, reader_standing, ruling_on}
 use Rattle.archive_results.specs.Shown.{Shown}
-use Rattle.archive_results.specs.Results.{TreeLine, month_lines, author_lines, tree_lines, thread_lines, export_text}
-use Rattle.archive_html.specs.Pages.{month_page, author_page, threads_page, thread_page}
+use Rattle.archive_results.specs.Results.{TreeLine, month_lines, thread_lines}
+use Rattle.archive_html.specs.Pages.{month_page, thread_page}
 use Rattle.archive_requests.specs.Requests.{Request, bad, other_method, unauthorized as no_token, asks, request_of}
 use Rattle.archive_requests.specs.Routes.{Route, lists, message, month, threads, thread, author, mbox, route_of}
-use Rattle.archive_pages.specs.Replies.{Reply, page_reply, message_reply, mbox_reply, forbidden, not_found, unauthorized}
-use Rattle.archive_pages.specs.Answers.{reader_of, asking, shown_view, asked_reply, keyed_reply, month_reply, thread_reply, view_reply, listed_reply, route_reply, path_reply, request_reply, reply_of}
+use Rattle.archive_pages.specs.Replies.{Reply, page_reply, message_reply, forbidden, not_found, unauthorized}
+use Rattle.archive_pages.specs.Answers.{reader_of, asking, shown_view, asked_reply, keyed_reply, listed_reply, route_reply, path_reply, request_reply, reply_of}
 use Rattle.archive_pages.specs.Laws.{AsksFor, AsksForMessage, facts_on, NoneFits, IsFirstToFit, IsAllowed, IsDeniedBy, OfHeld, ServesWhatIsAllowed, DeniesWhatIsDenied, ShowsWhatIsAllowed}
 use Rattle.archive_pages.proofs.LawLemmas.{routed}
 

@@ -1,13 +1,13 @@
 -- Worked examples of replies to requests.
-use Rattle.std.proofs.Common.{◌≡◌, ℕ, ℤ, pos, List, [], ◌∷◌, ◌++◌, length, Option, Some, None, true, false, refl, codes}
+use Rattle.std.proofs.Common.{◌≡◌, ℕ, pos, List, [], ◌∷◌, Some, None, false, refl, codes}
 use Rattle.std.specs.Fmt.{digits}
 use Rattle.httparse.specs.Grammar.{RequestHead, Field, crlf, trim_ows}
 use Rattle.policy_core.specs.Rules.{Rule, open_rule}
 use Rattle.policy_core.specs.declared.access.Standing.TheVariants.{Public}
 use Rattle.policy_core.specs.declared.access.Withdrawn.TheVariants.{Author, Board}
-use Rattle.archive_machine.specs.Records.{Message, Archive}
+use Rattle.archive_machine.specs.Records.{Archive}
 use Rattle.archive_results.specs.Access.{marks_of, ruling_on}
-use Rattle.archive_html.specs.DateTexts.{month_text}
+use Rattle.civil_time.specs.Texts.{month_text}
 use Rattle.archive_html.specs.Rows.{list_row}
 use Rattle.archive_html.specs.Pages.{page_head, page_foot}
 use Rattle.archive_pages.specs.Replies.{Reply, head_bytes, reply_bytes, bad_request, unauthorized, not_allowed, not_found}

@@ -8,7 +8,7 @@ use Rattle.mbox_core.specs.Written.{IsCutShort}
 use Rattle.mbox_core.specs.declared.device.writing.WriteFault.{WriteFault}
 use Rattle.archive_machine.specs.Records.{Archive}
 use Rattle.archive_machine.specs.Questions.{has_list, has_person}
-use Rattle.archive_results.specs.Access.{Ask, Refusal, no_list, no_person, ask_refusal}
+use Rattle.archive_results.specs.Access.{Ask, no_list, no_person}
 use Rattle.archive_results.specs.Results.{export_text}
 use Rattle.archive_store.specs.Told.{Goes, GoesIfOpen}
 use Rattle.archive_store.specs.declared.store.Store.{Store}

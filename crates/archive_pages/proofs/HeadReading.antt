@@ -1,12 +1,10 @@
 -- What is answered to what was read of a request.
-use Rattle.std.proofs.Common.{◌≡◌, ◌≤◌, ◌<◌, ◌++◌, ◌⊎◌, inl, inr, ℕ, ℤ, List, [], length, take, Result, Ok, Err, refl, sym, ap, subst, arith, ◌∙◌, min, length-take, append-nil}
-use Rattle.std.specs.Prelude.{MatchResult}
+use Rattle.std.proofs.Common.{◌≡◌, ◌≤◌, ◌<◌, ◌++◌, ◌⊎◌, inl, inr, ℕ, ℤ, List, [], length, Result, Ok, Err, refl, sym, subst, arith, append-nil}
 use Rattle.sqlite.specs.Store.{Ghosts}
-use Rattle.httparse.specs.Grammar.{RequestHead, HasNoRequest}
-use Rattle.httparse.specs.Spans.{IsRequestWithin, RequestExceeds}
+use Rattle.httparse.specs.Grammar.{RequestHead}
+use Rattle.httparse.specs.Spans.{RequestExceeds}
 use Rattle.httparse.proofs.GrammarLemmas.{ReadsRequest-append}
 use Rattle.policy_core.specs.Rules.{Rule}
-use Rattle.archive_store.specs.Told.{Goes}
 use Rattle.archive_store.specs.declared.store.Store.{Store}
 use Rattle.archive_store.proofs.Joins.{stays_there}
 use Rattle.archive_requests.specs.Asked.{named_request}
@@ -15,8 +13,8 @@ use Rattle.archive_requests.specs.Reading.{IsRequestAs, IsSettled}
 use Rattle.archive_requests.specs.declared.requests.Request.{Request as Asked}
 use Rattle.archive_requests.specs.declared.reading.RequestRead.{RequestRead}
 use Rattle.archive_requests.specs.declared.reading.RequestRead.TheVariants.{Whole, Malformed, TooLarge}
-use Rattle.archive_pages.specs.Replies.{Reply, Sends, bad_request, head_too_large, unavailable}
-use Rattle.archive_pages.specs.Answers.{reply_of, request_reply}
+use Rattle.archive_pages.specs.Replies.{Sends, bad_request, head_too_large}
+use Rattle.archive_pages.specs.Answers.{request_reply}
 use Rattle.archive_pages.specs.Answered.{IsAnswered, written_of}
 use Rattle.archive_pages.specs.declared.faults.ServeFault.{ServeFault}
 use Rattle.archive_pages.specs.declared.faults.ServeFault.TheVariants.{Write}

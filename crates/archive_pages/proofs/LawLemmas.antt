@@ -1,8 +1,8 @@
 -- Why the laws of the replies hold.
-use Rattle.std.proofs.Common.{◌≡◌, ◌∙◌, ℕ, ℤ, List, [], ◌∷◌, Bool, true, false, ◌||◌, cond, Option, Some, None, refl, sym, ap, subst, bytes_eq}
+use Rattle.std.proofs.Common.{◌≡◌, ◌∙◌, ℕ, ℤ, List, [], ◌∷◌, Bool, true, false, ◌||◌, cond, Option, Some, None, refl, sym, ap, bytes_eq}
 use Rattle.std.specs.List.{list_any}
 use Rattle.std.specs.Option.{option_map_or}
-use Rattle.std.specs.Prelude.{not, codes, is_some}
+use Rattle.std.specs.Prelude.{is_some}
 use Rattle.std.specs.Ordering.{is_lt, nat_cmp}
 use Rattle.std.specs.Cmp.Lexicographic.{slice_cmp}
 use Rattle.std.proofs.lemmas.Bool.{true≢false}
@@ -14,7 +14,7 @@ use Rattle.archive_results.specs.Access.{Ask}
 use Rattle.archive_html.specs.Pages.{lists_page}
 use Rattle.archive_requests.specs.Requests.{Request, bad, other_method, unauthorized as no_token, asks, request_of}
 use Rattle.archive_requests.specs.Routes.{Route, lists, message, month, threads, thread, author, mbox, route_of}
-use Rattle.archive_pages.specs.Replies.{Reply, page_reply, not_found, unauthorized}
+use Rattle.archive_pages.specs.Replies.{page_reply, not_found, unauthorized}
 use Rattle.archive_pages.specs.Answers.{reader_of, asking, shown_view, view_reply, listed_reply, route_reply, path_reply, request_reply, reply_of}
 use Rattle.archive_pages.specs.Laws.{AsksFor, list_of, is_of_message, LookAlike, EqualViews}
 

@@ -1,5 +1,6 @@
--- A request after a run of commands.
-use Rattle.std.proofs.Common.{◌≡◌, ◌++◌, inl, inr, ℕ, ℤ, List, Result, Ok, Err, subst}
+-- A request after a run of commands, and after another request.
+use Rattle.std.proofs.Common.{◌≡◌, ◌++◌, inl, inr, ℕ, ℤ, List, Result, Ok, Err, refl, subst}
+use Rattle.std.specs.Prelude.{◌≢◌, IfOk}
 use Rattle.sqlite.specs.Store.{Ghosts}
 use Rattle.httparse.specs.Grammar.{RequestHead, HasNoRequest}
 use Rattle.policy_core.specs.Rules.{Rule}
@@ -8,12 +9,12 @@ use Rattle.archive_store.specs.Told.{IsReady, archive_in, HasReturned, Goes}
 use Rattle.archive_store.specs.declared.store.Store.{Store}
 use Rattle.archive_pages.specs.Replies.{Sends, Is, unavailable}
 use Rattle.archive_pages.specs.Answers.{reply_of}
-use Rattle.archive_pages.specs.Serving.{Serves}
+use Rattle.archive_pages.specs.Serving.{Serves, Stays}
 use Rattle.archive_pages.specs.Answered.{IsAnswered, Reads, ByOutcome, written_of}
 use Rattle.archive_pages.specs.Running.{IsAnsweredFrom, AnswersFrom}
 use Rattle.archive_pages.specs.declared.faults.ServeFault.{ServeFault}
 use Rattle.archive_pages.specs.declared.faults.ServeFault.TheVariants.{Read, Write}
-use Rattle.archive_pages.proofs.ServingLemmas.{sends_as}
+use Rattle.archive_pages.proofs.ServingLemmas.{sends_as, ok_as}
 
 by_outcome : (result : Result ℕ ServeFault) {A B X Y : Type 0} → (A → B) → (X → Y) → ByOutcome result A X → ByOutcome result B Y
 by_outcome (Ok status) answered unread it = answered it
@@ -57,3 +58,24 @@ module _ {S : Type 0} (g : Ghosts S) (mid new : Store S) (archive : Archive) (re
       (reads told_before told_after ends_before ends_after (λ given all. IsAnswered g mid new rules day given all written_of before after result)
       (λ given all. IsAnsweredFrom archive rules day given all written_of before after result) (answered_from written_of before after result))
       (λ (given, told, none, silent, goes). (given, told, none, silent))
+
+-- ---- two requests
+
+module _ {S : Type 0} (g : Ghosts S) (old mid new : Store S) (first : Result ℕ ServeFault) (left : Stays g old mid first) (rules : List Rule) (day : ℤ)
+    (result : Result ℕ ServeFault) (told_before told_after : List ℕ) (ends_before ends_after : ℕ) (before after : List ℕ) where
+  -- of a store that remembers what it remembered before the first of them
+  pub answers_second : HasReturned g new → IsReady g old
+      → ByOutcome result (Reads told_before told_after ends_before ends_after (λ given all. IsAnswered g mid new rules day given all written_of before after result))
+      ((given : List ℕ) × (told_after ≡ told_before ++ given) × HasNoRequest given × (after ≡ before) × Goes g mid new (λ a b. b ≡ a))
+      → IfOk first (λ status. status ≢ 503 → AnswersFrom (archive_in g old) rules day told_before told_after ends_before ends_after before after result)
+  answers_second returned ready said = ok_as first (λ status goes other.
+      answers_from g mid new (archive_in g old) returned (λ was. let it = (goes other).1 was ready in (it.0, it.1)) rules day result
+      told_before told_after ends_before ends_after before after said) left.ready
+
+pub answers_first : {S : Type 0} (g : Ghosts S) (old mid : Store S) → HasReturned g mid → IsReady g old → (rules : List Rule) (day : ℤ)
+    (result : Result ℕ ServeFault) (told_before told_after : List ℕ) (ends_before ends_after : ℕ) (before after : List ℕ)
+    → ByOutcome result (Reads told_before told_after ends_before ends_after (λ given all. IsAnswered g old mid rules day given all written_of before after result))
+    ((given : List ℕ) × (told_after ≡ told_before ++ given) × HasNoRequest given × (after ≡ before) × Goes g old mid (λ a b. b ≡ a))
+    → AnswersFrom (archive_in g old) rules day told_before told_after ends_before ends_after before after result
+answers_first g old mid returned ready rules day result told_before told_after ends_before ends_after before after said =
+    answers_from g old mid (archive_in g old) returned (λ was. (ready, refl)) rules day result told_before told_after ends_before ends_after before after said

@@ -1,6 +1,6 @@
 -- What is found in a store, and then written.
-use Rattle.std.proofs.Common.{◌≡◌, ◌∙◌, ◌⊎◌, inl, inr, ℕ, List, ◌++◌, Option, Some, None, Result, Ok, Err, refl, sym, ap, subst}
-use Rattle.std.specs.Prelude.{MatchResult}
+use Rattle.std.proofs.Common.{◌≡◌, ◌∙◌, inl, inr, ℕ, List, Option, Some, None, Result, Ok, Err, refl, sym, ap, subst}
+use Rattle.std.specs.Prelude.{◌≢◌, MatchResult, IfOk}
 use Rattle.sqlite.specs.Store.{Ghosts}
 use Rattle.archive_machine.specs.Records.{Archive}
 use Rattle.archive_machine.specs.Commands.{Refusal}
@@ -12,7 +12,7 @@ use Rattle.archive_store.specs.declared.store.Store.{Store}
 use Rattle.archive_store.specs.declared.faults.StoreFault.{StoreFault}
 use Rattle.archive_store.proofs.Joins.{asked, ask_refused, ask_failed, stays_there, goes_on, goes_on_if_open, goes_as, goes_as_if_open}
 use Rattle.archive_pages.specs.Replies.{Reply, Sends, Is, unavailable}
-use Rattle.archive_pages.specs.Serving.{Serves}
+use Rattle.archive_pages.specs.Serving.{Serves, Stays}
 
 -- ---- a reply of which more is known
 
@@ -89,3 +89,45 @@ module _ {S : Type 0} (g : Ghosts S) where
     serves_either old new (Ok x) made Holds Says goes says sent =
         serves_found old new (made x) Says (goes_as g old new (λ a b. (b ≡ a) × Holds a x) (λ a b. (b ≡ a) × Says a (made x)) (λ a b h. (h.0, says a x h.1)) goes) sent
     serves_either old new (Err e) made Holds Says goes says sent = serves_none old new Says goes sent
+
+-- ---- what is left of the store
+
+pub ok_as : {E : Type 0} (result : Result ℕ E) {P Q : ℕ → Type 0} → ((n : ℕ) → P n → Q n) → IfOk result P → IfOk result Q
+ok_as (Ok n) weaker it = weaker n it
+ok_as (Err e) weaker it = tt
+
+module _ {S : Type 0} (g : Ghosts S) where
+  ready_at : {E : Type 0} (store : Store S) (result : Result ℕ E) → IfOk result (λ status. status ≢ 503 → Goes g store store (λ a b. b ≡ a))
+  ready_at store (Ok status) = λ other. stays_there g store
+  ready_at store (Err e) = tt
+
+  -- a store that nobody asked
+  pub stays_unasked : {E : Type 0} (store : Store S) (result : Result ℕ E) → Stays g store store result
+  stays_unasked store result = record { same = if_open g store store (λ a b. b ≡ a) (stays_there g store); ready = ready_at store result }
+
+  module _ {E : Type 0} (written : E → ℕ) (before after : List ℕ) (old new : Store S) (Says : Archive → Reply → Type 0) where
+    same_left : (result : Result ℕ E) → Serves g old new written Says before after result → GoesIfOpen g old new (λ a b. b ≡ a)
+    same_left result (inl goes) =
+        if_open g old new (λ a b. b ≡ a) (goes_as g old new (λ a b. (b ≡ a) × Sends written (Says a) before after result) (λ a b. b ≡ a) (λ a b h. h.0) goes)
+    same_left result (inr (goes, sent)) = goes
+
+    ready_left : (result : Result ℕ E) → Serves g old new written Says before after result
+        → IfOk result (λ status. status ≢ 503 → Goes g old new (λ a b. b ≡ a))
+    ready_left (Ok status) (inl goes) =
+        λ other. goes_as g old new (λ a b. (b ≡ a) × Sends written (Says a) before after (Ok status)) (λ a b. b ≡ a) (λ a b h. h.0) goes
+    ready_left (Ok status) (inr (goes, (reply, is, told))) = λ other. absurd (other (told.0 ∙ ap (λ (r : Reply). r.status) is))
+    ready_left (Err e) serves = tt
+
+    -- one that a reply was made of
+    pub stays_served : (result : Result ℕ E) → Serves g old new written Says before after result → Stays g old new result
+    stays_served result serves = record { same = same_left result serves; ready = ready_left result serves }
+
+  -- a store that was answered out of before
+  pub stays_after : {E : Type 0} (old mid new : Store S) (result : Result ℕ E) → Goes g old mid (λ a b. b ≡ a) → Stays g mid new result → Stays g old new result
+  stays_after old mid new result first second = record {
+    same = goes_as_if_open g old new (λ a c. (b : Archive) × (b ≡ a) × (c ≡ b)) (λ a c. c ≡ a) (λ a c (b, h, k). k ∙ h)
+        (goes_on_if_open g old mid new (λ a b. b ≡ a) (λ b c. c ≡ b) first second.same);
+    ready = ok_as result (λ status then other.
+        goes_as g old new (λ a c. (b : Archive) × (b ≡ a) × (c ≡ b)) (λ a c. c ≡ a) (λ a c (b, h, k). k ∙ h)
+        (goes_on g old mid new (λ a b. b ≡ a) (λ b c. c ≡ b) first (then other))) second.ready;
+  }

@@ -1,5 +1,5 @@
 -- Replies that are made of what a store remembers.
-use Rattle.std.specs.Prelude.{◌≡◌, ◌⊎◌, ℕ, List, Result, MatchResult}
+use Rattle.std.specs.Prelude.{◌≡◌, ◌≢◌, ◌⊎◌, ℕ, List, Result, MatchResult, IfOk}
 use Rattle.sqlite.specs.Store.{Ghosts}
 use Rattle.archive_machine.specs.Records.{Archive}
 use Rattle.archive_store.specs.Told.{Goes, GoesIfOpen}
@@ -19,3 +19,9 @@ module _ {S : Type 0} (g : Ghosts S) (old new : Store S) where
   Serves written Says before after result =
       Goes g old new (λ a b. (b ≡ a) × Sends written (Says a) before after result)
       ⊎ (GoesIfOpen g old new (λ a b. b ≡ a) × Sends written (λ reply. reply ≡ unavailable) before after result)
+
+  -- What an answer leaves of a store, whatever the request and the reply: the same archive, if the connection is still open; and
+  -- where a reply other than 503 went out, the store is ready for the next request.
+  pub record Stays {E : Type 0} (result : Result ℕ E) : Type 0 where
+    pub same : GoesIfOpen g old new (λ a b. b ≡ a)
+    pub ready : IfOk result (λ status. status ≢ 503 → Goes g old new (λ a b. b ≡ a))

@@ -4,6 +4,7 @@ ghost use Rattle.httparse.specs.Grammar.{HasNoRequest};
 ghost use Rattle.archive_store.specs.Told.{Goes};
 ghost use Rattle.archive_requests.specs.Reading.{IsRequestAs};
 ghost use Rattle.archive_pages.specs.Answered.{ByOutcome, IsAnswered, Reads, written_of};
+ghost use Rattle.archive_pages.specs.Serving.{Stays};
 
 use crate::faults::ServeFault;
 use crate::paths::answer_request;
@@ -11,8 +12,8 @@ use crate::replies::Failure;
 use crate::writing::write_failure;
 use archive_requests::{MOST_BYTES, RequestRead, read_request};
 use archive_store::Store;
+use civil_time::Day;
 use http::StatusCode;
-use mail_core::Day;
 use mbox_core::device::{Sink, Source, WriteFault};
 use policy_core::Policy;
 use sqlite::Alter;
@@ -30,7 +31,9 @@ fn answer_read<T: Threader, S: Alter, W: Sink>(
     output: &mut W,
 ) -> Result<StatusCode, WriteFault>
     ensures answered { (given more : List ℕ) → IsRequestAs given (given ++ more) read.now
-        → IsAnswered S.Store store.old store.new policy.now day given (given ++ more) (λ e. e.written) (W.told output.old) (W.told output.new) result }
+        → IsAnswered S.Store store.old store.new policy.now day given (given ++ more)
+        (λ e. e.written) (W.told output.old) (W.told output.new) result }
+    ensures stays { Stays S.Store store.old store.new result }
     ensures quiet { OnOk result (W.failures output.new ≡ W.failures output.old) }
     ensures cause { OnErr result (W.failures output.old < W.failures output.new) }
 {
@@ -43,9 +46,11 @@ fn answer_read<T: Threader, S: Alter, W: Sink>(
     }
 }
 
-/// Answers one request: reads its head from `input`, writes the reply to `output`, and answers the status of the reply, which went
-/// out whole. The store stays as it is. S1 where the input failed before it told a head: nothing was written. S2 where the
-/// output failed. Where memory or the database refuses before the first byte of the reply, the reply is 503.
+/// Answers one request: reads its head from `input`, writes the reply to `output`, and answers the
+/// status of the reply, which went out whole. The store stays as it is, and the next request can
+/// follow. S1 where the input failed before it told a head: nothing was written. S2 where the
+/// output failed. Where memory or the database refuses before the first byte of the reply, the
+/// reply is 503.
 pub fn answer<T: Threader, S: Alter, R: Source, W: Sink>(
     store: &mut Store<S>,
     alloc: Global,
@@ -57,13 +62,19 @@ pub fn answer<T: Threader, S: Alter, R: Source, W: Sink>(
 ) -> Result<StatusCode, ServeFault>
     ensures answered { ByOutcome result
         (Reads (R.told input.old) (R.told input.new) (R.ends input.old) (R.ends input.new)
-        (λ given all. IsAnswered S.Store store.old store.new policy.now day given all written_of (W.told output.old) (W.told output.new) result))
-        ((given : List ℕ) × (R.told input.new ≡ R.told input.old ++ given) × HasNoRequest given × (W.told output.new ≡ W.told output.old)
+        (λ given all. IsAnswered S.Store store.old store.new policy.now day given all written_of
+        (W.told output.old) (W.told output.new) result))
+        ((given : List ℕ) × (R.told input.new ≡ R.told input.old ++ given) × HasNoRequest given
+        × (W.told output.new ≡ W.told output.old)
         × Goes S.Store store.old store.new (λ a b. b ≡ a)) }
-    ensures quiet { OnOk result ((R.failures input.new ≡ R.failures input.old) × (W.failures output.new ≡ W.failures output.old)) }
+    ensures stays { Stays S.Store store.old store.new result }
+    ensures quiet { OnOk result ((R.failures input.new ≡ R.failures input.old)
+        × (W.failures output.new ≡ W.failures output.old)) }
     ensures cause { IfErr result (λ fault. ByOutcome result
-        ((R.failures input.new ≡ R.failures input.old) × (W.failures output.old < W.failures output.new))
-        ((R.failures input.old < R.failures input.new) × (W.failures output.new ≡ W.failures output.old))) }
+        ((R.failures input.new ≡ R.failures input.old)
+        × (W.failures output.old < W.failures output.new))
+        ((R.failures input.old < R.failures input.new)
+        × (W.failures output.new ≡ W.failures output.old))) }
 {
     let mut buffer = [0; MOST_BYTES];
     let Ok(read) = read_request(input, &mut buffer) else {

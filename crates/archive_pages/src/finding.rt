@@ -20,7 +20,8 @@ pub(crate) fn find_person<S: Alter>(
     store: &mut Store<S>,
     token: &str,
 ) -> Result<Option<String>, Unavailable>
-    ensures { Finds S.Store store.old store.new result (λ a name. option_map string_bytes name ≡ person_of_token a token.now) }
+    ensures { Finds S.Store store.old store.new result
+        (λ a name. option_map string_bytes name ≡ person_of_token a token.now) }
 {
     match store.person_of_token(token) {
         Ok(name) => Ok(name),
@@ -33,7 +34,8 @@ pub(crate) fn find_lists<S: Alter>(
     store: &mut Store<S>,
     alloc: Global,
 ) -> Result<Reply<'static>, Unavailable>
-    ensures { Finds S.Store store.old store.new result (λ a reply. reply_made reply ≡ page_reply (lists_page (list_names a))) }
+    ensures { Finds S.Store store.old store.new result
+        (λ a reply. reply_made reply ≡ page_reply (lists_page (list_names a))) }
 {
     let names = match store.lists(alloc) {
         Ok(names) => names,
@@ -53,7 +55,8 @@ pub(crate) fn find_message<'p, S: Alter>(
     key: &str,
 ) -> Result<Reply<'p>, Unavailable>
     ensures { Finds S.Store store.old store.new result
-        (λ a reply. reply_made reply ≡ listed_reply a ask.entry.now.list (keyed_reply a ask.entry.now key.now)) }
+        (λ a reply. reply_made reply ≡ listed_reply a ask.entry.now.list
+        (keyed_reply a ask.entry.now key.now)) }
 {
     let Some(key) = Key::read(key) else {
         return Ok(Reply::Failed(Failure::NotFound));

@@ -1,33 +1,39 @@
-//! Laws of the replies: each contract is a law over the definitions of `specs/` alone, and no call does anything.
+//! Laws of the replies: each contract is a law over the definitions of `specs/` alone, and no call
+//! does anything.
 ghost use Rattle.std.specs.Prelude.{ℤ, List};
 ghost use Rattle.httparse.specs.Grammar.{RequestHead};
 ghost use Rattle.policy_core.specs.Rules.{Rule};
 ghost use Rattle.archive_machine.specs.Records.{Archive};
 ghost use Rattle.archive_pages.specs.Laws.{EqualViews, ServesWhatIsAllowed, DeniesWhatIsDenied, ShowsWhatIsAllowed};
 
-/// Where two archives have the same list names, a request's token is a person's in both or in neither, and the readers' views
-/// of the list are equal, the replies are equal byte for byte, but where one message is asked for by its key.
+/// Where two archives have the same list names, a request's token is a person's in both or in
+/// neither, and the readers' views of the list are equal, the replies are equal byte for byte, but
+/// where one message is asked for by its key.
 #[tactic(auto, using(crate::proofs::LawLemmas::equal_views))]
 pub fn equal_views()
     ensures { EqualViews }
 {}
 
-/// A message is served, whole, exactly where the list holds it and the first rule that fits allows it.
+/// A message is served, whole, exactly where the list holds it and the first rule that fits allows
+/// it.
 #[tactic(auto, using(crate::proofs::AccessLaws::serves))]
 pub fn what_is_allowed_is_served()
-    ensures { (archive : Archive) (rules : List Rule) (day : ℤ) (head : RequestHead) → ServesWhatIsAllowed archive rules day head }
+    ensures { (archive : Archive) (rules : List Rule) (day : ℤ) (head : RequestHead)
+        → ServesWhatIsAllowed archive rules day head }
 {}
 
-/// 403 is answered exactly to a request for a message that the list holds and the policy denies, with the name of the first rule
-/// that fits, and `default` where none fits.
+/// 403 is answered exactly to a request for a message that the list holds and the policy denies,
+/// with the name of the first rule that fits, and `default` where none fits.
 #[tactic(auto, using(crate::proofs::AccessLaws::denies))]
 pub fn what_is_denied_is_denied_by_its_rule()
-    ensures { (archive : Archive) (rules : List Rule) (day : ℤ) (head : RequestHead) → DeniesWhatIsDenied archive rules day head }
+    ensures { (archive : Archive) (rules : List Rule) (day : ℤ) (head : RequestHead)
+        → DeniesWhatIsDenied archive rules day head }
 {}
 
-/// Month, author, threads, thread and mbox are the results of RFC 5256 and RFC 4155 over the messages that the policy allows,
-/// alone.
+/// Month, author, threads, thread and mbox are the results of RFC 5256 and RFC 4155 over the
+/// messages that the policy allows, alone.
 #[tactic(auto, using(crate::proofs::AccessLaws::shows))]
 pub fn results_are_of_what_is_allowed()
-    ensures { (archive : Archive) (rules : List Rule) (day : ℤ) (head : RequestHead) → ShowsWhatIsAllowed archive rules day head }
+    ensures { (archive : Archive) (rules : List Rule) (day : ℤ) (head : RequestHead)
+        → ShowsWhatIsAllowed archive rules day head }
 {}

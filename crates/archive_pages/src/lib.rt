@@ -4,6 +4,7 @@
 mod answering;
 mod faults;
 mod finding;
+mod following;
 pub mod laws;
 mod listing;
 mod paths;
@@ -14,4 +15,5 @@ mod writing;
 
 pub use answering::answer;
 pub use faults::ServeFault;
+pub use following::answer_two;
 pub use running::{run_and_answer, run_and_answer_in_memory};

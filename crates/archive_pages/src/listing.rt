@@ -12,7 +12,7 @@ use archive_desk::{DeskFault, author, month, thread, threads};
 use archive_html::{author_page, month_page, thread_page, threads_page};
 use archive_results::Ask;
 use archive_store::{Key, Store};
-use mail_core::Month;
+use civil_time::Month;
 use sqlite::Alter;
 use std::alloc::Global;
 use thread_core::Threader;
@@ -25,7 +25,8 @@ pub(crate) fn find_month<S: Alter>(
     text: &str,
 ) -> Result<Reply<'static>, Unavailable>
     ensures { Finds S.Store store.old store.new result
-        (λ a reply. reply_made reply ≡ listed_reply a ask.now.list (month_reply ask.now.list text.now (shown_view a ask.now))) }
+        (λ a reply. reply_made reply ≡ listed_reply a ask.now.list
+        (month_reply ask.now.list text.now (shown_view a ask.now))) }
 {
     let Some(asked) = Month::read(text.as_bytes()) else {
         return Ok(Reply::Failed(Failure::NotFound));
@@ -48,7 +49,9 @@ pub(crate) fn find_author<S: Alter>(
     key: &[u8],
 ) -> Result<Reply<'static>, Unavailable>
     ensures { Finds S.Store store.old store.new result
-        (λ a reply. reply_made reply ≡ listed_reply a ask.now.list (page_reply (author_page ask.now.list key.now (author_lines key.now (shown_view a ask.now))))) }
+        (λ a reply. reply_made reply ≡ listed_reply a ask.now.list
+        (page_reply (author_page ask.now.list key.now
+        (author_lines key.now (shown_view a ask.now))))) }
 {
     match author(store, alloc, ask, key) {
         Ok(lines) => match author_page(alloc, ask.list, key, &lines) {
@@ -68,7 +71,8 @@ pub(crate) fn find_threads<T: Threader, S: Alter>(
     threader: &T,
 ) -> Result<Reply<'static>, Unavailable>
     ensures { Finds S.Store store.old store.new result
-        (λ a reply. reply_made reply ≡ listed_reply a ask.now.list (page_reply (threads_page ask.now.list (tree_lines (shown_view a ask.now))))) }
+        (λ a reply. reply_made reply ≡ listed_reply a ask.now.list
+        (page_reply (threads_page ask.now.list (tree_lines (shown_view a ask.now))))) }
 {
     match threads(store, alloc, ask, threader) {
         Ok(rows) => match threads_page(alloc, ask.list, &rows) {
@@ -89,7 +93,8 @@ pub(crate) fn find_thread<T: Threader, S: Alter>(
     key: &str,
 ) -> Result<Reply<'static>, Unavailable>
     ensures { Finds S.Store store.old store.new result
-        (λ a reply. reply_made reply ≡ listed_reply a ask.now.list (thread_reply ask.now.list key.now (shown_view a ask.now))) }
+        (λ a reply. reply_made reply ≡ listed_reply a ask.now.list
+        (thread_reply ask.now.list key.now (shown_view a ask.now))) }
 {
     let Some(key) = Key::read(key) else {
         return Ok(Reply::Failed(Failure::NotFound));

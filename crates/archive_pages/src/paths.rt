@@ -4,8 +4,11 @@ ghost use Rattle.std.specs.Option.{option_map_or};
 ghost use Rattle.archive_requests.specs.Asked.{named_request};
 ghost use Rattle.archive_requests.specs.Routing.{named_route};
 ghost use Rattle.archive_results.specs.Access.{name_of};
-ghost use Rattle.archive_pages.specs.Answers.{asking, path_reply, reader_of, request_reply, route_reply};
-ghost use Rattle.archive_pages.specs.Replies.{unauthorized};
+ghost use Rattle.percent_encoding.specs.Percent.{percent_decode};
+ghost use Rattle.archive_html.specs.Pages.{author_page};
+ghost use Rattle.archive_results.specs.Results.{author_lines};
+ghost use Rattle.archive_pages.specs.Answers.{asking, listed_reply, path_reply, reader_of, request_reply, route_reply, shown_view};
+ghost use Rattle.archive_pages.specs.Replies.{page_reply, unauthorized};
 ghost use Rattle.archive_pages.specs.Serving.{Serves};
 
 use crate::finding::find_person;
@@ -18,13 +21,47 @@ use crate::writing::write_failure;
 use archive_requests::{Request, Route, decoded, route_of};
 use archive_results::{Ask, Reader};
 use archive_store::Store;
+use civil_time::Day;
 use http::StatusCode;
-use mail_core::Day;
 use mbox_core::device::{Sink, WriteFault};
 use policy_core::Policy;
 use sqlite::Alter;
 use std::alloc::Global;
 use thread_core::Threader;
+
+/// What a reader asks of a list.
+fn ask_of<'a>(policy: &'a Policy, reader: Reader<'a>, day: Day, list: &'a str) -> Ask<'a>
+    ensures { result ≡ asking policy.now day (name_of reader.entry) list.now }
+{
+    Ask {
+        policy,
+        reader,
+        list,
+        day,
+    }
+}
+
+/// Answers the page of the author whose key the path has with escapes. 503 where there is no memory
+/// for the key without them.
+fn answer_escaped_author<S: Alter, W: Sink>(
+    store: &mut Store<S>,
+    alloc: Global,
+    ask: &Ask<'_>,
+    author: &str,
+    output: &mut W,
+) -> Result<StatusCode, WriteFault>
+    ensures sent { Serves S.Store store.old store.new (λ e. e.written)
+        (λ a reply. let key = percent_decode author.now in reply ≡ listed_reply a ask.now.list
+        (page_reply (author_page ask.now.list key (author_lines key (shown_view a ask.now)))))
+        (W.told output.old) (W.told output.new) result }
+    ensures quiet { OnOk result (W.failures output.new ≡ W.failures output.old) }
+    ensures cause { OnErr result (W.failures output.old < W.failures output.new) }
+{
+    match decoded(alloc, author) {
+        Ok(author) => answer_author(store, alloc, ask, &author, output),
+        Err(_) => write_failure(output, Failure::Unavailable),
+    }
+}
 
 /// Answers what a route leads to.
 fn answer_route<T: Threader, S: Alter, W: Sink>(
@@ -38,67 +75,36 @@ fn answer_route<T: Threader, S: Alter, W: Sink>(
     output: &mut W,
 ) -> Result<StatusCode, WriteFault>
     ensures sent { Serves S.Store store.old store.new (λ e. e.written)
-        (λ a reply. reply ≡ route_reply a (asking policy.now day (name_of reader.entry)) (named_route route.now)) (W.told output.old) (W.told output.new) result }
+        (λ a reply. reply ≡ route_reply a (asking policy.now day (name_of reader.entry))
+        (named_route route.now))
+        (W.told output.old) (W.told output.new) result }
     ensures quiet { OnOk result (W.failures output.new ≡ W.failures output.old) }
     ensures cause { OnErr result (W.failures output.old < W.failures output.new) }
 {
     match route {
         Route::Lists => answer_lists(store, alloc, output),
         Route::Message { list, key } => {
-            let ask = Ask {
-                policy,
-                reader,
-                list,
-                day,
-            };
+            let ask = ask_of(policy, reader, day, list);
             answer_message(store, alloc, &ask, key, output)
         }
         Route::Month { list, month } => {
-            let ask = Ask {
-                policy,
-                reader,
-                list,
-                day,
-            };
+            let ask = ask_of(policy, reader, day, list);
             answer_month(store, alloc, &ask, month, output)
         }
         Route::Threads { list } => {
-            let ask = Ask {
-                policy,
-                reader,
-                list,
-                day,
-            };
+            let ask = ask_of(policy, reader, day, list);
             answer_threads(store, alloc, &ask, threader, output)
         }
         Route::Thread { list, key } => {
-            let ask = Ask {
-                policy,
-                reader,
-                list,
-                day,
-            };
+            let ask = ask_of(policy, reader, day, list);
             answer_thread(store, alloc, &ask, threader, key, output)
         }
         Route::Author { list, author } => {
-            let ask = Ask {
-                policy,
-                reader,
-                list,
-                day,
-            };
-            match decoded(alloc, author) {
-                Ok(author) => answer_author(store, alloc, &ask, &author, output),
-                Err(_) => write_failure(output, Failure::Unavailable),
-            }
+            let ask = ask_of(policy, reader, day, list);
+            answer_escaped_author(store, alloc, &ask, author, output)
         }
         Route::Mbox { list } => {
-            let ask = Ask {
-                policy,
-                reader,
-                list,
-                day,
-            };
+            let ask = ask_of(policy, reader, day, list);
             answer_mbox(store, alloc, &ask, output)
         }
     }
@@ -115,7 +121,8 @@ fn answer_path<T: Threader, S: Alter, W: Sink>(
     path: &str,
     output: &mut W,
 ) -> Result<StatusCode, WriteFault>
-    ensures sent { Serves S.Store store.old store.new (λ e. e.written) (λ a reply. reply ≡ path_reply a policy.now day path.now (name_of reader.entry))
+    ensures sent { Serves S.Store store.old store.new (λ e. e.written)
+        (λ a reply. reply ≡ path_reply a policy.now day path.now (name_of reader.entry))
         (W.told output.old) (W.told output.new) result }
     ensures quiet { OnOk result (W.failures output.new ≡ W.failures output.old) }
     ensures cause { OnErr result (W.failures output.old < W.failures output.new) }
@@ -141,7 +148,9 @@ fn answer_holder<T: Threader, S: Alter, W: Sink>(
     output: &mut W,
 ) -> Result<StatusCode, WriteFault>
     ensures sent { Serves S.Store store.old store.new (λ e. e.written)
-        (λ a reply. reply ≡ option_map_or (path_reply a policy.now day path.now) (reader_of a (Some token.now)) unauthorized) (W.told output.old) (W.told output.new) result }
+        (λ a reply. reply ≡ option_map_or (path_reply a policy.now day path.now)
+        (reader_of a (Some token.now)) unauthorized) (W.told output.old)
+        (W.told output.new) result }
     ensures quiet { OnOk result (W.failures output.new ≡ W.failures output.old) }
     ensures cause { OnErr result (W.failures output.old < W.failures output.new) }
 {
@@ -172,7 +181,8 @@ pub(crate) fn answer_request<T: Threader, S: Alter, W: Sink>(
     output: &mut W,
 ) -> Result<StatusCode, WriteFault>
     ensures sent { Serves S.Store store.old store.new (λ e. e.written)
-        (λ a reply. reply ≡ request_reply a policy.now day (named_request request.now)) (W.told output.old) (W.told output.new) result }
+        (λ a reply. reply ≡ request_reply a policy.now day (named_request request.now))
+        (W.told output.old) (W.told output.new) result }
     ensures quiet { OnOk result (W.failures output.new ≡ W.failures output.old) }
     ensures cause { OnErr result (W.failures output.old < W.failures output.new) }
 {

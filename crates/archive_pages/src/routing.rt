@@ -32,8 +32,10 @@ fn write_found<W: Sink>(
     found: &Result<Reply<'_>, Unavailable>,
 ) -> Result<StatusCode, WriteFault>
     ensures sent { MatchResult found.now
-        (λ reply. Sends (λ e. e.written) (Is (reply_made reply)) (W.told output.old) (W.told output.new) result)
-        (λ _. Sends (λ e. e.written) (λ reply. reply ≡ unavailable) (W.told output.old) (W.told output.new) result) }
+        (λ reply. Sends (λ e. e.written) (Is (reply_made reply)) (W.told output.old)
+        (W.told output.new) result)
+        (λ _. Sends (λ e. e.written) (λ reply. reply ≡ unavailable) (W.told output.old)
+        (W.told output.new) result) }
     ensures quiet { OnOk result (W.failures output.new ≡ W.failures output.old) }
     ensures cause { OnErr result (W.failures output.old < W.failures output.new) }
 {
@@ -49,7 +51,8 @@ pub(crate) fn answer_lists<S: Alter, W: Sink>(
     alloc: Global,
     output: &mut W,
 ) -> Result<StatusCode, WriteFault>
-    ensures sent { Serves S.Store store.old store.new (λ e. e.written) (λ a reply. reply ≡ page_reply (lists_page (list_names a)))
+    ensures sent { Serves S.Store store.old store.new (λ e. e.written)
+        (λ a reply. reply ≡ page_reply (lists_page (list_names a)))
         (W.told output.old) (W.told output.new) result }
     ensures quiet { OnOk result (W.failures output.new ≡ W.failures output.old) }
     ensures cause { OnErr result (W.failures output.old < W.failures output.new) }
@@ -67,7 +70,8 @@ pub(crate) fn answer_message<S: Alter, W: Sink>(
     output: &mut W,
 ) -> Result<StatusCode, WriteFault>
     ensures sent { Serves S.Store store.old store.new (λ e. e.written)
-        (λ a reply. reply ≡ listed_reply a ask.now.list (keyed_reply a ask.now key.now)) (W.told output.old) (W.told output.new) result }
+        (λ a reply. reply ≡ listed_reply a ask.now.list (keyed_reply a ask.now key.now))
+        (W.told output.old) (W.told output.new) result }
     ensures quiet { OnOk result (W.failures output.new ≡ W.failures output.old) }
     ensures cause { OnErr result (W.failures output.old < W.failures output.new) }
 {
@@ -83,7 +87,9 @@ pub(crate) fn answer_mbox<S: Alter, W: Sink>(
     output: &mut W,
 ) -> Result<StatusCode, WriteFault>
     ensures sent { Serves S.Store store.old store.new (λ e. e.written)
-        (λ a reply. reply ≡ listed_reply a ask.now.list (mbox_reply (export_text (shown_view a ask.now)))) (W.told output.old) (W.told output.new) result }
+        (λ a reply. reply ≡ listed_reply a ask.now.list
+        (mbox_reply (export_text (shown_view a ask.now)))) (W.told output.old)
+        (W.told output.new) result }
     ensures quiet { OnOk result (W.failures output.new ≡ W.failures output.old) }
     ensures cause { OnErr result (W.failures output.old < W.failures output.new) }
 {
@@ -112,7 +118,9 @@ pub(crate) fn answer_month<S: Alter, W: Sink>(
     output: &mut W,
 ) -> Result<StatusCode, WriteFault>
     ensures sent { Serves S.Store store.old store.new (λ e. e.written)
-        (λ a reply. reply ≡ listed_reply a ask.now.list (month_reply ask.now.list month.now (shown_view a ask.now))) (W.told output.old) (W.told output.new) result }
+        (λ a reply. reply ≡ listed_reply a ask.now.list
+        (month_reply ask.now.list month.now (shown_view a ask.now))) (W.told output.old)
+        (W.told output.new) result }
     ensures quiet { OnOk result (W.failures output.new ≡ W.failures output.old) }
     ensures cause { OnErr result (W.failures output.old < W.failures output.new) }
 {
@@ -129,7 +137,10 @@ pub(crate) fn answer_author<S: Alter, W: Sink>(
     output: &mut W,
 ) -> Result<StatusCode, WriteFault>
     ensures sent { Serves S.Store store.old store.new (λ e. e.written)
-        (λ a reply. reply ≡ listed_reply a ask.now.list (page_reply (author_page ask.now.list author.now (author_lines author.now (shown_view a ask.now))))) (W.told output.old) (W.told output.new) result }
+        (λ a reply. reply ≡ listed_reply a ask.now.list
+        (page_reply (author_page ask.now.list author.now
+        (author_lines author.now (shown_view a ask.now))))) (W.told output.old)
+        (W.told output.new) result }
     ensures quiet { OnOk result (W.failures output.new ≡ W.failures output.old) }
     ensures cause { OnErr result (W.failures output.old < W.failures output.new) }
 {
@@ -146,7 +157,9 @@ pub(crate) fn answer_threads<T: Threader, S: Alter, W: Sink>(
     output: &mut W,
 ) -> Result<StatusCode, WriteFault>
     ensures sent { Serves S.Store store.old store.new (λ e. e.written)
-        (λ a reply. reply ≡ listed_reply a ask.now.list (page_reply (threads_page ask.now.list (tree_lines (shown_view a ask.now))))) (W.told output.old) (W.told output.new) result }
+        (λ a reply. reply ≡ listed_reply a ask.now.list
+        (page_reply (threads_page ask.now.list (tree_lines (shown_view a ask.now)))))
+        (W.told output.old) (W.told output.new) result }
     ensures quiet { OnOk result (W.failures output.new ≡ W.failures output.old) }
     ensures cause { OnErr result (W.failures output.old < W.failures output.new) }
 {
@@ -164,7 +177,9 @@ pub(crate) fn answer_thread<T: Threader, S: Alter, W: Sink>(
     output: &mut W,
 ) -> Result<StatusCode, WriteFault>
     ensures sent { Serves S.Store store.old store.new (λ e. e.written)
-        (λ a reply. reply ≡ listed_reply a ask.now.list (thread_reply ask.now.list key.now (shown_view a ask.now))) (W.told output.old) (W.told output.new) result }
+        (λ a reply. reply ≡ listed_reply a ask.now.list
+        (thread_reply ask.now.list key.now (shown_view a ask.now))) (W.told output.old)
+        (W.told output.new) result }
     ensures quiet { OnOk result (W.failures output.new ≡ W.failures output.old) }
     ensures cause { OnErr result (W.failures output.old < W.failures output.new) }
 {

@@ -13,7 +13,8 @@ pub(crate) fn write_failure<W: Sink>(
     output: &mut W,
     failure: Failure,
 ) -> Result<StatusCode, WriteFault>
-    ensures sent { Sends (λ e. e.written) (λ r. r ≡ failure_reply failure) (W.told output.old) (W.told output.new) result }
+    ensures sent { Sends (λ e. e.written) (λ r. r ≡ failure_reply failure) (W.told output.old)
+        (W.told output.new) result }
     ensures quiet { OnOk result (W.failures output.new ≡ W.failures output.old) }
     ensures cause { OnErr result (W.failures output.old < W.failures output.new) }
 {
@@ -28,7 +29,8 @@ fn sized_head(
     content_type: &str,
     body: &[u8],
 ) -> Result<String, AllocError>
-    ensures { IfOk result (λ head. string_bytes head ≡ head_bytes (sized status content_type.now body.now)) }
+    ensures { IfOk result (λ head. string_bytes head
+        ≡ head_bytes (sized status content_type.now body.now)) }
 {
     let length = body.len();
     format!(in alloc;
@@ -36,7 +38,8 @@ fn sized_head(
     )
 }
 
-/// Writes a reply whose length its head tells. Where there is no memory for its head, 503 goes out in its place.
+/// Writes a reply whose length its head tells. Where there is no memory for its head, 503 goes out
+/// in its place.
 fn write_sized<W: Sink>(
     alloc: Global,
     output: &mut W,
@@ -44,7 +47,8 @@ fn write_sized<W: Sink>(
     content_type: &str,
     body: &[u8],
 ) -> Result<StatusCode, WriteFault>
-    ensures sent { Sends (λ e. e.written) (Is (sized status content_type.now body.now)) (W.told output.old) (W.told output.new) result }
+    ensures sent { Sends (λ e. e.written) (Is (sized status content_type.now body.now))
+        (W.told output.old) (W.told output.new) result }
     ensures quiet { OnOk result (W.failures output.new ≡ W.failures output.old) }
     ensures cause { OnErr result (W.failures output.old < W.failures output.new) }
 {
@@ -63,7 +67,8 @@ fn write_denial<W: Sink>(
     output: &mut W,
     rule: &str,
 ) -> Result<StatusCode, WriteFault>
-    ensures sent { Sends (λ e. e.written) (Is (forbidden rule.now)) (W.told output.old) (W.told output.new) result }
+    ensures sent { Sends (λ e. e.written) (Is (forbidden rule.now)) (W.told output.old)
+        (W.told output.new) result }
     ensures quiet { OnOk result (W.failures output.new ≡ W.failures output.old) }
     ensures cause { OnErr result (W.failures output.old < W.failures output.new) }
 {
@@ -80,14 +85,15 @@ fn write_denial<W: Sink>(
     }
 }
 
-/// Writes a reply, and answers its status. Where there is no memory for its head, 503 goes out in its place. Where the writer
-/// fails, exactly the first `written` bytes went out.
+/// Writes a reply, and answers its status. Where there is no memory for its head, 503 goes out in
+/// its place. Where the writer fails, exactly the first `written` bytes went out.
 pub(crate) fn write_reply<W: Sink>(
     alloc: Global,
     output: &mut W,
     reply: &Reply<'_>,
 ) -> Result<StatusCode, WriteFault>
-    ensures sent { Sends (λ e. e.written) (Is (reply_made reply.now)) (W.told output.old) (W.told output.new) result }
+    ensures sent { Sends (λ e. e.written) (Is (reply_made reply.now)) (W.told output.old)
+        (W.told output.new) result }
     ensures quiet { OnOk result (W.failures output.new ≡ W.failures output.old) }
     ensures cause { OnErr result (W.failures output.old < W.failures output.new) }
 {

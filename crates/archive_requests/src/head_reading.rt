@@ -59,7 +59,8 @@ fn read_more<R: Source>(
     filled: usize,
 ) -> Result<(usize, bool), DeviceFailure>
     requires { filled < length buffer.old }
-    ensures bytes { IfOk result (λ r. (piece : List ℕ) × (length piece ≡ r.0) × (filled + r.0 ≤ length buffer.old)
+    ensures bytes { IfOk result (λ r. (piece : List ℕ) × (length piece ≡ r.0)
+        × (filled + r.0 ≤ length buffer.old)
         × (R.told input.new ≡ R.told input.old ++ piece)
         × (take (filled + r.0) buffer.new ≡ take filled buffer.old ++ piece)
         × (r.1 ≡ false → HasNoLine piece)) }
@@ -73,21 +74,25 @@ fn read_more<R: Source>(
     Ok((count, line))
 }
 
-/// Reads a request's head into the beginning of the buffer. It stops at the head's end, at bytes that no head
-/// begins with, at the input's end, or where the buffer is full. A read that fails stops it with no answer.
+/// Reads a request's head into the beginning of the buffer. It stops at the head's end, at bytes
+/// that no head begins with, at the input's end, or where the buffer is full. A read that fails
+/// stops it with no answer.
 pub(crate) fn read_head<R: Source>(
     input: &mut R,
     buffer: &mut [u8; MOST_BYTES],
 ) -> Result<HeadRead, DeviceFailure>
-    ensures read { IfOk result (λ read. (given : List ℕ) × (R.told input.new ≡ R.told input.old ++ given)
+    ensures read { IfOk result (λ read. (given : List ℕ)
+        × (R.told input.new ≡ R.told input.old ++ given)
         × (given ≡ take (length given) buffer.new)
-        × (((R.ends input.new ≡ R.ends input.old + 1) × HasNoRequest given × IsReadAs given given read)
+        × (((R.ends input.new ≡ R.ends input.old + 1) × HasNoRequest given
+        × IsReadAs given given read)
         ⊎ ((R.ends input.new ≡ R.ends input.old) × IsFinal given read))) }
     ensures quiet { OnOk result (R.failures input.new ≡ R.failures input.old) }
 
     // A read failed, and before it there was no whole head.
     ensures fault { OnErr result (R.failures input.old < R.failures input.new) }
-    ensures part { OnErr result ((given : List ℕ) × (R.told input.new ≡ R.told input.old ++ given) × HasNoRequest given) }
+    ensures part { OnErr result ((given : List ℕ) × (R.told input.new ≡ R.told input.old ++ given)
+        × HasNoRequest given) }
 {
     let mut filled = 0;
     while filled < MOST_BYTES {

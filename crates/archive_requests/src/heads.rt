@@ -32,7 +32,8 @@ pub(crate) enum HeadRead {
     TooLarge,
 }
 
-/// What at most 8,192 bytes are, where no bytes that follow can change it. None: they hold no head yet.
+/// What at most 8,192 bytes are, where no bytes that follow can change it. None: they hold no head
+/// yet.
 pub(crate) fn settled(bytes: &[u8]) -> Option<HeadRead>
     requires { length bytes.now ≤ 8192 }
     ensures read { IfSome result (λ read. IsFinal bytes.now read) }

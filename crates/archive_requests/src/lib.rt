@@ -1,4 +1,5 @@
-//! Requests of HTTP/1.1: the head that some bytes begin with, what it asks for, who asks, and the route of its path.
+//! Requests of HTTP/1.1: the head that some bytes begin with, what it asks for, who asks, and the
+//! route of its path.
 //!
 //! It knows no store and no page.
 #![tactic(auto)]

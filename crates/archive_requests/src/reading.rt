@@ -19,22 +19,25 @@ pub enum RequestRead<'b> {
     TooLarge,
 }
 
-/// Reads a request's head into the beginning of the buffer. It stops at the head's end, at bytes that no head begins
-/// with, at the input's end, or where the buffer is full; what follows the head is no part of the request. A read that
-/// fails stops it with no answer.
+/// Reads a request's head into the beginning of the buffer. It stops at the head's end, at bytes
+/// that no head begins with, at the input's end, or where the buffer is full; what follows the head
+/// is no part of the request. A read that fails stops it with no answer.
 pub fn read_request<'b, R: Source>(
     input: &mut R,
     buffer: &'b mut [u8; MOST_BYTES],
 ) -> Result<RequestRead<'b>, DeviceFailure>
     // The input was read to its end, or what came settles the answer, whatever bytes follow.
-    ensures read { IfOk result (λ read. (given : List ℕ) × (R.told input.new ≡ R.told input.old ++ given)
-        × (((R.ends input.new ≡ R.ends input.old + 1) × HasNoRequest given × IsRequestAs given given read)
+    ensures read { IfOk result (λ read. (given : List ℕ)
+        × (R.told input.new ≡ R.told input.old ++ given)
+        × (((R.ends input.new ≡ R.ends input.old + 1) × HasNoRequest given
+        × IsRequestAs given given read)
         ⊎ ((R.ends input.new ≡ R.ends input.old) × IsSettled given read))) }
     ensures quiet { OnOk result (R.failures input.new ≡ R.failures input.old) }
 
     // A read failed, and before it there was no whole head.
     ensures fault { OnErr result (R.failures input.old < R.failures input.new) }
-    ensures part { OnErr result ((given : List ℕ) × (R.told input.new ≡ R.told input.old ++ given) × HasNoRequest given) }
+    ensures part { OnErr result ((given : List ℕ) × (R.told input.new ≡ R.told input.old ++ given)
+        × HasNoRequest given) }
 {
     match read_head(input, buffer)? {
         HeadRead::Whole(head) => {

@@ -40,7 +40,8 @@ impl Head {
     /// What the request asks for. `bytes` are those that the head was read from.
     pub(crate) fn request<'b>(&self, bytes: &'b [u8]) -> Request<'b>
         requires { IsRequestWithin bytes.now self.now.fields self.now.spans }
-        ensures { (h : RequestHead) → IsHeadAt bytes.now h self.now → named_request result ≡ request_of h }
+        ensures { (h : RequestHead) → IsHeadAt bytes.now h self.now
+            → named_request result ≡ request_of h }
     {
         let Ok(target) = str::from_utf8(self.spans.path.of(bytes)) else {
             return Request::Bad;

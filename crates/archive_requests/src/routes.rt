@@ -103,8 +103,8 @@ pub fn route_of<'p>(alloc: Global, path: &'p str) -> Result<Option<Route<'p>>, M
     Ok(found_route(&router, path))
 }
 
-/// The bytes that a percent-encoded text stands for (RFC 3986, section 2.1). An escape that is none stays as it is.
-/// `Memory`: theirs was refused.
+/// The bytes that a percent-encoded text stands for (RFC 3986, section 2.1). An escape that is none
+/// stays as it is. `Memory`: theirs was refused.
 pub fn decoded(alloc: Global, text: &str) -> Result<Vec<u8>, Memory>
     ensures { IfOk result (λ bytes. bytes.items ≡ percent_decode text.now) }
 {

@@ -2,7 +2,7 @@
 use archive_html::{author_page, lists_page, month_page, thread_page, threads_page};
 use archive_machine::Key;
 use archive_results::{Line, TreeLine};
-use mail_core::{Instant, Month};
+use civil_time::{Instant, Month};
 use std::alloc::Global;
 use std::test::Fail;
 

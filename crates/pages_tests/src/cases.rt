@@ -2,7 +2,7 @@
 use crate::{devices, pages, requests};
 use archive_pages::answer;
 use archive_store::Store;
-use mail_core::Day;
+use civil_time::Day;
 use mbox_core::device::{Counted, Tap};
 use policy_core::Policy;
 use sqlite::Alter;

@@ -1,4 +1,4 @@
-use Rattle.std.proofs.Common.{◌≡◌, ◌++◌, Ok, Err}
+use Rattle.std.proofs.Common.{◌++◌, Ok, Err}
 use Rattle.archive_pages.specs.Answered.{IsAnswered, written_of}
 use Rattle.archive_pages.specs.declared.faults.ServeFault.TheVariants.{Write}
 use Rattle.archive_pages.proofs.HeadReading.{said_either, as_status, as_fault}
@@ -27,3 +27,10 @@ returns-in-Err-clause-answered g c =
           (λ more is. as_fault g.S.Store c.args.store.now c.answer_read.new.store c.args.policy.now c.args.day told.0 (told.0 ++ more) (g.W.Sink.told c.args.output.now)
           (g.W.Sink.told c.answer_read.new.output) c.in-Err.fault (c.in-Err.ensures.answered told.0 more is)) told.2,
     )
+
+pub returns-in-Ok-answer_read-clause-stays : goal.returns-in-Ok-answer_read-clause-stays
+returns-in-Ok-answer_read-clause-stays g c =
+    let left = c.in-Ok-answer_read.ensures.stays in record { same = left.same; ready = left.ready }
+
+pub returns-in-Err-clause-stays : goal.returns-in-Err-clause-stays
+returns-in-Err-clause-stays g c = record { same = c.in-Err.ensures.stays.same; ready = tt }

@@ -1,5 +1,5 @@
 use Rattle.std.proofs.Common.{◌≡◌, ◌++◌, ◌∙◌, ℕ, List, ap, refl, subst, inl, ◌≤◌, length, take}
-use Rattle.archive_pages.specs.Replies.{sized, head_bytes}
+use Rattle.archive_pages.specs.Replies.{sized}
 use Rattle.archive_pages.proofs.writing.write_sized.Goals as goal
 
 pub returns-in-Ok-write_two-clause-sent : goal.returns-in-Ok-write_two-clause-sent
