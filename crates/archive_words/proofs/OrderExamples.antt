@@ -1,95 +1,254 @@
--- Worked examples of what words order: each row of the command line, and what is no order.
-use Rattle.std.proofs.Common.{◌≡◌, ℕ, ℤ, pos, List, [], ◌∷◌, Option, Some, None, true, false, refl, codes}
-use Rattle.clap.specs.Words.{takes}
-use Rattle.clap.proofs.OnLiterals.{clap_on_literals}
-use Rattle.mail_core.specs.Calendar.{days_before_year, days_of_months}
+-- Worked examples of what words order: each row of the command line, and words that order nothing.
+use Rattle.std.proofs.Common.{◌≡◌, pos, [], ◌∷◌, Some, None, true, false, refl, codes}
+use Rattle.clap.specs.Words.{fault_of, takes}
+use Rattle.clap.specs.declared.error.kind.ErrorKind.TheVariants as error
+use Rattle.civil_time.specs.Calendar.{days_before_year, days_of_months}
 use Rattle.policy_core.specs.declared.access.Standing.TheVariants.{Public, Member}
+use Rattle.archive_usage.proofs.OnLiterals.{archive_on_literals}
 use Rattle.archive_words.specs.declared.commands.GrantKind.TheVariants as kind
 use Rattle.archive_words.specs.declared.commands.WithdrawnBy.TheVariants as party
-use Rattle.archive_words.specs.declared.orders.Order.TheVariants.{Sift}
+use Rattle.archive_words.specs.declared.orders.Order.TheVariants.{Sift, Table, Import, Get, Export, Serve}
 use Rattle.archive_words.specs.Values.{list_add, person_add, grant, revoke, withdraw, restore, embargo, lift}
-use Rattle.archive_words.specs.Program.{archive_app, tables_app, person_app, bare_app, dated_app, sift_app, list_add_app, person_add_app, grant_app, revoke_app, withdraw_app, restore_app, embargo_app, lift_app}
-use Rattle.archive_words.specs.Orders.{ordered, table_ordered, age_of_text}
+use Rattle.archive_words.specs.Program.{archive_app}
+use Rattle.archive_words.specs.Orders.{ordered, number_up_to, age_of_text}
+
+-- 12131 is 20 March 2003, and 12132 the day after.
 
 -- ---- sift
 
 no_words : ordered [] ≡ Some (Sift (record { day = None; min_age = None; policy = None; list = codes "inbox"; standing = Public }))
-unfolding archive_app bare_app sift_app dated_app clap_on_literals
+unfolding archive_on_literals
 no_words = refl
+
+no_words_taken : takes archive_app [] ≡ true
+unfolding archive_on_literals
+no_words_taken = refl
 
 by_age : ordered (codes "sift" ∷ codes "--min-age" ∷ codes "10" ∷ codes "--standing=member" ∷ [])
     ≡ Some (Sift (record { day = None; min_age = Some 10; policy = None; list = codes "inbox"; standing = Member }))
-unfolding archive_app bare_app sift_app dated_app clap_on_literals age_of_text
+unfolding archive_on_literals number_up_to
 by_age = refl
 
-no_age : ordered (codes "sift" ∷ codes "--min-age" ∷ codes "x" ∷ []) ≡ None
-unfolding archive_app bare_app sift_app dated_app clap_on_literals age_of_text
-no_age = refl
-
-no_words_taken : takes archive_app [] ≡ true
-unfolding archive_app bare_app sift_app dated_app clap_on_literals
-no_words_taken = refl
-
-near_miss : takes archive_app (codes "shift" ∷ []) ≡ false
-unfolding archive_app bare_app sift_app dated_app clap_on_literals
-near_miss = refl
+by_policy : ordered (codes "sift" ∷ codes "--policy" ∷ codes "p" ∷ codes "--list" ∷ codes "soc" ∷ codes "--day" ∷ codes "2003-03-20" ∷ [])
+    ≡ Some (Sift (record { day = Some (pos 12131); min_age = None; policy = Some (codes "p"); list = codes "soc"; standing = Public }))
+unfolding archive_on_literals days_before_year days_of_months
+by_policy = refl
 
 -- ---- commands over a database
 
-adds_list : table_ordered (codes "list-add" ∷ codes "--db" ∷ codes "f" ∷ codes "soc" ∷ [])
-    ≡ Some (record { file = codes "f"; command = list_add (codes "soc") })
-unfolding tables_app person_app bare_app list_add_app person_add_app grant_app revoke_app withdraw_app restore_app embargo_app lift_app clap_on_literals
+adds_list : ordered (codes "list-add" ∷ codes "--db" ∷ codes "f" ∷ codes "soc" ∷ [])
+    ≡ Some (Table (record { file = codes "f"; command = list_add (codes "soc") }))
+unfolding archive_on_literals
 adds_list = refl
 
-adds_person : table_ordered (codes "person-add" ∷ codes "--db" ∷ codes "f" ∷ codes "anna" ∷ codes "t" ∷ [])
-    ≡ Some (record { file = codes "f"; command = person_add (codes "anna") (codes "t") })
-unfolding tables_app person_app bare_app list_add_app person_add_app grant_app revoke_app withdraw_app restore_app embargo_app lift_app clap_on_literals
+adds_person : ordered (codes "person-add" ∷ codes "--db" ∷ codes "f" ∷ codes "anna" ∷ codes "t" ∷ [])
+    ≡ Some (Table (record { file = codes "f"; command = person_add (codes "anna") (codes "t") }))
+unfolding archive_on_literals
 adds_person = refl
 
--- 12131 is 20 March 2003, and 12132 the day after
-grants : table_ordered (codes "grant" ∷ codes "anna" ∷ codes "soc" ∷ codes "member" ∷ codes "2003-03-20" ∷ codes "2003-03-21" ∷ codes "--db=f" ∷ [])
-    ≡ Some (record { file = codes "f"; command = grant (codes "anna") (codes "soc") kind.Member (pos 12131) (pos 12132) })
-unfolding tables_app person_app bare_app list_add_app person_add_app grant_app revoke_app withdraw_app restore_app embargo_app lift_app clap_on_literals days_before_year days_of_months
+grants : ordered (codes "grant" ∷ codes "anna" ∷ codes "soc" ∷ codes "member" ∷ codes "2003-03-20" ∷ codes "2003-03-21" ∷ codes "--db=f" ∷ [])
+    ≡ Some (Table (record { file = codes "f"; command = grant (codes "anna") (codes "soc") kind.Member (pos 12131) (pos 12132) }))
+unfolding archive_on_literals days_before_year days_of_months
 grants = refl
 
-no_kind : table_ordered (codes "grant" ∷ codes "anna" ∷ codes "soc" ∷ codes "owner" ∷ codes "2003-03-20" ∷ codes "2003-03-21" ∷ codes "--db=f" ∷ [])
-    ≡ None
-unfolding tables_app person_app bare_app list_add_app person_add_app grant_app revoke_app withdraw_app restore_app embargo_app lift_app clap_on_literals days_before_year days_of_months
-no_kind = refl
-
-revokes : table_ordered (codes "revoke" ∷ codes "--db" ∷ codes "f" ∷ codes "anna" ∷ codes "soc" ∷ codes "subscriber" ∷ [])
-    ≡ Some (record { file = codes "f"; command = revoke (codes "anna") (codes "soc") kind.Subscriber })
-unfolding tables_app person_app bare_app list_add_app person_add_app grant_app revoke_app withdraw_app restore_app embargo_app lift_app clap_on_literals
+revokes : ordered (codes "revoke" ∷ codes "--db" ∷ codes "f" ∷ codes "anna" ∷ codes "soc" ∷ codes "subscriber" ∷ [])
+    ≡ Some (Table (record { file = codes "f"; command = revoke (codes "anna") (codes "soc") kind.Subscriber }))
+unfolding archive_on_literals
 revokes = refl
 
-withdraws : table_ordered (codes "withdraw" ∷ codes "--db" ∷ codes "f" ∷ codes "soc" ∷ codes "k" ∷ codes "board" ∷ [])
-    ≡ Some (record { file = codes "f"; command = withdraw (codes "soc") (codes "k") party.Board })
-unfolding tables_app person_app bare_app list_add_app person_add_app grant_app revoke_app withdraw_app restore_app embargo_app lift_app clap_on_literals
+withdraws : ordered (codes "withdraw" ∷ codes "--db" ∷ codes "f" ∷ codes "soc" ∷ codes "k" ∷ codes "board" ∷ [])
+    ≡ Some (Table (record { file = codes "f"; command = withdraw (codes "soc") (codes "k") party.Board }))
+unfolding archive_on_literals
 withdraws = refl
 
-restores : table_ordered (codes "restore" ∷ codes "--db" ∷ codes "f" ∷ codes "soc" ∷ codes "k" ∷ [])
-    ≡ Some (record { file = codes "f"; command = restore (codes "soc") (codes "k") })
-unfolding tables_app person_app bare_app list_add_app person_add_app grant_app revoke_app withdraw_app restore_app embargo_app lift_app clap_on_literals
+restores : ordered (codes "restore" ∷ codes "--db" ∷ codes "f" ∷ codes "soc" ∷ codes "k" ∷ [])
+    ≡ Some (Table (record { file = codes "f"; command = restore (codes "soc") (codes "k") }))
+unfolding archive_on_literals
 restores = refl
 
-embargoes : table_ordered (codes "embargo" ∷ codes "--db" ∷ codes "f" ∷ codes "soc" ∷ codes "k" ∷ codes "2003-03-20" ∷ [])
-    ≡ Some (record { file = codes "f"; command = embargo (codes "soc") (codes "k") (pos 12131) })
-unfolding tables_app person_app bare_app list_add_app person_add_app grant_app revoke_app withdraw_app restore_app embargo_app lift_app clap_on_literals days_before_year days_of_months
+embargoes : ordered (codes "embargo" ∷ codes "--db" ∷ codes "f" ∷ codes "soc" ∷ codes "k" ∷ codes "2003-03-20" ∷ [])
+    ≡ Some (Table (record { file = codes "f"; command = embargo (codes "soc") (codes "k") (pos 12131) }))
+unfolding archive_on_literals days_before_year days_of_months
 embargoes = refl
 
-no_day : table_ordered (codes "embargo" ∷ codes "--db" ∷ codes "f" ∷ codes "soc" ∷ codes "k" ∷ codes "2003-02-29" ∷ []) ≡ None
-unfolding tables_app person_app bare_app list_add_app person_add_app grant_app revoke_app withdraw_app restore_app embargo_app lift_app clap_on_literals days_before_year days_of_months
-no_day = refl
-
-lifts : table_ordered (codes "lift" ∷ codes "--db" ∷ codes "f" ∷ codes "soc" ∷ codes "k" ∷ [])
-    ≡ Some (record { file = codes "f"; command = lift (codes "soc") (codes "k") })
-unfolding tables_app person_app bare_app list_add_app person_add_app grant_app revoke_app withdraw_app restore_app embargo_app lift_app clap_on_literals
+lifts : ordered (codes "lift" ∷ codes "--db" ∷ codes "f" ∷ codes "soc" ∷ codes "k" ∷ [])
+    ≡ Some (Table (record { file = codes "f"; command = lift (codes "soc") (codes "k") }))
+unfolding archive_on_literals
 lifts = refl
 
-without_file : takes tables_app (codes "lift" ∷ codes "soc" ∷ codes "k" ∷ []) ≡ false
-unfolding tables_app person_app bare_app list_add_app person_add_app grant_app revoke_app withdraw_app restore_app embargo_app lift_app clap_on_literals
+-- ---- mboxes and questions of a reader
+
+imports : ordered (codes "import" ∷ codes "--db" ∷ codes "f" ∷ codes "soc" ∷ codes "m" ∷ [])
+    ≡ Some (Import (record { file = codes "f"; list = codes "soc"; mbox = codes "m" }))
+unfolding archive_on_literals
+imports = refl
+
+gets : ordered (codes "get" ∷ codes "--db" ∷ codes "f" ∷ codes "--policy" ∷ codes "p" ∷ codes "--day" ∷ codes "2003-03-20" ∷ codes "--person" ∷ codes "anna" ∷ codes "soc" ∷ codes "k" ∷ [])
+    ≡ Some (Get (record {
+      asked = record { file = codes "f"; policy = codes "p"; day = Some (pos 12131); person = Some (codes "anna"); list = codes "soc" };
+      key = codes "k";
+    }))
+unfolding archive_on_literals days_before_year days_of_months
+gets = refl
+
+gets_as_nobody : ordered (codes "get" ∷ codes "soc" ∷ codes "k" ∷ codes "--policy" ∷ codes "p" ∷ codes "--db" ∷ codes "f" ∷ [])
+    ≡ Some (Get (record {
+      asked = record { file = codes "f"; policy = codes "p"; day = None; person = None; list = codes "soc" };
+      key = codes "k";
+    }))
+unfolding archive_on_literals
+gets_as_nobody = refl
+
+exports : ordered (codes "export" ∷ codes "--db" ∷ codes "f" ∷ codes "--policy" ∷ codes "p" ∷ codes "--person" ∷ codes "anna" ∷ codes "soc" ∷ [])
+    ≡ Some (Export (record { file = codes "f"; policy = codes "p"; day = None; person = Some (codes "anna"); list = codes "soc" }))
+unfolding archive_on_literals
+exports = refl
+
+-- ---- requests over HTTP
+
+serves : ordered (codes "serve" ∷ codes "--db" ∷ codes "f" ∷ codes "--policy" ∷ codes "p" ∷ codes "--port" ∷ codes "8080" ∷ codes "--count" ∷ codes "1000000" ∷ [])
+    ≡ Some (Serve (record { file = codes "f"; policy = codes "p"; day = None; port = 8080; count = 1000000 }))
+unfolding archive_on_literals number_up_to
+serves = refl
+
+serves_at_the_ends : ordered (codes "serve" ∷ codes "--db" ∷ codes "f" ∷ codes "--policy" ∷ codes "p" ∷ codes "--day" ∷ codes "2003-03-20" ∷ codes "--port" ∷ codes "65535" ∷ codes "--count" ∷ codes "0" ∷ [])
+    ≡ Some (Serve (record { file = codes "f"; policy = codes "p"; day = Some (pos 12131); port = 65535; count = 0 }))
+unfolding archive_on_literals days_before_year days_of_months number_up_to
+serves_at_the_ends = refl
+
+-- ---- values that are none of their kind
+
+no_age : ordered (codes "sift" ∷ codes "--min-age" ∷ codes "x" ∷ [])
+    ≡ None
+unfolding archive_on_literals number_up_to
+no_age = refl
+
+age_too_great : ordered (codes "sift" ∷ codes "--min-age" ∷ codes "36501" ∷ [])
+    ≡ None
+unfolding archive_on_literals number_up_to
+age_too_great = refl
+
+no_standing : ordered (codes "sift" ∷ codes "--standing" ∷ codes "owner" ∷ [])
+    ≡ None
+unfolding archive_on_literals
+no_standing = refl
+
+no_day : ordered (codes "embargo" ∷ codes "--db" ∷ codes "f" ∷ codes "soc" ∷ codes "k" ∷ codes "2003-02-29" ∷ [])
+    ≡ None
+unfolding archive_on_literals days_before_year days_of_months
+no_day = refl
+
+no_reading_day : ordered (codes "export" ∷ codes "--db" ∷ codes "f" ∷ codes "--policy" ∷ codes "p" ∷ codes "--day" ∷ codes "today" ∷ codes "soc" ∷ [])
+    ≡ None
+unfolding archive_on_literals
+no_reading_day = refl
+
+no_kind : ordered (codes "grant" ∷ codes "anna" ∷ codes "soc" ∷ codes "owner" ∷ codes "2003-03-20" ∷ codes "2003-03-21" ∷ codes "--db=f" ∷ [])
+    ≡ None
+unfolding archive_on_literals
+no_kind = refl
+
+no_party : ordered (codes "withdraw" ∷ codes "--db" ∷ codes "f" ∷ codes "soc" ∷ codes "k" ∷ codes "moderator" ∷ [])
+    ≡ None
+unfolding archive_on_literals
+no_party = refl
+
+port_too_great : ordered (codes "serve" ∷ codes "--db" ∷ codes "f" ∷ codes "--policy" ∷ codes "p" ∷ codes "--port" ∷ codes "65536" ∷ codes "--count" ∷ codes "1" ∷ [])
+    ≡ None
+unfolding archive_on_literals number_up_to
+port_too_great = refl
+
+count_too_great : ordered (codes "serve" ∷ codes "--db" ∷ codes "f" ∷ codes "--policy" ∷ codes "p" ∷ codes "--port" ∷ codes "1" ∷ codes "--count" ∷ codes "1000001" ∷ [])
+    ≡ None
+unfolding archive_on_literals number_up_to
+count_too_great = refl
+
+-- A value that is none of its kind is a fault of the words for this program alone; names and keys are any texts.
+
+age_is_any_text : fault_of archive_app (codes "sift" ∷ codes "--min-age" ∷ codes "x" ∷ []) ≡ []
+unfolding archive_on_literals number_up_to
+age_is_any_text = refl
+
+any_name : ordered (codes "list-add" ∷ codes "--db" ∷ codes "f" ∷ codes "S/1" ∷ [])
+    ≡ Some (Table (record { file = codes "f"; command = list_add (codes "S/1") }))
+unfolding archive_on_literals
+any_name = refl
+
+-- ---- numbers
+
+greatest_age : age_of_text (codes "36500") ≡ Some 36500
+unfolding number_up_to
+greatest_age = refl
+
+zeros_before : age_of_text (codes "007") ≡ Some 7
+unfolding number_up_to
+zeros_before = refl
+
+with_a_sign : age_of_text (codes "+7") ≡ None
+unfolding number_up_to
+with_a_sign = refl
+
+no_digit : age_of_text [] ≡ None
+unfolding number_up_to
+no_digit = refl
+
+-- ---- words that `clap` refuses
+
+near_miss : takes archive_app (codes "shift" ∷ []) ≡ false
+unfolding archive_on_literals
+near_miss = refl
+
+near_miss_is_no_command : fault_of archive_app (codes "shift" ∷ []) ≡ error.UnknownArgument ∷ error.InvalidSubcommand ∷ []
+unfolding archive_on_literals
+near_miss_is_no_command = refl
+
+without_file : fault_of archive_app (codes "lift" ∷ codes "soc" ∷ codes "k" ∷ []) ≡ error.MissingRequiredArgument ∷ []
+unfolding archive_on_literals
 without_file = refl
 
-without_key : takes tables_app (codes "lift" ∷ codes "--db" ∷ codes "f" ∷ codes "soc" ∷ []) ≡ false
-unfolding tables_app person_app bare_app list_add_app person_add_app grant_app revoke_app withdraw_app restore_app embargo_app lift_app clap_on_literals
+without_key : fault_of archive_app (codes "lift" ∷ codes "--db" ∷ codes "f" ∷ codes "soc" ∷ []) ≡ error.MissingRequiredArgument ∷ []
+unfolding archive_on_literals
 without_key = refl
+
+without_policy : fault_of archive_app (codes "export" ∷ codes "--db" ∷ codes "f" ∷ codes "soc" ∷ []) ≡ error.MissingRequiredArgument ∷ []
+unfolding archive_on_literals
+without_policy = refl
+
+without_count : fault_of archive_app (codes "serve" ∷ codes "--db" ∷ codes "f" ∷ codes "--policy" ∷ codes "p" ∷ codes "--port" ∷ codes "1" ∷ []) ≡ error.MissingRequiredArgument ∷ []
+unfolding archive_on_literals
+without_count = refl
+
+a_word_too_many : fault_of archive_app (codes "restore" ∷ codes "--db" ∷ codes "f" ∷ codes "soc" ∷ codes "k" ∷ codes "k" ∷ []) ≡ error.UnknownArgument ∷ []
+unfolding archive_on_literals
+a_word_too_many = refl
+
+option_of_another : fault_of archive_app (codes "import" ∷ codes "--db" ∷ codes "f" ∷ codes "--policy" ∷ codes "p" ∷ codes "soc" ∷ codes "m" ∷ []) ≡ error.UnknownArgument ∷ []
+unfolding archive_on_literals
+option_of_another = refl
+
+option_without_value : fault_of archive_app (codes "export" ∷ codes "--db" ∷ codes "f" ∷ codes "soc" ∷ codes "--policy" ∷ []) ≡ error.InvalidValue ∷ []
+unfolding archive_on_literals
+option_without_value = refl
+
+age_below_nothing : fault_of archive_app (codes "sift" ∷ codes "--min-age" ∷ codes "-1" ∷ []) ≡ error.UnknownArgument ∷ []
+unfolding archive_on_literals
+age_below_nothing = refl
+
+-- ---- help and the version
+
+help : fault_of archive_app (codes "--help" ∷ []) ≡ error.DisplayHelp ∷ []
+unfolding archive_on_literals
+help = refl
+
+-- `clap` says of its own word `help` that it may be followed by no name of a command
+help_word : fault_of archive_app (codes "help" ∷ []) ≡ error.DisplayHelp ∷ error.InvalidSubcommand ∷ []
+unfolding archive_on_literals
+help_word = refl
+
+help_of_export : fault_of archive_app (codes "export" ∷ codes "--help" ∷ []) ≡ error.DisplayHelp ∷ []
+unfolding archive_on_literals
+help_of_export = refl
+
+version : fault_of archive_app (codes "--version" ∷ []) ≡ error.DisplayVersion ∷ []
+unfolding archive_on_literals
+version = refl

@@ -1,5 +1,5 @@
 -- How the words' matches become an order.
-use Rattle.std.proofs.Common.{◌≡◌, ◌≢◌, ℕ, ◌<◌, ◌≤◌, nat_le, ◌&&◌, List, [], ◌∷◌, length, Bool, true, false, Option, Some, None, Result, Ok, Err, option_map, refl, codes, ◌∙◌, ap, arith}
+use Rattle.std.proofs.Common.{◌≡◌, ◌≢◌, ℕ, ◌<◌, ◌≤◌, nat_le, ◌&&◌, List, [], ◌∷◌, length, Bool, true, false, Option, Some, None, Result, Ok, Err, option_map, refl, ◌∙◌, ap, arith, inl, inr}
 use Rattle.std.proofs.lemmas.Option.{same_Some}
 use Rattle.std.proofs.lemmas.Bool.{le-leb}
 use Rattle.std.proofs.lemmas.Bool.Decides.{nat_tests}
@@ -9,21 +9,13 @@ use Rattle.std.proofs.lemmas.Str.Parse.{without_leading_plus_none}
 use Rattle.std.specs.List.{list_all}
 use Rattle.std.specs.Char.{is_ascii_digit}
 use Rattle.std.specs.Int.{IsInRange}
-use Rattle.std.specs.Str.{bytes_eq}
 use Rattle.std.specs.Str.Parse.{AllDigits, IsNumeral, ParsesUnsigned, digits_value, without_leading_plus}
-use Rattle.clap.specs.Words.{Row, Text, is_simple}
-use Rattle.clap.proofs.OnLiterals.{clap_on_literals}
-use Rattle.archive_words.specs.Program.{archive_app, tables_app, person_app, bare_app, dated_app, sift_app, list_add_app, person_add_app, grant_app, revoke_app, withdraw_app, restore_app, embargo_app, lift_app}
-use Rattle.archive_words.specs.Orders.{is_decimal, age_of_text}
-
--- the command line is of the kind whose matches `clap` gives as a function of the words
-pub simple : is_simple archive_app ≡ true
-unfolding archive_app bare_app sift_app dated_app clap_on_literals
-simple = refl
-
-pub tables_simple : is_simple tables_app ≡ true
-unfolding tables_app person_app bare_app list_add_app person_add_app grant_app revoke_app withdraw_app restore_app embargo_app lift_app clap_on_literals
-tables_simple = refl
+use Rattle.clap.specs.Words.{HasKind, Kinds, Row, Text, fault_of, kind_of}
+use Rattle.clap.specs.declared.error.Error.{Error}
+use Rattle.archive_words.specs.declared.orders.OrderStop.{OrderStop}
+use Rattle.archive_words.specs.declared.orders.OrderStop.TheVariants.{Help, Words, Memory}
+use Rattle.archive_words.specs.Program.{archive_app}
+use Rattle.archive_words.specs.Orders.{is_decimal, number_up_to, IsStopBy, IsStopOf}
 
 pub not_true : (b : Bool) → (b ≡ true → ⊥) → b ≡ false
 not_true true h = absurd (h refl)
@@ -40,7 +32,7 @@ pub found : {R : Type 0} (f : Option (Text × List Row) → R) (o : Option (Text
     → f o ≡ f (Some (n, rs))
 found f o n rs e = ap f e
 
--- ---- ages
+-- ---- numbers
 
 both : (b c : Bool) → (b && c) ≡ true → (b ≡ true) × (c ≡ true)
 both true true h = (refl, refl)
@@ -82,37 +74,52 @@ short (c ∷ cs) h = omega arith
 numeral : (text : List ℕ) → is_decimal text ≡ true → IsNumeral 10 (without_leading_plus text)
 numeral text h = rw (unsigned text h) (short text h, digits text (all_digits text h))
 
-pub age-not_decimal : (text : List ℕ) → is_decimal text ≡ false → None ≡ age_of_text text
-unfolding age_of_text
-age-not_decimal text h = rw h refl
+pub number-not_decimal : (greatest : ℕ) (text : List ℕ) → is_decimal text ≡ false → None ≡ number_up_to greatest text
+unfolding number_up_to
+number-not_decimal greatest text h = rw h refl
 
 value_ok : {E : Type 0} (text : List ℕ) (r : Result ℕ E) (n : ℕ) → ParsesUnsigned 32 10 text r → is_decimal text ≡ true → r ≡ Ok n
     → n ≡ digits_value 10 text
 value_ok text r n p h e = (OkIff-at_ok r _ _ n p e).1 ∙ ap (digits_value 10) (unsigned text h)
 
-pub age-in_range : {E : Type 0} (text : List ℕ) (r : Result ℕ E) (n : ℕ) → ParsesUnsigned 32 10 text r → is_decimal text ≡ true → r ≡ Ok n
-    → n ≤ 36500 → Some n ≡ age_of_text text
-unfolding age_of_text
-age-in_range text r n p h e low =
+pub number-in_range : {E : Type 0} (greatest : ℕ) (text : List ℕ) (r : Result ℕ E) (n : ℕ) → ParsesUnsigned 32 10 text r → is_decimal text ≡ true → r ≡ Ok n
+    → n ≤ greatest → Some n ≡ number_up_to greatest text
+unfolding number_up_to
+number-in_range greatest text r n p h e low =
     let v = value_ok text r n p h e in
-    rw (h, le-leb (digits_value 10 text) 36500 (omega (arith, v, low)), v) refl
+    rw (h, le-leb (digits_value 10 text) greatest (omega (arith, v, low)), v) refl
 
-pub age-too_great : {E : Type 0} (text : List ℕ) (r : Result ℕ E) (n : ℕ) → ParsesUnsigned 32 10 text r → is_decimal text ≡ true → r ≡ Ok n
-    → 36500 < n → None ≡ age_of_text text
-unfolding age_of_text
-age-too_great text r n p h e high =
+pub number-too_great : {E : Type 0} (greatest : ℕ) (text : List ℕ) (r : Result ℕ E) (n : ℕ) → ParsesUnsigned 32 10 text r → is_decimal text ≡ true → r ≡ Ok n
+    → greatest < n → None ≡ number_up_to greatest text
+unfolding number_up_to
+number-too_great greatest text r n p h e high =
     let v = value_ok text r n p h e in
-    rw (h, not_true (nat_le (digits_value 10 text) 36500) (λ t. absurd (omega (arith, v, high, leb-le (digits_value 10 text) 36500 t)))) refl
+    rw (h, not_true (nat_le (digits_value 10 text) greatest) (λ t. absurd (omega (arith, v, high, leb-le (digits_value 10 text) greatest t)))) refl
 
 -- a decimal text that does not fit 32 bits
-pub age-too_long : {E : Type 0} (text : List ℕ) (r : Result ℕ E) (e : E) → ParsesUnsigned 32 10 text r → is_decimal text ≡ true → r ≡ Err e
-    → None ≡ age_of_text text
-unfolding age_of_text
-age-too_long text r e p h is =
+pub number-too_long : {E : Type 0} (greatest : ℕ) (text : List ℕ) (r : Result ℕ E) (e : E) → greatest < 4294967296 → ParsesUnsigned 32 10 text r → is_decimal text ≡ true
+    → r ≡ Err e → None ≡ number_up_to greatest text
+unfolding number_up_to
+number-too_long greatest text r e room p h is =
     rw (
       h,
-      not_true (nat_le (digits_value 10 text) 36500) (λ t. OkIff-at_err r _ _ e p is (
+      not_true (nat_le (digits_value 10 text) greatest) (λ t. OkIff-at_err r _ _ e p is (
         numeral text h,
-        rw (unsigned text h) (let low : digits_value 10 text ≤ 36500 = leb-le (digits_value 10 text) 36500 t in omega (arith, low)),
+        rw (unsigned text h) (let low : digits_value 10 text ≤ greatest = leb-le (digits_value 10 text) greatest t in omega (arith, low, room)),
       )),
     ) refl
+
+-- ---- stops
+
+pub same_kinds : (ks ls : Kinds) (e : Error) → ks ≡ ls → HasKind ks e → HasKind ls e
+same_kinds ks ls e same has = rw (← same) has
+
+-- what stops the order, by a fault that `clap` has to tell
+pub stop_of_fault : (words : List Text) (e : Error) (stop : OrderStop) → HasKind (fault_of archive_app words) e → IsStopBy (kind_of e) stop → IsStopOf words stop
+stop_of_fault words e Memory has by = tt
+stop_of_fault words e (Help text) (inl none) (inl help) = cc
+stop_of_fault words e (Help text) (inl none) (inr version) = cc
+stop_of_fault words e (Help text) (inr among) (inl help) = inl (rw (← help) among)
+stop_of_fault words e (Help text) (inr among) (inr version) = inr (rw (← version) among)
+stop_of_fault words e (Words text) (inl none) by = absurd (by.0 none)
+stop_of_fault words e (Words text) (inr among) by = inl (kind_of e, among, by.1, by.2)

@@ -1,11 +1,13 @@
 -- What the words of a command line order, with each value read.
-use Rattle.std.specs.Prelude.{ℕ, Bool, ◌&&◌, nat_le, List, [], ◌∷◌, false, codes, Option, Some, None, if◌then◌else◌, option_map, ℤ}
+use Rattle.std.specs.Prelude.{◌≡◌, ◌≢◌, ◌⊎◌, ⊤, ℕ, Bool, ◌&&◌, nat_le, List, [], ◌∷◌, false, codes, Option, Some, None, if◌then◌else◌, option_map, ℤ}
 use Rattle.std.specs.List.{list_all}
 use Rattle.std.specs.Char.{is_ascii_digit}
 use Rattle.std.specs.Str.{bytes_eq}
 use Rattle.std.specs.Str.Parse.{digits_value}
-use Rattle.clap.specs.Words.{Row, Text, first_of, subcommand_of}
-use Rattle.mail_core.specs.Calendar.{day_of_text}
+use Rattle.clap.specs.Words.{IsAmong, Row, Text, fault_of, first_of, subcommand_of}
+use Rattle.clap.specs.declared.error.kind.ErrorKind.{ErrorKind}
+use Rattle.clap.specs.declared.error.kind.ErrorKind.TheVariants as kind
+use Rattle.civil_time.specs.Calendar.{day_of_text}
 use Rattle.policy_core.specs.declared.access.Standing.{Standing}
 use Rattle.policy_core.specs.declared.access.Standing.TheVariants.{Public}
 use Rattle.policy_core.specs.Written.{standing_named}
@@ -14,11 +16,11 @@ use Rattle.archive_words.specs.declared.commands.GrantKind.TheVariants.{Member, 
 use Rattle.archive_words.specs.declared.commands.WithdrawnBy.{WithdrawnBy}
 use Rattle.archive_words.specs.declared.commands.WithdrawnBy.TheVariants.{Author, Board}
 use Rattle.archive_words.specs.declared.orders.Order.{Order}
-use Rattle.archive_words.specs.declared.orders.Order.TheVariants.{Sift}
+use Rattle.archive_words.specs.declared.orders.Order.TheVariants.{Sift, Table, Import, Get, Export, Serve}
 use Rattle.archive_words.specs.declared.orders.OrderStop.{OrderStop}
 use Rattle.archive_words.specs.declared.orders.OrderStop.TheVariants.{Help, Words, Memory}
-use Rattle.archive_words.specs.Values.{TableValues, TableCommand, list_add, person_add, grant, revoke, withdraw, restore, embargo, lift}
-use Rattle.archive_words.specs.Program.{archive_app, tables_app}
+use Rattle.archive_words.specs.Values.{AskValues, TableValues, TableCommand, list_add, person_add, grant, revoke, withdraw, restore, embargo, lift}
+use Rattle.archive_words.specs.Program.{archive_app}
 
 -- ---- values
 
@@ -27,10 +29,22 @@ abbrev pub is_decimal : List ℕ → Bool
 is_decimal [] = false
 is_decimal (c ∷ cs) = list_all is_ascii_digit (c ∷ cs)
 
--- an age in days, in decimal digits: 0 to 36500
-unfoldable pub age_of_text : List ℕ → Option ℕ
-age_of_text text =
-    if is_decimal text && nat_le (digits_value 10 text) 36500 then Some (digits_value 10 text) else None
+-- a number in decimal digits, 0 to the greatest
+unfoldable pub number_up_to : ℕ → List ℕ → Option ℕ
+number_up_to greatest text =
+    if is_decimal text && nat_le (digits_value 10 text) greatest then Some (digits_value 10 text) else None
+
+-- an age in days
+abbrev pub age_of_text : List ℕ → Option ℕ
+age_of_text = number_up_to 36500
+
+-- a port of TCP; at 0 the system chooses one
+abbrev pub port_of_text : List ℕ → Option ℕ
+port_of_text = number_up_to 65535
+
+-- how many connections are answered
+abbrev pub count_of_text : List ℕ → Option ℕ
+count_of_text = number_up_to 1000000
 
 abbrev pub kind_named : List ℕ → Option GrantKind
 kind_named word =
@@ -145,25 +159,90 @@ tables_of name rows =
     on (first_of (codes "db") rows) (λ file.
     on (command_named name rows) (λ command. Some (record { file = file; command = command })))
 
+-- ---- an mbox
+
+abbrev pub import_of : List Row → Option Order
+import_of rows =
+    on (first_of (codes "db") rows) (λ file.
+    on (first_of (codes "list") rows) (λ list.
+    on (first_of (codes "mbox") rows) (λ mbox. Some (Import (record { file = file; list = list; mbox = mbox })))))
+
+-- ---- questions of a reader
+
+-- a question on a list; without a person nobody asks
+abbrev pub ask_of : List Row → Option AskValues
+ask_of rows =
+    on (first_of (codes "db") rows) (λ file.
+    on (first_of (codes "policy") rows) (λ policy.
+    on (given day_of_text (first_of (codes "day") rows)) (λ day.
+    on (first_of (codes "list") rows) (λ list.
+    Some (record { file = file; policy = policy; day = day; person = first_of (codes "person") rows; list = list })))))
+
+abbrev pub get_of : List Row → Option Order
+get_of rows =
+    on (ask_of rows) (λ asked. on (first_of (codes "key") rows) (λ key. Some (Get (record { asked = asked; key = key }))))
+
+abbrev pub export_of : List Row → Option Order
+export_of rows = option_map Export (ask_of rows)
+
+-- ---- requests over HTTP
+
+abbrev pub serve_of : List Row → Option Order
+serve_of rows =
+    on (first_of (codes "db") rows) (λ file.
+    on (first_of (codes "policy") rows) (λ policy.
+    on (given day_of_text (first_of (codes "day") rows)) (λ day.
+    on (read_in port_of_text (codes "port") rows) (λ port.
+    on (read_in count_of_text (codes "count") rows) (λ count.
+    Some (Serve (record { file = file; policy = policy; day = day; port = port; count = count })))))))
+
 -- ---- orders
+
+abbrev pub order_named : Text → List Row → Option Order
+order_named name rows =
+    if bytes_eq name (codes "sift") then sift_of rows
+    else if bytes_eq name (codes "import") then import_of rows
+    else if bytes_eq name (codes "get") then get_of rows
+    else if bytes_eq name (codes "export") then export_of rows
+    else if bytes_eq name (codes "serve") then serve_of rows
+    else option_map Table (tables_of name rows)
 
 -- the order of the command that the words name, with the values that were found; no command is `sift`
 abbrev pub order_of : Option (Text × List Row) → Option Order
 order_of None = Some (Sift (record { day = None; min_age = None; policy = None; list = codes "inbox"; standing = Public }))
-order_of (Some (name, rows)) = if bytes_eq name (codes "sift") then sift_of rows else None
+order_of (Some (name, rows)) = order_named name rows
 
 -- the order of some words, where the program takes them
 abbrev pub ordered : List Text → Option Order
 ordered words = order_of (subcommand_of archive_app words)
 
--- the command over a database that the words name
-abbrev pub table_order_of : Option (Text × List Row) → Option TableValues
-table_order_of None = None
-table_order_of (Some (name, rows)) = tables_of name rows
+-- ---- words that order nothing
 
--- the order of some words over a database
-abbrev pub table_ordered : List Text → Option TableValues
-table_ordered words = table_order_of (subcommand_of tables_app words)
+-- help or the version is asked for
+abbrev pub AsksHelp : List Text → Type 0
+AsksHelp words =
+    IsAmong kind.DisplayHelp (fault_of archive_app words) ⊎ IsAmong kind.DisplayVersion (fault_of archive_app words)
+
+-- `clap` has a fault to tell of the words, and not for a wish for help
+abbrev pub AreRefused : List Text → Type 0
+AreRefused words =
+    (k : ErrorKind) × IsAmong k (fault_of archive_app words) × (k ≢ kind.DisplayHelp) × (k ≢ kind.DisplayVersion)
+
+-- bad words: `clap` refuses them, or it takes them and a value is none of its kind
+abbrev pub AreBad : List Text → Type 0
+AreBad words = AreRefused words ⊎ ((fault_of archive_app words ≡ []) × (ordered words ≡ None))
+
+-- why words order nothing; memory may lack at any words
+abbrev pub IsStopOf : List Text → OrderStop → Type 0
+IsStopOf words (Help text) = AsksHelp words
+IsStopOf words (Words text) = AreBad words
+IsStopOf words Memory = ⊤
+
+-- the stop for a fault of this kind
+abbrev pub IsStopBy : ErrorKind → OrderStop → Type 0
+IsStopBy k (Help text) = (k ≡ kind.DisplayHelp) ⊎ (k ≡ kind.DisplayVersion)
+IsStopBy k (Words text) = (k ≢ kind.OutOfMemory) × (k ≢ kind.DisplayHelp) × (k ≢ kind.DisplayVersion)
+IsStopBy k Memory = ⊤
 
 -- the stop says that there was no memory
 abbrev pub IsMemory : OrderStop → Type 0

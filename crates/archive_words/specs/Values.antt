@@ -41,3 +41,31 @@ command_of (Lift list key) = lift list.now key.now
 pub record TableValues : Type 0 where
   pub file : List ℕ
   pub command : TableCommand
+
+-- The mbox of a file, to be taken into a list.
+pub record ImportValues : Type 0 where
+  pub file : List ℕ
+  pub list : List ℕ
+  pub mbox : List ℕ
+
+-- A question of a reader on a list: the file of the database, the file of the policy, the reading day, the name of the
+-- person who asks, and the list.
+pub record AskValues : Type 0 where
+  pub file : List ℕ
+  pub policy : List ℕ
+  pub day : Option ℤ
+  pub person : Option (List ℕ)
+  pub list : List ℕ
+
+-- A question for one message, by its key.
+pub record GetValues : Type 0 where
+  pub asked : AskValues
+  pub key : List ℕ
+
+-- So many connections to be answered on a port.
+pub record ServeValues : Type 0 where
+  pub file : List ℕ
+  pub policy : List ℕ
+  pub day : Option ℤ
+  pub port : ℕ
+  pub count : ℕ

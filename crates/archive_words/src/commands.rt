@@ -1,5 +1,5 @@
 //! Commands on the tables of a database.
-use mail_core::Day;
+use civil_time::Day;
 
 /// What a grant makes of a person on a list.
 #[derive(Debug, Clone, Copy, PartialEq, Eq)]

@@ -1,6 +1,6 @@
 //! What the words of a command line order.
 use crate::commands::TableCommand;
-use mail_core::Day;
+use civil_time::Day;
 use policy_core::Standing;
 use std::marker::Model;
 
@@ -9,6 +9,16 @@ use std::marker::Model;
 pub enum Order<'a> {
     /// Writes those messages of an mbox on standard input that pass. It is also the order of no words.
     Sift(SiftOrder<'a>),
+    /// Carries out a command on lists, persons, grants or messages.
+    Table(TableOrder<'a>),
+    /// Takes the messages of an mbox into a list.
+    Import(ImportOrder<'a>),
+    /// Writes one message, where the policy lets the reader read it.
+    Get(GetOrder<'a>),
+    /// Writes those messages of a list as an mbox that the policy lets the reader read.
+    Export(AskOrder<'a>),
+    /// Answers requests over HTTP.
+    Serve(ServeOrder<'a>),
 }
 
 /// The values of `sift`'s options.
@@ -49,6 +59,88 @@ impl<'a> Model for TableOrder<'a> {
     ghost Value = { TableValues };
 
     ghost view = { λ o. record { file = o.file.now; command = command_of o.command } };
+}
+
+/// The values of `import`.
+#[derive(Debug, Drop)]
+pub struct ImportOrder<'a> {
+    /// The name of the database's file.
+    pub file: &'a str,
+    /// The name of the list, as it was given.
+    pub list: &'a str,
+    /// The name of the mbox's file.
+    pub mbox: &'a str,
+}
+
+impl<'a> Model for ImportOrder<'a> {
+    ghost use Rattle.archive_words.specs.Values.{ImportValues};
+
+    ghost Value = { ImportValues };
+
+    ghost view = { λ o. record { file = o.file.now; list = o.list.now; mbox = o.mbox.now } };
+}
+
+/// A question of a reader on a list: the values of `export`.
+#[derive(Debug, Drop)]
+pub struct AskOrder<'a> {
+    /// The name of the database's file.
+    pub file: &'a str,
+    /// The name of the policy's file.
+    pub policy: &'a str,
+    /// The reading day; without it the clock is asked.
+    pub day: Option<Day>,
+    /// The name of the person who asks, as it was given; without it nobody asks.
+    pub person: Option<&'a str>,
+    /// The name of the list, as it was given.
+    pub list: &'a str,
+}
+
+impl<'a> Model for AskOrder<'a> {
+    ghost use Rattle.std.specs.Prelude.{option_map};
+    ghost use Rattle.archive_words.specs.Values.{AskValues};
+
+    ghost Value = { AskValues };
+
+    ghost view = { λ o. record { file = o.file.now; policy = o.policy.now; day = o.day; person = option_map (λ t. t.now) o.person; list = o.list.now } };
+}
+
+/// The values of `get`: a question for one message.
+#[derive(Debug, Drop)]
+pub struct GetOrder<'a> {
+    pub asked: AskOrder<'a>,
+    /// The key of the message, as it was given.
+    pub key: &'a str,
+}
+
+impl<'a> Model for GetOrder<'a> {
+    ghost use Rattle.archive_words.specs.Values.{GetValues};
+
+    ghost Value = { GetValues };
+
+    ghost view = { λ o. record { asked = o.asked; key = o.key.now } };
+}
+
+/// The values of `serve`.
+#[derive(Debug, Drop)]
+pub struct ServeOrder<'a> {
+    /// The name of the database's file.
+    pub file: &'a str,
+    /// The name of the policy's file.
+    pub policy: &'a str,
+    /// The reading day; without it the clock is asked.
+    pub day: Option<Day>,
+    /// The port on 127.0.0.1; 0 lets the system choose a free one.
+    pub port: u16,
+    /// How many connections are answered: 0 to 1000000.
+    pub count: u32,
+}
+
+impl<'a> Model for ServeOrder<'a> {
+    ghost use Rattle.archive_words.specs.Values.{ServeValues};
+
+    ghost Value = { ServeValues };
+
+    ghost view = { λ o. record { file = o.file.now; policy = o.policy.now; day = o.day; port = o.port; count = o.count } };
 }
 
 /// Why words order nothing.

@@ -1,15 +1,21 @@
 use Rattle.std.proofs.Common.{◌∙◌, ap, ap₂, refl, sym, inl, inr}
-use Rattle.clap.specs.Words.{is_simple, subcommand_of, takes}
+use Rattle.clap.specs.Words.{fault_of, is_simple, is_simple_and_free, subcommand_of, takes}
+use Rattle.archive_usage.proofs.UsageLaws.{simple, free}
 use Rattle.archive_words.specs.Orders.{order_of}
-use Rattle.archive_words.proofs.OrderLemmas.{simple, not_true}
+use Rattle.archive_words.proofs.OrderLemmas.{not_true, same_kinds, stop_of_fault}
 use Rattle.archive_words.proofs.reading.order.Goals as goal
 
 pub returns-in-Err-clause-refused : goal.returns-in-Err-clause-refused
 returns-in-Err-clause-refused c =
-    elim c.stop_of.ensures [
+    elim c.stop_of.ensures.memory [
       | inl no_memory ↦ inl no_memory
       | inr other ↦ inr (inl (not_true _ (λ t. other (c.in-Err.ensures.passes (ap₂ takes c.in-Ok.ensures.0 refl ∙ t)))))
     ]
+
+pub returns-in-Err-clause-stopped : goal.returns-in-Err-clause-stopped
+returns-in-Err-clause-stopped c =
+    let has = c.in-Err.ensures.kinds (ap is_simple_and_free c.in-Ok.ensures.0 ∙ free) in
+    stop_of_fault _ c.in-Err.error _ (same_kinds _ _ c.in-Err.error (ap₂ fault_of c.in-Ok.ensures.0 refl) has) c.stop_of.ensures.kind
 
 pub returns-in-Ok-read_order-clause-ok : goal.returns-in-Ok-read_order-clause-ok
 returns-in-Ok-read_order-clause-ok c =
@@ -20,3 +26,17 @@ pub returns-in-Ok-bad_value_text-clause-refused : goal.returns-in-Ok-bad_value_t
 returns-in-Ok-bad_value_text-clause-refused c =
     let m = c.in-Ok-try_get_matches_from_mut.ensures.ok.2 (ap is_simple c.in-Ok.ensures.0 ∙ simple) in
     inr (inr (ap order_of (sym (m.1 ∙ ap₂ subcommand_of c.in-Ok.ensures.0 refl)) ∙ c.in-Err-read_order.ensures))
+
+pub returns-in-Ok-read_order-clause-taken : goal.returns-in-Ok-read_order-clause-taken
+returns-in-Ok-read_order-clause-taken c =
+    sym (ap₂ fault_of c.in-Ok.ensures.0 refl)
+    ∙ c.in-Ok-try_get_matches_from_mut.ensures.kinds (ap is_simple_and_free c.in-Ok.ensures.0 ∙ free)
+
+pub returns-in-Ok-bad_value_text-clause-stopped : goal.returns-in-Ok-bad_value_text-clause-stopped
+returns-in-Ok-bad_value_text-clause-stopped c =
+    let m = c.in-Ok-try_get_matches_from_mut.ensures.ok.2 (ap is_simple c.in-Ok.ensures.0 ∙ simple) in
+    let taken = c.in-Ok-try_get_matches_from_mut.ensures.kinds (ap is_simple_and_free c.in-Ok.ensures.0 ∙ free) in
+    inr (
+      sym (ap₂ fault_of c.in-Ok.ensures.0 refl) ∙ taken,
+      ap order_of (sym (m.1 ∙ ap₂ subcommand_of c.in-Ok.ensures.0 refl)) ∙ c.in-Err-read_order.ensures,
+    )

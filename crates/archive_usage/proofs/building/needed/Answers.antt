@@ -1,0 +1,13 @@
+use Rattle.std.proofs.Common.{◌∙◌, ap, Bool, true}
+use Rattle.clap.specs.Words.{Rule, rule_of}
+use Rattle.clap.specs.declared.builder.Arg.{Arg}
+use Rattle.archive_usage.proofs.building.needed.Goals as goal
+
+pub returns-clause-rule : goal.returns-clause-rule
+returns-clause-rule c =
+    ap rule_of c.required.ensures ∙ ap (λ (r : Rule). record r { required = true }) c.option.ensures.rule
+
+pub returns-clause-local : goal.returns-clause-local
+returns-clause-local c =
+    let global : Arg → Bool = λ a. a.global in
+    ap global c.required.ensures ∙ c.option.ensures.local

@@ -1,0 +1,138 @@
+-- The command line of the program, as `clap` reads it.
+use Rattle.std.specs.Prelude.{◌≡◌, codes, Some, true, false, if◌then◌else◌}
+use Rattle.std.specs.Str.{bytes_eq}
+use Rattle.clap.specs.Words.{App, Rule, Text, app_of, new_app, new_rule, with_rule, with_subcommand}
+use Rattle.clap.specs.declared.builder.Command.{Command}
+use Rattle.clap.specs.declared.builder.Command.TheViews.{out-Command}
+
+-- how a command reads words; none of its arguments is also its subcommands'
+abbrev pub IsCommand : App → Command → Type 0
+IsCommand app command = (app_of command ≡ app) × ((out-Command command).has_globals ≡ false)
+
+-- `--NAME VALUE`, which need not be given
+abbrev pub option_rule : Text → Rule
+option_rule name = record (new_rule name) { long = Some name; value_names = 1 }
+
+-- `--NAME VALUE`, which has to be given
+abbrev pub needed_rule : Text → Rule
+needed_rule name = record (option_rule name) { required = true }
+
+-- a word in its place, which has to be given
+abbrev pub word_rule : Text → Rule
+word_rule name = record (new_rule name) { value_names = 1; required = true }
+
+-- ---- sift
+
+-- when is read, and how old a message has to be
+unfoldable pub dated_app : App
+dated_app = with_rule (with_rule (new_app (codes "sift")) (option_rule (codes "day"))) (option_rule (codes "min-age"))
+
+unfoldable pub sift_app : App
+sift_app =
+    with_rule (with_rule (with_rule dated_app (option_rule (codes "policy"))) (option_rule (codes "list"))) (option_rule (codes "standing"))
+
+-- ---- commands over a database
+
+-- a command with the file of its database
+abbrev pub table_app : Text → App
+table_app name = with_rule (new_app name) (needed_rule (codes "db"))
+
+abbrev pub with_word : App → Text → App
+with_word app name = with_rule app (word_rule name)
+
+-- a command on a message: its list, and its key
+abbrev pub message_app : Text → App
+message_app name = with_word (with_word (table_app name) (codes "list")) (codes "key")
+
+-- a command on what a person is granted on a list
+abbrev pub grant_of_app : Text → App
+grant_of_app name = with_word (with_word (with_word (table_app name) (codes "person")) (codes "list")) (codes "kind")
+
+unfoldable pub list_add_app : App
+list_add_app = with_word (table_app (codes "list-add")) (codes "name")
+
+unfoldable pub person_add_app : App
+person_add_app = with_word (with_word (table_app (codes "person-add")) (codes "name")) (codes "token")
+
+unfoldable pub grant_app : App
+grant_app = with_word (with_word (grant_of_app (codes "grant")) (codes "from")) (codes "until")
+
+unfoldable pub revoke_app : App
+revoke_app = grant_of_app (codes "revoke")
+
+unfoldable pub import_app : App
+import_app = with_word (with_word (table_app (codes "import")) (codes "list")) (codes "mbox")
+
+unfoldable pub withdraw_app : App
+withdraw_app = with_word (message_app (codes "withdraw")) (codes "by")
+
+unfoldable pub restore_app : App
+restore_app = message_app (codes "restore")
+
+unfoldable pub embargo_app : App
+embargo_app = with_word (message_app (codes "embargo")) (codes "until")
+
+unfoldable pub lift_app : App
+lift_app = message_app (codes "lift")
+
+-- ---- commands by a policy
+
+-- a command over a database by a policy, which has to be given, on a day
+abbrev pub ruled_app : Text → App
+ruled_app name = with_rule (with_rule (table_app name) (needed_rule (codes "policy"))) (option_rule (codes "day"))
+
+-- a question of a reader on a list
+abbrev pub ask_app : Text → App
+ask_app name = with_word (with_rule (ruled_app name) (option_rule (codes "person"))) (codes "list")
+
+unfoldable pub get_app : App
+get_app = with_word (ask_app (codes "get")) (codes "key")
+
+unfoldable pub export_app : App
+export_app = ask_app (codes "export")
+
+unfoldable pub serve_app : App
+serve_app = with_rule (with_rule (ruled_app (codes "serve")) (needed_rule (codes "port"))) (needed_rule (codes "count"))
+
+-- ---- the program
+
+abbrev pub versioned : App → App
+versioned app = record app { top = record app.top { has_version = true; no_binary_name = true } }
+
+-- the program without its commands; its words do not begin with its name
+unfoldable pub bare_app : App
+bare_app = versioned (new_app (codes "archive"))
+
+-- `sift`, and the commands on lists and persons
+unfoldable pub person_app : App
+person_app =
+    with_subcommand (with_subcommand (with_subcommand (with_subcommand (with_subcommand bare_app sift_app.top)
+    list_add_app.top) person_add_app.top) grant_app.top) revoke_app.top
+
+-- those, and the commands on messages
+unfoldable pub mail_app : App
+mail_app =
+    with_subcommand (with_subcommand (with_subcommand (with_subcommand (with_subcommand person_app import_app.top)
+    withdraw_app.top) restore_app.top) embargo_app.top) lift_app.top
+
+-- the program, which may go without a command
+unfoldable pub archive_app : App
+archive_app = with_subcommand (with_subcommand (with_subcommand mail_app get_app.top) export_app.top) serve_app.top
+
+-- the command of a name alone; the program, where there is no such command
+unfoldable pub app_named : Text → App
+app_named name =
+    if bytes_eq name (codes "sift") then sift_app
+    else if bytes_eq name (codes "list-add") then list_add_app
+    else if bytes_eq name (codes "person-add") then person_add_app
+    else if bytes_eq name (codes "grant") then grant_app
+    else if bytes_eq name (codes "revoke") then revoke_app
+    else if bytes_eq name (codes "import") then import_app
+    else if bytes_eq name (codes "withdraw") then withdraw_app
+    else if bytes_eq name (codes "restore") then restore_app
+    else if bytes_eq name (codes "embargo") then embargo_app
+    else if bytes_eq name (codes "lift") then lift_app
+    else if bytes_eq name (codes "get") then get_app
+    else if bytes_eq name (codes "export") then export_app
+    else if bytes_eq name (codes "serve") then serve_app
+    else archive_app

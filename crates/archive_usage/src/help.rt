@@ -1,0 +1,247 @@
+//! The texts of the help.
+
+pub const ARCHIVE: &str = "Keeps mailing lists, and shows each reader what a policy lets them see";
+
+pub const ARCHIVE_END: &str = "\
+Without a command it is `sift`, and every message passes.
+
+FILE is the database. A command makes it where it is empty or not there.
+Days are yyyy-mm-dd, from 1900-01-01 to 9998-12-31. What a command needs is
+read in this order: the policy, the clock, FILE, the mbox.
+
+Status: 0 done; 1 refused, with one line on standard error: `archive: `,
+a number and a name; 2 bad words, and nothing was touched.
+
+Example:
+  archive list-add --db archive.db soc
+  archive import --db archive.db soc soc.mbox
+  archive serve --db archive.db --policy policy.toml --port 8080 --count 1000";
+
+pub const SIFT: &str =
+    "Write those messages of an mbox that pass, from standard input to standard output";
+
+pub const SIFT_END: &str = "\
+The policy is read first; then the clock is asked, where an age or a policy is
+given and no day; then standard input is read to its end.
+
+Status: 0 done; 1 refused, with one line on standard error; 2 bad words.
+Refusals: F1 FILE cannot be read, P1 to P8 it is no policy, F3 the clock,
+M1 the input is no mbox, M2 it was not read, M3 no memory, F2 the output.
+
+Example: archive sift --day 2003-03-20 --min-age 10 --policy policy.toml < list.mbox";
+
+pub const LIST_ADD: &str = "Add a list";
+
+pub const LIST_ADD_END: &str = "\
+Reads FILE, and makes it where it is empty or not there.
+
+Prints `added`.
+
+Status: 0 done; 1 refused, with one line on standard error; 2 bad words.
+Refusals: E1 NAME is no name, E3 the list is there, E14 no memory, E15 the database.
+
+Example: archive list-add --db archive.db soc";
+
+pub const PERSON_ADD: &str = "Add a person, with the token by which requests show who asks";
+
+pub const PERSON_ADD_END: &str = "\
+Reads FILE, and makes it where it is empty or not there.
+
+Prints `added`. The database keeps the token as it is: FILE is for its owner
+alone to read.
+
+Status: 0 done; 1 refused, with one line on standard error; 2 bad words.
+Refusals: E1 NAME is no name, E2 TOKEN is no token, E5 the person is there,
+E7 the token is another's, E14 no memory, E15 the database.
+
+Example: archive person-add --db archive.db anna 5fW2xkQ0aTz7uYp1";
+
+pub const GRANT: &str = "Make a person a member, subscriber or moderator of a list";
+
+pub const GRANT_END: &str = "\
+Reads FILE, and makes it where it is empty or not there.
+
+Prints `granted`. A grant of the same kind is replaced. It holds from its first
+day to its last, both included.
+
+Status: 0 done; 1 refused, with one line on standard error; 2 bad words.
+Refusals: E6 no person, E4 no list, E11 UNTIL lies before FROM,
+E14 no memory, E15 the database.
+
+Example: archive grant --db archive.db anna soc member 2003-01-01 2003-12-31";
+
+pub const REVOKE: &str = "Take a grant away";
+
+pub const REVOKE_END: &str = "\
+Reads FILE, and makes it where it is empty or not there.
+
+Prints `revoked`, or `no grant` where there was none.
+
+Status: 0 done; 1 refused, with one line on standard error; 2 bad words.
+Refusals: E6 no person, E4 no list, E14 no memory, E15 the database.
+
+Example: archive revoke --db archive.db anna soc member";
+
+pub const IMPORT: &str = "Take the messages of an mbox into a list";
+
+pub const IMPORT_END: &str = "\
+FILE is opened first, and made where it is empty or not there; then MBOX is
+read, whole.
+
+Prints `new N known N too-large N`: how many messages were taken in, how many the
+list held already and keeps as they were, and how many have more than 4194304
+bytes and were left out.
+
+Status: 0 done; 1 refused, with one line on standard error; 2 bad words.
+Refusals: F1 MBOX cannot be read, E4 no list, M1 MBOX is no mbox, E12 the list is
+full, E14 no memory, E15 the database. Where an import stops, ` after N` tells how
+many messages were done; they stay.
+
+Example: archive import --db archive.db soc soc.mbox";
+
+pub const WITHDRAW: &str = "Withdraw a message";
+
+pub const WITHDRAW_END: &str = "\
+Reads FILE, and makes it where it is empty or not there.
+
+Prints `withdrawn`. Who may still read the message is the policy's to say.
+
+Status: 0 done; 1 refused, with one line on standard error; 2 bad words.
+Refusals: E8 no key or no such message, E4 no list, E9 it is withdrawn,
+E14 no memory, E15 the database.
+
+Example: archive withdraw --db archive.db soc KEY author";
+
+pub const RESTORE: &str = "Take the withdrawal of a message back";
+
+pub const RESTORE_END: &str = "\
+Reads FILE, and makes it where it is empty or not there.
+
+Prints `restored`.
+
+Status: 0 done; 1 refused, with one line on standard error; 2 bad words.
+Refusals: E8 no key or no such message, E4 no list, E10 it is not withdrawn,
+E14 no memory, E15 the database.
+
+Example: archive restore --db archive.db soc KEY";
+
+pub const EMBARGO: &str = "Hold a message back on the days before a day";
+
+pub const EMBARGO_END: &str = "\
+Reads FILE, and makes it where it is empty or not there.
+
+Prints `embargoed`. An earlier embargo is replaced. Who may still read the
+message is the policy's to say.
+
+Status: 0 done; 1 refused, with one line on standard error; 2 bad words.
+Refusals: E8 no key or no such message, E4 no list, E14 no memory, E15 the database.
+
+Example: archive embargo --db archive.db soc KEY 2003-06-01";
+
+pub const LIFT: &str = "Take the embargo of a message away";
+
+pub const LIFT_END: &str = "\
+Reads FILE, and makes it where it is empty or not there.
+
+Prints `lifted`, or `no embargo` where there was none.
+
+Status: 0 done; 1 refused, with one line on standard error; 2 bad words.
+Refusals: E8 no key or no such message, E4 no list, E14 no memory, E15 the database.
+
+Example: archive lift --db archive.db soc KEY";
+
+pub const GET: &str = "Write a message, if the policy lets the reader read it";
+
+pub const GET_END: &str = "\
+The policy is read first; then the clock is asked, where no day is given;
+then FILE is opened.
+
+Writes the text of the message, as it was taken in. Where the policy forbids it,
+the line is `archive: denied by RULE`.
+
+Status: 0 done; 1 refused, with one line on standard error; 2 bad words.
+Refusals: F1 POLICY cannot be read, P1 to P8 it is no policy, F3 the clock,
+E14, E15 or G4 the database, E8 no key or no such message, G1 no list, G2 no person,
+F2 the output.
+
+Example: archive get --db archive.db --policy policy.toml --person anna soc KEY";
+
+pub const EXPORT: &str =
+    "Write those messages of a list as an mbox that the policy lets the reader read";
+
+pub const EXPORT_END: &str = "\
+The policy is read first; then the clock is asked, where no day is given;
+then FILE is opened.
+
+Writes an mbox, in the order of the list.
+
+Status: 0 done; 1 refused, with one line on standard error; 2 bad words.
+Refusals: F1 POLICY cannot be read, P1 to P8 it is no policy, F3 the clock,
+E14, E15 or G4 the database, G1 no list, G2 no person, G6 the output.
+
+Example: archive export --db archive.db --policy policy.toml soc > soc.mbox";
+
+pub const SERVE: &str = "Answer requests over HTTP, on this machine alone";
+
+pub const SERVE_END: &str = "\
+The policy is read first; then the clock is asked, where no day is given;
+then FILE is opened. It stays locked until the end, and the day stays the
+same.
+
+Prints `listening on 127.0.0.1:PORT`, answers COUNT connections one after the
+other, and ends. A connection that fails is one line on standard error (S1 it was
+not read, S2 it was not written), and the next one follows.
+
+Status: 0 done; 1 refused, with one line on standard error; 2 bad words.
+Refusals: F1 POLICY cannot be read, P1 to P8 it is no policy, F3 the clock,
+E14 or E15 the database, F4 the port.
+
+Example: archive serve --db archive.db --policy policy.toml --port 8080 --count 1000";
+
+pub const DAY: &str =
+    "The reading day, yyyy-mm-dd [default: today in UTC, where an age or a policy is asked for]";
+
+pub const MIN_AGE: &str =
+    "Only messages that arrived at least this many days before the reading day";
+
+pub const POLICY: &str = "The file with the policy [default: everybody may read everything]";
+
+pub const SIFT_LIST: &str = "The list that the messages are taken to be of [default: inbox]";
+
+pub const STANDING: &str =
+    "The reader's standing: public, member, subscriber or moderator [default: public]";
+
+pub const RULES: &str = "The file with the policy";
+
+pub const TODAY: &str = "The reading day, yyyy-mm-dd [default: today in UTC]";
+
+pub const ASKING: &str = "The name of the person who asks [default: nobody]";
+
+pub const PORT: &str = "The port, 0 to 65535; 0 takes a free one";
+
+pub const COUNT: &str = "How many connections are answered, 0 to 1000000";
+
+pub const DATABASE: &str = "The file of the database";
+
+pub const NAME: &str = "A name: 1 to 40 of a to z, 0 to 9 and -, beginning with a letter";
+
+pub const TOKEN: &str = "A token (RFC 6750): 16 to 64 letters, digits or -._~+/, then any =";
+
+pub const PERSON: &str = "The person's name";
+
+pub const LIST: &str = "The list's name";
+
+pub const MBOX: &str = "The file with the messages, an mbox (RFC 4155)";
+
+pub const KIND: &str = "member, subscriber or moderator";
+
+pub const FROM: &str = "The first day, yyyy-mm-dd";
+
+pub const GRANT_UNTIL: &str = "The last day, yyyy-mm-dd";
+
+pub const KEY: &str =
+    "The message's key: the SHA-256 of its text, 64 hexadecimal digits in lower case";
+
+pub const BY: &str = "author or board";
+
+pub const EMBARGO_UNTIL: &str = "The first day on which it is not held back, yyyy-mm-dd";

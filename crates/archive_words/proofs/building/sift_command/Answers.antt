@@ -1,6 +1,0 @@
-use Rattle.archive_words.specs.Program.{sift_app}
-use Rattle.archive_words.proofs.building.sift_command.Goals as goal
-
-pub returns : goal.returns
-unfolding sift_app
-returns c = c.with_option-3.ensures _ (c.in_ok-listed.ensures _ (c.in_ok-ruled.ensures _ c.in_ok-dated.ensures))

@@ -1,5 +1,0 @@
-use Rattle.clap.specs.Words.{new_app}
-use Rattle.archive_words.proofs.building.table_command.Goals as goal
-
-pub returns : goal.returns
-returns c = c.with_needed.ensures (new_app c.args.name.now) c.new_command-command.ensures

@@ -1,0 +1,249 @@
+//! Reading the values of words.
+ghost use Rattle.std.specs.Prelude.{◌≡◌, ◌≤◌, Some, None, IfSome, MatchResult, option_map, codes};
+ghost use Rattle.clap.specs.Words.{found_of, rows_of, first_of};
+ghost use Rattle.civil_time.specs.Calendar.{day_of_text};
+ghost use Rattle.archive_words.specs.Orders.{is_decimal, number_up_to, age_of_text, port_of_text, count_of_text, kind_named, party_named, given, list_of, standing_of, read_in};
+
+use crate::commands::{GrantKind, WithdrawnBy};
+use crate::stops::BadValue;
+use civil_time::Day;
+use clap::ArgMatches;
+use policy_core::{MOST_DAYS, Standing};
+
+/// The greatest number of connections that can be asked for.
+const MOST_CONNECTIONS: u32 = 1_000_000;
+
+pub(crate) const DEFAULT_LIST: &str = "inbox";
+
+const A_DAY: &str = "a day of the calendar is yyyy-mm-dd, from 1900-01-01 to 9998-12-31";
+
+/// The text of an argument.
+pub(crate) fn text_of<'a>(inner: &ArgMatches<'a>, name: &str) -> Option<&'a str>
+    ensures { option_map (λ t. t.now) result ≡ first_of name.now (rows_of (found_of inner.now)) }
+{
+    inner.get_str(name)
+}
+
+/// The text of an argument that has to be given.
+pub(crate) fn needed<'a>(inner: &ArgMatches<'a>, name: &'a str) -> Result<&'a str, BadValue<'a>>
+    ensures { MatchResult result
+        (λ text. first_of name.entry.now (rows_of (found_of inner.now)) ≡ Some text.now)
+        (λ _. first_of name.entry.now (rows_of (found_of inner.now)) ≡ None) }
+{
+    match text_of(inner, name) {
+        Some(text) => Ok(text),
+        None => Err(BadValue {
+            option: name,
+            text: "",
+            wanted: "a value has to be given",
+        }),
+    }
+}
+
+/// A number in decimal digits, 0 to the greatest.
+fn read_number(text: &str, greatest: u32) -> Option<u32>
+    ensures value { result ≡ number_up_to greatest text.now }
+    ensures range { IfSome result (λ number. number ≤ greatest) }
+{
+    if !is_decimal(text.as_bytes()) {
+        return None;
+    }
+    match text.parse::<u32>() {
+        Ok(number) => {
+            if number <= greatest {
+                Some(number)
+            } else {
+                None
+            }
+        }
+        Err(_) => None,
+    }
+}
+
+/// Whether a text is one decimal digit or more, and nothing else.
+fn is_decimal(text: &[u8]) -> bool
+    ensures { result ≡ is_decimal text.now }
+{
+    if text.is_empty() {
+        return false;
+    }
+    text.iter().all(|b| b.is_ascii_digit())
+}
+
+/// The day of an option, where it is given.
+pub(crate) fn given_day<'a>(text: Option<&'a str>) -> Result<Option<Day>, BadValue<'a>>
+    ensures { MatchResult result
+        (λ day. given day_of_text (option_map (λ t. t.now) text.entry) ≡ Some day)
+        (λ _. given day_of_text (option_map (λ t. t.now) text.entry) ≡ None) }
+{
+    let Some(text) = text else {
+        return Ok(None);
+    };
+    match Day::read(text.as_bytes()) {
+        Some(day) => Ok(Some(day)),
+        None => Err(BadValue {
+            option: "--day <DAY>",
+            text,
+            wanted: A_DAY,
+        }),
+    }
+}
+
+/// The age of an option, where it is given.
+pub(crate) fn given_age<'a>(text: Option<&'a str>) -> Result<Option<u32>, BadValue<'a>>
+    ensures { MatchResult result
+        (λ age. given age_of_text (option_map (λ t. t.now) text.entry) ≡ Some age)
+        (λ _. given age_of_text (option_map (λ t. t.now) text.entry) ≡ None) }
+{
+    let Some(text) = text else {
+        return Ok(None);
+    };
+    match read_number(text, MOST_DAYS as u32) {
+        Some(age) => Ok(Some(age)),
+        None => Err(BadValue {
+            option: "--min-age <DAYS>",
+            text,
+            wanted: "an age is a number of days, 0 to 36500",
+        }),
+    }
+}
+
+pub(crate) fn given_standing<'a>(word: Option<&'a str>) -> Result<Standing, BadValue<'a>>
+    ensures { MatchResult result
+        (λ standing. standing_of (option_map (λ t. t.now) word.entry) ≡ Some standing)
+        (λ _. standing_of (option_map (λ t. t.now) word.entry) ≡ None) }
+{
+    let Some(text) = word else {
+        return Ok(Standing::Public);
+    };
+    match Standing::read(text) {
+        Some(standing) => Ok(standing),
+        None => Err(BadValue {
+            option: "--standing <STANDING>",
+            text,
+            wanted: "a standing is public, member, subscriber or moderator",
+        }),
+    }
+}
+
+/// The list that the messages are taken to be of. Any text is the name of one.
+pub(crate) fn given_list<'a>(name: Option<&'a str>) -> &'a str
+    ensures { result.now ≡ list_of (option_map (λ t. t.now) name.entry) }
+{
+    match name {
+        Some(name) => name,
+        None => DEFAULT_LIST,
+    }
+}
+
+/// The day of an argument.
+pub(crate) fn day_of<'a>(
+    inner: &ArgMatches<'a>,
+    name: &'a str,
+    option: &'a str,
+) -> Result<Day, BadValue<'a>>
+    ensures { MatchResult result
+        (λ day. read_in day_of_text name.entry.now (rows_of (found_of inner.now)) ≡ Some day)
+        (λ _. read_in day_of_text name.entry.now (rows_of (found_of inner.now)) ≡ None) }
+{
+    let text = needed(inner, name)?;
+    match Day::read(text.as_bytes()) {
+        Some(day) => Ok(day),
+        None => Err(BadValue {
+            option,
+            text,
+            wanted: A_DAY,
+        }),
+    }
+}
+
+/// What the word of a kind means.
+fn read_kind(word: &str) -> Option<GrantKind>
+    ensures { result ≡ kind_named word.now }
+{
+    match word {
+        "member" => Some(GrantKind::Member),
+        "subscriber" => Some(GrantKind::Subscriber),
+        "moderator" => Some(GrantKind::Moderator),
+        _ => None,
+    }
+}
+
+/// The argument KIND.
+pub(crate) fn kind_of_grant<'a>(inner: &ArgMatches<'a>) -> Result<GrantKind, BadValue<'a>>
+    ensures { MatchResult result
+        (λ kind. read_in kind_named (codes "kind") (rows_of (found_of inner.now)) ≡ Some kind)
+        (λ _. read_in kind_named (codes "kind") (rows_of (found_of inner.now)) ≡ None) }
+{
+    let text = needed(inner, "kind")?;
+    match read_kind(text) {
+        Some(kind) => Ok(kind),
+        None => Err(BadValue {
+            option: "<KIND>",
+            text,
+            wanted: "a kind is member, subscriber or moderator",
+        }),
+    }
+}
+
+/// What the word of a party means.
+fn read_party(word: &str) -> Option<WithdrawnBy>
+    ensures { result ≡ party_named word.now }
+{
+    match word {
+        "author" => Some(WithdrawnBy::Author),
+        "board" => Some(WithdrawnBy::Board),
+        _ => None,
+    }
+}
+
+/// The argument BY.
+pub(crate) fn party_of_withdrawal<'a>(inner: &ArgMatches<'a>) -> Result<WithdrawnBy, BadValue<'a>>
+    ensures { MatchResult result
+        (λ by. read_in party_named (codes "by") (rows_of (found_of inner.now)) ≡ Some by)
+        (λ _. read_in party_named (codes "by") (rows_of (found_of inner.now)) ≡ None) }
+{
+    let text = needed(inner, "by")?;
+    match read_party(text) {
+        Some(by) => Ok(by),
+        None => Err(BadValue {
+            option: "<BY>",
+            text,
+            wanted: "a message is withdrawn by author or board",
+        }),
+    }
+}
+
+/// The argument PORT.
+pub(crate) fn port_of<'a>(inner: &ArgMatches<'a>) -> Result<u16, BadValue<'a>>
+    ensures { MatchResult result
+        (λ port. read_in port_of_text (codes "port") (rows_of (found_of inner.now)) ≡ Some port)
+        (λ _. read_in port_of_text (codes "port") (rows_of (found_of inner.now)) ≡ None) }
+{
+    let text = needed(inner, "port")?;
+    match read_number(text, 65_535) {
+        Some(port) => Ok(port as u16),
+        None => Err(BadValue {
+            option: "--port <PORT>",
+            text,
+            wanted: "a port is a number, 0 to 65535",
+        }),
+    }
+}
+
+/// The argument COUNT.
+pub(crate) fn count_of<'a>(inner: &ArgMatches<'a>) -> Result<u32, BadValue<'a>>
+    ensures { MatchResult result
+        (λ count. read_in count_of_text (codes "count") (rows_of (found_of inner.now)) ≡ Some count)
+        (λ _. read_in count_of_text (codes "count") (rows_of (found_of inner.now)) ≡ None) }
+{
+    let text = needed(inner, "count")?;
+    match read_number(text, MOST_CONNECTIONS) {
+        Some(count) => Ok(count),
+        None => Err(BadValue {
+            option: "--count <COUNT>",
+            text,
+            wanted: "a count is a number, 0 to 1000000",
+        }),
+    }
+}
