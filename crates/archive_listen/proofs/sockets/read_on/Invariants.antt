@@ -1,0 +1,5 @@
+use Rattle.std.proofs.Common.{◌-◌}
+use Rattle.archive_listen.proofs.sockets.read_on.Given as goal
+
+abbrev pub decreases-loop-total : goal.decreases-loop-total
+decreases-loop-total g l = 1048576 - l.total

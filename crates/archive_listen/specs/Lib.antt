@@ -1,0 +1,4 @@
+pub mod Connections
+pub mod Serving
+pub mod Gathering
+pub mod Sockets

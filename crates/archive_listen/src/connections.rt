@@ -1,0 +1,98 @@
+//! What listens, what answers, and the connections between them.
+use crate::faults::{AcceptFault, ConnectionFault, ListenFault};
+use mbox_core::device::{DeviceFailure, Sink, Source};
+
+/// What is written to through a buffer.
+pub trait Outgoing: Sink {
+    ghost use Rattle.std.specs.Prelude.{◌≡◌, ◌<◌, ℕ, List, OnOk, OnErr};
+    ghost use Rattle.archive_listen.specs.Connections.{Begins};
+
+    // The bytes that were passed on so far.
+    ghost sent: { Self → List ℕ };
+
+    /// Passes on what is held back. A failure leaves a beginning of it passed on.
+    fn flush(&mut self) -> Result<(), DeviceFailure>
+        ensures told { Self.told self.new ≡ Self.told self.old }
+        ensures sent { OnOk result (sent self.new ≡ Self.told self.new) }
+        ensures cause { OnErr result (Self.failures self.old < Self.failures self.new) };
+
+    // They are a beginning of those that it told.
+    ghost begins: { (s : Self) → Begins (sent s) (Self.told s) };
+}
+
+/// A connection with a peer: what is read of it, and what is written to it.
+#[derive(Drop)]
+pub struct Connection<I, O> {
+    pub input: I,
+    pub output: O,
+}
+
+/// Whatever connections come from, one after the other.
+pub trait Listener {
+    ghost use Rattle.std.specs.Prelude.{◌≡◌, Bool, Option, Some, None, IfOk, MatchResult, ⊤};
+    ghost use Rattle.archive_listen.specs.declared.faults.AcceptFault.{AcceptFault};
+    ghost use Rattle.archive_listen.specs.Connections.{Exchange, exchange, telling, untold};
+
+    type Input: Source + Drop;
+
+    type Output: Outgoing + Drop;
+
+    // Holds of a listener before it is asked for a connection and after, and of why it gave none.
+    ghost accepts: { Self → Self → Option AcceptFault → Type 0 } = { λ _ _ _. ⊤ };
+
+    // Holds of a listener before it takes a connection back and after, of what went over it, and of whether it lingered.
+    ghost closes: { Self → Self → Exchange → Bool → Type 0 } = { λ _ _ _ _. ⊤ };
+
+    /// The next connection, over which nothing went yet.
+    fn accept(&mut self) -> Result<Connection<Self::Input, Self::Output>, AcceptFault>
+        ensures untold { IfOk result (λ c. telling (Self.Input.told c.input) (Self.Input.ends c.input) (Self.Input.failures c.input)
+            (Self.Output.told c.output) (Self.Output.failures c.output) ≡ untold) }
+        ensures accepts { MatchResult result (λ _. accepts self.old self.new None) (λ fault. accepts self.old self.new (Some fault)) };
+
+    /// Takes a connection back and closes it. `lingers`: its peer may still be sending, and is read on a while.
+    fn close(&mut self, connection: Connection<Self::Input, Self::Output>, lingers: bool)
+        ensures closes { closes self.old self.new
+            (exchange (Self.Input.told connection.input) (Self.Output.sent connection.output)) lingers };
+}
+
+/// A listener, and the port that it listens on.
+#[derive(Drop)]
+pub struct Listening<L> {
+    pub listener: L,
+    pub port: u16,
+}
+
+/// Whoever can listen.
+pub trait Ports {
+    ghost use Rattle.std.specs.Prelude.{ℕ, Result, ⊤};
+    ghost use Rattle.archive_listen.specs.declared.connections.Listening.{Listening};
+    ghost use Rattle.archive_listen.specs.declared.faults.ListenFault.{ListenFault};
+
+    type Listener: Listener + Drop;
+
+    // Holds of the ports before one is asked for and after, of its number, and of what is given.
+    ghost listens: { Self → Self → ℕ → Result (Listening Self.Listener) ListenFault → Type 0 } = { λ _ _ _ _. ⊤ };
+
+    /// Listens on a port; 0 stands for one that the system picks. F4: the port is taken, or may not be used.
+    fn listen(&mut self, port: u16) -> Result<Listening<Self::Listener>, ListenFault>
+        ensures { listens self.old self.new port result };
+}
+
+/// Whatever answers what comes over a connection, out of a state.
+pub trait Service<St> {
+    ghost use Rattle.archive_listen.specs.Connections.{Telling, telling, Outcome};
+
+    // Holds of the state before and after, of what the connection told before and after, and of the answer.
+    ghost answers: { Self → St → St → Telling → Telling → Outcome → Type 0 };
+
+    /// Answers one request, and tells the status of the reply.
+    fn answer<R: Source, W: Sink>(
+        &self,
+        state: &mut St,
+        input: &mut R,
+        output: &mut W,
+    ) -> Result<u16, ConnectionFault>
+        ensures { answers self.now state.old state.new
+            (telling (R.told input.old) (R.ends input.old) (R.failures input.old) (W.told output.old) (W.failures output.old))
+            (telling (R.told input.new) (R.ends input.new) (R.failures input.new) (W.told output.new) (W.failures output.new)) result };
+}

@@ -1,0 +1,151 @@
+//! Gathering what is written into large pieces.
+ghost use Rattle.archive_listen.specs.Gathering.{rest_of};
+ghost use Rattle.std.specs.Prelude.{◌≡◌, ◌≤◌, ◌<◌, ◌+◌, ◌-◌, ◌++◌, [], length, min, take, refl, IfErr, OnOk, OnErr};
+
+use crate::connections::Outgoing;
+use mbox_core::device::{DeviceFailure, Sink, Told, WriteFault, write_bytes};
+use std::marker::Model;
+
+/// How many bytes are held back at most.
+pub const ROOM: usize = 16_384;
+
+/// A sink whose bytes are passed on to another one in pieces of `ROOM`, and by `flush`. It takes no memory of its own.
+#[derive(Drop)]
+pub struct Gathered<W> {
+    inner: W,
+    held: [u8; ROOM],
+    // Those from the first up to the last wait in `held`.
+    first: usize,
+    last: usize,
+    faults: Told,
+}
+
+impl<W> Model for Gathered<W> {
+    ghost use Rattle.std.specs.Prelude.{◌≤◌, ◌-◌, length};
+    ghost use Rattle.archive_listen.specs.Gathering.{GatheredState, rest_of};
+
+    ghost Value = { GatheredState W };
+
+    ghost view = { λ g. record {
+      inner = g.inner;
+      held = rest_of g.first g.last g.held;
+      free = 16_384 - g.last;
+      failures = length g.faults.bytes;
+    } };
+
+    ghost invariant = { λ g. (g.first ≤ g.last) × (g.last ≤ 16_384) };
+}
+
+/// Copies the beginning of the bytes behind the first `at` of the room, as many as fit, and answers how many.
+fn fill(room: &mut [u8; ROOM], at: usize, bytes: &[u8]) -> usize
+    requires { at ≤ 16_384 }
+    ensures count { result ≡ min (length bytes.now) (16_384 - at) }
+    ensures filled { take (at + result) room.new ≡ take at room.old ++ take result bytes.now }
+{
+    let count = bytes.len().min(ROOM - at);
+    room[at..at + count].copy_from_slice(&bytes[..count]);
+    count
+}
+
+/// Writes what lies in the room from the first place up to the last.
+fn write_rest<W: Sink>(
+    out: &mut W,
+    room: &[u8; ROOM],
+    first: usize,
+    last: usize,
+) -> Result<(), WriteFault>
+    requires order { first ≤ last }
+    requires within { last ≤ 16_384 }
+    ensures ok { OnOk result (W.told out.new ≡ W.told out.old ++ rest_of first last room.now) }
+    ensures fault { IfErr result (λ e. (e.written ≤ last - first)
+        × (W.told out.new ++ rest_of (first + e.written) last room.now ≡ W.told out.old ++ rest_of first last room.now)) }
+{
+    match write_bytes(out, &room[first..last]) {
+        Ok(()) => Ok(()),
+        Err(fault) => Err(fault),
+    }
+}
+
+impl<W> Gathered<W> {
+    /// Nothing is held back yet.
+    pub fn new(inner: W) -> Gathered<W>
+        ensures { result ≡ record { inner = inner; held = []; free = 16_384; failures = 0 } }
+    {
+        Gathered {
+            inner,
+            held: [0; ROOM],
+            first: 0,
+            last: 0,
+            faults: Told::new(),
+        }
+    }
+
+    /// The sink that bytes were passed on to. What is still held back is lost.
+    pub fn into_inner(self) -> W
+        ensures { result ≡ self.inner }
+    {
+        self.inner
+    }
+}
+
+impl<W: Sink> Gathered<W> {
+    /// Passes on what is held back, or a beginning of it where that fails.
+    fn pass_on(&mut self) -> Result<(), DeviceFailure>
+        ensures told { W.told self.new.inner ++ self.new.held ≡ W.told self.old.inner ++ self.old.held }
+        ensures ok { OnOk result ((self.new.held ≡ []) × (self.new.free ≡ 16_384)) }
+        ensures quiet { OnOk result (self.new.failures ≡ self.old.failures) }
+        ensures cause { OnErr result (self.new.failures ≡ self.old.failures + 1) }
+    {
+        match write_rest(&mut self.inner, &self.held, self.first, self.last) {
+            Ok(()) => {
+                self.first = 0;
+                self.last = 0;
+                Ok(())
+            }
+            Err(fault) => {
+                self.first += fault.written as usize;
+                self.faults.note(&[0]);
+                Err(DeviceFailure)
+            }
+        }
+    }
+}
+
+impl<W: Sink> Gathered<W> {
+    /// Sees to it that one byte more can be held back.
+    fn make_room(&mut self) -> Result<(), DeviceFailure>
+        ensures told { W.told self.new.inner ++ self.new.held ≡ W.told self.old.inner ++ self.old.held }
+        ensures ok { OnOk result (0 < self.new.free) }
+        ensures quiet { OnOk result (self.new.failures ≡ self.old.failures) }
+        ensures cause { OnErr result (self.new.failures ≡ self.old.failures + 1) }
+    {
+        if self.last == ROOM {
+            self.pass_on()
+        } else {
+            Ok(())
+        }
+    }
+}
+
+impl<W: Sink> Sink for Gathered<W> {
+    ghost told = { λ g. W.told g.inner ++ g.held };
+
+    ghost failures = { λ g. g.failures };
+
+    fn write(&mut self, bytes: &[u8]) -> Result<usize, DeviceFailure> {
+        self.make_room()?;
+        let count = fill(&mut self.held, self.last, bytes);
+        self.last += count;
+        Ok(count)
+    }
+}
+
+impl<W: Sink> Outgoing for Gathered<W> {
+    ghost sent = { λ g. W.told g.inner };
+
+    fn flush(&mut self) -> Result<(), DeviceFailure> {
+        self.pass_on()
+    }
+
+    ghost begins = { λ g. (g.held, refl) };
+}

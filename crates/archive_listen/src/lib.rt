@@ -1,0 +1,15 @@
+//! Connections one after the other: what listens, what answers, and the loop between them.
+#![tactic(auto)]
+
+mod connections;
+mod faults;
+mod gathered;
+mod serving;
+mod sockets;
+mod waiting;
+
+pub use connections::{Connection, Listener, Listening, Outgoing, Ports, Service};
+pub use faults::{AcceptFault, ConnectionFault, ListenFault};
+pub use gathered::{Gathered, ROOM};
+pub use serving::serve_each;
+pub use sockets::{Loopback, LoopbackPorts, SocketInput};

@@ -1,0 +1,254 @@
+//! Connections over the loopback interface.
+ghost use Rattle.std.specs.Prelude.{◌≡◌, ◌≤◌, ◌+◌, ◌++◌, [], length, take, IfOk, MatchResult, ⊤};
+ghost use Rattle.mbox_core.specs.Device.{read_ends, read_faults};
+ghost use Rattle.archive_listen.specs.Sockets.{nothing_read};
+
+use crate::connections::{Connection, Listener, Listening, Ports};
+use crate::faults::{AcceptFault, ListenFault};
+use crate::gathered::Gathered;
+use crate::waiting::{Span, read_within};
+use mbox_core::device::{Counted, DeviceFailure, Source, Told};
+use std::io::{ErrorKind, Read, Write};
+use std::marker::Model;
+use std::net::{Ipv4Addr, Net, OpenListener, OpenStream, Shutdown, TcpListener};
+use std::rt::Clock;
+use std::time::{Duration, Instant};
+
+/// How long the first byte of a request may take, in seconds: browsers open connections in advance that say nothing.
+const FIRST_SECONDS: u64 = 2;
+
+/// How long the next bytes may take, in seconds.
+const NEXT_SECONDS: u64 = 5;
+
+/// How long the whole head may take, in seconds.
+const HEAD_SECONDS: u64 = 10;
+
+/// How long one write may take, in seconds.
+const WRITE_SECONDS: u64 = 30;
+
+/// How long a peer that may still be sending is read on, in seconds.
+const LINGER_SECONDS: u64 = 1;
+
+/// How many bytes are read on at most.
+const LINGER_BYTES: usize = 1_048_576;
+
+/// What is read of a peer, within the times that a request may take. A read past them fails.
+#[derive(Drop)]
+pub struct SocketInput<'a, R, S> {
+    clock: &'a R,
+    stream: S,
+    since: Instant,
+    begun: bool,
+    told: Told,
+    ends: Told,
+    faults: Told,
+}
+
+impl<'a, R, S> Model for SocketInput<'a, R, S> {
+    ghost use Rattle.std.specs.Prelude.{length};
+    ghost use Rattle.archive_listen.specs.Sockets.{InputState};
+
+    ghost Value = { InputState };
+
+    ghost view = { λ i. record {
+      told = i.told.bytes;
+      failures = length i.faults.bytes;
+      ends = length i.ends.bytes;
+    } };
+}
+
+impl<'a, R: Clock, S: Read + OpenStream> SocketInput<'a, R, S> {
+    /// Nothing was read yet. The time that a request may take begins.
+    fn new(clock: &'a R, stream: S, since: Instant) -> SocketInput<'a, R, S>
+        ensures { result ≡ nothing_read }
+    {
+        SocketInput {
+            clock,
+            stream,
+            since,
+            begun: false,
+            told: Told::new(),
+            ends: Told::new(),
+            faults: Told::new(),
+        }
+    }
+}
+
+/// The time that the next bytes of a request may take.
+fn head_span(since: Instant, begun: bool) -> Span {
+    let most = if begun { NEXT_SECONDS } else { FIRST_SECONDS };
+    Span {
+        since,
+        whole: Duration::from_secs(HEAD_SECONDS),
+        most: Duration::from_secs(most),
+    }
+}
+
+impl<'a, R: Clock, S: Read + OpenStream> Source for SocketInput<'a, R, S> {
+    ghost told = { λ i. i.told };
+
+    ghost failures = { λ i. i.failures };
+
+    ghost ends = { λ i. i.ends };
+
+    fn read(&mut self, buffer: &mut [u8]) -> Result<usize, DeviceFailure> {
+        let span = head_span(self.since, self.begun);
+        match read_within(self.clock, &mut self.stream, span, buffer) {
+            Ok(count) => {
+                self.begun = true;
+                if count == 0 && !buffer.is_empty() {
+                    self.ends.note(&[0]);
+                }
+                self.told.note(&buffer[..count]);
+                Ok(count)
+            }
+            Err(failure) => {
+                self.faults.note(&[0]);
+                Err(failure)
+            }
+        }
+    }
+}
+
+/// Ends what is written, and reads on a while, so that the peer gets the reply before the connection is closed.
+fn linger<R: Clock, S: Read + OpenStream>(clock: &R, stream: &mut S) {
+    let Ok(since) = Instant::now(clock) else {
+        return;
+    };
+    if stream.shutdown(Shutdown::Write).is_err() {
+        return;
+    }
+    let span = Span {
+        since,
+        whole: Duration::from_secs(LINGER_SECONDS),
+        most: Duration::from_secs(LINGER_SECONDS),
+    };
+    read_on(clock, stream, span);
+}
+
+/// Reads and drops what comes within a span.
+fn read_on<R: Clock, S: Read + OpenStream>(clock: &R, stream: &mut S, span: Span) {
+    let mut dropped = [0; 8192];
+    let mut total = 0;
+    while total < LINGER_BYTES {
+        match read_within(clock, stream, span, &mut dropped) {
+            Ok(0) | Err(_) => return,
+            Ok(count) => total += count,
+        }
+    }
+}
+
+/// What an `accept` that failed stands for.
+fn accept_fault(kind: ErrorKind) -> AcceptFault {
+    match kind {
+        ErrorKind::ConnectionAborted
+        | ErrorKind::ConnectionReset
+        | ErrorKind::Interrupted
+        | ErrorKind::TimedOut
+        | ErrorKind::NetworkDown
+        | ErrorKind::NetworkUnreachable
+        | ErrorKind::HostUnreachable => AcceptFault::Peer,
+        _ => AcceptFault::Listener,
+    }
+}
+
+/// Listens on 127.0.0.1, and on no other address.
+#[derive(Drop)]
+pub struct Loopback<'a, R: Net> {
+    rt: &'a R,
+    listener: R::Listener,
+}
+
+impl<'a, R: Net> Loopback<'a, R> {
+    /// Listens on a port; 0 stands for one that the system picks. F4: the port is taken, or may not be used.
+    pub fn bind(rt: &'a R, port: u16) -> Result<Loopback<'a, R>, ListenFault> {
+        match TcpListener::bind(rt, (Ipv4Addr::LOCALHOST, port)) {
+            Ok(listener) => Ok(Loopback { rt, listener }),
+            Err(_) => Err(ListenFault),
+        }
+    }
+
+    /// The port.
+    pub fn port(&self) -> Result<u16, ListenFault> {
+        match self.listener.local_addr() {
+            Ok(address) => Ok(address.port()),
+            Err(_) => Err(ListenFault),
+        }
+    }
+}
+
+/// The ports of 127.0.0.1.
+#[derive(Drop)]
+pub struct LoopbackPorts<'a, R> {
+    pub rt: &'a R,
+}
+
+impl<'a, R: Net + Clock> Ports for LoopbackPorts<'a, R> {
+    type Listener = Loopback<'a, R>;
+
+    fn listen(&mut self, port: u16) -> Result<Listening<Loopback<'a, R>>, ListenFault>
+        ensures { ⊤ }
+    {
+        let listener = Loopback::bind(self.rt, port)?;
+        let port = listener.port()?;
+        Ok(Listening { listener, port })
+    }
+}
+
+/// Both directions of a stream, over which nothing went yet. A second descriptor of the same socket is written to.
+fn connection_of<'a, R: Clock, S: Read + Write + OpenStream + Drop>(
+    clock: &'a R,
+    stream: S,
+) -> Result<Connection<SocketInput<'a, R, S>, Gathered<Counted<S>>>, AcceptFault>
+    ensures input { IfOk result (λ c. c.input ≡ nothing_read) }
+    ensures output { IfOk result (λ c. c.output ≡ record { inner = record { inner = c.output.inner.inner; told = []; failures = 0; ends = 0 }; held = []; free = 16_384; failures = 0 }) }
+{
+    let Ok(since) = Instant::now(clock) else {
+        return Err(AcceptFault::Listener);
+    };
+    let Ok(written) = stream.try_clone() else {
+        return Err(AcceptFault::Listener);
+    };
+    let _ = stream.set_nodelay(true);
+    if stream
+        .set_write_timeout(Some(Duration::from_secs(WRITE_SECONDS)))
+        .is_err()
+    {
+        return Err(AcceptFault::Peer);
+    }
+    Ok(Connection {
+        input: SocketInput::new(clock, stream, since),
+        output: Gathered::new(Counted::new(written)),
+    })
+}
+
+impl<'a, R: Net + Clock> Listener for Loopback<'a, R> {
+    type Input = SocketInput<'a, R, R::Stream>;
+
+    type Output = Gathered<Counted<R::Stream>>;
+
+    fn accept(
+        &mut self,
+    ) -> Result<
+        Connection<SocketInput<'a, R, R::Stream>, Gathered<Counted<R::Stream>>>,
+        AcceptFault,
+    > {
+        match self.listener.accept() {
+            Ok((stream, _)) => connection_of(self.rt, stream),
+            Err(error) => Err(accept_fault(error.kind())),
+        }
+    }
+
+    fn close(
+        &mut self,
+        connection: Connection<SocketInput<'a, R, R::Stream>, Gathered<Counted<R::Stream>>>,
+        lingers: bool,
+    )
+        ensures closes { ⊤ }
+    {
+        let mut connection = connection;
+        if lingers {
+            linger(self.rt, &mut connection.input.stream);
+        }
+    }
+}

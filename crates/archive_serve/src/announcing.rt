@@ -1,0 +1,93 @@
+//! Saying where the archive listens, and then serving it.
+ghost use Rattle.std.specs.Prelude.{◌≡◌, ◌≢◌, ◌≤◌, ◌<◌, ◌++◌, List, Some, Err, flat_map, length, IfErr, OnOk, OnErr};
+ghost use Rattle.archive_listen.specs.declared.faults.AcceptFault.TheVariants as accepting;
+ghost use Rattle.archive_listen.specs.Connections.{Outcome, outcome_line};
+ghost use Rattle.archive_listen.specs.Serving.{Served, ServesEach, served};
+ghost use Rattle.archive_serve.specs.Announced.{listening_line};
+ghost use Rattle.archive_serve.specs.Pages.{AnswersAs};
+
+use crate::serving::serve_on;
+use archive_listen::Listener;
+use archive_store::Store;
+use civil_time::Day;
+use mbox_core::device::{Sink, write_bytes};
+use policy_core::Policy;
+use sqlite::Alter;
+use std::alloc::Global;
+use std::error::Error;
+use std::fmt;
+use thread_core::Threader;
+
+/// Why serving ended early, or did not begin. It prints its number and its name.
+#[derive(Clone, Copy, Debug, PartialEq, Eq, Drop)]
+pub enum ServeStop {
+    /// F2: the line that says where the archive listens could not be written. No connection was taken.
+    Write,
+    /// F4: the listener gave no more connections.
+    Listen,
+    /// F5: there was no memory for that line. No connection was taken.
+    Memory,
+}
+
+impl fmt::Display for ServeStop {
+    fn fmt<W: fmt::Write>(&self, f: &mut fmt::Formatter<W>) -> fmt::Result {
+        f.write_str(match self {
+            ServeStop::Write => "F2 Write",
+            ServeStop::Listen => "F4 Net",
+            ServeStop::Memory => "F5 Memory",
+        })
+    }
+}
+
+impl Error for ServeStop {}
+
+/// Writes the line that says where the archive listens.
+fn announce<O: Sink>(alloc: Global, port: u16, output: &mut O) -> Result<(), ServeStop>
+    ensures ok { OnOk result (O.told output.new ≡ O.told output.old ++ listening_line port) }
+    ensures cause { IfErr result (λ stop. stop ≢ ServeStop.Listen) }
+    ensures write { result ≡ Err ServeStop.Write → O.failures output.old < O.failures output.new }
+{
+    let Ok(line) = format!(in alloc; "listening on 127.0.0.1:{port}\n") else {
+        return Err(ServeStop::Memory);
+    };
+    match write_bytes(output, line.as_bytes()) {
+        Ok(()) => Ok(()),
+        Err(_) => Err(ServeStop::Write),
+    }
+}
+
+/// Says on the output where the archive listens, and then answers `count` connections as `serve_on` does. The listener listens
+/// on that port already; an output that holds back what it is given tells nobody in time.
+pub fn serve<T: Threader, S: Alter, L: Listener, O: Sink, E: Sink>(
+    alloc: Global,
+    store: &mut Store<S>,
+    policy: &Policy,
+    threader: &T,
+    day: Day,
+    listener: &mut L,
+    port: u16,
+    count: u32,
+    output: &mut O,
+    faults: &mut E,
+) -> Result<(), ServeStop>
+    ensures announced { OnOk result (O.told output.new ≡ O.told output.old ++ listening_line port) }
+    ensures served { OnOk result ((outcomes : List Outcome) × (length outcomes ≡ count)
+        × ServesEach (AnswersAs S.Store policy.now day) L.accepts L.closes outcomes (served listener.old store.old) (served listener.new store.new)
+        × (E.failures faults.new ≡ E.failures faults.old → E.told faults.new ≡ E.told faults.old ++ flat_map outcome_line outcomes)) }
+
+    // At F4 it was said where the archive listens, and fewer connections were answered; before that nothing was touched.
+    ensures stopped { result ≡ Err ServeStop.Listen → (O.told output.new ≡ O.told output.old ++ listening_line port)
+        × (outcomes : List Outcome) × (last : Served L (Store S)) × (length outcomes < count)
+        × ServesEach (AnswersAs S.Store policy.now day) L.accepts L.closes outcomes (served listener.old store.old) last
+        × (store.new ≡ last.state) × L.accepts last.listener listener.new (Some accepting.Listener)
+        × (E.failures faults.new ≡ E.failures faults.old → E.told faults.new ≡ E.told faults.old ++ flat_map outcome_line outcomes) }
+    ensures untouched { IfErr result (λ stop. stop ≢ ServeStop.Listen
+        → (store.new ≡ store.old) × (listener.new ≡ listener.old) × (faults.new ≡ faults.old)) }
+    ensures write { result ≡ Err ServeStop.Write → O.failures output.old < O.failures output.new }
+{
+    announce(alloc, port, output)?;
+    match serve_on(alloc, store, policy, threader, day, listener, count, faults) {
+        Ok(()) => Ok(()),
+        Err(_) => Err(ServeStop::Listen),
+    }
+}

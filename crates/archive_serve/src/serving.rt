@@ -1,0 +1,47 @@
+//! Answering connections out of a store.
+ghost use Rattle.std.specs.Prelude.{◌≡◌, ◌≤◌, ◌<◌, ◌++◌, List, Some, flat_map, length, OnOk, OnErr};
+ghost use Rattle.archive_listen.specs.declared.faults.AcceptFault.TheVariants as accepting;
+ghost use Rattle.archive_listen.specs.Connections.{Outcome, outcome_line};
+ghost use Rattle.archive_listen.specs.Serving.{Served, ServesEach, served};
+ghost use Rattle.archive_serve.specs.Pages.{AnswersAs};
+
+use crate::pages::Pages;
+use archive_listen::{ListenFault, Listener, serve_each};
+use archive_store::Store;
+use civil_time::Day;
+use mbox_core::device::Sink;
+use policy_core::Policy;
+use sqlite::Alter;
+use std::alloc::Global;
+use thread_core::Threader;
+
+/// Takes `count` connections, one after the other, and answers one request on each, by the policy and on the day; the store stays
+/// as it is. A connection that fails is told in one line, S1 or S2, and the next one follows. F4: after fewer, the listener gave
+/// no more.
+pub fn serve_on<T: Threader, S: Alter, L: Listener, E: Sink>(
+    alloc: Global,
+    store: &mut Store<S>,
+    policy: &Policy,
+    threader: &T,
+    day: Day,
+    listener: &mut L,
+    count: u32,
+    faults: &mut E,
+) -> Result<(), ListenFault>
+    ensures served { OnOk result ((outcomes : List Outcome) × (length outcomes ≡ count)
+        × ServesEach (AnswersAs S.Store policy.now day) L.accepts L.closes outcomes (served listener.old store.old) (served listener.new store.new)
+        × (E.failures faults.new ≡ E.failures faults.old → E.told faults.new ≡ E.told faults.old ++ flat_map outcome_line outcomes)) }
+    ensures stopped { OnErr result ((outcomes : List Outcome) × (last : Served L (Store S)) × (length outcomes < count)
+        × ServesEach (AnswersAs S.Store policy.now day) L.accepts L.closes outcomes (served listener.old store.old) last
+        × (store.new ≡ last.state) × L.accepts last.listener listener.new (Some accepting.Listener)
+        × (E.failures faults.new ≡ E.failures faults.old → E.told faults.new ≡ E.told faults.old ++ flat_map outcome_line outcomes)) }
+    ensures failures { E.failures faults.old ≤ E.failures faults.new }
+{
+    let pages = Pages {
+        alloc,
+        policy,
+        threader,
+        day,
+    };
+    serve_each(&pages, store, listener, count, faults)
+}

@@ -1,0 +1,197 @@
+//! Peers of memory, some of which fail.
+ghost use Rattle.std.specs.Prelude.{⊤};
+
+use crate::words::Words;
+use archive_listen::{AcceptFault, Connection, Gathered, ListenFault, Listener, serve_each};
+use mbox_core::device::Tap;
+use std::alloc::Global;
+use std::process::Abort;
+use std::test::Fail;
+
+/// A peer that a listener gives, or does not.
+#[derive(Clone, Copy)]
+enum Peer {
+    /// It is gone before it is taken.
+    Gone,
+    /// It says this, and each direction passes so many bytes.
+    Says {
+        text: &'static [u8],
+        reads: usize,
+        writes: usize,
+    },
+}
+
+/// Asks for what is there.
+const GETS: Peer = Peer::Says {
+    text: b"GET",
+    reads: 1000,
+    writes: 1000,
+};
+
+/// Asks for something else.
+const PUTS: Peer = Peer::Says {
+    text: b"PUT",
+    reads: 1000,
+    writes: 1000,
+};
+
+/// Says nothing, to its end.
+const ENDS: Peer = Peer::Says {
+    text: b"",
+    reads: 1000,
+    writes: 1000,
+};
+
+/// Gives these peers, and then no more. What each of them got is kept, with `+` behind it where its connection lingered.
+#[derive(Drop)]
+struct Peers<'a> {
+    alloc: Global,
+    peers: &'a [Peer],
+    at: usize,
+    got: Vec<u8>,
+}
+
+impl<'a> Listener for Peers<'a> {
+    type Input = Tap;
+
+    type Output = Gathered<Tap>;
+
+    fn accept(&mut self) -> Result<Connection<Tap, Gathered<Tap>>, AcceptFault> {
+        let Some(peer) = self.peers.get(self.at) else {
+            return Err(AcceptFault::Listener);
+        };
+        self.at += 1;
+        let Peer::Says {
+            text,
+            reads,
+            writes,
+        } = *peer
+        else {
+            return Err(AcceptFault::Peer);
+        };
+        let Ok(input) = Tap::new(self.alloc, text, reads) else {
+            return Err(AcceptFault::Listener);
+        };
+        let Ok(output) = Tap::new(self.alloc, b"", writes) else {
+            return Err(AcceptFault::Listener);
+        };
+        Ok(Connection {
+            input,
+            output: Gathered::new(output),
+        })
+    }
+
+    fn close(&mut self, connection: Connection<Tap, Gathered<Tap>>, lingers: bool)
+        ensures closes { ⊤ }
+    {
+        let output = connection.output.into_inner();
+        let _ = self.got.extend_from_slice(output.bytes());
+        if lingers {
+            let _ = self.got.push(b'+');
+        }
+    }
+}
+
+/// What comes of some peers.
+struct Case {
+    peers: &'static [Peer],
+    count: u32,
+    outcome: Result<(), ListenFault>,
+    answered: u32,
+    got: &'static [u8],
+    told: &'static [u8],
+}
+
+const CASES: [Case; 6] = [
+    Case {
+        peers: &[],
+        count: 0,
+        outcome: Ok(()),
+        answered: 0,
+        got: b"",
+        told: b"",
+    },
+    Case {
+        peers: &[GETS, PUTS, GETS, GETS],
+        count: 3,
+        outcome: Ok(()),
+        answered: 3,
+        got: b"200 yes\n404 no\n+200 yes\n",
+        told: b"",
+    },
+    Case {
+        peers: &[Peer::Gone, GETS],
+        count: 2,
+        outcome: Ok(()),
+        answered: 1,
+        got: b"200 yes\n",
+        told: b"archive: S1 Read\n",
+    },
+    Case {
+        peers: &[
+            Peer::Says {
+                text: b"GET",
+                reads: 0,
+                writes: 1000,
+            },
+            Peer::Says {
+                text: b"GET",
+                reads: 1000,
+                writes: 5,
+            },
+            GETS,
+        ],
+        count: 3,
+        outcome: Ok(()),
+        answered: 2,
+        got: b"200 y200 yes\n",
+        told: b"archive: S1 Read\narchive: S2 Write\n",
+    },
+    Case {
+        peers: &[ENDS, GETS],
+        count: 2,
+        outcome: Ok(()),
+        answered: 2,
+        got: b"404 no\n+200 yes\n",
+        told: b"",
+    },
+    Case {
+        peers: &[GETS, Peer::Gone],
+        count: 4,
+        outcome: Err(ListenFault),
+        answered: 1,
+        got: b"200 yes\n",
+        told: b"archive: S1 Read\n",
+    },
+];
+
+fn comes(rt: &impl Abort, alloc: Global, case: &Case) -> Result<(), Fail> {
+    let mut answered = 0;
+    let mut listener = Peers {
+        alloc,
+        peers: case.peers,
+        at: 0,
+        got: Vec::new(alloc),
+    };
+    let mut faults = Tap::new(alloc, b"", 1000)?;
+    let outcome = serve_each(
+        &Words,
+        &mut answered,
+        &mut listener,
+        case.count,
+        &mut faults,
+    );
+    assert_eq!(rt; outcome, case.outcome);
+    assert_eq!(rt; answered, case.answered);
+    assert_eq!(rt; listener.got.as_slice(), case.got);
+    assert_eq!(rt; faults.bytes(), case.told);
+    Ok(())
+}
+
+#[test]
+fn each_peer_is_answered_once(rt: HostRuntime) -> Result<(), Fail> {
+    for case in &CASES {
+        comes(&rt, rt.alloc(), case)?;
+    }
+    Ok(())
+}
