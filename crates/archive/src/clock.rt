@@ -1,6 +1,6 @@
 //! The day by the system's clock.
 use archive_run::DayClock;
-use mail_core::{Day, Instant};
+use civil_time::{Day, Instant};
 use std::rt::Clock;
 use std::time::{SystemTime, UNIX_EPOCH};
 

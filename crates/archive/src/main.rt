@@ -2,14 +2,21 @@
 #![tactic(auto)]
 
 mod clock;
+mod databases;
 
-use archive_run::{BAD_WORDS, DONE, REFUSED, Refusal, SystemFiles, run, tell};
+use archive_desk::DeskFault;
+use archive_listen::LoopbackPorts;
+use archive_run::{BAD_WORDS, DONE, REFUSED, Refusal, SystemFiles, run, run_serve, tell};
+use archive_words::{Order, ServeOrder, order};
 use clock::SystemDay;
+use databases::SystemDatabases;
 use mbox_core::device::{Counted, write_bytes};
 use std::alloc::{AllocError, Global};
 use std::env;
+use std::hash::RandomState;
 use std::io::{self, BufWriter, Write};
 use std::process::ExitCode;
+use thread_core::NodeThreader;
 
 /// How much output is gathered before it is written.
 const OUTPUT_ROOM: usize = 131_072;
@@ -35,9 +42,11 @@ fn run_streams(rt: &HostRuntime, words: &[&str]) -> u8 {
     let mut input = Counted::new(rt.reader());
     let mut output = Counted::new(&mut gathered);
     let files = SystemFiles { rt };
+    let mut databases = SystemDatabases { rt };
     let status = run(
         alloc,
         &files,
+        &mut databases,
         words,
         &mut clock,
         &mut input,
@@ -45,10 +54,59 @@ fn run_streams(rt: &HostRuntime, words: &[&str]) -> u8 {
         &mut faults,
     );
     if gathered.flush().is_err() && status == DONE {
-        tell(alloc, &mut faults, &Refusal::Write);
+        tell(alloc, &mut faults, &output_refusal(words));
         return REFUSED;
     }
     status
+}
+
+/// Serves an archive. Standard output is written to at once, so that where it listens is known before the first connection.
+fn serve_streams(rt: &HostRuntime, asked: &ServeOrder<'_>) -> u8 {
+    let alloc = rt.alloc();
+    let mut faults = Counted::new(rt.stderr());
+    let mut output = Counted::new(io::writer(rt));
+    let mut clock = SystemDay { rt };
+    let mut databases = SystemDatabases { rt };
+    let mut ports = LoopbackPorts { rt };
+    let files = SystemFiles { rt };
+    let Ok(state) = RandomState::new(rt) else {
+        tell(alloc, &mut faults, &Refusal::Memory);
+        return REFUSED;
+    };
+    let served = run_serve(
+        alloc,
+        &files,
+        &mut databases,
+        &NodeThreader::new(state),
+        &mut clock,
+        &mut ports,
+        asked,
+        &mut output,
+        &mut faults,
+    );
+    match served {
+        Ok(()) => DONE,
+        Err(refusal) => {
+            tell(alloc, &mut faults, &refusal);
+            REFUSED
+        }
+    }
+}
+
+/// Serves where the words order it, and else carries out what they order.
+fn run_words(rt: &HostRuntime, words: &[&str]) -> u8 {
+    match order(rt.alloc(), words) {
+        Ok(Order::Serve(asked)) => serve_streams(rt, &asked),
+        _ => run_streams(rt, words),
+    }
+}
+
+/// What a standard output that fails is called: G6 in `export`, which the first word names, and F2 in every other order.
+fn output_refusal(words: &[&str]) -> Refusal {
+    match words.first() {
+        Some(word) if *word == "export" => Refusal::Desk(DeskFault::Write),
+        _ => Refusal::Write,
+    }
 }
 
 fn main(rt: HostRuntime) -> ExitCode {
@@ -66,7 +124,7 @@ fn main(rt: HostRuntime) -> ExitCode {
         return ExitCode::from(REFUSED);
     };
     match borrowed(alloc, words.as_slice()) {
-        Ok(words) => ExitCode::from(run_streams(&rt, words.as_slice())),
+        Ok(words) => ExitCode::from(run_words(&rt, words.as_slice())),
         Err(_) => {
             tell(alloc, &mut faults, &Refusal::Memory);
             ExitCode::from(REFUSED)

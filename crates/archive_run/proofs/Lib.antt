@@ -1,3 +1,6 @@
 pub mod RunLemmas
+pub mod StatusLemmas
 pub mod SiftLemmas
 pub mod SiftExamples
+pub mod WorkLemmas
+pub mod OrderLemmas

@@ -1,11 +1,10 @@
--- Worked examples of which messages pass, and of ages.
+-- Worked examples of which messages pass.
 use Rattle.std.specs.Prelude.{◌≡◌, ℕ, ℤ, pos, List, [], ◌∷◌, codes, true, false, Option, Some, None}
 use Rattle.std.proofs.Common.{refl}
 use Rattle.policy_core.specs.Rules.{open_rule}
 use Rattle.policy_core.specs.declared.access.Standing.TheVariants.{Public}
 use Rattle.mbox_core.specs.Division.{Item}
 use Rattle.mbox_core.specs.Written.{written}
-use Rattle.archive_words.specs.Orders.{age_of_text}
 use Rattle.archive_run.specs.Sifting.{Asked, passes, sifted}
 
 -- a message that arrived on 4 March 2003 at 10:00, and one on 12 March at 10:30
@@ -43,23 +42,3 @@ the_older_of_two = refl
 both_in_order : sifted (open_rule ∷ []) (asked_on (pos 12131) (Some 8)) (early ∷ late ∷ [])
     ≡ written (early ∷ late ∷ [])
 both_in_order = refl
-
-greatest_age : age_of_text (codes "36500") ≡ Some 36500
-unfolding age_of_text
-greatest_age = refl
-
-zeros_before : age_of_text (codes "007") ≡ Some 7
-unfolding age_of_text
-zeros_before = refl
-
-past_the_greatest : age_of_text (codes "36501") ≡ None
-unfolding age_of_text
-past_the_greatest = refl
-
-with_a_sign : age_of_text (codes "+7") ≡ None
-unfolding age_of_text
-with_a_sign = refl
-
-no_digit : age_of_text [] ≡ None
-unfolding age_of_text
-no_digit = refl

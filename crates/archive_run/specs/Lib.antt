@@ -1,3 +1,6 @@
 pub mod Sifting
 pub mod Refusals
 pub mod Running
+pub mod Databases
+pub mod Working
+pub mod Orders

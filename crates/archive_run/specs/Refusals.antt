@@ -1,26 +1,76 @@
 -- How refusals are told.
-use Rattle.std.specs.Prelude.{◌≡◌, ◌⊎◌, ◌++◌, ℕ, List, codes, decimal}
+use Rattle.std.specs.Prelude.{◌≡◌, ◌⊎◌, ◌++◌, ℕ, List, codes, decimal, string_bytes}
+use Rattle.mbox_core.specs.declared.faults.MboxFault.{MboxFault}
 use Rattle.mbox_core.specs.declared.faults.MboxFault.TheVariants as mbox
+use Rattle.policy_core.specs.declared.faults.PolicyFault.{PolicyFault}
 use Rattle.policy_core.specs.declared.faults.PolicyFault.TheVariants as policy
+use Rattle.archive_store.specs.declared.faults.StoreFault.{StoreFault}
+use Rattle.archive_store.specs.declared.faults.StoreFault.TheVariants as store
+use Rattle.archive_desk.specs.declared.faults.DeskFault.{DeskFault}
+use Rattle.archive_desk.specs.declared.faults.DeskFault.TheVariants as desk
+use Rattle.archive_desk.specs.declared.importing.ImportFault.{ImportFault}
+use Rattle.archive_desk.specs.declared.importing.ImportFault.TheVariants as taking
 use Rattle.archive_run.specs.declared.faults.Refusal.{Refusal}
-use Rattle.archive_run.specs.declared.faults.Refusal.TheVariants.{Mbox, Policy, Read, Write, Clock, Memory}
+use Rattle.archive_run.specs.declared.faults.Refusal.TheVariants.{Mbox, Policy, Store, Desk, Import, Denied, Read, Write, Clock, Net, Memory}
 
--- the number and the name, and where the fault is
+abbrev pub mbox_text : MboxFault → List ℕ
+mbox_text (mbox.Preamble offset) = codes "M1 Preamble at " ++ decimal offset
+mbox_text mbox.Read = codes "M2 Read"
+mbox_text mbox.Memory = codes "M3 Memory"
+mbox_text mbox.Failed = codes "M4 Failed"
+
+abbrev pub policy_text : PolicyFault → List ℕ
+policy_text policy.NotToml = codes "P1 NotToml"
+policy_text (policy.UnknownKey rule) = codes "P2 UnknownKey in rule " ++ decimal rule
+policy_text (policy.WrongType rule) = codes "P3 WrongType in rule " ++ decimal rule
+policy_text (policy.BadName rule) = codes "P4 BadName in rule " ++ decimal rule
+policy_text (policy.DuplicateName rule) = codes "P5 DuplicateName in rule " ++ decimal rule
+policy_text (policy.BadValue rule) = codes "P6 BadValue in rule " ++ decimal rule
+policy_text policy.TooManyRules = codes "P7 TooManyRules"
+policy_text policy.Memory = codes "P8 Memory"
+
+abbrev pub store_text : StoreFault → List ℕ
+store_text store.BadName = codes "E1 BadName"
+store_text store.BadText = codes "E2 BadText"
+store_text store.ListExists = codes "E3 ListExists"
+store_text store.NoList = codes "E4 NoList"
+store_text store.PersonExists = codes "E5 PersonExists"
+store_text store.NoPerson = codes "E6 NoPerson"
+store_text store.TokenTaken = codes "E7 TokenTaken"
+store_text store.NoMessage = codes "E8 NoMessage"
+store_text store.AlreadyWithdrawn = codes "E9 AlreadyWithdrawn"
+store_text store.NotWithdrawn = codes "E10 NotWithdrawn"
+store_text store.BadDays = codes "E11 BadDays"
+store_text store.ListFull = codes "E12 ListFull"
+store_text store.TooLarge = codes "E13 TooLarge"
+store_text store.Memory = codes "E14 Memory"
+store_text store.Store = codes "E15 Store"
+
+abbrev pub desk_text : DeskFault → List ℕ
+desk_text desk.NoList = codes "G1 NoList"
+desk_text desk.NoPerson = codes "G2 NoPerson"
+desk_text desk.NotInView = codes "G3 NotInView"
+desk_text (desk.Store fault) = codes "G4 Store"
+desk_text desk.Memory = codes "G5 Memory"
+desk_text desk.Write = codes "G6 Write"
+
+abbrev pub import_text : ImportFault → List ℕ
+import_text (taking.Mbox fault) = mbox_text fault
+import_text (taking.Store fault) = store_text fault
+
+-- The number and the name, and where the fault is. Of an import that stopped, how many messages were done; of a message that
+-- is denied, the rule that denies it.
 abbrev pub refusal_text : Refusal → List ℕ
-refusal_text (Mbox (mbox.Preamble offset)) = codes "M1 Preamble at " ++ decimal offset
-refusal_text (Mbox mbox.Read) = codes "M2 Read"
-refusal_text (Mbox mbox.Memory) = codes "M3 Memory"
-refusal_text (Policy policy.NotToml) = codes "P1 NotToml"
-refusal_text (Policy (policy.UnknownKey rule)) = codes "P2 UnknownKey in rule " ++ decimal rule
-refusal_text (Policy (policy.WrongType rule)) = codes "P3 WrongType in rule " ++ decimal rule
-refusal_text (Policy (policy.BadName rule)) = codes "P4 BadName in rule " ++ decimal rule
-refusal_text (Policy (policy.DuplicateName rule)) = codes "P5 DuplicateName in rule " ++ decimal rule
-refusal_text (Policy (policy.BadValue rule)) = codes "P6 BadValue in rule " ++ decimal rule
-refusal_text (Policy policy.TooManyRules) = codes "P7 TooManyRules"
-refusal_text (Policy policy.Memory) = codes "P8 Memory"
+refusal_text (Mbox fault) = mbox_text fault
+refusal_text (Policy fault) = policy_text fault
+refusal_text (Store fault) = store_text fault
+refusal_text (Desk fault) = desk_text fault
+refusal_text (Import stop) = import_text stop.fault ++ codes " after " ++ decimal stop.done
+refusal_text (Denied rule) = codes "denied by " ++ string_bytes rule
 refusal_text Read = codes "F1 Read"
 refusal_text Write = codes "F2 Write"
 refusal_text Clock = codes "F3 Clock"
+refusal_text Net = codes "F4 Net"
 refusal_text Memory = codes "F5 Memory"
 
 -- the one line that tells a refusal

@@ -3,14 +3,15 @@ use Rattle.std.specs.Prelude.{◌≡◌, ◌≢◌, ◌<◌, ◌+◌, ◌++◌, 
 use Rattle.policy_core.specs.Rules.{Rule, open_rule}
 use Rattle.policy_core.specs.Written.{written_policy}
 use Rattle.policy_core.specs.declared.faults.PolicyFault.TheVariants as policy
-use Rattle.mbox_core.specs.Division.{IsPreamble}
 use Rattle.mbox_core.specs.declared.faults.MboxFault.TheVariants as mbox
 use Rattle.archive_run.specs.declared.faults.Refusal.{Refusal}
 use Rattle.archive_run.specs.declared.faults.Refusal.TheVariants.{Mbox, Policy, Read, Write, Clock, Memory}
 use Rattle.archive_run.specs.declared.files.FileFault.{FileFault}
 use Rattle.archive_run.specs.declared.files.FileFault.TheVariants as file
 use Rattle.archive_words.specs.Values.{SiftValues}
-use Rattle.archive_run.specs.Sifting.{Asked, SiftsTold, SiftsPart}
+use Rattle.mbox_core.specs.declared.faults.MboxFault.{MboxFault}
+use Rattle.archive_run.specs.declared.sifting.SiftFault.TheVariants as sift
+use Rattle.archive_run.specs.Sifting.{Asked, SiftsTold, SiftsPart, IsUnread}
 
 -- ---- the policy
 
@@ -81,13 +82,6 @@ module _ {C : Type 0} (tells : C → C → Option ℤ → Type 0) (order : SiftV
     pub read_well : after.read_failures ≡ before.read_failures
     pub wrote_well : after.write_failures ≡ before.write_failures
 
-  -- the clock told a day where it was asked, and no byte was written
-  pub record WritesNothing : Type 0 where
-    pub day : ℤ
-    pub is_day : IsDayOf (Some day)
-    pub unwritten : after.written ≡ before.written
-    pub untried : after.write_failures ≡ before.write_failures
-
   -- the output failed, and took a beginning of the messages that pass
   pub record SiftsPartly (rules : List Rule) : Type 0 where
     pub day : ℤ
@@ -96,14 +90,19 @@ module _ {C : Type 0} (tells : C → C → Option ℤ → Type 0) (order : SiftV
     pub sifts : SiftsPart rules (asked_on order day) before.read after.read before.written after.written count
     pub failed : before.write_failures < after.write_failures
 
+  -- the clock told a day where it was asked, and the fault of the input is as a sift tells it
+  pub record SiftsUnread (rules : List Rule) (fault : MboxFault) : Type 0 where
+    pub day : ℤ
+    pub is_day : IsDayOf (Some day)
+    pub unread : IsUnread rules (asked_on order day) before.read after.read before.written after.written (sift.Mbox fault)
+    pub untried : after.write_failures ≡ before.write_failures
+
   -- Why a sift by some rules was refused: the clock gave no day (F3), the input is no mbox (M1), a read failed (M2), there
   -- was no memory (M3), the output failed (F2).
   abbrev pub IsSiftCause : List Rule → Refusal → Type 0
   IsSiftCause rules Clock = IsDayOf None × (after ≡ before)
-  IsSiftCause rules (Mbox (mbox.Preamble offset)) =
-      WritesNothing × (bytes : List ℕ) × (after.read ≡ before.read ++ bytes) × IsPreamble bytes offset
-  IsSiftCause rules (Mbox mbox.Read) = WritesNothing × (before.read_failures < after.read_failures)
-  IsSiftCause rules (Mbox mbox.Memory) = WritesNothing
+  IsSiftCause rules (Mbox mbox.Read) = SiftsUnread rules mbox.Read × (before.read_failures < after.read_failures)
+  IsSiftCause rules (Mbox fault) = SiftsUnread rules fault
   IsSiftCause rules Write = SiftsPartly rules
   IsSiftCause rules _ = ⊥
 

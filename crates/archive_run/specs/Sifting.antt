@@ -1,14 +1,17 @@
 -- Which messages of an mbox pass, and what is written of them.
-use Rattle.std.specs.Prelude.{◌≡◌, ◌<◌, ◌^◌, ℕ, ℤ, pos, int_le, List, ◌++◌, length, filter, Bool, true, false, ◌&&◌, Option, Some, None}
-use Rattle.mail_core.specs.Calendar.{day_of_instant}
-use Rattle.mbox_core.specs.Division.{Item, Divides}
+use Rattle.std.specs.Prelude.{◌≡◌, ◌<◌, ◌-◌, ◌^◌, [], min, ℕ, ℤ, pos, int_le, List, ◌++◌, length, filter, Bool, true, false, ◌&&◌, Option, Some, None}
+use Rattle.civil_time.specs.Calendar.{day_of_instant}
+use Rattle.mbox_core.specs.Division.{Item, Divides, IsPreamble}
 use Rattle.mbox_core.specs.Written.{written, IsCutShort}
 use Rattle.policy_core.specs.Facts.{Facts, age}
 use Rattle.policy_core.specs.Rules.{Rule}
 use Rattle.policy_core.specs.Verdict.{Ruling, allowed, denied, verdict_of}
 use Rattle.policy_core.specs.declared.access.Standing.{Standing}
 use Rattle.policy_core.specs.declared.access.Withdrawn.TheVariants.{No}
-use Rattle.mbox_core.specs.declared.faults.MboxFault.TheVariants.{Preamble, Read, Memory}
+use Rattle.mbox_core.specs.declared.faults.MboxFault.TheVariants.{Preamble, Read, Memory, Failed}
+use Rattle.mbox_stream.specs.Stream.{IsBeginning, settled_items, IsCounted}
+use Rattle.mbox_stream.specs.Cutter.{CutterState, IsCutter}
+use Rattle.mbox_stream.specs.declared.cutter.Standing.TheVariants.{Open}
 use Rattle.archive_run.specs.declared.sifting.SiftFault.{SiftFault}
 use Rattle.archive_run.specs.declared.sifting.SiftFault.TheVariants.{Mbox, Write}
 
@@ -72,8 +75,39 @@ abbrev pub OnWrite : SiftFault → (ℕ → Type 0) → Type 0
 OnWrite (Mbox fault) P = Unit {0}
 OnWrite (Write written) P = P written
 
-abbrev pub OnPreamble : SiftFault → (ℕ → Type 0) → Type 0
-OnPreamble (Mbox (Preamble offset)) P = P offset
-OnPreamble (Mbox Read) P = Unit {0}
-OnPreamble (Mbox Memory) P = Unit {0}
-OnPreamble (Write written) P = Unit {0}
+-- ---- a fault of the input: what was read of it are these bytes
+
+-- what passes of the settled messages went out
+abbrev pub SiftsSettled : List Rule → Asked → List ℕ → List ℕ → List ℕ → List ℕ → Type 0
+SiftsSettled rules asked in_old in_new out_old out_new =
+    (bytes : List ℕ) × (in_new ≡ in_old ++ bytes) × (out_new ≡ out_old ++ sifted rules asked (settled_items bytes))
+
+-- what passes of a beginning of the settled messages went out
+abbrev pub SiftsBegun : List Rule → Asked → List ℕ → List ℕ → List ℕ → List ℕ → Type 0
+SiftsBegun rules asked in_old in_new out_old out_new =
+    (bytes : List ℕ) × (items : List Item) × (in_new ≡ in_old ++ bytes) × IsBeginning items (settled_items bytes)
+    × (out_new ≡ out_old ++ sifted rules asked items)
+
+-- their first line that is not empty is no separator line, and nothing went out
+abbrev pub IsNoMbox : ℕ → List ℕ → List ℕ → List ℕ → List ℕ → Type 0
+IsNoMbox n in_old in_new out_old out_new =
+    (bytes : List ℕ) × (offset : ℕ) × (in_new ≡ in_old ++ bytes) × IsPreamble bytes offset × IsCounted bytes n offset
+    × (out_new ≡ out_old)
+
+-- by the fault
+abbrev pub IsUnread : List Rule → Asked → List ℕ → List ℕ → List ℕ → List ℕ → SiftFault → Type 0
+IsUnread rules asked in_old in_new out_old out_new (Mbox (Preamble n)) = IsNoMbox n in_old in_new out_old out_new
+IsUnread rules asked in_old in_new out_old out_new (Mbox Read) = SiftsSettled rules asked in_old in_new out_old out_new
+IsUnread rules asked in_old in_new out_old out_new (Mbox Memory) = SiftsBegun rules asked in_old in_new out_old out_new
+IsUnread rules asked in_old in_new out_old out_new (Mbox Failed) = ⊥
+IsUnread rules asked in_old in_new out_old out_new (Write written) = Unit {0}
+
+-- So far the input gave a stream, of which the cutter may take more, and the output got what passes of the messages that
+-- were taken, in so many bytes; none waits.
+pub record SiftsSoFar (rules : List Rule) (asked : Asked) (in_old in_new out_old out_new : List ℕ) (cutter : CutterState) (count : ℕ) : Type 0 where
+  pub read : in_new ≡ in_old ++ cutter.stream
+  pub out : out_new ≡ out_old ++ sifted rules asked cutter.taken
+  pub counted : count ≡ min (length (sifted rules asked cutter.taken)) (2 ^ 64 - 1)
+  pub none_waits : cutter.waiting ≡ []
+  pub goes_on : cutter.standing ≡ Open
+  pub given : IsCutter cutter

@@ -1,5 +1,5 @@
 //! Which day it is.
-use mail_core::Day;
+use civil_time::Day;
 
 /// Whoever knows which day it is, in UTC. `None`: it does not.
 pub trait DayClock {

@@ -1,7 +1,9 @@
 //! What the program says where it refuses.
 ghost use Rattle.std.specs.Prelude.{◌≡◌};
-ghost use Rattle.archive_run.specs.Refusals.{TellsOf};
+ghost use Rattle.archive_run.specs.Refusals.{TellsOf, desk_text, store_text};
 
+use archive_desk::{DeskFault, ImportFault, ImportStop};
+use archive_store::StoreFault;
 use mbox_core::MboxFault;
 use mbox_core::device::{Sink, write_bytes};
 use policy_core::PolicyFault;
@@ -9,20 +11,136 @@ use std::alloc::Global;
 use std::fmt;
 
 /// Why an order was not carried out. It prints its number and its name.
-#[derive(Debug, Clone, Copy, PartialEq, Eq, Drop)]
+#[derive(Debug, PartialEq, Eq, Drop)]
 pub enum Refusal {
-    /// M1 to M3: the mbox on standard input.
+    /// M1 to M4: the mbox on standard input.
     Mbox(MboxFault),
     /// P1 to P8: the policy.
     Policy(PolicyFault),
+    /// E1 to E15: a command, or a database that is not opened.
+    Store(StoreFault),
+    /// G1 to G6: a question of a reader.
+    Desk(DeskFault),
+    /// M1, E4, E12, E14, E15: an import, with the number of messages that were done.
+    Import(ImportStop),
+    /// The rule of this name denies a message.
+    Denied(String),
     /// F1: a file could not be read.
     Read,
     /// F2: standard output failed.
     Write,
     /// F3: the clock did not tell the day.
     Clock,
+    /// F4: the network.
+    Net,
     /// F5: no memory.
     Memory,
+}
+
+/// A refusal of an mbox, as it prints.
+#[derive(Clone, Copy)]
+struct MboxText(MboxFault);
+
+impl fmt::Display for MboxText {
+    ghost use Rattle.std.specs.Prelude.{Some};
+    ghost use Rattle.archive_run.specs.Refusals.{mbox_text};
+
+    ghost output = { λ text. Some (mbox_text text.0) };
+
+    fn fmt<W: fmt::Write>(&self, f: &mut fmt::Formatter<W>) -> fmt::Result {
+        match self.0 {
+            MboxFault::Preamble(offset) => write!(f, "M1 Preamble at {offset}"),
+            MboxFault::Read => f.write_str("M2 Read"),
+            MboxFault::Memory => f.write_str("M3 Memory"),
+            MboxFault::Failed => f.write_str("M4 Failed"),
+        }
+    }
+}
+
+/// A refusal of a policy, as it prints.
+#[derive(Clone, Copy)]
+struct PolicyText(PolicyFault);
+
+impl fmt::Display for PolicyText {
+    ghost use Rattle.std.specs.Prelude.{Some};
+    ghost use Rattle.archive_run.specs.Refusals.{policy_text};
+
+    ghost output = { λ text. Some (policy_text text.0) };
+
+    fn fmt<W: fmt::Write>(&self, f: &mut fmt::Formatter<W>) -> fmt::Result {
+        match self.0 {
+            PolicyFault::NotToml => f.write_str("P1 NotToml"),
+            PolicyFault::UnknownKey(rule) => write!(f, "P2 UnknownKey in rule {rule}"),
+            PolicyFault::WrongType(rule) => write!(f, "P3 WrongType in rule {rule}"),
+            PolicyFault::BadName(rule) => write!(f, "P4 BadName in rule {rule}"),
+            PolicyFault::DuplicateName(rule) => write!(f, "P5 DuplicateName in rule {rule}"),
+            PolicyFault::BadValue(rule) => write!(f, "P6 BadValue in rule {rule}"),
+            PolicyFault::TooManyRules => f.write_str("P7 TooManyRules"),
+            PolicyFault::Memory => f.write_str("P8 Memory"),
+        }
+    }
+}
+
+/// A refusal of the store, as it prints.
+fn store_name(fault: StoreFault) -> &'static str
+    ensures { result.now ≡ store_text fault }
+{
+    match fault {
+        StoreFault::BadName => "E1 BadName",
+        StoreFault::BadText => "E2 BadText",
+        StoreFault::ListExists => "E3 ListExists",
+        StoreFault::NoList => "E4 NoList",
+        StoreFault::PersonExists => "E5 PersonExists",
+        StoreFault::NoPerson => "E6 NoPerson",
+        StoreFault::TokenTaken => "E7 TokenTaken",
+        StoreFault::NoMessage => "E8 NoMessage",
+        StoreFault::AlreadyWithdrawn => "E9 AlreadyWithdrawn",
+        StoreFault::NotWithdrawn => "E10 NotWithdrawn",
+        StoreFault::BadDays => "E11 BadDays",
+        StoreFault::ListFull => "E12 ListFull",
+        StoreFault::TooLarge => "E13 TooLarge",
+        StoreFault::Memory => "E14 Memory",
+        StoreFault::Store => "E15 Store",
+    }
+}
+
+/// A refusal of the desk, as it prints.
+fn desk_name(fault: DeskFault) -> &'static str
+    ensures { result.now ≡ desk_text fault }
+{
+    match fault {
+        DeskFault::NoList => "G1 NoList",
+        DeskFault::NoPerson => "G2 NoPerson",
+        DeskFault::NotInView => "G3 NotInView",
+        DeskFault::Store(_) => "G4 Store",
+        DeskFault::Memory => "G5 Memory",
+        DeskFault::Write => "G6 Write",
+    }
+}
+
+/// Where an import stopped, as it prints.
+#[derive(Clone, Copy)]
+struct ImportText(ImportStop);
+
+impl fmt::Display for ImportText {
+    ghost use Rattle.std.specs.Prelude.{Some, ◌++◌, codes, decimal};
+    ghost use Rattle.archive_run.specs.Refusals.{import_text};
+
+    ghost output = { λ text. Some (import_text text.0.fault ++ codes " after " ++ decimal text.0.done) };
+
+    fn fmt<W: fmt::Write>(&self, f: &mut fmt::Formatter<W>) -> fmt::Result {
+        let done = self.0.done;
+        match self.0.fault {
+            ImportFault::Mbox(fault) => {
+                let name = MboxText(fault);
+                write!(f, "{name} after {done}")
+            }
+            ImportFault::Store(fault) => {
+                let name = store_name(fault);
+                write!(f, "{name} after {done}")
+            }
+        }
+    }
 }
 
 impl fmt::Display for Refusal {
@@ -33,29 +151,16 @@ impl fmt::Display for Refusal {
 
     fn fmt<W: fmt::Write>(&self, f: &mut fmt::Formatter<W>) -> fmt::Result {
         match self {
-            Refusal::Mbox(MboxFault::Preamble(offset)) => write!(f, "M1 Preamble at {offset}"),
-            Refusal::Mbox(MboxFault::Read) => f.write_str("M2 Read"),
-            Refusal::Mbox(MboxFault::Memory) => f.write_str("M3 Memory"),
-            Refusal::Policy(PolicyFault::NotToml) => f.write_str("P1 NotToml"),
-            Refusal::Policy(PolicyFault::UnknownKey(rule)) => write!(
-                f,
-                "P2 UnknownKey in rule {rule}"
-            ),
-            Refusal::Policy(PolicyFault::WrongType(rule)) => write!(
-                f,
-                "P3 WrongType in rule {rule}"
-            ),
-            Refusal::Policy(PolicyFault::BadName(rule)) => write!(f, "P4 BadName in rule {rule}"),
-            Refusal::Policy(PolicyFault::DuplicateName(rule)) => write!(
-                f,
-                "P5 DuplicateName in rule {rule}"
-            ),
-            Refusal::Policy(PolicyFault::BadValue(rule)) => write!(f, "P6 BadValue in rule {rule}"),
-            Refusal::Policy(PolicyFault::TooManyRules) => f.write_str("P7 TooManyRules"),
-            Refusal::Policy(PolicyFault::Memory) => f.write_str("P8 Memory"),
+            Refusal::Mbox(fault) => MboxText(*fault).fmt(f),
+            Refusal::Policy(fault) => PolicyText(*fault).fmt(f),
+            Refusal::Store(fault) => f.write_str(store_name(*fault)),
+            Refusal::Desk(fault) => f.write_str(desk_name(*fault)),
+            Refusal::Import(stop) => ImportText(*stop).fmt(f),
+            Refusal::Denied(rule) => write!(f, "denied by {rule}"),
             Refusal::Read => f.write_str("F1 Read"),
             Refusal::Write => f.write_str("F2 Write"),
             Refusal::Clock => f.write_str("F3 Clock"),
+            Refusal::Net => f.write_str("F4 Net"),
             Refusal::Memory => f.write_str("F5 Memory"),
         }
     }

@@ -3,13 +3,19 @@
 #![tactic(auto)]
 
 mod clock;
+mod databases;
 mod faults;
 mod files;
+mod ordering;
 mod running;
+mod serving;
 mod sifting;
+mod working;
 
 pub use clock::DayClock;
+pub use databases::Databases;
 pub use faults::{Refusal, tell};
 pub use files::{FileFault, ReadFiles, SystemFiles};
 pub use running::{BAD_WORDS, DONE, REFUSED, run};
+pub use serving::run_serve;
 pub use sifting::{SiftFault, SiftWords, sift};

@@ -1,22 +1,28 @@
 //! Running the order that words give.
-ghost use Rattle.std.specs.Prelude.{◌≡◌, ◌≤◌, ◌⊎◌, ◌+◌, List, map, option_map, string_bytes, true, false, Some, None, Ok, IfOk, IfErr, OnOk};
+ghost use Rattle.std.specs.Prelude.{◌≡◌, ◌≤◌, ◌⊎◌, ◌+◌, List, map, option_map, string_bytes, true, false, Some, None, Ok, IfOk, IfErr, OnOk, MatchResult};
 ghost use Rattle.clap.specs.Words.{takes};
 ghost use Rattle.policy_core.specs.Rules.{Rule};
 ghost use Rattle.policy_core.specs.Written.{written_policy};
 ghost use Rattle.archive_words.specs.Program.{archive_app};
-ghost use Rattle.archive_words.specs.Orders.{ordered};
+ghost use Rattle.archive_words.specs.Orders.{IsMemory, ordered};
+ghost use Rattle.archive_words.specs.declared.orders.Order.{Order};
 ghost use Rattle.archive_words.specs.Values.{SiftValues};
 ghost use Rattle.archive_run.specs.Refusals.{TellsOf};
+ghost use Rattle.archive_run.specs.Orders.{IsOrderDone, IsOrderCause, OnSift};
+ghost use Rattle.archive_run.specs.Working.{sent};
 ghost use Rattle.archive_run.specs.Running.{IsPolicyRefusal, IsPolicyOf, IsPolicyCause, IsDayBy, needs_day, streams, SiftsBy, IsSiftCause, IsRunSiftCause};
 
 use crate::clock::DayClock;
+use crate::databases::Databases;
 use crate::faults::{Refusal, tell};
 use crate::files::{FileFault, ReadFiles};
+use crate::ordering::{run_export, run_get, run_import, run_table};
 use crate::sifting::{SiftFault, SiftWords, sift};
 use archive_words::{Order, OrderStop, SiftOrder, order};
-use mail_core::Day;
+use civil_time::Day;
 use mbox_core::device::{Sink, Source, write_bytes};
 use policy_core::{Policy, PolicyFault};
+use sqlite::Alter;
 use std::alloc::Global;
 
 /// Exit status: the order was carried out.
@@ -57,7 +63,7 @@ fn read_policy(alloc: Global, text: &str) -> Result<Policy, Refusal>
 }
 
 /// The policy of a file, or the open one where none is named.
-fn asked_policy<F: ReadFiles>(
+pub(crate) fn asked_policy<F: ReadFiles>(
     alloc: Global,
     files: &F,
     name: Option<&str>,
@@ -140,12 +146,123 @@ fn run_sift<F: ReadFiles, C: DayClock, R: Source, W: Sink>(
     sift_by(alloc, &policy, asked, clock, input, output)
 }
 
+/// Carries out an order.
+fn run_order<F: ReadFiles, S: Alter, D: Databases<S>, C: DayClock, R: Source, W: Sink>(
+    alloc: Global,
+    files: &F,
+    databases: &mut D,
+    asked: &Order<'_>,
+    clock: &mut C,
+    input: &mut R,
+    output: &mut W,
+) -> Result<(), Refusal>
+    ensures sifted { OnOk result (OnSift asked.now (λ order. (rules : List Rule) × IsPolicyOf F.gives files.now order.policy rules
+        × SiftsBy C.gives order clock.old clock.new
+        (streams (R.told input.old) (R.failures input.old) (W.told output.old) (W.failures output.old))
+        (streams (R.told input.new) (R.failures input.new) (W.told output.new) (W.failures output.new)) rules
+        × (R.ends input.new ≡ R.ends input.old + 1))) }
+    ensures not_sifted { IfErr result (λ refusal. OnSift asked.now (λ order. IsRunSiftCause F.gives files.now C.gives order clock.old clock.new
+        (streams (R.told input.old) (R.failures input.old) (W.told output.old) (W.failures output.old))
+        (streams (R.told input.new) (R.failures input.new) (W.told output.new) (W.failures output.new)) refusal)) }
+    ensures done { OnOk result (IsOrderDone F.gives files.now C.gives S.Store D.opens D.closes clock.old clock.new databases.old databases.new
+        input.old input.new (sent (W.told output.old) (W.failures output.old)) (sent (W.told output.new) (W.failures output.new)) asked.now) }
+    ensures why { IfErr result (λ refusal. IsOrderCause F.gives files.now C.gives S.Store D.opens D.closes clock.old clock.new databases.old databases.new
+        input.old input.new (sent (W.told output.old) (W.failures output.old)) (sent (W.told output.new) (W.failures output.new)) asked.now refusal) }
+{
+    match asked {
+        Order::Sift(asked) => run_sift(alloc, files, asked, clock, input, output),
+        Order::Table(asked) => run_table(alloc, databases, asked, output),
+        Order::Import(asked) => run_import(alloc, databases, files, asked, output),
+        Order::Get(asked) => run_get(alloc, databases, files, asked, clock, output),
+        Order::Export(asked) => run_export(alloc, databases, files, asked, clock, output),
+        Order::Serve(_) => Err(Refusal::Net),
+    }
+}
+
+/// The exit status, with a line where there is a refusal.
+fn finish<E: Sink>(alloc: Global, faults: &mut E, done: &Result<(), Refusal>) -> u8
+    ensures { MatchResult done.now (λ _. (result ≡ 0) × (faults.new ≡ faults.old))
+        (λ refusal. (result ≡ 1) × (E.failures faults.new ≡ E.failures faults.old → TellsOf refusal (E.told faults.old) (E.told faults.new))) }
+{
+    match done {
+        Ok(()) => DONE,
+        Err(refusal) => {
+            tell(alloc, faults, refusal);
+            REFUSED
+        }
+    }
+}
+
+/// Carries out an order, and answers the exit status: 0 done, 1 refused, which one line to `faults` tells.
+fn run_asked<F: ReadFiles, S: Alter, D: Databases<S>, C: DayClock, R: Source, W: Sink, E: Sink>(
+    alloc: Global,
+    files: &F,
+    databases: &mut D,
+    asked: &Order<'_>,
+    clock: &mut C,
+    input: &mut R,
+    output: &mut W,
+    faults: &mut E,
+) -> u8
+    ensures status { result ≤ 1 }
+    ensures silent { result ≡ 0 → E.told faults.new ≡ E.told faults.old }
+    ensures sifted { result ≡ 0 → OnSift asked.now (λ order. (rules : List Rule) × IsPolicyOf F.gives files.now order.policy rules
+        × SiftsBy C.gives order clock.old clock.new
+        (streams (R.told input.old) (R.failures input.old) (W.told output.old) (W.failures output.old))
+        (streams (R.told input.new) (R.failures input.new) (W.told output.new) (W.failures output.new)) rules
+        × (R.ends input.new ≡ R.ends input.old + 1)) }
+    ensures not_sifted { result ≡ 1 → (refusal : Refusal)
+        × (E.failures faults.new ≡ E.failures faults.old → TellsOf refusal (E.told faults.old) (E.told faults.new))
+        × OnSift asked.now (λ order. IsRunSiftCause F.gives files.now C.gives order clock.old clock.new
+        (streams (R.told input.old) (R.failures input.old) (W.told output.old) (W.failures output.old))
+        (streams (R.told input.new) (R.failures input.new) (W.told output.new) (W.failures output.new)) refusal) }
+    ensures done { result ≡ 0 → IsOrderDone F.gives files.now C.gives S.Store D.opens D.closes clock.old clock.new databases.old databases.new
+        input.old input.new (sent (W.told output.old) (W.failures output.old)) (sent (W.told output.new) (W.failures output.new)) asked.now }
+    ensures why { result ≡ 1 → (refusal : Refusal)
+        × (E.failures faults.new ≡ E.failures faults.old → TellsOf refusal (E.told faults.old) (E.told faults.new))
+        × IsOrderCause F.gives files.now C.gives S.Store D.opens D.closes clock.old clock.new databases.old databases.new
+        input.old input.new (sent (W.told output.old) (W.failures output.old)) (sent (W.told output.new) (W.failures output.new)) asked.now refusal }
+{
+    let done = run_order(alloc, files, databases, asked, clock, input, output);
+    finish(alloc, faults, &done)
+}
+
+/// What is said where the words gave no order, and the exit status.
+fn say_stop<W: Sink, E: Sink>(alloc: Global, stop: &OrderStop, output: &mut W, faults: &mut E) -> u8
+    ensures status { result ≤ 2 }
+    ensures silent { result ≡ 0 → E.told faults.new ≡ E.told faults.old }
+    ensures refused { result ≡ 1 → (refusal : Refusal)
+        × (E.failures faults.new ≡ E.failures faults.old → TellsOf refusal (E.told faults.old) (E.told faults.new)) }
+    ensures memory { IsMemory stop.now → (result ≡ 1) × (output.new ≡ output.old)
+        × (E.failures faults.new ≡ E.failures faults.old → TellsOf Refusal.Memory (E.told faults.old) (E.told faults.new)) }
+    ensures untouched { result ≡ 2 → output.new ≡ output.old }
+{
+    match stop {
+        OrderStop::Help(text) => match write_bytes(output, text.as_bytes()) {
+            Ok(()) => DONE,
+            Err(_) => {
+                tell(alloc, faults, &Refusal::Write);
+                REFUSED
+            }
+        },
+        OrderStop::Words(text) => {
+            let _ = write_bytes(faults, text.as_bytes());
+            BAD_WORDS
+        }
+        OrderStop::Memory => {
+            tell(alloc, faults, &Refusal::Memory);
+            REFUSED
+        }
+    }
+}
+
 /// Carries out what the words order, which do not begin with the program's name, and answers the exit status: 0 done,
 /// 1 refused, 2 bad words. Help and the version go to the output; a refusal is one line, and what is wrong with bad
 /// words is a text, both to `faults`.
-pub fn run<F: ReadFiles, C: DayClock, R: Source, W: Sink, E: Sink>(
+pub fn run<F: ReadFiles, S: Alter, D: Databases<S>, C: DayClock, R: Source, W: Sink, E: Sink>(
     alloc: Global,
     files: &F,
+    databases: &mut D,
     words: &[&str],
     clock: &mut C,
     input: &mut R,
@@ -175,33 +292,27 @@ pub fn run<F: ReadFiles, C: DayClock, R: Source, W: Sink, E: Sink>(
         (streams (R.told input.old) (R.failures input.old) (W.told output.old) (W.failures output.old))
         (streams (R.told input.new) (R.failures input.new) (W.told output.new) (W.failures output.new)) refusal) }
 
+    // The same of every order, over the databases: what was done, and why it was not.
+    ensures done { (order : Order) → takes archive_app (map (λ w. w.now) words.now) ≡ true
+        → ordered (map (λ w. w.now) words.now) ≡ Some order → result ≡ 0
+        → IsOrderDone F.gives files.now C.gives S.Store D.opens D.closes clock.old clock.new databases.old databases.new input.old input.new
+        (sent (W.told output.old) (W.failures output.old)) (sent (W.told output.new) (W.failures output.new)) order }
+    ensures why { (order : Order) → takes archive_app (map (λ w. w.now) words.now) ≡ true
+        → ordered (map (λ w. w.now) words.now) ≡ Some order → result ≡ 1 → (refusal : Refusal)
+        × (E.failures faults.new ≡ E.failures faults.old → TellsOf refusal (E.told faults.old) (E.told faults.new))
+        × (((refusal ≡ Refusal.Memory) × (clock.new ≡ clock.old) × (input.new ≡ input.old) × (output.new ≡ output.old) × (databases.new ≡ databases.old))
+        ⊎ IsOrderCause F.gives files.now C.gives S.Store D.opens D.closes clock.old clock.new databases.old databases.new input.old input.new
+        (sent (W.told output.old) (W.failures output.old)) (sent (W.told output.new) (W.failures output.new)) order refusal) }
+
     // At 2 the words order nothing, and nothing is touched.
     ensures bad { result ≡ 2 → (takes archive_app (map (λ w. w.now) words.now) ≡ false)
         ⊎ (ordered (map (λ w. w.now) words.now) ≡ None) }
-    ensures untouched { result ≡ 2 → (clock.new ≡ clock.old) × (input.new ≡ input.old) × (output.new ≡ output.old) }
+    ensures untouched { result ≡ 2 → (clock.new ≡ clock.old) × (input.new ≡ input.old) × (output.new ≡ output.old) × (databases.new ≡ databases.old) }
 {
     match order(alloc, words) {
-        Ok(Order::Sift(asked)) => match run_sift(alloc, files, &asked, clock, input, output) {
-            Ok(()) => DONE,
-            Err(refusal) => {
-                tell(alloc, faults, &refusal);
-                REFUSED
-            }
-        },
-        Err(OrderStop::Help(text)) => match write_bytes(output, text.as_bytes()) {
-            Ok(()) => DONE,
-            Err(_) => {
-                tell(alloc, faults, &Refusal::Write);
-                REFUSED
-            }
-        },
-        Err(OrderStop::Words(text)) => {
-            let _ = write_bytes(faults, text.as_bytes());
-            BAD_WORDS
-        }
-        Err(OrderStop::Memory) => {
-            tell(alloc, faults, &Refusal::Memory);
-            REFUSED
-        }
+        Ok(asked) => run_asked(
+            alloc, files, databases, &asked, clock, input, output, faults,
+        ),
+        Err(stop) => say_stop(alloc, &stop, output, faults),
     }
 }

@@ -4,18 +4,25 @@
 //!
 //!     mbox TEXT      what the next runs read, with `\n`, `\r` and `\\` as escapes
 //!     file NAME      what they read: this file
+//!     new            no database is there
 //!     clock DAY      the day that their clock tells; `clock none`: it tells none
 //!     $ WORDS        a run with these words; a word in double quotes may be empty or hold spaces
 //!     <N $ WORDS     a run whose input fails after N bytes
 //!     >N $ WORDS     a run whose output fails after N bytes
 //!     <each $ WORDS  runs whose input fails after each number of bytes
 //!     >each $ WORDS  runs whose output fails after each number of bytes that it would have written
+//!
+//! A database `broken.db` cannot be opened, and for `no-memory.db` there is no memory; every other one is made where it is
+//! not there, and kept.
 #![tactic(auto)]
+
+mod shelf;
 
 use anyhow::{Context, bail};
 use archive_run::{DayClock, SystemFiles, run};
-use mail_core::Day;
+use civil_time::Day;
 use mbox_core::device::{Counted, Tap, read_all, write_bytes};
+use shelf::Shelf;
 use std::alloc::{AllocError, AllocGlobal, Global};
 use std::rt::Files;
 use std::{fs, io};
@@ -38,6 +45,7 @@ impl DayClock for Still {
 struct Stage {
     input: Vec<u8>,
     today: Option<Day>,
+    databases: Shelf,
 }
 
 /// What came of a run.
@@ -51,7 +59,7 @@ struct Ran {
 impl Stage {
     /// A run over an input that passes `passes` bytes and an output that passes `room`.
     fn run<RT: Files + AllocGlobal>(
-        &self,
+        &mut self,
         rt: &RT,
         words: &[&str],
         passes: usize,
@@ -66,6 +74,7 @@ impl Stage {
         let status = run(
             alloc,
             &files,
+            &mut self.databases,
             words,
             &mut clock,
             &mut input,
@@ -81,7 +90,7 @@ impl Stage {
 
     /// How many of the runs whose input fails, after each number of bytes, wrote nothing and said the same as the first.
     fn failing_reads<RT: Files + AllocGlobal>(
-        &self,
+        &mut self,
         rt: &RT,
         words: &[&str],
     ) -> anyhow::Result<(usize, Ran)> {
@@ -98,7 +107,7 @@ impl Stage {
 
     /// How many of the runs whose output fails wrote just what the output took, and said the same as the first.
     fn failing_writes<RT: Files + AllocGlobal>(
-        &self,
+        &mut self,
         rt: &RT,
         words: &[&str],
     ) -> anyhow::Result<(usize, Ran)> {
@@ -173,7 +182,7 @@ fn push_alike(page: &mut Vec<u8>, alloc: Global, alike: (usize, Ran)) -> anyhow:
 /// Carries out the run that a line orders: what stands before the sign `$`, and the words behind it.
 fn play<RT: Files + AllocGlobal>(
     rt: &RT,
-    stage: &Stage,
+    stage: &mut Stage,
     devices: &str,
     line: &str,
     page: &mut Vec<u8>,
@@ -215,6 +224,8 @@ fn follow<RT: Files + AllocGlobal>(
         stage.input = unescaped(rt.alloc(), text)?;
     } else if let Some(name) = line.strip_prefix("file ") {
         stage.input = fs::read(rt, name)?;
+    } else if line == "new" {
+        stage.databases = Shelf::new(rt.alloc());
     } else if let Some(day) = line.strip_prefix("clock ") {
         stage.today = Day::read(day.as_bytes());
     } else if let Some((devices, words)) = line.split_once('$') {
@@ -232,6 +243,7 @@ fn main(rt: HostRuntime) -> anyhow::Result<()> {
     let mut stage = Stage {
         input: Vec::new(alloc),
         today: None,
+        databases: Shelf::new(alloc),
     };
     let mut page = Vec::new(alloc);
     for line in script.lines() {

@@ -1,7 +1,23 @@
-use Rattle.std.proofs.Common.{rules, inr}
+use Rattle.std.proofs.Common.{inl, inr, refl}
+use Rattle.archive_run.specs.declared.faults.Refusal.TheVariants.{Memory}
+use Rattle.archive_run.proofs.StatusLemmas.{stopped, same_order, on_sift}
 use Rattle.archive_run.proofs.running.run.Goals as goal
 
-pub returns-in-Ok-Sift-clause-cause : goal.returns-in-Ok-Sift-clause-cause
-returns-in-Ok-Sift-clause-cause g c =
-    λ asked takes orders status.
-    (c.in-Err.refusal, c.tell.ensures, inr (search (rules, orders, c.in-Ok-Sift.ensures.ok, c.in-Err.ensures.cause)))
+pub returns-in-Ok-clause-cause : goal.returns-in-Ok-clause-cause
+returns-in-Ok-clause-cause g c =
+    λ asked takes orders one.
+    let refused = c.run_asked.ensures.not_sifted one in
+    let cause = on_sift _ _ _ (same_order _ _ _ c.in-Ok.ensures.ok orders) refused.2 in
+    (refused.0, refused.1, inr cause)
+
+pub returns-in-Err-clause-cause : goal.returns-in-Err-clause-cause
+returns-in-Err-clause-cause g c =
+    λ asked takes orders one.
+    let said = c.say_stop.ensures.memory (stopped _ _ _ c.in-Err.ensures.refused takes orders) in
+    (Memory, said.2, inl (refl, refl, refl, said.1))
+
+pub returns-in-Err-clause-why : goal.returns-in-Err-clause-why
+returns-in-Err-clause-why g c =
+    λ order takes orders one.
+    let said = c.say_stop.ensures.memory (stopped _ _ _ c.in-Err.ensures.refused takes orders) in
+    (Memory, said.2, inl (refl, refl, refl, said.1, refl))

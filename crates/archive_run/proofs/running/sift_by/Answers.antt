@@ -5,7 +5,7 @@ use Rattle.archive_run.proofs.running.sift_by.Goals as goal
 pub returns-in-Err-Mbox-clause-cause : goal.returns-in-Err-Mbox-clause-cause
 returns-in-Err-Mbox-clause-cause g c =
     mbox_cause _ _ _ _ _ _ c.args.policy.now c.in-Err-Mbox.field-0 _ c.in-Some.day c.in-Err-Mbox.field-0-is c.in-Some.ensures
-    c.in-Err-Mbox.ensures.unread c.in-Err-Mbox.ensures.preamble
+    c.in-Err-Mbox.ensures.calm (rw (← c.asked.view_is) c.in-Err-Mbox.ensures.unread)
     (λ e. c.sift.ensures.read (c.in-Err-Mbox.is ∙ ap Err e))
 
 pub returns-in-Err-Write-clause-cause : goal.returns-in-Err-Write-clause-cause

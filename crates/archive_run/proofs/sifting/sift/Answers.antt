@@ -1,16 +1,25 @@
-use Rattle.std.proofs.Common.{refl}
-use Rattle.archive_run.proofs.SiftLemmas.{divides_at}
+use Rattle.std.proofs.Common.{◌+◌, ◌<◌, [], ◌++◌, append-nil, ◌∙◌, Err, ap, sym, refl, arith}
+use Rattle.archive_run.proofs.SiftLemmas.{end_fault, told_end, part_end}
 use Rattle.archive_run.proofs.sifting.sift.Goals as goal
+
+pub returns-in-Err-finish-clause-unread : goal.returns-in-Err-finish-clause-unread
+returns-in-Err-finish-clause-unread g c =
+    let s = c.in-Ok.ensures.ok in
+    end_fault _ _ _ _ _ _ c.sift_settled.new.cutter _ s _ [] c.finish.new.self.stream (sym (append-nil _)) (c.finish.ensures.stream ∙ sym (append-nil _))
+    c.in-Err-finish.fault c.in-Err-finish.ensures.fault.0
+    (λ h. c.finish.ensures.closed.0 (c.in-Err-finish.is ∙ ap Err h) s.goes_on)
+
+pub returns-in-Ok-write_waiting-clause-ok : goal.returns-in-Ok-write_waiting-clause-ok
+returns-in-Ok-write_waiting-clause-ok g c =
+    let s = c.in-Ok.ensures.ok in
+    told_end _ _ _ _ _ _ c.sift_settled.new.cutter _ s _ [] c.finish.new.self.stream (sym (append-nil _)) (c.finish.ensures.stream ∙ sym (append-nil _))
+    c.finish.new.self _ refl c.finish.ensures.taken c.in-Ok-finish.ensures.finished c.finish.ensures.given c.in-Ok-write_waiting.ensures.ok
 
 pub returns-clause-write : goal.returns-clause-write
 returns-clause-write g c =
-    let divided = divides_at c.in-Ok-cut.messages c.deref.result.now c.in-Ok.mbox.items c.deref.ensures.value c.in-Ok-cut.ensures.ok in (
-      (
-        c.in-Ok.mbox.items,
-        _,
-        c.in-Ok.ensures.text,
-        record { items = c.in-Ok-cut.messages; divided = divided; are_sifted = refl },
-        c.in-Err-write_passing.ensures.fault,
-      ),
-      c.in-Err-write_passing.ensures.cause,
+    let s = c.in-Ok.ensures.ok in
+    let w = c.in-Err-write_waiting.ensures in (
+      part_end _ _ _ _ _ _ c.sift_settled.new.cutter _ s _ [] c.finish.new.self.stream (sym (append-nil _)) (c.finish.ensures.stream ∙ sym (append-nil _))
+          c.finish.new.self _ _ _ refl c.finish.ensures.taken c.in-Ok-finish.ensures.finished c.finish.ensures.given w.fault c.saturating_add.ensures,
+      omega (arith, c.in-Ok.ensures.quiet.1, w.cause),
     )

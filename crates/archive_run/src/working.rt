@@ -1,0 +1,149 @@
+//! Orders over a database: each opens the database of the name, does one thing, and closes it.
+ghost use Rattle.std.specs.Prelude.{◌≡◌, ◌⊎◌, ℕ, Ok, Err, MatchResult, IfErr, OnOk};
+ghost use Rattle.archive_work.specs.Working.{Carries, Exports, Gets};
+ghost use Rattle.archive_run.specs.Databases.{Works, IsUnopened};
+ghost use Rattle.archive_run.specs.Working.{ExportsNot, Fails, GetsNot, ImportsFile, ImportsNot, NotOpened, sent};
+
+use crate::databases::Databases;
+use crate::faults::Refusal;
+use crate::files::{FileFault, ReadFiles};
+use archive_desk::{Report, export, import};
+use archive_results::Ask;
+use archive_store::{Store, StoreFault};
+use archive_words::{ImportOrder, TableOrder};
+use archive_work::{Answer, GetStop, carry_out, get};
+use mbox_core::device::Sink;
+use sqlite::Alter;
+use std::alloc::Global;
+
+/// Carries a command out in the database of the order.
+pub(crate) fn work_table<S: Alter, D: Databases<S>>(
+    alloc: Global,
+    databases: &mut D,
+    order: &TableOrder<'_>,
+) -> Result<Answer, StoreFault>
+    ensures worked { MatchResult result
+        (λ answer. Works D.opens D.closes databases.old databases.new order.now.file (λ o c. Carries S.Store o c order.now.command (Ok answer)))
+        (λ fault. IsUnopened D.opens D.closes databases.old databases.new order.now.file fault
+        ⊎ Works D.opens D.closes databases.old databases.new order.now.file (λ o c. Carries S.Store o c order.now.command (Err fault))) }
+{
+    let mut store = databases.open(alloc, order.file)?;
+    let answer = carry_out(&mut store, &order.command);
+    databases.close(store);
+    answer
+}
+
+/// Takes the messages of the file of this name into a list of an open store.
+fn import_file<S: Alter, F: ReadFiles>(
+    store: &mut Store<S>,
+    alloc: Global,
+    files: &F,
+    list: &str,
+    name: &str,
+) -> Result<Report, Refusal>
+    ensures imported { MatchResult result
+        (λ report. ImportsFile S.Store store.old store.new F.gives files.now list.now name.now report)
+        (λ refusal. ImportsNot S.Store store.old store.new F.gives files.now list.now name.now refusal) }
+{
+    let mbox = match files.read_file(alloc, name) {
+        Ok(mbox) => mbox,
+        Err(FileFault::Read) => return Err(Refusal::Read),
+        Err(FileFault::Memory) => return Err(Refusal::Memory),
+    };
+    match import(store, alloc, list, &mbox) {
+        Ok(report) => Ok(report),
+        Err(stop) => Err(Refusal::Import(stop)),
+    }
+}
+
+/// Takes the messages of the mbox of the order into its list.
+pub(crate) fn work_import<S: Alter, D: Databases<S>, F: ReadFiles>(
+    alloc: Global,
+    databases: &mut D,
+    files: &F,
+    order: &ImportOrder<'_>,
+) -> Result<Report, Refusal>
+    ensures worked { MatchResult result
+        (λ report. Works D.opens D.closes databases.old databases.new order.now.file
+        (λ o c. ImportsFile S.Store o c F.gives files.now order.now.list order.now.mbox report))
+        (λ refusal. Fails D.opens D.closes databases.old databases.new order.now.file
+        (λ o c. ImportsNot S.Store o c F.gives files.now order.now.list order.now.mbox) refusal) }
+{
+    let mut store = match databases.open(alloc, order.file) {
+        Ok(store) => store,
+        Err(fault) => return Err(Refusal::Store(fault)),
+    };
+    let imported = import_file(&mut store, alloc, files, order.list, order.mbox);
+    databases.close(store);
+    imported
+}
+
+/// What a reader gets of a message of an open store.
+fn get_text<S: Alter>(
+    store: &mut Store<S>,
+    alloc: Global,
+    ask: &Ask<'_>,
+    key: &str,
+) -> Result<Vec<u8>, Refusal>
+    ensures got { MatchResult result
+        (λ text. Gets S.Store store.old store.new ask.now key.now (Ok text))
+        (λ refusal. GetsNot S.Store store.old store.new ask.now key.now refusal) }
+{
+    match get(store, alloc, ask, key) {
+        Ok(text) => Ok(text),
+        Err(GetStop::Fault(fault)) => Err(Refusal::Desk(fault)),
+        Err(GetStop::NoMessage) => Err(Refusal::Store(StoreFault::NoMessage)),
+        Err(GetStop::Denied(rule)) => match String::from_str(alloc, rule) {
+            Ok(rule) => Err(Refusal::Denied(rule)),
+            Err(_) => Err(Refusal::Memory),
+        },
+    }
+}
+
+/// What a reader gets of a message of the database of this name.
+pub(crate) fn work_get<S: Alter, D: Databases<S>>(
+    alloc: Global,
+    databases: &mut D,
+    file: &str,
+    ask: &Ask<'_>,
+    key: &str,
+) -> Result<Vec<u8>, Refusal>
+    ensures worked { MatchResult result
+        (λ text. Works D.opens D.closes databases.old databases.new file.now (λ o c. Gets S.Store o c ask.now key.now (Ok text)))
+        (λ refusal. Fails D.opens D.closes databases.old databases.new file.now (λ o c. GetsNot S.Store o c ask.now key.now) refusal) }
+{
+    let mut store = match databases.open(alloc, file) {
+        Ok(store) => store,
+        Err(fault) => return Err(Refusal::Store(fault)),
+    };
+    let text = get_text(&mut store, alloc, ask, key);
+    databases.close(store);
+    text
+}
+
+/// Writes the messages of a list of the database of this name that the reader may see.
+pub(crate) fn work_export<S: Alter, D: Databases<S>, W: Sink>(
+    alloc: Global,
+    databases: &mut D,
+    file: &str,
+    ask: &Ask<'_>,
+    output: &mut W,
+) -> Result<(), Refusal>
+    ensures done { OnOk result ((count : ℕ) × Works D.opens D.closes databases.old databases.new file.now
+        (λ o c. Exports S.Store o c ask.now (W.told output.old) (W.told output.new) (Ok count))) }
+    ensures quiet { OnOk result (W.failures output.new ≡ W.failures output.old) }
+    ensures failed { IfErr result (λ refusal. (NotOpened D.opens D.closes databases.old databases.new file.now refusal × (output.new ≡ output.old))
+        ⊎ Works D.opens D.closes databases.old databases.new file.now (λ o c. ExportsNot S.Store o c ask.now
+        (sent (W.told output.old) (W.failures output.old)) (sent (W.told output.new) (W.failures output.new)) refusal)) }
+{
+    let mut store = match databases.open(alloc, file) {
+        Ok(store) => store,
+        Err(fault) => return Err(Refusal::Store(fault)),
+    };
+    let exported = export(&mut store, alloc, ask, output);
+    databases.close(store);
+    match exported {
+        Ok(_count) => Ok(()),
+        Err(stop) => Err(Refusal::Desk(stop.fault)),
+    }
+}

@@ -1,0 +1,60 @@
+use Rattle.std.proofs.Common.{refl, sym, subst}
+use Rattle.archive_machine.specs.Machine.{granted, revoked}
+use Rattle.archive_store.specs.Held.{held_of}
+use Rattle.archive_store.specs.Replies.{Does, says_done, says_whether}
+use Rattle.archive_words.specs.Values.{command_of, list_add, person_add, grant, revoke}
+use Rattle.archive_work.specs.Working.{Carries}
+use Rattle.archive_work.specs.declared.commands.Answer.TheVariants.{Added, Granted, Revoked, NoGrant}
+use Rattle.archive_work.proofs.CarryLemmas.{carries_done, carries_whether}
+use Rattle.archive_work.proofs.commands.carry_out.Goals as goal
+
+pub returns-in-ListAdd : goal.returns-in-ListAdd
+returns-in-ListAdd g c =
+    let old = c.args.store.now in
+    let new = c.list_add.new.self in
+    let words = list_add c.in-ListAdd.name.now in
+    record {
+      carried = subst (λ m. Carries g.S.Store old new (command_of m) c.says.result) (sym c.in-ListAdd.is)
+          (subst (λ r. Carries g.S.Store old new words r) (sym c.says.ensures)
+          (carries_done g.S.Store old new words c.list_add.ensures.clean Added c.list_add.result refl c.list_add.ensures.step));
+    }
+
+pub returns-in-PersonAdd : goal.returns-in-PersonAdd
+returns-in-PersonAdd g c =
+    let old = c.args.store.now in
+    let new = c.person_add.new.self in
+    let words = person_add c.in-PersonAdd.name.now c.in-PersonAdd.token.now in
+    record {
+      carried = subst (λ m. Carries g.S.Store old new (command_of m) c.says-in-PersonAdd.result) (sym c.in-PersonAdd.is)
+          (subst (λ r. Carries g.S.Store old new words r) (sym c.says-in-PersonAdd.ensures)
+          (carries_done g.S.Store old new words c.person_add.ensures.clean Added c.person_add.result refl c.person_add.ensures.step));
+    }
+
+pub returns-in-Grant : goal.returns-in-Grant
+returns-in-Grant g c =
+    let old = c.args.store.now in
+    let new = c.grant.new.self in
+    let arm = c.in-Grant in
+    let words = grant arm.person.now arm.list.now arm.kind arm.from arm.until in
+    record {
+      carried = subst (λ m. Carries g.S.Store old new (command_of m) c.says-in-Grant.result) (sym arm.is)
+          (subst (λ r. Carries g.S.Store old new words r) (sym c.says-in-Grant.ensures)
+          (carries_done g.S.Store old new words c.grant.ensures.clean Granted c.grant.result refl
+          (subst (λ rank. Does g.S.Store (held_of old) (held_of new)
+          (λ a. granted a (record { person = arm.person.now; list = arm.list.now; rank = rank; from_day = arm.from; until_day = arm.until })) (says_done c.grant.result))
+          c.kind_of.ensures c.grant.ensures.step)));
+    }
+
+pub returns-in-Revoke : goal.returns-in-Revoke
+returns-in-Revoke g c =
+    let old = c.args.store.now in
+    let new = c.revoke.new.self in
+    let arm = c.in-Revoke in
+    let words = revoke arm.person.now arm.list.now arm.kind in
+    record {
+      carried = subst (λ m. Carries g.S.Store old new (command_of m) c.whether.result) (sym arm.is)
+          (subst (λ r. Carries g.S.Store old new words r) (sym c.whether.ensures)
+          (carries_whether g.S.Store old new words c.revoke.ensures.clean Revoked NoGrant c.revoke.result refl refl
+          (subst (λ rank. Does g.S.Store (held_of old) (held_of new) (λ a. revoked a arm.person.now arm.list.now rank) (says_whether c.revoke.result))
+          c.kind_of-in-Revoke.ensures c.revoke.ensures.step)));
+    }

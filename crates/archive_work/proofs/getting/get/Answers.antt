@@ -1,0 +1,58 @@
+use Rattle.std.proofs.Common.{rules, ◌≡◌, refl, ap, subst, true, false, Ok, Err}
+use Rattle.archive_machine.specs.Keys.{is_key}
+use Rattle.archive_results.specs.Access.{told}
+use Rattle.archive_work.specs.Getting.{no_message, denied, given_of}
+use Rattle.archive_work.specs.Working.{Gets}
+use Rattle.archive_work.specs.declared.getting.GetStop.TheVariants.{Fault, NoMessage, Denied}
+use Rattle.archive_work.proofs.GetLemmas.{gets_text, gets_none, gets_fault, gets_no_key}
+use Rattle.archive_work.proofs.getting.get.Goals as goal
+
+pub returns-in-Ok-Served : goal.returns-in-Ok-Served
+returns-in-Ok-Served g c =
+    let is : is_key c.in-Some.key ≡ true = search rules in
+    let old = c.args.store.now in
+    let new = c.message.new.store in
+    let arm = c.in-Ok-Served in
+    record {
+      got = subst (λ k. Gets g.S.Store old new c.args.ask.now k (Ok arm.text)) c.in-Some.ensures.some
+          (gets_text g.S.Store old new c.args.ask.now c.in-Some.key is arm.field-0 arm.text (ap told arm.field-0-is) arm.ensures.asked);
+    }
+
+pub returns-in-Ok-Denied : goal.returns-in-Ok-Denied
+returns-in-Ok-Denied g c =
+    let is : is_key c.in-Some.key ≡ true = search rules in
+    let old = c.args.store.now in
+    let new = c.message.new.store in
+    let arm = c.in-Ok-Denied in
+    record {
+      got = subst (λ k. Gets g.S.Store old new c.args.ask.now k (Err (Denied arm.rule))) c.in-Some.ensures.some
+          (gets_none g.S.Store old new c.args.ask.now c.in-Some.key is arm.field-0 (Denied arm.rule) (denied arm.rule.now)
+          (ap (λ x. given_of (told x)) arm.field-0-is) refl arm.ensures.asked);
+    }
+
+pub returns-in-Ok-Absent : goal.returns-in-Ok-Absent
+returns-in-Ok-Absent g c =
+    let is : is_key c.in-Some.key ≡ true = search rules in
+    let old = c.args.store.now in
+    let new = c.message.new.store in
+    let arm = c.in-Ok-Absent in
+    record {
+      got = subst (λ k. Gets g.S.Store old new c.args.ask.now k (Err NoMessage)) c.in-Some.ensures.some
+          (gets_none g.S.Store old new c.args.ask.now c.in-Some.key is arm.field-0 NoMessage no_message (ap (λ x. given_of (told x)) arm.field-0-is) refl arm.ensures.asked);
+    }
+
+pub returns-in-Err : goal.returns-in-Err
+returns-in-Err g c =
+    let is : is_key c.in-Some.key ≡ true = search rules in
+    let old = c.args.store.now in
+    let new = c.message.new.store in
+    record {
+      got = subst (λ k. Gets g.S.Store old new c.args.ask.now k (Err (Fault c.in-Err.fault))) c.in-Some.ensures.some
+          (gets_fault g.S.Store old new c.args.ask.now c.in-Some.key is c.in-Err.fault c.in-Err.ensures.asked);
+    }
+
+pub returns-in_default : goal.returns-in_default
+returns-in_default g c =
+    let is : is_key c.args.key.now ≡ false = search rules in
+    let store = c.args.store.now in
+    record { got = gets_no_key g.S.Store store store c.args.ask.now c.args.key.now store is }

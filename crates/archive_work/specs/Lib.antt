@@ -1,0 +1,3 @@
+pub mod Commands
+pub mod Getting
+pub mod Working

@@ -1,0 +1,51 @@
+-- What becomes of an open store by each order.
+use Rattle.std.specs.Prelude.{◌≡◌, ◌++◌, ℕ, List, Some, None, Result, Ok, Err, Vec, length, min, ◌^◌, ◌-◌}
+use Rattle.std.specs.declared.alloc.Global.{Global}
+use Rattle.sqlite.specs.Store.{Ghosts}
+use Rattle.archive_machine.specs.Commands.{refused}
+use Rattle.archive_store.specs.Replies.{refusal}
+use Rattle.archive_store.specs.Told.{Calls}
+use Rattle.archive_store.specs.declared.store.Store.{Store}
+use Rattle.archive_store.specs.declared.faults.StoreFault.{StoreFault}
+use Rattle.archive_results.specs.Access.{Ask}
+use Rattle.archive_desk.specs.Exporting.{IsExportRefused, exported, stop_reason as export_reason}
+use Rattle.archive_desk.specs.Faults.{ask_reason}
+use Rattle.archive_desk.specs.Importing.{IsBrokenImport, IsImported, IsRefusedImport, stop_reason as import_reason}
+use Rattle.archive_desk.specs.declared.exporting.ExportStop.{ExportStop}
+use Rattle.archive_desk.specs.declared.importing.ImportStop.{ImportStop}
+use Rattle.archive_desk.specs.declared.importing.Report.{Report}
+use Rattle.archive_words.specs.Values.{TableCommand}
+use Rattle.archive_work.specs.Commands.{answer_to, stepped}
+use Rattle.archive_work.specs.Getting.{got_of, not_given}
+use Rattle.archive_work.specs.declared.commands.Answer.{Answer}
+use Rattle.archive_work.specs.declared.getting.GetStop.{GetStop}
+
+module _ {S : Type 0} (g : Ghosts S) (old new : Store S) where
+  -- A command: the archive takes the command's step, and the answer is its word; a refusal is the step's and leaves the
+  -- archive, and so does a fault of memory or of the database, if the connection is still open.
+  abbrev pub Carries : TableCommand → Result Answer StoreFault → Type 0
+  Carries command result = Calls g old new refusal result
+      (λ a b answer. (b ≡ (stepped a command).0) × (answer_to command (stepped a command).1 ≡ Some answer))
+      (λ a b why. (b ≡ a) × ((stepped a command).1 ≡ refused why))
+      (λ a b _. b ≡ a)
+
+  -- An import of the messages of a file.
+  abbrev pub Imports : (list mbox : List ℕ) → Result Report ImportStop → Type 0
+  Imports list mbox result = Calls g old new import_reason result
+      (λ a b report. IsImported list mbox a b report)
+      (λ a b why. IsRefusedImport list mbox a b why.0 why.1)
+      (λ a b stop. IsBrokenImport list mbox a b stop.done stop.fault)
+
+  -- A message that is asked for: what is got, or why it is not; the archive is as before.
+  abbrev pub Gets : Ask → (key : List ℕ) → Result (Vec ℕ Global) GetStop → Type 0
+  Gets ask key result = Calls g old new not_given result
+      (λ a b text. (b ≡ a) × (got_of a ask key ≡ Ok text.items))
+      (λ a b why. (b ≡ a) × (got_of a ask key ≡ Err why))
+      (λ a b _. b ≡ a)
+
+  -- An export to a writer that told these bytes before and after; the archive is as before.
+  abbrev pub Exports : Ask → (before after : List ℕ) → Result ℕ ExportStop → Type 0
+  Exports ask before after result = Calls g old new export_reason result
+      (λ a b count. (b ≡ a) × (ask_reason a ask ≡ None) × (after ≡ before ++ exported a ask) × (count ≡ min (length (exported a ask)) (2 ^ 64 - 1)))
+      (λ a b why. (b ≡ a) × IsExportRefused (ask_reason a ask) before after (exported a ask) why.0 why.1)
+      (λ a b stop. b ≡ a)

@@ -1,0 +1,103 @@
+//! Databases in memory, by their names: files of `sqlite_disk` that are opened and closed as those of a system are.
+use archive_run::Databases;
+use archive_store::{AdoptStop, Store, StoreFault};
+use sqlite::{Connection, FileStore, Files, Options};
+use sqlite_disk::Memory;
+use std::alloc::Global;
+
+/// A database of this name cannot be opened.
+const BROKEN: &str = "broken.db";
+
+/// For a database of this name there is no memory.
+const NO_MEMORY: &str = "no-memory.db";
+
+/// A database that is closed.
+#[derive(Drop)]
+struct Kept {
+    name: String,
+    files: Files<Memory>,
+}
+
+/// The databases that are closed, and the name of the one that is open.
+#[derive(Drop)]
+pub struct Shelf {
+    kept: Vec<Kept>,
+    open: Option<String>,
+}
+
+impl Shelf {
+    pub fn new(alloc: Global) -> Shelf {
+        Shelf {
+            kept: Vec::new(alloc),
+            open: None,
+        }
+    }
+
+    /// The files of this name: those that were kept, or new ones, which are empty.
+    fn take(&mut self, alloc: Global, name: &str) -> Files<Memory> {
+        match self.kept.iter().position(|kept| kept.name.as_str() == name) {
+            Some(at) => self.kept.swap_remove(at).files,
+            None => Files {
+                log: Memory::new(alloc),
+                db: Memory::new(alloc),
+            },
+        }
+    }
+
+    /// Keeps the files of the database that is open.
+    fn keep(&mut self, files: Files<Memory>) {
+        if let Some(name) = self.open.take() {
+            let _ = self.kept.push(Kept { name, files });
+        }
+    }
+}
+
+/// The archive in these files, or the files again.
+fn adopt(
+    alloc: Global,
+    files: Files<Memory>,
+) -> Result<Store<FileStore<Memory>>, (StoreFault, Files<Memory>)> {
+    if !files.may_be_used() {
+        return Err((StoreFault::Store, files));
+    }
+    let connection = match Connection::open_files(alloc, files, Options::new(1)) {
+        Ok(connection) => connection,
+        Err((error, left)) => return Err((StoreFault::from(error), left.into_files())),
+    };
+    match Store::adopt(connection) {
+        Ok(store) => Ok(store),
+        Err(AdoptStop { connection, fault }) => Err((fault, connection.into_store().close())),
+    }
+}
+
+impl Databases<FileStore<Memory>> for Shelf {
+    ghost use Rattle.std.specs.Prelude.{⊤};
+
+    fn open(&mut self, alloc: Global, name: &str) -> Result<Store<FileStore<Memory>>, StoreFault> {
+        if name == BROKEN {
+            return Err(StoreFault::Store);
+        }
+        if name == NO_MEMORY {
+            return Err(StoreFault::Memory);
+        }
+        self.open = Some(String::from_str(alloc, name)?);
+        let files = self.take(alloc, name);
+        match adopt(alloc, files) {
+            Ok(store) => Ok(store),
+            Err((fault, files)) => {
+                self.keep(files);
+                Err(fault)
+            }
+        }
+    }
+
+    fn close(&mut self, store: Store<FileStore<Memory>>)
+        ensures { ⊤ }
+    {
+        let files = match store.into_connection().close_files() {
+            Ok(files) => files,
+            Err((_error, left)) => left.close(),
+        };
+        self.keep(files);
+    }
+}
