@@ -15,7 +15,7 @@ def imports(text):
     """Returns the crate and module of each name that a file imports from the specs of a crate of the repository."""
     found = {}
     for crate, module, names in IMPORT.findall(text):
-        if crate in OWN and not module.startswith("declared."):
+        if crate in OWN and not module.startswith(("declared.", "contracts.")):
             found.update({name.strip().split(" as ")[-1]: f"{crate}::{module}" for name in names.split(",")})
     return found
 
