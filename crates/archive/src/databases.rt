@@ -10,7 +10,7 @@ pub struct SystemDatabases<'a> {
     pub rt: &'a HostRuntime,
 }
 
-impl<'a> Databases<FileStore<File>> for SystemDatabases<'a> {
+impl<'a> Databases<Store<FileStore<File>>> for SystemDatabases<'a> {
     ghost use Rattle.std.specs.Prelude.{⊤};
 
     fn open(&mut self, _alloc: Global, name: &str) -> Result<Store<FileStore<File>>, StoreFault> {

@@ -93,11 +93,19 @@ fn serve_streams(rt: &HostRuntime, asked: &ServeOrder<'_>) -> u8 {
     }
 }
 
-/// Serves where the words order it, and else carries out what they order.
+/// Serves where that is the order, and else carries out what the words order.
+fn run_order(rt: &HostRuntime, words: &[&str], asked: &Order<'_>) -> u8 {
+    match asked {
+        Order::Serve(asked) => serve_streams(rt, asked),
+        _ => run_streams(rt, words),
+    }
+}
+
+/// Carries out what the words order, or says why they order nothing.
 fn run_words(rt: &HostRuntime, words: &[&str]) -> u8 {
     match order(rt.alloc(), words) {
-        Ok(Order::Serve(asked)) => serve_streams(rt, &asked),
-        _ => run_streams(rt, words),
+        Ok(asked) => run_order(rt, words, &asked),
+        Err(_stop) => run_streams(rt, words),
     }
 }
 

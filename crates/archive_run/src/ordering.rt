@@ -12,6 +12,7 @@ use crate::running::asked_policy;
 use crate::working::{work_export, work_get, work_import, work_table};
 use archive_desk::Report;
 use archive_results::{Ask, Reader};
+use archive_store::Store;
 use archive_words::{AskOrder, GetOrder, ImportOrder, TableOrder};
 use civil_time::Day;
 use mbox_core::device::{Sink, write_bytes};
@@ -33,7 +34,7 @@ fn send<W: Sink>(output: &mut W, text: &[u8]) -> Result<(), Refusal>
 }
 
 /// Carries a command out, and writes its word.
-pub(crate) fn run_table<S: Alter, D: Databases<S>, W: Sink>(
+pub(crate) fn run_table<S: Alter, D: Databases<Store<S>>, W: Sink>(
     alloc: Global,
     databases: &mut D,
     order: &TableOrder<'_>,
@@ -51,7 +52,7 @@ pub(crate) fn run_table<S: Alter, D: Databases<S>, W: Sink>(
 }
 
 /// Takes the messages of a file into a list, and writes how many they were.
-pub(crate) fn run_import<S: Alter, D: Databases<S>, F: ReadFiles, W: Sink>(
+pub(crate) fn run_import<S: Alter, D: Databases<Store<S>>, F: ReadFiles, W: Sink>(
     alloc: Global,
     databases: &mut D,
     files: &F,
@@ -114,7 +115,7 @@ fn ask_of<'a>(order: &AskOrder<'a>, policy: &'a Policy, day: Day) -> Ask<'a>
 }
 
 /// Writes what the reader gets of a message under a policy, on the day of the order.
-fn get_by<S: Alter, D: Databases<S>, C: DayClock, W: Sink>(
+fn get_by<S: Alter, D: Databases<Store<S>>, C: DayClock, W: Sink>(
     alloc: Global,
     databases: &mut D,
     policy: &Policy,
@@ -139,7 +140,7 @@ fn get_by<S: Alter, D: Databases<S>, C: DayClock, W: Sink>(
 }
 
 /// Reads the policy, asks the day, and then writes what the reader gets of a message.
-pub(crate) fn run_get<S: Alter, D: Databases<S>, F: ReadFiles, C: DayClock, W: Sink>(
+pub(crate) fn run_get<S: Alter, D: Databases<Store<S>>, F: ReadFiles, C: DayClock, W: Sink>(
     alloc: Global,
     databases: &mut D,
     files: &F,
@@ -159,7 +160,7 @@ pub(crate) fn run_get<S: Alter, D: Databases<S>, F: ReadFiles, C: DayClock, W: S
 }
 
 /// Writes the messages that the reader may see under a policy, on the day of the order.
-fn export_by<S: Alter, D: Databases<S>, C: DayClock, W: Sink>(
+fn export_by<S: Alter, D: Databases<Store<S>>, C: DayClock, W: Sink>(
     alloc: Global,
     databases: &mut D,
     policy: &Policy,
@@ -183,7 +184,7 @@ fn export_by<S: Alter, D: Databases<S>, C: DayClock, W: Sink>(
 }
 
 /// Reads the policy, asks the day, and then writes the messages that the reader may see.
-pub(crate) fn run_export<S: Alter, D: Databases<S>, F: ReadFiles, C: DayClock, W: Sink>(
+pub(crate) fn run_export<S: Alter, D: Databases<Store<S>>, F: ReadFiles, C: DayClock, W: Sink>(
     alloc: Global,
     databases: &mut D,
     files: &F,

@@ -18,6 +18,7 @@ use crate::faults::{Refusal, tell};
 use crate::files::{FileFault, ReadFiles};
 use crate::ordering::{run_export, run_get, run_import, run_table};
 use crate::sifting::{SiftFault, SiftWords, sift};
+use archive_store::Store;
 use archive_words::{Order, OrderStop, SiftOrder, order};
 use civil_time::Day;
 use mbox_core::device::{Sink, Source, write_bytes};
@@ -147,7 +148,7 @@ fn run_sift<F: ReadFiles, C: DayClock, R: Source, W: Sink>(
 }
 
 /// Carries out an order.
-fn run_order<F: ReadFiles, S: Alter, D: Databases<S>, C: DayClock, R: Source, W: Sink>(
+fn run_order<F: ReadFiles, S: Alter, D: Databases<Store<S>>, C: DayClock, R: Source, W: Sink>(
     alloc: Global,
     files: &F,
     databases: &mut D,
@@ -194,7 +195,15 @@ fn finish<E: Sink>(alloc: Global, faults: &mut E, done: &Result<(), Refusal>) ->
 }
 
 /// Carries out an order, and answers the exit status: 0 done, 1 refused, which one line to `faults` tells.
-fn run_asked<F: ReadFiles, S: Alter, D: Databases<S>, C: DayClock, R: Source, W: Sink, E: Sink>(
+fn run_asked<
+    F: ReadFiles,
+    S: Alter,
+    D: Databases<Store<S>>,
+    C: DayClock,
+    R: Source,
+    W: Sink,
+    E: Sink,
+>(
     alloc: Global,
     files: &F,
     databases: &mut D,
@@ -259,7 +268,15 @@ fn say_stop<W: Sink, E: Sink>(alloc: Global, stop: &OrderStop, output: &mut W, f
 /// Carries out what the words order, which do not begin with the program's name, and answers the exit status: 0 done,
 /// 1 refused, 2 bad words. Help and the version go to the output; a refusal is one line, and what is wrong with bad
 /// words is a text, both to `faults`.
-pub fn run<F: ReadFiles, S: Alter, D: Databases<S>, C: DayClock, R: Source, W: Sink, E: Sink>(
+pub fn run<
+    F: ReadFiles,
+    S: Alter,
+    D: Databases<Store<S>>,
+    C: DayClock,
+    R: Source,
+    W: Sink,
+    E: Sink,
+>(
     alloc: Global,
     files: &F,
     databases: &mut D,

@@ -55,7 +55,7 @@ fn serve_store<T: Threader, S: Alter, P: Ports, W: Sink, E: Sink>(
 }
 
 /// Serves the database of the order under a policy, on a day.
-fn work_serve<T: Threader, S: Alter, D: Databases<S>, P: Ports, W: Sink, E: Sink>(
+fn work_serve<T: Threader, S: Alter, D: Databases<Store<S>>, P: Ports, W: Sink, E: Sink>(
     alloc: Global,
     databases: &mut D,
     policy: &Policy,
@@ -78,7 +78,7 @@ fn work_serve<T: Threader, S: Alter, D: Databases<S>, P: Ports, W: Sink, E: Sink
 }
 
 /// Serves under a policy, on the day of the order.
-fn serve_by<T: Threader, S: Alter, D: Databases<S>, C: DayClock, P: Ports, W: Sink, E: Sink>(
+fn serve_by<T: Threader, S: Alter, D: Databases<Store<S>>, C: DayClock, P: Ports, W: Sink, E: Sink>(
     alloc: Global,
     databases: &mut D,
     policy: &Policy,
@@ -103,7 +103,7 @@ pub fn run_serve<
     F: ReadFiles,
     T: Threader,
     S: Alter,
-    D: Databases<S>,
+    D: Databases<Store<S>>,
     C: DayClock,
     P: Ports,
     W: Sink,

@@ -17,7 +17,7 @@ use sqlite::Alter;
 use std::alloc::Global;
 
 /// Carries a command out in the database of the order.
-pub(crate) fn work_table<S: Alter, D: Databases<S>>(
+pub(crate) fn work_table<S: Alter, D: Databases<Store<S>>>(
     alloc: Global,
     databases: &mut D,
     order: &TableOrder<'_>,
@@ -57,7 +57,7 @@ fn import_file<S: Alter, F: ReadFiles>(
 }
 
 /// Takes the messages of the mbox of the order into its list.
-pub(crate) fn work_import<S: Alter, D: Databases<S>, F: ReadFiles>(
+pub(crate) fn work_import<S: Alter, D: Databases<Store<S>>, F: ReadFiles>(
     alloc: Global,
     databases: &mut D,
     files: &F,
@@ -101,7 +101,7 @@ fn get_text<S: Alter>(
 }
 
 /// What a reader gets of a message of the database of this name.
-pub(crate) fn work_get<S: Alter, D: Databases<S>>(
+pub(crate) fn work_get<S: Alter, D: Databases<Store<S>>>(
     alloc: Global,
     databases: &mut D,
     file: &str,
@@ -122,7 +122,7 @@ pub(crate) fn work_get<S: Alter, D: Databases<S>>(
 }
 
 /// Writes the messages of a list of the database of this name that the reader may see.
-pub(crate) fn work_export<S: Alter, D: Databases<S>, W: Sink>(
+pub(crate) fn work_export<S: Alter, D: Databases<Store<S>>, W: Sink>(
     alloc: Global,
     databases: &mut D,
     file: &str,

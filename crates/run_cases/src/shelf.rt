@@ -70,7 +70,7 @@ fn adopt(
     }
 }
 
-impl Databases<FileStore<Memory>> for Shelf {
+impl Databases<Store<FileStore<Memory>>> for Shelf {
     ghost use Rattle.std.specs.Prelude.{⊤};
 
     fn open(&mut self, alloc: Global, name: &str) -> Result<Store<FileStore<Memory>>, StoreFault> {
