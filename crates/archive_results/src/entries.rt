@@ -8,7 +8,7 @@ ghost use Rattle.archive_results.specs.Shown.{entry_of, line_of};
 use crate::lines::Line;
 use archive_machine::Key;
 use civil_time::Instant;
-use mail_core::{Header as Fields, Memory, Octets, trimmed};
+use mail_core::{Header as Fields, Memory, trimmed};
 use mbox_core::Item;
 use std::alloc::Global;
 use subject_core::base;
@@ -31,12 +31,12 @@ pub(crate) fn entry_in(
 {
     let id = fields.own_id(alloc)?;
     let refs = fields.references(alloc)?;
-    let base = base(alloc, subject).map_err(|_| Memory)?;
+    let base = base(alloc, subject)?;
     Ok(Entry {
         id,
         refs: References::new(refs),
         sent,
-        base: Octets::new(base.text.into_bytes()),
+        base: base.text,
         reply: base.reply,
     })
 }

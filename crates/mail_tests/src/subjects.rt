@@ -1,6 +1,6 @@
 //! Worked subjects, and long ones: a way through them that is not linear would not end in time.
 use crate::long::repeated;
-use subject_core::{Memory, Text, base};
+use subject_core::{Memory, base};
 
 static SUBJECTS: [(&[u8], &[u8], bool); 28] = [
     // replies lose their marks
@@ -69,14 +69,5 @@ fn long_subjects_take_linear_time(rt: HostRuntime) -> Result<(), Memory> {
         assert!(rt; found.text.as_slice() == text.unwrap_or(&subject));
         assert_eq!(rt; found.reply, *reply);
     }
-    Ok(())
-}
-
-#[test]
-fn a_text_gives_its_bytes_back(rt: HostRuntime) -> Result<(), Memory> {
-    let bytes = b"soc".to_vec(rt.alloc())?;
-    let text = Text::new(bytes);
-    assert_eq!(rt; text.as_slice(), b"soc".as_slice());
-    assert_eq!(rt; text.into_bytes().as_slice(), b"soc".as_slice());
     Ok(())
 }

@@ -10,6 +10,6 @@ mod reading;
 mod removal;
 mod spacing;
 
-pub use answer::{Base, Text};
+pub use answer::Base;
 pub use civil_time::Memory;
 pub use reading::base;

@@ -3,10 +3,11 @@ ghost use Rattle.std.specs.Prelude.{◌≡◌, ◌+◌, ◌≤◌, IfOk, take, d
 ghost use Rattle.subject_core.specs.Pieces.{lower};
 ghost use Rattle.subject_core.specs.BaseSubject.{IsBase, base_of, is_reply};
 
-use crate::answer::{Base, Text};
+use crate::answer::Base;
 use crate::removal::kept;
 use crate::spacing::single_spaced;
 use civil_time::Memory;
+use mail_core::Octets;
 use std::alloc::Global;
 
 /// Moves a part of the bytes to the front, in ASCII lower case, and drops the rest.
@@ -34,7 +35,7 @@ pub fn base(alloc: Global, subject: &[u8]) -> Result<Base, Memory>
     let part = kept(&text);
     keep_lower(&mut text, part.from, part.len);
     Ok(Base {
-        text: Text::new(text),
+        text: Octets::new(text),
         reply: part.reply,
     })
 }

@@ -7,7 +7,7 @@
 #![tactic(auto)]
 
 use anyhow::bail;
-use mail_core::{MsgId, Octets, first, ids, sent, unfold};
+use mail_core::{MsgId, first, ids, sent, unfold};
 use mbox_core::device::{Counted, read_all};
 use mbox_core::{Item, cut};
 use std::alloc::Global;
@@ -59,7 +59,7 @@ fn entry(alloc: Global, item: &Item<'_>) -> anyhow::Result<Entry> {
             first(item.text, b"date").unwrap_or(b""),
             item.envelope.arrival,
         ),
-        base: Octets::new(subject.text.into_bytes()),
+        base: subject.text,
         reply: subject.reply,
     })
 }
