@@ -6,7 +6,7 @@ use Rattle.std.proofs.lemmas.Bool.Decides.{nat_tests}
 use Rattle.thread_core.specs.PlaceLaws.{HasEachPlaceOnce, rows_at}
 use Rattle.thread_core.specs.Threads.{threads_of}
 use Rattle.thread_core.specs.TopThread.{is_row_of, last_top, next_top, top_thread_of}
-use Rattle.thread_core.specs.declared.entry.Entry.{Entry}
+use Rattle.thread_links.specs.declared.entry.Entry.{Entry}
 use Rattle.thread_core.specs.declared.row.Row.{Row}
 use Rattle.archive_results.specs.Shown.{Shown, entry_of}
 use Rattle.archive_results.specs.Results.{holds, lines_of, rows_of, thread_lines, TreeLine, tree_line, within}

@@ -4,7 +4,7 @@ use Rattle.std.specs.Option.{option_and_then}
 use Rattle.policy_core.specs.declared.access.Standing.{Standing}
 use Rattle.thread_core.specs.Threads.{threads_of}
 use Rattle.thread_core.specs.TopThread.{top_thread_of}
-use Rattle.thread_core.specs.declared.entry.Entry.{Entry}
+use Rattle.thread_links.specs.declared.entry.Entry.{Entry}
 use Rattle.thread_core.specs.declared.row.Row.{Row}
 use Rattle.archive_machine.specs.Records.{Message}
 use Rattle.archive_results.specs.Access.{Ask, is_shown}

@@ -1,7 +1,7 @@
 -- The index of a list: what is asked of the header of each message, and no text.
 use Rattle.std.specs.Prelude.{◌≡◌, ℕ, List, map, filter}
 use Rattle.policy_core.specs.declared.access.Standing.{Standing}
-use Rattle.thread_core.specs.declared.entry.Entry.{Entry}
+use Rattle.thread_links.specs.declared.entry.Entry.{Entry}
 use Rattle.archive_machine.specs.Records.{Message, Archive}
 use Rattle.archive_machine.specs.Questions.{messages_in}
 use Rattle.archive_machine.specs.Sound.{item_of}

@@ -4,7 +4,7 @@ use Rattle.mail_core.specs.Author.{author_of}
 use Rattle.mail_core.specs.Headers.{own_id_of, references_of, sent_date_of, unfolded_subject_of, subject_line_of}
 use Rattle.mbox_core.specs.Division.{Item}
 use Rattle.subject_core.specs.BaseSubject.{base_of, is_reply}
-use Rattle.thread_core.specs.declared.entry.Entry.{Entry}
+use Rattle.thread_links.specs.declared.entry.Entry.{Entry}
 use Rattle.archive_machine.specs.Records.{Message}
 use Rattle.archive_machine.specs.Sound.{item_of}
 

@@ -89,7 +89,7 @@ fn headers(alloc: Global, messages: &[Message]) -> Result<Vec<Header>, Fail> {
 }
 
 /// The headers of what a reader of this standing may read.
-fn view(alloc: Global, standing: Standing) -> Result<Vec<Header>, Fail> {
+pub fn view(alloc: Global, standing: Standing) -> Result<Vec<Header>, Fail> {
     let policy = Policy::read(alloc, POLICY)?;
     let messages = messages(alloc)?;
     let headers = headers(alloc, &messages)?;
@@ -141,7 +141,7 @@ fn tree(alloc: Global, standing: Standing) -> Result<Vec<u8>, Fail> {
 }
 
 /// The key of the message at a place of the mbox.
-fn key(alloc: Global, place: usize) -> Result<Key, Fail> {
+pub fn key(alloc: Global, place: usize) -> Result<Key, Fail> {
     let messages = messages(alloc)?;
     match messages.get(place) {
         Some(message) => Ok(message.key),

@@ -1,6 +1,4 @@
 mod Examples
-pub mod Climbing
-pub mod Linking
 pub mod ForestLemmas
 pub mod Depths
 pub mod TreeLemmas
@@ -9,14 +7,10 @@ pub mod WaitingLemmas
 pub mod UnderLemmas
 pub mod FamilyLemmas
 pub mod TableLemmas
-pub mod NumberLemmas
-pub mod IdLemmas
 pub mod MergeLemmas
 pub mod OrderLemmas
 pub mod TopThreadLemmas
 pub mod Depth
-pub mod PairLemmas
-pub mod StepOneLemmas
 pub mod Counting
 pub mod Descent
 pub mod Nearest
@@ -25,6 +19,4 @@ pub mod PlacesOnce
 pub mod DeepRows
 pub mod Rising
 pub mod Siblings
-pub mod NodeLemmas
-pub mod JoinLemmas
 pub mod SubjectLemmas

@@ -6,10 +6,10 @@ use Rattle.std.proofs.lemmas.List.{drop_more, take_more, append-nil}
 use Rattle.std.proofs.lemmas.List.Elements.{filter-append}
 use Rattle.std.proofs.lemmas.List.Folds.{list_any-append}
 use Rattle.std.proofs.lemmas.Bool.Decides.{nat_tests}
-use Rattle.thread_core.specs.Links.{Link}
+use Rattle.thread_links.specs.Links.{Link}
 use Rattle.thread_core.specs.Merge.{MergedTop, base_of, subject, with_subject, distinct_subjects, group_of, groups, links_under_first, taken_of_group, is_dummy_tree, messages_of, merged_group, merged_trees}
 use Rattle.thread_core.specs.Parts.{merged_for}
-use Rattle.thread_core.specs.declared.entry.Entry.{Entry}
+use Rattle.thread_links.specs.declared.entry.Entry.{Entry}
 use Rattle.thread_core.specs.declared.tree.Tree.{Tree}
 
 -- where a search ends

@@ -3,22 +3,22 @@ use Rattle.std.proofs.Common.{◌≡◌, ◌≢◌, ◌==◌, ℕ, zero, suc, �
 use Rattle.std.specs.List.{list_any}
 use Rattle.std.specs.Option.{option_map_or, option_and_then}
 use Rattle.std.specs.Cmp.Lexicographic.{bytes_decides}
-use Rattle.std.proofs.lemmas.List.{append-nil, take_more, get_or-map, length-map}
+use Rattle.std.proofs.lemmas.List.{append-nil, take_more, get_or-map, length-map, map-append}
 use Rattle.std.proofs.lemmas.List.Elements.{filter-append}
 use Rattle.std.proofs.lemmas.List.Folds.{list_any-append}
 use Rattle.std.proofs.lemmas.Option.{slice_get-get_or}
 use Rattle.std.proofs.lemmas.Grind.{flat_map-append}
 use Rattle.std.proofs.Common.{take_all}
-use Rattle.thread_core.specs.Forest.{children, key, numbers}
+use Rattle.thread_links.specs.Containers.{numbers}
+use Rattle.thread_core.specs.Forest.{children, key}
 use Rattle.thread_core.specs.Merge.{MergedTop, base_of, subject, with_subject, distinct_subjects, group_of, groups, is_dummy_tree, messages_of, merged_group}
 use Rattle.thread_core.specs.Parts.{containers_of, AreLists}
-use Rattle.thread_core.specs.Links.{Link}
+use Rattle.thread_links.specs.Links.{Link}
 use Rattle.thread_core.specs.Subjects.{AllLed, AreLeaders, lead_of, picked}
-use Rattle.thread_core.specs.declared.entry.Entry.{Entry}
+use Rattle.thread_links.specs.declared.entry.Entry.{Entry}
 use Rattle.thread_core.specs.declared.tree.Tree.{Tree}
 use Rattle.thread_core.specs.declared.tree.Tree.TheVariants.{Message}
-use Rattle.thread_core.proofs.Climbing.{same_or_not}
-use Rattle.thread_core.proofs.TableLemmas.{map-append}
+use Rattle.std.proofs.lemmas.Bool.Decides.{eqb_tells}
 
 bytes-same : (a b : List ℕ) → bytes_eq a b ≡ true → a ≡ b
 bytes-same a b h = (bytes_decides a b).0 h
@@ -204,7 +204,7 @@ lead-is entries get p place empty same led =
     by_entry (Some entry) = refl
 
     self : (q : ℕ) → (q == q) ≡ true
-    self q = by_same (same_or_not q q)
+    self q = by_same (eqb_tells q q)
       where
         by_same : (((q == q) ≡ true) × (q ≡ q)) ⊎ (((q == q) ≡ false) × (q ≢ q)) → (q == q) ≡ true
         by_same (inl hit) = hit.0
@@ -218,7 +218,7 @@ lead-is entries get p place empty same led =
         let at : q ≡ p = cc in
         ap (λ (n : ℕ). n == p) at ∙ self p
     by_test false e None f = refl
-    by_test false e (Some q) f = by_same (same_or_not q p)
+    by_test false e (Some q) f = by_same (eqb_tells q p)
       where
         by_same : (((q == p) ≡ true) × (q ≡ p)) ⊎ (((q == p) ≡ false) × (q ≢ p)) → (q == p) ≡ false
         by_same (inr miss) = miss.0

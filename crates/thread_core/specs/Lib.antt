@@ -1,5 +1,3 @@
-pub mod Containers
-pub mod Links
 pub mod Forest
 pub mod Merge
 pub mod Threads
@@ -8,6 +6,4 @@ pub mod RowLaws
 pub mod Parts
 pub mod PlaceLaws
 pub mod SiblingLaws
-pub mod Nodes
-pub mod Ids
 pub mod Subjects

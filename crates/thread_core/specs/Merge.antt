@@ -21,9 +21,9 @@
 use Rattle.std.specs.Prelude.{ℕ, Bool, true, false, not, ◌==◌, List, [], ◌∷◌, ◌++◌, map, filter, flat_map, slice_get, bytes_eq}
 use Rattle.std.specs.List.{list_any, before_first, after_first}
 use Rattle.std.specs.Option.{option_map_or}
-use Rattle.thread_core.specs.Links.{Link}
+use Rattle.thread_links.specs.Links.{Link}
 use Rattle.thread_core.specs.Forest.{key, trees_of_dummy}
-use Rattle.thread_core.specs.declared.entry.Entry.{Entry}
+use Rattle.thread_links.specs.declared.entry.Entry.{Entry}
 use Rattle.thread_core.specs.declared.tree.Tree.{Tree}
 use Rattle.thread_core.specs.declared.tree.Tree.TheVariants.{Message, DummyOver}
 

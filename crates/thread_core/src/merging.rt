@@ -9,12 +9,12 @@ ghost use Rattle.thread_core.specs.Merge.{plain_of, subject, taken_of_group, tre
 ghost use Rattle.thread_core.specs.Merge.{without_subject};
 ghost use Rattle.thread_core.specs.Parts.{merged_for};
 
-use crate::entry::Entry;
 use crate::forest::push_dummy;
 use crate::order::find_key;
 use crate::tree::{Places, Tree};
 use mail_core::Memory;
 use std::alloc::Global;
+use thread_links::Entry;
 
 /// The top trees, and the (child, parent) links of messages that were taken from the top.
 #[derive(Drop)]

@@ -1,22 +1,20 @@
 //! The threader of numbered nodes.
 
 ghost use Rattle.std.specs.Prelude.{◌≡◌, ◌≤◌, ◌+◌, ◌*◌, IfOk, length};
-ghost use Rattle.thread_core.specs.Containers.{count_of, mentioned};
-ghost use Rattle.thread_core.specs.Links.{IsLinkedAs, links_of, parent_of};
+ghost use Rattle.thread_links.specs.Containers.{count_of, mentioned};
+ghost use Rattle.thread_links.specs.Links.{IsLinkedAs, links_of, parent_of};
 ghost use Rattle.thread_core.specs.Threads.{rows_of};
 
-use crate::entry::Entry;
-use crate::node_joining::join_nodes;
-use crate::nodes::{Nodes, read_parents};
 use crate::plain::table_rows;
 use crate::row::Row;
-use crate::steps::Steps;
 use crate::threader::Threader;
 use mail_core::Memory;
 use std::alloc::Global;
 use std::hash::RandomState;
 use std::marker::Model;
 use std::sync::ledger::Ledger;
+use thread_links::nodes::{Nodes, read_parents};
+use thread_links::{Entry, Steps, join_nodes};
 
 /// Threads by numbered nodes, with ids and subjects in hash maps. Its steps are the parent numbers
 /// that it reads.

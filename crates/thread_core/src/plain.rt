@@ -1,43 +1,22 @@
 //! The plain threader.
 
-ghost use Rattle.std.specs.Prelude.{◌≡◌, ◌≤◌, IfOk, map, length};
-ghost use Rattle.thread_core.specs.Links.{parent_of};
-ghost use Rattle.thread_core.specs.Forest.{numbers};
+ghost use Rattle.std.specs.Prelude.{◌≡◌, ◌≤◌, IfOk, length};
+ghost use Rattle.thread_links.specs.Links.{parent_of};
 ghost use Rattle.thread_core.specs.Parts.{containers_of};
 ghost use Rattle.thread_core.specs.Threads.{rows_of, rows_of_containers};
 
-use crate::entry::Entry;
 use crate::family::{Family, Taken};
 use crate::forest::find_tops;
-use crate::joining::join_plain;
-use crate::links::find_parent;
 use crate::order::order_trees;
-use crate::pairs::Pairs;
 use crate::row::Row;
 use crate::rows::tree_rows;
-use crate::steps::Steps;
 use crate::subjects::merge;
 use crate::threader::Threader;
 use mail_core::Memory;
 use std::alloc::Global;
 use std::hash::RandomState;
 use std::sync::ledger::Ledger;
-
-/// The parent of each container.
-#[tactic(auto, using(crate::proofs::TableLemmas::map_numbers))]
-fn parent_table(
-    alloc: Global,
-    links: &[(usize, usize)],
-    count: usize,
-) -> Result<Vec<Option<usize>>, Memory>
-    ensures { IfOk result (λ v. v.items ≡ map (parent_of links.now) (numbers count)) }
-{
-    let mut parents = Vec::new(alloc);
-    for x in 0..count {
-        parents.push(find_parent(links, x))?;
-    }
-    Ok(parents)
-}
+use thread_links::{Entry, Pairs, Steps, join_plain};
 
 /// Steps 2 to 6 over a list of parents, with a table of subjects where a state for it is given.
 pub fn table_rows(
@@ -84,7 +63,7 @@ impl Threader for PlainThreader {
         links: Pairs,
         _steps: &mut Steps<L>,
     ) -> Result<Vec<Row>, Memory> {
-        let parents = parent_table(alloc, links.links(), links.count())?;
+        let parents = links.parents(alloc)?;
         table_rows(alloc, entries, parents, None)
     }
 }

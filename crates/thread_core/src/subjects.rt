@@ -4,13 +4,12 @@ ghost use Rattle.std.specs.HashMap.{get_by};
 ghost use Rattle.std.specs.List.{list_any};
 ghost use Rattle.std.specs.Prelude.{◌≡◌, ◌≢◌, ◌&&◌, ◌||◌, ◌∷◌, ◌++◌, [], ℕ, List, Some, bytes_eq};
 ghost use Rattle.std.specs.Prelude.{if◌then◌else◌, flat_map, get_or, is_none, length, map, IfOk, OnOk};
-ghost use Rattle.thread_core.specs.declared.entry.Entry.{Entry};
+ghost use Rattle.thread_links.specs.declared.entry.Entry.{Entry};
 ghost use Rattle.thread_core.specs.declared.tree.Tree.{Tree};
 ghost use Rattle.thread_core.specs.Forest.{key};
 ghost use Rattle.thread_core.specs.Merge.{base_of, is_dummy_tree, merged_group, merged_trees, messages_of, subject};
 ghost use Rattle.thread_core.specs.Subjects.{lead_of, picked, AreLeaders};
 
-use crate::entry::Entry;
 use crate::family::{list_at, list_children};
 use crate::merging::{Group, Merged, is_dummy, keep_without_subject, merge_trees, push_messages};
 use crate::order::find_key;
@@ -19,6 +18,7 @@ use mail_core::{Memory, Octets};
 use std::alloc::Global;
 use std::collections::HashMap;
 use std::hash::RandomState;
+use thread_links::Entry;
 
 /// The first message of each subject, in order and by subject.
 #[derive(Drop)]

@@ -1,17 +1,16 @@
 //! Threaders.
 
 ghost use Rattle.std.specs.Prelude.{◌≡◌, ◌≤◌, ◌<◌, IfOk, length};
-ghost use Rattle.thread_core.specs.Containers.{count_of};
-ghost use Rattle.thread_core.specs.Links.{Linked, IsLinkedAs, links_of, parent_of};
+ghost use Rattle.thread_links.specs.Containers.{count_of};
+ghost use Rattle.thread_links.specs.Links.{Linked, IsLinkedAs, links_of, parent_of};
 ghost use Rattle.thread_core.specs.Threads.{rows_of, threads_of};
 
-use crate::entry::Entry;
 use crate::row::Row;
-use crate::steps::Steps;
 use mail_core::Memory;
 use std::alloc::Global;
 use std::marker::Brand;
 use std::sync::ledger::{Blank, Ledger};
+use thread_links::{Entry, Steps};
 
 /// Threads entries by RFC 5256, THREAD=REFERENCES, in two parts. Entries stand in mailbox order.
 pub trait Threader {

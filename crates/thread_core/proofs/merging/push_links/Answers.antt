@@ -1,7 +1,7 @@
 use Rattle.std.proofs.Common.{◌≡◌, ◌==◌, ◌<◌, ℕ, ◌++◌, List, map, filter, not, length, get_or, false, rules, ap, subst, sym, ◌∙◌}
 use Rattle.std.specs.List.{before_first}
 use Rattle.std.specs.Result.{OnOk}
-use Rattle.thread_core.specs.Links.{Link}
+use Rattle.thread_links.specs.Links.{Link}
 use Rattle.thread_core.proofs.MergeLemmas.{links_of_two}
 use Rattle.thread_core.proofs.merging.push_links.Goals as goal
 

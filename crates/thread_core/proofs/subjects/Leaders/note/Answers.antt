@@ -2,7 +2,7 @@ use Rattle.std.proofs.Common.{◌≡◌, ◌≢◌, [], length, Option, rules, r
 use Rattle.std.specs.Option.{option_map_or}
 use Rattle.std.proofs.lemmas.Option.{slice_get_read, slice_get_past}
 use Rattle.thread_core.specs.Merge.{base_of}
-use Rattle.thread_core.specs.declared.entry.Entry.{Entry}
+use Rattle.thread_links.specs.declared.entry.Entry.{Entry}
 use Rattle.thread_core.proofs.SubjectLemmas.{leaders_empty}
 use Rattle.thread_core.proofs.subjects.Leaders.note.Goals as goal
 

@@ -1,0 +1,288 @@
+-- Ids are numbered in one pass.
+use Rattle.std.proofs.Common.{◌≡◌, ℕ, suc, ◌+◌, ◌<◌, Bool, true, false, not, cond, ◌&&◌, ◌||◌, ◌⊎◌, inl, inr, List, [], ◌∷◌, ◌++◌, length, take, get_or, filter, is_none, Option, Some, None, refl, sym, ◌∙◌, ap, subst, arith, add-one, append_assoc, length-append}
+use Rattle.std.specs.List.{list_any}
+use Rattle.std.specs.Option.{option_map_or}
+use Rattle.std.proofs.lemmas.List.{append-nil, take_more}
+use Rattle.std.proofs.lemmas.List.Elements.{filter-append}
+use Rattle.std.proofs.lemmas.List.Folds.{list_any-append}
+use Rattle.std.proofs.lemmas.Grind.{flat_map-append}
+use Rattle.mail_core.specs.MsgIds.{Id}
+use Rattle.thread_links.specs.Containers.{Container, real, dummy, is_dummy, same_id, has_id, owner, owner_from, distinct, index_of, mentioned, dummies, number, count_of, number_of_id}
+use Rattle.thread_links.specs.Ids.{place_of, dummies_of, number_among, AreNoted}
+use Rattle.thread_links.specs.declared.entry.Entry.{Entry}
+use Rattle.thread_links.proofs.NumberLemmas.{same_id-exact, any-filter, any-distinct, owner_is}
+
+pub same_id-sym : (a b : Id) → same_id a b ≡ same_id b a
+same_id-sym a b = by_tests (same_id a b) (same_id b a) refl refl
+  where
+    by_tests : (s t : Bool) → same_id a b ≡ s → same_id b a ≡ t → same_id a b ≡ same_id b a
+    by_tests true true e f = e ∙ sym f
+    by_tests false false e f = e ∙ sym f
+    by_tests true false e f = let x = same_id-exact a b e in λ i. same_id (x i) (sym x i)
+    by_tests false true e f = let x = same_id-exact b a f in λ i. same_id (sym x i) (x i)
+
+-- the owner among one message more
+owner-last : (k : ℕ) (es : List Entry) (e : Entry) (id : Id) → place_of (owner_from k (es ++ e ∷ []) id) ≡ option_map_or (λ p. Some p) (place_of (owner_from k es id)) (cond (has_id e id) (Some (k + length es)) None)
+owner-last k [] e id = by_test (has_id e id)
+  where
+    by_test : (t : Bool) → place_of (cond t (real k) (dummy id)) ≡ cond t (Some (k + 0)) None
+    by_test true = ap (λ (n : ℕ). Some n) (let z : k ≡ k + 0 = omega arith in z)
+    by_test false = refl
+owner-last k (x ∷ es) e id = by_test (has_id x id) (owner-last (k + 1) es e id)
+  where
+    by_test : (t : Bool) → place_of (owner_from (k + 1) (es ++ e ∷ []) id) ≡ option_map_or (λ p. Some p) (place_of (owner_from (k + 1) es id)) (cond (has_id e id) (Some (k + 1 + length es)) None)
+        → place_of (cond t (real k) (owner_from (k + 1) (es ++ e ∷ []) id)) ≡ option_map_or (λ p. Some p) (place_of (cond t (real k) (owner_from (k + 1) es id))) (cond (has_id e id) (Some (k + suc (length es))) None)
+    by_test true later = refl
+    by_test false later = later ∙ ap (λ (n : ℕ). option_map_or (λ p. Some p) (place_of (owner_from (k + 1) es id)) (cond (has_id e id) (Some n) None)) (let z : k + 1 + length es ≡ k + suc (length es) = omega arith in z)
+
+some_map : (o : Option ℕ) → option_map_or (λ p. Some p) o None ≡ o
+some_map None = refl
+some_map (Some p) = refl
+
+-- a message without an id has none
+pub message_without : (before : List Entry) (entry : Entry) (id : Id) → entry.id ≡ None → place_of (owner (before ++ entry ∷ []) id) ≡ place_of (owner before id)
+message_without before entry id e = owner-last 0 before entry id ∙ rw e (some_map (place_of (owner before id)))
+
+pub message_with : (before : List Entry) (entry : Entry) (own id : Id) (place : ℕ) (get get' : Id → Option ℕ) → length before ≡ place → entry.id ≡ Some own
+    → ((o : Id) → get o ≡ place_of (owner before o))
+    → ((o : Id) → get' o ≡ cond (is_none (get own) && same_id own o) (Some place) (get o))
+    → get' id ≡ place_of (owner (before ++ entry ∷ []) id)
+message_with before entry own id place get get' at e was now =
+    now id
+    ∙ (λ i. cond (is_none (was own i) && same_id-sym own id i) (Some place) (was id i))
+    ∙ by_tests (same_id id own) refl (place_of (owner before own)) refl (place_of (owner before id)) refl
+    ∙ sym (owner-last 0 before entry id ∙ rw e refl)
+  where
+    by_tests : (t : Bool) → same_id id own ≡ t → (p : Option ℕ) → place_of (owner before own) ≡ p → (q : Option ℕ) → place_of (owner before id) ≡ q
+        → cond (is_none p && same_id id own) (Some place) q ≡ option_map_or (λ r. Some r) q (cond (same_id id own) (Some (0 + length before)) None)
+    by_tests false t p a None b = rw (t, same_and p) refl
+      where
+        same_and : (o : Option ℕ) → (is_none o && false) ≡ false
+        same_and None = refl
+        same_and (Some x) = refl
+    by_tests false t p a (Some q) b = rw (t, same_and p) refl
+      where
+        same_and : (o : Option ℕ) → (is_none o && false) ≡ false
+        same_and None = refl
+        same_and (Some x) = refl
+    by_tests true t None a None b = rw t (ap (λ (n : ℕ). Some n) (sym at ∙ (let z : length before ≡ 0 + length before = omega arith in z)))
+    by_tests true t None a (Some q) b = absurd (let x = same_id-exact id own t in let same : Some q ≡ None = sym b ∙ ap (λ (v : Id). place_of (owner before v)) x ∙ a in cc)
+    by_tests true t (Some p) a None b = absurd (let x = same_id-exact id own t in let same : None ≡ Some p = sym b ∙ ap (λ (v : Id). place_of (owner before v)) x ∙ a in cc)
+    by_tests true t (Some p) a (Some q) b = refl
+
+-- an id more among those that are distinct
+distinct-new : (ids : List Id) (r : Id) → list_any (same_id r) ids ≡ false → distinct (ids ++ r ∷ []) ≡ distinct ids ++ r ∷ []
+distinct-new [] r h = refl
+distinct-new (m ∷ ids) r h = by_test (same_id r m) refl h (λ k. distinct-new ids r k)
+  where
+    by_test : (t : Bool) → same_id r m ≡ t → (t || list_any (same_id r) ids) ≡ false → (list_any (same_id r) ids ≡ false → distinct (ids ++ r ∷ []) ≡ distinct ids ++ r ∷ [])
+        → m ∷ filter (λ o. not (same_id m o)) (distinct (ids ++ r ∷ [])) ≡ m ∷ filter (λ o. not (same_id m o)) (distinct ids) ++ r ∷ []
+    by_test true e k later = absurd (let bad : true ≡ false = k in cc)
+    by_test false e k later =
+        ap (λ (xs : List Id). m ∷ filter (λ o. not (same_id m o)) xs) (later k)
+        ∙ ap (λ (xs : List Id). m ∷ xs) (filter-append (λ o. not (same_id m o)) (distinct ids) (r ∷ []) ∙ rw (same_id-sym m r, e) refl)
+
+distinct-old : (ids : List Id) (r : Id) → list_any (same_id r) ids ≡ true → distinct (ids ++ r ∷ []) ≡ distinct ids
+distinct-old [] r h = absurd (let bad : false ≡ true = h in cc)
+distinct-old (m ∷ ids) r h = by_tests (same_id r m) (list_any (same_id r) ids) refl refl h (λ k. distinct-old ids r k)
+  where
+    by_tests : (s t : Bool) → same_id r m ≡ s → list_any (same_id r) ids ≡ t → (s || t) ≡ true → (list_any (same_id r) ids ≡ true → distinct (ids ++ r ∷ []) ≡ distinct ids)
+        → m ∷ filter (λ o. not (same_id m o)) (distinct (ids ++ r ∷ [])) ≡ m ∷ filter (λ o. not (same_id m o)) (distinct ids)
+    by_tests s true e f k later = ap (λ (xs : List Id). m ∷ filter (λ o. not (same_id m o)) xs) (later f)
+    by_tests true false e f k later =
+        ap (λ (xs : List Id). m ∷ filter (λ o. not (same_id m o)) xs) (distinct-new ids r f)
+        ∙ ap (λ (xs : List Id). m ∷ xs) (filter-append (λ o. not (same_id m o)) (distinct ids) (r ∷ []) ∙ rw (same_id-sym m r, e) (append-nil _))
+    by_tests false false e f k later = absurd (let bad : false ≡ true = k in cc)
+
+either-none : (s t : Bool) → (s || t) ≡ true → s ≡ false → t ≡ true
+either-none true t h e = absurd (let bad : true ≡ false = e in cc)
+either-none false t h e = h
+
+-- what is among those that pass a test is among all
+any-less : (r : Id) (q : Id → Bool) (ids : List Id) → list_any (same_id r) (filter q ids) ≡ true → list_any (same_id r) ids ≡ true
+any-less r q [] h = h
+any-less r q (m ∷ ids) h = by_tests (same_id r m) (q m) refl refl h (λ k. any-less r q ids k)
+  where
+    by_tests : (s t : Bool) → same_id r m ≡ s → q m ≡ t → list_any (same_id r) (cond t (m ∷ filter q ids) (filter q ids)) ≡ true → (list_any (same_id r) (filter q ids) ≡ true → list_any (same_id r) ids ≡ true)
+        → (s || list_any (same_id r) ids) ≡ true
+    by_tests true t e f k later = refl
+    by_tests false true e f k later = later (either-none (same_id r m) (list_any (same_id r) (filter q ids)) k e)
+    by_tests false false e f k later = later k
+
+any-distinct-less : (r : Id) (ids : List Id) → list_any (same_id r) (distinct ids) ≡ true → list_any (same_id r) ids ≡ true
+any-distinct-less r [] h = h
+any-distinct-less r (m ∷ ids) h = by_test (same_id r m) h (λ k. any-distinct-less r ids (any-less r (λ o. not (same_id m o)) (distinct ids) k))
+  where
+    by_test : (s : Bool) → (s || list_any (same_id r) (filter (λ o. not (same_id m o)) (distinct ids))) ≡ true → (list_any (same_id r) (filter (λ o. not (same_id m o)) (distinct ids)) ≡ true → list_any (same_id r) ids ≡ true)
+        → (s || list_any (same_id r) ids) ≡ true
+    by_test true k later = refl
+    by_test false k later = later k
+
+-- an id that has a number is no new dummy
+dummies-owned : (entries : List Entry) (refs : List Id) (r : Id) → is_dummy (owner entries r) ≡ false → dummies_of entries (refs ++ r ∷ []) ≡ dummies_of entries refs
+dummies-owned entries refs r h = by_test (list_any (same_id r) refs) refl
+  where
+    by_test : (t : Bool) → list_any (same_id r) refs ≡ t → dummies_of entries (refs ++ r ∷ []) ≡ dummies_of entries refs
+    by_test true e = ap (filter (λ id. is_dummy (owner entries id))) (distinct-old refs r e)
+    by_test false e =
+        ap (filter (λ id. is_dummy (owner entries id))) (distinct-new refs r e) ∙ filter-append (λ id. is_dummy (owner entries id)) (distinct refs) (r ∷ []) ∙ rw h (append-nil _)
+
+dummies-known : (entries : List Entry) (refs : List Id) (r : Id) → list_any (same_id r) (dummies_of entries refs) ≡ true → dummies_of entries (refs ++ r ∷ []) ≡ dummies_of entries refs
+dummies-known entries refs r h =
+    ap (filter (λ id. is_dummy (owner entries id))) (distinct-old refs r (any-distinct-less r refs (any-less r (λ id. is_dummy (owner entries id)) (distinct refs) h)))
+
+dummies-new : (entries : List Entry) (refs : List Id) (r : Id) → is_dummy (owner entries r) ≡ true → list_any (same_id r) (dummies_of entries refs) ≡ false
+    → dummies_of entries (refs ++ r ∷ []) ≡ dummies_of entries refs ++ r ∷ []
+dummies-new entries refs r unowned h = by_test (list_any (same_id r) refs) refl
+  where
+    by_test : (t : Bool) → list_any (same_id r) refs ≡ t → dummies_of entries (refs ++ r ∷ []) ≡ dummies_of entries refs ++ r ∷ []
+    by_test true e = absurd (let bad : true ≡ false = sym (any-filter r (λ id. is_dummy (owner entries id)) (distinct refs) unowned (any-distinct r refs e)) ∙ h in cc)
+    by_test false e =
+        ap (filter (λ id. is_dummy (owner entries id))) (distinct-new refs r e) ∙ filter-append (λ id. is_dummy (owner entries id)) (distinct refs) (r ∷ []) ∙ rw unowned refl
+
+index-old : (ids : List Id) (r o : Id) → list_any (same_id o) ids ≡ true → index_of (ids ++ r ∷ []) o ≡ index_of ids o
+index-old [] r o h = absurd (let bad : false ≡ true = h in cc)
+index-old (m ∷ ids) r o h = by_test (same_id o m) h (λ k. index-old ids r o k)
+  where
+    by_test : (t : Bool) → (t || list_any (same_id o) ids) ≡ true → (list_any (same_id o) ids ≡ true → index_of (ids ++ r ∷ []) o ≡ index_of ids o)
+        → cond t 0 (index_of (ids ++ r ∷ []) o + 1) ≡ cond t 0 (index_of ids o + 1)
+    by_test true k later = refl
+    by_test false k later = ap (λ (n : ℕ). n + 1) (later k)
+
+index-new : (ids : List Id) (r o : Id) → list_any (same_id o) ids ≡ false → same_id o r ≡ true → index_of (ids ++ r ∷ []) o ≡ length ids
+index-new [] r o h e = rw e refl
+index-new (m ∷ ids) r o h e = by_test (same_id o m) h (λ k. index-new ids r o k e)
+  where
+    by_test : (t : Bool) → (t || list_any (same_id o) ids) ≡ false → (list_any (same_id o) ids ≡ false → index_of (ids ++ r ∷ []) o ≡ length ids)
+        → cond t 0 (index_of (ids ++ r ∷ []) o + 1) ≡ suc (length ids)
+    by_test true k later = absurd (let bad : true ≡ false = k in cc)
+    by_test false k later = ap (λ (n : ℕ). n + 1) (later k) ∙ add-one (length ids)
+
+unowned : (entries : List Entry) (r : Id) → place_of (owner entries r) ≡ None → is_dummy (owner entries r) ≡ true
+unowned entries r e = by_owner (owner entries r) e
+  where
+    by_owner : (c : Container) → place_of c ≡ None → is_dummy c ≡ true
+    by_owner (real p) h = absurd (let bad : Some p ≡ None = h in cc)
+    by_owner (dummy id) h = refl
+
+owned : (entries : List Entry) (r : Id) (p : ℕ) → place_of (owner entries r) ≡ Some p → is_dummy (owner entries r) ≡ false
+owned entries r p e = by_owner (owner entries r) e
+  where
+    by_owner : (c : Container) → place_of c ≡ Some p → is_dummy c ≡ false
+    by_owner (real q) h = refl
+    by_owner (dummy id) h = absurd (let none : Option ℕ = None in let bad : none ≡ Some p = h in cc)
+
+-- the numbers that a new id gives
+number-new : (entries : List Entry) (refs : List Id) (r o : Id) → place_of (owner entries r) ≡ None → list_any (same_id r) (dummies_of entries refs) ≡ false
+    → cond (same_id r o) (Some (length entries + length (dummies_of entries refs))) (number_among entries refs o) ≡ number_among entries (refs ++ r ∷ []) o
+number-new entries refs r o none h =
+    rw (dummies-new entries refs r (unowned entries r none) h) (by_test (same_id o r) refl)
+  where
+    old : List Id
+    old = dummies_of entries refs
+
+    split : list_any (same_id o) (dummies_of entries refs ++ r ∷ []) ≡ (list_any (same_id o) (dummies_of entries refs) || (same_id o r || false))
+    split = list_any-append (same_id o) (dummies_of entries refs) (r ∷ [])
+
+    by_test : (t : Bool) → same_id o r ≡ t
+        → cond (same_id r o) (Some (length entries + length (dummies_of entries refs))) (number_among entries refs o)
+        ≡ option_map_or (λ p. Some p) (place_of (owner entries o)) (cond (list_any (same_id o) (dummies_of entries refs ++ r ∷ [])) (Some (length entries + index_of (dummies_of entries refs ++ r ∷ []) o)) None)
+    by_test true e =
+        let x : o ≡ r = same_id-exact o r e in
+        let lone : place_of (owner entries o) ≡ None = ap (λ (v : Id). place_of (owner entries v)) x ∙ none in
+        let away : list_any (same_id o) (dummies_of entries refs) ≡ false = ap (λ (v : Id). list_any (same_id v) (dummies_of entries refs)) x ∙ h in
+        rw (same_id-sym r o, e, lone, split, away, e, index-new (dummies_of entries refs) r o away e) refl
+    by_test false e = rw (same_id-sym r o, e, split, e) (by_any (list_any (same_id o) (dummies_of entries refs)) refl)
+      where
+        by_any : (u : Bool) → list_any (same_id o) (dummies_of entries refs) ≡ u
+            → option_map_or (λ p. Some p) (place_of (owner entries o)) (cond u (Some (length entries + index_of (dummies_of entries refs) o)) None)
+            ≡ option_map_or (λ p. Some p) (place_of (owner entries o)) (cond (u || false) (Some (length entries + index_of (dummies_of entries refs ++ r ∷ []) o)) None)
+        by_any true k = ap (λ (n : ℕ). option_map_or (λ p. Some p) (place_of (owner entries o)) (Some (length entries + n))) (sym (index-old (dummies_of entries refs) r o k))
+        by_any false k = refl
+
+-- whether an id has a number, by cases
+number-cases : (entries : List Entry) (refs : List Id) (r : Id)
+    → ((number_among entries refs r ≡ None) × (place_of (owner entries r) ≡ None) × (list_any (same_id r) (dummies_of entries refs) ≡ false))
+    ⊎ ((is_none (number_among entries refs r) ≡ false) × (dummies_of entries (refs ++ r ∷ []) ≡ dummies_of entries refs))
+number-cases entries refs r = by_cases (place_of (owner entries r)) refl (list_any (same_id r) (dummies_of entries refs)) refl
+  where
+    by_cases : (o : Option ℕ) → place_of (owner entries r) ≡ o → (t : Bool) → list_any (same_id r) (dummies_of entries refs) ≡ t
+        → ((option_map_or (λ p. Some p) o (cond t (Some (length entries + index_of (dummies_of entries refs) r)) None) ≡ None) × (o ≡ None) × (t ≡ false))
+        ⊎ ((is_none (option_map_or (λ p. Some p) o (cond t (Some (length entries + index_of (dummies_of entries refs) r)) None)) ≡ false) × (dummies_of entries (refs ++ r ∷ []) ≡ dummies_of entries refs))
+    by_cases (Some p) e t f = inr (refl, dummies-owned entries refs r (owned entries r p e))
+    by_cases None e true f = inr (refl, dummies-known entries refs r f)
+    by_cases None e false f = inl (refl, refl, refl)
+
+-- one reference more
+pub noted_more : (entries : List Entry) (refs : List Id) (r : Id) (added : Bool) (count next : ℕ) (get get' : Id → Option ℕ) → AreNoted entries refs count get
+    → added ≡ is_none (get r) → ((o : Id) → get' o ≡ cond (is_none (get r) && same_id r o) (Some count) (get o)) → next ≡ cond added (count + 1) count
+    → AreNoted entries (refs ++ r ∷ []) next get'
+noted_more entries refs r added count next get get' noted was now counts =
+    by_cases (number-cases entries refs r)
+  where
+    found : is_none (get r) ≡ is_none (number_among entries refs r)
+    found = ap is_none (noted.each r)
+
+    by_cases : ((number_among entries refs r ≡ None) × (place_of (owner entries r) ≡ None) × (list_any (same_id r) (dummies_of entries refs) ≡ false))
+        ⊎ ((is_none (number_among entries refs r) ≡ false) × (dummies_of entries (refs ++ r ∷ []) ≡ dummies_of entries refs)) → AreNoted entries (refs ++ r ∷ []) next get'
+    by_cases (inl new) =
+        let none : is_none (get r) ≡ true = found ∙ ap is_none new.0 in
+        let more = dummies-new entries refs r (unowned entries r new.1) new.2 in
+        let one : length (dummies_of entries (refs ++ r ∷ [])) ≡ length (dummies_of entries refs) + 1 = ap length more ∙ length-append (dummies_of entries refs) (r ∷ []) in
+        let up : next ≡ count + 1 = counts ∙ ap (λ (t : Bool). cond t (count + 1) count) (was ∙ none) in
+        let at = noted.as_many in
+        record {
+          as_many = omega (arith, one, up, at);
+          each = λ o. now o ∙ ap (λ (t : Bool). cond (t && same_id r o) (Some count) (get o)) none
+              ∙ (λ i. cond (same_id r o) (Some (noted.as_many i)) (noted.each o i)) ∙ number-new entries refs r o new.1 new.2;
+        }
+    by_cases (inr old) =
+        let some : is_none (get r) ≡ false = found ∙ old.0 in
+        let same : next ≡ count = counts ∙ ap (λ (t : Bool). cond t (count + 1) count) (was ∙ some) in
+        record {
+          as_many = same ∙ noted.as_many ∙ ap (λ (xs : List Id). length entries + length xs) (sym old.1);
+          each = λ o. now o ∙ ap (λ (t : Bool). cond (t && same_id r o) (Some count) (get o)) some ∙ noted.each o
+              ∙ ap (λ (xs : List Id). option_map_or (λ p. Some p) (place_of (owner entries o)) (cond (list_any (same_id o) xs) (Some (length entries + index_of xs o)) None)) (sym old.1);
+        }
+
+pub noted_none : (entries : List Entry) (get : Id → Option ℕ) → ((id : Id) → get id ≡ place_of (owner entries id)) → AreNoted entries [] (length entries) get
+noted_none entries get was = record { as_many = (let z : length entries ≡ length entries + 0 = omega arith in z); each = λ id. was id ∙ sym (some_map (place_of (owner entries id))) }
+
+index-least : (ids : List Id) (id : Id) → index_of ids id < length ids → list_any (same_id id) ids ≡ true
+index-least [] id h = absurd (let bad : 0 < 0 = h in omega (arith, bad))
+index-least (m ∷ ids) id h = by_test (same_id id m) h (λ k. index-least ids id k)
+  where
+    by_test : (t : Bool) → cond t 0 (index_of ids id + 1) < suc (length ids) → (index_of ids id < length ids → list_any (same_id id) ids ≡ true) → (t || list_any (same_id id) ids) ≡ true
+    by_test true k later = refl
+    by_test false k later = later (omega (arith, k))
+
+-- an id with a number below the count has it
+pub number_is : (entries : List Entry) (id : Id) → number_of_id entries id < count_of entries → number_among entries (mentioned entries) id ≡ Some (number_of_id entries id)
+number_is entries id h = by_owner (owner_is 0 entries id)
+  where
+    shape : Container → Bool → Option ℕ
+    shape c t = option_map_or (λ p. Some p) (place_of c) (cond t (Some (length entries + index_of (dummies entries) id)) None)
+
+    by_owner : ((p : ℕ) × (owner entries id ≡ real p) × (p < 0 + length entries)) ⊎ (owner entries id ≡ dummy id) → number_among entries (mentioned entries) id ≡ Some (number_of_id entries id)
+    by_owner (inl found) = ap (λ (c : Container). shape c (list_any (same_id id) (dummies entries))) found.1 ∙ sym (ap (λ (c : Container). Some (number entries c)) found.1)
+    by_owner (inr none) =
+        let k : length entries + index_of (dummies entries) id < count_of entries = subst (λ (c : Container). number entries c < count_of entries) none h in
+        let held = index-least (dummies entries) id (omega (arith, k)) in
+        (λ i. shape (none i) (held i)) ∙ sym (ap (λ (c : Container). Some (number entries c)) none)
+
+pub number_found : (entries : List Entry) (id : Id) (count n : ℕ) (get : Id → Option ℕ) → AreNoted entries (mentioned entries) count get → number_of_id entries id < count_of entries → get id ≡ Some n → n ≡ number_of_id entries id
+number_found entries id count n get noted h e = let same : Some n ≡ Some (number_of_id entries id) = sym e ∙ noted.each id ∙ number_is entries id h in cc
+
+pub number_missed : (entries : List Entry) (id : Id) (count : ℕ) (get : Id → Option ℕ) → AreNoted entries (mentioned entries) count get → number_of_id entries id < count_of entries → get id ≡ None → 0 ≡ number_of_id entries id
+number_missed entries id count get noted h e = absurd (let bad : None ≡ Some (number_of_id entries id) = sym e ∙ noted.each id ∙ number_is entries id h in cc)
+
+pub ids_noted : (entries : List Entry) (refs ids : List Id) (i : ℕ) (d : Id) (count : ℕ) (get : Id → Option ℕ) → i < length ids → AreNoted entries ((refs ++ take i ids) ++ get_or ids i d ∷ []) count get
+    → AreNoted entries (refs ++ take (i + 1) ids) count get
+ids_noted entries refs ids i d count get h =
+    subst (λ (rs : List Id). AreNoted entries rs count get) (append_assoc refs (take i ids) (get_or ids i d ∷ []) ∙ ap (λ (xs : List Id). refs ++ xs) (sym (take_more ids i d h)))
+
+pub entry_noted : (entries : List Entry) (i : ℕ) (d : Entry) (refs : List Id) (count : ℕ) (get : Id → Option ℕ) → i < length entries → refs ≡ (get_or entries i d).refs
+    → AreNoted entries (mentioned (take i entries) ++ refs) count get → AreNoted entries (mentioned (take (i + 1) entries)) count get
+entry_noted entries i d refs count get h is =
+    subst (λ (rs : List Id). AreNoted entries rs count get)
+    (ap (λ (rs : List Id). mentioned (take i entries) ++ rs) (is ∙ sym (append-nil (get_or entries i d).refs)) ∙ sym (flat_map-append (λ (entry : Entry). entry.refs) (take i entries) (get_or entries i d ∷ [])) ∙ ap mentioned (sym (take_more entries i d h)))

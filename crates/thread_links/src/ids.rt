@@ -1,0 +1,156 @@
+//! The numbers of ids, by a hash map.
+
+ghost use Rattle.std.specs.HashMap.{get_by};
+ghost use Rattle.std.specs.Prelude.{◌≡◌, ◌&&◌, ◌<◌, ◌∷◌, ◌++◌, [], List, Some, if◌then◌else◌, is_none, length, map, IfOk, OnOk};
+ghost use Rattle.mail_core.specs.MsgIds.{Id};
+ghost use Rattle.thread_links.specs.declared.entry.Entry.{Entry};
+ghost use Rattle.thread_links.specs.Containers.{same_id, owner, mentioned, count_of, number_of_id};
+ghost use Rattle.thread_links.specs.Ids.{place_of, AreNoted};
+ghost use Rattle.thread_links.specs.Parts.{AreNumbered};
+
+use crate::entry::Entry;
+use mail_core::{Memory, MsgId};
+use std::alloc::Global;
+use std::collections::HashMap;
+use std::hash::RandomState;
+
+/// The number of each id, and how many containers there are.
+#[derive(Drop)]
+pub struct Ids {
+    numbers: HashMap<MsgId, usize, RandomState>,
+    count: usize,
+}
+
+/// Gives an id a number unless it has one. The answer says whether it had none.
+fn add(
+    alloc: Global,
+    numbers: &mut HashMap<MsgId, usize, RandomState>,
+    id: &MsgId,
+    number: usize,
+) -> Result<bool, Memory>
+    ensures added { IfOk result (λ added. added ≡ is_none (get_by (same_id id.now) numbers.old)) }
+    ensures numbers { OnOk result ((other : Id)
+        → get_by (same_id other) numbers.new
+        ≡ (if is_none (get_by (same_id id.now) numbers.old) && same_id id.now other
+        then Some number else get_by (same_id other) numbers.old)) }
+{
+    if numbers.contains_key(id) {
+        return Ok(false);
+    }
+    numbers.insert(id.try_copy(alloc)?, number)?;
+    Ok(true)
+}
+
+/// Gives the id of a message its place, unless a message before it has that id.
+fn add_message(
+    alloc: Global,
+    numbers: &mut HashMap<MsgId, usize, RandomState>,
+    entry: &Entry,
+    place: usize,
+) -> Result<(), Memory>
+    ensures { (before : List Entry) → length before ≡ place
+        → ((id : Id) → get_by (same_id id) numbers.old ≡ place_of (owner before id))
+        → OnOk result ((id : Id) → get_by (same_id id) numbers.new
+        ≡ place_of (owner (before ++ entry.now ∷ []) id)) }
+{
+    match &entry.id {
+        None => Ok(()),
+        Some(id) => {
+            add(alloc, numbers, id, place)?;
+            Ok(())
+        }
+    }
+}
+
+/// The ids of messages, each with the place of the first message that has it.
+fn number_messages(
+    alloc: Global,
+    state: RandomState,
+    entries: &[Entry],
+) -> Result<HashMap<MsgId, usize, RandomState>, Memory>
+    ensures { IfOk result (λ numbers. (id : Id) → get_by (same_id id) numbers ≡ place_of (owner entries.now id)) }
+{
+    let mut numbers = HashMap::with_hasher(alloc, state);
+    for place in 0..entries.len() {
+        add_message(alloc, &mut numbers, &entries[place], place)?;
+    }
+    Ok(numbers)
+}
+
+impl Ids {
+    /// Gives an id the next number unless it has one. More numbers than there are take more memory
+    /// than there is.
+    fn note(&mut self, alloc: Global, id: &MsgId) -> Result<(), Memory>
+        ensures { (entries : List Entry) (refs : List Id)
+            → AreNoted entries refs self.old.count (λ other. get_by (same_id other) self.old.numbers)
+            → OnOk result (AreNoted entries (refs ++ id.now ∷ []) self.new.count
+            (λ other. get_by (same_id other) self.new.numbers)) }
+    {
+        let next = self.count.checked_add(1).ok_or(Memory)?;
+        let added = add(alloc, &mut self.numbers, id, self.count)?;
+        if added {
+            self.count = next;
+        }
+        Ok(())
+    }
+
+    /// The same for each of some ids in turn.
+    fn note_all(&mut self, alloc: Global, ids: &[MsgId]) -> Result<(), Memory>
+        ensures { (entries : List Entry) (refs : List Id)
+            → AreNoted entries refs self.old.count (λ other. get_by (same_id other) self.old.numbers)
+            → OnOk result (AreNoted entries (refs ++ ids.now) self.new.count
+            (λ other. get_by (same_id other) self.new.numbers)) }
+    {
+        for id in ids {
+            self.note(alloc, id)?;
+        }
+        Ok(())
+    }
+
+    /// The numbers of the ids of messages and of their references.
+    pub fn new(alloc: Global, state: RandomState, entries: &[Entry]) -> Result<Ids, Memory>
+        ensures { IfOk result (λ ids. AreNoted entries.now (mentioned entries.now) ids.count
+            (λ other. get_by (same_id other) ids.numbers)) }
+    {
+        let mut ids = Ids {
+            numbers: number_messages(alloc, state, entries)?,
+            count: entries.len(),
+        };
+        for entry in entries {
+            ids.note_all(alloc, entry.refs.as_slice())?;
+        }
+        Ok(ids)
+    }
+
+    /// How many containers there are.
+    pub fn count(&self) -> usize
+        ensures { result ≡ self.now.count }
+    {
+        self.count
+    }
+
+    /// The number of an id that has one, else 0.
+    fn number(&self, id: &MsgId) -> usize
+        ensures { (entries : List Entry) → AreNoted entries (mentioned entries) self.now.count
+            (λ other. get_by (same_id other) self.now.numbers)
+            → number_of_id entries id.now < count_of entries → result ≡ number_of_id entries id.now }
+    {
+        match self.numbers.get(id) {
+            Some(number) => *number,
+            None => 0,
+        }
+    }
+
+    /// The numbers of references.
+    pub fn numbers(&self, alloc: Global, refs: &[MsgId]) -> Result<Vec<usize>, Memory>
+        ensures { (entries : List Entry) → AreNoted entries (mentioned entries) self.now.count
+            (λ other. get_by (same_id other) self.now.numbers) → AreNumbered entries refs.now
+            → IfOk result (λ v. v.items ≡ map (number_of_id entries) refs.now) }
+    {
+        let mut numbers = Vec::new(alloc);
+        for id in refs {
+            numbers.push(self.number(id))?;
+        }
+        Ok(numbers)
+    }
+}

@@ -1,0 +1,115 @@
+//! The numbers of containers.
+
+ghost use Rattle.std.specs.Prelude.{◌≡◌, ◌≤◌, ◌<◌, ◌∷◌, ◌++◌, not, length, filter, OnOk, IfOk, IfSome, false};
+ghost use Rattle.std.specs.Option.{option_map_or};
+ghost use Rattle.thread_links.specs.Containers.{same_id, has_id, owner, real, dummy, is_dummy, dummies, index_of, number_of_id};
+ghost use Rattle.thread_links.specs.Parts.{distinct_onto};
+
+use crate::entry::Entry;
+use mail_core::{Memory, MsgId};
+use std::alloc::Global;
+
+/// Whether two ids are the same, compared with case.
+fn is_same(id: &MsgId, other: &MsgId) -> bool
+    ensures { result ≡ same_id id.now other.now }
+{
+    id.left() == other.left() && id.right() == other.right()
+}
+
+/// Whether a message has the id.
+fn is_of(entry: &Entry, id: &MsgId) -> bool
+    ensures { result ≡ has_id entry.now id.now }
+{
+    match &entry.id {
+        Some(own) => is_same(id, own),
+        None => false,
+    }
+}
+
+/// The place of the first message that has the id.
+#[tactic(auto, using(crate::proofs::NumberLemmas::owner_more, crate::proofs::NumberLemmas::owner_end))]
+pub fn find_owner(entries: &[Entry], id: &MsgId) -> Option<usize>
+    ensures value { owner entries.now id.now ≡ option_map_or real result (dummy id.now) }
+    ensures below { IfSome result (λ place. place < length entries.now) }
+{
+    for place in 0..entries.len() {
+        let entry = &entries[place];
+        if is_of(entry, id) {
+            return Some(place);
+        }
+    }
+    None
+}
+
+/// Whether no message has the id.
+fn is_unowned(entries: &[Entry], id: &MsgId) -> bool
+    ensures { result ≡ is_dummy (owner entries.now id.now) }
+{
+    find_owner(entries, id).is_none()
+}
+
+/// Puts an id before the others, and drops it there.
+fn put_first(alloc: Global, ids: &mut Vec<MsgId>, id: &MsgId) -> Result<(), Memory>
+    ensures { OnOk result (ids.new.items ≡ id.now ∷ filter (λ other. not (same_id id.now other)) ids.old.items) }
+{
+    let first = id.try_copy(alloc)?;
+    ids.retain(|other| !is_same(id, other));
+    ids.insert(0, first)?;
+    Ok(())
+}
+
+/// The place of an id in a list, or its length.
+#[tactic(auto, using(crate::proofs::NumberLemmas::index_more, crate::proofs::NumberLemmas::index_end))]
+fn find_index(ids: &[MsgId], id: &MsgId) -> usize
+    ensures value { result ≡ index_of ids.now id.now }
+    ensures within { result ≤ length ids.now }
+{
+    for at in 0..ids.len() {
+        let other = &ids[at];
+        if is_same(id, other) {
+            return at;
+        }
+    }
+    ids.len()
+}
+
+/// The number of the container of an id.
+pub fn find_number(entries: &[Entry], unowned: &[MsgId], id: &MsgId) -> usize
+    requires { unowned.now ≡ dummies entries.now }
+    ensures { result ≡ number_of_id entries.now id.now }
+{
+    match find_owner(entries, id) {
+        Some(place) => place,
+        None => entries.len() + find_index(unowned, id),
+    }
+}
+
+/// Puts ids before others, each once.
+#[tactic(auto, using(crate::proofs::NumberLemmas::onto_more))]
+fn put_all_first(alloc: Global, ids: &mut Vec<MsgId>, refs: &[MsgId]) -> Result<(), Memory>
+    ensures { OnOk result (ids.new.items ≡ distinct_onto refs.now ids.old.items) }
+{
+    let mut left = refs.len();
+    while left > 0 {
+        left -= 1;
+        let id = &refs[left];
+        put_first(alloc, ids, id)?;
+    }
+    Ok(())
+}
+
+/// The mentioned ids that no message has, in the order of first mention.
+#[tactic(auto, using(crate::proofs::NumberLemmas::mentioned_more))]
+pub fn find_dummies(alloc: Global, entries: &[Entry]) -> Result<Vec<MsgId>, Memory>
+    ensures { IfOk result (λ ids. ids.items ≡ dummies entries.now) }
+{
+    let mut ids = Vec::new(alloc);
+    let mut left = entries.len();
+    while left > 0 {
+        left -= 1;
+        let entry = &entries[left];
+        put_all_first(alloc, &mut ids, entry.refs.as_slice())?;
+    }
+    ids.retain(|id| is_unowned(entries, id));
+    Ok(ids)
+}
