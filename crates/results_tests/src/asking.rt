@@ -72,7 +72,7 @@ impl Threader for Noting {
     }
 }
 
-fn noting(alloc: Global) -> Noting {
+fn fresh_noting(alloc: Global) -> Noting {
     Noting {
         joins: Cell::new(0),
         rows: Cell::new(0),
@@ -86,7 +86,7 @@ fn asked(
     standing: Standing,
     place: Option<usize>,
 ) -> Result<(usize, usize, Vec<u8>), Fail> {
-    let noting = noting(alloc);
+    let noting = fresh_noting(alloc);
     match place {
         None => {
             tree_lines(alloc, &noting, view(alloc, standing)?)?;

@@ -82,13 +82,6 @@ fn is_same_base(entries: &[Entry], place: usize, other: usize) -> bool
     base_at(entries, place) == base_at(entries, other)
 }
 
-/// Whether a tree has the base subject of a message.
-fn is_in_group(entries: &[Entry], place: usize, tree: &Tree) -> bool
-    ensures { result ≡ bytes_eq (base_of entries.now place) (subject entries.now tree.now) }
-{
-    is_same_base(entries, place, find_key(entries, tree))
-}
-
 /// Whether a tree has an empty subject.
 fn has_no_subject(entries: &[Entry], tree: &Tree) -> bool
     ensures { result ≡ bytes_eq [] (subject entries.now tree.now) }
@@ -159,7 +152,7 @@ fn find_group(
     let mut dummy = false;
     let mut messages = Vec::new(alloc);
     for tree in trees {
-        if is_in_group(entries, leader, tree) {
+        if is_same_base(entries, leader, find_key(entries, tree)) {
             dummy = dummy || is_dummy(tree);
             push_messages(&mut messages, tree)?;
         }
