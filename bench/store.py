@@ -3,35 +3,75 @@
 
   bench/store.py [--messages 20000] [--bytes 3000] [--rounds 3] [--probe PROGRAM] [--folder FOLDER]
 
-Adds --messages messages of --bytes bytes to one list of a new file, each in a
-transaction of its own, by the program crates/store_probe and by Python's
-sqlite3 (the same tables, WAL, synchronous=FULL, foreign keys on), in turn, and
-reads all rows back in order by both. Each side times its own calls, so the
-opening of the file is in none of them. Stock SQLite checks the file that the
-program made, and its tables are compared with docs/TABLES.md. Then it times a
-thousand messages added to a list that holds 1,000 and to one that holds
-49,000, in a new file. It prints ratios; asked for are at most 2 for adding,
-2.5 for reading, and 2 for the long list.
-Build the program first: (cd crates/store_probe && rt run).
+Adds --messages messages of --bytes bytes to one list of a new file, by the
+program crates/store_probe and by Python's sqlite3 (the same tables, WAL,
+synchronous=FULL, foreign keys on), in turn: each in a transaction of its own,
+and in another file in transactions of 500. Then both ask for each message by
+its key, far from the one before, and read all rows in order; the program also
+walks them one after the other. Each side times its own calls, so the opening
+of the file is in none of them. The memory of a call is the most that its whole
+process held, from its opening on, as a multiple of the bytes of the texts.
+Stock SQLite checks the file that the program made, and its tables are compared
+with docs/TABLES.md.
+
+Then it times, in new files, a thousand messages added to a list that holds
+1,000 and to one that holds 49,000, and a hundred added where two lists hold
+49,000 together and where they hold 52,100. It prints ratios, and what is asked
+for beside them. Build the program first: (cd crates/store_probe && rt run).
 """
 import argparse, hashlib, os, pathlib, re, sqlite3, subprocess, sys, tempfile, time
 
 ROOT = pathlib.Path(__file__).resolve().parent.parent
 
+AT_ONCE = 500
+
+# How far a message stands from the one that is asked for next; the program has the same.
+STRIDE = 7919
+
 ADD = ("INSERT INTO message (list, key, sender, arrival, text, withdrawn, embargo)"
        " VALUES ('soc', ?, ?, ?, ?, 0, NULL)")
-READ = "SELECT key, sender, arrival, text, withdrawn, embargo FROM message WHERE list = 'soc' ORDER BY pos"
+SHOWN = "SELECT key, sender, arrival, text, withdrawn, embargo FROM message WHERE list = 'soc'"
+READ = SHOWN + " ORDER BY pos"
+ASK = SHOWN + " AND key = ?"
+
+
+def held_by(pid):
+    """The most bytes that a process has held since it began; none where it is gone."""
+    try:
+        status = pathlib.Path(f"/proc/{pid}/status").read_text()
+    except OSError:
+        return 0
+    most = re.search(r"^VmHWM:\s*(\d+) kB$", status, re.MULTILINE)
+    return int(most[1]) * 1024 if most else 0
 
 
 def probe(program, *words):
-    """The nanoseconds that the program prints, one a line."""
-    ran = subprocess.run([program, *map(str, words)], stdout=subprocess.PIPE, check=True, text=True)
-    return [int(line) for line in ran.stdout.split()]
+    """The nanoseconds that the program prints, one a line, and the most bytes that it held."""
+    ran = subprocess.Popen([program, *map(str, words)], stdout=subprocess.PIPE, text=True)
+    held = 0
+    while ran.poll() is None:
+        held = max(held, held_by(ran.pid))
+        time.sleep(0.002)
+    if ran.returncode:
+        sys.exit(f"{program} {' '.join(map(str, words))}: status {ran.returncode}")
+    return [int(line) for line in ran.stdout.read().split()], held
+
+
+def times(program, *words):
+    return probe(program, *words)[0]
 
 
 def text(place, size):
     """A message's text: its place in decimal, and then a line as long as it takes."""
     return f"{place}\n".encode().ljust(size - 1, b"x") + b"\n"
+
+
+def key(whole):
+    return hashlib.sha256(whole).hexdigest()
+
+
+def row(place, whole):
+    return key(whole), b"anna@example.org", place, whole
 
 
 def stock_file(path, schema):
@@ -46,19 +86,37 @@ def stock_file(path, schema):
     return stock
 
 
-def stock_add(stock, count, size):
+def timed(call, *words):
     begun = time.perf_counter_ns()
-    for place in range(count):
-        whole = text(place, size)
-        key = hashlib.sha256(whole).hexdigest()
-        stock.execute(ADD, (key, b"anna@example.org", place, whole))
+    call(*words)
     return time.perf_counter_ns() - begun
 
 
-def stock_read(stock):
-    begun = time.perf_counter_ns()
+def stock_add(stock, count, size):
+    for place in range(count):
+        stock.execute(ADD, row(place, text(place, size)))
+
+
+def stock_batches(stock, texts):
+    """In transactions of 500, of texts that are there before, as the program has them."""
+    for begin in range(0, len(texts), AT_ONCE):
+        stock.execute("BEGIN")
+        stock.executemany(ADD, [row(place, texts[place]) for place in range(begin, min(begin + AT_ONCE, len(texts)))])
+        stock.execute("COMMIT")
+
+
+def stock_ask(stock, keys):
+    at = 0
+    for _ in keys:
+        if stock.execute(ASK, (keys[at],)).fetchone() is None:
+            sys.exit("stock SQLite has no message of a key")
+        at = (at + STRIDE) % len(keys)
+
+
+def stock_read(stock, count):
     rows = stock.execute(READ).fetchall()
-    return time.perf_counter_ns() - begun, len(rows)
+    if len(rows) != count:
+        sys.exit(f"stock SQLite holds {len(rows)} rows")
 
 
 def schema_of(path):
@@ -69,17 +127,28 @@ def schema_of(path):
 
 
 def compare(asked, folder, round):
-    """One round: nanoseconds of adding and reading, by the program and by stock SQLite."""
-    ours, theirs = os.path.join(folder, f"ours-{round}.db"), os.path.join(folder, f"stock-{round}.db")
-    [added] = probe(asked.probe, "fill", ours, asked.messages, asked.bytes)
-    [read] = probe(asked.probe, "read", ours)
-    stock = stock_file(theirs, schema_of(ours))
-    stock_added = stock_add(stock, asked.messages, asked.bytes)
-    stock_took, rows = stock_read(stock)
+    """One round: nanoseconds of each call, by the program and by stock SQLite, and the bytes that the program held."""
+    count, size = asked.messages, asked.bytes
+    paths = {side: os.path.join(folder, f"{side}-{round}.db") for side in ("each", "batch", "stock-each", "stock-batch")}
+    texts = [text(place, size) for place in range(count)]
+    keys = [key(whole) for whole in texts]
+    took = {}
+    [took["each"]] = times(asked.probe, "fill", paths["each"], count, size)
+    schema = schema_of(paths["each"])
+    took["stock each"] = timed(stock_add, stock_file(paths["stock-each"], schema), count, size)
+    [took["batch"]] = times(asked.probe, "batch", paths["batch"], count, size)
+    stock = stock_file(paths["stock-batch"], schema)
+    took["stock batch"] = timed(stock_batches, stock, texts)
+    [took["ask"]] = times(asked.probe, "ask", paths["batch"], count, size)
+    took["stock ask"] = timed(stock_ask, stock, keys)
+    took["open held"] = probe(asked.probe, "open", paths["batch"])[1]
+    for call in ("read", "walk"):
+        [took[call]], took[f"{call} held"] = probe(asked.probe, call, paths["batch"])
+    took["stock read"] = timed(stock_read, stock, count)
     stock.close()
-    if rows != asked.messages:
-        sys.exit(f"stock SQLite holds {rows} rows")
-    return added, read, stock_added, stock_took
+    for side in ("each", "stock-each", "stock-batch"):
+        os.remove(paths[side])
+    return took
 
 
 def check(path):
@@ -93,12 +162,19 @@ def documented():
     return [text.removesuffix(";") for text in re.findall(r"^CREATE TABLE .*;$", page, re.MULTILINE)]
 
 
-def grow(asked, folder, round):
-    """Nanoseconds of a thousand messages added to 1,000, and to 49,000."""
-    path = os.path.join(folder, f"grow-{round}.db")
-    took = probe(asked.probe, "grow", path, asked.bytes)
-    os.remove(path)
+def in_new_file(asked, folder, call):
+    """The two times of a call that fills a file of its own."""
+    path = os.path.join(folder, "new.db")
+    took = times(asked.probe, call, path, asked.bytes)
+    for made in (path, path + "-wal"):
+        if os.path.exists(made):
+            os.remove(made)
     return took
+
+
+def beside_stock(title, took, call, wanted):
+    ours, stock = took[call], took["stock " + call]
+    print(f"{title:32} {ours / 1e9:8.2f} s, stock {stock / 1e9:8.2f} s, ratio {ours / stock:6.2f}{wanted}")
 
 
 def main():
@@ -113,16 +189,22 @@ def main():
         sys.exit(f"{asked.probe} is not there: (cd crates/store_probe && rt run) builds it")
     with tempfile.TemporaryDirectory(dir=asked.folder) as folder:
         rounds = [compare(asked, folder, round) for round in range(asked.rounds)]
-        added, read, stock_added, stock_read = (min(column) for column in zip(*rounds))
+        took = {call: min(each[call] for each in rounds) for call in rounds[0]}
         print(f"{asked.messages} messages of {asked.bytes} bytes, best of {asked.rounds} rounds")
-        print(f"added, a transaction each: {added / 1e9:8.2f} s, stock {stock_added / 1e9:8.2f} s, ratio {added / stock_added:5.2f}")
-        print(f"read in order:             {read / 1e9:8.2f} s, stock {stock_read / 1e9:8.2f} s, ratio {read / stock_read:5.2f}")
-        ours = os.path.join(folder, "ours-0.db")
+        beside_stock("added, a transaction each:", took, "each", " (at most 2)")
+        beside_stock("added, 500 in a transaction:", took, "batch", " (at most 1.5)")
+        beside_stock("asked for by key:", took, "ask", "")
+        beside_stock("read in order:", took, "read", " (at most 2.5)")
+        print(f"{'walked, one after the other:':32} {took['walk'] / 1e9:8.2f} s")
+        whole = asked.messages * asked.bytes
+        held = ", ".join(f"{took[call + ' held'] / whole:.2f} to {call}" for call in ("open", "read", "walk"))
+        print(f"held, in multiples of the texts: {held} (at most 1.3)")
+        ours = os.path.join(folder, "batch-0.db")
         print(f"integrity_check of stock SQLite: {check(ours)}")
         print(f"tables as in docs/TABLES.md: {'yes' if schema_of(ours) == documented() else 'NO'}")
-        grown = [grow(asked, folder, round) for round in range(asked.rounds)]
-        short, long = (min(column) for column in zip(*grown))
-        print(f"a thousand more to 1,000:  {short / 1e9:8.2f} s, to 49,000 {long / 1e9:8.2f} s, ratio {long / short:5.2f}")
+        for call, title in (("grow", "a thousand more to 1,000 and to 49,000:"), ("lists", "a hundred where two lists hold 49,000 and 52,100:")):
+            fewer, more = (min(column) for column in zip(*(in_new_file(asked, folder, call) for _ in range(asked.rounds))))
+            print(f"{title:50} {fewer / 1e9:8.3f} s, {more / 1e9:8.3f} s, ratio {more / fewer:6.2f} (at most 2)")
 
 
 if __name__ == "__main__":

@@ -1,13 +1,20 @@
-//! Fills the tables of a file, reads them, and times both, for the benchmark `bench/store.py`.
+//! Fills the tables of a file, asks them, and times both, for the benchmark `bench/store.py`.
 //!
-//! Without words it adds a hundred messages in memory and prints how many it reads back. `fill FILE COUNT BYTES` adds so
-//! many messages of so many bytes to a list of a new file, `read FILE` reads them all, and `grow FILE BYTES` adds a
-//! thousand messages to a list of 1,000 and to one of 49,000, in a new file; these print nanoseconds, one number on each
-//! line.
+//! Without words it adds a hundred messages in memory and prints how many it reads back. Else the words are a call, a file
+//! and numbers, and it prints nanoseconds, one number on each line:
+//!
+//! - `fill FILE COUNT BYTES` adds so many messages of so many bytes to a list of a new file, each by itself;
+//! - `batch FILE COUNT BYTES` adds them in one call;
+//! - `ask FILE COUNT BYTES` asks such a file for each of these messages by its key, far from the one before;
+//! - `read FILE` reads all messages into memory, and `walk FILE` one after the other;
+//! - `open FILE` does nothing: it takes the memory that every call takes;
+//! - `grow FILE BYTES` adds a thousand messages to a list of 1,000 and to one of 49,000, in a new file;
+//! - `lists FILE BYTES` adds a hundred messages to a list of 25,000 beside another of 24,000, and, where there are 27,000
+//!   in the other, a hundred more, in a new file.
 #![tactic(auto)]
 
 use anyhow::bail;
-use archive_store::{AdoptStop, Store};
+use archive_store::{AddStop, AdoptStop, Key, Store, key_of};
 use mbox_core::{Item, separator};
 use sqlite::{Alter, Connection, File, FileStore};
 use std::alloc::Global;
@@ -17,7 +24,25 @@ use std::time::{Duration, Instant};
 
 const LIST: &str = "soc";
 
+const OTHER_LIST: &str = "dev";
+
 const SEPARATOR: &[u8] = b"From anna@example.org Tue Mar  4 10:00:00 2003";
+
+/// How far a message stands from the one that is asked for next.
+const STRIDE: usize = 7919;
+
+/// What to time. A file's list has so many messages of so many bytes.
+#[derive(Clone, Copy)]
+enum Work {
+    Fill { count: u32, size: usize },
+    Batch { count: u32, size: usize },
+    Ask { count: u32, size: usize },
+    Read,
+    Walk,
+    Open,
+    Grow { size: usize },
+    Lists { size: usize },
+}
 
 /// A whole text of so many bytes that begins with a number, so that no two are the same.
 fn numbered_text(alloc: Global, number: u32, size: usize) -> anyhow::Result<Vec<u8>> {
@@ -27,29 +52,71 @@ fn numbered_text(alloc: Global, number: u32, size: usize) -> anyhow::Result<Vec<
     Ok(text)
 }
 
-fn add_message<S: Alter>(alloc: Global, store: &mut Store<S>, text: &[u8]) -> anyhow::Result<()> {
+/// A text of each number.
+fn numbered_texts(alloc: Global, numbers: Range<u32>, size: usize) -> anyhow::Result<Vec<Vec<u8>>> {
+    let mut texts = Vec::new(alloc);
+    for number in numbers {
+        texts.push(numbered_text(alloc, number, size)?)?;
+    }
+    Ok(texts)
+}
+
+fn item_of(text: &[u8]) -> anyhow::Result<Item<'_>> {
     let Some(envelope) = separator(SEPARATOR) else {
         bail!("no separator line");
     };
     let Some(item) = Item::new(envelope, text) else {
         bail!("no message");
     };
-    store.add(alloc, LIST, &item)?;
-    Ok(())
+    Ok(item)
 }
 
-/// Adds a message of each number.
+fn items_of<'a>(alloc: Global, texts: &'a [Vec<u8>]) -> anyhow::Result<Vec<Item<'a>>> {
+    let mut items = Vec::with_capacity(alloc, texts.len())?;
+    for text in texts.iter() {
+        items.push(item_of(text)?)?;
+    }
+    Ok(items)
+}
+
+/// Adds a message of each number, each by itself.
 fn add_numbered<S: Alter>(
     alloc: Global,
     store: &mut Store<S>,
+    list: &str,
     numbers: Range<u32>,
     size: usize,
 ) -> anyhow::Result<()> {
     for number in numbers {
         let text = numbered_text(alloc, number, size)?;
-        add_message(alloc, store, &text)?;
+        store.add(alloc, list, &item_of(&text)?)?;
     }
     Ok(())
+}
+
+fn add_items<S: Alter>(
+    alloc: Global,
+    store: &mut Store<S>,
+    list: &str,
+    items: &[Item<'_>],
+) -> anyhow::Result<()> {
+    match store.add_all(alloc, list, items) {
+        Ok(_report) => Ok(()),
+        Err(AddStop { fault, .. }) => Err(fault.into()),
+    }
+}
+
+/// Adds a message of each number, all in one call.
+fn add_at_once<S: Alter>(
+    alloc: Global,
+    store: &mut Store<S>,
+    list: &str,
+    numbers: Range<u32>,
+    size: usize,
+) -> anyhow::Result<()> {
+    let texts = numbered_texts(alloc, numbers, size)?;
+    let items = items_of(alloc, &texts)?;
+    add_items(alloc, store, list, &items)
 }
 
 /// How long it takes to add a message of each number.
@@ -58,21 +125,138 @@ fn time_adding<S: Alter>(
     store: &mut Store<S>,
     numbers: Range<u32>,
     size: usize,
-) -> anyhow::Result<Duration> {
+) -> anyhow::Result<()> {
     let begun = Instant::now(rt)?;
-    add_numbered(rt.alloc(), store, numbers, size)?;
-    Ok(begun.elapsed(rt)?)
+    add_numbered(rt.alloc(), store, LIST, numbers, size)?;
+    tell(rt, begun.elapsed(rt)?)
+}
+
+/// How long it takes to add so many messages in one call, whose texts are there before.
+fn time_batches<S: Alter>(
+    rt: &HostRuntime,
+    store: &mut Store<S>,
+    count: u32,
+    size: usize,
+) -> anyhow::Result<()> {
+    let alloc = rt.alloc();
+    let texts = numbered_texts(alloc, 0..count, size)?;
+    let items = items_of(alloc, &texts)?;
+    let begun = Instant::now(rt)?;
+    add_items(alloc, store, LIST, &items)?;
+    tell(rt, begun.elapsed(rt)?)
+}
+
+/// The keys of so many messages.
+fn keys(alloc: Global, count: u32, size: usize) -> anyhow::Result<Vec<Key>> {
+    let mut keys = Vec::new(alloc);
+    for number in 0..count {
+        let text = numbered_text(alloc, number, size)?;
+        keys.push(key_of(&item_of(&text)?))?;
+    }
+    Ok(keys)
+}
+
+/// Asks for the message of each key, in strides.
+fn ask_each<S: Alter>(store: &mut Store<S>, keys: &[Key]) -> anyhow::Result<()> {
+    let mut at = 0;
+    for _ in 0..keys.len() {
+        let Some(key) = keys.get(at) else {
+            bail!("no key");
+        };
+        if store.row(LIST, key)?.is_none() {
+            bail!("no message of a key");
+        }
+        at = (at + STRIDE) % keys.len();
+    }
+    Ok(())
+}
+
+fn time_asking<S: Alter>(
+    rt: &HostRuntime,
+    store: &mut Store<S>,
+    count: u32,
+    size: usize,
+) -> anyhow::Result<()> {
+    let keys = keys(rt.alloc(), count, size)?;
+    let begun = Instant::now(rt)?;
+    ask_each(store, &keys)?;
+    tell(rt, begun.elapsed(rt)?)
 }
 
 /// How long it takes to read all messages, and that there are some.
-fn time_reading<S: Alter>(rt: &HostRuntime, store: &mut Store<S>) -> anyhow::Result<Duration> {
+fn time_reading<S: Alter>(rt: &HostRuntime, store: &mut Store<S>) -> anyhow::Result<()> {
     let begun = Instant::now(rt)?;
     let messages = store.rows(rt.alloc(), LIST)?;
     let took = begun.elapsed(rt)?;
     if messages.is_empty() {
         bail!("the list is empty");
     }
-    Ok(took)
+    tell(rt, took)
+}
+
+/// Reads all messages, and keeps none.
+fn walk<S: Alter>(alloc: Global, store: &mut Store<S>) -> anyhow::Result<()> {
+    let mut walk = store.each_row(alloc, LIST)?;
+    for _ in 0..walk.left() {
+        if walk.next()?.is_none() {
+            bail!("a walk ended early");
+        }
+    }
+    Ok(())
+}
+
+fn time_walking<S: Alter>(rt: &HostRuntime, store: &mut Store<S>) -> anyhow::Result<()> {
+    let begun = Instant::now(rt)?;
+    walk(rt.alloc(), store)?;
+    tell(rt, begun.elapsed(rt)?)
+}
+
+/// How long a thousand messages take at the beginning of a list, and at its end.
+fn time_growth<S: Alter>(
+    rt: &HostRuntime,
+    store: &mut Store<S>,
+    size: usize,
+) -> anyhow::Result<()> {
+    let alloc = rt.alloc();
+    add_at_once(alloc, store, LIST, 0..1_000, size)?;
+    time_adding(rt, store, 1_000..2_000, size)?;
+    add_at_once(alloc, store, LIST, 2_000..49_000, size)?;
+    time_adding(rt, store, 49_000..50_000, size)
+}
+
+/// How long a hundred messages take where all lists hold 49,000, and where they hold 52,100.
+fn time_lists<S: Alter>(rt: &HostRuntime, store: &mut Store<S>, size: usize) -> anyhow::Result<()> {
+    let alloc = rt.alloc();
+    store.list_add(OTHER_LIST)?;
+    add_at_once(alloc, store, LIST, 0..25_000, size)?;
+    add_at_once(alloc, store, OTHER_LIST, 0..24_000, size)?;
+    time_adding(rt, store, 25_000..25_100, size)?;
+    add_at_once(alloc, store, OTHER_LIST, 24_000..27_000, size)?;
+    time_adding(rt, store, 25_100..25_200, size)
+}
+
+fn carry_out<S: Alter>(rt: &HostRuntime, store: &mut Store<S>, work: &Work) -> anyhow::Result<()> {
+    match *work {
+        Work::Ask { count, size } => time_asking(rt, store, count, size),
+        Work::Read => time_reading(rt, store),
+        Work::Walk => time_walking(rt, store),
+        Work::Open => Ok(()),
+        _ => {
+            store.list_add(LIST)?;
+            fill(rt, store, work)
+        }
+    }
+}
+
+/// Work on a new list.
+fn fill<S: Alter>(rt: &HostRuntime, store: &mut Store<S>, work: &Work) -> anyhow::Result<()> {
+    match *work {
+        Work::Fill { count, size } => time_adding(rt, store, 0..count, size),
+        Work::Batch { count, size } => time_batches(rt, store, count, size),
+        Work::Grow { size } => time_growth(rt, store, size),
+        Work::Lists { size } => time_lists(rt, store, size),
+        _ => Ok(()),
+    }
 }
 
 fn open(rt: &HostRuntime, path: &str) -> anyhow::Result<Store<FileStore<File>>> {
@@ -85,50 +269,11 @@ fn open(rt: &HostRuntime, path: &str) -> anyhow::Result<Store<FileStore<File>>> 
     }
 }
 
-fn fill_new<S: Alter>(
-    rt: &HostRuntime,
-    store: &mut Store<S>,
-    count: u32,
-    size: usize,
-) -> anyhow::Result<Duration> {
-    store.list_add(LIST)?;
-    time_adding(rt, store, 0..count, size)
-}
-
-fn fill(rt: &HostRuntime, path: &str, count: u32, size: usize) -> anyhow::Result<Duration> {
+fn work_on(rt: &HostRuntime, path: &str, work: &Work) -> anyhow::Result<()> {
     let mut store = open(rt, path)?;
-    let took = fill_new(rt, &mut store, count, size);
+    let done = carry_out(rt, &mut store, work);
     store.into_connection().close()?;
-    took
-}
-
-fn read(rt: &HostRuntime, path: &str) -> anyhow::Result<Duration> {
-    let mut store = open(rt, path)?;
-    let took = time_reading(rt, &mut store);
-    store.into_connection().close()?;
-    took
-}
-
-/// How long a thousand messages take at the beginning of a list, and at its end.
-fn grow_new<S: Alter>(
-    rt: &HostRuntime,
-    store: &mut Store<S>,
-    size: usize,
-) -> anyhow::Result<(Duration, Duration)> {
-    let alloc = rt.alloc();
-    store.list_add(LIST)?;
-    add_numbered(alloc, store, 0..1_000, size)?;
-    let short = time_adding(rt, store, 1_000..2_000, size)?;
-    add_numbered(alloc, store, 2_000..49_000, size)?;
-    let long = time_adding(rt, store, 49_000..50_000, size)?;
-    Ok((short, long))
-}
-
-fn grow(rt: &HostRuntime, path: &str, size: usize) -> anyhow::Result<(Duration, Duration)> {
-    let mut store = open(rt, path)?;
-    let took = grow_new(rt, &mut store, size);
-    store.into_connection().close()?;
-    took
+    done
 }
 
 /// Adds a hundred messages in memory, and prints how many are read back.
@@ -136,7 +281,8 @@ fn sample(rt: &HostRuntime) -> anyhow::Result<()> {
     let alloc = rt.alloc();
     let mut store = Store::open_in_memory(alloc)?;
     store.list_add(LIST)?;
-    add_numbered(alloc, &mut store, 0..100, 100)?;
+    add_numbered(alloc, &mut store, LIST, 0..50, 100)?;
+    add_at_once(alloc, &mut store, LIST, 50..100, 100)?;
     let messages = store.rows(alloc, LIST)?;
     println!(rt; "{}", messages.len())?;
     Ok(())
@@ -147,23 +293,39 @@ fn tell(rt: &HostRuntime, took: Duration) -> anyhow::Result<()> {
     Ok(())
 }
 
+/// The work that a call and its numbers name.
+fn work_of(call: &str, numbers: &[String]) -> anyhow::Result<Work> {
+    match (call, numbers) {
+        ("read", []) => Ok(Work::Read),
+        ("walk", []) => Ok(Work::Walk),
+        ("open", []) => Ok(Work::Open),
+        ("grow", [size]) => Ok(Work::Grow {
+            size: size.parse()?,
+        }),
+        ("lists", [size]) => Ok(Work::Lists {
+            size: size.parse()?,
+        }),
+        ("fill", [count, size]) => Ok(Work::Fill {
+            count: count.parse()?,
+            size: size.parse()?,
+        }),
+        ("batch", [count, size]) => Ok(Work::Batch {
+            count: count.parse()?,
+            size: size.parse()?,
+        }),
+        ("ask", [count, size]) => Ok(Work::Ask {
+            count: count.parse()?,
+            size: size.parse()?,
+        }),
+        _ => bail!("words: CALL FILE and the call's numbers"),
+    }
+}
+
 fn main(rt: HostRuntime) -> anyhow::Result<()> {
     let words: Vec<String> = env::args(&rt)?.collect(rt.alloc())?;
-    let mut words = words.iter().skip(1);
-    match (words.next(), words.next(), words.next(), words.next()) {
-        (Some(call), Some(path), Some(count), Some(size)) if call.as_str() == "fill" => {
-            tell(&rt, fill(&rt, path, count.parse()?, size.parse()?)?)
-        }
-        (Some(call), Some(path), None, None) if call.as_str() == "read" => tell(
-            &rt,
-            read(&rt, path)?,
-        ),
-        (Some(call), Some(path), Some(size), None) if call.as_str() == "grow" => {
-            let (short, long) = grow(&rt, path, size.parse()?)?;
-            tell(&rt, short)?;
-            tell(&rt, long)
-        }
-        (None, None, None, None) => sample(&rt),
-        _ => bail!("words: fill FILE COUNT BYTES, read FILE, or grow FILE BYTES"),
+    match words.as_slice() {
+        [_, call, path, numbers @ ..] => work_on(&rt, path, &work_of(call, numbers)?),
+        [_] => sample(&rt),
+        _ => bail!("words: CALL FILE and the call's numbers"),
     }
 }
