@@ -1,4 +1,3 @@
-pub mod AdoptLemmas
 pub mod RankLemmas
 pub mod StepEquations
 pub mod StepLemmas

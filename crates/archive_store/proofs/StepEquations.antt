@@ -152,16 +152,3 @@ pub add_new : (limit : ℕ) (list k key : List ℕ) (item : Item) → k ≡ key 
     → added_within limit a list item ≡ (record a { messages = a.messages ++ keyed_message list key item ∷ [] }, taken_in)
 add_new limit list k key item e ek small a h =
     rw ek (rw (sym h.0.0.1, sym small, known_by a list (item_key item) k false (e ∙ ek) h.0.1, sym h.1) refl)
-
--- ---- a list that is not full
-
-keeps_some : {X : Type 0} (b : Bool) (x : X) (ys : List X) (n : ℕ) → length ys ≤ n → length (cond b (x ∷ ys) ys) ≤ suc n
-keeps_some true x ys n h = let more : suc (length ys) ≤ suc n = omega (arith, h) in more
-keeps_some false x ys n h = omega (arith, h)
-
-fewer : {X : Type 0} (p : X → Bool) (xs : List X) → length (filter p xs) ≤ length xs
-fewer p [] = omega arith
-fewer p (x ∷ xs) = keeps_some (p x) x (filter p xs) (length xs) (fewer p xs)
-
-pub not_full : {X : Type 0} (p : X → Bool) (xs : List X) (limit : ℕ) → length xs < limit → false ≡ nat_le limit (length (filter p xs))
-not_full p xs limit h = let few = fewer p xs in grind (arith, nat_tests, h, few)

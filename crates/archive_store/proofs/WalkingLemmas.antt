@@ -15,7 +15,6 @@ use Rattle.sqlite.specs.Effect.{Database}
 use Rattle.sqlite.specs.Store.{Ghosts}
 use Rattle.archive_tables.specs.Rows.{message_at, places_in}
 use Rattle.archive_tables.specs.Tables.{archive_in}
-use Rattle.archive_store.specs.Messages.{AreOf}
 use Rattle.archive_tables.proofs.WalkLemmas.{walked}
 use Rattle.archive_store.specs.Replies.{refusal, Answers}
 use Rattle.archive_store.specs.Held.{held_of}
@@ -23,7 +22,7 @@ use Rattle.archive_store.specs.Told.{IsReady, IsOpen, HasReturned, HadReturned, 
 use Rattle.archive_store.specs.Walking.{Walk, Walks, Begins, IsNotBegun, GivesAll, now_in, rows_of}
 use Rattle.archive_store.specs.declared.store.Store.{Store}
 use Rattle.archive_store.specs.declared.faults.StoreFault.{StoreFault}
-use Rattle.archive_store.proofs.ReadingLemmas.{are_of}
+use Rattle.archive_store.proofs.ReadingLemmas.{AreOf, are_of}
 
 some_is : {A : Type 0} {x y : A} → Some x ≡ Some y → x ≡ y
 some_is e = cc
@@ -68,10 +67,6 @@ pub is_of_list : (list : List ℕ) (a : Archive) (given rest : List Message) (m 
 is_of_list list a given rest m joined =
     (bytes_eq-Decides m.list list).0
     (All-head (λ m. bytes_eq m.list list ≡ true) m rest (behind_some (λ m. bytes_eq m.list list ≡ true) given (m ∷ rest) (subst (AreOf list) (sym joined) (are_of list a))))
-
-pub either : {A E R : Type 0} (r : Result A E) (P Q : A → Type 0) → ((x : A) → P x → Q x) → R → IfOk r P → MatchResult r Q (λ _. R)
-either (Ok x) P Q weaker rests p = weaker x p
-either (Err e) P Q weaker rests p = rests
 
 pub no_refusal : {A : Type 0} (r : Result A StoreFault) (Q : StoreFault → Type 0) → IsErrAnd r Q → ((fault : StoreFault) → Q fault → refusal fault ≡ None) → IfErr r (λ fault. refusal fault ≡ None)
 no_refusal (Ok x) Q none why = absurd none

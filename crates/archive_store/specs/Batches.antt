@@ -71,12 +71,6 @@ IsRefusedAt a list items at list_full = IsFullAt a list items at
 IsRefusedAt a list items at _ = ⊥
 
 module _ {S : Type 0} (g : Ghosts S) (old new : Held S) where
-  -- a message that the tables do not hold is written down after the others
-  abbrev pub TakesInOver : Result (Unit {0}) StoreFault → List ℕ → List ℕ → Item → Type 0
-  TakesInOver result list key item = HasCleanDisk (state g new) → (behind : Option Database) → IsHeld behind (state g old) → list_any (is_message list key) (archive_of (state g old)).messages ≡ false
-      → MatchResult result (λ _. ChangesOver behind (state g old) (state g new) (λ a. record a { messages = a.messages ++ keyed_message list key item ∷ [] }))
-      (λ fault. (refusal fault ≡ None) × RestsOver behind (state g old) (state g new))
-
   abbrev pub AddsOne : Result Taken StoreFault → List ℕ → Item → ℕ → ℕ → Type 0
   AddsOne result list item before after =
       HasCleanDisk (state g new) → (behind : Option Database) → IsHeld behind (state g old) → IsCounted (archive_of (state g old)) list before

@@ -1,10 +1,7 @@
 pub mod Held
 pub mod Replies
 pub mod Words
-pub mod Messages
-pub mod Ranks
 pub mod Running
-pub mod Adopting
 pub mod Batches
 pub mod Told
 pub mod Walking

@@ -1,19 +1,18 @@
 -- How the answers of a store stand for those of the machine.
-use Rattle.std.specs.Prelude.{◌≡◌, ℕ, false, Bool, List, [], ◌∷◌, ◌++◌, ⊤, MatchResult, MatchOption, Option, Some, None, Result, Ok, Err, option_map}
-use Rattle.std.specs.List.{list_any}
+use Rattle.std.specs.Prelude.{◌≡◌, Bool, MatchResult, MatchOption, Option, Some, None, Result, Ok, Err, option_map}
 use Rattle.sqlite.specs.Store.{Ghosts}
 use Rattle.sqlite.specs.declared.error.Error.{Error}
 use Rattle.sqlite.specs.declared.error.Error.TheVariants.{SqliteFailure}
 use Rattle.sqlite.specs.declared.error.ErrorCode.TheVariants.{OutOfMemory}
-use Rattle.mbox_core.specs.Division.{Item}
 use Rattle.sqlite.specs.Held.{Held, state}
 use Rattle.sqlite.specs.State.{State, HasCleanDisk}
 use Rattle.archive_machine.specs.Records.{Archive}
 use Rattle.archive_machine.specs.Commands.{Refusal, bad_name, bad_text, list_exists, no_list, person_exists, no_person, token_taken, no_message, already_withdrawn, not_withdrawn, bad_days, list_full, too_large, Reply, done, was_there, refused}
-use Rattle.archive_machine.specs.Questions.{is_message}
-use Rattle.archive_machine.specs.Machine.{Outcome, keyed_message}
+use Rattle.archive_machine.specs.Machine.{Outcome}
 use Rattle.archive_tables.specs.Tables.{IsKept, archive_of}
-use Rattle.archive_tables.specs.Calls.{Changes, Rests}
+use Rattle.archive_tables.specs.Calls.{Rests}
+use Rattle.archive_database.specs.declared.faults.Fault.{Fault}
+use Rattle.archive_database.specs.declared.faults.Fault.TheVariants.{Memory as NoMemory, Database}
 use Rattle.archive_store.specs.declared.words.Added.{Added}
 use Rattle.archive_store.specs.Words.{added_reply}
 use Rattle.archive_store.specs.declared.faults.StoreFault.{StoreFault}
@@ -42,6 +41,11 @@ abbrev pub fault_of : Error → StoreFault
 fault_of (SqliteFailure OutOfMemory) = Memory
 fault_of _ = Store
 
+-- the same of what was done on a database
+abbrev pub fault_in : Fault → StoreFault
+fault_in NoMemory = Memory
+fault_in Database = Store
+
 -- the answer of a call whose success says this
 abbrev pub reply_of : {A : Type 0} → (A → Reply) → Result A StoreFault → Option Reply
 reply_of says (Ok a) = Some (says a)
@@ -68,14 +72,6 @@ module _ {S : Type 0} (g : Ghosts S) (old new : Held S) where
   -- one step of the machine, where the disk has returned what was written to it
   abbrev pub Does : (Archive → Outcome) → Option Reply → Type 0
   Does step reply = HasCleanDisk (state g new) → IsKept (state g old) → Steps (state g old) (state g new) step reply
-
-  -- A message that the tables do not hold is written down after the others; or memory or the database was at fault.
-  abbrev pub TakesIn : Result (Unit {0}) StoreFault → List ℕ → List ℕ → Item → Type 0
-  TakesIn result list key item = HasCleanDisk (state g new) → IsKept (state g old) →
-      MatchResult result
-      (λ _. list_any (is_message list key) (archive_of (state g old)).messages ≡ false
-      → Changes (state g old) (state g new) (λ a. record a { messages = a.messages ++ keyed_message list key item ∷ [] }))
-      (λ fault. (refusal fault ≡ None) × Rests (state g old) (state g new))
 
   -- the tables are kept, and hold what they held
   abbrev pub Stays : Type 0

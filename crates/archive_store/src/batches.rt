@@ -7,8 +7,9 @@ ghost use Rattle.archive_store.specs.Replies.{refusal};
 ghost use Rattle.archive_store.specs.Batches.{AddsOne, AddsSome, AddsBatch, AddsAll, Counts, told_in, text_bytes};
 
 use crate::faults::StoreFault;
-use crate::limits::{MESSAGES, is_too_large, take_in};
+use crate::limits::MESSAGES;
 use crate::store::Store;
+use archive_database::taking::{is_too_large, take_in};
 use archive_machine::Key;
 use archive_tables::texts;
 use mbox_core::Item;

@@ -1,7 +1,8 @@
 //! Why a command or a question is refused.
-ghost use Rattle.archive_store.specs.Replies.{refusal, fault_of};
+ghost use Rattle.archive_store.specs.Replies.{refusal, fault_of, fault_in};
 ghost use Rattle.archive_store.specs.declared.faults.StoreFault.TheVariants.{Memory};
 
+use archive_database::Fault;
 use std::alloc::{AllocError, AllocFailed};
 use std::error::Error;
 use std::fmt;
@@ -50,6 +51,19 @@ impl From<sqlite::Error> for StoreFault {
         match error {
             sqlite::Error::SqliteFailure(sqlite::ErrorCode::OutOfMemory) => StoreFault::Memory,
             _ => StoreFault::Store,
+        }
+    }
+}
+
+impl From<Fault> for StoreFault {
+    ghost use Rattle.std.specs.Prelude.{◌≡◌, None};
+
+    ghost from_gives = { λ error fault. (fault ≡ fault_in error) × (refusal fault ≡ None) };
+
+    fn from(fault: Fault) -> StoreFault {
+        match fault {
+            Fault::Memory => StoreFault::Memory,
+            Fault::Database => StoreFault::Store,
         }
     }
 }

@@ -1,27 +1,21 @@
 //! Adding a message, under a limit of messages that a list may hold.
-ghost use Rattle.std.specs.Prelude.{◌≡◌, ◌<◌, false, nat_lt, nat_le, length, IfOk, IfErr, MatchOption, None};
-ghost use Rattle.mbox_core.specs.Division.{whole};
-ghost use Rattle.archive_machine.specs.Questions.{messages_in};
 ghost use Rattle.archive_machine.specs.Machine.{added_within};
-ghost use Rattle.archive_tables.specs.Calls.{Finds, Leaves, IsUp, WasClean};
+ghost use Rattle.archive_tables.specs.Calls.{WasClean};
 ghost use Rattle.archive_store.specs.Held.{held_of};
-ghost use Rattle.archive_store.specs.Replies.{Does, TakesIn, says_added, refusal};
-ghost use Rattle.archive_store.specs.Batches.{TakesInOver};
+ghost use Rattle.archive_store.specs.Replies.{Does, says_added};
 
 use crate::faults::StoreFault;
 use crate::store::Store;
 use crate::words::Added;
+use archive_database::taking::{is_full, is_too_large, take_in};
 use archive_machine::Key;
 use archive_tables::texts;
-use mbox_core::{Item, written_sender};
-use sqlite::{Alter, Connection, Error};
-use std::alloc::{AllocError, Global};
+use mbox_core::Item;
+use sqlite::Alter;
+use std::alloc::Global;
 
 /// How many messages a list may hold.
 pub const MESSAGES: u32 = 50_000;
-
-/// Bytes of the longest whole text that is taken in.
-const LONGEST: usize = 4_194_304;
 
 /// `Store::add` with this limit of messages in place of `MESSAGES`.
 pub fn add_limited<S: Alter>(
@@ -49,97 +43,4 @@ pub fn add_limited<S: Alter>(
     }
     take_in(&mut store.conn, alloc, list, &key, item)?;
     Ok(Added::New)
-}
-
-/// Whether the whole text of a message is too long to be taken in.
-pub(crate) fn is_too_large(item: &Item<'_>) -> bool
-    ensures { result ≡ nat_lt 4194304 (length (whole item.now.text)) }
-{
-    if item.complete {
-        item.text.len() > LONGEST
-    } else {
-        item.text.len() >= LONGEST
-    }
-}
-
-/// Whether a list holds as many messages as the limit. Its messages are counted only where some message's number
-/// reaches the limit.
-fn is_full<S: Alter>(conn: &mut Connection<S>, list: &str, limit: u32) -> Result<bool, Error>
-    ensures found { Finds S.Store conn.old conn.new result (λ a full. full ≡ nat_le limit (length (messages_in a list.now))) }
-    ensures same { Leaves S.Store conn.old conn.new }
-    ensures up { IsUp S.Store conn.old conn.new result }
-    ensures clean { WasClean S.Store conn.old conn.new }
-{
-    if !may_be_full(conn, limit)? {
-        return Ok(false);
-    }
-    let count = texts::messages::count_messages(conn, list)?;
-    Ok(limit as usize <= count)
-}
-
-/// Whether a list may hold as many messages as the limit. It takes the same time however many messages there are.
-fn may_be_full<S: Alter>(conn: &mut Connection<S>, limit: u32) -> Result<bool, Error>
-    ensures found { Finds S.Store conn.old conn.new result (λ a may_be. may_be ≡ false → length a.messages < limit) }
-    ensures same { Leaves S.Store conn.old conn.new }
-    ensures up { IsUp S.Store conn.old conn.new result }
-    ensures clean { WasClean S.Store conn.old conn.new }
-{
-    if limit == 0 {
-        return Ok(true);
-    }
-    texts::messages::reaches(conn, limit)
-}
-
-/// Writes a message down after the others.
-pub(crate) fn take_in<S: Alter>(
-    conn: &mut Connection<S>,
-    alloc: Global,
-    list: &str,
-    key: &Key,
-    item: &Item<'_>,
-) -> Result<(), StoreFault>
-    ensures taken { TakesIn S.Store conn.old conn.new result list.now key.now item.now }
-    ensures held { TakesInOver S.Store conn.old conn.new result list.now key.now item.now }
-    ensures fault { IfErr result (λ fault. refusal fault ≡ None) }
-    ensures clean { WasClean S.Store conn.old conn.new }
-{
-    let sender = sender_of(alloc, item)?;
-    let arrival = arrival_of(item);
-    if let Some(text) = with_line_end(alloc, item)? {
-        texts::messages::add_message(conn, list, key.as_str(), &sender, arrival, &text)?;
-        return Ok(());
-    }
-    texts::messages::add_message(conn, list, key.as_str(), &sender, arrival, text_of(item))?;
-    Ok(())
-}
-
-fn sender_of(alloc: Global, item: &Item<'_>) -> Result<Vec<u8>, AllocError>
-    ensures { IfOk result (λ sender. sender.items ≡ item.now.envelope.sender) }
-{
-    written_sender(alloc, item.envelope.sender)
-}
-
-fn arrival_of(item: &Item<'_>) -> i64
-    ensures { result ≡ item.now.envelope.arrival }
-{
-    item.envelope.arrival.seconds()
-}
-
-fn text_of<'a>(item: &'a Item<'_>) -> &'a [u8]
-    ensures { result.now ≡ item.now.text }
-{
-    item.text
-}
-
-/// The text of a message and LF, where the whole text is this; `None` where it is the text.
-fn with_line_end(alloc: Global, item: &Item<'_>) -> Result<Option<Vec<u8>>, AllocError>
-    ensures { IfOk result (λ ended. MatchOption ended (item.now.text ≡ whole item.now.text) (λ text. text.items ≡ whole item.now.text)) }
-{
-    if item.complete {
-        return Ok(None);
-    }
-    let mut ended = Vec::with_capacity(alloc, item.text.len() + 1)?;
-    ended.extend_from_slice(item.text)?;
-    ended.push(b'\n')?;
-    Ok(Some(ended))
 }

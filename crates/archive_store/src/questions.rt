@@ -1,19 +1,15 @@
 //! Questions.
-ghost use Rattle.std.specs.Prelude.{◌≡◌, ◌≢◌, ◌&&◌, int_le, List, map, None, IfOk, IfSome};
-ghost use Rattle.std.specs.Int.{int_max};
-ghost use Rattle.archive_machine.specs.Records.{Grant};
-ghost use Rattle.archive_store.specs.Ranks.{rank_on, higher_on};
-ghost use Rattle.archive_tables.specs.Rows.{grant_shown};
+ghost use Rattle.std.specs.Prelude.{◌≡◌, ◌≢◌, None, IfSome};
 ghost use Rattle.archive_store.specs.Words.{standing_rank};
 
 use crate::faults::StoreFault;
 use crate::store::Store;
 use crate::words::day_number;
-use archive_tables::rows::{GrantRow, read_grant};
+use archive_database::ranks::highest_rank;
 use archive_tables::texts;
 use civil_time::Day;
 use policy_core::Standing;
-use sqlite::{Alter, Error, Row};
+use sqlite::Alter;
 
 impl<S: Alter> Store<S> {
     ghost use Rattle.std.specs.Prelude.{◌≡◌, None, option_map, string_bytes};
@@ -52,42 +48,6 @@ impl<S: Alter> Store<S> {
             None => Err(StoreFault::Store),
         }
     }
-}
-
-/// The highest rank of the grants that hold on a day, 0 where none does. A person has three grants on a list at most.
-fn highest_rank(grants: &[Row], day: i64) -> Result<i64, Error>
-    ensures { IfOk result (λ rank. (shown : List Grant) → grants.now ≡ map grant_shown shown → rank ≡ rank_on day shown) }
-{
-    match grants {
-        [first, rest @ ..] => {
-            let above = highest_rank(rest, day)?;
-            rank_with(first, &above, day)
-        }
-        [] => Ok(0),
-    }
-}
-
-/// The higher of this rank and that of a grant, if the grant holds on the day.
-fn rank_with(row: &Row, above: &i64, day: i64) -> Result<i64, Error>
-    ensures { IfOk result (λ rank. (g : Grant) → row.now ≡ grant_shown g → rank ≡ higher_on day g above.now) }
-{
-    let grant = read_grant(row)?;
-    if holds(&grant, day) {
-        return Ok(higher_rank(&grant, above));
-    }
-    Ok(*above)
-}
-
-fn higher_rank(grant: &GrantRow, rank: &i64) -> i64
-    ensures { result ≡ int_max grant.now.rank rank.now }
-{
-    grant.rank.max(*rank)
-}
-
-fn holds(grant: &GrantRow, day: i64) -> bool
-    ensures { result ≡ (int_le grant.now.from_day day && int_le day grant.now.until_day) }
-{
-    grant.from_day <= day && day <= grant.until_day
 }
 
 /// The standing that a rank names. `None` where it names none.

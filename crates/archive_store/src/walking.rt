@@ -1,21 +1,19 @@
 //! Walks over the messages of a list.
-ghost use Rattle.std.specs.Prelude.{◌≡◌, ◌+◌, ◌∷◌, [], ◌++◌, ℕ, ℤ, List, map, slice_get, None, IfOk, IfErr, MatchResult, MatchOption};
+ghost use Rattle.std.specs.Prelude.{◌≡◌, ◌+◌, ◌∷◌, [], ◌++◌, map, slice_get, None, IfOk, IfErr, MatchResult, MatchOption};
 ghost use Rattle.archive_machine.specs.Messages.{remembered};
 ghost use Rattle.archive_machine.specs.Questions.{list_refusal, messages_in};
 ghost use Rattle.archive_tables.specs.Calls.{WasClean};
-ghost use Rattle.archive_tables.specs.Rows.{place_shown};
 ghost use Rattle.archive_store.specs.Held.{held_of};
 ghost use Rattle.archive_store.specs.Replies.{refusal};
 ghost use Rattle.archive_store.specs.Told.{HadReturned};
 ghost use Rattle.archive_store.specs.Walking.{GivesNext, GivesAll, ShowsMessage, FindsPlaces, IsNotBegun, left_of};
 
 use crate::faults::StoreFault;
-use crate::reading::read_or_fail;
 use crate::store::Store;
+use archive_database::reading::{read_or_fail, read_places};
 use archive_machine::Message;
-use archive_tables::rows::read_place;
 use archive_tables::texts;
-use sqlite::{Alter, Row};
+use sqlite::Alter;
 use std::alloc::Global;
 
 /// The messages of a list in mailbox order, one at a time. It holds the numbers of the messages, and no message. It may be
@@ -133,20 +131,7 @@ fn find_places<S: Alter>(
         return Err(StoreFault::NoList);
     }
     let shown = texts::messages::places(&mut store.conn, list)?;
-    read_places(alloc, &shown)
-}
-
-/// The numbers that rows show.
-fn read_places(alloc: Global, rows: &[Row]) -> Result<Vec<i64>, StoreFault>
-    ensures read { IfOk result (λ found. (places : List ℤ) → rows.now ≡ map place_shown places → found.items ≡ places) }
-    ensures fault { IfErr result (λ fault. refusal fault ≡ None) }
-{
-    let mut found = Vec::with_capacity(alloc, rows.len())?;
-    for row in rows.iter() {
-        let place = read_place(row)?;
-        found.push(place)?;
-    }
-    Ok(found)
+    Ok(read_places(alloc, &shown)?)
 }
 
 fn place_at(places: &[i64], at: usize) -> Option<i64>
@@ -162,7 +147,7 @@ fn message_at<S: Alter>(store: &mut Store<S>, place: i64) -> Result<Message, Sto
     ensures clean { HadReturned S.Store store.old store.new }
 {
     match texts::messages::message_at(&mut store.conn, place)? {
-        Some(row) => read_or_fail(row),
+        Some(row) => Ok(read_or_fail(row)?),
         None => Err(StoreFault::Store),
     }
 }

@@ -3,7 +3,6 @@ use Rattle.sqlite.specs.Effect.{Database}
 use Rattle.archive_tables.specs.Tables.{archive_in}
 use Rattle.archive_tables.specs.Rows.{places_in}
 use Rattle.archive_store.specs.Told.{archive_in as now_holds}
-use Rattle.archive_store.proofs.RankLemmas.{if_ok}
 use Rattle.archive_store.proofs.ReadingLemmas.{is_there}
 use Rattle.archive_store.proofs.WalkingLemmas.{fails, no_refusal}
 use Rattle.archive_store.proofs.walking.find_places.Goals as goal
@@ -19,22 +18,23 @@ returns-in_err-shown-clause-refused g c =
           (rest.1, ap (λ (d : Database). archive_in d.trees) rest.0 ∙ has.1.1)),
     )
 
-pub returns-clause-refused : goal.returns-clause-refused
-returns-clause-refused g c = fails g.S.Store c.args.store.now (record { conn = c.places.new.conn }) c.args.list.now c.read_places.result c.read_places.ensures.fault (
-  (λ returned. c.in_ok-has_list.ensures.clean (c.in_ok-shown.ensures.clean returned)),
-  (λ returned ready up.
-      let has = c.in_ok-has_list.ensures.held (c.in_ok-shown.ensures.clean returned) None ready in
-      let shown = c.in_ok-shown.ensures.held returned None has.1.0 in
-      (shown.2, ap (λ (d : Database). archive_in d.trees) shown.1 ∙ has.1.1)),
-)
+pub returns-in_err-read_places-clause-refused : goal.returns-in_err-read_places-clause-refused
+returns-in_err-read_places-clause-refused g c =
+    fails g.S.Store c.args.store.now (record { conn = c.places.new.conn }) c.args.list.now c.from_residual-in_err-read_places.result
+    (no_refusal c.from_residual-in_err-read_places.result _ c.from_residual-in_err-read_places.ensures.1 (λ fault it. it.1)) (
+      (λ returned. c.in_ok-has_list.ensures.clean (c.in_ok-shown.ensures.clean returned)),
+      (λ returned ready up.
+          let has = c.in_ok-has_list.ensures.held (c.in_ok-shown.ensures.clean returned) None ready in
+          let shown = c.in_ok-shown.ensures.held returned None has.1.0 in
+          (shown.2, ap (λ (d : Database). archive_in d.trees) shown.1 ∙ has.1.1)),
+    )
 
 pub returns-clause-found : goal.returns-clause-found
 returns-clause-found g c = λ returned ready.
     let has = c.in_ok-has_list.ensures.held (c.in_ok-shown.ensures.clean returned) None ready in
-    let shown = c.in_ok-shown.ensures.held returned None has.1.0 in
-    if_ok c.read_places.result _ _ (λ places read. (
+    let shown = c.in_ok-shown.ensures.held returned None has.1.0 in (
       is_there c.args.list.now (now_holds g.S.Store c.args.store.now) (sym c.if-not-branch.false ∙ has.0),
       shown.2,
       ap (λ (d : Database). archive_in d.trees) shown.1 ∙ has.1.1,
-      read _ (c.deref.ensures.value ∙ shown.0) ∙ ap (λ (d : Database). places_in d.trees c.args.list.now) (sym shown.1),
-    )) c.read_places.ensures.read
+      c.in_ok-read_places.ensures.read _ (c.deref.ensures.value ∙ shown.0) ∙ ap (λ (d : Database). places_in d.trees c.args.list.now) (sym shown.1),
+    )

@@ -8,7 +8,6 @@ use Rattle.archive_machine.proofs.OrderLemmas.{names_are}
 use Rattle.archive_tables.specs.Rows.{name_shown}
 use Rattle.archive_tables.specs.Tables.{archive_of}
 use Rattle.archive_store.proofs.StepLemmas.{begins, asks}
-use Rattle.archive_store.proofs.ReadingLemmas.{ends}
 use Rattle.archive_store.proofs.store.Store.lists.Goals as goal
 
 pub returns-clause-answer : goal.returns-clause-answer
@@ -19,7 +18,8 @@ returns-clause-answer g c =
     (λ clean kept. c.in_ok-shown.ensures.found clean kept) in
     λ clean kept.
     let q = one clean kept in
-    let a = archive_of (state g.S.Store c.args.self.now.conn) in
-    ends c.read_names.result None _ (λ names. map string_bytes names.items ≡ list_names a) (q.kept, q.same) (λ _. (q.kept, q.same)) refl
-    (λ found read. read q.fact.1.0 (c.deref.ensures.value ∙ q.fact.1.1) ∙ names_are a q.fact.1.0 (record { all = q.fact.1.2; in_order = q.fact.1.3 }))
-    c.read_names.ensures.read c.read_names.ensures.fault
+    let a = archive_of (state g.S.Store c.args.self.now.conn) in (
+      (q.kept, q.same),
+      refl,
+      c.in_ok-read_names.ensures.read q.fact.1.0 (c.deref.ensures.value ∙ q.fact.1.1) ∙ names_are a q.fact.1.0 (record { all = q.fact.1.2; in_order = q.fact.1.3 }),
+    )

@@ -1,0 +1,4 @@
+pub mod MakingLemmas
+pub mod RankLemmas
+pub mod ReadingLemmas
+pub mod TakingLemmas

@@ -1,0 +1,22 @@
+use Rattle.std.proofs.Common.{[], ◌∷◌, map, ap, ◌∙◌, arith}
+use Rattle.std.specs.Prelude.{⊤, string_bytes}
+use Rattle.std.proofs.lemmas.List.{map-append}
+use Rattle.archive_tables.specs.Rows.{name_shown}
+use Rattle.archive_database.proofs.ReadingLemmas.{read_none, read_row, read_every, each_is}
+use Rattle.archive_database.proofs.reading.read_names.Goals as goal
+
+pub loop-row-preserved : goal.loop-row-preserved
+loop-row-preserved c = λ names e.
+    read_row name_shown (λ _. ⊤) (map string_bytes c.loop-row.found.items) _ c.args.rows.now c.loop-row.row-index c.row-item.result names
+    (string_bytes c.in_ok-name.name) (c.loop-row.invariant names e) (omega (arith, c.loop-row-test.true))
+    (λ n here _. c.in_ok-name.ensures.read n (c.row-item.is ∙ here))
+    (ap (map string_bytes) c.in_ok-push.ensures.items ∙ map-append string_bytes c.loop-row.found.items (c.in_ok-name.name ∷ []))
+
+pub returns : goal.returns
+returns c = record {
+  read = λ names e.
+      read_every name_shown (λ _. ⊤) _ c.args.rows.now c.loop-row.row-index names (c.loop-row.invariant names e) c.loop-row-test.false;
+}
+
+pub loop-row-init : goal.loop-row-init
+loop-row-init c = λ names e. rw c.in_ok-found.ensures.items (read_none name_shown (λ _. ⊤) c.args.rows.now names e (each_is names))

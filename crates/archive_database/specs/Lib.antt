@@ -1,0 +1,5 @@
+pub mod Adopting
+pub mod Faults
+pub mod Messages
+pub mod Ranks
+pub mod Taking

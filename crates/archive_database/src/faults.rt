@@ -1,0 +1,47 @@
+//! Why a database was not made, read or written.
+ghost use Rattle.archive_database.specs.Faults.{fault_of};
+ghost use Rattle.archive_database.specs.declared.faults.Fault.TheVariants.{Memory};
+
+use std::alloc::{AllocError, AllocFailed};
+
+/// Why a database was not made, read or written.
+#[derive(Clone, Copy, Debug, Drop)]
+pub enum Fault {
+    /// No memory was left.
+    Memory,
+    /// The database refused, or what it holds is no archive's.
+    Database,
+}
+
+impl From<sqlite::Error> for Fault {
+    ghost use Rattle.std.specs.Prelude.{◌≡◌};
+
+    ghost from_gives = { λ error fault. fault ≡ fault_of error };
+
+    fn from(error: sqlite::Error) -> Fault {
+        match error {
+            sqlite::Error::SqliteFailure(sqlite::ErrorCode::OutOfMemory) => Fault::Memory,
+            _ => Fault::Database,
+        }
+    }
+}
+
+impl From<AllocError> for Fault {
+    ghost use Rattle.std.specs.Prelude.{◌≡◌};
+
+    ghost from_gives = { λ _ fault. fault ≡ Memory };
+
+    fn from(_error: AllocError) -> Fault {
+        Fault::Memory
+    }
+}
+
+impl<T: Drop> From<AllocFailed<T>> for Fault {
+    ghost use Rattle.std.specs.Prelude.{◌≡◌};
+
+    ghost from_gives = { λ _ fault. fault ≡ Memory };
+
+    fn from(_error: AllocFailed<T>) -> Fault {
+        Fault::Memory
+    }
+}

@@ -1,0 +1,45 @@
+//! Ranks of grants.
+ghost use Rattle.std.specs.Prelude.{◌≡◌, ◌&&◌, int_le, List, map, IfOk};
+ghost use Rattle.std.specs.Int.{int_max};
+ghost use Rattle.archive_machine.specs.Records.{Grant};
+ghost use Rattle.archive_tables.specs.Rows.{grant_shown};
+ghost use Rattle.archive_database.specs.Ranks.{rank_on, higher_on};
+
+use archive_tables::rows::{GrantRow, read_grant};
+use sqlite::{Error, Row};
+
+/// The highest rank of the grants that hold on a day, 0 where none does. A person has three grants on a list at most.
+pub fn highest_rank(grants: &[Row], day: i64) -> Result<i64, Error>
+    ensures { IfOk result (λ rank. (shown : List Grant) → grants.now ≡ map grant_shown shown → rank ≡ rank_on day shown) }
+{
+    match grants {
+        [first, rest @ ..] => {
+            let above = highest_rank(rest, day)?;
+            rank_with(first, &above, day)
+        }
+        [] => Ok(0),
+    }
+}
+
+/// The higher of this rank and that of a grant, if the grant holds on the day.
+fn rank_with(row: &Row, above: &i64, day: i64) -> Result<i64, Error>
+    ensures { IfOk result (λ rank. (g : Grant) → row.now ≡ grant_shown g → rank ≡ higher_on day g above.now) }
+{
+    let grant = read_grant(row)?;
+    if holds(&grant, day) {
+        return Ok(higher_rank(&grant, above));
+    }
+    Ok(*above)
+}
+
+fn higher_rank(grant: &GrantRow, rank: &i64) -> i64
+    ensures { result ≡ int_max grant.now.rank rank.now }
+{
+    grant.rank.max(*rank)
+}
+
+fn holds(grant: &GrantRow, day: i64) -> bool
+    ensures { result ≡ (int_le grant.now.from_day day && int_le day grant.now.until_day) }
+{
+    grant.from_day <= day && day <= grant.until_day
+}

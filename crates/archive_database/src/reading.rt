@@ -1,0 +1,93 @@
+//! Rows that are read: names, numbers and messages.
+ghost use Rattle.std.specs.Prelude.{◌≡◌, ◌≢◌, ℕ, ℤ, List, map, string_bytes, None, false, IfOk, IfErr, IfSome, IfNone};
+ghost use Rattle.civil_time.specs.Calendar.{is_day};
+ghost use Rattle.archive_machine.specs.Messages.{remembered, number_of};
+ghost use Rattle.archive_tables.specs.Rows.{name_shown, place_shown, message_in};
+ghost use Rattle.archive_database.specs.Messages.{IsReadable};
+
+use crate::faults::Fault;
+use archive_machine::{Key, Message};
+use archive_tables::rows::{MessageRow, read_name, read_place};
+use civil_time::{Day, Instant};
+use mbox_core::OwnedItem;
+use policy_core::Withdrawn;
+use sqlite::Row;
+use std::alloc::Global;
+
+/// The names that rows show.
+pub fn read_names(alloc: Global, rows: &[Row]) -> Result<Vec<String>, Fault>
+    ensures read { IfOk result (λ found. (names : List (List ℕ)) → rows.now ≡ map name_shown names → map string_bytes found.items ≡ names) }
+{
+    let mut found = Vec::with_capacity(alloc, rows.len())?;
+    for row in rows.iter() {
+        let name = read_name(row)?;
+        found.push(name)?;
+    }
+    Ok(found)
+}
+
+/// The numbers that rows show.
+pub fn read_places(alloc: Global, rows: &[Row]) -> Result<Vec<i64>, Fault>
+    ensures read { IfOk result (λ found. (places : List ℤ) → rows.now ≡ map place_shown places → found.items ≡ places) }
+{
+    let mut found = Vec::with_capacity(alloc, rows.len())?;
+    for row in rows.iter() {
+        let place = read_place(row)?;
+        found.push(place)?;
+    }
+    Ok(found)
+}
+
+/// The message of a row. It refuses a row that is of none.
+pub fn read_or_fail(row: MessageRow) -> Result<Message, Fault>
+    ensures read { IfOk result (λ message. (list : List ℕ) → remembered list message ≡ message_in list row) }
+    ensures unread { IfErr result (λ fault. (fault ≡ Fault.Database) × ((list : List ℕ) → ¬ IsReadable (message_in list row))) }
+{
+    match read(row) {
+        Some(message) => Ok(message),
+        None => Err(Fault::Database),
+    }
+}
+
+/// The same. `None` where the row is of none.
+fn read(row: MessageRow) -> Option<Message>
+    ensures some { IfSome result (λ message. (list : List ℕ) → remembered list message ≡ message_in list row) }
+    ensures none { IfNone result ((list : List ℕ) → ¬ IsReadable (message_in list row)) }
+{
+    let key = Key::read(&row.key)?;
+    let arrival = Instant::new(row.arrival)?;
+    let withdrawn = withdrawn_by(row.withdrawn)?;
+    let embargo_until = match row.embargo {
+        Some(number) => Some(numbered_day(number)?),
+        None => None,
+    };
+    let item = OwnedItem::new(row.sender, arrival, row.text)?;
+    Some(Message {
+        key,
+        item,
+        withdrawn,
+        embargo_until,
+    })
+}
+
+/// Who withdrew a message, by number.
+fn withdrawn_by(number: i64) -> Option<Withdrawn>
+    ensures some { IfSome result (λ by. number_of by ≡ number) }
+    ensures none { result ≡ None → (by : Withdrawn) → number_of by ≢ number }
+{
+    match number {
+        0 => Some(Withdrawn::No),
+        1 => Some(Withdrawn::Author),
+        2 => Some(Withdrawn::Board),
+        _ => None,
+    }
+}
+
+/// The day of a number, counted from 1970-01-01.
+fn numbered_day(number: i64) -> Option<Day>
+    ensures some { IfSome result (λ day. day ≡ number) }
+    ensures none { IfNone result (is_day number ≡ false) }
+{
+    let start = number.checked_mul(86_400)?;
+    Some(Instant::new(start)?.day())
+}
