@@ -28,7 +28,7 @@ use Rattle.archive_desk.specs.Faults.{Reason, refused, reason, reason_by, desk_f
 
 -- ---- what the store refuses
 
-reasoned : (fault : StoreFault) → reason (desk_fault fault) ≡ option_map reason_by (refusal fault)
+pub reasoned : (fault : StoreFault) → reason (desk_fault fault) ≡ option_map reason_by (refusal fault)
 reasoned BadName = refl
 reasoned BadText = refl
 reasoned ListExists = refl
@@ -151,6 +151,34 @@ module _ {S : Type 0} (g : Ghosts S) (ask : Ask) where
       ))
       (λ a b c why first it. (it.0 ∙ first.0, by_reader_alone a ask first.1 ∙ subst (λ x. standing_reason x ask ≡ Some why) first.0 it.1))
       (λ a b c fault first it. it ∙ first.0) result before asks
+
+  -- the reader's standing, after the list was found
+  pub reader_after : (old mid new : Store S) (result : Result Standing DeskFault)
+      → Goes g old mid (λ a b. (b ≡ a) × (list_refusal a ask.list ≡ None) × (has_list a ask.list ≡ true))
+      → Asks g mid new reason result (λ a. standing_reason a ask) (λ a standing. standing ≡ reader_standing a ask)
+      → Asks g old new reason result (λ a. ask_reason a ask) (λ a standing. standing ≡ reader_standing a ask)
+  reader_after old mid new result before asks =
+      calls_after g old mid new reason (λ a b. (b ≡ a) × (list_refusal a ask.list ≡ None) × (has_list a ask.list ≡ true))
+      (λ a b standing. (b ≡ a) × (standing_reason a ask ≡ None) × (standing ≡ reader_standing a ask))
+      (λ a b standing. (b ≡ a) × (ask_reason a ask ≡ None) × (standing ≡ reader_standing a ask))
+      (λ a b why. (b ≡ a) × (standing_reason a ask ≡ Some why)) (λ a b why. (b ≡ a) × (ask_reason a ask ≡ Some why)) (λ a b _. b ≡ a) (λ a b _. b ≡ a)
+      (λ a b c standing first it. (
+        it.0 ∙ first.0,
+        by_reader_alone a ask (ap (option_map reason_by) first.1) ∙ subst (λ x. standing_reason x ask ≡ None) first.0 it.1,
+        subst (λ x. standing ≡ reader_standing x ask) first.0 it.2,
+      ))
+      (λ a b c why first it. (
+        it.0 ∙ first.0,
+        by_reader_alone a ask (ap (option_map reason_by) first.1) ∙ subst (λ x. standing_reason x ask ≡ Some why) first.0 it.1,
+      ))
+      (λ a b c fault first it. it ∙ first.0) result before asks
+
+  -- the store refuses a question on the list
+  pub list_declined : (old new : Store S) {A B : Type 0} (fault : StoreFault) (Says : Archive → A → Type 0) (Says' : Archive → B → Type 0)
+      → MatchOption (refusal fault) (GoesIfOpen g old new (λ a b. b ≡ a)) (λ why. Goes g old new (λ a b. (b ≡ a) × (list_refusal a ask.list ≡ Some why)))
+      → Asks g old new {A = B} reason (Err (desk_fault fault)) (λ a. ask_reason a ask) Says'
+  list_declined old new fault Says Says' it =
+      list_refused old new (desk_fault fault) Says Says' (desk_declined g old new (λ a. list_refusal a ask.list) Says fault it)
 
 -- ---- the standing
 

@@ -12,7 +12,7 @@ use Rattle.archive_store.specs.declared.store.Store.{Store}
 use Rattle.archive_store.proofs.Joins.{goes_as}
 use Rattle.archive_results.specs.Access.{Ask, Refusal, ask_refusal, view_of}
 use Rattle.archive_results.specs.Shown.{shown_of}
-use Rattle.archive_desk.specs.Exporting.{IsExportRefused, IsExportStop, exported, items_of, stop_reason}
+use Rattle.archive_desk.specs.Exporting.{IsExportRefused, IsHeldStop, exported, items_of, stop_reason}
 use Rattle.archive_desk.specs.Faults.{Reason, refused, not_in_view, not_written, declined, reason, ask_reason, IsAskFault}
 use Rattle.archive_desk.specs.declared.faults.DeskFault.{DeskFault}
 use Rattle.archive_desk.specs.declared.faults.DeskFault.TheVariants.{NoList, NoPerson, NotInView, Store as Stored, Memory, Write}
@@ -75,7 +75,7 @@ not_viewed g old new ask before after text fault asks = by_reason (reason fault)
         (λ a b h. (h.0, asked_refusal (ask_refusal a ask) before after (text a) 0 why h.1)) same
 
 -- and nothing was written
-pub nothing_out : (told : List ℕ) (failures : ℕ) (fault : DeskFault) → IsAskFault fault → IsExportStop told told failures failures 0 fault
+pub nothing_out : (told : List ℕ) (failures : ℕ) (fault : DeskFault) → IsAskFault fault → IsHeldStop told told failures failures 0 fault
 nothing_out told failures NoList is = (refl, refl, refl)
 nothing_out told failures NoPerson is = (refl, refl, refl)
 nothing_out told failures NotInView is = absurd is

@@ -5,3 +5,5 @@ pub mod WriteLemmas
 pub mod ExportLemmas
 pub mod ListLemmas
 pub mod IndexLemmas
+pub mod WalkLemmas
+pub mod WalkExports

@@ -1,19 +1,20 @@
 -- The view as an mbox, written to a device.
-use Rattle.std.specs.Prelude.{◌≡◌, ◌<◌, ◌^◌, ◌-◌, ◌++◌, ℕ, List, length, map, min, Option, Some, None, Result, option_map}
+use Rattle.std.specs.Prelude.{◌≡◌, ◌<◌, ◌^◌, ◌-◌, ◌++◌, ℕ, List, length, map, filter, min, Option, Some, None, Result, option_map}
 use Rattle.sqlite.specs.Store.{Ghosts}
 use Rattle.mbox_core.specs.Division.{Item}
 use Rattle.mbox_core.specs.Written.{IsCutShort}
-use Rattle.archive_machine.specs.Records.{Archive}
+use Rattle.policy_core.specs.declared.access.Standing.{Standing}
+use Rattle.archive_machine.specs.Records.{Archive, Message as Remembered}
 use Rattle.archive_machine.specs.declared.messages.Message.{Message}
-use Rattle.archive_store.specs.Told.{Calls}
+use Rattle.archive_store.specs.Told.{Calls, HasReturned, IsReady, archive_in}
 use Rattle.archive_store.specs.declared.store.Store.{Store}
-use Rattle.archive_results.specs.Access.{Ask, view_of}
+use Rattle.archive_results.specs.Access.{Ask, is_shown, view_of}
 use Rattle.archive_results.specs.Results.{export_text}
 use Rattle.archive_results.specs.Shown.{shown_of}
 use Rattle.archive_desk.specs.Faults.{Reason, refused, not_in_view, not_written, declined, reason, ask_reason}
 use Rattle.archive_desk.specs.declared.exporting.ExportStop.{ExportStop}
 use Rattle.archive_desk.specs.declared.faults.DeskFault.{DeskFault}
-use Rattle.archive_desk.specs.declared.faults.DeskFault.TheVariants.{Write}
+use Rattle.archive_desk.specs.declared.faults.DeskFault.TheVariants.{Store as Stored, Write}
 
 abbrev pub items_of : List Message → List Item
 items_of = map (λ (m : Message). m.item)
@@ -21,6 +22,10 @@ items_of = map (λ (m : Message). m.item)
 -- the text of an export
 abbrev pub exported : Archive → Ask → List ℕ
 exported archive ask = export_text (map shown_of (view_of archive ask))
+
+-- the text of those of these messages that the policy shows to a reader of this standing
+abbrev pub shown_text : Ask → Standing → List Remembered → List ℕ
+shown_text ask standing messages = export_text (map shown_of (filter (is_shown ask standing) messages))
 
 -- how many bytes were written, and why it stopped; none where memory or the database was at fault
 abbrev pub stop_reason : ExportStop → Option (ℕ × Reason)
@@ -42,7 +47,24 @@ Exports g old new result ask before after text = Calls g old new stop_reason res
     (λ a b why. (b ≡ a) × IsExportRefused (ask_reason a ask) before after (text a) why.0 why.1)
     (λ a b stop. b ≡ a)
 
--- the writer failed; else nothing was written
+-- so many bytes were written, as far as 64 bits go
+abbrev pub HasWritten : (before after : List ℕ) → ℕ → Type 0
+HasWritten before after count = (part : List ℕ) × (after ≡ before ++ part) × (count ≡ min (length part) (2 ^ 64 - 1))
+
+-- The writer failed. Else it did not: where the store failed, so many bytes were written, and where what is asked is refused,
+-- none.
 abbrev pub IsExportStop : List ℕ → List ℕ → ℕ → ℕ → ℕ → DeskFault → Type 0
 IsExportStop before after failed fails count Write = failed < fails
+IsExportStop before after failed fails count (Stored fault) = (fails ≡ failed) × HasWritten before after count
 IsExportStop before after failed fails count other = (count ≡ 0) × (after ≡ before) × (fails ≡ failed)
+
+-- Whatever the fault, and whether the connection is still open: exactly the first bytes of the text of what the store
+-- remembered were written, where the writer told fewer than 2^64 bytes.
+abbrev pub ExportsPart : {S : Type 0} → Ghosts S → Store S → Store S → (before after : List ℕ) → ℕ → (Archive → List ℕ) → Type 0
+ExportsPart g old new before after count text =
+    HasReturned g new → IsReady g old → length after < 2 ^ 64 → IsCutShort before after (text (archive_in g old)) count
+
+-- Of an export that reads all before it writes: the writer failed; else nothing was written.
+abbrev pub IsHeldStop : List ℕ → List ℕ → ℕ → ℕ → ℕ → DeskFault → Type 0
+IsHeldStop before after failed fails count Write = failed < fails
+IsHeldStop before after failed fails count other = (count ≡ 0) × (after ≡ before) × (fails ≡ failed)

@@ -3,3 +3,4 @@ pub mod Exporting
 pub mod Faults
 pub mod Importing
 pub mod Listing
+pub mod Walking

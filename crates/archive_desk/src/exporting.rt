@@ -1,14 +1,18 @@
-//! The view as an mbox.
-ghost use Rattle.std.specs.Prelude.{◌≡◌, ◌<◌, ◌^◌, ◌-◌, ◌++◌, min, length, OnOk, IfOk, IfErr, OnErr};
-ghost use Rattle.mbox_core.specs.Written.{IsCutShort, written};
-ghost use Rattle.archive_desk.specs.Exporting.{Exports, IsExportStop, exported, items_of};
+//! The view as an mbox, written message by message.
+ghost use Rattle.std.specs.Prelude.{◌≡◌, ◌∷◌, [], ◌<◌, ◌^◌, ◌-◌, ◌++◌, min, length, OnOk, IfOk, IfErr, OnErr};
+ghost use Rattle.mbox_core.specs.Written.{IsCutShort};
+ghost use Rattle.archive_machine.specs.Messages.{remembered};
+ghost use Rattle.archive_store.specs.Told.{HadReturned};
+ghost use Rattle.archive_desk.specs.Exporting.{Exports, ExportsPart, IsExportStop, exported, shown_text};
+ghost use Rattle.archive_desk.specs.Walking.{CountsMore, IsRowsStop, IsWalkStop, WritesRows, WritesWalk};
 
 use crate::faults::DeskFault;
-use crate::viewing::view;
-use archive_results::Ask;
-use archive_store::{Message, Store};
+use crate::viewing::find_reader;
+use archive_results::{Ask, is_shown};
+use archive_store::{EachRow, Message, Store};
 use mbox_core::device::{Sink, WriteFault, write_bytes};
 use mbox_core::{write_item, written_len};
+use policy_core::Standing;
 use sqlite::Alter;
 use std::alloc::Global;
 
@@ -19,9 +23,9 @@ pub struct ExportStop {
     pub fault: DeskFault,
 }
 
-/// Writes the view as an mbox (RFC 4155): how many bytes that is. G1 where there is no such list, G2 where there is no such
-/// person, G6 where the writer failed, G4 where the store has no memory or fails. After another fault than G6 nothing was
-/// written.
+/// Writes the view as an mbox (RFC 4155): how many bytes that is. It holds one message at a time. G1 where there is no
+/// such list, G2 where there is no such person, and nothing was written; G6 where the writer failed, G4 where the store
+/// has no memory or fails, before the first byte or at a message.
 pub fn export<S: Alter, W: Sink>(
     store: &mut Store<S>,
     alloc: Global,
@@ -30,6 +34,8 @@ pub fn export<S: Alter, W: Sink>(
 ) -> Result<u64, ExportStop>
     ensures exported { Exports S.Store store.old store.new result ask.now (W.told out.old) (W.told out.new)
         (λ a. exported a ask.now) }
+    ensures part { IfErr result (λ stop. ExportsPart S.Store store.old store.new (W.told out.old) (W.told out.new)
+        stop.written (λ a. exported a ask.now)) }
     ensures quiet { OnOk result (W.failures out.new ≡ W.failures out.old) }
     ensures cause { IfErr result (λ stop. IsExportStop (W.told out.old) (W.told out.new)
         (W.failures out.old) (W.failures out.new) stop.written stop.fault) }
@@ -37,7 +43,8 @@ pub fn export<S: Alter, W: Sink>(
     export_after(store, alloc, ask, b"", out)
 }
 
-/// Writes these bytes, and then the view as an mbox: how many bytes that is in all. The refusals are those of `export`.
+/// Writes these bytes, and then the view as an mbox: how many bytes that is in all. The list and the reader's standing
+/// are asked, and the walk begins, before the first byte. The refusals are those of `export`.
 pub fn export_after<S: Alter, W: Sink>(
     store: &mut Store<S>,
     alloc: Global,
@@ -47,43 +54,106 @@ pub fn export_after<S: Alter, W: Sink>(
 ) -> Result<u64, ExportStop>
     ensures exported { Exports S.Store store.old store.new result ask.now (W.told out.old) (W.told out.new)
         (λ a. head.now ++ exported a ask.now) }
+    ensures part { IfErr result (λ stop. ExportsPart S.Store store.old store.new (W.told out.old) (W.told out.new)
+        stop.written (λ a. head.now ++ exported a ask.now)) }
     ensures quiet { OnOk result (W.failures out.new ≡ W.failures out.old) }
     ensures cause { IfErr result (λ stop. IsExportStop (W.told out.old) (W.told out.new)
         (W.failures out.old) (W.failures out.new) stop.written stop.fault) }
 {
-    match view(store, alloc, ask) {
-        Ok(messages) => match write_after(out, head, &messages) {
-            Ok(count) => Ok(count),
-            Err(fault) => Err(ExportStop {
-                written: fault.written,
-                fault: DeskFault::Write,
-            }),
-        },
-        Err(fault) => Err(ExportStop { written: 0, fault }),
+    let standing = match find_reader(store, ask) {
+        Ok(standing) => standing,
+        Err(fault) => return Err(ExportStop { written: 0, fault }),
+    };
+    match store.each_row(alloc, ask.list) {
+        Ok(mut walk) => write_walk(ask, standing, head, &mut walk, out),
+        Err(fault) => Err(ExportStop {
+            written: 0,
+            fault: DeskFault::from(fault),
+        }),
     }
 }
 
-/// Writes these bytes, and then messages: how many bytes that is in all.
-fn write_after<W: Sink>(out: &mut W, head: &[u8], messages: &[Message]) -> Result<u64, WriteFault>
-    ensures ok { OnOk result (W.told out.new ≡ W.told out.old ++ (head.now ++ written (items_of messages.now))) }
-    ensures count { IfOk result (λ count. count ≡ min (length (head.now ++ written (items_of messages.now))) (2 ^ 64 - 1)) }
-    ensures fault { IfErr result (λ e. length (W.told out.new) < 2 ^ 64
-        → IsCutShort (W.told out.old) (W.told out.new) (head.now ++ written (items_of messages.now)) e.written) }
+/// Writes these bytes, and then the messages of a walk, as far as the policy shows them: how many bytes that is in all.
+fn write_walk<S: Alter, W: Sink>(
+    ask: &Ask<'_>,
+    standing: Standing,
+    head: &[u8],
+    walk: &mut EachRow<'_, S>,
+    out: &mut W,
+) -> Result<u64, ExportStop>
+    ensures same_reference { walk.new.store.ghost_name ≡ walk.old.store.ghost_name }
+    ensures clean { HadReturned S.Store walk.old.store.now walk.new.store.now }
+    ensures written { WritesWalk S.Store walk.old walk.new ask.now standing head.now (W.told out.old) (W.told out.new) result }
     ensures quiet { OnOk result (W.failures out.new ≡ W.failures out.old) }
-    ensures cause { OnErr result (W.failures out.old < W.failures out.new) }
+    ensures cause { IfErr result (λ stop. IsWalkStop (W.told out.old) (W.told out.new)
+        (W.failures out.old) (W.failures out.new) stop.written stop.fault) }
 {
-    write_bytes(out, head)?;
+    if let Err(fault) = write_bytes(out, head) {
+        return Err(ExportStop {
+            written: fault.written,
+            fault: DeskFault::Write,
+        });
+    }
     let mut count = head.len() as u64;
-    for message in messages.iter() {
-        let item = message.item.as_item();
-        match write_item(out, &item) {
-            Ok(()) => count = count.saturating_add(written_len(&item)),
+    match write_rows(ask, standing, walk, out, &mut count) {
+        Ok(()) => Ok(count),
+        Err(fault) => Err(ExportStop {
+            written: count,
+            fault,
+        }),
+    }
+}
+
+/// Writes the messages that a walk has not given yet, as far as the policy shows them, and counts their bytes.
+fn write_rows<S: Alter, W: Sink>(
+    ask: &Ask<'_>,
+    standing: Standing,
+    walk: &mut EachRow<'_, S>,
+    out: &mut W,
+    count: &mut u64,
+) -> Result<(), DeskFault>
+    requires { count.old < 2 ^ 64 }
+    ensures same_reference { walk.new.store.ghost_name ≡ walk.old.store.ghost_name }
+    ensures clean { HadReturned S.Store walk.old.store.now walk.new.store.now }
+    ensures written { WritesRows S.Store walk.old walk.new ask.now standing (W.told out.old) (W.told out.new) count.old count.new result }
+    ensures quiet { OnOk result (W.failures out.new ≡ W.failures out.old) }
+    ensures cause { IfErr result (λ fault. IsRowsStop (W.told out.old) (W.told out.new)
+        (W.failures out.old) (W.failures out.new) count.old count.new fault) }
+{
+    while let Some(message) = walk.next()? {
+        match write_shown(ask, standing, &message, out) {
+            Ok(more) => *count = count.saturating_add(more),
             Err(fault) => {
-                return Err(WriteFault {
-                    written: count.saturating_add(fault.written),
-                });
+                *count = count.saturating_add(fault.written);
+                return Err(DeskFault::Write);
             }
         }
     }
-    Ok(count)
+    Ok(())
+}
+
+/// Writes a message if the policy shows it: how many bytes that is.
+fn write_shown<W: Sink>(
+    ask: &Ask<'_>,
+    standing: Standing,
+    message: &Message,
+    out: &mut W,
+) -> Result<u64, WriteFault>
+    ensures ok { OnOk result (W.told out.new
+        ≡ W.told out.old ++ shown_text ask.now standing (remembered ask.now.list message.now ∷ [])) }
+    ensures count { IfOk result (λ count.
+        count ≡ min (length (shown_text ask.now standing (remembered ask.now.list message.now ∷ []))) (2 ^ 64 - 1)) }
+    ensures fault { IfErr result (λ e. length (W.told out.new) < 2 ^ 64 → IsCutShort (W.told out.old) (W.told out.new)
+        (shown_text ask.now standing (remembered ask.now.list message.now ∷ [])) e.written) }
+    ensures quiet { OnOk result (W.failures out.new ≡ W.failures out.old) }
+    ensures cause { OnErr result (W.failures out.old < W.failures out.new) }
+{
+    if !is_shown(ask, standing, message) {
+        return Ok(0);
+    }
+    let item = message.item.as_item();
+    match write_item(out, &item) {
+        Ok(()) => Ok(written_len(&item)),
+        Err(fault) => Err(fault),
+    }
 }

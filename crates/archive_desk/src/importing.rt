@@ -81,7 +81,7 @@ pub fn import<S: Alter>(
 }
 
 /// E4 where there is no such list.
-fn find_list<S: Alter>(store: &mut Store<S>, list: &str) -> Result<(), StoreFault>
+pub(crate) fn find_list<S: Alter>(store: &mut Store<S>, list: &str) -> Result<(), StoreFault>
     ensures found { Asks S.Store store.old store.new refusal result (λ a. list_refusal a list.now)
         (λ a _. has_list a list.now ≡ true) }
 {

@@ -8,6 +8,7 @@ ghost use Rattle.archive_desk.specs.Asking.{standing_reason};
 ghost use Rattle.archive_desk.specs.Faults.{IsAskFault, ask_reason, list_reason, reason};
 
 use crate::faults::DeskFault;
+use crate::importing::find_list;
 use archive_results::{Ask, Reader, is_shown};
 use archive_store::{Message, Store};
 use policy_core::Standing;
@@ -46,6 +47,21 @@ pub(crate) fn read_list<S: Alter>(
     ensures fault { IfErr result (λ fault. IsAskFault fault) }
 {
     Ok(store.rows(alloc, ask.list)?)
+}
+
+/// The reader's standing on a list that is there. G1 where it is not, and then G2 where there is no such person.
+pub(crate) fn find_reader<S: Alter>(
+    store: &mut Store<S>,
+    ask: &Ask<'_>,
+) -> Result<Standing, DeskFault>
+    ensures found { Asks S.Store store.old store.new reason result (λ a. ask_reason a ask.now)
+        (λ a standing. standing ≡ reader_standing a ask.now) }
+    ensures fault { IfErr result (λ fault. IsAskFault fault) }
+{
+    match find_list(store, ask.list) {
+        Ok(()) => find_standing(store, ask),
+        Err(fault) => Err(DeskFault::from(fault)),
+    }
 }
 
 /// The reader's standing on the list and the day: nobody is the public.

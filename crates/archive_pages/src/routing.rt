@@ -12,7 +12,7 @@ use crate::finding::{find_lists, find_message};
 use crate::listing::{find_author, find_month, find_thread, find_threads};
 use crate::replies::{Failure, Reply, Unavailable};
 use crate::writing::{write_failure, write_reply};
-use archive_desk::{DeskFault, export_after};
+use archive_desk::{DeskFault, export_held};
 use archive_results::Ask;
 use archive_store::Store;
 use http::StatusCode;
@@ -93,7 +93,7 @@ pub(crate) fn answer_mbox<S: Alter, W: Sink>(
     ensures quiet { OnOk result (W.failures output.new ≡ W.failures output.old) }
     ensures cause { OnErr result (W.failures output.old < W.failures output.new) }
 {
-    let stop = match export_after(store, alloc, ask, MBOX_HEAD, output) {
+    let stop = match export_held(store, alloc, ask, MBOX_HEAD, output) {
         Ok(_) => return Ok(StatusCode::OK),
         Err(stop) => stop,
     };

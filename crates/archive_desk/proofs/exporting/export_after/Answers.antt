@@ -1,30 +1,25 @@
-use Rattle.std.proofs.Common.{◌≡◌, ◌++◌, ◌<◌, ◌^◌, length, min, subst}
-use Rattle.mbox_core.specs.Written.{IsCutShort, written}
-use Rattle.archive_desk.specs.Exporting.{exported, items_of}
-use Rattle.archive_desk.proofs.ExportLemmas.{whole_out, part_out, not_viewed, nothing_out}
+use Rattle.std.proofs.Common.{◌≡◌, ◌++◌, Some, Err, ℕ, rules, sym, subst}
+use Rattle.std.specs.Prelude.{MatchOption}
+use Rattle.archive_machine.specs.Questions.{list_refusal}
+use Rattle.archive_results.specs.Access.{reader_standing}
+use Rattle.archive_store.specs.Replies.{refusal}
+use Rattle.archive_store.specs.Told.{Goes, GoesIfOpen}
+use Rattle.archive_desk.specs.Exporting.{Exports, exported}
+use Rattle.archive_desk.proofs.WalkExports.{not_begun}
 use Rattle.archive_desk.proofs.exporting.export_after.Goals as goal
 
-pub returns-in-Ok-write_after-clause-exported : goal.returns-in-Ok-write_after-clause-exported
-returns-in-Ok-write_after-clause-exported g c =
-    let head = c.args.head.now in
-    whole_out g.S.Store c.args.store.now c.view.new.store c.args.ask.now c.in-Ok.messages.items (g.W.Sink.told c.args.out.now) (g.W.Sink.told c.write_after.new.out) head
-    c.in-Ok.ensures.shown c.in-Ok-write_after.count
-    (subst (λ ms. g.W.Sink.told c.write_after.new.out ≡ g.W.Sink.told c.args.out.now ++ (head ++ written (items_of ms))) c.deref.ensures.value c.in-Ok-write_after.ensures.ok)
-    (subst (λ ms. c.in-Ok-write_after.count ≡ min (length (head ++ written (items_of ms))) 18446744073709551615) c.deref.ensures.value c.in-Ok-write_after.ensures.count)
-
-pub returns-in-Ok-clause-exported : goal.returns-in-Ok-clause-exported
-returns-in-Ok-clause-exported g c =
-    let head = c.args.head.now in
-    part_out g.S.Store c.args.store.now c.view.new.store c.args.ask.now c.in-Ok.messages.items (g.W.Sink.told c.args.out.now) (g.W.Sink.told c.write_after.new.out) head
-    c.in-Ok.ensures.shown c.in-Err-write_after.fault.written
-    (subst (λ ms. length (g.W.Sink.told c.write_after.new.out) < 2 ^ 64 → IsCutShort (g.W.Sink.told c.args.out.now) (g.W.Sink.told c.write_after.new.out) (head ++ written (items_of ms)) c.in-Err-write_after.fault.written)
-    c.deref.ensures.value c.in-Err-write_after.ensures.fault)
-
-pub returns-clause-exported : goal.returns-clause-exported
-returns-clause-exported g c =
+pub returns-in-Err-each_row-clause-exported : goal.returns-in-Err-each_row-clause-exported
+returns-in-Err-each_row-clause-exported g c =
     let ask = c.args.ask.now in
-    not_viewed g.S.Store c.args.store.now c.view.new.store ask (g.W.Sink.told c.args.out.now) (g.W.Sink.told c.args.out.now) (λ a. c.args.head.now ++ exported a ask) c.in-Err.fault
-    c.in-Err.ensures.shown
-
-pub returns-clause-cause : goal.returns-clause-cause
-returns-clause-cause g c = nothing_out (g.W.Sink.told c.args.out.now) (g.W.Sink.failures c.args.out.now) c.in-Err.fault c.in-Err.ensures.fault
+    let old = c.args.store.now in
+    let mid = c.find_reader.new.store in
+    let last = c.each_row.follows.lender-at-none in
+    let fault = c.in-Err-each_row.fault in
+    let told = g.W.Sink.told c.args.out.now in
+    let is : c.ask.inside.list.now ≡ ask.list = search rules in
+    let refused =
+    subst (λ l. MatchOption (refusal fault) (GoesIfOpen g.S.Store mid last (λ a b. b ≡ a))
+    (λ why. Goes g.S.Store mid last (λ a b. (b ≡ a) × (list_refusal a l ≡ Some why)))) is
+    (rw c.in-Err-each_row.is at c.each_row.follows.holds-at-none) in
+    subst (λ f. Exports g.S.Store old last (Err (record { written = 0; fault = f })) ask told told (λ a. c.args.head.now ++ exported a ask)) (sym c.from.ensures)
+    (not_begun g.S.Store old mid ask (λ a. c.in-Ok.standing ≡ reader_standing a ask) c.in-Ok.ensures.found last told told (λ a. c.args.head.now ++ exported a ask) fault refused)

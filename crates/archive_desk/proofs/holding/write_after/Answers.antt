@@ -1,6 +1,6 @@
 use Rattle.std.proofs.Common.{◌+◌, min, ap, ◌∙◌, arith}
 use Rattle.archive_desk.proofs.WriteLemmas.{sent_all, counted_all, sent_more, sent_part, next_written, none_written}
-use Rattle.archive_desk.proofs.exporting.write_after.Goals as goal
+use Rattle.archive_desk.proofs.holding.write_after.Goals as goal
 
 pub returns-in-Err-clause-fault : goal.returns-in-Err-clause-fault
 returns-in-Err-clause-fault g c =

@@ -2,7 +2,7 @@ use Rattle.std.proofs.Common.{◌≡◌, ◌++◌, drop}
 use Rattle.mbox_core.specs.Written.{written}
 use Rattle.archive_desk.specs.Exporting.{items_of}
 use Rattle.archive_desk.proofs.WriteLemmas.{Sent}
-use Rattle.archive_desk.proofs.exporting.write_after.Given as goal
+use Rattle.archive_desk.proofs.holding.write_after.Given as goal
 
 abbrev pub invariant-loop-message : goal.invariant-loop-message
 invariant-loop-message g l =

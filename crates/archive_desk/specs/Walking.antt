@@ -1,0 +1,61 @@
+-- Writing the messages of a walk, one after the other.
+use Rattle.std.specs.Prelude.{◌≡◌, ◌+◌, ◌<◌, ◌≤◌, ◌^◌, ◌-◌, ◌++◌, ℕ, List, [], length, min, Option, Some, None, Result, MatchResult, MatchOption}
+use Rattle.sqlite.specs.Store.{Ghosts}
+use Rattle.mbox_core.specs.Written.{IsCutShort}
+use Rattle.policy_core.specs.declared.access.Standing.{Standing}
+use Rattle.archive_machine.specs.Records.{Archive}
+use Rattle.archive_machine.specs.Questions.{messages_in}
+use Rattle.archive_store.specs.Replies.{refusal}
+use Rattle.archive_store.specs.Told.{HasReturned, IsOpen, IsReady, archive_in}
+use Rattle.archive_store.specs.Walking.{Walk, Walks}
+use Rattle.archive_results.specs.Access.{Ask}
+use Rattle.archive_desk.specs.Exporting.{HasWritten, shown_text}
+use Rattle.archive_desk.specs.Faults.{reason}
+use Rattle.archive_desk.specs.declared.exporting.ExportStop.{ExportStop}
+use Rattle.archive_desk.specs.declared.faults.DeskFault.{DeskFault}
+use Rattle.archive_desk.specs.declared.faults.DeskFault.TheVariants.{Store as Stored, Write}
+
+-- so many bytes more were written, as far as 64 bits go
+abbrev pub CountsMore : (before after : List ℕ) → (counted counts : ℕ) → Type 0
+CountsMore before after counted counts =
+    (part : List ℕ) × (after ≡ before ++ part) × (counts ≡ min (counted + length part) (2 ^ 64 - 1))
+
+-- the writer failed; or the store did, and so many bytes more were written
+abbrev pub IsRowsStop : List ℕ → List ℕ → ℕ → ℕ → ℕ → ℕ → DeskFault → Type 0
+IsRowsStop before after failed fails counted counts Write = failed < fails
+IsRowsStop before after failed fails counted counts (Stored fault) =
+    (refusal fault ≡ None) × (fails ≡ failed) × CountsMore before after counted counts
+IsRowsStop before after failed fails counted counts other = ⊥
+
+abbrev pub IsWalkStop : List ℕ → List ℕ → ℕ → ℕ → ℕ → DeskFault → Type 0
+IsWalkStop before after failed fails count Write = failed < fails
+IsWalkStop before after failed fails count (Stored fault) = (refusal fault ≡ None) × (fails ≡ failed) × HasWritten before after count
+IsWalkStop before after failed fails count other = ⊥
+
+module _ {S : Type 0} (g : Ghosts S) where
+  -- its store is ready, and remembers this archive
+  abbrev pub StandsOn : Archive → Walk S → Type 0
+  StandsOn a walk = IsReady g walk.store.now × (archive_in g walk.store.now ≡ a)
+
+  -- after a fault that has a reason so; after one of memory or of the database if the connection is still open
+  abbrev pub StandsIfOpen : Archive → Walk S → DeskFault → Type 0
+  StandsIfOpen a walk fault = MatchOption (reason fault) (IsOpen g walk.store.now → StandsOn a walk) (λ _. StandsOn a walk)
+
+  module _ (old new : Walk S) (ask : Ask) (standing : Standing) where
+    -- A walk over the list that gave nothing yet: the text of its messages was written, as far as the policy shows them, and
+    -- counted; or exactly the first bytes of it.
+    abbrev pub WritesRows : (before after : List ℕ) → (counted counts : ℕ) → Result (Unit {0}) DeskFault → Type 0
+    WritesRows before after counted counts result = HasReturned g new.store.now → (a : Archive) → Walks g ask.list a [] old →
+        let text = shown_text ask standing (messages_in a ask.list) in
+        MatchResult result
+        (λ _. StandsOn a new × (after ≡ before ++ text) × (counts ≡ min (counted + length text) (2 ^ 64 - 1)))
+        (λ fault. StandsIfOpen a new fault × (length after < 2 ^ 64
+        → (more : ℕ) × IsCutShort before after text more × (counts ≡ min (counted + more) (2 ^ 64 - 1))))
+
+    -- the same behind a head
+    abbrev pub WritesWalk : (head before after : List ℕ) → Result ℕ ExportStop → Type 0
+    WritesWalk head before after result = HasReturned g new.store.now → (a : Archive) → Walks g ask.list a [] old →
+        let text = head ++ shown_text ask standing (messages_in a ask.list) in
+        MatchResult result
+        (λ count. StandsOn a new × (after ≡ before ++ text) × (count ≡ min (length text) (2 ^ 64 - 1)))
+        (λ stop. StandsIfOpen a new stop.fault × (length after < 2 ^ 64 → IsCutShort before after text stop.written))
