@@ -7,7 +7,8 @@ From the sample list of forty mails it makes a database, withdraws one mail, and
 lets stock sqlite3 check and count the file; exports a list of 3,000 messages and
 has formail, mutt and Python's mailbox count them; serves the sample, and asks with curl for
 each kind of page, with a token and without; and, with --pictures, has a
-headless chromium draw the lists, the threads, a thread, a month and a message.
+headless chromium draw the lists, the threads, a thread and a month (a message it
+keeps as a file, message/rfc822, and draws nothing).
 A program that is not there is said and left out. Status 1 where one finds
 something else than the archive says. Build the program first: ./archive --version.
 """
@@ -124,7 +125,7 @@ def pictures(program, db, withdrawn, shown, folder):
         print("chromium: not on this machine")
         return
     pages = {"lists": "/", "threads": "/l/seeds/threads", "thread": f"/l/seeds/t/{shown}",
-             "month": "/l/seeds/month/2024-02", "message": f"/l/seeds/m/{shown}"}
+             "month": "/l/seeds/month/2024-02"}
     for name, path in pages.items():
         # a browser opens more connections than it needs, and asks for the page's picture
         server = Server(program, db, 20)
