@@ -56,6 +56,13 @@ struct Ran {
     faults: Tap,
 }
 
+/// So many runs, one after the other, that wrote so many bytes each.
+#[derive(Drop)]
+struct Wrote {
+    runs: usize,
+    bytes: usize,
+}
+
 impl Stage {
     /// A run over an input that passes `passes` bytes and an output that passes `room`.
     fn run<RT: Files + AllocGlobal>(
@@ -88,21 +95,23 @@ impl Stage {
         })
     }
 
-    /// How many of the runs whose input fails, after each number of bytes, wrote nothing and said the same as the first.
+    /// The runs whose input fails, after each number of bytes, that wrote a beginning of what the whole run writes and said
+    /// the same as the first.
     fn failing_reads<RT: Files + AllocGlobal>(
         &mut self,
         rt: &RT,
         words: &[&str],
-    ) -> anyhow::Result<(usize, Ran)> {
+    ) -> anyhow::Result<(Vec<Wrote>, Ran)> {
+        let whole = self.run(rt, words, ROOM, ROOM)?;
         let first = self.run(rt, words, 0, ROOM)?;
-        let mut alike: usize = 0;
+        let mut wrote = Vec::new(rt.alloc());
         for passes in 0..self.input.len().saturating_add(1) {
             let ran = self.run(rt, words, passes, ROOM)?;
-            if ran.output.bytes().is_empty() && says_the_same(&ran, &first) {
-                alike = alike.saturating_add(1);
+            if begins(&ran, &whole) && says_the_same(&ran, &first) {
+                count_run(&mut wrote, ran.output.bytes().len())?;
             }
         }
-        Ok((alike, first))
+        Ok((wrote, first))
     }
 
     /// How many of the runs whose output fails wrote just what the output took, and said the same as the first.
@@ -128,6 +137,20 @@ impl Stage {
 
 fn says_the_same(one: &Ran, other: &Ran) -> bool {
     one.status == other.status && one.faults.bytes() == other.faults.bytes()
+}
+
+/// Whether one run wrote a beginning of what the other wrote.
+fn begins(one: &Ran, other: &Ran) -> bool {
+    other.output.bytes().starts_with(one.output.bytes())
+}
+
+/// Counts a run that wrote so many bytes, with those before it that wrote as many.
+fn count_run(wrote: &mut Vec<Wrote>, bytes: usize) -> Result<(), AllocError> {
+    match wrote.last_mut() {
+        Some(last) if last.bytes == bytes => last.runs = last.runs.saturating_add(1),
+        _ => wrote.push(Wrote { runs: 1, bytes })?,
+    }
+    Ok(())
 }
 
 /// The words of a line.
@@ -179,6 +202,15 @@ fn push_alike(page: &mut Vec<u8>, alloc: Global, alike: (usize, Ran)) -> anyhow:
     push_ran(page, alloc, &first)
 }
 
+/// Adds how many runs wrote how much, with what the first one said.
+fn push_wrote(page: &mut Vec<u8>, alloc: Global, wrote: (Vec<Wrote>, Ran)) -> anyhow::Result<()> {
+    let (groups, first) = wrote;
+    for Wrote { runs, bytes } in &groups {
+        page.extend_from_slice(format!(in alloc; "{runs} runs wrote {bytes} bytes\n")?.as_bytes())?;
+    }
+    push_ran(page, alloc, &first)
+}
+
 /// Carries out the run that a line orders: what stands before the sign `$`, and the words behind it.
 fn play<RT: Files + AllocGlobal>(
     rt: &RT,
@@ -192,7 +224,7 @@ fn play<RT: Files + AllocGlobal>(
     let words = words.as_slice();
     match devices {
         "" => push_ran(page, alloc, &stage.run(rt, words, ROOM, ROOM)?),
-        "<each " => push_alike(page, alloc, stage.failing_reads(rt, words)?),
+        "<each " => push_wrote(page, alloc, stage.failing_reads(rt, words)?),
         ">each " => push_alike(page, alloc, stage.failing_writes(rt, words)?),
         _ => {
             let (passes, room) = limits(devices)?;

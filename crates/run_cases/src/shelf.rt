@@ -1,4 +1,7 @@
 //! Databases in memory, by their names: files of `sqlite_disk` that are opened and closed as those of a system are.
+ghost use Rattle.std.specs.Prelude.{◌≡◌, None, IfErr};
+ghost use Rattle.archive_store.specs.Replies.{refusal};
+
 use archive_run::Databases;
 use archive_store::{AdoptStop, Store, StoreFault};
 use sqlite::{Connection, FileStore, Files, Options};
@@ -52,21 +55,38 @@ impl Shelf {
     }
 }
 
-/// The archive in these files, or the files again.
-fn adopt(
-    alloc: Global,
+/// Files that were not opened, and why.
+#[derive(Drop)]
+struct Unopened {
     files: Files<Memory>,
-) -> Result<Store<FileStore<Memory>>, (StoreFault, Files<Memory>)> {
+    fault: StoreFault,
+}
+
+/// The archive in these files, or the files again.
+fn adopt(alloc: Global, files: Files<Memory>) -> Result<Store<FileStore<Memory>>, Unopened>
+    ensures { IfErr result (λ stop. refusal stop.fault ≡ None) }
+{
     if !files.may_be_used() {
-        return Err((StoreFault::Store, files));
+        return Err(Unopened {
+            files,
+            fault: StoreFault::Store,
+        });
     }
     let connection = match Connection::open_files(alloc, files, Options::new(1)) {
         Ok(connection) => connection,
-        Err((error, left)) => return Err((StoreFault::from(error), left.into_files())),
+        Err((error, left)) => {
+            return Err(Unopened {
+                files: left.into_files(),
+                fault: StoreFault::from(error),
+            });
+        }
     };
     match Store::adopt(connection) {
         Ok(store) => Ok(store),
-        Err(AdoptStop { connection, fault }) => Err((fault, connection.into_store().close())),
+        Err(AdoptStop { connection, fault }) => Err(Unopened {
+            files: connection.into_store().close(),
+            fault,
+        }),
     }
 }
 
@@ -84,7 +104,7 @@ impl Databases<Store<FileStore<Memory>>> for Shelf {
         let files = self.take(alloc, name);
         match adopt(alloc, files) {
             Ok(store) => Ok(store),
-            Err((fault, files)) => {
+            Err(Unopened { files, fault }) => {
                 self.keep(files);
                 Err(fault)
             }
