@@ -8,7 +8,7 @@ use Rattle.archive_store.specs.declared.store.Store.{Store as Open}
 use Rattle.archive_store.specs.declared.faults.StoreFault.{StoreFault}
 use Rattle.archive_store.specs.declared.faults.StoreFault.TheVariants as store
 use Rattle.archive_results.specs.Access.{Ask}
-use Rattle.archive_desk.specs.Exporting.{IsExportStop}
+use Rattle.archive_desk.specs.Exporting.{ExportsPart, IsExportStop, exported}
 use Rattle.archive_desk.specs.declared.importing.Report.{Report}
 use Rattle.archive_words.specs.Values.{AskValues, GetValues, ImportValues, TableCommand, TableValues}
 use Rattle.archive_work.specs.Commands.{answer_line}
@@ -71,10 +71,11 @@ module _ {S : Type 0} (g : Ghosts S) (old new : Open S) where
   GetsNot ask key Memory = (name : _) × Gets g old new ask key (Err (got.Denied name))
   GetsNot ask key _ = ⊥
 
-  -- an export: G1, G2, G4 to G6
+  -- an export: G1, G2, G4 to G6; exactly the first bytes of its text went out
   abbrev pub ExportsNot : Ask → (before after : Sent) → Refusal → Type 0
   ExportsNot ask before after (Desk fault) = (count : ℕ) × Exports g old new ask before.written after.written (Err (record { written = count; fault = fault }))
       × IsExportStop before.written after.written before.failures after.failures count fault
+      × ExportsPart g old new before.written after.written count (λ a. exported a ask)
   ExportsNot ask before after _ = ⊥
 
 -- ---- an order over the database of a name

@@ -23,4 +23,4 @@ returns-in-Err-exported-clause-failed g c =
     inr (works g.D.Databases.opens g.D.Databases.closes c.args.databases.now c.open.new.self c.close.new.self c.args.file.now c.in-Ok.store
     c.export-exported.new.store c.in-Ok.ensures.opened c.close.ensures
     (λ o x. ExportsNot g.S.Store o x c.args.ask.now (sent (g.W.Sink.told out) (g.W.Sink.failures out)) (sent (g.W.Sink.told end) (g.W.Sink.failures end)) (Desk stop.fault))
-    (stop.written, c.in-Err-exported.ensures.exported, c.in-Err-exported.ensures.cause))
+    (stop.written, c.in-Err-exported.ensures.exported, c.in-Err-exported.ensures.cause, c.in-Err-exported.ensures.part))
