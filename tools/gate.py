@@ -16,7 +16,7 @@ import importlib.machinery, importlib.util, os, re, resource, shutil, sys, threa
 
 import due, wrong_bodies
 
-# The most that a check was seen to take.
+# The most that a check was seen to take, but for that of `archive`, which takes six: then others beside it take less.
 CHECK_BYTES = 5_000_000_000
 # What of rt is used here and in wrong_bodies.
 NAMES = ("ci", "edits_alone", "edits_of", "must_fail", "must_fail_all", "read_edit", "unread", "checked", "processors", "free", "rtlib")
