@@ -12,6 +12,7 @@ fn id(alloc: Global, left: &[u8], right: &[u8]) -> Result<MsgId, AllocError> {
     Ok(MsgId::new(left, right))
 }
 
+/// Asserts that these are the ids with these left and right sides, in their order.
 pub fn assert_ids(rt: &impl Abort, found: &[MsgId], wanted: &[(&[u8], &[u8])]) {
     assert_eq!(rt; found.len(), wanted.len());
     for (id, (left, right)) in found.iter().zip(wanted) {

@@ -29,6 +29,7 @@ pub struct Shelf {
 }
 
 impl Shelf {
+    /// No database, and none open.
     pub fn new(alloc: Global) -> Shelf {
         Shelf {
             kept: Vec::new(alloc),
