@@ -6,7 +6,6 @@ use Rattle.sqlite.specs.Store.{Ghosts}
 use Rattle.sqlite.specs.Held.{Held, state}
 use Rattle.sqlite.specs.State.{HasCleanDisk}
 use Rattle.mbox_core.specs.Division.{Item}
-use Rattle.archive_machine.specs.Records.{Archive}
 use Rattle.archive_machine.specs.Questions.{is_message}
 use Rattle.archive_machine.specs.Machine.{keyed_message}
 use Rattle.archive_tables.specs.Tables.{IsHeld, IsKept, archive_of}

@@ -3,7 +3,7 @@ ghost use Rattle.std.specs.Prelude.{◌≡◌, ◌↔◌, OnOk, OnErr, IsTrue};
 ghost use Rattle.sqlite.specs.Held.{state};
 ghost use Rattle.sqlite.specs.State.{HasCleanDisk};
 ghost use Rattle.archive_tables.specs.Schema.{no_schema, with_person};
-ghost use Rattle.archive_tables.specs.Tables.{IsKept, IsOfArchive, IsVersion0, archive_of};
+ghost use Rattle.archive_tables.specs.Tables.{IsKept, IsOfArchive, IsOfVersion, archive_of};
 ghost use Rattle.archive_tables.specs.Calls.{Leaves, WasClean};
 ghost use Rattle.archive_tables.specs.Making.{IsMaking, IsMade, IsUndone, IsIdle, IsBackTo, IsStopped, empty_archive};
 ghost use Rattle.archive_database.specs.Adopting.{HasAsManyObjects};
@@ -28,11 +28,11 @@ pub fn has_as_many_objects<S: Alter>(conn: &Connection<S>) -> bool
     schema.tables.len() == 6 && schema.indexes.len() == 5 && schema.views.is_empty()
 }
 
-/// Refuses a database whose `version` does not hold one row, of the number 0.
+/// Refuses a database whose `version` does not hold one row, of the number of these tables.
 pub fn find_version<S: Alter>(conn: &mut Connection<S>) -> Result<(), Fault>
     ensures same { Leaves S.Store conn.old conn.new }
     ensures up { HasCleanDisk (state S.Store conn.new) → IsKept (state S.Store conn.old) → OnOk result (IsTrue (state S.Store conn.new).is_open) }
-    ensures version { HasCleanDisk (state S.Store conn.new) → IsOfArchive (state S.Store conn.old) → OnOk result (IsVersion0 (state S.Store conn.old).now.trees) }
+    ensures version { HasCleanDisk (state S.Store conn.new) → IsOfArchive (state S.Store conn.old) → OnOk result (IsOfVersion (state S.Store conn.old).now.trees) }
     ensures back { HasCleanDisk (state S.Store conn.new) → IsOfArchive (state S.Store conn.old) → IsBackTo (state S.Store conn.new) (state S.Store conn.old).now }
     ensures clean { WasClean S.Store conn.old conn.new }
 {
@@ -41,7 +41,7 @@ pub fn find_version<S: Alter>(conn: &mut Connection<S>) -> Result<(), Fault>
         return Err(Fault::Database);
     };
     let number: i64 = row.get(0)?;
-    if number != 0 {
+    if number != texts::schema::VERSION {
         return Err(Fault::Database);
     }
     Ok(())

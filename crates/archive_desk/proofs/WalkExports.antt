@@ -1,6 +1,6 @@
 -- What an export says that walks the list.
-use Rattle.std.proofs.Common.{◌≡◌, refl, sym, ap, ◌∙◌, subst, ℕ, ◌<◌, ◌^◌, min, List, [], ◌++◌, length, Option, Some, None, Result, Ok, Err, IfErr, arith}
-use Rattle.std.specs.Prelude.{⊤, MatchOption, OnOk}
+use Rattle.std.proofs.Common.{◌≡◌, refl, sym, ap, ◌∙◌, subst, ℕ, min, List, [], ◌++◌, length, Some, None, Ok, Err, arith}
+use Rattle.std.specs.Prelude.{⊤, MatchOption}
 use Rattle.std.proofs.lemmas.List.{append-nil}
 use Rattle.sqlite.specs.Store.{Ghosts}
 use Rattle.mbox_core.specs.Written.{IsCutShort}
@@ -12,12 +12,10 @@ use Rattle.archive_store.specs.Told.{Goes, GoesIfOpen, Calls, HasReturned, HadRe
 use Rattle.archive_store.specs.Walking.{Walk, Begins}
 use Rattle.archive_store.specs.declared.store.Store.{Store}
 use Rattle.archive_store.specs.declared.faults.StoreFault.{StoreFault}
-use Rattle.archive_store.proofs.Joins.{goes_as}
 use Rattle.archive_results.specs.Access.{Ask, reader_standing}
-use Rattle.archive_desk.specs.Exporting.{Exports, ExportsPart, HasWritten, IsExportRefused, IsExportStop, exported, shown_text, stop_reason}
+use Rattle.archive_desk.specs.Exporting.{Exports, ExportsPart, IsExportRefused, IsExportStop, exported, shown_text, stop_reason}
 use Rattle.archive_desk.specs.Faults.{ask_reason, desk_fault, reason, IsAskFault}
 use Rattle.archive_desk.specs.Walking.{IsWalkStop, WritesWalk}
-use Rattle.archive_desk.specs.declared.exporting.ExportStop.{ExportStop}
 use Rattle.archive_desk.specs.declared.faults.DeskFault.{DeskFault}
 use Rattle.archive_desk.specs.declared.faults.DeskFault.TheVariants.{NoList, NoPerson, NotInView, Store as Stored, Memory, Write}
 use Rattle.archive_desk.proofs.CallLemmas.{calls_after}

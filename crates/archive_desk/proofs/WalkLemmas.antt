@@ -1,5 +1,5 @@
 -- How far the messages of a walk are out.
-use Rattle.std.proofs.Common.{◌≡◌, refl, sym, ap, ◌∙◌, subst, ℕ, ◌+◌, ◌<◌, ◌≤◌, ◌^◌, min, Bool, true, false, cond, List, [], ◌∷◌, ◌++◌, length, take, filter, map, Option, Some, None, Ok, Err, arith, append_assoc, length-append, length-take}
+use Rattle.std.proofs.Common.{◌≡◌, refl, sym, ap, ◌∙◌, subst, ℕ, ◌+◌, ◌<◌, ◌^◌, min, Bool, true, false, cond, List, [], ◌∷◌, ◌++◌, length, take, filter, map, None, Ok, Err, arith, append_assoc, length-append, length-take}
 use Rattle.std.proofs.lemmas.List.{append-nil, take-append-le}
 use Rattle.std.proofs.Math.Seq.{take-append-add}
 use Rattle.sqlite.specs.Store.{Ghosts}
@@ -16,7 +16,7 @@ use Rattle.archive_results.specs.Access.{Ask, is_shown}
 use Rattle.archive_results.specs.Shown.{shown_of}
 use Rattle.archive_desk.specs.Exporting.{shown_text}
 use Rattle.archive_desk.specs.Faults.{reason}
-use Rattle.archive_desk.specs.Walking.{StandsOn, StandsIfOpen, WritesRows, WritesWalk}
+use Rattle.archive_desk.specs.Walking.{WritesRows, WritesWalk}
 use Rattle.archive_desk.specs.declared.faults.DeskFault.{DeskFault}
 use Rattle.archive_desk.specs.declared.faults.DeskFault.TheVariants.{Write}
 

@@ -1,16 +1,10 @@
 -- The laws of pages.
-use Rattle.std.proofs.Common.{◌≡◌, ℕ, ◌+◌, ◌-◌, ◌*◌, ◌/◌, ◌%◌, ◌<◌, ◌≤◌, ◌==◌, nat_lt, Bool, true, false, ◌&&◌, ◌||◌, List, [], ◌∷◌, ◌++◌, Some, refl, sym, ap, ◌∙◌, arith, if◌then◌else◌, codes}
+use Rattle.std.proofs.Common.{◌≡◌, ℕ, ◌+◌, ◌-◌, ◌==◌, nat_lt, Bool, true, false, ◌&&◌, ◌||◌, List, [], ◌∷◌, ◌++◌, refl, sym, ap, ◌∙◌, if◌then◌else◌, codes}
 use Rattle.std.specs.List.{list_all}
-use Rattle.std.proofs.lemmas.Bool.{agree_below, agree_below_at, le-leb}
+use Rattle.std.proofs.lemmas.Bool.{agree_below, agree_below_at}
 use Rattle.std.proofs.lemmas.List.Elements.{All-head, All-tail}
 use Rattle.percent_encoding.specs.Percent.{percent_decode}
 use Rattle.percent_encoding.proofs.PercentLemmas.{round_trip}
-use Rattle.civil_time.specs.Digits.{is_digit, four_digits}
-use Rattle.civil_time.specs.Calendar.{day_of_instant, month_of_instant, month_of_numbers}
-use Rattle.civil_time.proofs.MonthLemmas.{date_in_month, month_is}
-use Rattle.civil_time.specs.Dates.{days_since_1900, date_of_instant}
-use Rattle.civil_time.proofs.DateLemmas.{date_is, found_number, split_is}
-use Rattle.civil_time.proofs.DigitLemmas.{two_read}
 use Rattle.archive_html.specs.declared.escapes.TheConstants.{RESERVED}
 use Rattle.civil_time.proofs.TextLemmas.{instant_month_read}
 use Rattle.archive_html.specs.Texts.{shown_byte, shown_text}

@@ -1,5 +1,5 @@
 -- Worked examples of pages, byte for byte.
-use Rattle.std.proofs.Common.{◌≡◌, pos, negsuc, [], ◌∷◌, ◌++◌, Some, None, refl, codes}
+use Rattle.std.proofs.Common.{◌≡◌, pos, [], ◌∷◌, ◌++◌, Some, None, refl, codes}
 use Rattle.std.specs.Fmt.{digits}
 use Rattle.civil_time.specs.Dates.{year_after, month_after, date_after}
 use Rattle.archive_results.specs.Shown.{Line}

@@ -13,7 +13,7 @@ use Rattle.archive_words.specs.Values.{AskValues, GetValues, ImportValues}
 use Rattle.archive_work.specs.Working.{Exports, Gets}
 use Rattle.archive_run.specs.Databases.{Works}
 use Rattle.archive_run.specs.Running.{IsDayBy}
-use Rattle.archive_run.specs.Working.{Sent, Sends, SendsPart, report_line, ask_by, NotOpened, Fails, ImportsFile, ImportsNot, GetsNot, ExportsNot, IsImportDone, IsImportCause, IsGetBy, IsGetFailed, IsExportBy, IsExportFailed, IsDayCause}
+use Rattle.archive_run.specs.Working.{Sent, Sends, SendsPart, report_line, ask_by, NotOpened, Fails, ImportsFile, GetsNot, ExportsNot, IsImportDone, IsImportCause, IsGetBy, IsGetFailed, IsExportBy, IsExportFailed, IsDayCause}
 use Rattle.archive_run.specs.declared.faults.Refusal.{Refusal}
 use Rattle.archive_run.specs.declared.faults.Refusal.TheVariants.{Write, Memory}
 use Rattle.archive_run.specs.declared.files.FileFault.{FileFault}

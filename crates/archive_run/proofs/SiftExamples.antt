@@ -1,5 +1,5 @@
 -- Worked examples of which messages pass.
-use Rattle.std.specs.Prelude.{◌≡◌, ℕ, ℤ, pos, List, [], ◌∷◌, codes, true, false, Option, Some, None}
+use Rattle.std.specs.Prelude.{◌≡◌, ℕ, ℤ, pos, [], ◌∷◌, codes, true, false, Option, Some, None}
 use Rattle.std.proofs.Common.{refl}
 use Rattle.policy_core.specs.Rules.{open_rule}
 use Rattle.policy_core.specs.declared.access.Standing.TheVariants.{Public}

@@ -1,5 +1,5 @@
 -- What an exit status says.
-use Rattle.std.proofs.Common.{◌≡◌, ◌≤◌, ◌⊎◌, inl, inr, ℕ, Bool, true, false, Option, Some, None, Result, Ok, Err, sym, subst, ◌∙◌, arith}
+use Rattle.std.proofs.Common.{◌≡◌, ◌≤◌, ◌⊎◌, inl, inr, ℕ, Bool, true, false, Option, Some, None, Result, Ok, Err, subst, arith}
 use Rattle.std.specs.Prelude.{MatchResult, OnOk, IfErr}
 use Rattle.archive_words.specs.Values.{SiftValues}
 use Rattle.archive_words.specs.declared.orders.Order.{Order}

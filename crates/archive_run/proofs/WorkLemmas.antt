@@ -1,5 +1,5 @@
 -- A database that is opened, worked on, and closed.
-use Rattle.std.proofs.Common.{◌≡◌, ◌⊎◌, inl, inr, refl, ℕ, List, Result, Ok, Err}
+use Rattle.std.proofs.Common.{◌⊎◌, inr, ℕ, List, Result, Ok, Err}
 use Rattle.std.specs.Prelude.{MatchResult}
 use Rattle.archive_store.specs.declared.store.Store.{Store}
 use Rattle.archive_store.specs.declared.faults.StoreFault.{StoreFault}

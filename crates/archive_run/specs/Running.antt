@@ -1,5 +1,5 @@
 -- What a run reads and writes, and why it is refused.
-use Rattle.std.specs.Prelude.{◌≡◌, ◌≢◌, ◌<◌, ◌+◌, ◌++◌, ◌⊎◌, ◌∷◌, [], ℕ, ℤ, pos, List, Bool, true, false, ◌||◌, is_some, Option, Some, None, Result, Ok, Err, ⊤, IsUtf8}
+use Rattle.std.specs.Prelude.{◌≡◌, ◌≢◌, ◌<◌, ◌⊎◌, ◌∷◌, [], ℕ, ℤ, pos, List, Bool, true, false, ◌||◌, is_some, Option, Some, None, Result, Ok, Err, ⊤, IsUtf8}
 use Rattle.policy_core.specs.Rules.{Rule, open_rule}
 use Rattle.policy_core.specs.Written.{written_policy}
 use Rattle.policy_core.specs.declared.faults.PolicyFault.TheVariants as policy

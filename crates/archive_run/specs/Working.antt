@@ -18,7 +18,7 @@ use Rattle.archive_work.specs.declared.getting.GetStop.TheVariants as got
 use Rattle.archive_run.specs.Databases.{Works, IsUnopened}
 use Rattle.archive_run.specs.Running.{IsPolicyOf, IsPolicyCause, IsDayBy}
 use Rattle.archive_run.specs.declared.faults.Refusal.{Refusal}
-use Rattle.archive_run.specs.declared.faults.Refusal.TheVariants.{Mbox, Policy, Store, Desk, Import, Denied, Read, Write, Clock, Net, Memory}
+use Rattle.archive_run.specs.declared.faults.Refusal.TheVariants.{Store, Desk, Import, Denied, Read, Write, Clock, Memory}
 use Rattle.archive_run.specs.declared.files.FileFault.{FileFault}
 use Rattle.archive_run.specs.declared.files.FileFault.TheVariants as file
 

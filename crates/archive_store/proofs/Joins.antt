@@ -1,6 +1,5 @@
 -- Calls of a store that follow one another: what each says, in the words for the layers above, and how they join.
-use Rattle.std.proofs.Common.{◌≡◌, refl, sym, ap, subst, ◌∙◌, Option, Some, None, Result, Ok, Err}
-use Rattle.std.specs.Prelude.{⊤, MatchResult, MatchOption}
+use Rattle.std.proofs.Common.{◌≡◌, refl, Option, Some, None, Result, Ok, Err}
 use Rattle.sqlite.specs.Store.{Ghosts}
 use Rattle.archive_machine.specs.Records.{Archive}
 use Rattle.archive_machine.specs.Commands.{Refusal, Reply}
@@ -9,7 +8,7 @@ use Rattle.archive_tables.specs.Calls.{WasClean}
 use Rattle.archive_store.specs.Held.{held_of}
 use Rattle.archive_store.specs.declared.store.Store.{Store}
 use Rattle.archive_store.specs.declared.faults.StoreFault.{StoreFault}
-use Rattle.archive_store.specs.Replies.{refusal, Answers, Does, Steps}
+use Rattle.archive_store.specs.Replies.{refusal, Answers, Does}
 use Rattle.archive_store.specs.Told.{archive_in, Goes, GoesIfOpen, Calls}
 
 module _ {S : Type 0} (g : Ghosts S) where

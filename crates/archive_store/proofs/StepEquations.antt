@@ -1,10 +1,9 @@
 -- What the machine does, case by case.
-use Rattle.std.proofs.Common.{◌≡◌, ◌≤◌, ◌<◌, ℕ, suc, length, arith, ℤ, pos, List, [], ◌∷◌, ◌++◌, Bool, true, false, ◌||◌, cond, Option, Some, None, is_some, refl, sym, subst, ◌∙◌, is_lt, int_cmp}
+use Rattle.std.proofs.Common.{◌≡◌, ℕ, length, ℤ, pos, List, [], ◌∷◌, ◌++◌, Bool, true, false, ◌||◌, cond, Option, Some, None, is_some, refl, sym, subst, ◌∙◌, is_lt, int_cmp}
 use Rattle.std.specs.Prelude.{⊤, int_lt, nat_lt, nat_le, not, map, filter, find, option_map, if◌then◌else◌}
 use Rattle.std.specs.List.{list_any}
 use Rattle.std.specs.Ordering.{int_eq}
 use Rattle.std.specs.declared.cmp.Ordering.TheVariants.{Less, Equal, Greater}
-use Rattle.std.proofs.lemmas.Bool.Decides.{nat_tests}
 use Rattle.mbox_core.specs.Division.{Item, whole}
 use Rattle.policy_core.specs.Names.{is_name}
 use Rattle.archive_machine.specs.Records.{Grant, Message, Archive}

@@ -1,6 +1,6 @@
 -- Walks over the messages of a list.
-use Rattle.std.proofs.Common.{◌≡◌, ℕ, ℤ, ◌+◌, ◌<◌, ◌≤◌, true, List, [], ◌∷◌, ◌++◌, length, get_or, drop, map, bytes_eq, refl, ap, sym, subst, append_assoc, ◌∙◌, Option, Some, None, Result, Ok, Err, IfOk, IfErr, inl, inr}
-use Rattle.std.specs.Prelude.{MatchResult, IsErrAnd, slice_get, Vec}
+use Rattle.std.proofs.Common.{◌≡◌, ℕ, ℤ, ◌+◌, ◌<◌, ◌≤◌, true, List, [], ◌∷◌, ◌++◌, length, get_or, drop, map, bytes_eq, refl, ap, sym, subst, append_assoc, ◌∙◌, Option, Some, None, Result, Ok, Err, IfErr, inl, inr}
+use Rattle.std.specs.Prelude.{IsErrAnd, slice_get, Vec}
 use Rattle.std.specs.declared.alloc.Global.{Global}
 use Rattle.std.proofs.lemmas.Option.{slice_get_cases}
 use Rattle.std.specs.List.{All}

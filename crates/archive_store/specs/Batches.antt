@@ -1,6 +1,6 @@
 -- Messages added to one list, many in one transaction.
 use Rattle.std.specs.Prelude.{◌≡◌, ◌⊎◌, ℕ, ◌+◌, ◌<◌, ◌≤◌, true, false, IsTrue, List, [], ◌∷◌, ◌++◌, length, take, Option, Some, None, Result, MatchResult, MatchOption}
-use Rattle.std.specs.List.{list_any, sum_by}
+use Rattle.std.specs.List.{sum_by}
 use Rattle.sqlite.specs.Effect.{Database}
 use Rattle.sqlite.specs.Store.{Ghosts}
 use Rattle.sqlite.specs.Held.{Held, state}
@@ -8,11 +8,11 @@ use Rattle.sqlite.specs.State.{State, HasCleanDisk}
 use Rattle.mbox_core.specs.Division.{Item}
 use Rattle.archive_machine.specs.Records.{Archive}
 use Rattle.archive_machine.specs.Commands.{Refusal, no_list, list_full, too_large, Reply, taken_in, already_known, refused}
-use Rattle.archive_machine.specs.Questions.{has_list, messages_in, is_message}
-use Rattle.archive_machine.specs.Machine.{added_within, message_limit, keyed_message}
+use Rattle.archive_machine.specs.Questions.{has_list, messages_in}
+use Rattle.archive_machine.specs.Machine.{added_within, message_limit}
 use Rattle.archive_machine.specs.Runs.{taken, Tally, tally}
 use Rattle.archive_tables.specs.Tables.{IsHeld, IsKept, archive_of}
-use Rattle.archive_tables.specs.Calls.{ChangesOver, RestsOver, Rests, StaysOver, IsHeldOrBack}
+use Rattle.archive_tables.specs.Calls.{RestsOver, Rests, StaysOver, IsHeldOrBack}
 use Rattle.archive_store.specs.Replies.{refusal}
 use Rattle.archive_store.specs.declared.batches.Report.{Report}
 use Rattle.archive_store.specs.declared.batches.Taken.{Taken}

@@ -4,7 +4,7 @@ ghost use Rattle.sqlite.specs.Held.{state};
 ghost use Rattle.sqlite.specs.State.{HasCleanDisk};
 ghost use Rattle.sqlite.specs.Steps.{over_memory};
 ghost use Rattle.archive_tables.specs.Schema.{no_schema};
-ghost use Rattle.archive_tables.specs.Tables.{IsKept, IsOfArchive, IsVersion0, archive_of};
+ghost use Rattle.archive_tables.specs.Tables.{IsKept, IsOfArchive, IsOfVersion, archive_of};
 ghost use Rattle.archive_tables.specs.Calls.{Rests};
 ghost use Rattle.archive_tables.specs.Making.{IsUndone, IsIdle, IsBackTo, empty_archive};
 ghost use Rattle.archive_database.specs.Adopting.{MayBeTaken, IsUnderstood};
@@ -47,7 +47,7 @@ impl Store<MemStore> {
 impl<S: Alter> Store<S> {
     /// Takes a connection over that is outside a transaction. Where the database has no table, index or view, the
     /// tables of an archive are made. Else E15, unless it has as many objects as an archive and the table `version`
-    /// holds one row, of the number 0.
+    /// holds one row, of the number of these tables.
     pub fn adopt(connection: Connection<S>) -> Result<Store<S>, AdoptStop<S>>
         ensures made { IfOk result (λ store. HasCleanDisk (state S.Store (held_of store)) → (state S.Store connection).now.schema ≡ no_schema
             → IsKept (state S.Store (held_of store)) × (archive_of (state S.Store (held_of store)) ≡ empty_archive)) }
@@ -57,7 +57,7 @@ impl<S: Alter> Store<S> {
             → Rests (state S.Store connection) (state S.Store stop.connection)) }
         ensures objects { IfOk result (λ _. MayBeTaken (state S.Store connection).now.schema) }
         ensures version { IfOk result (λ store. HasCleanDisk (state S.Store (held_of store)) → IsOfArchive (state S.Store connection)
-            → IsVersion0 (state S.Store connection).now.trees) }
+            → IsOfVersion (state S.Store connection).now.trees) }
         ensures undone { IfErr result (λ stop. HasCleanDisk (state S.Store stop.connection) → (state S.Store connection).now.schema ≡ no_schema
             → IsUndone (state S.Store stop.connection) (state S.Store connection).committed) }
         ensures as_before { IfErr result (λ stop. HasCleanDisk (state S.Store stop.connection) → IsIdle (state S.Store connection) → IsUnderstood (state S.Store connection).now.schema

@@ -1,12 +1,12 @@
 -- The statements that make the tables.
-use Rattle.std.proofs.Common.{◌≡◌, ℕ, pos, List, [], ◌∷◌, ◌++◌, codes, Ok, arith, refl, sym, ap, subst, ◌∙◌, false, true, None}
+use Rattle.std.proofs.Common.{◌≡◌, ℕ, List, [], ◌∷◌, ◌++◌, codes, Ok, arith, refl, sym, ap, subst, ◌∙◌, false, true, None}
 use Rattle.std.specs.Prelude.{IsTrue}
 use Rattle.std.specs.List.{AllByRecursion}
 use Rattle.sqlite.specs.declared.types.Value.TheVariants.{Null, Int}
 use Rattle.sqlite.specs.Order.{Row}
 use Rattle.sqlite.specs.Table.{Table}
 use Rattle.sqlite.specs.Schema.{Schema}
-use Rattle.sqlite.specs.Term.{Term, lit}
+use Rattle.sqlite.specs.Term.{Term, lit, col}
 use Rattle.sqlite.specs.Source.TheVariants.{Values}
 use Rattle.sqlite.specs.Command.TheVariants.{CreateTable, Begin, Commit, Rollback, Insert}
 use Rattle.sqlite.specs.Compile.{table_defined_by}
@@ -24,6 +24,7 @@ use Rattle.sqlite_tied.specs.Compute.{everything}
 use Rattle.archive_tables.specs.Schema.{no_schema, with_version, with_list, with_person, with_grant, archive_schema, create_version, create_list, create_person, create_grant, create_message, version_table, list_table, person_table, grant_table, message_table, sequence_table}
 use Rattle.archive_tables.specs.Tables.{AreTables, IsKept, archive_in, archive_of, version_rows}
 use Rattle.archive_tables.specs.Making.{IsMaking, IsMade, empty_archive}
+use Rattle.archive_tables.specs.declared.texts.schema.TheConstants.{VERSION}
 use Rattle.archive_tables.proofs.SchemaLemmas.{unplaced, version_is, list_is, person_is, grant_is, message_is, sequence_is}
 use Rattle.archive_tables.proofs.RunLemmas.{passed, value_is, no_action, cast_null, cast_int}
 use Rattle.archive_tables.proofs.TableLemmas.{SameBut, same_but}
@@ -245,10 +246,10 @@ undoes old new count h up =
 -- ---- the version
 
 abbrev pub version_text : List ℕ
-version_text = codes "INSERT INTO version (number) VALUES (0)"
+version_text = codes "INSERT INTO version (number) VALUES (?1)"
 
 abbrev version_cells : List Term
-version_cells = lit Null ∷ lit (Int (pos 0)) ∷ []
+version_cells = lit Null ∷ col 0 0 ∷ []
 
 add_is : command_of (understood archive_schema version_text) ≡ Insert 0 (Values version_cells 2)
 unfolding understood everything
@@ -258,8 +259,8 @@ add_plain : IsPlain (understood archive_schema version_text)
 unfolding understood everything
 add_plain = (refl, refl)
 
-puts : (db : Trees) (given : List Row) → db 0 ≡ [] → given ≡ (Null ∷ Int (pos 0) ∷ []) ∷ [] → edited db (edit_of db version_table [] Chosen 0 given) ≡ version_rows
-puts db given none from = rw (from, none, cast_null, cast_int (pos 0))
+puts : (db : Trees) (given : List Row) → db 0 ≡ [] → given ≡ (Null ∷ Int VERSION ∷ []) ∷ [] → edited db (edit_of db version_table [] Chosen 0 given) ≡ version_rows
+puts db given none from = rw (from, none, cast_null, cast_int VERSION)
 
 nothing_in : (trees : Trees) → trees 0 ≡ version_rows → trees 1 ≡ [] → trees 3 ≡ [] → trees 6 ≡ [] → trees 8 ≡ []
     → AreTables trees × (archive_in trees ≡ empty_archive)
@@ -277,13 +278,13 @@ nothing_in trees version lists persons grants messages = (
   rw (lists, persons, grants, messages),
 )
 
-pub makes_whole : (old new : State) (before : Database) (count : ℕ) → IsMaking old archive_schema before → Executes version_text [] old new (Ok count) → IsMade new before
+pub makes_whole : (old new : State) (before : Database) (count : ℕ) → IsMaking old archive_schema before → Executes version_text (Int VERSION ∷ []) old new (Ok count) → IsMade new before
 makes_whole old new before count k h =
     let db = old.now.trees in
     let command = Insert 0 (Values version_cells 2) in
-    let w = runs_as version_text [] old new archive_schema k.schema_is command add_is add_plain count h in
+    let w = runs_as version_text (Int VERSION ∷ []) old new archive_schema k.schema_is command add_is add_plain count h in
     let text = statement_of version_text (understood archive_schema version_text) in
-    let done = passed (subst (λ s. Does old.step_limit (mode_of old) [] (record old.now { schema = s }) text None command (Ok (w.tally, new.now))) k.schema_is w.changed) in
+    let done = passed (subst (λ s. Does old.step_limit (mode_of old) (Int VERSION ∷ []) (record old.now { schema = s }) text None command (Ok (w.tally, new.now))) k.schema_is w.changed) in
     let now = ap (λ (it : Tally × Database). it.1) (value_is (passed (passed done.2).2).2) in
     let given = passed done.1 in
     let written = passed (passed given.2).2 in

@@ -8,7 +8,7 @@ use Rattle.sqlite.specs.Tree.{Trees}
 use Rattle.archive_machine.specs.Records.{Message, Grant}
 use Rattle.archive_tables.specs.Schema.{archive_schema}
 use Rattle.archive_machine.specs.Questions.{is_message, is_grant}
-use Rattle.archive_tables.specs.Tables.{row_of, read_of, message_cells, message_read, grant_cells, grant_read, same_message, AreApart, archive_in, version_rows, IsVersion0}
+use Rattle.archive_tables.specs.Tables.{row_of, read_of, message_cells, message_read, grant_cells, grant_read, same_message, AreApart, archive_in, version_rows, IsOfVersion}
 use Rattle.archive_tables.specs.Rows.{message_shown, marks_shown, marks_of, new_message, versions_shown}
 
 abbrev hello : Message
@@ -69,7 +69,7 @@ two_lists t =
 its_archive : archive_in two_lists ≡ record { lists = codes "soc" ∷ codes "news" ∷ []; persons = []; grants = []; messages = [] }
 its_archive = refl
 
-its_version : IsVersion0 two_lists × (versions_shown two_lists ≡ (Int (pos 0) ∷ []) ∷ [])
+its_version : IsOfVersion two_lists × (versions_shown two_lists ≡ (Int (pos 0) ∷ []) ∷ [])
 its_version = ((_, refl, refl), refl)
 
 six_tables : map (λ (t : Table). t.name) archive_schema.tables

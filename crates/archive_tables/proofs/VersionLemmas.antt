@@ -1,5 +1,5 @@
 -- The question on `version`.
-use Rattle.std.proofs.Common.{◌≡◌, ℕ, pos, List, [], ◌∷◌, codes, refl, sym, subst, ◌∙◌, false, ◌⊎◌, inl, inr}
+use Rattle.std.proofs.Common.{◌≡◌, ℕ, List, [], ◌∷◌, codes, refl, sym, subst, ◌∙◌, false, ◌⊎◌, inl, inr}
 use Rattle.std.specs.Prelude.{IsTrue}
 use Rattle.std.specs.List.Sorted.{IsPermutation}
 use Rattle.sqlite.specs.declared.error.Error.{Error}
@@ -15,6 +15,7 @@ use Rattle.archive_tables.specs.Schema.{archive_schema}
 use Rattle.archive_tables.specs.Tables.{IsKept, IsOfArchive, version_rows}
 use Rattle.archive_tables.specs.Rows.{versions_shown}
 use Rattle.archive_tables.specs.Making.{IsBackTo}
+use Rattle.archive_tables.specs.declared.texts.schema.TheConstants.{VERSION}
 use Rattle.archive_tables.specs.Calls.{Rests}
 use Rattle.archive_tables.proofs.RunLemmas.{query_fails, query_leaves}
 use Rattle.archive_tables.proofs.SelectLemmas.{plain_query, by_number, Picks, in_order, picks_all, picked, asked, leaves, asked_rests, refused_rests}
@@ -33,7 +34,7 @@ number_plain : IsPlain (understood archive_schema number_text)
 unfolding understood everything
 number_plain = (refl, refl)
 
-only_version : (rows picked : List Row) → rows ≡ version_rows → Picks (plain_query 0 [] number_cell by_number) [] rows picked → picked ≡ (Int (pos 0) ∷ []) ∷ []
+only_version : (rows picked : List Row) → rows ≡ version_rows → Picks (plain_query 0 [] number_cell by_number) [] rows picked → picked ≡ (Int VERSION ∷ []) ∷ []
 only_version rows picked are it = in_order 0 [] number_cell [] version_rows picked (tt, tt) (subst (λ l. Picks (plain_query 0 [] number_cell by_number) [] l picked) are it)
 
 -- whatever the rows are, their numbers are shown
@@ -58,7 +59,7 @@ module _ (old new : State) (o : IsOfArchive old) where
   no_numbers_leave e h = as_it_was (query_fails old new number_text [] e is_plain h)
 
 module _ (old new : State) (k : IsKept old) where
-  pub version_found : (rows : List Row) → Shown number_text [] old new rows → (rows ≡ (Int (pos 0) ∷ []) ∷ []) × IsTrue new.is_open × Rests old new
+  pub version_found : (rows : List Row) → Shown number_text [] old new rows → (rows ≡ (Int VERSION ∷ []) ∷ []) × IsTrue new.is_open × Rests old new
   version_found rows h =
       let picks = asked number_text 0 [] number_cell by_number _ number_is.0 number_plain number_is.1 (λ t. refl) [] old new k rows h in (
         only_version (old.now.trees 0) rows k.tables.version picks,

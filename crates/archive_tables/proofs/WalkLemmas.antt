@@ -1,6 +1,6 @@
 -- A list's messages by their numbers.
-use Rattle.std.proofs.Common.{◌≡◌, ℕ, ℤ, Bool, true, false, cond, List, [], ◌∷◌, map, filter, codes, arith, Option, Some, None, refl, sym, ap, ap₂, subst, ◌∙◌}
-use Rattle.std.specs.Prelude.{⊤, bytes_eq, find, option_map}
+use Rattle.std.proofs.Common.{◌≡◌, ℕ, ℤ, Bool, true, false, cond, List, [], ◌∷◌, map, filter, codes, arith, Option, Some, refl, sym, ap, ap₂, subst, ◌∙◌}
+use Rattle.std.specs.Prelude.{bytes_eq, find, option_map}
 use Rattle.std.specs.List.{AllByRecursion}
 use Rattle.std.specs.Ordering.{int_eq, int_cmp, is_eq}
 use Rattle.std.specs.declared.cmp.Ordering.TheVariants.{Less}
@@ -24,7 +24,7 @@ use Rattle.sqlite_value.proofs.OrderLemmas.{value_cmp-Int}
 use Rattle.archive_machine.specs.Records.{Message}
 use Rattle.archive_machine.specs.Questions.{messages_in}
 use Rattle.archive_tables.specs.Schema.{archive_schema}
-use Rattle.archive_tables.specs.Tables.{IsHeld, AreTables, Holds, Numbered, row_of, read_of, message_cells, message_read, archive_in}
+use Rattle.archive_tables.specs.Tables.{IsHeld, AreTables, Numbered, row_of, message_cells, message_read, archive_in}
 use Rattle.archive_tables.specs.Rows.{message_shown, numbered_messages, places_in, message_at, place_shown}
 use Rattle.archive_tables.specs.Calls.{RowsRest}
 use Rattle.archive_tables.proofs.MessageLemmas.{message_back}

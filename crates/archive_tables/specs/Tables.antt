@@ -13,6 +13,7 @@ use Rattle.sqlite.specs.State.{State}
 use Rattle.archive_machine.specs.Records.{Person, Grant, Message, Archive}
 use Rattle.archive_machine.specs.Questions.{is_grant, is_message}
 use Rattle.archive_tables.specs.Schema.{archive_schema}
+use Rattle.archive_tables.specs.declared.texts.schema.TheConstants.{VERSION}
 
 -- ---- the columns of a record, and the record of a row; a row begins with its number
 
@@ -104,13 +105,13 @@ same_message a b = is_message a.list a.key b
 -- ---- the database
 
 abbrev pub version_rows : List Row
-version_rows = (Int (pos 1) ∷ Int (pos 0) ∷ []) ∷ []
+version_rows = (Int (pos 1) ∷ Int VERSION ∷ []) ∷ []
 
--- the table `version` holds one row, of the number 0
-abbrev pub IsVersion0 : Trees → Type 0
-IsVersion0 trees = (row : Row) × (trees 0 ≡ row ∷ []) × (column row 1 ≡ Int (pos 0))
+-- the table `version` holds one row, of the number of these tables
+abbrev pub IsOfVersion : Trees → Type 0
+IsOfVersion trees = (row : Row) × (trees 0 ≡ row ∷ []) × (column row 1 ≡ Int VERSION)
 
--- the version is 0, each table holds rows of its records, and no two grants or messages have the same key
+-- the version is that of these tables, each table holds rows of its records, and no two grants or messages have the same key
 pub record AreTables (trees : Trees) : Type 0 where
   pub version : trees 0 ≡ version_rows
   pub lists : Holds list_cells list_read (trees 1)

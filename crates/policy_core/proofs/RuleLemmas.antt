@@ -2,7 +2,7 @@
 use Rattle.std.proofs.Common.{◌≡◌, ℕ, Bool, true, false, ◌||◌, List, [], ◌∷◌, Option, Some, None, String, Global, refl, ap, map, string_bytes, codes}
 use Rattle.std.specs.Prelude.{find, filter, bytes_eq}
 use Rattle.std.specs.List.{list_any}
-use Rattle.policy_core.specs.Rules.{Rule, fits}
+use Rattle.policy_core.specs.Rules.{Rule}
 use Rattle.policy_core.specs.Verdict.{Ruling, denied, ruling_by, ruling_of_head}
 
 -- what the rule that was found says, or the denial by `default`

@@ -1,6 +1,6 @@
 //! The schema: the tables are made in one transaction, in this order.
 
-ghost use Rattle.std.specs.Prelude.{◌≡◌, ◌∷◌, [], pos, false, Some, None, OnOk, IfOk, MatchResult, IsTrue, IsPermutation};
+ghost use Rattle.std.specs.Prelude.{◌≡◌, ◌∷◌, [], false, Some, None, OnOk, IfOk, MatchResult, IsTrue, IsPermutation};
 ghost use Rattle.sqlite.specs.declared.types.Value.TheVariants.{Int};
 ghost use Rattle.sqlite.specs.State.{HasCleanDisk};
 ghost use Rattle.sqlite.specs.Held.{state};
@@ -10,7 +10,10 @@ ghost use Rattle.archive_tables.specs.Rows.{versions_shown};
 ghost use Rattle.archive_tables.specs.Making.{IsMaking, IsMade, Stops, IsBackTo, IsStopped, empty_archive};
 ghost use Rattle.archive_tables.specs.Calls.{StaysOver, RestsOver, Rests, IsBackAt, IsHeldOrBack, Finds, Leaves, IsUp, WasClean};
 
-use sqlite::{Alter, Connection, Error, Row};
+use sqlite::{Alter, Connection, Error, Row, params};
+
+/// The number of these tables, which `version` holds.
+pub const VERSION: i64 = 0;
 
 /// Begins the transaction.
 pub fn begin<S: Alter>(conn: &mut Connection<S>) -> Result<usize, Error>
@@ -82,13 +85,13 @@ pub fn create_message<S: Alter>(conn: &mut Connection<S>) -> Result<usize, Error
     )
 }
 
-/// Writes the version down: 0.
+/// Writes the version down.
 pub fn add_version<S: Alter>(conn: &mut Connection<S>) -> Result<usize, Error>
     ensures made { HasCleanDisk (state S.Store conn.new) → (before : _) → IsMaking (state S.Store conn.old) archive_schema before → OnOk result (IsMade (state S.Store conn.new) before) }
     ensures stopped { Stops S.Store conn.old conn.new result }
     ensures clean { WasClean S.Store conn.old conn.new }
 {
-    conn.execute("INSERT INTO version (number) VALUES (0)", &[])
+    conn.execute("INSERT INTO version (number) VALUES (?1)", params![VERSION])
 }
 
 /// Commits the transaction.
@@ -118,9 +121,9 @@ pub fn rollback<S: Alter>(conn: &mut Connection<S>) -> Result<usize, Error>
     conn.execute("ROLLBACK", &[])
 }
 
-/// The rows of `version`: in an archive that is kept one, of the number 0.
+/// The rows of `version`: in an archive that is kept one, of the number of these tables.
 pub fn versions<S: Alter>(conn: &mut Connection<S>) -> Result<Vec<Row>, Error>
-    ensures found { Finds S.Store conn.old conn.new result (λ _ rows. rows.items ≡ (Int (pos 0) ∷ []) ∷ []) }
+    ensures found { Finds S.Store conn.old conn.new result (λ _ rows. rows.items ≡ (Int VERSION ∷ []) ∷ []) }
     ensures numbers { HasCleanDisk (state S.Store conn.new) → IsOfArchive (state S.Store conn.old) →
         IfOk result (λ rows. IsPermutation (versions_shown (state S.Store conn.old).now.trees) rows.items) }
     ensures left { HasCleanDisk (state S.Store conn.new) → IsOfArchive (state S.Store conn.old) → IsBackTo (state S.Store conn.new) (state S.Store conn.old).now }

@@ -1,4 +1,4 @@
-use Rattle.std.proofs.Common.{◌≡◌, ◌++◌, Some, Err, ℕ, rules, sym, subst}
+use Rattle.std.proofs.Common.{◌≡◌, ◌++◌, Some, Err, rules, sym, subst}
 use Rattle.std.specs.Prelude.{MatchOption}
 use Rattle.archive_machine.specs.Questions.{list_refusal}
 use Rattle.archive_results.specs.Access.{reader_standing}

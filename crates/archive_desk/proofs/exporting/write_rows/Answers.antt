@@ -1,6 +1,6 @@
 use Rattle.std.proofs.Common.{◌≡◌, Err, rules, refl, sym, ap, subst, ◌∙◌}
 use Rattle.std.specs.Prelude.{option_map}
-use Rattle.archive_desk.specs.Faults.{desk_fault, reason, reason_by}
+use Rattle.archive_desk.specs.Faults.{desk_fault, reason_by}
 use Rattle.archive_desk.specs.Walking.{WritesRows}
 use Rattle.archive_desk.proofs.AskLemmas.{reasoned}
 use Rattle.archive_desk.proofs.WalkLemmas.{rows_none, rows_more, rows_unwritten, rows_unread, rows_all}

@@ -1,4 +1,4 @@
-use Rattle.std.proofs.Common.{◌+◌, ◌<◌, [], ◌++◌, append-nil, ◌∙◌, Err, ap, sym, refl, arith}
+use Rattle.std.proofs.Common.{[], append-nil, ◌∙◌, Err, ap, sym, refl, arith}
 use Rattle.archive_run.proofs.SiftLemmas.{end_fault, told_end, part_end}
 use Rattle.archive_run.proofs.sifting.sift.Goals as goal
 

@@ -1,5 +1,4 @@
-use Rattle.std.proofs.Common.{◌≡◌, ◌++◌, length, List}
-use Rattle.mbox_core.specs.Division.{Item}
+use Rattle.std.proofs.Common.{◌≡◌, length}
 use Rattle.mbox_stream.specs.Cutter.{IsCutter}
 use Rattle.archive_run.specs.Sifting.{sifted}
 use Rattle.archive_run.proofs.SiftLemmas.{Sent, Moved}

@@ -1,7 +1,5 @@
-use Rattle.std.proofs.Common.{◌≡◌, ◌∙◌, ℕ, List, None, w64}
+use Rattle.std.proofs.Common.{◌∙◌, None, w64}
 use Rattle.std.proofs.lemmas.Int.{to_z-of_z}
-use Rattle.archive_machine.specs.Messages.{remembered}
-use Rattle.archive_tables.specs.Rows.{message_in}
 use Rattle.archive_tables.proofs.RunLemmas.{on_fault}
 use Rattle.archive_store.proofs.walking.message_at.Goals as goal
 

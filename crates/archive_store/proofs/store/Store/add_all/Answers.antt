@@ -1,8 +1,8 @@
-use Rattle.std.proofs.Common.{◌∙◌, arith, refl, None}
+use Rattle.std.proofs.Common.{arith, refl, None}
 use Rattle.sqlite.specs.Held.{state}
 use Rattle.archive_tables.specs.Tables.{archive_of}
 use Rattle.archive_store.specs.Replies.{refusal}
-use Rattle.archive_store.proofs.BatchLemmas.{none_added, no_reason, first_taken}
+use Rattle.archive_store.proofs.BatchLemmas.{none_added, first_taken}
 use Rattle.archive_store.proofs.store.Store.add_all.Goals as goal
 
 pub returns-in-Err-clause-step : goal.returns-in-Err-clause-step

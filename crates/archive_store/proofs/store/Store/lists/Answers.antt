@@ -1,9 +1,8 @@
-use Rattle.std.proofs.Common.{◌≡◌, ℕ, List, None, refl, sym, subst, ◌∙◌}
-use Rattle.std.specs.Prelude.{⊤, map, string_bytes, IsPermutation, IsSorted}
+use Rattle.std.proofs.Common.{◌≡◌, ℕ, List, refl, ◌∙◌}
+use Rattle.std.specs.Prelude.{⊤, map, IsPermutation, IsSorted}
 use Rattle.std.specs.Cmp.Lexicographic.{slice_cmp}
 use Rattle.std.specs.Ordering.{nat_cmp}
 use Rattle.sqlite.specs.Held.{state}
-use Rattle.archive_machine.specs.Questions.{list_names}
 use Rattle.archive_machine.proofs.OrderLemmas.{names_are}
 use Rattle.archive_tables.specs.Rows.{name_shown}
 use Rattle.archive_tables.specs.Tables.{archive_of}

@@ -5,7 +5,7 @@ use Rattle.sqlite.specs.declared.types.Value.TheVariants.{Int}
 use Rattle.sqlite.specs.Held.{state}
 use Rattle.archive_machine.specs.Records.{Message}
 use Rattle.archive_tables.specs.Tables.{Numbered}
-use Rattle.archive_tables.specs.Rows.{message_shown, numbered_messages}
+use Rattle.archive_tables.specs.Rows.{message_shown}
 use Rattle.archive_tables.proofs.SelectLemmas.{first_found, none_found}
 use Rattle.archive_tables.proofs.RunLemmas.{on_fault}
 use Rattle.archive_tables.proofs.WalkLemmas.{at_found, at_rests, none_at, is_at}

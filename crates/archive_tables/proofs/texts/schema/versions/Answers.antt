@@ -1,4 +1,4 @@
-use Rattle.std.proofs.Common.{◌≡◌, pos, [], ◌∷◌, Ok, Err, Result, IfOk, IfErr, OnOk}
+use Rattle.std.proofs.Common.{◌≡◌, [], ◌∷◌, Ok, Err, Result, IfOk, IfErr, OnOk}
 use Rattle.std.specs.Prelude.{IsTrue, Vec}
 use Rattle.std.specs.List.Sorted.{IsPermutation}
 use Rattle.std.specs.declared.alloc.Global.{Global}
@@ -10,13 +10,14 @@ use Rattle.sqlite.specs.State.{State, Shown, FailsToQuery}
 use Rattle.archive_tables.specs.Tables.{IsKept, IsOfArchive}
 use Rattle.archive_tables.specs.Rows.{versions_shown}
 use Rattle.archive_tables.specs.Making.{IsBackTo}
+use Rattle.archive_tables.specs.declared.texts.schema.TheConstants.{VERSION}
 use Rattle.archive_tables.specs.Calls.{Rests}
 use Rattle.archive_tables.proofs.VersionLemmas.{number_text, numbers_found, numbers_leave, no_numbers_leave, version_found, version_not_found}
 use Rattle.archive_tables.proofs.texts.schema.versions.Goals as goal
 
 asked : (old new : State) (r : Result (Vec Row Global) Error) → IsKept old → IfOk r (λ rows. Shown number_text [] old new rows.items)
     → IfErr r (FailsToQuery number_text [] old new)
-    → IfOk r (λ rows. rows.items ≡ (Int (pos 0) ∷ []) ∷ []) × OnOk r (IsTrue new.is_open) × Rests old new
+    → IfOk r (λ rows. rows.items ≡ (Int VERSION ∷ []) ∷ []) × OnOk r (IsTrue new.is_open) × Rests old new
 asked old new (Ok rows) k ok err = version_found old new k rows.items ok
 asked old new (Err e) k ok err = (tt, tt, version_not_found old new k e err)
 
