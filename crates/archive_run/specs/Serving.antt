@@ -17,7 +17,7 @@ use Rattle.archive_run.specs.Databases.{Works}
 use Rattle.archive_run.specs.Running.{IsPolicyOf, IsPolicyCause, IsDayBy}
 use Rattle.archive_run.specs.Working.{Sent, sent, NotOpened}
 use Rattle.archive_run.specs.declared.faults.Refusal.{Refusal}
-use Rattle.archive_run.specs.declared.faults.Refusal.TheVariants.{Mbox, Policy, Store, Desk, Import, Denied, Read, Write, Clock, Net, Memory}
+use Rattle.archive_run.specs.declared.faults.Refusal.TheVariants.{Write, Clock, Net, Memory}
 use Rattle.archive_run.specs.declared.files.FileFault.{FileFault}
 
 -- what went out, and what was told of faults
