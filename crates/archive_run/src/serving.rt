@@ -1,6 +1,7 @@
 //! Serving an archive: the policy is read, the day asked and the database opened once, and then connections are answered.
-ghost use Rattle.std.specs.Prelude.{◌≡◌, Ok, Err, IfOk, IfErr, OnOk};
+ghost use Rattle.std.specs.Prelude.{◌≡◌, ◌≤◌, ℕ, List, Ok, Err, IfOk, IfErr, OnOk};
 ghost use Rattle.archive_listen.specs.declared.faults.ListenFault.{ListenFault};
+ghost use Rattle.archive_run.specs.Refusals.{TellsOf};
 ghost use Rattle.archive_run.specs.Serving.{FileServes, FileServesNot, IsServeBy, IsServeByCause, IsServeCause, IsServeDone, PortServes, PortServesNot, ServesAll, ServesNot, said};
 
 use crate::clock::DayClock;
@@ -8,7 +9,7 @@ use crate::databases::Databases;
 use crate::faults::Refusal;
 use crate::files::ReadFiles;
 use crate::ordering::asking_day;
-use crate::running::asked_policy;
+use crate::running::{asked_policy, finish};
 use archive_listen::{Listener, Listening, Ports};
 use archive_serve::{ServeStop, serve};
 use archive_store::Store;
@@ -178,9 +179,8 @@ fn serve_by<T: Threader, S: Alter, D: Databases<Store<S>>, C: DayClock, P: Ports
     )
 }
 
-/// Serves an archive: reads the policy, asks the day, opens the database, listens, says where, and answers so many connections,
-/// each that fails in one line to `faults`. A refusal ends it, and is the caller's to tell.
-pub fn run_serve<
+/// Reads the policy, asks the day, and then serves.
+fn serve_ordered<
     F: ReadFiles,
     T: Threader,
     S: Alter,
@@ -200,14 +200,11 @@ pub fn run_serve<
     output: &mut W,
     faults: &mut E,
 ) -> Result<(), Refusal>
-    // At Ok the named policy was read, the day is the one that was given or told, and the database of the name was served.
     ensures done { OnOk result (IsServeDone S.Store P.Listener.accepts P.Listener.closes P.listens D.opens D.closes ports.old ports.new
         databases.old databases.new
         (said (W.told output.old) (W.failures output.old) (E.told faults.old) (E.failures faults.old))
         (said (W.told output.new) (W.failures output.new) (E.told faults.new) (E.failures faults.new))
         C.gives clock.old clock.new F.gives files.now order.now) }
-
-    // At Err the refusal has its cause, and what comes after it was not touched.
     ensures cause { IfErr result (IsServeCause S.Store P.Listener.accepts P.Listener.closes P.listens D.opens D.closes ports.old ports.new
         databases.old databases.new
         (said (W.told output.old) (W.failures output.old) (E.told faults.old) (E.failures faults.old))
@@ -218,4 +215,50 @@ pub fn run_serve<
     serve_by(
         alloc, databases, &policy, threader, clock, ports, order, output, faults,
     )
+}
+
+/// Serves an archive: reads the policy, asks the day, opens the database, listens, says where, and answers so many connections,
+/// each that fails in one line to `faults`. It answers the exit status: 0 done, 1 refused, which one line to `faults` tells.
+pub fn run_serve<
+    F: ReadFiles,
+    T: Threader,
+    S: Alter,
+    D: Databases<Store<S>>,
+    C: DayClock,
+    P: Ports,
+    W: Sink,
+    E: Sink,
+>(
+    alloc: Global,
+    files: &F,
+    databases: &mut D,
+    threader: &T,
+    clock: &mut C,
+    ports: &mut P,
+    order: &ServeOrder<'_>,
+    output: &mut W,
+    faults: &mut E,
+) -> u8
+    ensures status { result ≤ 1 }
+
+    // At 0 the named policy was read, the day is the one that was given or told, and the database of the name was served.
+    ensures done { result ≡ 0 → IsServeDone S.Store P.Listener.accepts P.Listener.closes P.listens D.opens D.closes ports.old ports.new
+        databases.old databases.new
+        (said (W.told output.old) (W.failures output.old) (E.told faults.old) (E.failures faults.old))
+        (said (W.told output.new) (W.failures output.new) (E.told faults.new) (E.failures faults.new))
+        C.gives clock.old clock.new F.gives files.now order.now }
+
+    // At 1 one line tells the refusal, behind those of connections. It has its cause, and what comes after that was not touched.
+    ensures why { result ≡ 1 → (told : List ℕ) × (failures : ℕ) × (refusal : Refusal)
+        × (E.failures faults.new ≡ failures → TellsOf refusal told (E.told faults.new))
+        × IsServeCause S.Store P.Listener.accepts P.Listener.closes P.listens D.opens D.closes ports.old ports.new
+        databases.old databases.new
+        (said (W.told output.old) (W.failures output.old) (E.told faults.old) (E.failures faults.old))
+        (said (W.told output.new) (W.failures output.new) told failures)
+        C.gives clock.old clock.new F.gives files.now order.now refusal }
+{
+    let done = serve_ordered(
+        alloc, files, databases, threader, clock, ports, order, output, faults,
+    );
+    finish(alloc, faults, &done)
 }
