@@ -3,11 +3,16 @@
 
 #[cfg(test)]
 mod cases;
+pub mod chain;
 #[cfg(test)]
 mod exports;
+#[cfg(test)]
+mod files;
 #[cfg(test)]
 mod imports;
 #[cfg(test)]
 mod listings;
 #[cfg(test)]
 mod messages;
+#[cfg(test)]
+mod stops;

@@ -1,5 +1,6 @@
 //! The stores, and what they are told and asked.
-use crate::{devices, pages, requests};
+use crate::links::Past;
+use crate::{devices, links, pages, requests};
 use archive_pages::answer;
 use archive_store::Store;
 use civil_time::Day;
@@ -103,6 +104,34 @@ fn tell<S: Alter>(
     }
 }
 
+/// What a store is told: a case, or an archive of which all links are followed.
+#[derive(Clone, Copy, Debug, PartialEq, Eq)]
+enum Order {
+    Case(Case),
+    Links,
+    Shown(Past),
+}
+
+/// Tells a new store over memory an order. What nobody in particular is shown of an archive; else nothing.
+fn tell_new(rt: &impl Abort, alloc: Global, order: Order) -> Result<Vec<u8>, Fail> {
+    let mut store = Store::open_in_memory(alloc)?;
+    tell_order(rt, alloc, &mut store, order)
+}
+
+fn tell_order<S: Alter>(
+    rt: &impl Abort,
+    alloc: Global,
+    store: &mut Store<S>,
+    order: Order,
+) -> Result<Vec<u8>, Fail> {
+    match order {
+        Order::Case(case) => tell(rt, alloc, store, case)?,
+        Order::Links => links::links(rt, alloc, store)?,
+        Order::Shown(past) => return links::shown(rt, alloc, store, past),
+    }
+    Ok(Vec::new(alloc))
+}
+
 #[test]
 fn stores_over_memory(rt: HostRuntime) -> Result<(), Fail> {
     for case in [
@@ -114,8 +143,23 @@ fn stores_over_memory(rt: HostRuntime) -> Result<(), Fail> {
         Case::Withheld,
         Case::Alone,
     ] {
-        let mut store = Store::open_in_memory(rt.alloc())?;
-        tell(&rt, rt.alloc(), &mut store, case)?;
+        tell_new(&rt, rt.alloc(), Order::Case(case))?;
     }
+    Ok(())
+}
+
+#[test]
+fn all_links_lead_to_pages(rt: HostRuntime) -> Result<(), Fail> {
+    tell_new(&rt, rt.alloc(), Order::Links)?;
+    Ok(())
+}
+
+/// All pages that nobody in particular finds, and all that they say, are the same.
+#[test]
+fn a_withdrawn_message_leaves_no_trace(rt: HostRuntime) -> Result<(), Fail> {
+    let withdrawn = tell_new(&rt, rt.alloc(), Order::Shown(Past::Withdrawn))?;
+    let never_came = tell_new(&rt, rt.alloc(), Order::Shown(Past::NeverCame))?;
+    assert!(rt; !withdrawn.is_empty());
+    assert!(rt; withdrawn.as_slice() == never_came.as_slice());
     Ok(())
 }
