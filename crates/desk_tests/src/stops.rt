@@ -7,14 +7,14 @@ use std::alloc::Global;
 use std::process::Abort;
 use std::test::Fail;
 
-/// How many messages the file holds: three transactions of an import.
-const COUNT: u64 = 1_100;
+/// How many messages the file holds: two transactions of an import.
+const COUNT: u64 = 600;
 
 /// How many messages stand in one transaction.
 const AT_ONCE: u64 = 500;
 
 /// The calls of the disk after which it stops, in steps.
-const STEP: usize = 9;
+const STEP: usize = 40;
 
 /// A file of messages, no two the same.
 fn numbered(alloc: Global) -> Result<Vec<u8>, Fail> {
@@ -95,7 +95,7 @@ fn an_import_that_stopped_is_made_again(rt: HostRuntime) -> Result<(), Fail> {
         too_large: 0,
     };
     assert_eq!(rt; none, Some(Ok(nothing)));
-    for calls in (0..900).step_by(STEP) {
+    for calls in (0..2_000).step_by(STEP) {
         if again(&rt, rt.alloc(), fused(rt.alloc(), &files, calls)?, &mbox)? {
             return Ok(());
         }

@@ -1,4 +1,4 @@
-//! Imports the mbox on standard input and answers requests on it, and times that, for the benchmark `bench/pages.py`.
+//! Imports the mbox on standard input and answers requests on it, and times that, for the benchmark `bench/answers.py`.
 //!
 //! Without words it imports in memory, and prints the status of each request and how long its reply is. `time ROUNDS` imports
 //! in memory and `time ROUNDS FILE` into a new file, and prints nanoseconds, one number on each line, of the fastest of so

@@ -1,7 +1,7 @@
 #!/usr/bin/env python3
-"""pages.py: how long answers of the pages take beside the questions of the desk that they show.
+"""answers.py: how long answers of the pages take beside the questions of the desk that they show.
 
-  bench/pages.py [--messages 10000] [--rounds 3] [--probe PROGRAM] [--folder FOLDER]
+  bench/answers.py [--messages 10000] [--rounds 3] [--probe PROGRAM] [--folder FOLDER]
 
 Makes an mbox (bench/gen_mbox.py), which the program crates/pages_probe imports
 in memory, and then into a new file, and answers requests from bytes to bytes
