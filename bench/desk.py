@@ -52,8 +52,9 @@ def probe(program, *words, given=b""):
 def schema_of(path):
     """The texts that made the tables of a file; sqlite_sequence is SQLite's own."""
     made = sqlite3.connect(path)
-    texts = made.execute("SELECT sql FROM sqlite_schema WHERE type = 'table' AND name <> 'sqlite_sequence' ORDER BY rowid")
-    return [text for (text,) in texts.fetchall()]
+    texts = made.execute("SELECT sql FROM sqlite_schema WHERE type = 'table' AND name <> 'sqlite_sequence' ORDER BY rowid").fetchall()
+    made.close()
+    return [text for (text,) in texts]
 
 
 def stock_file(path, schema):
@@ -99,7 +100,9 @@ def compare(asked, folder, found, mbox, round):
     took = stock_import(stock, found)
     [(rows,)] = stock.execute("SELECT count(*) FROM message").fetchall()
     stock.close()
-    [(held,)] = sqlite3.connect(ours).execute("SELECT count(*) FROM message").fetchall()
+    made = sqlite3.connect(ours)
+    [(held,)] = made.execute("SELECT count(*) FROM message").fetchall()
+    made.close()
     if rows != held:
         sys.exit(f"stock SQLite holds {rows} messages, and the program's file {held}")
     os.remove(theirs)
