@@ -1,6 +1,7 @@
 //! Calls of the desk that follow one another, with what they say together proved by their contracts alone.
+ghost use Rattle.std.specs.Prelude.{◌≡◌, OnOk, IfErr};
 ghost use Rattle.archive_store.specs.Told.{Calls};
-ghost use Rattle.desk_tests.specs.Chain.{HasTold, IsBroken, IsRefused, why_stopped};
+ghost use Rattle.desk_tests.specs.Chain.{HasTold, HasWrittenPart, IsBroken, IsChainStop, IsRefused, why_stopped};
 
 use archive_desk::{DeskFault, ExportStop, ImportStop, Report, export, import, month};
 use archive_results::{Ask, Line};
@@ -40,6 +41,11 @@ pub fn import_and_ask<S: Alter, W: Sink>(
         (λ a b told. HasTold ask.now mbox.now asked (W.told out.old) (W.told out.new) a b told)
         (λ a b why. IsRefused ask.now mbox.now (W.told out.old) (W.told out.new) a b why)
         (λ a b stop. IsBroken ask.now mbox.now a b stop) }
+    ensures part { IfErr result (λ stop. HasWrittenPart S.Store store.old store.new ask.now mbox.now
+        (W.told out.old) (W.told out.new) stop) }
+    ensures quiet { OnOk result (W.failures out.new ≡ W.failures out.old) }
+    ensures cause { IfErr result (λ stop. IsChainStop (W.told out.old) (W.told out.new)
+        (W.failures out.old) (W.failures out.new) stop) }
 {
     let report = match import(store, alloc, ask.list, mbox) {
         Ok(report) => report,
