@@ -80,9 +80,10 @@ module _ {S : Type 0} (g : Ghosts S) (ask : Ask) (text : List ℕ) where
           goes_then g old asked new (HasImported ask text)
           (λ b c. (c ≡ b) × IsExportRefused (ask_reason b ask) before after (exported b ask) why.0 why.1)
           (λ a c. IsRefused ask text before after a c (not_exported why.0 why.1))
-          (λ a b c one two.
-          (subst (HasImported ask text a) (sym two.0) one,
-          subst (λ x. IsExportRefused (ask_reason x ask) before after (exported x ask) why.0 why.1) (sym two.0) two.1)) left it
+          (λ a b c one two. (
+            subst (HasImported ask text a) (sym two.0) one,
+            subst (λ x. IsExportRefused (ask_reason x ask) before after (exported x ask) why.0 why.1) (sym two.0) two.1,
+          )) left it
 
 -- ---- what was written of the export that stopped
 

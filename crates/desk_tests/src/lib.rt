@@ -2,17 +2,16 @@
 #![tactic(auto)]
 
 #[cfg(test)]
+mod asking;
+#[cfg(test)]
 mod cases;
 pub mod chain;
 #[cfg(test)]
 mod exports;
-#[cfg(test)]
-mod files;
 #[cfg(test)]
 mod imports;
 #[cfg(test)]
 mod listings;
 #[cfg(test)]
 mod messages;
-#[cfg(test)]
-mod stops;
+pub mod noting;

@@ -4,6 +4,7 @@ use archive_desk::import;
 use archive_pages::answer;
 use archive_store::{Key, Kind, Party, Store};
 use civil_time::Day;
+use desk_tests::noting::Noting;
 use mbox_core::cut;
 use mbox_core::device::Tap;
 use policy_core::Policy;
@@ -11,7 +12,7 @@ use sqlite::Alter;
 use std::alloc::Global;
 use std::process::Abort;
 use std::test::Fail;
-use thread_core::PlainThreader;
+use thread_core::{NodeThreader, PlainThreader, Threader};
 
 /// What each standing may see.
 const POLICY: &str = "
@@ -108,11 +109,12 @@ fn fill<S: Alter>(alloc: Global, store: &mut Store<S>, past: Past) -> Result<(),
     Ok(())
 }
 
-/// The reply to a request for a path.
-fn reply<S: Alter>(
+/// The reply to a request for a path, by a threader.
+fn reply<T: Threader, S: Alter>(
     alloc: Global,
     store: &mut Store<S>,
     policy: &Policy,
+    threader: &T,
     token: Option<&str>,
     path: &[u8],
 ) -> Result<Tap, Fail> {
@@ -132,7 +134,7 @@ fn reply<S: Alter>(
         store,
         alloc,
         policy,
-        &PlainThreader,
+        threader,
         today()?,
         &mut input,
         &mut output,
@@ -153,10 +155,11 @@ fn add_links(alloc: Global, paths: &mut Vec<Vec<u8>>, page: &[u8]) -> Result<(),
 }
 
 /// All replies to one reader, and how many they are: each link of each page is followed, and each reply is 200.
-fn walk<S: Alter>(
+fn walk<T: Threader, S: Alter>(
     rt: &impl Abort,
     alloc: Global,
     store: &mut Store<S>,
+    threader: &T,
     token: Option<&str>,
 ) -> Result<(Vec<u8>, usize), Fail> {
     let policy = Policy::read(alloc, POLICY)?;
@@ -167,7 +170,7 @@ fn walk<S: Alter>(
         let Some(path) = paths.get(turn) else {
             return Ok((told, turn));
         };
-        let output = reply(alloc, store, &policy, token, path)?;
+        let output = reply(alloc, store, &policy, threader, token, path)?;
         let page = output.bytes();
         assert!(rt; page.starts_with(b"HTTP/1.1 200 OK\r\n"), "page {turn}");
         if page.starts_with(b"HTTP/1.1 200 OK\r\nContent-Type: text/html") {
@@ -182,7 +185,7 @@ fn walk<S: Alter>(
 pub fn links<S: Alter>(rt: &impl Abort, alloc: Global, store: &mut Store<S>) -> Result<(), Fail> {
     fill(alloc, store, Past::Withdrawn)?;
     for (token, count) in PAGES {
-        let (_told, pages) = walk(rt, alloc, store, token)?;
+        let (_told, pages) = walk(rt, alloc, store, &PlainThreader, token)?;
         assert_eq!(rt; pages, count, "{token:?}");
     }
     Ok(())
@@ -196,6 +199,64 @@ pub fn shown<S: Alter>(
     past: Past,
 ) -> Result<Vec<u8>, Fail> {
     fill(alloc, store, past)?;
-    let (told, _pages) = walk(rt, alloc, store, None)?;
+    let (told, _pages) = walk(rt, alloc, store, &PlainThreader, None)?;
     Ok(told)
+}
+
+/// The page of all threads and that of the thread of the first message, for nobody and for a moderator, and of which messages
+/// a threader is asked. The public sees neither the withdrawn message nor the last two.
+const ASKED: [(Option<&str>, &[u8]); 2] = [
+    (None, SEEN_BY_NOBODY),
+    (Some("2222222222222222"), SEEN_BY_MODERATOR),
+];
+
+const SEEN_BY_NOBODY: &[u8] = b"";
+
+const SEEN_BY_MODERATOR: &[u8] = b"";
+
+/// For a page of threads the threader is asked once, and of the messages of the view alone.
+pub fn asking<S: Alter>(rt: &impl Abort, alloc: Global, store: &mut Store<S>) -> Result<(), Fail> {
+    fill(alloc, store, Past::Withdrawn)?;
+    let policy = Policy::read(alloc, POLICY)?;
+    let thread = thread_path(alloc, &first_key(FIRST)?)?;
+    let hidden = thread_path(alloc, &first_key(WITHDRAWN)?)?;
+    for (token, entries) in ASKED {
+        for path in [b"/l/soc/threads".as_slice(), thread.as_slice()] {
+            let noting = Noting::new(alloc);
+            let output = reply(alloc, store, &policy, &noting, token, path)?;
+            let noted = noting.into_noted();
+            assert!(rt; output.bytes().starts_with(b"HTTP/1.1 200 OK\r\n"));
+            assert_eq!(rt; (noted.joins, noted.rows), (1, 1));
+            assert_eq!(rt; noted.entries.as_slice(), entries);
+        }
+    }
+    let noting = Noting::new(alloc);
+    let output = reply(alloc, store, &policy, &noting, None, &hidden)?;
+    assert!(rt; output.bytes().starts_with(b"HTTP/1.1 404 Not Found\r\n"));
+    assert_eq!(rt; noting.into_noted().joins, 0);
+    Ok(())
+}
+
+/// The path of the thread of a message.
+fn thread_path(alloc: Global, key: &Key) -> Result<Vec<u8>, Fail> {
+    let mut path = Vec::new(alloc);
+    path.extend_from_slice(b"/l/soc/t/")?;
+    path.extend_from_slice(key.as_str().as_bytes())?;
+    Ok(path)
+}
+
+/// Both threaders give the same pages, to nobody and to each person.
+pub fn by_both<S: Alter>(
+    rt: &impl Abort,
+    alloc: Global,
+    store: &mut Store<S>,
+    nodes: &NodeThreader,
+) -> Result<(), Fail> {
+    fill(alloc, store, Past::Withdrawn)?;
+    for (token, _pages) in PAGES {
+        let (plain, _pages) = walk(rt, alloc, store, &PlainThreader, token)?;
+        let (by_nodes, _pages) = walk(rt, alloc, store, nodes, token)?;
+        assert!(rt; plain.as_slice() == by_nodes.as_slice(), "{token:?}");
+    }
+    Ok(())
 }
