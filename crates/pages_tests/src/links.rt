@@ -203,16 +203,17 @@ pub fn shown<S: Alter>(
     Ok(told)
 }
 
-/// The page of all threads and that of the thread of the first message, for nobody and for a moderator, and of which messages
-/// a threader is asked. The public sees neither the withdrawn message nor the last two.
+/// A token, and of which messages a threader is asked for a page. Without a token the withdrawn message and the last two
+/// are not seen; a moderator sees all.
 const ASKED: [(Option<&str>, &[u8]); 2] = [
     (None, SEEN_BY_NOBODY),
     (Some("2222222222222222"), SEEN_BY_MODERATOR),
 ];
 
-const SEEN_BY_NOBODY: &[u8] = b"";
+const SEEN_BY_NOBODY: &[u8] = b"|1 1 <a href=\"/nope\"> &amp;|<1> <2> |<gone> 4|<gone> 5|2 6|<2> 7";
 
-const SEEN_BY_MODERATOR: &[u8] = b"";
+const SEEN_BY_MODERATOR: &[u8] =
+    b"|1 1 <a href=\"/nope\"> &amp;|2 <1> 2|<1> <2> |<gone> 4|<gone> 5|2 6|<2> 7|<1> 8|9";
 
 /// For a page of threads the threader is asked once, and of the messages of the view alone.
 pub fn asking<S: Alter>(rt: &impl Abort, alloc: Global, store: &mut Store<S>) -> Result<(), Fail> {
