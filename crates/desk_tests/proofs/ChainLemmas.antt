@@ -38,13 +38,19 @@ module _ {S : Type 0} (g : Ghosts S) (old mid new : Store S) where
 -- ---- the three calls
 
 module _ {S : Type 0} (g : Ghosts S) (ask : Ask) (text : List ℕ) where
-  -- the file is not imported
-  pub import_stops : (old new : Store S) (before after : List ℕ) (Stops : Archive → Archive → Type 0) (r : Option (ℕ × Cause))
-      → MatchOption r (GoesIfOpen g old new Stops) (λ why. Goes g old new (λ a b. IsRefusedImport ask.list text a b why.0 why.1))
-      → MatchOption (option_map (λ (why : ℕ × Cause). not_imported why.0 why.1) r) (GoesIfOpen g old new Stops)
+  -- the file is imported into the list of the question
+  pub into_list : (old new : Store S) (list : List ℕ) (report : Report) → list ≡ ask.list → Goes g old new (λ a b. IsImported list text a b report)
+      → Goes g old new (λ a b. IsImported ask.list text a b report)
+  into_list old new list report is = subst (λ l. Goes g old new (λ a b. IsImported l text a b report)) is
+
+  -- it is not imported
+  pub import_stops : (old new : Store S) (before after list : List ℕ) (Stops : List ℕ → Archive → Archive → Type 0) (r : Option (ℕ × Cause)) → list ≡ ask.list
+      → MatchOption r (GoesIfOpen g old new (Stops list)) (λ why. Goes g old new (λ a b. IsRefusedImport list text a b why.0 why.1))
+      → MatchOption (option_map (λ (why : ℕ × Cause). not_imported why.0 why.1) r) (GoesIfOpen g old new (Stops ask.list))
       (λ why. Goes g old new (λ a b. IsRefused ask text before after a b why))
-  import_stops old new before after Stops None it = it
-  import_stops old new before after Stops (Some why) it = it
+  import_stops old new before after list Stops None is it = subst (λ l. GoesIfOpen g old new (Stops l)) is it
+  import_stops old new before after list Stops (Some why) is it =
+      subst (λ l. Goes g old new (λ a b. IsRefusedImport l text a b why.0 why.1)) is it
 
   module _ (old mid : Store S) (report : Report) (imported : Goes g old mid (λ a b. IsImported ask.list text a b report)) where
     has_imported : Goes g old mid (HasImported ask text)

@@ -1,1 +1,2 @@
 pub mod ChainLemmas
+mod ChainExamples
