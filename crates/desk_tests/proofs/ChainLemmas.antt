@@ -1,5 +1,5 @@
 -- Three calls, one after the other, from what each of them says.
-use Rattle.std.proofs.Common.{◌≡◌, refl, sym, subst, ◌++◌, ◌^◌, ◌-◌, ◌<◌, ℕ, List, length, map, min, Option, Some, None}
+use Rattle.std.proofs.Common.{◌≡◌, sym, subst, ◌++◌, ◌^◌, ◌-◌, ◌<◌, ℕ, List, length, map, min, Option, Some, None}
 use Rattle.std.specs.Prelude.{MatchOption, option_map}
 use Rattle.sqlite.specs.Store.{Ghosts}
 use Rattle.mbox_core.specs.Written.{IsCutShort}
@@ -14,7 +14,7 @@ use Rattle.archive_desk.specs.Exporting.{IsExportRefused, exported}
 use Rattle.archive_desk.specs.Faults.{Reason, ask_reason}
 use Rattle.archive_desk.specs.Importing.{Cause, IsImported, IsRefusedImport}
 use Rattle.archive_desk.specs.declared.importing.Report.{Report}
-use Rattle.desk_tests.specs.Chain.{Why, not_imported, not_listed, not_exported, HasImported, HasTold, IsRefused}
+use Rattle.desk_tests.specs.Chain.{not_imported, not_listed, not_exported, HasImported, HasTold, IsRefused}
 use Rattle.desk_tests.specs.declared.chain.Told.{Told}
 
 -- ---- a call after one that left an archive of which `First` holds

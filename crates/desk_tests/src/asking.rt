@@ -4,6 +4,7 @@ use crate::noting::Noting;
 use archive_desk::{DeskFault, import, thread, threads};
 use archive_results::{Ask, Reader, TreeLine};
 use archive_store::{Key, Kind, Party, Store};
+use civil_time::Day;
 use mbox_core::cut;
 use policy_core::Policy;
 use sqlite::Alter;
@@ -72,18 +73,41 @@ fn ask_once<S: Alter>(
     rt: &impl Abort,
     alloc: Global,
     store: &mut Store<S>,
-    ask: &Ask<'_>,
+    policy: &Policy,
     nodes: &NodeThreader,
     case: &Case,
 ) -> Result<(), Fail> {
-    let (_reader, place, times, entries) = case;
+    let (reader, place, times, entries) = *case;
+    let ask = asked_by(policy, reader, day("2003-03-20")?);
     let noting = Noting::new(alloc);
-    let noted_rows = shape(alloc, store, ask, &noting, *place)?;
+    let rows = shape(alloc, store, &ask, &noting, place)?;
     let noted = noting.into_noted();
-    assert_eq!(rt; (noted.joins, noted.rows), (*times, *times));
-    assert_eq!(rt; noted.entries.as_slice(), *entries);
-    assert!(rt; noted_rows == shape(alloc, store, ask, nodes, *place)?);
-    assert_eq!(rt; noted_rows.is_empty(), *times == 0);
+    assert_eq!(rt; (noted.joins, noted.rows), (times, times));
+    assert_eq!(rt; noted.entries.as_slice(), entries);
+    let by_nodes = shape(alloc, store, &ask, nodes, place)?;
+    assert!(rt; rows.as_slice() == by_nodes.as_slice());
+    assert_eq!(rt; rows.is_empty(), times == 0);
+    Ok(())
+}
+
+fn asked_by<'a>(policy: &'a Policy, reader: Reader<'a>, day: Day) -> Ask<'a> {
+    Ask {
+        policy,
+        reader,
+        list: "soc",
+        day,
+    }
+}
+
+/// The list of the messages, of which the first is withdrawn; `mo` is a moderator.
+fn fill<S: Alter>(alloc: Global, store: &mut Store<S>) -> Result<(), Fail> {
+    let today = day("2003-03-20")?;
+    store.list_add("soc")?;
+    store.person_add("mo", "0123456789abcdef")?;
+    store.grant("mo", "soc", Kind::Moderator, today, today)?;
+    import(store, alloc, "soc", MBOX)?;
+    let first = Key::of(&cut(MBOX)?.next().ok_or("a message")?);
+    store.withdraw("soc", &first, Party::Author)?;
     Ok(())
 }
 
@@ -94,22 +118,10 @@ pub fn asking<S: Alter>(
     store: &mut Store<S>,
     nodes: &NodeThreader,
 ) -> Result<(), Fail> {
-    store.list_add("soc")?;
-    store.person_add("mo", "0123456789abcdef")?;
-    let today = day("2003-03-20")?;
-    store.grant("mo", "soc", Kind::Moderator, today, today)?;
-    import(store, alloc, "soc", MBOX)?;
-    let first = Key::of(&cut(MBOX)?.next().ok_or("a message")?);
-    store.withdraw("soc", &first, Party::Author)?;
+    fill(alloc, store)?;
     let policy = Policy::read(alloc, WITHDRAWN)?;
     for case in CASES.iter() {
-        let ask = Ask {
-            policy: &policy,
-            reader: case.0,
-            list: "soc",
-            day: today,
-        };
-        ask_once(rt, alloc, store, &ask, nodes, case)?;
+        ask_once(rt, alloc, store, &policy, nodes, case)?;
     }
     Ok(())
 }
