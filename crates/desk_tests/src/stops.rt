@@ -73,7 +73,7 @@ fn again(
     let Some(Ok(report)) = second else {
         return Err(Fail::from("an import of the same file"));
     };
-    assert_eq!(rt; report.new + report.known, COUNT);
+    assert_eq!(rt; report.new.checked_add(report.known), Some(COUNT));
     assert!(rt;
         said <= report.known && report.known - said <= AT_ONCE,
         "{said}, {}",
