@@ -1,0 +1,106 @@
+//! Mboxes that are read piece by piece into a list.
+use crate::cases::TWO;
+use archive_desk::{ImportFault, ImportStop, Report, import, import_from};
+use archive_store::{Store, StoreFault};
+use mbox_core::MboxFault;
+use mbox_core::device::{Counted, Tap};
+use sqlite::Alter;
+use std::alloc::Global;
+use std::fmt::Write;
+use std::io::{self, Read};
+use std::process::Abort;
+use std::test::Fail;
+
+/// Where the second separator line of the two messages ends.
+const SECOND: usize = 145;
+
+/// A line that is no separator line stands first, at offset 1.
+const BROKEN: &[u8] = b"\nhi\nFrom anna@example.org Tue Mar  4 10:00:00 2003\n\nOne.\n";
+
+/// A reader that gives one byte at once.
+#[derive(Drop)]
+struct Slow<'a> {
+    rest: &'a [u8],
+}
+
+impl<'a> Read for Slow<'a> {
+    fn read(&mut self, buffer: &mut [u8]) -> io::Result<usize> {
+        let count = buffer.len().min(self.rest.len()).min(1);
+        buffer[..count].copy_from_slice(&self.rest[..count]);
+        self.rest = &self.rest[count..];
+        Ok(count)
+    }
+}
+
+fn report(new: u64, known: u64, too_large: u64) -> Report {
+    Report {
+        new,
+        known,
+        too_large,
+    }
+}
+
+/// Streams that follow one another on an empty archive.
+pub fn streams<S: Alter>(rt: &impl Abort, alloc: Global, store: &mut Store<S>) -> Result<(), Fail> {
+    store.list_add("soc")?;
+    for passes in 0..=TWO.len() {
+        stops(rt, alloc, store, passes)?;
+    }
+    for wanted in [report(1, 1, 0), report(0, 2, 0)] {
+        let mut input = Tap::new(alloc, TWO, TWO.len() + 1)?;
+        assert_eq!(rt; import_from(store, alloc, "soc", &mut input), Ok(wanted));
+    }
+    store.list_add("slow")?;
+    for wanted in [report(2, 0, 0), report(0, 2, 0)] {
+        let mut input = Counted::new(Slow { rest: TWO });
+        assert_eq!(rt; import_from(store, alloc, "slow", &mut input), Ok(wanted));
+    }
+    refused(rt, alloc, store)
+}
+
+/// A reader that fails after so many bytes: the messages that were settled are on the list, and no other.
+fn stops<S: Alter>(
+    rt: &impl Abort,
+    alloc: Global,
+    store: &mut Store<S>,
+    passes: usize,
+) -> Result<(), Fail> {
+    let mut input = Tap::new(alloc, TWO, passes)?;
+    let done = if passes < SECOND { 0 } else { 1 };
+    let stopped = ImportStop {
+        done,
+        fault: ImportFault::Mbox(MboxFault::Read),
+    };
+    assert_eq!(rt; import_from(store, alloc, "soc", &mut input), Err(stopped));
+    assert_eq!(rt; store.rows(alloc, "soc")?.len() as u64, done);
+    Ok(())
+}
+
+/// A stream that is no mbox, and one for a list that is not there, which is not read.
+fn refused<S: Alter>(rt: &impl Abort, alloc: Global, store: &mut Store<S>) -> Result<(), Fail> {
+    for (list, fault) in [
+        ("soc", ImportFault::Mbox(MboxFault::Preamble(1))),
+        ("xyz", ImportFault::Store(StoreFault::NoList)),
+    ] {
+        let mut input = Tap::new(alloc, BROKEN, 1000)?;
+        let stopped = ImportStop { done: 0, fault };
+        assert_eq!(rt; import_from(store, alloc, list, &mut input), Err(stopped));
+    }
+    Ok(())
+}
+
+/// More messages than one transaction takes: all come in their order, and the same file brings none more.
+pub fn batches<S: Alter>(rt: &impl Abort, alloc: Global, store: &mut Store<S>) -> Result<(), Fail> {
+    store.list_add("soc")?;
+    let mut mbox = String::new(alloc);
+    for number in 0..1100 {
+        write!(mbox, "From a@b Tue Mar  4 10:00:00 2003\nSubject: {number}\n\ntext\n\n")?;
+    }
+    let mut input = Tap::new(alloc, mbox.as_bytes(), mbox.len() + 1)?;
+    assert_eq!(rt; import_from(store, alloc, "soc", &mut input), Ok(report(1100, 0, 0)));
+    assert_eq!(rt; import(store, alloc, "soc", mbox.as_bytes()), Ok(report(0, 1100, 0)));
+    let rows = store.rows(alloc, "soc")?;
+    let last = rows.last().ok_or("a last message")?;
+    assert_eq!(rt; last.item.as_item().text, b"Subject: 1099\n\ntext\n".as_slice());
+    Ok(())
+}
