@@ -4,4 +4,3 @@ pub mod Faults
 pub mod Importing
 pub mod Listing
 pub mod Walking
-pub mod Streaming

@@ -8,7 +8,6 @@ mod importing;
 mod index;
 mod listing;
 mod messages;
-mod streaming;
 mod viewing;
 
 pub use exporting::{ExportStop, export, export_after};
@@ -17,5 +16,4 @@ pub use holding::export_held;
 pub use importing::{ImportFault, ImportStop, Report, import};
 pub use listing::{author, month, thread, threads};
 pub use messages::message;
-pub use streaming::import_from;
 pub use viewing::view;

@@ -1,5 +1,5 @@
 //! The worked cases for any store, and the stores that are told them.
-use crate::{exports, imports, listings, messages, streams};
+use crate::{exports, imports, listings, messages};
 use archive_results::{Ask, Reader};
 use archive_store::Store;
 use civil_time::Day;
@@ -50,8 +50,6 @@ pub enum Case {
     Messages,
     Exports,
     Listings,
-    Streams,
-    Batches,
 }
 
 /// Tells an empty store a case.
@@ -67,8 +65,6 @@ fn tell<S: Alter>(
         Case::Messages => messages::messages(rt, alloc, store),
         Case::Exports => exports::exports(rt, alloc, store),
         Case::Listings => listings::listings(rt, alloc, store),
-        Case::Streams => streams::streams(rt, alloc, store),
-        Case::Batches => streams::batches(rt, alloc, store),
     }
 }
 
@@ -80,8 +76,6 @@ fn stores_over_memory(rt: HostRuntime) -> Result<(), Fail> {
         Case::Messages,
         Case::Exports,
         Case::Listings,
-        Case::Streams,
-        Case::Batches,
     ] {
         let mut store = Store::open_in_memory(rt.alloc())?;
         tell(&rt, rt.alloc(), &mut store, case)?;

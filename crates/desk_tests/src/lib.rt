@@ -11,5 +11,3 @@ mod imports;
 mod listings;
 #[cfg(test)]
 mod messages;
-#[cfg(test)]
-mod streams;
