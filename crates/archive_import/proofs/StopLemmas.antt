@@ -17,6 +17,7 @@ use Rattle.archive_store.specs.Held.{held_of}
 use Rattle.archive_store.specs.Replies.{refusal}
 use Rattle.archive_store.specs.Told.{Goes, GoesIfOpen, Calls}
 use Rattle.archive_store.specs.declared.store.Store.{Store}
+use Rattle.archive_store.specs.declared.faults.StoreFault.TheVariants.{Memory as NoMemory}
 use Rattle.archive_store.specs.declared.batches.AddStop.{AddStop}
 use Rattle.archive_store.specs.declared.batches.Report.{Report as Counts}
 use Rattle.archive_store.proofs.Joins.{goes_on, goes_on_if_open, goes_as, goes_as_if_open, stays_there}
@@ -147,6 +148,11 @@ module _ {S : Type 0} (g : Ghosts S) (old new : Store S) (list : List ℕ) (i : 
             let after = it returned ready in
             (after.0, (λ a items w. halted_by list a _ _ items i stop.done why w low after.1 after.2)),
       )
+
+-- there are too many messages to count: nothing more is added
+pub held_stopped : {S : Type 0} (g : Ghosts S) (store : Store S) (list : List ℕ) (i : IntakeState) (Says : Archive → Archive → Unit {0} → Type 0)
+    → Calls g store store {A = Unit {0}} halt_reason (Err (record { done = i.done; fault = Stored NoMemory })) Says (HaltsAmid list i) (BreaksAmid list i)
+held_stopped g store list i Says = ((λ returned. returned), (λ returned ready up. (ready, (λ a items w. first_done list a _ items i w))))
 
 -- nothing was lent: nothing is added
 pub none_lent : {S : Type 0} (g : Ghosts S) (store : Store S) (list : List ℕ) (items : List Item) (stop : AddStop)
