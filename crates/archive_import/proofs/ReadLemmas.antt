@@ -29,7 +29,7 @@ use Rattle.archive_desk.proofs.ImportLemmas.{missing}
 use Rattle.archive_import.specs.Streaming.{Halt, no_mbox, not_read, no_room, unknown_list, full, declined, halt_by, halt_reason, FailedBy, AreRead, IsHalted, IsBroken, IsReadIn}
 use Rattle.archive_import.specs.Intake.{IntakeState, IsUnderWay, IsHaltedAdd, IsUnread, IsOfStore}
 use Rattle.archive_import.proofs.IntakeLemmas.{first_done, first_longer, none_held, none_there, under_way_first}
-use Rattle.archive_import.proofs.StopLemmas.{stopped_after, stopped_as, Grows, Keeps, Halts, Breaks, HaltsAmid, BreaksAmid}
+use Rattle.archive_import.proofs.StopLemmas.{stopped_after, stopped_as, Grows, Keeps, Halts, Breaks, HaltsAmid, BreaksAmid, Nothing}
 
 pub of_store : (fault : ImportFault) (n : ℕ) → n ≤ 1 → IsOfStore fault → FailedBy fault n
 of_store (Mbox fault) n low it = absurd it
@@ -52,15 +52,16 @@ unread_halt list items a b done full it = it
 unread_halt list items a b done (declined why) it = it
 
 module _ {S : Type 0} (g : Ghosts S) (old new : Store S) (list : List ℕ) (i : IntakeState) where
-  pub unread_added : (j : IntakeState) → Goes g old new (Keeps list i j) → j.held ≡ []
-      → Calls g old new {A = Unit {0}} halt_reason (Err (record { done = j.done; fault = Mbox Read })) (Never list i) (Unreads list i) (BreaksAmid list i)
-  unread_added j keeps none = goes_as g old new (Keeps list i j) (λ b c. Unreads list i b c (j.done, not_read))
-      (λ b c keeps a items w. let it = none_held list a c items j (keeps a items w) none in (it.0, it.1)) keeps
+  pub unread_added : (j : IntakeState) (at : ImportStop) → at ≡ record { done = j.done; fault = Mbox Read } → Goes g old new (Keeps list i j) → j.held ≡ []
+      → Calls g old new {A = Unit {0}} halt_reason (Err at) Nothing (Unreads list i) (BreaksAmid list i)
+  unread_added j at is keeps none = subst (λ s. Calls g old new {A = Unit {0}} halt_reason (Err s) Nothing (Unreads list i) (BreaksAmid list i)) (sym is)
+      (goes_as g old new (Keeps list i j) (λ b c. Unreads list i b c (j.done, not_read))
+      (λ b c keeps a items w. let it = none_held list a c items j (keeps a items w) none in (it.0, it.1)) keeps)
 
   pub unread_stopped : (j : IntakeState) (stop : ImportStop)
       → Calls g old new {A = Unit {0}} halt_reason (Err stop) (λ b c _. Keeps list i j b c) (HaltsAmid list i) (BreaksAmid list i)
-      → Calls g old new {A = Unit {0}} halt_reason (Err stop) (Never list i) (Unreads list i) (BreaksAmid list i)
-  unread_stopped j stop call = stopped_as g old new halt_reason (λ b c _. Keeps list i j b c) (Never list i) (HaltsAmid list i) (Unreads list i) (BreaksAmid list i) (BreaksAmid list i)
+      → Calls g old new {A = Unit {0}} halt_reason (Err stop) Nothing (Unreads list i) (BreaksAmid list i)
+  unread_stopped j stop call = stopped_as g old new {A = Unit {0}} {B = Unit {0}} halt_reason (λ b c _. Keeps list i j b c) Nothing (HaltsAmid list i) (Unreads list i) (BreaksAmid list i) (BreaksAmid list i)
       (λ b c why halts a items w. unread_halt list items a c why.0 why.1 (halts a items w)) (λ b c stop breaks. breaks) stop call
 
 -- ---- what was read
@@ -124,17 +125,18 @@ settled_whole text offset p = let P : List ℕ → Type 0 = λ x. IsPreamble x o
 
 module _ {S : Type 0} (g : Ghosts S) (old new : Store S) (list : List ℕ) (from items : List Item) (i j : IntakeState) (begun : Goes g old new (Begun list from items i j))
     (stream text piece : List ℕ) (ends : ℕ) (are : items ≡ settled_items stream) (e : text ≡ stream ++ piece) where
-  pub stopped_preamble : {A : Type 0} (Says : Archive → Archive → A → Type 0) (n offset : ℕ) → IsPreamble text offset → IsCounted text n offset
-      → Calls g old new halt_reason (Err (record { done = j.done; fault = Mbox (Preamble n) })) Says (HaltsRead list text ends from i) (BreaksRead list text ends from i)
-  stopped_preamble Says n offset p counted =
+  abbrev StopsAt : ImportStop → Type 0
+  StopsAt at = Calls g old new {A = Unit {0}} halt_reason (Err at) Nothing (HaltsRead list text ends from i) (BreaksRead list text ends from i)
+
+  stopped_preamble : (n offset : ℕ) → IsPreamble text offset → IsCounted text n offset → StopsAt (record { done = j.done; fault = Mbox (Preamble n) })
+  stopped_preamble n offset p counted =
       let P : List ℕ → Type 0 = λ x. IsPreamble x offset in
       let none : items ≡ [] = are ∙ settled_none stream piece offset (subst P e p) in
       goes_as g old new (Begun list from items i j) (λ b c. HaltsRead list text ends from i b c (j.done, no_mbox n))
       (λ b c begun a w. let it = none_there list a c items j (begun a w) none in (it.0, it.1, w.is_there, offset, p, counted)) begun
 
-  pub stopped_memory : {A : Type 0} (Says : Archive → Archive → A → Type 0)
-      → Calls g old new halt_reason (Err (record { done = j.done; fault = Mbox Memory })) Says (HaltsRead list text ends from i) (BreaksRead list text ends from i)
-  stopped_memory Says = goes_as g old new (Begun list from items i j) (λ b c. HaltsRead list text ends from i b c (j.done, no_room))
+  stopped_memory : StopsAt (record { done = j.done; fault = Mbox Memory })
+  stopped_memory = goes_as g old new (Begun list from items i j) (λ b c. HaltsRead list text ends from i b c (j.done, no_room))
       (λ b c begun a w. (
         settled_items text,
         inl refl,
@@ -143,28 +145,29 @@ module _ {S : Type 0} (g : Ghosts S) (old new : Store S) (list : List ℕ) (from
         w.is_there,
       )) begun
 
-  pub read_stopped : {A : Type 0} (Says : Archive → Archive → A → Type 0) (fault : MboxFault) → IsReadFault text fault → (fault ≡ Failed → ⊥) → (fault ≡ Read → ⊥)
-      → Calls g old new halt_reason (Err (record { done = j.done; fault = Mbox fault })) Says (HaltsRead list text ends from i) (BreaksRead list text ends from i)
-  read_stopped Says (Preamble n) p off other = stopped_preamble Says n p.0 (settled_whole text p.0 p.1) p.2
-  read_stopped Says Read p off other = absurd (other refl)
-  read_stopped Says Memory p off other = stopped_memory Says
-  read_stopped Says Failed p off other = absurd (off refl)
+  pub memory_stopped : (at : ImportStop) → at ≡ record { done = j.done; fault = Mbox Memory } → StopsAt at
+  memory_stopped at is = subst (λ s. StopsAt s) (sym is) stopped_memory
 
-  pub end_stopped : {A : Type 0} (Says : Archive → Archive → A → Type 0) (fault : MboxFault) → IsEndFault text fault → (fault ≡ Failed → ⊥)
-      → Calls g old new halt_reason (Err (record { done = j.done; fault = Mbox fault })) Says (HaltsRead list text ends from i) (BreaksRead list text ends from i)
-  end_stopped Says (Preamble n) p off = stopped_preamble Says n p.0 p.1 p.2
-  end_stopped Says Read p off = absurd p
-  end_stopped Says Memory p off = stopped_memory Says
-  end_stopped Says Failed p off = absurd (off refl)
+  pub preamble_stopped : (n : ℕ) (at : ImportStop) → at ≡ record { done = j.done; fault = Mbox (Preamble n) } → IsReadFault text (Preamble n) → StopsAt at
+  preamble_stopped n at is p = subst (λ s. StopsAt s) (sym is) (stopped_preamble n p.0 (settled_whole text p.0 p.1) p.2)
+
+  pub end_stopped : (fault : MboxFault) (at : ImportStop) → at ≡ record { done = j.done; fault = Mbox fault } → IsEndFault text fault → (fault ≡ Failed → ⊥) → StopsAt at
+  end_stopped fault at is p off = subst (λ s. StopsAt s) (sym is) (by_fault fault p off)
+    where
+      by_fault : (f : MboxFault) → IsEndFault text f → (f ≡ Failed → ⊥) → StopsAt (record { done = j.done; fault = Mbox f })
+      by_fault (Preamble n) p off = stopped_preamble n p.0 p.1 p.2
+      by_fault Read p off = absurd p
+      by_fault Memory p off = stopped_memory
+      by_fault Failed p off = absurd (off refl)
 
 -- ---- a stop while what was read is added
 
 module _ {S : Type 0} (g : Ghosts S) (old mid new : Store S) (list : List ℕ) (from items : List Item) (i j : IntakeState) (begun : Goes g old mid (Begun list from items i j)) where
   -- as the messages are added that wait
-  pub waiting_stopped : {A B : Type 0} (Says : Archive → Archive → A → Type 0) (Says' : Archive → Archive → B → Type 0) (text : List ℕ) (ends : ℕ) (waiting : List Item) (stop : ImportStop)
-      → AreRead text ends (items ++ waiting) → Calls g mid new {A = A} halt_reason (Err stop) Says (Halts list j waiting) (Breaks list j waiting)
-      → Calls g old new {A = B} halt_reason (Err stop) Says' (HaltsRead list text ends from i) (BreaksRead list text ends from i)
-  waiting_stopped Says Says' text ends waiting stop are call = stopped_after g old mid new halt_reason (Begun list from items i j) Says Says'
+  pub waiting_stopped : (k : IntakeState) (text : List ℕ) (ends : ℕ) (waiting : List Item) (stop : ImportStop)
+      → AreRead text ends (items ++ waiting) → Calls g mid new {A = Unit {0}} halt_reason (Err stop) (λ b c _. Grows list j k waiting b c) (Halts list j waiting) (Breaks list j waiting)
+      → Calls g old new {A = Unit {0}} halt_reason (Err stop) Nothing (HaltsRead list text ends from i) (BreaksRead list text ends from i)
+  waiting_stopped k text ends waiting stop are call = stopped_after g old mid new {A = Unit {0}} {B = Unit {0}} halt_reason (Begun list from items i j) (λ b c _. Grows list j k waiting b c) Nothing
       (Halts list j waiting) (HaltsRead list text ends from i) (Breaks list j waiting) (BreaksRead list text ends from i)
       (λ b c d why begun halts a w. halted_read list text ends (items ++ waiting) a d why.0 are why.1 w.is_there (halts a items (begun a w)))
       (λ b c d stop begun breaks a w. broken_read list text ends (items ++ waiting) a d stop.done are stop.fault (breaks a items (begun a w)))
@@ -175,7 +178,7 @@ module _ {S : Type 0} (g : Ghosts S) (old mid new : Store S) (list : List ℕ) (
       → Calls g mid new halt_reason result (Never list j) (Unreads list j) (BreaksAmid list j)
       → Calls g old new halt_reason result Says' (HaltsRead list text 0 from i) (BreaksRead list text 0 from i)
   unread_stopped_read Says' text (Ok done) never are call = absurd never
-  unread_stopped_read Says' text (Err stop) never are call = stopped_after g old mid new halt_reason (Begun list from items i j) (Never list j) Says'
+  unread_stopped_read Says' text (Err stop) never are call = stopped_after g old mid new {A = Unit {0}} {B = Unit {0}} halt_reason (Begun list from items i j) (Never list j) Says'
       (Unreads list j) (HaltsRead list text 0 from i) (BreaksAmid list j) (BreaksRead list text 0 from i)
       (λ b c d why begun unreads a w. unread_read list text items a d why.0 why.1 are w.is_there (unreads a items (begun a w)))
       (λ b c d stop begun breaks a w. broken_read list text 0 items a d stop.done (inl are) stop.fault (breaks a items (begun a w)))
@@ -197,7 +200,7 @@ module _ {S : Type 0} (g : Ghosts S) (old mid new : Store S) (list : List ℕ) (
           let it = none_held list a c items k (h.2 a items (h.1 a w)) none in
           (refl, record { is_there = w.is_there; items = items; divided = divides; added = record { archive_is = it.1; told = it.2 } }))
       (goes_on g old mid new (Begun list from items i j) (Keeps list j k) begun keeps)
-  last_says text k (Err stop) divides none call = stopped_after g old mid new halt_reason (Begun list from items i j) (λ b c _. Keeps list j k b c)
+  last_says text k (Err stop) divides none call = stopped_after g old mid new {A = Unit {0}} {B = Unit {0}} halt_reason (Begun list from items i j) (λ b c _. Keeps list j k b c)
       (λ b c _. (a : Archive) → IsUnderWay list a b from i → IsReadIn list text 1 a c k.report)
       (HaltsAmid list j) (HaltsRead list text 1 from i) (BreaksAmid list j) (BreaksRead list text 1 from i)
       (λ b c d why begun halts a w. halted_read list text 1 items a d why.0 (inr (refl, divides)) why.1 w.is_there (halts a items (begun a w)))
@@ -212,6 +215,10 @@ pub begun_at : {S : Type 0} (g : Ghosts S) (old new : Store S) (list : List ℕ)
     → Goes g old new (Begun list from items i j) → Goes g old new (Begun list from all i j)
 begun_at g old new list from items all i j e begun = goes_as g old new (Begun list from items i j) (Begun list from all i j)
     (λ b c begun a w. subst (λ is. IsUnderWay list a c is j) (sym e) (begun a w)) begun
+
+-- those that were taken and those that wait
+pub settled_given : (d : CutterState) (taken : List Item) → IsCutter d → d.standing ≡ Open → d.taken ≡ taken → taken ++ d.waiting ≡ settled_items d.stream
+settled_given d taken g o t = ap (λ is. is ++ d.waiting) (sym t) ∙ given_open d g o
 
 -- the messages of the whole input
 pub ended_divides : (c d : CutterState) → IsCutter d → d.standing ≡ Finished → d.stream ≡ c.stream → d.taken ≡ c.taken → Divides c.stream (c.taken ++ d.waiting)
@@ -239,7 +246,7 @@ module _ {S : Type 0} (g : Ghosts S) (old new : Store S) (list : List ℕ) where
     where
       by_reason : (r : Option Refusal)
           → MatchOption r (GoesIfOpen g old new (λ a b. b ≡ a)) (λ why. Goes g old new (λ a b. (b ≡ a) × (list_refusal a list ≡ Some why)))
-          → MatchOption (option_map (λ (halt : Halt). (0, halt)) (option_map halt_by r)) (GoesIfOpen g old new (λ a b. IsBroken list [] 0 a b 0 (Stored fault)))
+          → MatchOption {T = ℕ × Halt} (option_map (λ (halt : Halt). (0, halt)) (option_map halt_by r)) (GoesIfOpen g old new (λ a b. IsBroken list [] 0 a b 0 (Stored fault)))
           (λ why. Goes g old new (λ a b. IsHalted list [] 0 a b why.0 why.1))
       by_reason None it = goes_as_if_open g old new (λ a b. b ≡ a) (λ a b. IsBroken list [] 0 a b 0 (Stored fault))
           (λ a b same. (settled_items [], inl refl, nothing_broken a b same)) it
@@ -256,20 +263,20 @@ module _ {S : Type 0} (g : Ghosts S) (old mid new : Store S) (list : List ℕ) (
   found_begun items j begun = goes_as g old new (λ a c. (b : Archive) × IsFound list a b × Begun list [] items i j b c) (λ a c. IsUnderWay list a c items j)
       (λ a c h. h.2 a (started a h.0 h.1)) (goes_on g old mid new (IsFound list) (Begun list [] items i j) found begun)
 
-  pub settled_stopped : {A : Type 0} (Says : Archive → Archive → A → Type 0) (text : List ℕ) (stop : ImportStop)
-      → Calls g mid new halt_reason (Err stop) Says (HaltsRead list text 0 [] i) (BreaksRead list text 0 [] i)
+  pub settled_stopped : (text : List ℕ) (stop : ImportStop)
+      → Calls g mid new {A = Unit {0}} halt_reason (Err stop) Nothing (HaltsRead list text 0 [] i) (BreaksRead list text 0 [] i)
       → Calls g old new {A = Report} halt_reason (Err stop) (λ a b report. IsReadIn list text 0 a b report) (λ a b why. IsHalted list text 0 a b why.0 why.1)
       (λ a b stop. IsBroken list text 0 a b stop.done stop.fault)
-  settled_stopped Says text stop call = stopped_after g old mid new halt_reason (IsFound list) Says (λ a b report. IsReadIn list text 0 a b report)
+  settled_stopped text stop call = stopped_after g old mid new {A = Unit {0}} {B = Report} halt_reason (IsFound list) Nothing (λ a b report. IsReadIn list text 0 a b report)
       (HaltsRead list text 0 [] i) (λ a b why. IsHalted list text 0 a b why.0 why.1) (BreaksRead list text 0 [] i) (λ a b stop. IsBroken list text 0 a b stop.done stop.fault)
       (λ a b c why it halts. halts a (started a b it)) (λ a b c stop it breaks. breaks a (started a b it)) stop found call
 
 module _ {S : Type 0} (g : Ghosts S) (old mid new : Store S) (list text : List ℕ) (items : List Item) (j : IntakeState) (before : Goes g old mid (λ a c. IsUnderWay list a c items j)) where
-  pub last_stopped : {A : Type 0} (Says : Archive → Archive → A → Type 0) (stop : ImportStop)
-      → Calls g mid new halt_reason (Err stop) Says (HaltsRead list text 1 items j) (BreaksRead list text 1 items j)
+  pub last_stopped : (stop : ImportStop)
+      → Calls g mid new {A = Unit {0}} halt_reason (Err stop) Nothing (HaltsRead list text 1 items j) (BreaksRead list text 1 items j)
       → Calls g old new {A = Report} halt_reason (Err stop) (λ a b report. IsReadIn list text 1 a b report) (λ a b why. IsHalted list text 1 a b why.0 why.1)
       (λ a b stop. IsBroken list text 1 a b stop.done stop.fault)
-  last_stopped Says stop call = stopped_after g old mid new halt_reason (λ a c. IsUnderWay list a c items j) Says (λ a b report. IsReadIn list text 1 a b report)
+  last_stopped stop call = stopped_after g old mid new {A = Unit {0}} {B = Report} halt_reason (λ a c. IsUnderWay list a c items j) Nothing (λ a b report. IsReadIn list text 1 a b report)
       (HaltsRead list text 1 items j) (λ a b why. IsHalted list text 1 a b why.0 why.1) (BreaksRead list text 1 items j) (λ a b stop. IsBroken list text 1 a b stop.done stop.fault)
       (λ a b c why it halts. halts a it) (λ a b c stop it breaks. breaks a it) stop before call
 

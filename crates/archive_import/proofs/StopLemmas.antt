@@ -95,6 +95,10 @@ halted_by list a b c items i k not_withdrawn w low is it = absurd it
 halted_by list a b c items i k bad_days w low is it = absurd it
 halted_by list a b c items i k too_large w low is it = absurd it
 
+-- what no stop says
+abbrev pub Nothing : Archive → Archive → Unit {0} → Type 0
+Nothing a b _ = Unit {0}
+
 -- these messages more, once so much is held and done
 abbrev pub Grows : (list : List ℕ) → (i j : IntakeState) → (more : List Item) → Archive → Archive → Type 0
 Grows list i j more b c = (a : Archive) (items : List Item) → IsUnderWay list a b items i → IsUnderWay list a c (items ++ more) j
@@ -126,10 +130,10 @@ module _ {S : Type 0} (g : Ghosts S) (old new : Store S) (list : List ℕ) (i : 
         (it.0, (λ a items w. all_added list a _ items i w _ j (tally_of counts) it.1 it.2 none done more)),
   )
 
-  pub add_stopped : (stop : AddStop) (Says : Archive → Archive → Unit {0} → Type 0) → WasClean g (held_of old) (held_of new)
+  pub add_stopped : (stop : AddStop) (at : ImportStop) → at ≡ record { done = i.done + stop.done; fault = Stored stop.fault } → WasClean g (held_of old) (held_of new)
       → AddsAll g (held_of old) (held_of new) (Err stop) list i.held → stop.done ≤ length i.held
-      → Calls g old new {A = Unit {0}} halt_reason (Err (record { done = i.done + stop.done; fault = Stored stop.fault })) Says (HaltsAmid list i) (BreaksAmid list i)
-  add_stopped stop Says was adds low = by_reason (refusal stop.fault) adds
+      → Calls g old new {A = Unit {0}} halt_reason (Err at) Nothing (HaltsAmid list i) (BreaksAmid list i)
+  add_stopped stop at is was adds low = subst (λ s. Calls g old new {A = Unit {0}} halt_reason (Err s) Nothing (HaltsAmid list i) (BreaksAmid list i)) (sym is) (by_reason (refusal stop.fault) adds)
     where
       by_reason : (r : Option Refusal)
           → (HasCleanDisk (state g (held_of new)) → IsKept (state g (held_of old)) → MatchOption r (IsAfter (state g (held_of new)) (archive_of (state g (held_of old))) list (take stop.done i.held))
@@ -150,14 +154,10 @@ module _ {S : Type 0} (g : Ghosts S) (old new : Store S) (list : List ℕ) (i : 
       )
 
 -- there are too many messages to count: nothing more is added
-pub held_stopped : {S : Type 0} (g : Ghosts S) (store : Store S) (list : List ℕ) (i : IntakeState) (Says : Archive → Archive → Unit {0} → Type 0)
-    → Calls g store store {A = Unit {0}} halt_reason (Err (record { done = i.done; fault = Stored NoMemory })) Says (HaltsAmid list i) (BreaksAmid list i)
-held_stopped g store list i Says = ((λ returned. returned), (λ returned ready up. (ready, (λ a items w. first_done list a _ items i w))))
-
--- nothing was lent: nothing is added
-pub none_lent : {S : Type 0} (g : Ghosts S) (store : Store S) (list : List ℕ) (items : List Item) (stop : AddStop)
-    → stop.done ≡ 0 → refusal stop.fault ≡ None → AddsAll g (held_of store) (held_of store) (Err stop) list items
-none_lent g store list items stop none no_reason = λ clean kept. rw no_reason (λ up. (kept, run_nothing _ ∙ ap (λ n. (taken (archive_of (state g (held_of store))) list (take n items)).archive) (sym none)))
+pub held_stopped : {S : Type 0} (g : Ghosts S) (store : Store S) (list : List ℕ) (i : IntakeState) (at : ImportStop) → at ≡ record { done = i.done; fault = Stored NoMemory }
+    → Calls g store store {A = Unit {0}} halt_reason (Err at) Nothing (HaltsAmid list i) (BreaksAmid list i)
+held_stopped g store list i at is = subst (λ s. Calls g store store {A = Unit {0}} halt_reason (Err s) Nothing (HaltsAmid list i) (BreaksAmid list i)) (sym is)
+    ((λ returned. returned), (λ returned ready up. (ready, (λ a items w. first_done list a _ items i w))))
 
 -- ---- a message more is held
 
@@ -194,19 +194,28 @@ module _ {S : Type 0} (g : Ghosts S) (list : List ℕ) where
         (λ b c h a items w. subst (λ is. IsUnderWay list a c is k) (append_assoc items more next) (h.2 a (items ++ more) (h.1 a items w)))
         (goes_on g old mid new (Grows list i j more) (Grows list j k next) before then)
 
-    pub grows_stopped : (k k' : IntakeState) (rest : List Item) (stop : ImportStop)
+    pub grows_stopped : (k : IntakeState) (rest all : List Item) (stop : ImportStop) → all ≡ more ++ (next ++ rest)
         → Calls g mid new {A = Unit {0}} halt_reason (Err stop) (λ b c _. Grows list j k next b c) (Halts list j next) (Breaks list j next)
-        → Calls g old new {A = Unit {0}} halt_reason (Err stop) (λ b c _. Grows list i k' (more ++ (next ++ rest)) b c) (Halts list i (more ++ (next ++ rest))) (Breaks list i (more ++ (next ++ rest)))
-    grows_stopped k k' rest stop call = stopped_after g old mid new halt_reason (Grows list i j more) (λ b c _. Grows list j k next b c)
-        (λ b c _. Grows list i k' (more ++ (next ++ rest)) b c) (Halts list j next) (Halts list i (more ++ (next ++ rest))) (Breaks list j next) (Breaks list i (more ++ (next ++ rest)))
+        → Calls g old new {A = Unit {0}} halt_reason (Err stop) Nothing (Halts list i all) (Breaks list i all)
+    grows_stopped k rest all stop e call = stopped_after g old mid new {A = Unit {0}} {B = Unit {0}} halt_reason (Grows list i j more) (λ b c _. Grows list j k next b c)
+        Nothing (Halts list j next) (Halts list i all) (Breaks list j next) (Breaks list i all)
         (λ b c d why grown halts a items w. subst (λ is. IsHaltedAdd list is a d why.0 why.1) (joined items)
         (halted_longer list ((items ++ more) ++ next) rest a d why.0 why.1 (halts a (items ++ more) (grown a items w))))
         (λ b c d stop grown breaks a items w. subst (λ is. IsBrokenAdd list is a d stop.done stop.fault) (joined items)
         (broken_longer list ((items ++ more) ++ next) rest a d stop.done stop.fault (breaks a (items ++ more) (grown a items w))))
         stop before call
       where
-        joined : (items : List Item) → ((items ++ more) ++ next) ++ rest ≡ items ++ (more ++ (next ++ rest))
-        joined items = append_assoc (items ++ more) next rest ∙ append_assoc items more (next ++ rest)
+        joined : (items : List Item) → ((items ++ more) ++ next) ++ rest ≡ items ++ all
+        joined items = append_assoc (items ++ more) next rest ∙ append_assoc items more (next ++ rest) ∙ ap (λ is. items ++ is) (sym e)
+
+-- those that were held are not added, and so no further message is
+pub held_not_added : {S : Type 0} (g : Ghosts S) (old new : Store S) (list : List ℕ) (i j : IntakeState) (more : List Item) (stop : ImportStop)
+    → Calls g old new {A = Unit {0}} halt_reason (Err stop) (λ b c _. Keeps list i j b c) (HaltsAmid list i) (BreaksAmid list i)
+    → Calls g old new {A = Unit {0}} halt_reason (Err stop) Nothing (Halts list i more) (Breaks list i more)
+held_not_added g old new list i j more stop call = stopped_as g old new {A = Unit {0}} {B = Unit {0}} halt_reason (λ b c _. Keeps list i j b c) Nothing
+    (HaltsAmid list i) (Halts list i more) (BreaksAmid list i) (Breaks list i more)
+    (λ b c why halts a items w. halted_longer list items more a c why.0 why.1 (halts a items w))
+    (λ b c stop breaks a items w. broken_longer list items more a c stop.done stop.fault (breaks a items w)) stop call
 
 -- some of those that waited are taken
 pub record Moved (taken waiting taken_now waiting_now : List Item) : Type 0 where
@@ -214,10 +223,10 @@ pub record Moved (taken waiting taken_now waiting_now : List Item) : Type 0 wher
   pub was : waiting ≡ done ++ waiting_now
   pub is : taken_now ≡ taken ++ done
 
-pub moved_none : (taken waiting : List Item) → Moved taken waiting taken waiting
+abbrev pub moved_none : (taken waiting : List Item) → Moved taken waiting taken waiting
 moved_none taken waiting = record { done = []; was = refl; is = sym (append-nil taken) }
 
-pub moved_one : (taken waiting t w t2 w2 : List Item) (i : Item) → Moved taken waiting t w → w ≡ i ∷ w2 → t2 ≡ t ++ i ∷ [] → Moved taken waiting t2 w2
+abbrev pub moved_one : (taken waiting t w t2 w2 : List Item) (i : Item) → Moved taken waiting t w → w ≡ i ∷ w2 → t2 ≡ t ++ i ∷ [] → Moved taken waiting t2 w2
 moved_one taken waiting t w t2 w2 i m e f = record {
   done = m.done ++ i ∷ [];
   was = m.was ∙ ap (λ x. m.done ++ x) e ∙ sym (append_assoc m.done (i ∷ []) w2);

@@ -101,7 +101,15 @@ fn add_settled<S: Alter, R: Source>(
             Ok(true) => {}
             Ok(false) => return Ok(()),
             Err(MboxFault::Read) => return stop_unread(store, alloc, list, intake),
-            Err(fault) => return Err(intake.stop(ImportFault::Mbox(fault))),
+            Err(MboxFault::Preamble(at)) => {
+                return Err(intake.stop(ImportFault::Mbox(MboxFault::Preamble(at))));
+            }
+            Err(MboxFault::Memory) => {
+                return Err(intake.stop(ImportFault::Mbox(MboxFault::Memory)));
+            }
+            Err(MboxFault::Failed) => {
+                return Err(intake.stop(ImportFault::Mbox(MboxFault::Failed)));
+            }
         }
         match add_waiting(store, alloc, list, cutter, intake) {
             Ok(()) => {}

@@ -96,7 +96,7 @@ impl Intake {
         ensures { IsTrue result → IsSmall (self.now.held ++ item.now ∷ []) }
     {
         self.held.len() < MESSAGES_AT_ONCE
-            && item.text().len() <= BYTES_AT_ONCE.saturating_sub(self.bytes)
+            && self.bytes.saturating_add(item.text().len()) <= BYTES_AT_ONCE
     }
 
     /// Holds a message more. M3: there was no memory for it.
