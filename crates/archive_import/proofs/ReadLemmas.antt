@@ -197,8 +197,8 @@ module _ {S : Type 0} (g : Ghosts S) (old mid new : Store S) (list : List ℕ) (
   last_says text k (Ok done) divides none keeps = goes_as g old new (λ a c. (b : Archive) × Begun list from items i j a b × Keeps list j k b c)
       (λ b c. (a : Archive) → IsUnderWay list a b from i → IsReadIn list text 1 a c k.report)
       (λ b c h a w.
-          let it = none_held list a c items k (h.2 a items (h.1 a w)) none in
-          (refl, record { is_there = w.is_there; items = items; divided = divides; added = record { archive_is = it.1; told = it.2 } }))
+      let it = none_held list a c items k (h.2 a items (h.1 a w)) none in
+      (refl, record { is_there = w.is_there; items = items; divided = divides; added = record { archive_is = it.1; told = it.2 } }))
       (goes_on g old mid new (Begun list from items i j) (Keeps list j k) begun keeps)
   last_says text k (Err stop) divides none call = stopped_after g old mid new {A = Unit {0}} {B = Unit {0}} halt_reason (Begun list from items i j) (λ b c _. Keeps list j k b c)
       (λ b c _. (a : Archive) → IsUnderWay list a b from i → IsReadIn list text 1 a c k.report)
@@ -252,8 +252,8 @@ module _ {S : Type 0} (g : Ghosts S) (old new : Store S) (list : List ℕ) where
           (λ a b same. (settled_items [], inl refl, nothing_broken a b same)) it
       by_reason (Some why) it = goes_as g old new (λ a b. (b ≡ a) × (list_refusal a list ≡ Some why)) (λ a b. IsHalted list [] 0 a b 0 (halt_by why))
           (λ a b h.
-              let it = missing a list why h.1 in
-              subst (λ r. IsHalted list [] 0 a b 0 (halt_by r)) it.0 (refl, h.0, it.1, refl, refl)) it
+          let it = missing a list why h.1 in
+          subst (λ r. IsHalted list [] 0 a b 0 (halt_by r)) it.0 (refl, h.0, it.1, refl, refl)) it
 
 module _ {S : Type 0} (g : Ghosts S) (old mid new : Store S) (list : List ℕ) (i : IntakeState) (is : i ≡ no_intake) (found : Goes g old mid (IsFound list)) where
   started : (a b : Archive) → IsFound list a b → IsUnderWay list a b [] i
