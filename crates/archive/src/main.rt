@@ -73,7 +73,7 @@ fn serve_streams(rt: &HostRuntime, asked: &ServeOrder<'_>) -> u8 {
         tell(alloc, &mut faults, &Refusal::Memory);
         return REFUSED;
     };
-    let served = run_serve(
+    run_serve(
         alloc,
         &files,
         &mut databases,
@@ -83,14 +83,7 @@ fn serve_streams(rt: &HostRuntime, asked: &ServeOrder<'_>) -> u8 {
         asked,
         &mut output,
         &mut faults,
-    );
-    match served {
-        Ok(()) => DONE,
-        Err(refusal) => {
-            tell(alloc, &mut faults, &refusal);
-            REFUSED
-        }
-    }
+    )
 }
 
 /// Serves where that is the order, and else carries out what the words order.

@@ -26,7 +26,7 @@ use std::alloc::{AllocError, Global};
 /// Adds the messages of an mbox (RFC 4155) to a list, as `import` does, and reads it piece by piece: it holds the messages
 /// of one transaction and one piece. The list is looked up before the first read: E4 where there is no such list. M1: the
 /// first line that is not empty is no separator line; nothing was added. M2: a read failed, and all messages that were
-/// settled before it were done. M3: no memory was left to hold a message, or there were 2^64 reads or messages. E12, E14,
+/// settled before it were done. M3: no memory was left to hold a message, or there were 2^64 reads. E12, E14 (also after 2^64 messages),
 /// E15 as of `import`. After each stop the first `done` messages were taken in, known or too large, and no other was
 /// taken in; the same input can be imported again.
 pub fn import_from<S: Alter, R: Source>(

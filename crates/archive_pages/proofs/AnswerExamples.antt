@@ -7,8 +7,20 @@ use Rattle.policy_core.specs.declared.access.Standing.TheVariants.{Public}
 use Rattle.policy_core.specs.declared.access.Withdrawn.TheVariants.{Author, Board}
 use Rattle.archive_machine.specs.Records.{Archive}
 use Rattle.archive_results.specs.Access.{marks_of, ruling_on}
-use Rattle.civil_time.specs.Texts.{month_text}
-use Rattle.archive_html.specs.Rows.{list_row}
+use Rattle.civil_time.specs.Dates.{year_after, month_after, date_after}
+use Rattle.civil_time.specs.Texts.{month_text, instant_text, instant_month_text}
+use Rattle.mail_core.specs.Lines.{lines, is_empty_line, content}
+use Rattle.mail_core.specs.Fields.{fields_of, header_blocks, unfolded}
+use Rattle.mail_core.specs.Tokens.{tokens_of, tokens_from, token_at, kind_of}
+use Rattle.mail_core.specs.Sent.{date_at}
+use Rattle.mail_core.specs.MsgIds.{ids_from}
+use Rattle.subject_core.specs.BaseSubject.{rest_within, next_of}
+use Rattle.subject_core.specs.Spaces.{spaced}
+use Rattle.subject_core.specs.Removal.{without_trailer, after, after_closing, without_leader, after_leader, after_refwd, without_blob, without_pair, after_spaces}
+use Rattle.subject_core.specs.Front.{without_front}
+use Rattle.mbox_core.specs.Written.{time_text}
+use Rattle.archive_html.specs.Links.{month_link, author_link, subject_text, message_link, thread_link}
+use Rattle.archive_html.specs.Rows.{list_row, message_row, tree_row}
 use Rattle.archive_html.specs.Pages.{page_head, page_foot}
 use Rattle.archive_pages.specs.Replies.{Reply, head_bytes, reply_bytes, bad_request, unauthorized, not_allowed, not_found}
 use Rattle.archive_pages.specs.Answers.{reply_of}
@@ -87,6 +99,9 @@ two = record soc {
       ∷ record { list = codes "soc"; key = codes "2222222222222222222222222222222222222222222222222222222222222222"; sender = codes "bob@example.org"; arrival = pos 1047465000; text = codes "Subject: Re: Hello\n\nTwo.\n"; withdrawn = pos 0; embargo = None } ∷ [];
 }
 
+abbrev moderated : Archive
+moderated = record two { grants = record { person = codes "mo"; list = codes "soc"; rank = pos 3; from_day = pos 12000; until_day = pos 13000 } ∷ [] }
+
 -- the public sees no withdrawn message
 abbrev example : List Rule
 example = record open_rule { name = codes "withdrawn"; allows = false; standings = Some (Public ∷ []); withdrawn = Some (Author ∷ Board ∷ []) }
@@ -101,3 +116,21 @@ a_message : reply_bytes (reply_of two example (pos 12131) (asks (codes "GET") (c
     ≡ codes "HTTP/1.1 200 OK\r\nContent-Type: message/rfc822\r\nContent-Length: 25\r\nConnection: close\r\n\r\nSubject: Re: Hello\n\nTwo.\n"
 unfolding digits head_bytes marks_of ruling_on
 a_message = refl
+
+-- the threads show nothing of it, as if it had never come
+its_threads : reply_bytes (reply_of two example (pos 12131) (asks (codes "GET") (codes "/l/soc/threads") []))
+    ≡ codes "HTTP/1.1 200 OK\r\nContent-Type: text/html; charset=us-ascii\r\nContent-Length: 380\r\nConnection: close\r\n\r\n<!DOCTYPE html>\n<html><head><title>soc: threads</title></head><body>\n<h1>soc: threads</h1>\n<div class=\"d0\"><a href=\"/l/soc/month/2003-03\">2003-03-12 10:30</a> (none) <a href=\"/l/soc/m/2222222222222222222222222222222222222222222222222222222222222222\">Re: Hello</a> <a href=\"/l/soc/t/2222222222222222222222222222222222222222222222222222222222222222\">thread</a></div>\n</body></html>\n"
+unfolding head_bytes lines is_empty_line content fields_of header_blocks unfolded tokens_of tokens_from token_at kind_of date_at ids_from rest_within spaced next_of without_trailer after after_closing without_leader after_leader after_refwd without_blob without_pair after_spaces without_front page_head page_foot tree_row message_row month_link author_link subject_text message_link thread_link instant_text instant_month_text date_after year_after month_after digits marks_of ruling_on
+its_threads = refl
+
+-- a moderator reads both, the second below the first: it has no reference, but the subject of a reply
+its_threads_for_a_moderator : reply_bytes (reply_of moderated example (pos 12131) (asks (codes "GET") (codes "/l/soc/threads") (authorization (codes "Bearer 0123456789abcdef") ∷ [])))
+    ≡ codes "HTTP/1.1 200 OK\r\nContent-Type: text/html; charset=us-ascii\r\nContent-Length: 703\r\nConnection: close\r\n\r\n<!DOCTYPE html>\n<html><head><title>soc: threads</title></head><body>\n<h1>soc: threads</h1>\n<div class=\"d0\"><a href=\"/l/soc/month/2003-03\">2003-03-04 10:00</a> <a href=\"/l/soc/by/anna%40example.org\">anna@example.org</a> <a href=\"/l/soc/m/1111111111111111111111111111111111111111111111111111111111111111\">Hello</a> <a href=\"/l/soc/t/1111111111111111111111111111111111111111111111111111111111111111\">thread</a></div>\n<div class=\"d1\"><a href=\"/l/soc/month/2003-03\">2003-03-12 10:30</a> (none) <a href=\"/l/soc/m/2222222222222222222222222222222222222222222222222222222222222222\">Re: Hello</a> <a href=\"/l/soc/t/2222222222222222222222222222222222222222222222222222222222222222\">thread</a></div>\n</body></html>\n"
+unfolding trim_ows head_bytes lines is_empty_line content fields_of header_blocks unfolded tokens_of tokens_from token_at kind_of date_at ids_from rest_within spaced next_of without_trailer after after_closing without_leader after_leader after_refwd without_blob without_pair after_spaces without_front page_head page_foot tree_row message_row month_link author_link subject_text message_link thread_link instant_text instant_month_text date_after year_after month_after digits marks_of ruling_on
+its_threads_for_a_moderator = refl
+
+-- nor does the mbox hold it
+its_mbox : reply_bytes (reply_of two example (pos 12131) (asks (codes "GET") (codes "/l/soc/mbox") []))
+    ≡ codes "HTTP/1.1 200 OK\r\nContent-Type: application/mbox\r\nConnection: close\r\n\r\nFrom bob@example.org Wed Mar 12 10:30:00 2003\nSubject: Re: Hello\n\nTwo.\n\n"
+unfolding digits head_bytes marks_of ruling_on date_after year_after month_after time_text
+its_mbox = refl

@@ -1,17 +1,26 @@
 -- A request after a run of commands, and after another request.
 use Rattle.std.proofs.Common.{◌≡◌, ◌++◌, inl, inr, ℕ, ℤ, List, Result, Ok, Err, refl, subst}
 use Rattle.std.specs.Prelude.{◌≢◌, IfOk}
+use Rattle.sqlite_disk.specs.declared.Disk.{Ghosts as DiskGhosts}
+use Rattle.sqlite_disk.specs.declared.Files.{Files}
+use Rattle.sqlite_wal.specs.Reads.{AreClean}
+use Rattle.sqlite_store.specs.declared.store.FileStore.{FileStore}
 use Rattle.sqlite.specs.Store.{Ghosts}
+use Rattle.sqlite.specs.Held.{Held}
+use Rattle.sqlite.specs.State.{IsLive}
+use Rattle.sqlite.specs.Files.{over_files, file_state, Finds, IsOpened}
+use Rattle.sqlite.specs.Closing.{IsCopied}
 use Rattle.httparse.specs.Grammar.{RequestHead, HasNoRequest}
 use Rattle.policy_core.specs.Rules.{Rule}
 use Rattle.archive_machine.specs.Records.{Archive}
-use Rattle.archive_store.specs.Told.{IsReady, archive_in, HasReturned, Goes}
+use Rattle.archive_store.specs.Told.{HoldsArchive, IsReady, archive_in, HasReturned, Goes}
 use Rattle.archive_store.specs.declared.store.Store.{Store}
 use Rattle.archive_pages.specs.Replies.{Sends, Is, unavailable}
 use Rattle.archive_pages.specs.Answers.{reply_of}
 use Rattle.archive_pages.specs.Serving.{Serves, Stays}
 use Rattle.archive_pages.specs.Answered.{IsAnswered, Reads, ByOutcome, written_of}
 use Rattle.archive_pages.specs.Running.{IsAnsweredFrom, AnswersFrom}
+use Rattle.archive_pages.specs.Reopened.{AnswersReopened}
 use Rattle.archive_pages.specs.declared.faults.ServeFault.{ServeFault}
 use Rattle.archive_pages.specs.declared.faults.ServeFault.TheVariants.{Read, Write}
 use Rattle.archive_pages.proofs.ServingLemmas.{sends_as, ok_as}
@@ -79,3 +88,13 @@ pub answers_first : {S : Type 0} (g : Ghosts S) (old mid : Store S) → HasRetur
     → AnswersFrom (archive_in g old) rules day told_before told_after ends_before ends_after before after result
 answers_first g old mid returned ready rules day result told_before told_after ends_before ends_after before after said =
     answers_from g old mid (archive_in g old) returned (λ was. (ready, refl)) rules day result told_before told_after ends_before ends_after before after said
+
+-- ---- a file that was closed and opened again
+
+module _ {D : Type 0} {g : DiskGhosts D} (closed opened : Held (FileStore D g)) (files : Files D) (store new : Store (FileStore D g)) (archive : Archive)
+    (again : HoldsArchive over_files closed archive → IsLive (file_state closed) → (AreClean g files.log files.db → IsCopied closed files)
+    → Finds files opened → IsOpened opened → HoldsArchive over_files opened archive) where
+  pub answers_reopened : AnswersReopened closed opened files store new archive
+  answers_reopened holds it returned rules day read_before read_after ends_before ends_after told_before told_after result said =
+      answers_from over_files store new archive returned (λ was. it.adopted archive (again holds it.live it.copied it.found it.opens) was) rules day
+      result read_before read_after ends_before ends_after told_before told_after said

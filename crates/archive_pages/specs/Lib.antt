@@ -5,3 +5,4 @@ pub mod Laws
 pub mod Serving
 pub mod Answered
 pub mod Running
+pub mod Reopened

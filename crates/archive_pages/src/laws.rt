@@ -2,9 +2,17 @@
 //! does anything.
 ghost use Rattle.std.specs.Prelude.{ℤ, List};
 ghost use Rattle.httparse.specs.Grammar.{RequestHead};
+ghost use Rattle.sqlite_disk.specs.declared.Files.{Files};
+ghost use Rattle.sqlite_store.specs.declared.store.FileStore.{FileStore};
+ghost use Rattle.sqlite.specs.Held.{Held};
 ghost use Rattle.policy_core.specs.Rules.{Rule};
 ghost use Rattle.archive_machine.specs.Records.{Archive};
+ghost use Rattle.archive_store.specs.declared.store.Store.{Store};
 ghost use Rattle.archive_pages.specs.Laws.{EqualViews, ServesWhatIsAllowed, DeniesWhatIsDenied, ShowsWhatIsAllowed};
+ghost use Rattle.archive_pages.specs.Reopened.{AnswersReopened};
+
+use archive_store::laws::a_file_opened_again_holds_the_same_archive;
+use sqlite_disk::Disk;
 
 /// Where two archives have the same list names, a request's token is a person's in both or in
 /// neither, and the readers' views of the list are equal, the replies are equal byte for byte, but
@@ -37,3 +45,13 @@ pub fn results_are_of_what_is_allowed()
     ensures { (archive : Archive) (rules : List Rule) (day : ℤ) (head : RequestHead)
         → ShowsWhatIsAllowed archive rules day head }
 {}
+
+/// A request to a file that was closed, opened again and taken over is answered out of the archive
+/// that the file held when it was closed, so out of the machine's run of the commands that made it:
+/// over any disk that keeps the clauses of `Disk` and returns what was written to it.
+pub fn a_file_opened_again_is_answered_alike<D: Disk>()
+    ensures { (closed opened : Held (FileStore D D.Disk)) (files : Files D) (store new : Store (FileStore D D.Disk)) (archive : Archive)
+        → AnswersReopened closed opened files store new archive }
+{
+    a_file_opened_again_holds_the_same_archive::<D>();
+}

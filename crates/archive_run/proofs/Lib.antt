@@ -4,3 +4,4 @@ pub mod SiftLemmas
 pub mod SiftExamples
 pub mod WorkLemmas
 pub mod OrderLemmas
+pub mod ServeLemmas

@@ -4,3 +4,4 @@ pub mod Running
 pub mod Databases
 pub mod Working
 pub mod Orders
+pub mod Serving

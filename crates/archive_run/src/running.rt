@@ -181,7 +181,7 @@ fn run_order<F: ReadFiles, S: Alter, D: Databases<Store<S>>, C: DayClock, R: Sou
 }
 
 /// The exit status, with a line where there is a refusal.
-fn finish<E: Sink>(alloc: Global, faults: &mut E, done: &Result<(), Refusal>) -> u8
+pub(crate) fn finish<E: Sink>(alloc: Global, faults: &mut E, done: &Result<(), Refusal>) -> u8
     ensures { MatchResult done.now (λ _. (result ≡ 0) × (faults.new ≡ faults.old))
         (λ refusal. (result ≡ 1) × (E.failures faults.new ≡ E.failures faults.old → TellsOf refusal (E.told faults.old) (E.told faults.new))) }
 {

@@ -1,5 +1,5 @@
 //! The worked cases for any store, and the stores that are told them.
-use crate::{exports, imports, listings, messages};
+use crate::{asking, exports, imports, listings, messages};
 use archive_results::{Ask, Reader};
 use archive_store::Store;
 use civil_time::Day;
@@ -7,8 +7,11 @@ use policy_core::Policy;
 use sqlite::{Alter, Connection, Files, Options};
 use sqlite_disk::Memory;
 use std::alloc::Global;
+use std::hash::RandomState;
 use std::process::Abort;
+use std::random::RandomSource;
 use std::test::Fail;
+use thread_core::NodeThreader;
 
 /// Two messages, the second an answer to the first.
 pub const TWO: &[u8] =
@@ -50,6 +53,8 @@ pub enum Case {
     Messages,
     Exports,
     Listings,
+    Asking,
+    Chain,
 }
 
 /// Tells an empty store a case.
@@ -57,6 +62,7 @@ fn tell<S: Alter>(
     rt: &impl Abort,
     alloc: Global,
     store: &mut Store<S>,
+    nodes: &NodeThreader,
     case: Case,
 ) -> Result<(), Fail> {
     match case {
@@ -65,7 +71,16 @@ fn tell<S: Alter>(
         Case::Messages => messages::messages(rt, alloc, store),
         Case::Exports => exports::exports(rt, alloc, store),
         Case::Listings => listings::listings(rt, alloc, store),
+        Case::Asking => asking::asking(rt, alloc, store, nodes),
+        Case::Chain => exports::chain(rt, alloc, store),
     }
+}
+
+/// Tells a new store over memory a case.
+fn tell_new(rt: &(impl Abort + RandomSource), alloc: Global, case: Case) -> Result<(), Fail> {
+    let nodes = NodeThreader::new(RandomState::new(rt)?);
+    let mut store = Store::open_in_memory(alloc)?;
+    tell(rt, alloc, &mut store, &nodes, case)
 }
 
 #[test]
@@ -76,11 +91,16 @@ fn stores_over_memory(rt: HostRuntime) -> Result<(), Fail> {
         Case::Messages,
         Case::Exports,
         Case::Listings,
+        Case::Chain,
     ] {
-        let mut store = Store::open_in_memory(rt.alloc())?;
-        tell(&rt, rt.alloc(), &mut store, case)?;
+        tell_new(&rt, rt.alloc(), case)?;
     }
     Ok(())
+}
+
+#[test]
+fn each_question_asks_the_threader_once_of_the_view_alone(rt: HostRuntime) -> Result<(), Fail> {
+    tell_new(&rt, rt.alloc(), Case::Asking)
 }
 
 #[test]
@@ -98,5 +118,6 @@ fn a_store_over_a_file(rt: HostRuntime) -> Result<(), Fail> {
     let Ok(mut store) = Store::adopt(connection) else {
         return Err(Fail::from("a store"));
     };
-    tell(&rt, rt.alloc(), &mut store, Case::Imports)
+    let nodes = NodeThreader::new(RandomState::new(&rt)?);
+    tell(&rt, rt.alloc(), &mut store, &nodes, Case::Imports)
 }

@@ -1,8 +1,12 @@
 //! Exports to writers that fail.
 use crate::cases::{TWO, by_nobody};
-use archive_desk::{DeskFault, ExportStop, export, export_after, import};
+use crate::chain::{ChainStop, import_and_ask};
+use archive_desk::{
+    DeskFault, ExportStop, ImportFault, ImportStop, Report, export, export_after, import,
+};
 use archive_results::{Ask, Reader};
-use archive_store::Store;
+use archive_store::{Store, StoreFault};
+use civil_time::Month;
 use mbox_core::device::Tap;
 use policy_core::Policy;
 use sqlite::Alter;
@@ -84,5 +88,39 @@ fn whole<S: Alter>(
         Ok(len + 5)
     );
     assert!(rt; out.bytes().iter().eq(HEAD.iter().chain(TWO.iter())));
+    Ok(())
+}
+
+/// An import, a month and an export that follow one another: whole, to a writer that fails, and on a list that is not there.
+pub fn chain<S: Alter>(rt: &impl Abort, alloc: Global, store: &mut Store<S>) -> Result<(), Fail> {
+    let policy = Policy::open();
+    let ask = by_nobody(&policy)?;
+    let march = Month::read(b"2003-03").ok_or("a month")?;
+    let mut out = Tap::new(alloc, b"", 10)?;
+    let no_list = ChainStop::Import(ImportStop {
+        done: 0,
+        fault: ImportFault::Store(StoreFault::NoList),
+    });
+    let came = import_and_ask(store, alloc, &ask, TWO, march, &mut out);
+    assert_eq!(rt; came.err(), Some(no_list));
+    store.list_add("soc")?;
+    let stopped = ChainStop::Export(ExportStop {
+        written: 10,
+        fault: DeskFault::Write,
+    });
+    let came = import_and_ask(store, alloc, &ask, TWO, march, &mut out);
+    assert_eq!(rt; came.err(), Some(stopped));
+    let mut out = Tap::new(alloc, b"", 1000)?;
+    let Ok(told) = import_and_ask(store, alloc, &ask, TWO, march, &mut out) else {
+        return Err(Fail::from("three answers"));
+    };
+    let all_known = Report {
+        new: 0,
+        known: 2,
+        too_large: 0,
+    };
+    assert_eq!(rt; told.report, all_known);
+    assert_eq!(rt; (told.lines.len(), told.count), (2, TWO.len() as u64));
+    assert_eq!(rt; out.bytes(), TWO);
     Ok(())
 }

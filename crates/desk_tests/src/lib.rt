@@ -2,7 +2,10 @@
 #![tactic(auto)]
 
 #[cfg(test)]
+mod asking;
+#[cfg(test)]
 mod cases;
+pub mod chain;
 #[cfg(test)]
 mod exports;
 #[cfg(test)]
@@ -11,3 +14,4 @@ mod imports;
 mod listings;
 #[cfg(test)]
 mod messages;
+pub mod noting;

@@ -1,5 +1,5 @@
 //! Lists of months and of authors, and threads.
-use crate::cases::{TWO, WITHDRAWN, by_nobody};
+use crate::cases::{TWO, WITHDRAWN, by_nobody, day};
 use archive_desk::{DeskFault, author, import, month, thread, threads};
 use archive_results::{Ask, Line, Reader, TreeLine};
 use archive_store::{Key, Party, Store};
@@ -45,6 +45,15 @@ const THREADS: [(&str, &[u8], &[Row]); 4] = [
     ),
 ];
 
+/// Messages of one author in one month, named by their subjects. Those of one sent date came in the order 2, 3, 5, at 10:00 in
+/// different zones; 1 was sent before them and came between them, and 4 has no date of its own.
+const TIES: &[u8] = b"\
+From a@b Wed Mar  5 10:00:00 2003\nFrom: a@b\nDate: Tue, 4 Mar 2003 10:00:00 +0000\nSubject: 2\n\n2\n\n\
+From a@b Wed Mar  5 09:00:00 2003\nFrom: A@B\nDate: Tue, 4 Mar 2003 11:00:00 +0100\nSubject: 3\n\n3\n\n\
+From a@b Wed Mar  5 11:00:00 2003\nFrom: a@b\nDate: Tue, 4 Mar 2003 09:59:59 +0000\nSubject: 1\n\n1\n\n\
+From a@b Tue Mar  4 10:00:01 2003\nFrom: a@b\nSubject: 4\n\n4\n\n\
+From a@b Tue Mar  4 09:00:00 2003\nFrom: a@b\nDate: Tue, 4 Mar 2003 05:00:00 -0500\nSubject: 5\n\n5\n\n";
+
 /// Threads, months and authors on an empty archive.
 pub fn listings<S: Alter>(
     rt: &impl Abort,
@@ -69,7 +78,36 @@ pub fn listings<S: Alter>(
     import(store, alloc, "soc", TWO)?;
     by_month(rt, alloc, store, &ask)?;
     by_author(rt, alloc, store, &ask)?;
+    ties(rt, alloc, store, &policy)?;
     withheld(rt, alloc, store)
+}
+
+/// Messages of one sent date stand in the order in which they came: in a month, of an author, and as threads of their own.
+fn ties<S: Alter>(
+    rt: &impl Abort,
+    alloc: Global,
+    store: &mut Store<S>,
+    policy: &Policy,
+) -> Result<(), Fail> {
+    store.list_add("ties")?;
+    import(store, alloc, "ties", TIES)?;
+    let ask = Ask {
+        policy,
+        reader: Reader::Nobody,
+        list: "ties",
+        day: day("2003-03-20")?,
+    };
+    let wanted = [b"1".as_slice(), b"2", b"3", b"5", b"4"];
+    let march = Month::read(b"2003-03").ok_or("a month")?;
+    are_subjects(rt, &month(store, alloc, &ask, march)?, &wanted)?;
+    are_subjects(rt, &author(store, alloc, &ask, b"a@b")?, &wanted)?;
+    let rows = threads(store, alloc, &ask, &PlainThreader)?;
+    assert_eq!(rt; rows.len(), wanted.len());
+    for (row, want) in rows.iter().zip(wanted.iter()) {
+        let shown = row.line.as_ref().map(|line| line.subject.as_slice());
+        assert_eq!(rt; (row.depth, shown), (0, Some(*want)));
+    }
+    Ok(())
 }
 
 fn are_rows(rt: &impl Abort, rows: &[TreeLine], wanted: &[Row]) -> Result<(), Fail> {

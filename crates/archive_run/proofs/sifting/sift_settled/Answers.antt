@@ -1,4 +1,4 @@
-use Rattle.std.proofs.Common.{◌+◌, ◌++◌, ◌∙◌, Err, ap, refl, arith, inr, rules}
+use Rattle.std.proofs.Common.{◌++◌, ◌∙◌, Err, ap, refl, arith, inr, rules}
 use Rattle.archive_run.proofs.SiftLemmas.{so_far_start, so_far_more, unread_fault, part_open}
 use Rattle.archive_run.proofs.sifting.sift_settled.Goals as goal
 

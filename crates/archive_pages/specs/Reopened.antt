@@ -1,0 +1,49 @@
+-- A file that is closed, opened again and taken over, and a request to it.
+use Rattle.std.specs.Prelude.{◌≡◌, ◌++◌, ℕ, ℤ, List, Result}
+use Rattle.sqlite_disk.specs.declared.Disk.{Ghosts}
+use Rattle.sqlite_disk.specs.declared.Files.{Files}
+use Rattle.sqlite_wal.specs.Reads.{AreClean}
+use Rattle.sqlite_store.specs.declared.store.FileStore.{FileStore}
+use Rattle.sqlite.specs.Held.{Held}
+use Rattle.sqlite.specs.State.{IsLive}
+use Rattle.sqlite.specs.Files.{over_files, file_state, Finds, IsOpened}
+use Rattle.sqlite.specs.Closing.{IsCopied}
+use Rattle.httparse.specs.Grammar.{HasNoRequest}
+use Rattle.policy_core.specs.Rules.{Rule}
+use Rattle.archive_machine.specs.Records.{Archive}
+use Rattle.archive_store.specs.Told.{HoldsArchive, HasReturned, IsReady, archive_in, Goes}
+use Rattle.archive_store.specs.declared.store.Store.{Store}
+use Rattle.archive_pages.specs.Answered.{ByOutcome, IsAnswered, Reads, written_of}
+use Rattle.archive_pages.specs.Running.{AnswersFrom}
+use Rattle.archive_pages.specs.declared.faults.ServeFault.{ServeFault}
+
+module _ {D : Type 0} {g : Ghosts D} where
+  -- what the calls say of a file from its close on: each field is a clause of the call that it names
+  pub record IsReopened (closed opened : Held (FileStore D g)) (files : Files D) (store : Store (FileStore D g)) : Type 0 where
+    -- `close_files`: the connection was live, and these files are what it held, if their disk returns what was written
+    pub live : IsLive (file_state closed)
+    pub copied : AreClean g files.log files.db → IsCopied closed files
+    -- `open_files`
+    pub found : Finds files opened
+    pub opens : IsOpened opened
+    -- `Store::adopt`
+    pub adopted : (archive : Archive) → HoldsArchive over_files opened archive → HasReturned over_files store
+        → IsReady over_files store × (archive_in over_files store ≡ archive)
+
+  -- the clause of `answer`
+  abbrev pub Answers : (old new : Store (FileStore D g)) → List Rule → (day : ℤ) → (read_before read_after : List ℕ) → (ends_before ends_after : ℕ)
+      → (told_before told_after : List ℕ) → Result ℕ ServeFault → Type 0
+  Answers old new rules day read_before read_after ends_before ends_after told_before told_after result = ByOutcome result
+      (Reads read_before read_after ends_before ends_after
+      (λ given all. IsAnswered over_files old new rules day given all written_of told_before told_after result))
+      ((given : List ℕ) × (read_after ≡ read_before ++ given) × HasNoRequest given × (told_after ≡ told_before)
+      × Goes over_files old new (λ a b. b ≡ a))
+
+  -- A request to a file that was closed while it held this archive, and was opened again, is answered out of this archive.
+  abbrev pub AnswersReopened : (closed opened : Held (FileStore D g)) → Files D → (store new : Store (FileStore D g)) → Archive → Type 0
+  AnswersReopened closed opened files store new archive =
+      HoldsArchive over_files closed archive → IsReopened closed opened files store → HasReturned over_files new
+      → (rules : List Rule) (day : ℤ) (read_before read_after : List ℕ) (ends_before ends_after : ℕ) (told_before told_after : List ℕ)
+      (result : Result ℕ ServeFault)
+      → Answers store new rules day read_before read_after ends_before ends_after told_before told_after result
+      → AnswersFrom archive rules day read_before read_after ends_before ends_after told_before told_after result

@@ -1,0 +1,66 @@
+//! Calls of the desk that follow one another, with what they say together proved by their contracts alone.
+ghost use Rattle.std.specs.Prelude.{◌≡◌, OnOk, IfErr};
+ghost use Rattle.archive_store.specs.Told.{Calls};
+ghost use Rattle.desk_tests.specs.Chain.{HasTold, HasWrittenPart, IsBroken, IsChainStop, IsRefused, why_stopped};
+
+use archive_desk::{DeskFault, ExportStop, ImportStop, Report, export, import, month};
+use archive_results::{Ask, Line};
+use archive_store::Store;
+use civil_time::Month;
+use mbox_core::device::Sink;
+use sqlite::Alter;
+use std::alloc::Global;
+
+/// What became of the messages of a file, the lines of a month, and how many bytes an export wrote.
+#[derive(Drop)]
+pub struct Told {
+    pub report: Report,
+    pub lines: Vec<Line>,
+    pub count: u64,
+}
+
+/// Which of three calls stopped, and where.
+#[derive(Clone, Copy, Debug, PartialEq, Eq, Drop)]
+pub enum ChainStop {
+    Import(ImportStop),
+    Month(DeskFault),
+    Export(ExportStop),
+}
+
+/// Imports a file into a list, and then asks for a month of it and writes its export: both are of the archive that the
+/// import left.
+pub fn import_and_ask<S: Alter, W: Sink>(
+    store: &mut Store<S>,
+    alloc: Global,
+    ask: &Ask<'_>,
+    mbox: &[u8],
+    asked: Month,
+    out: &mut W,
+) -> Result<Told, ChainStop>
+    ensures chain { Calls S.Store store.old store.new why_stopped result
+        (λ a b told. HasTold ask.now mbox.now asked (W.told out.old) (W.told out.new) a b told)
+        (λ a b why. IsRefused ask.now mbox.now (W.told out.old) (W.told out.new) a b why)
+        (λ a b stop. IsBroken ask.now mbox.now a b stop) }
+    ensures part { IfErr result (λ stop. HasWrittenPart S.Store store.old store.new ask.now mbox.now
+        (W.told out.old) (W.told out.new) stop) }
+    ensures quiet { OnOk result (W.failures out.new ≡ W.failures out.old) }
+    ensures cause { IfErr result (λ stop. IsChainStop (W.told out.old) (W.told out.new)
+        (W.failures out.old) (W.failures out.new) stop) }
+{
+    let report = match import(store, alloc, ask.list, mbox) {
+        Ok(report) => report,
+        Err(stop) => return Err(ChainStop::Import(stop)),
+    };
+    let lines = match month(store, alloc, ask, asked) {
+        Ok(lines) => lines,
+        Err(fault) => return Err(ChainStop::Month(fault)),
+    };
+    match export(store, alloc, ask, out) {
+        Ok(count) => Ok(Told {
+            report,
+            lines,
+            count,
+        }),
+        Err(stop) => Err(ChainStop::Export(stop)),
+    }
+}

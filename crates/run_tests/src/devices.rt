@@ -1,0 +1,152 @@
+//! Files, databases, a clock and ports of memory.
+ghost use Rattle.std.specs.Prelude.{⊤};
+
+use archive_listen::{AcceptFault, Connection, Gathered, ListenFault, Listener, Listening, Ports};
+use archive_run::{Databases, DayClock, FileFault, ReadFiles};
+use archive_store::{Store, StoreFault};
+use civil_time::Day;
+use mbox_core::device::Tap;
+use sqlite::MemStore;
+use std::alloc::Global;
+
+/// A file that writes a policy.
+pub const POLICY: &str = "policy.toml";
+
+/// A file that writes none.
+pub const NO_POLICY: &str = "archive.mbox";
+
+/// The one database.
+pub const ARCHIVE: &str = "archive.db";
+
+/// A port that is taken.
+pub const TAKEN: u16 = 22;
+
+/// What port 0 stands for.
+const PICKED: u16 = 49152;
+
+/// Two files.
+#[derive(Drop)]
+pub struct Papers;
+
+impl ReadFiles for Papers {
+    fn read_file(&self, alloc: Global, name: &str) -> Result<Vec<u8>, FileFault> {
+        let text: &[u8] = match name {
+            POLICY => b"[[rule]]\nname = \"all\"\neffect = \"allow\"\n",
+            NO_POLICY => b"From anna@example.org Tue Mar  4 10:00:00 2003\n",
+            _ => return Err(FileFault::Read),
+        };
+        let mut bytes = Vec::new(alloc);
+        match bytes.extend_from_slice(text) {
+            Ok(()) => Ok(bytes),
+            Err(_full) => Err(FileFault::Memory),
+        }
+    }
+}
+
+/// One database, which is empty each time; how often it was opened, and closed.
+#[derive(Drop)]
+pub struct Shelf {
+    pub opened: u32,
+    pub closed: u32,
+}
+
+impl Databases<Store<MemStore>> for Shelf {
+    fn open(&mut self, alloc: Global, name: &str) -> Result<Store<MemStore>, StoreFault> {
+        if name != ARCHIVE {
+            return Err(StoreFault::Store);
+        }
+        let store = Store::open_in_memory(alloc)?;
+        self.opened = self.opened.saturating_add(1);
+        Ok(store)
+    }
+
+    fn close(&mut self, store: Store<MemStore>)
+        ensures { ⊤ }
+    {
+        let _connection = store.into_connection();
+        self.closed = self.closed.saturating_add(1);
+    }
+}
+
+/// A clock that stands still, or tells nothing.
+#[derive(Drop)]
+pub struct Still(pub Option<Day>);
+
+impl DayClock for Still {
+    fn today(&mut self) -> Option<Day> {
+        self.0
+    }
+}
+
+/// A peer that a listener gives, or does not.
+#[derive(Clone, Copy)]
+pub enum Peer {
+    /// It is gone before it is taken.
+    Gone,
+    /// It asks for all lists.
+    Asks,
+}
+
+/// Gives these peers, and then no more.
+#[derive(Drop)]
+pub struct Peers {
+    alloc: Global,
+    peers: &'static [Peer],
+}
+
+impl Listener for Peers {
+    type Input = Tap;
+
+    type Output = Gathered<Tap>;
+
+    fn accept(&mut self) -> Result<Connection<Tap, Gathered<Tap>>, AcceptFault> {
+        let Some((first, rest)) = self.peers.split_first() else {
+            return Err(AcceptFault::Listener);
+        };
+        self.peers = rest;
+        let Peer::Asks = *first else {
+            return Err(AcceptFault::Peer);
+        };
+        let Ok(input) = Tap::new(self.alloc, b"GET / HTTP/1.1\r\n\r\n", 1000) else {
+            return Err(AcceptFault::Listener);
+        };
+        let Ok(output) = Tap::new(self.alloc, b"", 4000) else {
+            return Err(AcceptFault::Listener);
+        };
+        Ok(Connection {
+            input,
+            output: Gathered::new(output),
+        })
+    }
+
+    fn close(&mut self, connection: Connection<Tap, Gathered<Tap>>, lingers: bool)
+        ensures closes { ⊤ }
+    {
+        let _connection = connection;
+        let _lingers = lingers;
+    }
+}
+
+/// Ports, at all of which the same peers come, but the one that is taken.
+#[derive(Drop)]
+pub struct Quay {
+    pub alloc: Global,
+    pub peers: &'static [Peer],
+}
+
+impl Ports for Quay {
+    type Listener = Peers;
+
+    fn listen(&mut self, port: u16) -> Result<Listening<Peers>, ListenFault> {
+        if port == TAKEN {
+            return Err(ListenFault);
+        }
+        Ok(Listening {
+            listener: Peers {
+                alloc: self.alloc,
+                peers: self.peers,
+            },
+            port: if port == 0 { PICKED } else { port },
+        })
+    }
+}

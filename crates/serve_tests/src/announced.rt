@@ -1,0 +1,113 @@
+//! What is said before the first connection.
+use crate::cases::{GETS, LISTS, fill, today};
+use crate::peers::{Peer, Peers};
+use archive_serve::{ServeStop, serve};
+use archive_store::Store;
+use mbox_core::device::Tap;
+use policy_core::Policy;
+use sqlite::Alter;
+use std::alloc::Global;
+use std::process::Abort;
+use std::test::Fail;
+use thread_core::PlainThreader;
+
+/// An output that takes so many bytes, and what comes of one peer that is asked for so often.
+struct Case {
+    port: u16,
+    room: usize,
+    count: u32,
+    outcome: Result<(), ServeStop>,
+    said: &'static [u8],
+    got: &'static [u8],
+}
+
+const CASES: [Case; 5] = [
+    Case {
+        port: 8080,
+        room: 100,
+        count: 1,
+        outcome: Ok(()),
+        said: b"listening on 127.0.0.1:8080\n",
+        got: LISTS,
+    },
+    Case {
+        port: 7,
+        room: 100,
+        count: 0,
+        outcome: Ok(()),
+        said: b"listening on 127.0.0.1:7\n",
+        got: b"",
+    },
+    Case {
+        port: 65535,
+        room: 100,
+        count: 2,
+        outcome: Err(ServeStop::Listen),
+        said: b"listening on 127.0.0.1:65535\n",
+        got: LISTS,
+    },
+    Case {
+        port: 8080,
+        room: 9,
+        count: 1,
+        outcome: Err(ServeStop::Write),
+        said: b"listening",
+        got: b"",
+    },
+    Case {
+        port: 8080,
+        room: 0,
+        count: 1,
+        outcome: Err(ServeStop::Write),
+        said: b"",
+        got: b"",
+    },
+];
+
+const PEERS: [Peer; 1] = [GETS];
+
+fn says_where<S: Alter>(
+    rt: &impl Abort,
+    alloc: Global,
+    store: &mut Store<S>,
+    case: &Case,
+) -> Result<(), Fail> {
+    let mut listener = Peers::new(alloc, &PEERS);
+    let mut output = Tap::new(alloc, b"", case.room)?;
+    let mut faults = Tap::new(alloc, b"", 1000)?;
+    let outcome = serve(
+        alloc,
+        store,
+        &Policy::open(),
+        &PlainThreader,
+        today()?,
+        &mut listener,
+        case.port,
+        case.count,
+        &mut output,
+        &mut faults,
+    );
+    assert_eq!(rt; outcome, case.outcome);
+    assert_eq!(rt; output.bytes(), case.said);
+    assert_eq!(rt; listener.got.as_slice(), case.got);
+    assert!(rt; faults.bytes().is_empty());
+    Ok(())
+}
+
+fn all_say_where<S: Alter>(
+    rt: &impl Abort,
+    alloc: Global,
+    store: &mut Store<S>,
+) -> Result<(), Fail> {
+    fill(alloc, store)?;
+    for case in &CASES {
+        says_where(rt, alloc, store, case)?;
+    }
+    Ok(())
+}
+
+#[test]
+fn where_it_listens_is_said_before_the_first_peer(rt: HostRuntime) -> Result<(), Fail> {
+    let mut store = Store::open_in_memory(rt.alloc())?;
+    all_say_where(&rt, rt.alloc(), &mut store)
+}

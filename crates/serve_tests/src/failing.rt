@@ -1,0 +1,78 @@
+//! Peers that fail at each byte, and the next ones.
+use crate::cases::{GET, GETS, LISTS, fill, joined, today};
+use crate::peers::{ALL, Peer, Peers};
+use archive_serve::serve_on;
+use archive_store::Store;
+use mbox_core::device::Tap;
+use policy_core::Policy;
+use sqlite::Alter;
+use std::alloc::Global;
+use std::process::Abort;
+use std::test::Fail;
+use thread_core::PlainThreader;
+
+/// A peer that fails is told in this line and gets this much, and the next one gets its page.
+fn is_followed<S: Alter>(
+    rt: &impl Abort,
+    alloc: Global,
+    store: &mut Store<S>,
+    peer: Peer,
+    got: &[u8],
+    line: &[u8],
+) -> Result<(), Fail> {
+    let peers = [peer, GETS];
+    let mut listener = Peers::new(alloc, &peers);
+    let mut faults = Tap::new(alloc, b"", 1000)?;
+    let outcome = serve_on(
+        alloc,
+        store,
+        &Policy::open(),
+        &PlainThreader,
+        today()?,
+        &mut listener,
+        2,
+        &mut faults,
+    );
+    assert_eq!(rt; outcome, Ok(()));
+    assert_eq!(rt;
+        listener.got.as_slice(),
+        joined(alloc, &[got, LISTS])?.as_slice()
+    );
+    assert_eq!(rt; faults.bytes(), line);
+    Ok(())
+}
+
+/// One peer for each byte of the request and of the reply.
+fn all_fail<S: Alter>(rt: &impl Abort, alloc: Global, store: &mut Store<S>) -> Result<(), Fail> {
+    fill(alloc, store)?;
+    for reads in 0..GET.len() {
+        let peer = Peer::Says {
+            text: GET,
+            reads,
+            writes: ALL,
+        };
+        is_followed(rt, alloc, store, peer, b"", b"archive: S1 Read\n")?;
+    }
+    for writes in 0..LISTS.len() {
+        let peer = Peer::Says {
+            text: GET,
+            reads: ALL,
+            writes,
+        };
+        is_followed(
+            rt,
+            alloc,
+            store,
+            peer,
+            &LISTS[..writes],
+            b"archive: S2 Write\n",
+        )?;
+    }
+    Ok(())
+}
+
+#[test]
+fn peers_fail_at_each_byte(rt: HostRuntime) -> Result<(), Fail> {
+    let mut store = Store::open_in_memory(rt.alloc())?;
+    all_fail(&rt, rt.alloc(), &mut store)
+}

@@ -1,0 +1,82 @@
+//! Peers of memory, which say something and whose directions pass so many bytes.
+ghost use Rattle.std.specs.Prelude.{⊤};
+
+use archive_listen::{AcceptFault, Connection, Gathered, Listener};
+use mbox_core::device::Tap;
+use std::alloc::Global;
+
+/// More bytes than a reply has.
+pub const ALL: usize = 4000;
+
+/// A peer that a listener gives, or does not.
+#[derive(Clone, Copy)]
+pub enum Peer {
+    /// It is gone before it is taken.
+    Gone,
+    /// It says this, and each direction passes so many bytes.
+    Says {
+        text: &'static [u8],
+        reads: usize,
+        writes: usize,
+    },
+}
+
+/// Gives these peers, and then no more. What each of them got is kept, with `+` behind it where its connection lingered.
+#[derive(Drop)]
+pub struct Peers<'a> {
+    pub alloc: Global,
+    pub peers: &'a [Peer],
+    pub got: Vec<u8>,
+}
+
+impl<'a> Peers<'a> {
+    /// Nobody got anything yet.
+    pub fn new(alloc: Global, peers: &'a [Peer]) -> Peers<'a> {
+        Peers {
+            alloc,
+            peers,
+            got: Vec::new(alloc),
+        }
+    }
+}
+
+impl<'a> Listener for Peers<'a> {
+    type Input = Tap;
+
+    type Output = Gathered<Tap>;
+
+    fn accept(&mut self) -> Result<Connection<Tap, Gathered<Tap>>, AcceptFault> {
+        let Some((first, rest)) = self.peers.split_first() else {
+            return Err(AcceptFault::Listener);
+        };
+        self.peers = rest;
+        let Peer::Says {
+            text,
+            reads,
+            writes,
+        } = *first
+        else {
+            return Err(AcceptFault::Peer);
+        };
+        let Ok(input) = Tap::new(self.alloc, text, reads) else {
+            return Err(AcceptFault::Listener);
+        };
+        let Ok(output) = Tap::new(self.alloc, b"", writes) else {
+            return Err(AcceptFault::Listener);
+        };
+        Ok(Connection {
+            input,
+            output: Gathered::new(output),
+        })
+    }
+
+    fn close(&mut self, connection: Connection<Tap, Gathered<Tap>>, lingers: bool)
+        ensures closes { ⊤ }
+    {
+        let output = connection.output.into_inner();
+        let _ = self.got.extend_from_slice(output.bytes());
+        if lingers {
+            let _ = self.got.push(b'+');
+        }
+    }
+}
