@@ -63,88 +63,112 @@ fn stops<S: Alter>(
 }
 
 /// A reader that fails after each number of bytes, and then the whole input, twice, by large pieces and by single bytes.
-#[test]
-fn streams(rt: HostRuntime) -> Result<(), Fail> {
-    let alloc = rt.alloc();
-    let mut store = Store::open_in_memory(alloc)?;
+fn streams<S: Alter>(rt: &impl Abort, alloc: Global, store: &mut Store<S>) -> Result<(), Fail> {
     store.list_add("soc")?;
     for passes in 0..=TWO.len() {
-        stops(&rt, alloc, &mut store, passes)?;
+        stops(rt, alloc, store, passes)?;
     }
     for wanted in [report(1, 1, 0), report(0, 2, 0)] {
         let mut input = Tap::new(alloc, TWO, TWO.len() + 1)?;
-        assert_eq!(rt; import_from(&mut store, alloc, "soc", &mut input), Ok(wanted));
+        assert_eq!(rt; import_from(store, alloc, "soc", &mut input), Ok(wanted));
     }
     store.list_add("slow")?;
     for wanted in [report(2, 0, 0), report(0, 2, 0)] {
         let mut input = Counted::new(Slow { rest: TWO });
-        assert_eq!(rt; import_from(&mut store, alloc, "slow", &mut input), Ok(wanted));
+        assert_eq!(rt; import_from(store, alloc, "slow", &mut input), Ok(wanted));
     }
     Ok(())
 }
 
 /// A stream that is no mbox, one of blank lines alone, and one for a list that is not there, which is not read.
-#[test]
-fn refused(rt: HostRuntime) -> Result<(), Fail> {
-    let alloc = rt.alloc();
-    let mut store = Store::open_in_memory(alloc)?;
-    store.list_add("soc")?;
+fn refused<S: Alter>(rt: &impl Abort, alloc: Global, store: &mut Store<S>) -> Result<(), Fail> {
+    store.list_add("bad")?;
     for (list, fault) in [
-        ("soc", ImportFault::Mbox(MboxFault::Preamble(1))),
+        ("bad", ImportFault::Mbox(MboxFault::Preamble(1))),
         ("xyz", ImportFault::Store(StoreFault::NoList)),
     ] {
         let mut input = Tap::new(alloc, BROKEN, 1000)?;
         let stopped = ImportStop { done: 0, fault };
-        assert_eq!(rt; import_from(&mut store, alloc, list, &mut input), Err(stopped));
+        assert_eq!(rt; import_from(store, alloc, list, &mut input), Err(stopped));
     }
     let mut failing = Tap::new(alloc, TWO, 0)?;
     let no_list = ImportStop {
         done: 0,
         fault: ImportFault::Store(StoreFault::NoList),
     };
-    assert_eq!(rt; import_from(&mut store, alloc, "xyz", &mut failing), Err(no_list));
+    assert_eq!(rt;
+        import_from(store, alloc, "xyz", &mut failing),
+        Err(no_list)
+    );
     let mut blank = Tap::new(alloc, b"\n\n", 1000)?;
-    assert_eq!(rt; import_from(&mut store, alloc, "soc", &mut blank), Ok(report(0, 0, 0)));
+    assert_eq!(rt;
+        import_from(store, alloc, "bad", &mut blank),
+        Ok(report(0, 0, 0))
+    );
     Ok(())
 }
 
 /// More messages than one transaction takes, and then texts of more than 8 MB: all come in their order, as `import` takes
 /// them, and the same file brings none more.
-#[test]
-fn batches(rt: HostRuntime) -> Result<(), Fail> {
-    let alloc = rt.alloc();
-    let mut store = Store::open_in_memory(alloc)?;
-    store.list_add("soc")?;
+fn batches<S: Alter>(rt: &impl Abort, alloc: Global, store: &mut Store<S>) -> Result<(), Fail> {
+    store.list_add("many")?;
     let mut mbox = String::new(alloc);
     for number in 0..1100 {
-        write!(mbox, "From a@b Tue Mar  4 10:00:00 2003\nSubject: {number}\n\ntext\n\n")?;
+        write!(
+            mbox,
+            "From a@b Tue Mar  4 10:00:00 2003\nSubject: {number}\n\ntext\n\n"
+        )?;
     }
     let mut input = Tap::new(alloc, mbox.as_bytes(), mbox.len() + 1)?;
-    assert_eq!(rt; import_from(&mut store, alloc, "soc", &mut input), Ok(report(1100, 0, 0)));
-    assert_eq!(rt; import(&mut store, alloc, "soc", mbox.as_bytes()), Ok(report(0, 1100, 0)));
-    let rows = store.rows(alloc, "soc")?;
+    assert_eq!(rt;
+        import_from(store, alloc, "many", &mut input),
+        Ok(report(1100, 0, 0))
+    );
+    assert_eq!(rt;
+        import(store, alloc, "many", mbox.as_bytes()),
+        Ok(report(0, 1100, 0))
+    );
+    let rows = store.rows(alloc, "many")?;
     let last = rows.last().ok_or("a last message")?;
-    assert_eq!(rt; last.item.as_item().text, b"Subject: 1099\n\ntext\n".as_slice());
+    assert_eq!(rt;
+        last.item.as_item().text,
+        b"Subject: 1099\n\ntext\n".as_slice()
+    );
     Ok(())
 }
 
 /// A message that is too large to be taken in, and one of a megabyte after it.
-#[test]
-fn large(rt: HostRuntime) -> Result<(), Fail> {
-    let alloc = rt.alloc();
-    let mut store = Store::open_in_memory(alloc)?;
-    store.list_add("soc")?;
+fn large<S: Alter>(rt: &impl Abort, alloc: Global, store: &mut Store<S>) -> Result<(), Fail> {
+    store.list_add("large")?;
     let mut mbox = String::new(alloc);
     for lines in [5000, 1000] {
-        write!(mbox, "From a@b Tue Mar  4 10:00:00 2003\nSubject: {lines}\n\n")?;
+        write!(
+            mbox,
+            "From a@b Tue Mar  4 10:00:00 2003\nSubject: {lines}\n\n"
+        )?;
         for _ in 0..lines {
             for _ in 0..16 {
-                mbox.push_str("a line of sixty-four bytes, which stands here as often as needed\n")?;
+                mbox.push_str(
+                    "a line of sixty-four bytes, which stands here as often as needed\n",
+                )?;
             }
         }
         mbox.push_str("\n")?;
     }
     let mut input = Tap::new(alloc, mbox.as_bytes(), mbox.len() + 1)?;
-    assert_eq!(rt; import_from(&mut store, alloc, "soc", &mut input), Ok(report(1, 0, 1)));
+    assert_eq!(rt;
+        import_from(store, alloc, "large", &mut input),
+        Ok(report(1, 0, 1))
+    );
     Ok(())
+}
+
+#[test]
+fn an_mbox_is_read_in_pieces(rt: HostRuntime) -> Result<(), Fail> {
+    let alloc = rt.alloc();
+    let mut store = Store::open_in_memory(alloc)?;
+    streams(&rt, alloc, &mut store)?;
+    refused(&rt, alloc, &mut store)?;
+    batches(&rt, alloc, &mut store)?;
+    large(&rt, alloc, &mut store)
 }
