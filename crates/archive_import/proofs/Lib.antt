@@ -1,0 +1,3 @@
+pub mod IntakeLemmas
+pub mod StopLemmas
+pub mod ReadLemmas

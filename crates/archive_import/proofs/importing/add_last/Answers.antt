@@ -1,0 +1,39 @@
+use Rattle.std.proofs.Common.{[], ◌++◌, ◌∙◌, sym, ap, subst, refl, Err, append-nil, inr}
+use Rattle.mbox_stream.specs.Cutter.{IsEndFault}
+use Rattle.archive_import.proofs.ReadLemmas.{begun_none, begun_more, settled_taken, ended_divides, end_stopped, waiting_stopped, last_says}
+use Rattle.archive_import.proofs.importing.add_last.Goals as goal
+
+pub returns-in-Err-clause-adds : goal.returns-in-Err-clause-adds
+returns-in-Err-clause-adds g c =
+    let cutter = c.args.cutter.now in
+    let intake = c.args.intake.now in
+    let store = c.args.store.now in
+    end_stopped g.S.Store store store c.args.list.now cutter.taken cutter.taken intake intake (begun_none g.S.Store store c.args.list.now cutter.taken cutter.taken intake refl)
+    cutter.stream cutter.stream [] 1 (settled_taken cutter c.requires.given c.requires.open c.requires.none) (sym (append-nil _)) c.in-Err.fault c.stop.result c.stop.ensures
+    (subst (λ s. IsEndFault s c.in-Err.fault) c.finish.ensures.stream c.in-Err.ensures.fault.0)
+    (λ h. c.finish.ensures.closed.0 (c.in-Err.is ∙ ap Err h) c.requires.open)
+
+pub returns-in-Ok-add_waiting-clause-adds : goal.returns-in-Ok-add_waiting-clause-adds
+returns-in-Ok-add_waiting-clause-adds g c =
+    let cutter = c.args.cutter.now in
+    let intake = c.args.intake.now in
+    let store = c.args.store.now in
+    let list = c.args.list.now in
+    let ended = c.finish.new.self in
+    let mid = c.add_waiting.new.store in
+    last_says g.S.Store store mid c.add_held.new.store list cutter.taken (cutter.taken ++ ended.waiting) intake c.add_waiting.new.intake
+    (begun_more g.S.Store store store mid list cutter.taken cutter.taken intake intake (begun_none g.S.Store store list cutter.taken cutter.taken intake refl)
+    c.add_waiting.new.intake ended.waiting (cutter.taken ++ ended.waiting) refl c.in-Ok-add_waiting.ensures.adds)
+    cutter.stream c.add_held.new.intake c.add_held.result
+    (ended_divides cutter ended c.finish.ensures.given c.in-Ok.ensures.finished c.finish.ensures.stream c.finish.ensures.taken) c.add_held.ensures.none c.add_held.ensures.adds
+
+pub returns-in-Err-add_waiting-clause-adds : goal.returns-in-Err-add_waiting-clause-adds
+returns-in-Err-add_waiting-clause-adds g c =
+    let cutter = c.args.cutter.now in
+    let intake = c.args.intake.now in
+    let store = c.args.store.now in
+    let list = c.args.list.now in
+    let ended = c.finish.new.self in
+    waiting_stopped g.S.Store store store c.add_waiting.new.store list cutter.taken cutter.taken intake intake (begun_none g.S.Store store list cutter.taken cutter.taken intake refl)
+    c.add_waiting.new.intake cutter.stream 1 ended.waiting c.in-Err-add_waiting.stop
+    (inr (refl, ended_divides cutter ended c.finish.ensures.given c.in-Ok.ensures.finished c.finish.ensures.stream c.finish.ensures.taken)) c.in-Err-add_waiting.ensures.adds

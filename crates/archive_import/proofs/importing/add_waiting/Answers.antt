@@ -1,0 +1,34 @@
+use Rattle.std.proofs.Common.{[], ◌∷◌, ◌++◌, ◌∙◌, ap, refl}
+use Rattle.mbox_core.specs.Division.{Item}
+use Rattle.archive_import.proofs.StopLemmas.{grows_none, grows_more, grows_stopped, moved_none, moved_one}
+use Rattle.archive_import.proofs.importing.add_waiting.Goals as goal
+
+pub loop-item-init : goal.loop-item-init
+loop-item-init g c = record {
+  adds = (moved_none _ _, grows_none g.S.Store c.args.list.now c.args.store.now c.args.intake.now);
+  stream = refl;
+  standing = refl;
+  given = c.requires.given;
+}
+
+pub loop-item-preserved : goal.loop-item-preserved
+loop-item-preserved g c =
+    let item : Item = c.in-Some.item in
+    let i = c.loop-item.invariant in
+    record {
+      adds = (
+        moved_one _ _ _ _ _ _ item i.adds.0 c.in-Some.ensures.item c.in-Some.ensures.taken,
+        grows_more g.S.Store c.args.list.now c.args.store.now c.loop-item.store c.hold_one.new.store c.args.intake.now c.loop-item.intake i.adds.0.done (item ∷ []) i.adds.1
+            c.hold_one.new.intake c.in-Ok.ensures.adds,
+      );
+      stream = c.take.ensures.stream ∙ i.stream;
+      standing = c.take.ensures.standing ∙ i.standing;
+      given = c.take.ensures.given;
+    }
+
+pub returns-in-Err-clause-adds : goal.returns-in-Err-clause-adds
+returns-in-Err-clause-adds g c =
+    let item : Item = c.in-Some.item in
+    let m = c.loop-item.invariant.adds in
+    grows_stopped g.S.Store c.args.list.now c.args.store.now c.loop-item.store c.hold_one.new.store c.args.intake.now c.loop-item.intake m.0.done (item ∷ []) m.1
+    c.hold_one.new.intake c.take.new.self.waiting c.args.cutter.now.waiting c.in-Err.stop (m.0.was ∙ ap (λ is. m.0.done ++ is) c.in-Some.ensures.item) c.in-Err.ensures.adds

@@ -1,0 +1,17 @@
+use Rattle.std.proofs.Common.{◌≡◌, length}
+use Rattle.mbox_stream.specs.Cutter.{IsCutter}
+use Rattle.archive_store.specs.Told.{Goes}
+use Rattle.archive_import.proofs.StopLemmas.{Grows, Moved}
+use Rattle.archive_import.proofs.importing.add_waiting.Given as goal
+
+abbrev pub invariant-loop-item : goal.invariant-loop-item
+invariant-loop-item g l = record {
+  adds : (moved : Moved l.initial.cutter.taken l.initial.cutter.waiting l.cutter.taken l.cutter.waiting)
+      × Goes g.S.Store l.initial.store l.store (Grows l.list l.initial.intake l.intake moved.done);
+  stream : l.cutter.stream ≡ l.initial.cutter.stream;
+  standing : l.cutter.standing ≡ l.initial.cutter.standing;
+  given : IsCutter l.cutter;
+}
+
+abbrev pub decreases-loop-item : goal.decreases-loop-item
+decreases-loop-item g l = length l.cutter.waiting

@@ -1,0 +1,11 @@
+use Rattle.archive_import.proofs.ReadLemmas.{unread_added, unread_stopped}
+use Rattle.archive_import.proofs.importing.stop_unread.Goals as goal
+
+pub returns-in-Ok-clause-adds : goal.returns-in-Ok-clause-adds
+returns-in-Ok-clause-adds g c =
+    unread_added g.S.Store c.args.store.now c.add_held.new.store c.args.list.now c.args.intake.now c.add_held.new.intake c.stop.result c.stop.ensures
+    c.in-Ok.ensures.adds c.in-Ok.ensures.none
+
+pub returns-in-Err-clause-adds : goal.returns-in-Err-clause-adds
+returns-in-Err-clause-adds g c =
+    unread_stopped g.S.Store c.args.store.now c.add_held.new.store c.args.list.now c.args.intake.now c.add_held.new.intake c.in-Err.stop c.in-Err.ensures.adds

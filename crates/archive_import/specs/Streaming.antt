@@ -1,0 +1,90 @@
+-- What becomes of the messages of an mbox that is read piece by piece into a list.
+use Rattle.std.specs.Prelude.{◌≡◌, ◌⊎◌, ◌≤◌, ℕ, true, false, List, [], length, Option, Some, None, option_map, Result, Ok, Err}
+use Rattle.mbox_core.specs.Division.{Item, Divides, IsPreamble}
+use Rattle.mbox_core.specs.declared.faults.MboxFault.{MboxFault}
+use Rattle.mbox_core.specs.declared.faults.MboxFault.TheVariants.{Preamble, Read, Memory, Failed}
+use Rattle.mbox_stream.specs.Stream.{settled_items, IsCounted}
+use Rattle.archive_machine.specs.Records.{Archive}
+use Rattle.archive_machine.specs.Commands.{Refusal, no_list, list_full}
+use Rattle.archive_machine.specs.Questions.{has_list}
+use Rattle.archive_machine.specs.Runs.{taken}
+use Rattle.archive_store.specs.Batches.{IsFullAt}
+use Rattle.archive_store.specs.Replies.{refusal}
+use Rattle.archive_desk.specs.Importing.{HasAddedFirst, IsImported}
+use Rattle.archive_desk.specs.declared.importing.Report.{Report}
+use Rattle.archive_desk.specs.declared.importing.ImportStop.{ImportStop}
+use Rattle.archive_desk.specs.declared.importing.ImportFault.{ImportFault}
+use Rattle.archive_desk.specs.declared.importing.ImportFault.TheVariants.{Mbox, Store}
+
+-- ---- why it stops
+
+-- Where the database was not at fault: the first line that is not empty begins at this offset and is no separator line (M1); a
+-- read failed (M2); there was no memory to hold a message (M3); there is no such list (E4); the list is full (E12); or another
+-- refusal of the store, which no import answers.
+pub data Halt : Type 0 where
+  no_mbox : (offset : ℕ) → Halt
+  not_read : Halt
+  no_room : Halt
+  unknown_list : Halt
+  full : Halt
+  declined : Refusal → Halt
+
+-- of a refusal of the store
+abbrev pub halt_by : Refusal → Halt
+halt_by no_list = unknown_list
+halt_by list_full = full
+halt_by other = declined other
+
+abbrev pub halt_of : ImportFault → Option Halt
+halt_of (Mbox (Preamble offset)) = Some (no_mbox offset)
+halt_of (Mbox Read) = Some not_read
+halt_of (Mbox Memory) = Some no_room
+halt_of (Mbox Failed) = None
+halt_of (Store fault) = option_map halt_by (refusal fault)
+
+-- how many messages were done, and why no more were; none where the database was at fault, or had no memory
+abbrev pub halt_reason : ImportStop → Option (ℕ × Halt)
+halt_reason stop = option_map (λ halt. (stop.done, halt)) (halt_of stop.fault)
+
+-- So many reads of the input failed: one for M2; and for a fault of the store one at most, since what was settled before a read
+-- failed is still added.
+abbrev pub FailedBy : ImportFault → ℕ → Type 0
+FailedBy (Mbox (Preamble offset)) n = n ≡ 0
+FailedBy (Mbox Read) n = n ≡ 1
+FailedBy (Mbox Memory) n = n ≡ 0
+FailedBy (Mbox Failed) n = n ≡ 0
+FailedBy (Store fault) n = n ≤ 1
+
+abbrev pub HasFailed : {A : Type 0} → Result A ImportStop → ℕ → Type 0
+HasFailed (Ok answer) n = n ≡ 0
+HasFailed (Err stop) n = FailedBy stop.fault n
+
+-- ---- the messages of what was read
+
+-- those that are settled, which every input has first that goes on from what was read; or all, where the input ended
+abbrev pub AreRead : (text : List ℕ) → (ends : ℕ) → List Item → Type 0
+AreRead text ends items = (items ≡ settled_items text) ⊎ ((ends ≡ 1) × Divides text items)
+
+-- M1: what was read is no mbox, and nothing was added. M2: all messages that are settled were added. M3: the first `done` of
+-- those read were. E4: there is no such list, and nothing was read. E12: after the first `done` the list holds 50,000, and the
+-- machine refuses the next for that.
+abbrev pub IsHalted : (list text : List ℕ) → (ends : ℕ) → (a b : Archive) → (done : ℕ) → Halt → Type 0
+IsHalted list text ends a b done (no_mbox n) =
+    (done ≡ 0) × (b ≡ a) × (has_list a list ≡ true) × (offset : ℕ) × IsPreamble text offset × IsCounted text n offset
+IsHalted list text ends a b done not_read =
+    (ends ≡ 0) × (done ≡ length (settled_items text)) × (b ≡ (taken a list (settled_items text)).archive) × (has_list a list ≡ true)
+IsHalted list text ends a b done no_room =
+    (items : List Item) × AreRead text ends items × HasAddedFirst list items done a b × (has_list a list ≡ true)
+IsHalted list text ends a b done unknown_list = (done ≡ 0) × (b ≡ a) × (has_list a list ≡ false) × (text ≡ []) × (ends ≡ 0)
+IsHalted list text ends a b done full =
+    (items : List Item) × AreRead text ends items × HasAddedFirst list items done a b × IsFullAt a list items done
+IsHalted list text ends a b done (declined why) = ⊥
+
+-- The database was at fault, or had no memory: the first `done` of the messages read were added.
+abbrev pub IsBroken : (list text : List ℕ) → (ends : ℕ) → (a b : Archive) → (done : ℕ) → ImportFault → Type 0
+IsBroken list text ends a b done (Mbox fault) = ⊥
+IsBroken list text ends a b done (Store fault) = (items : List Item) × AreRead text ends items × HasAddedFirst list items done a b
+
+-- all messages of the input, which was read to its end
+abbrev pub IsReadIn : (list text : List ℕ) → (ends : ℕ) → (a b : Archive) → Report → Type 0
+IsReadIn list text ends a b report = (ends ≡ 1) × IsImported list text a b report

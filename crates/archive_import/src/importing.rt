@@ -1,0 +1,276 @@
+//! Taking the messages of an mbox that is read piece by piece into a list.
+ghost use Rattle.std.specs.Prelude.{◌≡◌, ◌≢◌, ◌+◌, ◌≤◌, ◌++◌, ◌∷◌, [], ℕ, List, length, true, IfOk, IfErr, OnOk, Ok, Err};
+ghost use Rattle.mbox_core.specs.Division.{Item as Message};
+ghost use Rattle.mbox_stream.specs.Cutter.{IsCutter};
+ghost use Rattle.mbox_stream.specs.declared.cutter.Standing.TheVariants.{Open};
+ghost use Rattle.archive_machine.specs.Records.{Archive};
+ghost use Rattle.archive_machine.specs.Questions.{has_list, list_refusal};
+ghost use Rattle.archive_tables.specs.Calls.{WasClean};
+ghost use Rattle.archive_store.specs.Batches.{AddsAll, told_in};
+ghost use Rattle.archive_store.specs.Held.{held_of};
+ghost use Rattle.archive_store.specs.Replies.{refusal};
+ghost use Rattle.archive_store.specs.Told.{Asks, Calls};
+ghost use Rattle.archive_desk.specs.Importing.{HasAdded, IsBrokenAdd};
+ghost use Rattle.archive_import.specs.Streaming.{halt_reason, HasFailed, FailedBy, IsHalted, IsBroken, IsReadIn};
+ghost use Rattle.archive_import.specs.Intake.{IsUnderWay, IsHaltedAdd, IsUnread, IsOfStore};
+
+use crate::intake::Intake;
+use archive_desk::{ImportFault, ImportStop, Report};
+use archive_store::{AddStop, Report as Counts, Store, StoreFault};
+use mbox_core::device::Source;
+use mbox_core::{Item, MboxFault, OwnedItem};
+use mbox_stream::Cutter;
+use sqlite::Alter;
+use std::alloc::{AllocError, Global};
+
+/// Adds the messages of an mbox (RFC 4155) to a list, as `import` does, and reads it piece by piece: it holds the messages
+/// of one transaction and one piece. The list is looked up before the first read: E4 where there is no such list. M1: the
+/// first line that is not empty is no separator line; nothing was added. M2: a read failed, and all messages that were
+/// settled before it were done. M3: no memory was left to hold a message, or there were 2^64 reads. E12, E14 (also after 2^64 messages),
+/// E15 as of `import`. After each stop the first `done` messages were taken in, known or too large, and no other was
+/// taken in; the same input can be imported again.
+pub fn import_from<S: Alter, R: Source>(
+    store: &mut Store<S>,
+    alloc: Global,
+    list: &str,
+    input: &mut R,
+) -> Result<Report, ImportStop>
+    ensures imports { (text : List ℕ) × (ends : ℕ) × (R.told input.new ≡ R.told input.old ++ text) × (R.ends input.new ≡ R.ends input.old + ends)
+        × Calls S.Store store.old store.new halt_reason result
+        (λ a b report. IsReadIn list.now text ends a b report)
+        (λ a b why. IsHalted list.now text ends a b why.0 why.1)
+        (λ a b stop. IsBroken list.now text ends a b stop.done stop.fault) }
+    ensures failures { (failed : ℕ) × (R.failures input.new ≡ R.failures input.old + failed) × HasFailed result failed }
+    ensures end { OnOk result (R.ends input.new ≡ R.ends input.old + 1) }
+{
+    if let Err(fault) = find_list(store, list) {
+        return Err(ImportStop {
+            done: 0,
+            fault: ImportFault::Store(fault),
+        });
+    }
+    let mut cutter = Cutter::new(alloc);
+    let mut intake = Intake::new(alloc);
+    match add_settled(store, alloc, list, input, &mut cutter, &mut intake) {
+        Ok(()) => {}
+        Err(stop) => return Err(stop),
+    }
+    match add_last(store, alloc, list, &mut cutter, &mut intake) {
+        Ok(()) => Ok(intake.report()),
+        Err(stop) => Err(stop),
+    }
+}
+
+/// E4 where there is no such list.
+fn find_list<S: Alter>(store: &mut Store<S>, list: &str) -> Result<(), StoreFault>
+    ensures found { Asks S.Store store.old store.new refusal result (λ a. list_refusal a list.now)
+        (λ a _. has_list a list.now ≡ true) }
+{
+    match store.has_list(list) {
+        Ok(true) => Ok(()),
+        Ok(false) => Err(StoreFault::NoList),
+        Err(fault) => Err(fault),
+    }
+}
+
+/// Reads to the end, and after each read takes what waits. Where a read fails, all that was settled before it is done.
+fn add_settled<S: Alter, R: Source>(
+    store: &mut Store<S>,
+    alloc: Global,
+    list: &str,
+    input: &mut R,
+    cutter: &mut Cutter,
+    intake: &mut Intake,
+) -> Result<(), ImportStop>
+    requires fresh { cutter.old ≡ record { stream = []; taken = []; waiting = []; standing = Open } }
+    requires given { IsCutter cutter.old }
+    ensures adds { Calls S.Store store.old store.new halt_reason result
+        (λ b c _. (a : Archive) → IsUnderWay list.now a b [] intake.old → IsUnderWay list.now a c cutter.new.taken intake.new)
+        (λ b c why. (a : Archive) → IsUnderWay list.now a b [] intake.old → IsHalted list.now cutter.new.stream 0 a c why.0 why.1)
+        (λ b c stop. (a : Archive) → IsUnderWay list.now a b [] intake.old → IsBroken list.now cutter.new.stream 0 a c stop.done stop.fault) }
+    ensures told { R.told input.new ≡ R.told input.old ++ cutter.new.stream }
+    ensures end { OnOk result (R.ends input.new ≡ R.ends input.old + 1) }
+    ensures no_end { IfErr result (λ _. R.ends input.new ≡ R.ends input.old) }
+    ensures failures { (failed : ℕ) × (R.failures input.new ≡ R.failures input.old + failed) × HasFailed result failed }
+    ensures open { OnOk result (cutter.new.standing ≡ Open) }
+    ensures none { OnOk result (cutter.new.waiting ≡ []) }
+    ensures given { OnOk result (IsCutter cutter.new) }
+{
+    for _ in 0..u64::MAX {
+        match cutter.read_from(input) {
+            Ok(true) => {}
+            Ok(false) => return Ok(()),
+            Err(MboxFault::Read) => return stop_unread(store, alloc, list, intake),
+            Err(MboxFault::Preamble(at)) => {
+                return Err(intake.stop(ImportFault::Mbox(MboxFault::Preamble(at))));
+            }
+            Err(MboxFault::Memory) => {
+                return Err(intake.stop(ImportFault::Mbox(MboxFault::Memory)));
+            }
+            Err(MboxFault::Failed) => {
+                return Err(intake.stop(ImportFault::Mbox(MboxFault::Failed)));
+            }
+        }
+        match add_waiting(store, alloc, list, cutter, intake) {
+            Ok(()) => {}
+            Err(stop) => return Err(stop),
+        }
+    }
+    Err(intake.stop(ImportFault::Mbox(MboxFault::Memory)))
+}
+
+/// A read failed: what is held is added, and then it is M2.
+fn stop_unread<S: Alter>(
+    store: &mut Store<S>,
+    alloc: Global,
+    list: &str,
+    intake: &mut Intake,
+) -> Result<(), ImportStop>
+    ensures stopped { OnOk result ⊥ }
+    ensures kind { IfErr result (λ stop. FailedBy stop.fault 1) }
+    ensures adds { Calls S.Store store.old store.new halt_reason result
+        (λ b c _. (a : Archive) (items : List Message) → IsUnderWay list.now a b items intake.old → ⊥)
+        (λ b c why. (a : Archive) (items : List Message) → IsUnderWay list.now a b items intake.old → IsUnread list.now items a c why.0 why.1)
+        (λ b c stop. (a : Archive) (items : List Message) → IsUnderWay list.now a b items intake.old → IsBrokenAdd list.now items a c stop.done stop.fault) }
+{
+    match add_held(store, alloc, list, intake) {
+        Ok(()) => Err(intake.stop(ImportFault::Mbox(MboxFault::Read))),
+        Err(stop) => Err(stop),
+    }
+}
+
+/// Ends the stream, and adds the rest of its messages.
+fn add_last<S: Alter>(
+    store: &mut Store<S>,
+    alloc: Global,
+    list: &str,
+    cutter: &mut Cutter,
+    intake: &mut Intake,
+) -> Result<(), ImportStop>
+    requires open { cutter.old.standing ≡ Open }
+    requires none { cutter.old.waiting ≡ [] }
+    requires given { IsCutter cutter.old }
+    ensures adds { Calls S.Store store.old store.new halt_reason result
+        (λ b c _. (a : Archive) → IsUnderWay list.now a b cutter.old.taken intake.old → IsReadIn list.now cutter.old.stream 1 a c intake.new.report)
+        (λ b c why. (a : Archive) → IsUnderWay list.now a b cutter.old.taken intake.old → IsHalted list.now cutter.old.stream 1 a c why.0 why.1)
+        (λ b c stop. (a : Archive) → IsUnderWay list.now a b cutter.old.taken intake.old → IsBroken list.now cutter.old.stream 1 a c stop.done stop.fault) }
+    ensures kind { IfErr result (λ stop. FailedBy stop.fault 0) }
+{
+    match cutter.finish() {
+        Ok(()) => {}
+        Err(fault) => return Err(intake.stop(ImportFault::Mbox(fault))),
+    }
+    match add_waiting(store, alloc, list, cutter, intake) {
+        Ok(()) => add_held(store, alloc, list, intake),
+        Err(stop) => Err(stop),
+    }
+}
+
+/// Takes all messages that wait, and holds them. As often as one transaction takes no more, those that are held are added.
+fn add_waiting<S: Alter>(
+    store: &mut Store<S>,
+    alloc: Global,
+    list: &str,
+    cutter: &mut Cutter,
+    intake: &mut Intake,
+) -> Result<(), ImportStop>
+    requires given { IsCutter cutter.old }
+    ensures adds { Calls S.Store store.old store.new halt_reason result
+        (λ b c _. (a : Archive) (items : List Message) → IsUnderWay list.now a b items intake.old → IsUnderWay list.now a c (items ++ cutter.old.waiting) intake.new)
+        (λ b c why. (a : Archive) (items : List Message) → IsUnderWay list.now a b items intake.old → IsHaltedAdd list.now (items ++ cutter.old.waiting) a c why.0 why.1)
+        (λ b c stop. (a : Archive) (items : List Message) → IsUnderWay list.now a b items intake.old → IsBrokenAdd list.now (items ++ cutter.old.waiting) a c stop.done stop.fault) }
+    ensures kind { IfErr result (λ stop. FailedBy stop.fault 0) }
+    ensures taken { OnOk result ((cutter.new.taken ≡ cutter.old.taken ++ cutter.old.waiting) × (cutter.new.waiting ≡ [])) }
+    ensures stream { cutter.new.stream ≡ cutter.old.stream }
+    ensures standing { cutter.new.standing ≡ cutter.old.standing }
+    ensures given { IsCutter cutter.new }
+{
+    while let Some(item) = cutter.take() {
+        match hold_one(store, alloc, list, item, intake) {
+            Ok(()) => {}
+            Err(stop) => return Err(stop),
+        }
+    }
+    Ok(())
+}
+
+/// Holds a message. Where one transaction does not take it too, those that are held are added first.
+fn hold_one<S: Alter>(
+    store: &mut Store<S>,
+    alloc: Global,
+    list: &str,
+    item: OwnedItem,
+    intake: &mut Intake,
+) -> Result<(), ImportStop>
+    ensures adds { Calls S.Store store.old store.new halt_reason result
+        (λ b c _. (a : Archive) (items : List Message) → IsUnderWay list.now a b items intake.old → IsUnderWay list.now a c (items ++ item ∷ []) intake.new)
+        (λ b c why. (a : Archive) (items : List Message) → IsUnderWay list.now a b items intake.old → IsHaltedAdd list.now (items ++ item ∷ []) a c why.0 why.1)
+        (λ b c stop. (a : Archive) (items : List Message) → IsUnderWay list.now a b items intake.old → IsBrokenAdd list.now (items ++ item ∷ []) a c stop.done stop.fault) }
+    ensures kind { IfErr result (λ stop. FailedBy stop.fault 0) }
+{
+    if intake.has_room(&item) {
+        return intake.hold(item);
+    }
+    match add_held(store, alloc, list, intake) {
+        Ok(()) => intake.hold(item),
+        Err(stop) => Err(stop),
+    }
+}
+
+/// Adds the messages that are held, in one transaction, and then holds none.
+fn add_held<S: Alter>(
+    store: &mut Store<S>,
+    alloc: Global,
+    list: &str,
+    intake: &mut Intake,
+) -> Result<(), ImportStop>
+    ensures adds { Calls S.Store store.old store.new halt_reason result
+        (λ b c _. (a : Archive) (items : List Message) → IsUnderWay list.now a b items intake.old → IsUnderWay list.now a c items intake.new)
+        (λ b c why. (a : Archive) (items : List Message) → IsUnderWay list.now a b items intake.old → IsHaltedAdd list.now items a c why.0 why.1)
+        (λ b c stop. (a : Archive) (items : List Message) → IsUnderWay list.now a b items intake.old → IsBrokenAdd list.now items a c stop.done stop.fault) }
+    ensures kind { IfErr result (λ stop. IsOfStore stop.fault) }
+    ensures none { OnOk result (intake.new.held ≡ []) }
+{
+    let Some(_) = intake.done_after() else {
+        return Err(intake.stop(ImportFault::Store(StoreFault::Memory)));
+    };
+    match add_owned(store, alloc, list, intake.held()) {
+        Ok(counts) => {
+            intake.count(alloc, counts);
+            Ok(())
+        }
+        Err(stop) => Err(intake.stop_amid(stop)),
+    }
+}
+
+/// Adds messages that own their bytes. E14: there was no memory to lend them.
+fn add_owned<S: Alter>(
+    store: &mut Store<S>,
+    alloc: Global,
+    list: &str,
+    items: &[OwnedItem],
+) -> Result<Counts, AddStop>
+    ensures step { AddsAll S.Store (held_of store.old) (held_of store.new) result list.now items.now }
+    ensures total { IfOk result (λ report. told_in report ≡ length items.now) }
+    ensures bound { IfErr result (λ stop. stop.done ≤ length items.now) }
+    ensures clean { WasClean S.Store (held_of store.old) (held_of store.new) }
+{
+    match lend_items(alloc, items) {
+        Ok(lent) => store.add_all(alloc, list, &lent),
+        Err(_) => Err(AddStop {
+            done: 0,
+            fault: StoreFault::Memory,
+        }),
+    }
+}
+
+/// The messages, with their bytes lent.
+fn lend_items<'a>(alloc: Global, owned: &'a [OwnedItem]) -> Result<Vec<Item<'a>>, AllocError>
+    ensures { IfOk result (λ items. items.items ≡ owned.entry.now) }
+{
+    let mut items = Vec::with_capacity(alloc, owned.len())?;
+    for one in owned.iter() {
+        items.push(one.as_item())?;
+    }
+    Ok(items)
+}

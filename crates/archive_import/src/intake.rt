@@ -1,0 +1,142 @@
+//! Messages that are held for one transaction.
+ghost use Rattle.std.specs.Prelude.{◌≡◌, ◌+◌, ◌≤◌, ◌<◌, ◌^◌, ◌∷◌, ◌++◌, [], IsTrue, length, IfErr, IfSome, OnOk};
+ghost use Rattle.archive_desk.specs.declared.importing.ImportFault.TheVariants.{Mbox as NotCut, Store as Stored};
+ghost use Rattle.mbox_core.specs.declared.faults.MboxFault.TheVariants.{Memory as NoRoom};
+ghost use Rattle.archive_store.specs.Batches.{told_in, tally_of as store_tally};
+ghost use Rattle.archive_import.specs.Intake.{IsSmall, is_more};
+
+use archive_desk::{ImportFault, ImportStop, Report};
+use archive_store::{AddStop, Report as Counts};
+use mbox_core::{MboxFault, OwnedItem};
+use std::alloc::Global;
+use std::marker::Model;
+
+/// Messages of one transaction, at most.
+const MESSAGES_AT_ONCE: usize = 500;
+
+/// Bytes of the texts of one transaction, at most, unless its one text is longer.
+const BYTES_AT_ONCE: usize = 8_388_608;
+
+/// The messages that are held for the next transaction: 500 at most, with 8 MB of texts at most, or one alone; and how
+/// many were done before them, with what became of those.
+#[derive(Drop)]
+pub(crate) struct Intake {
+    held: Vec<OwnedItem>,
+    bytes: usize,
+    done: u64,
+    report: Report,
+}
+
+impl Model for Intake {
+    ghost use Rattle.std.specs.Prelude.{◌≡◌};
+    ghost use Rattle.archive_store.specs.Batches.{text_bytes};
+    ghost use Rattle.archive_import.specs.Intake.{IntakeState, IsSmall, sum_of};
+
+    ghost Value = { IntakeState };
+
+    ghost view = { λ s. record { held = s.held.items; done = s.done; report = s.report } };
+
+    ghost invariant = { λ s. (sum_of s.report ≡ s.done) × (s.bytes ≡ text_bytes s.held.items) × IsSmall s.held.items };
+}
+
+impl Intake {
+    /// Nothing is held, and nothing was done.
+    pub(crate) fn new(alloc: Global) -> Intake
+        ensures { result ≡ record { held = []; done = 0; report = record { new = 0; known = 0; too_large = 0 } } }
+    {
+        Intake {
+            held: Vec::new(alloc),
+            bytes: 0,
+            done: 0,
+            report: Report {
+                new: 0,
+                known: 0,
+                too_large: 0,
+            },
+        }
+    }
+
+    /// The messages that are held.
+    pub(crate) fn held(&self) -> &[OwnedItem]
+        ensures { result.now ≡ self.now.held }
+    {
+        &self.held
+    }
+
+    /// What became of the messages before those.
+    pub(crate) fn report(&self) -> Report
+        ensures { result ≡ self.now.report }
+    {
+        self.report
+    }
+
+    /// A stop before what is held.
+    pub(crate) fn stop(&self, fault: ImportFault) -> ImportStop
+        ensures { result ≡ record { done = self.now.done; fault = fault } }
+    {
+        ImportStop {
+            done: self.done,
+            fault,
+        }
+    }
+
+    /// A stop amid what is held, so far as it was added.
+    pub(crate) fn stop_amid(&self, stop: AddStop) -> ImportStop
+        requires { self.now.done + stop.done < 2 ^ 64 }
+        ensures { result ≡ record { done = self.now.done + stop.done; fault = Stored stop.fault } }
+    {
+        ImportStop {
+            done: self.done + stop.done as u64,
+            fault: ImportFault::Store(stop.fault),
+        }
+    }
+
+    /// Whether one transaction takes this message too.
+    pub(crate) fn has_room(&self, item: &OwnedItem) -> bool
+        ensures { IsTrue result → IsSmall (self.now.held ++ item.now ∷ []) }
+    {
+        self.held.len() < MESSAGES_AT_ONCE
+            && self.bytes.saturating_add(item.text().len()) <= BYTES_AT_ONCE
+    }
+
+    /// Holds a message more. M3: there was no memory for it.
+    pub(crate) fn hold(&mut self, item: OwnedItem) -> Result<(), ImportStop>
+        requires { IsSmall (self.old.held ++ item ∷ []) }
+        ensures ok { OnOk result (self.new ≡ record self.old { held = self.old.held ++ item ∷ [] }) }
+        ensures fault { IfErr result (λ stop. stop ≡ record { done = self.old.done; fault = NotCut NoRoom }) }
+    {
+        let bytes = self.bytes.saturating_add(item.text().len());
+        match self.held.push(item) {
+            Ok(()) => {
+                self.bytes = bytes;
+                Ok(())
+            }
+            Err(_) => Err(self.stop(ImportFault::Mbox(MboxFault::Memory))),
+        }
+    }
+
+    /// How many are done once those that are held are. `None` where that is 2^64 or more.
+    pub(crate) fn done_after(&self) -> Option<u64>
+        ensures { IfSome result (λ n. n ≡ self.now.done + length self.now.held) }
+    {
+        self.done.checked_add(self.held.len() as u64)
+    }
+
+    /// Those that were held are done: this became of them.
+    pub(crate) fn count(&mut self, alloc: Global, counts: Counts)
+        requires fits { self.old.done + length self.old.held < 2 ^ 64 }
+        requires total { told_in counts ≡ length self.old.held }
+        ensures held { self.new.held ≡ [] }
+        ensures done { self.new.done ≡ self.old.done + length self.old.held }
+        ensures report { is_more self.old.report (store_tally counts) self.new.report }
+    {
+        self.done += self.held.len() as u64;
+        self.report = Report {
+            new: self.report.new + counts.new as u64,
+            known: self.report.known + counts.known as u64,
+            too_large: self.report.too_large + counts.too_large as u64,
+        };
+        self.held = Vec::new(alloc);
+        self.bytes = 0;
+    }
+}

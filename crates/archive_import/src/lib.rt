@@ -1,0 +1,7 @@
+//! Taking an mbox that is read piece by piece into a list, in the memory of one transaction and one piece.
+#![tactic(auto)]
+
+mod importing;
+mod intake;
+
+pub use importing::import_from;
