@@ -9,9 +9,13 @@ pub mod chain;
 #[cfg(test)]
 mod exports;
 #[cfg(test)]
+mod files;
+#[cfg(test)]
 mod imports;
 #[cfg(test)]
 mod listings;
 #[cfg(test)]
 mod messages;
 pub mod noting;
+#[cfg(test)]
+mod stops;

@@ -1,5 +1,6 @@
 //! The stores, and what they are told and asked.
-use crate::{devices, pages, requests};
+use crate::links::Past;
+use crate::{devices, links, pages, requests};
 use archive_pages::answer;
 use archive_store::Store;
 use civil_time::Day;
@@ -7,10 +8,12 @@ use mbox_core::device::{Counted, Tap};
 use policy_core::Policy;
 use sqlite::Alter;
 use std::alloc::Global;
+use std::hash::RandomState;
 use std::io::{self, Read};
 use std::process::Abort;
+use std::random::RandomSource;
 use std::test::Fail;
-use thread_core::PlainThreader;
+use thread_core::{NodeThreader, PlainThreader};
 
 /// Two messages, the second an answer to the first.
 pub const TWO: &[u8] =
@@ -103,6 +106,45 @@ fn tell<S: Alter>(
     }
 }
 
+/// What a store is told: a case, or an archive of which all links are followed, whose threads are asked for, or whose pages are
+/// made by both threaders.
+#[derive(Clone, Copy, Debug, PartialEq, Eq)]
+enum Order {
+    Case(Case),
+    Links,
+    Shown(Past),
+    Asking,
+    ByBoth,
+}
+
+/// Tells a new store over memory an order. What nobody in particular is shown of an archive; else nothing.
+fn tell_new(
+    rt: &(impl Abort + RandomSource),
+    alloc: Global,
+    order: Order,
+) -> Result<Vec<u8>, Fail> {
+    let nodes = NodeThreader::new(RandomState::new(rt)?);
+    let mut store = Store::open_in_memory(alloc)?;
+    tell_order(rt, alloc, &mut store, &nodes, order)
+}
+
+fn tell_order<S: Alter>(
+    rt: &impl Abort,
+    alloc: Global,
+    store: &mut Store<S>,
+    nodes: &NodeThreader,
+    order: Order,
+) -> Result<Vec<u8>, Fail> {
+    match order {
+        Order::Case(case) => tell(rt, alloc, store, case)?,
+        Order::Links => links::links(rt, alloc, store)?,
+        Order::Shown(past) => return links::shown(rt, alloc, store, past),
+        Order::Asking => links::asking(rt, alloc, store)?,
+        Order::ByBoth => links::by_both(rt, alloc, store, nodes)?,
+    }
+    Ok(Vec::new(alloc))
+}
+
 #[test]
 fn stores_over_memory(rt: HostRuntime) -> Result<(), Fail> {
     for case in [
@@ -114,8 +156,35 @@ fn stores_over_memory(rt: HostRuntime) -> Result<(), Fail> {
         Case::Withheld,
         Case::Alone,
     ] {
-        let mut store = Store::open_in_memory(rt.alloc())?;
-        tell(&rt, rt.alloc(), &mut store, case)?;
+        tell_new(&rt, rt.alloc(), Order::Case(case))?;
     }
+    Ok(())
+}
+
+#[test]
+fn all_links_lead_to_pages(rt: HostRuntime) -> Result<(), Fail> {
+    tell_new(&rt, rt.alloc(), Order::Links)?;
+    Ok(())
+}
+
+/// All pages that nobody in particular finds, and all that they say, are the same.
+#[test]
+fn a_withdrawn_message_leaves_no_trace(rt: HostRuntime) -> Result<(), Fail> {
+    let withdrawn = tell_new(&rt, rt.alloc(), Order::Shown(Past::Withdrawn))?;
+    let never_came = tell_new(&rt, rt.alloc(), Order::Shown(Past::NeverCame))?;
+    assert!(rt; !withdrawn.is_empty());
+    assert!(rt; withdrawn.as_slice() == never_came.as_slice());
+    Ok(())
+}
+
+#[test]
+fn a_page_of_threads_asks_the_threader_once_of_the_view_alone(rt: HostRuntime) -> Result<(), Fail> {
+    tell_new(&rt, rt.alloc(), Order::Asking)?;
+    Ok(())
+}
+
+#[test]
+fn both_threaders_give_the_same_pages(rt: HostRuntime) -> Result<(), Fail> {
+    tell_new(&rt, rt.alloc(), Order::ByBoth)?;
     Ok(())
 }

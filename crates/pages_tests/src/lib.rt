@@ -6,6 +6,8 @@ mod cases;
 #[cfg(test)]
 mod devices;
 #[cfg(test)]
+mod links;
+#[cfg(test)]
 mod pages;
 #[cfg(test)]
 mod requests;
