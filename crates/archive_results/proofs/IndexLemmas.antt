@@ -1,16 +1,16 @@
 -- What the headers of a view give is what the view gives.
-use Rattle.std.proofs.Common.{◌≡◌, ℕ, Bool, true, false, cond, List, [], ◌∷◌, map, filter, Option, Some, None, option_map, refl, ap, ◌∙◌}
+use Rattle.std.proofs.Common.{◌≡◌, ℕ, Bool, true, false, cond, List, [], ◌∷◌, ◌++◌, map, filter, Option, Some, None, option_map, refl, sym, ap, ◌∙◌}
+use Rattle.std.proofs.lemmas.List.{append-nil, map-append}
+use Rattle.std.proofs.lemmas.List.Elements.{filter-append}
 use Rattle.std.specs.Option.{option_and_then}
-use Rattle.policy_core.specs.declared.access.Standing.{Standing}
 use Rattle.thread_core.specs.Threads.{threads_of}
 use Rattle.thread_core.specs.TopThread.{top_thread_of}
 use Rattle.thread_links.specs.declared.entry.Entry.{Entry}
 use Rattle.thread_core.specs.declared.row.Row.{Row}
 use Rattle.archive_machine.specs.Records.{Message}
-use Rattle.archive_results.specs.Access.{Ask, is_shown}
 use Rattle.archive_results.specs.Shown.{Line, shown_of, entry_of}
 use Rattle.archive_results.specs.Results.{lines_of, by_sent, is_of_month, is_of_author, month_lines, author_lines, TreeLine, tree_line, rows_of, tree_lines, within, place_of, thread_lines}
-use Rattle.archive_results.specs.Index.{Header, header_of, IsIndexOf, allowed_headers, lines_in, entries_in}
+use Rattle.archive_results.specs.Index.{Header, header_of, IsIndexOf, lines_in, entries_in}
 
 lines_of_view : (view : List Message) → lines_in (map header_of view) ≡ lines_of (map shown_of view)
 lines_of_view [] = refl
@@ -26,17 +26,21 @@ lines_are view headers lines e h = h ∙ ap lines_in e ∙ lines_of_view view
 pub rows_are : (view : List Message) (headers : List Header) (entries : List Entry) (rows : List Row) → IsIndexOf view headers → entries ≡ entries_in headers → rows ≡ threads_of entries → rows ≡ rows_of (map shown_of view)
 rows_are view headers entries rows e h r = r ∙ ap threads_of (h ∙ ap entries_in e ∙ entries_of_view view)
 
-allowed_view : (ask : Ask) (standing : Standing) (messages : List Message) → allowed_headers ask standing (map header_of messages) ≡ map header_of (filter (is_shown ask standing) messages)
-allowed_view ask standing [] = refl
-allowed_view ask standing (m ∷ ms) = rw (allowed_view ask standing ms) (go (is_shown ask standing m) (filter (is_shown ask standing) ms))
-  where
-    go : (b : Bool) (rest : List Message) → cond b (header_of m ∷ map header_of rest) (map header_of rest) ≡ map header_of (cond b (m ∷ rest) rest)
-    go true rest = refl
-    go false rest = refl
+-- ---- one message more, and its line where the test holds of it
 
-pub allowed_are : (ask : Ask) (standing : Standing) (messages : List Message) (headers shown : List Header) → IsIndexOf messages headers → shown ≡ allowed_headers ask standing headers
-    → IsIndexOf (filter (is_shown ask standing) messages) shown
-allowed_are ask standing messages headers shown e h = h ∙ ap (allowed_headers ask standing) e ∙ allowed_view ask standing messages
+kept_more : (test : Line → Bool) (before : List Header) (h : Header)
+    → filter test (lines_in (before ++ h ∷ [])) ≡ filter test (lines_in before) ++ cond (test h.line) (h.line ∷ []) []
+kept_more test before h = ap (filter test) (map-append (λ (x : Header). x.line) before (h ∷ [])) ∙ filter-append test (lines_in before) (h.line ∷ [])
+
+pub kept_one : (test : Line → Bool) (before : List Header) (h : Header) (found more : List Line) → found ≡ filter test (lines_in before) → true ≡ test h.line
+    → more ≡ found ++ h.line ∷ [] → more ≡ filter test (lines_in (before ++ h ∷ []))
+kept_one test before h found more so_far is e =
+    e ∙ ap (λ ls. ls ++ h.line ∷ []) so_far ∙ ap (λ t. filter test (lines_in before) ++ cond t (h.line ∷ []) []) is ∙ sym (kept_more test before h)
+
+pub kept_none : (test : Line → Bool) (before : List Header) (h : Header) (found : List Line) → found ≡ filter test (lines_in before) → false ≡ test h.line
+    → found ≡ filter test (lines_in (before ++ h ∷ []))
+kept_none test before h found so_far is =
+    so_far ∙ sym (append-nil (filter test (lines_in before))) ∙ ap (λ t. filter test (lines_in before) ++ cond t (h.line ∷ []) []) is ∙ sym (kept_more test before h)
 
 pub month_is : (month : ℕ) (view : List Message) (headers : List Header) (found lines : List Line) → IsIndexOf view headers → found ≡ filter (is_of_month month) (lines_in headers) → lines ≡ by_sent found
     → lines ≡ month_lines month (map shown_of view)

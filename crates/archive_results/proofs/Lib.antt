@@ -4,4 +4,5 @@ pub mod HoldLemmas
 pub mod IndexLemmas
 pub mod ResultExamples
 pub mod ShownExamples
+pub mod SlotLemmas
 pub mod SortLemmas

@@ -1,29 +1,17 @@
--- The index of a list: what is asked of the header of each message, and no text.
-use Rattle.std.specs.Prelude.{◌≡◌, ℕ, List, map, filter}
-use Rattle.policy_core.specs.declared.access.Standing.{Standing}
+-- The index of a view: what is asked of the header of each message, and no text.
+use Rattle.std.specs.Prelude.{◌≡◌, List, map}
 use Rattle.thread_links.specs.declared.entry.Entry.{Entry}
-use Rattle.archive_machine.specs.Records.{Message, Archive}
-use Rattle.archive_machine.specs.Questions.{messages_in}
+use Rattle.archive_machine.specs.Records.{Message}
 use Rattle.archive_machine.specs.Sound.{item_of}
-use Rattle.archive_results.specs.Access.{Ask, Marks, marks_of, allows}
 use Rattle.archive_results.specs.Shown.{Line, line_of, shown_of, entry_of}
 
--- a message without its text: what a policy asks of it, its line, and what it says about threads
+-- a message without its text: its line, and what it says about threads
 pub record Header : Type 0 where
-  pub marks : Marks
   pub line : Line
   pub entry : Entry
 
 abbrev pub header_of : Message → Header
-header_of m = record { marks = marks_of m; line = line_of (shown_of m); entry = entry_of (item_of m) }
-
--- the headers of a list's messages, in mailbox order
-abbrev pub index_of : Archive → (list : List ℕ) → List Header
-index_of archive list = map header_of (messages_in archive list)
-
--- the headers of the messages that the policy allows
-abbrev pub allowed_headers : Ask → Standing → List Header → List Header
-allowed_headers ask standing headers = filter (λ h. allows ask standing h.marks) headers
+header_of m = record { line = line_of (shown_of m); entry = entry_of (item_of m) }
 
 -- the lines of some headers, and what they say about threads
 abbrev pub lines_in : List Header → List Line

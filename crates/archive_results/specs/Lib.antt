@@ -2,3 +2,4 @@ pub mod Access
 pub mod Shown
 pub mod Results
 pub mod Index
+pub mod Slots

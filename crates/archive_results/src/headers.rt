@@ -3,7 +3,6 @@ ghost use Rattle.std.specs.Prelude.{◌≡◌, ℕ, List, IfOk};
 ghost use Rattle.archive_machine.specs.Messages.{remembered};
 ghost use Rattle.archive_results.specs.Index.{header_of};
 
-use crate::access::{Marks, marks_of};
 use crate::entries::{entry_in, line_in};
 use crate::lines::Line;
 use archive_machine::Message;
@@ -12,10 +11,9 @@ use std::alloc::Global;
 use std::marker::Model;
 use thread_core::Entry;
 
-/// A message without its text: what a policy asks of it, its line, and what it says about threads.
+/// A message without its text: its line, and what it says about threads.
 #[derive(Drop)]
 pub struct Header {
-    pub marks: Marks,
     pub line: Line,
     pub entry: Entry,
 }
@@ -25,7 +23,7 @@ impl Model for Header {
 
     ghost Value = { Shown };
 
-    ghost view = { λ h. record { marks = h.marks; line = h.line; entry = h.entry } };
+    ghost view = { λ h. record { line = h.line; entry = h.entry } };
 }
 
 /// The header of a message, by one pass over its lines. `Memory` where no memory is left. No byte of the message behind its
@@ -39,9 +37,5 @@ pub fn header_of(alloc: Global, message: &Message) -> Result<Header, Memory>
     let subject = fields.unfolded_subject(alloc)?;
     let line = line_in(alloc, message.key, &fields, sent, &subject)?;
     let entry = entry_in(alloc, &fields, sent, &subject)?;
-    Ok(Header {
-        marks: marks_of(message),
-        line,
-        entry,
-    })
+    Ok(Header { line, entry })
 }

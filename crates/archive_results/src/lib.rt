@@ -16,5 +16,5 @@ pub use asking::{Ask, Asked, Reader};
 pub use entries::{entry_of, line_of};
 pub use headers::{Header, header_of};
 pub use lines::{Line, TreeLine};
-pub use results::{allowed_headers, author_lines, month_lines};
+pub use results::{author_lines, month_lines};
 pub use threads::{thread_lines, tree_lines};

@@ -1,10 +1,6 @@
 //! Lines of messages.
-ghost use Rattle.std.specs.Prelude.{◌≡◌, IfOk};
-
 use archive_machine::Key;
 use civil_time::Instant;
-use mail_core::Memory;
-use std::alloc::Global;
 use std::marker::Model;
 
 /// A message in a list.
@@ -25,20 +21,6 @@ impl Model for Line {
     ghost Value = { Shown };
 
     ghost view = { λ l. record { key = l.key; sent = l.sent; author = l.author.items; subject = l.subject.items } };
-}
-
-impl Line {
-    /// The same line once more. `Memory` where no memory is left.
-    pub fn try_copy(&self, alloc: Global) -> Result<Line, Memory>
-        ensures { IfOk result (λ copy. copy ≡ self.now) }
-    {
-        Ok(Line {
-            key: self.key,
-            sent: self.sent,
-            author: Vec::from_slice(alloc, self.author.as_slice())?,
-            subject: Vec::from_slice(alloc, self.subject.as_slice())?,
-        })
-    }
 }
 
 /// A row of a thread: how deep it stands, 0 at the top, and its message's line. `None` stands for a message that is missing.

@@ -1,52 +1,14 @@
 //! The lists of a month and of an author.
 ghost use Rattle.std.specs.Prelude.{◌≡◌, IfOk, filter, map};
-ghost use Rattle.archive_results.specs.Access.{is_shown};
 ghost use Rattle.archive_results.specs.Shown.{shown_of};
 ghost use Rattle.archive_results.specs.Results.{by_sent, is_of_month, is_of_author, month_lines, author_lines};
-ghost use Rattle.archive_results.specs.Index.{IsIndexOf, OfEachView, allowed_headers, lines_in};
+ghost use Rattle.archive_results.specs.Index.{OfEachView, lines_in};
 
-use crate::access::allows;
-use crate::asking::Ask;
 use crate::headers::Header;
 use crate::lines::Line;
 use civil_time::Month;
 use mail_core::Memory;
-use policy_core::Standing;
 use std::alloc::Global;
-
-/// The headers whose marks the policy allows, in their order.
-fn keep_allowed(
-    alloc: Global,
-    ask: &Ask<'_>,
-    standing: Standing,
-    headers: Vec<Header>,
-) -> Result<Vec<Header>, Memory>
-    ensures { IfOk result (λ kept. kept.items ≡ allowed_headers ask.now standing headers.items) }
-{
-    let mut kept = Vec::new(alloc);
-    for header in headers {
-        if allows(ask, standing, header.marks) {
-            kept.push(header)?;
-        }
-    }
-    Ok(kept)
-}
-
-/// The headers of the messages that the policy allows to a reader of this standing, in their order. `Memory` where no memory
-/// is left.
-pub fn allowed_headers(
-    alloc: Global,
-    ask: &Ask<'_>,
-    standing: Standing,
-    headers: Vec<Header>,
-) -> Result<Vec<Header>, Memory>
-    ensures value { IfOk result (λ shown. shown.items ≡ allowed_headers ask.now standing headers.items) }
-    ensures view { OfEachView headers.items (λ messages.
-        IfOk result (λ shown. IsIndexOf (filter (is_shown ask.now standing) messages) shown.items)) }
-{
-    let shown = keep_allowed(alloc, ask, standing, headers)?;
-    Ok(shown)
-}
 
 /// Lines by sent date; those of one sent date stay in their order.
 fn by_sent(mut lines: Vec<Line>) -> Result<Vec<Line>, Memory>

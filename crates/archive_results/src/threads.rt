@@ -1,88 +1,101 @@
 //! The threads of a view (RFC 5256, section 3, THREAD=REFERENCES).
-ghost use Rattle.std.specs.Prelude.{◌≡◌, IfOk, map, slice_get, bytes_eq, option_map};
-ghost use Rattle.std.specs.Option.{option_and_then};
+ghost use Rattle.std.specs.Prelude.{◌≡◌, ◌≢◌, ℕ, IfOk, false, map, position, bytes_eq, option_map};
+ghost use Rattle.thread_core.specs.TopThread.{is_row_of};
 ghost use Rattle.archive_results.specs.Shown.{shown_of};
-ghost use Rattle.archive_results.specs.Results.{tree_line, within, place_of, tree_lines, thread_lines};
-ghost use Rattle.archive_results.specs.Index.{OfEachView, lines_in, entries_in};
+ghost use Rattle.archive_results.specs.Results.{within, tree_lines, thread_lines};
+ghost use Rattle.archive_results.specs.Index.{OfEachView, entries_in};
+ghost use Rattle.archive_results.specs.Slots.{slots_in, held_at, row_held, HasNoPlaceTwice};
 
 use crate::headers::Header;
 use crate::lines::{Line, TreeLine};
 use archive_machine::Key;
 use mail_core::Memory;
 use std::alloc::Global;
+use thread_core::laws::each_place_stands_in_one_row;
 use thread_core::{Entry, Row, Threader, thread_of, threads};
 
-/// The lines of some headers, and what they say about threads.
+/// The line of each of some headers, in a slot of its own, and what the headers say about threads.
 #[derive(Drop)]
 struct Parts {
-    lines: Vec<Line>,
+    slots: Vec<Option<Line>>,
     entries: Vec<Entry>,
 }
 
 fn split(alloc: Global, headers: Vec<Header>) -> Result<Parts, Memory>
-    ensures lines { IfOk result (λ parts. parts.lines.items ≡ lines_in headers.items) }
+    ensures slots { IfOk result (λ parts. parts.slots.items ≡ slots_in headers.items) }
     ensures entries { IfOk result (λ parts. parts.entries.items ≡ entries_in headers.items) }
 {
-    let mut lines = Vec::new(alloc);
-    let mut entries = Vec::new(alloc);
+    let mut slots = Vec::with_capacity(alloc, headers.len())?;
+    let mut entries = Vec::with_capacity(alloc, headers.len())?;
     for header in headers {
-        lines.push(header.line)?;
+        slots.push(Some(header.line))?;
         entries.push(header.entry)?;
     }
-    Ok(Parts { lines, entries })
+    Ok(Parts { slots, entries })
 }
 
-/// A copy of the line at a place, if there is one.
-fn line_at(alloc: Global, lines: &[Line], place: Option<usize>) -> Result<Option<Line>, Memory>
-    ensures { IfOk result (λ line. line ≡ option_and_then (slice_get lines.now) place) }
+/// The line in the slot at a place, taken out of it. `None` where there is no slot, or its line was taken before.
+fn take_line(slots: &mut [Option<Line>], place: usize) -> Option<Line>
+    ensures taken { result ≡ held_at slots.old place }
+    ensures others { (other : ℕ) → other ≢ place → held_at slots.new other ≡ held_at slots.old other }
 {
-    let Some(at) = place else {
-        return Ok(None);
-    };
-    match lines.get(at) {
-        Some(line) => Ok(Some(line.try_copy(alloc)?)),
-        None => Ok(None),
+    if place < slots.len() {
+        slots[place].take()
+    } else {
+        None
     }
 }
 
-/// A row with the line at its place.
-fn tree_line(alloc: Global, lines: &[Line], row: &Row) -> Result<TreeLine, Memory>
-    ensures { IfOk result (λ shown. shown ≡ tree_line lines.now row.now) }
+/// A row with the line at its place, taken out of its slot.
+fn tree_line(slots: &mut [Option<Line>], row: &Row) -> TreeLine
+    ensures shown { result ≡ row_held slots.old row.now }
+    ensures others { (place : ℕ) → is_row_of place row.now ≡ false
+        → held_at slots.new place ≡ held_at slots.old place }
 {
-    Ok(TreeLine {
+    let line = match row.place {
+        Some(place) => take_line(slots, place),
+        None => None,
+    };
+    TreeLine {
         depth: row.depth,
-        line: line_at(alloc, lines, row.place)?,
-    })
+        line,
+    }
 }
 
-/// Rows with the lines at their places.
-fn lines_at(alloc: Global, lines: &[Line], rows: &[Row]) -> Result<Vec<TreeLine>, Memory>
-    ensures { IfOk result (λ shown. shown.items ≡ map (tree_line lines.now) rows.now) }
+/// Rows with the lines at their places, each taken out of its slot.
+fn lines_at(
+    alloc: Global,
+    slots: &mut [Option<Line>],
+    rows: &[Row],
+) -> Result<Vec<TreeLine>, Memory>
+    requires { HasNoPlaceTwice rows.now }
+    ensures { IfOk result (λ shown. shown.items ≡ map (row_held slots.old) rows.now) }
 {
-    let mut shown = Vec::new(alloc);
+    let mut shown = Vec::with_capacity(alloc, rows.len())?;
     for row in rows {
-        shown.push(tree_line(alloc, lines, row)?)?;
+        shown.push(tree_line(slots, row))?;
     }
     Ok(shown)
 }
 
-/// Whether a line is that of the message of this key.
-fn has_key(line: &Line, key: &Key) -> bool
-    ensures { result ≡ bytes_eq line.now.key key.now }
+/// Whether a header is that of the message of this key.
+fn has_key(header: &Header, key: &Key) -> bool
+    ensures { result ≡ bytes_eq header.now.line.key key.now }
 {
-    line.key.as_str() == key.as_str()
+    header.line.key.as_str() == key.as_str()
 }
 
 /// The place of the message of a key.
-fn place_of(lines: &[Line], key: &Key) -> Option<usize>
-    ensures { result ≡ place_of key.now lines.now }
+fn place_of(headers: &[Header], key: &Key) -> Option<usize>
+    ensures { result ≡ position (λ h. bytes_eq h.line.key key.now) headers.now }
 {
-    lines.iter().position(|line| has_key(line, key))
+    headers.iter().position(|header| has_key(header, key))
 }
 
-/// The rows of a range.
+/// The rows of a range. Where no place stands in two rows, none does in two of these.
 fn within<'a>(rows: &'a [Row], first: usize, end: usize) -> &'a [Row]
-    ensures { result.now ≡ within (first, end) rows.entry.now }
+    ensures part { result.now ≡ within (first, end) rows.entry.now }
+    ensures once { HasNoPlaceTwice rows.entry.now → HasNoPlaceTwice result.now }
 {
     let (_, behind) = rows.split_at(first.min(rows.len()));
     let (part, _) = behind.split_at(end.saturating_sub(first).min(behind.len()));
@@ -99,9 +112,10 @@ pub fn tree_lines<T: Threader>(
     ensures { OfEachView headers.items (λ view.
         IfOk result (λ rows. rows.items ≡ tree_lines (map shown_of view))) }
 {
-    let parts = split(alloc, headers)?;
+    each_place_stands_in_one_row();
+    let mut parts = split(alloc, headers)?;
     let rows = threads(alloc, threader, &parts.entries)?;
-    let shown = lines_at(alloc, &parts.lines, &rows)?;
+    let shown = lines_at(alloc, &mut parts.slots, &rows)?;
     Ok(shown)
 }
 
@@ -116,14 +130,15 @@ pub fn thread_lines<T: Threader>(
     ensures { OfEachView headers.items (λ view. IfOk result (λ found.
         option_map (λ rows. rows.items) found ≡ thread_lines key.now (map shown_of view))) }
 {
-    let parts = split(alloc, headers)?;
-    let Some(place) = place_of(&parts.lines, key) else {
+    each_place_stands_in_one_row();
+    let Some(place) = place_of(&headers, key) else {
         return Ok(None);
     };
+    let mut parts = split(alloc, headers)?;
     let rows = threads(alloc, threader, &parts.entries)?;
     let Some((first, end)) = thread_of(&rows, place) else {
         return Ok(None);
     };
-    let shown = lines_at(alloc, &parts.lines, within(&rows, first, end))?;
+    let shown = lines_at(alloc, &mut parts.slots, within(&rows, first, end))?;
     Ok(Some(shown))
 }

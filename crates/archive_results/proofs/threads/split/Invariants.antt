@@ -1,9 +1,10 @@
 use Rattle.std.proofs.Common.{◌≡◌}
-use Rattle.archive_results.specs.Index.{lines_in, entries_in}
+use Rattle.archive_results.specs.Index.{entries_in}
+use Rattle.archive_results.specs.Slots.{slots_in}
 use Rattle.archive_results.proofs.threads.split.Given as goal
 
 abbrev pub invariant-loop-header : goal.invariant-loop-header
 invariant-loop-header l = record {
-  lines : l.lines.items ≡ lines_in l.yielded;
+  slots : l.slots.items ≡ slots_in l.yielded;
   entries : l.entries.items ≡ entries_in l.yielded;
 }

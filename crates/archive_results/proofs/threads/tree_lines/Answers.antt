@@ -1,13 +1,19 @@
-use Rattle.std.proofs.Common.{◌∙◌, List, map, ap}
+use Rattle.std.proofs.Common.{◌∙◌, map, ap, refl}
 use Rattle.thread_core.specs.Threads.{threads_of}
-use Rattle.archive_results.specs.Shown.{Line}
+use Rattle.archive_results.specs.Index.{lines_in}
 use Rattle.archive_results.specs.Results.{tree_line}
 use Rattle.archive_results.proofs.IndexLemmas.{lines_are, rows_are, trees_are}
+use Rattle.archive_results.proofs.SlotLemmas.{once_of_threads, rows_moved}
 use Rattle.archive_results.proofs.threads.tree_lines.Goals as goal
+
+pub lines_at-requires : goal.lines_at-requires
+lines_at-requires g c =
+    once_of_threads c.each_place_stands_in_one_row.ensures.step_one c.deref.result.now c.deref-2.result.now (c.deref-2.ensures.value ∙ c.in_ok-rows.ensures)
 
 pub returns : goal.returns
 returns g c = λ view e.
-    trees_are view c.in_ok-parts.parts.lines.items c.in_ok-rows.rows.items _
-    (lines_are view c.args.headers.items _ e c.in_ok-parts.ensures.lines)
+    trees_are view (lines_in c.args.headers.items) c.in_ok-rows.rows.items _
+    (lines_are view c.args.headers.items _ e refl)
     (rows_are view c.args.headers.items _ _ e c.in_ok-parts.ensures.entries (c.in_ok-rows.ensures ∙ ap threads_of c.deref.ensures.value))
-    (c.in_ok-shown.ensures ∙ ap (λ (ls : List Line). map (tree_line ls) c.deref-3.result.now) c.deref-2.ensures.value ∙ ap (map (tree_line c.in_ok-parts.parts.lines.items)) c.deref-3.ensures.value)
+    (c.in_ok-shown.ensures ∙ rows_moved c.args.headers.items c.deref_mut.result.now c.deref-2.result.now (c.deref_mut.ensures.value ∙ c.in_ok-parts.ensures.slots)
+    ∙ ap (map (tree_line (lines_in c.args.headers.items))) c.deref-2.ensures.value)
