@@ -13,7 +13,7 @@ use Rattle.archive_store.specs.Walking.{Walk, Begins}
 use Rattle.archive_store.specs.declared.store.Store.{Store}
 use Rattle.archive_store.specs.declared.faults.StoreFault.{StoreFault}
 use Rattle.archive_results.specs.Access.{Ask, reader_standing}
-use Rattle.archive_desk.specs.Exporting.{Exports, ExportsPart, IsExportRefused, IsExportStop, exported, shown_text, stop_reason}
+use Rattle.archive_desk.specs.Exporting.{Exports, ExportsPart, HasBegun, IsExportRefused, IsExportStop, exported, shown_text, stop_reason}
 use Rattle.archive_desk.specs.Faults.{ask_reason, desk_fault, reason, IsAskFault}
 use Rattle.archive_desk.specs.Walking.{IsWalkStop, WritesWalk}
 use Rattle.archive_desk.specs.declared.faults.DeskFault.{DeskFault}
@@ -123,6 +123,10 @@ module _ {S : Type 0} (g : Ghosts S) (old mid last : Store S) (walk new : Walk S
           (subst (IsReady g) (sym is) there.0, ap (archive_in g) is ∙ there.1 ∙ first.1.0)),
     )
 
+    -- it began, so nothing was refused
+    pub walk_begun : HasBegun g old last ask written
+    walk_begun = λ returned ready some. (found.1 (at_start returned) ready).1.1
+
     pub walk_cause : (fault : DeskFault) → IsWalkStop before after failed fails written fault → IsExportStop before after failed fails written fault
     walk_cause NoList why = absurd why
     walk_cause NoPerson why = absurd why
@@ -134,6 +138,9 @@ module _ {S : Type 0} (g : Ghosts S) (old mid last : Store S) (walk new : Walk S
 -- where nothing was written yet
 pub unwalked : {S : Type 0} (g : Ghosts S) (old last : Store S) (told : List ℕ) (text : Archive → List ℕ) → ExportsPart g old last told told 0 text
 unwalked g old last told text = λ returned ready fits. none_cut told (text (archive_in g old))
+
+pub unbegun : {S : Type 0} (g : Ghosts S) (old last : Store S) (ask : Ask) → HasBegun g old last ask 0
+unbegun g old last ask = λ returned ready some. absurd (omega (arith, some))
 
 pub unwritten : (told : List ℕ) (failures : ℕ) (fault : DeskFault) → IsAskFault fault → IsExportStop told told failures failures 0 fault
 unwritten told failures NoList is = (refl, refl, refl)

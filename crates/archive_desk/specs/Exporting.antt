@@ -1,11 +1,9 @@
 -- The view as an mbox, written to a device.
 use Rattle.std.specs.Prelude.{◌≡◌, ◌<◌, ◌^◌, ◌-◌, ◌++◌, ℕ, List, length, map, filter, min, Option, Some, None, Result, option_map}
 use Rattle.sqlite.specs.Store.{Ghosts}
-use Rattle.mbox_core.specs.Division.{Item}
 use Rattle.mbox_core.specs.Written.{IsCutShort}
 use Rattle.policy_core.specs.declared.access.Standing.{Standing}
 use Rattle.archive_machine.specs.Records.{Archive, Message as Remembered}
-use Rattle.archive_machine.specs.declared.messages.Message.{Message}
 use Rattle.archive_store.specs.Told.{Calls, HasReturned, IsReady, archive_in}
 use Rattle.archive_store.specs.declared.store.Store.{Store}
 use Rattle.archive_results.specs.Access.{Ask, is_shown, view_of}
@@ -15,9 +13,6 @@ use Rattle.archive_desk.specs.Faults.{Reason, refused, not_in_view, not_written,
 use Rattle.archive_desk.specs.declared.exporting.ExportStop.{ExportStop}
 use Rattle.archive_desk.specs.declared.faults.DeskFault.{DeskFault}
 use Rattle.archive_desk.specs.declared.faults.DeskFault.TheVariants.{Store as Stored, Write}
-
-abbrev pub items_of : List Message → List Item
-items_of = map (λ (m : Message). m.item)
 
 -- the text of an export
 abbrev pub exported : Archive → Ask → List ℕ
@@ -64,7 +59,6 @@ abbrev pub ExportsPart : {S : Type 0} → Ghosts S → Store S → Store S → (
 ExportsPart g old new before after count text =
     HasReturned g new → IsReady g old → length after < 2 ^ 64 → IsCutShort before after (text (archive_in g old)) count
 
--- Of an export that reads all before it writes: the writer failed; else nothing was written.
-abbrev pub IsHeldStop : List ℕ → List ℕ → ℕ → ℕ → ℕ → DeskFault → Type 0
-IsHeldStop before after failed fails count Write = failed < fails
-IsHeldStop before after failed fails count other = (count ≡ 0) × (after ≡ before) × (fails ≡ failed)
+-- Where some bytes were written, what is asked is not refused: the list is there, and so is the reader.
+abbrev pub HasBegun : {S : Type 0} → Ghosts S → Store S → Store S → Ask → ℕ → Type 0
+HasBegun g old new ask count = HasReturned g new → IsReady g old → 0 < count → ask_reason (archive_in g old) ask ≡ None

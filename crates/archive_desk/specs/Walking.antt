@@ -1,5 +1,6 @@
--- Writing the messages of a walk, one after the other.
-use Rattle.std.specs.Prelude.{◌≡◌, ◌+◌, ◌<◌, ◌^◌, ◌-◌, ◌++◌, ℕ, List, [], length, min, None, Result, MatchResult, MatchOption}
+-- Reading and writing the messages of a walk, one after the other.
+use Rattle.std.specs.Prelude.{◌≡◌, ◌+◌, ◌<◌, ◌^◌, ◌-◌, ◌++◌, ℕ, List, [], length, filter, min, None, Result, MatchResult, MatchOption, Vec}
+use Rattle.std.specs.declared.alloc.Global.{Global}
 use Rattle.sqlite.specs.Store.{Ghosts}
 use Rattle.mbox_core.specs.Written.{IsCutShort}
 use Rattle.policy_core.specs.declared.access.Standing.{Standing}
@@ -8,12 +9,13 @@ use Rattle.archive_machine.specs.Questions.{messages_in}
 use Rattle.archive_store.specs.Replies.{refusal}
 use Rattle.archive_store.specs.Told.{HasReturned, IsOpen, IsReady, archive_in}
 use Rattle.archive_store.specs.Walking.{Walk, Walks}
-use Rattle.archive_results.specs.Access.{Ask}
+use Rattle.archive_results.specs.Access.{Ask, is_shown}
+use Rattle.archive_results.specs.Index.{Header, IsIndexOf}
 use Rattle.archive_desk.specs.Exporting.{HasWritten, shown_text}
 use Rattle.archive_desk.specs.Faults.{reason}
 use Rattle.archive_desk.specs.declared.exporting.ExportStop.{ExportStop}
 use Rattle.archive_desk.specs.declared.faults.DeskFault.{DeskFault}
-use Rattle.archive_desk.specs.declared.faults.DeskFault.TheVariants.{Store as Stored, Write}
+use Rattle.archive_desk.specs.declared.faults.DeskFault.TheVariants.{Store as Stored, Memory, Write}
 
 -- so many bytes more were written, as far as 64 bits go
 abbrev pub CountsMore : (before after : List ℕ) → (counted counts : ℕ) → Type 0
@@ -32,6 +34,12 @@ IsWalkStop before after failed fails count Write = failed < fails
 IsWalkStop before after failed fails count (Stored fault) = (refusal fault ≡ None) × (fails ≡ failed) × HasWritten before after count
 IsWalkStop before after failed fails count other = ⊥
 
+-- memory was wanting, or the database was at fault
+abbrev pub IsUnlisted : DeskFault → Type 0
+IsUnlisted (Stored fault) = refusal fault ≡ None
+IsUnlisted Memory = Unit {0}
+IsUnlisted other = ⊥
+
 module _ {S : Type 0} (g : Ghosts S) where
   -- its store is ready, and remembers this archive
   abbrev pub StandsOn : Archive → Walk S → Type 0
@@ -42,6 +50,12 @@ module _ {S : Type 0} (g : Ghosts S) where
   StandsIfOpen a walk fault = MatchOption (reason fault) (IsOpen g walk.store.now → StandsOn a walk) (λ _. StandsOn a walk)
 
   module _ (old new : Walk S) (ask : Ask) (standing : Standing) where
+    -- A walk over the list that gave nothing yet: these are the headers of its messages, as far as the policy shows them.
+    abbrev pub ListsRows : Result (Vec Header Global) DeskFault → Type 0
+    ListsRows result = HasReturned g new.store.now → (a : Archive) → Walks g ask.list a [] old → MatchResult result
+        (λ headers. StandsOn a new × IsIndexOf (filter (is_shown ask standing) (messages_in a ask.list)) headers.items)
+        (λ fault. StandsIfOpen a new fault)
+
     -- A walk over the list that gave nothing yet: the text of its messages was written, as far as the policy shows them, and
     -- counted; or exactly the first bytes of it.
     abbrev pub WritesRows : (before after : List ℕ) → (counted counts : ℕ) → Result (Unit {0}) DeskFault → Type 0

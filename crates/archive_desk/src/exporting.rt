@@ -3,7 +3,7 @@ ghost use Rattle.std.specs.Prelude.{◌≡◌, ◌∷◌, [], ◌<◌, ◌^◌, 
 ghost use Rattle.mbox_core.specs.Written.{IsCutShort};
 ghost use Rattle.archive_machine.specs.Messages.{remembered};
 ghost use Rattle.archive_store.specs.Told.{HadReturned};
-ghost use Rattle.archive_desk.specs.Exporting.{Exports, ExportsPart, IsExportStop, exported, shown_text};
+ghost use Rattle.archive_desk.specs.Exporting.{Exports, ExportsPart, HasBegun, IsExportStop, exported, shown_text};
 ghost use Rattle.archive_desk.specs.Walking.{CountsMore, IsRowsStop, IsWalkStop, WritesRows, WritesWalk};
 
 use crate::faults::DeskFault;
@@ -36,6 +36,7 @@ pub fn export<S: Alter, W: Sink>(
         (λ a. exported a ask.now) }
     ensures part { IfErr result (λ stop. ExportsPart S.Store store.old store.new (W.told out.old) (W.told out.new)
         stop.written (λ a. exported a ask.now)) }
+    ensures begun { IfErr result (λ stop. HasBegun S.Store store.old store.new ask.now stop.written) }
     ensures quiet { OnOk result (W.failures out.new ≡ W.failures out.old) }
     ensures cause { IfErr result (λ stop. IsExportStop (W.told out.old) (W.told out.new)
         (W.failures out.old) (W.failures out.new) stop.written stop.fault) }
@@ -56,6 +57,7 @@ pub fn export_after<S: Alter, W: Sink>(
         (λ a. head.now ++ exported a ask.now) }
     ensures part { IfErr result (λ stop. ExportsPart S.Store store.old store.new (W.told out.old) (W.told out.new)
         stop.written (λ a. head.now ++ exported a ask.now)) }
+    ensures begun { IfErr result (λ stop. HasBegun S.Store store.old store.new ask.now stop.written) }
     ensures quiet { OnOk result (W.failures out.new ≡ W.failures out.old) }
     ensures cause { IfErr result (λ stop. IsExportStop (W.told out.old) (W.told out.new)
         (W.failures out.old) (W.failures out.new) stop.written stop.fault) }

@@ -3,7 +3,6 @@
 
 mod exporting;
 mod faults;
-mod holding;
 mod importing;
 mod index;
 mod listing;
@@ -12,7 +11,6 @@ mod viewing;
 
 pub use exporting::{ExportStop, export, export_after};
 pub use faults::DeskFault;
-pub use holding::export_held;
 pub use importing::{ImportFault, ImportStop, Report, import};
 pub use listing::{author, month, thread, threads};
 pub use messages::message;

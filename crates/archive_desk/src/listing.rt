@@ -1,7 +1,6 @@
 //! The lists of a month and of an author, and threads.
 ghost use Rattle.std.specs.Prelude.{◌≡◌, map, Some, IfErr};
 ghost use Rattle.archive_results.specs.Access.{view_of};
-ghost use Rattle.archive_results.specs.Index.{IsIndexOf};
 ghost use Rattle.archive_results.specs.Results.{author_lines, month_lines, tree_lines, thread_lines};
 ghost use Rattle.archive_results.specs.Shown.{shown_of};
 ghost use Rattle.archive_store.specs.Told.{Asks};
@@ -9,12 +8,8 @@ ghost use Rattle.archive_desk.specs.Faults.{IsAskFault, ask_reason, reason};
 ghost use Rattle.archive_desk.specs.Listing.{IsThreadFault, thread_reason};
 
 use crate::faults::DeskFault;
-use crate::index::read_index;
-use crate::viewing::find_standing;
-use archive_results::{
-    Ask, Header, Line, TreeLine, allowed_headers, author_lines, month_lines, thread_lines,
-    tree_lines,
-};
+use crate::index::read_headers;
+use archive_results::{Ask, Line, TreeLine, author_lines, month_lines, thread_lines, tree_lines};
 use archive_store::{Key, Store};
 use civil_time::Month;
 use sqlite::Alter;
@@ -99,30 +94,6 @@ pub fn thread<T: Threader, S: Alter>(
     match thread_lines(alloc, threader, headers, key) {
         Ok(Some(rows)) => Ok(rows),
         Ok(None) => Err(DeskFault::NotInView),
-        Err(_) => Err(DeskFault::Memory),
-    }
-}
-
-/// The headers of the messages of the view, in mailbox order: the list is read once, and each header once.
-fn read_headers<S: Alter>(
-    store: &mut Store<S>,
-    alloc: Global,
-    ask: &Ask<'_>,
-) -> Result<Vec<Header>, DeskFault>
-    ensures held { Asks S.Store store.old store.new reason result (λ a. ask_reason a ask.now)
-        (λ a headers. IsIndexOf (view_of a ask.now) headers.items) }
-    ensures fault { IfErr result (λ fault. IsAskFault fault) }
-{
-    let headers = match read_index(store, alloc, ask) {
-        Ok(headers) => headers,
-        Err(fault) => return Err(fault),
-    };
-    let standing = match find_standing(store, ask) {
-        Ok(standing) => standing,
-        Err(fault) => return Err(fault),
-    };
-    match allowed_headers(alloc, ask, standing, headers) {
-        Ok(shown) => Ok(shown),
         Err(_) => Err(DeskFault::Memory),
     }
 }
