@@ -1,7 +1,7 @@
 -- What goes over a connection, and what becomes of it.
 use Rattle.std.specs.Prelude.{◌≡◌, ℕ, Bool, false, not, List, [], ◌++◌, ◌==◌, codes, Result, Ok, Err}
 use Rattle.archive_listen.specs.declared.faults.ConnectionFault.{ConnectionFault}
-use Rattle.archive_listen.specs.declared.faults.ConnectionFault.TheVariants.{Read, Write}
+use Rattle.archive_listen.specs.declared.faults.ConnectionFault.TheVariants.{Read, Write, Broken}
 
 -- what the two directions of a connection told, and what was counted
 pub record Telling : Type 0 where
@@ -48,6 +48,7 @@ abbrev pub Reaches : (answer outcome : Outcome) → (written : List ℕ) → (fa
 Reaches (Ok status) (Ok told) written failed sent = (told ≡ status) × (sent ≡ written)
 Reaches (Ok status) (Err Write) written failed sent = failed × Begins sent written
 Reaches (Ok status) (Err Read) written failed sent = ⊥
+Reaches (Ok status) (Err Broken) written failed sent = ⊥
 Reaches (Err fault) (Err told) written failed sent = (told ≡ fault) × Begins sent written
 Reaches (Err fault) (Ok told) written failed sent = ⊥
 
@@ -61,6 +62,7 @@ lingers (Err fault) = false
 abbrev pub fault_line : ConnectionFault → List ℕ
 fault_line Read = codes "archive: S1 Read\n"
 fault_line Write = codes "archive: S2 Write\n"
+fault_line Broken = codes "archive: S3 Broken\n"
 
 -- a fault is told in one line, and a reply in none
 abbrev pub outcome_line : Outcome → List ℕ

@@ -13,6 +13,8 @@ pub enum ConnectionFault {
     Read,
     /// S2: a write failed. The peer got a beginning of the reply.
     Write,
+    /// S3: the answer broke off behind its first byte. The peer got a beginning of the reply.
+    Broken,
 }
 
 impl fmt::Display for ConnectionFault {
@@ -20,6 +22,7 @@ impl fmt::Display for ConnectionFault {
         f.write_str(match self {
             ConnectionFault::Read => "S1 Read",
             ConnectionFault::Write => "S2 Write",
+            ConnectionFault::Broken => "S3 Broken",
         })
     }
 }
@@ -34,6 +37,7 @@ impl ConnectionFault {
         match self {
             ConnectionFault::Read => b"archive: S1 Read\n",
             ConnectionFault::Write => b"archive: S2 Write\n",
+            ConnectionFault::Broken => b"archive: S3 Broken\n",
         }
     }
 }

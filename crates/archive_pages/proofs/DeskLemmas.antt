@@ -1,24 +1,26 @@
 -- What the answers of the desk say of a reply.
-use Rattle.std.proofs.Common.{◌≡◌, ◌∙◌, ◌++◌, ◌-◌, ◌^◌, inl, inr, ℕ, List, Bool, true, false, not, cond, min, Option, Some, None, Result, Ok, Err, MatchOption, length, refl, sym, ap, subst, codes}
+use Rattle.std.proofs.Common.{◌≡◌, ◌∙◌, ◌<◌, ◌++◌, ◌-◌, ◌^◌, inl, inr, ℕ, List, [], ◌∷◌, Bool, true, false, not, cond, min, Option, Some, None, Result, Ok, Err, MatchOption, length, refl, sym, ap, subst, codes, arith, append-nil}
 use Rattle.std.specs.Prelude.{option_map, if◌then◌else◌}
 use Rattle.std.specs.Option.{option_map_or}
 use Rattle.std.specs.Fmt.{digits}
 use Rattle.sqlite.specs.Store.{Ghosts}
 use Rattle.mbox_core.specs.Written.{IsCutShort}
-use Rattle.mbox_core.specs.declared.device.writing.WriteFault.{WriteFault}
 use Rattle.archive_machine.specs.Records.{Archive}
 use Rattle.archive_machine.specs.Questions.{has_list, has_person}
 use Rattle.archive_results.specs.Access.{Ask, no_list, no_person}
 use Rattle.archive_results.specs.Results.{export_text}
-use Rattle.archive_store.specs.Told.{Goes, GoesIfOpen}
+use Rattle.archive_store.specs.Told.{Goes, GoesIfOpen, archive_in}
 use Rattle.archive_store.specs.declared.store.Store.{Store}
 use Rattle.archive_store.proofs.Joins.{goes_as}
-use Rattle.archive_desk.specs.Exporting.{IsExportRefused, exported, stop_reason}
+use Rattle.archive_desk.specs.Exporting.{ExportsPart, HasBegun, HasWritten, IsExportRefused, IsExportStop, exported, stop_reason}
 use Rattle.archive_desk.specs.declared.exporting.ExportStop.{ExportStop}
+use Rattle.archive_desk.specs.declared.faults.DeskFault.{DeskFault}
 use Rattle.archive_desk.specs.Faults.{Reason, refused, not_written, ask_reason}
 use Rattle.archive_pages.specs.Replies.{Reply, Sends, head_bytes, mbox_reply, not_found, unavailable}
 use Rattle.archive_pages.specs.Answers.{listed_reply, shown_view}
 use Rattle.archive_pages.specs.Serving.{Serves}
+use Rattle.archive_pages.specs.declared.faults.ServeFault.{ServeFault}
+use Rattle.archive_pages.specs.declared.faults.ServeFault.TheVariants.{Write, Broken}
 use Rattle.archive_pages.proofs.ServingLemmas.{if_open}
 
 -- ---- G1
@@ -58,10 +60,10 @@ MboxReply ask a reply = reply ≡ listed_reply a ask.list (mbox_reply (export_te
 module _ {S : Type 0} (g : Ghosts S) (old new : Store S) (ask : Ask) (before after : List ℕ) where
   pub exported_whole : (count : ℕ) → Goes g old new (λ a b. (b ≡ a) × (ask_reason a ask ≡ None) × (after ≡ before ++ (mbox_head ++ exported a ask))
       × (count ≡ min (length (mbox_head ++ exported a ask)) (2 ^ 64 - 1)))
-      → Serves g old new {E = WriteFault} (λ e. e.written) (MboxReply ask) before after (Ok 200)
+      → Serves g old new (MboxReply ask) before after (Ok 200)
   exported_whole count goes = inl (goes_as g old new (λ a b. (b ≡ a) × (ask_reason a ask ≡ None) × (after ≡ before ++ (mbox_head ++ exported a ask))
       × (count ≡ min (length (mbox_head ++ exported a ask)) (2 ^ 64 - 1)))
-      (λ a b. (b ≡ a) × Sends {E = WriteFault} (λ e. e.written) (MboxReply ask a) before after (Ok 200))
+      (λ a b. (b ≡ a) × Sends (MboxReply ask a) before after (Ok 200))
       (λ a b h. (
         h.0,
         (
@@ -72,9 +74,9 @@ module _ {S : Type 0} (g : Ghosts S) (old new : Store S) (ask : Ask) (before aft
       )) goes)
 
   pub exported_part : (count : ℕ) → Goes g old new (λ a b. (b ≡ a) × IsExportRefused (ask_reason a ask) before after (mbox_head ++ exported a ask) count not_written)
-      → Serves g old new {E = WriteFault} (λ e. e.written) (MboxReply ask) before after (Err (record { written = count }))
+      → Serves g old new (MboxReply ask) before after (Err (Write count))
   exported_part count goes = inl (goes_as g old new (λ a b. (b ≡ a) × IsExportRefused (ask_reason a ask) before after (mbox_head ++ exported a ask) count not_written)
-      (λ a b. (b ≡ a) × Sends {E = WriteFault} (λ e. e.written) (MboxReply ask a) before after (Err (record { written = count })))
+      (λ a b. (b ≡ a) × Sends (MboxReply ask a) before after (Err (Write count)))
       (λ a b h. (
         h.0,
         (
@@ -84,12 +86,39 @@ module _ {S : Type 0} (g : Ghosts S) (old new : Store S) (ask : Ask) (before aft
         ),
       )) goes)
 
-  pub exported_none : (stop : ExportStop) (mid : List ℕ) (result : Result ℕ WriteFault)
+  pub exported_none : (stop : ExportStop) (mid : List ℕ) (result : Result ℕ ServeFault)
       → MatchOption (stop_reason stop) (GoesIfOpen g old new (λ a b. b ≡ a))
       (λ why. Goes g old new (λ a b. (b ≡ a) × IsExportRefused (ask_reason a ask) before mid (mbox_head ++ exported a ask) why.0 why.1)) → mid ≡ before
-      → Sends {E = WriteFault} (λ e. e.written) (λ r. r ≡ unavailable) mid after result
-      → Serves g old new {E = WriteFault} (λ e. e.written) (MboxReply ask) before after result
-  exported_none stop mid result said same sent = inr (
+      → Sends (λ r. r ≡ unavailable) mid after result
+      → Serves g old new (MboxReply ask) before after result
+  exported_none stop mid result said same sent = inr (inl (
     stops g old new (stop_reason stop) (λ a why. IsExportRefused (ask_reason a ask) before mid (mbox_head ++ exported a ask) why.0 why.1) said,
-    subst (λ m. Sends {E = WriteFault} (λ e. e.written) (λ r. r ≡ unavailable) m after result) same sent,
-  )
+    subst (λ m. Sends (λ r. r ≡ unavailable) m after result) same sent,
+  ))
+
+  -- S3: it began, so the list is there, and its first bytes went out
+  pub exported_broken : (stop : ExportStop) → MatchOption (stop_reason stop) (GoesIfOpen g old new (λ a b. b ≡ a))
+      (λ why. Goes g old new (λ a b. (b ≡ a) × IsExportRefused (ask_reason a ask) before after (mbox_head ++ exported a ask) why.0 why.1))
+      → ExportsPart g old new before after stop.written (λ a. mbox_head ++ exported a ask) → HasBegun g old new ask stop.written → 0 < stop.written
+      → Serves g old new (MboxReply ask) before after (Err (Broken stop.written))
+  exported_broken stop said part begun some = inr (inr (
+    stops g old new (stop_reason stop) (λ a why. IsExportRefused (ask_reason a ask) before after (mbox_head ++ exported a ask) why.0 why.1) said,
+    λ returned ready.
+        let text = exported (archive_in g old) ask in (
+          text,
+          sym (on_listed (archive_in g old) ask (mbox_reply text) (begun returned ready some)),
+          some,
+          λ fits. subst (λ x. IsCutShort before after (x ++ text) stop.written) (mbox_head_is text) (part returned ready fits),
+        ),
+  ))
+
+-- ---- what its stop says
+
+module _ (before after : List ℕ) (failed fails count : ℕ) where
+  pub cause_at : (fault is : DeskFault) → fault ≡ is → IsExportStop before after failed fails count fault → IsExportStop before after failed fails count is
+  cause_at fault is same why = subst (λ f. IsExportStop before after failed fails count f) same why
+
+-- nothing went out where nothing was counted
+pub none_out : (before after : List ℕ) (count : ℕ) → HasWritten before after count → ¬ (0 < count) → after ≡ before
+none_out before after count ([], out, counted) none = out ∙ append-nil before
+none_out before after count (x ∷ xs, out, counted) none = absurd (none (omega (arith, counted)))

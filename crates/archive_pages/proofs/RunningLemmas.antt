@@ -1,5 +1,5 @@
 -- A request after a run of commands, and after another request.
-use Rattle.std.proofs.Common.{◌≡◌, ◌++◌, inl, inr, ℕ, ℤ, List, Result, Ok, Err, refl, subst}
+use Rattle.std.proofs.Common.{◌≡◌, ◌++◌, ◌⊎◌, inl, inr, ℕ, ℤ, List, Result, Ok, Err, refl, subst}
 use Rattle.std.specs.Prelude.{◌≢◌, IfOk}
 use Rattle.sqlite_disk.specs.declared.Disk.{Ghosts as DiskGhosts}
 use Rattle.sqlite_disk.specs.declared.Files.{Files}
@@ -15,19 +15,20 @@ use Rattle.policy_core.specs.Rules.{Rule}
 use Rattle.archive_machine.specs.Records.{Archive}
 use Rattle.archive_store.specs.Told.{HoldsArchive, IsReady, archive_in, HasReturned, Goes}
 use Rattle.archive_store.specs.declared.store.Store.{Store}
-use Rattle.archive_pages.specs.Replies.{Sends, Is, unavailable}
+use Rattle.archive_pages.specs.Replies.{Sends, Breaks, Is, IsBroken, unavailable}
 use Rattle.archive_pages.specs.Answers.{reply_of}
 use Rattle.archive_pages.specs.Serving.{Serves, Stays}
-use Rattle.archive_pages.specs.Answered.{IsAnswered, Reads, ByOutcome, written_of}
+use Rattle.archive_pages.specs.Answered.{IsAnswered, Reads, ByOutcome}
 use Rattle.archive_pages.specs.Running.{IsAnsweredFrom, AnswersFrom}
 use Rattle.archive_pages.specs.Reopened.{AnswersReopened}
 use Rattle.archive_pages.specs.declared.faults.ServeFault.{ServeFault}
-use Rattle.archive_pages.specs.declared.faults.ServeFault.TheVariants.{Read, Write}
-use Rattle.archive_pages.proofs.ServingLemmas.{sends_as, ok_as}
+use Rattle.archive_pages.specs.declared.faults.ServeFault.TheVariants.{Read, Write, Broken}
+use Rattle.archive_pages.proofs.ServingLemmas.{sends_as, broken_as, breaks_as, ok_as}
 
 by_outcome : (result : Result ℕ ServeFault) {A B X Y : Type 0} → (A → B) → (X → Y) → ByOutcome result A X → ByOutcome result B Y
 by_outcome (Ok status) answered unread it = answered it
 by_outcome (Err (Write written)) answered unread it = answered it
+by_outcome (Err (Broken written)) answered unread it = answered it
 by_outcome (Err Read) answered unread it = unread it
 
 reads : (told_before told_after : List ℕ) (ends_before ends_after : ℕ) (P Q : List ℕ → List ℕ → Type 0) → ((given all : List ℕ) → P given all → Q given all)
@@ -37,18 +38,24 @@ reads told_before told_after ends_before ends_after P Q weaker (given, told, inr
 
 module _ {S : Type 0} (g : Ghosts S) (mid new : Store S) (archive : Archive) (returned : HasReturned g new)
     (ran : HasReturned g mid → IsReady g mid × (archive_in g mid ≡ archive)) (rules : List Rule) (day : ℤ) where
-  module _ {E : Type 0} (written : E → ℕ) (before after : List ℕ) (result : Result ℕ E) where
-    sent_from : (h : RequestHead) → Serves g mid new written (λ a reply. reply ≡ reply_of a rules day h) before after result
-        → Sends written (Is (reply_of archive rules day h)) before after result
+  module _ (before after : List ℕ) (result : Result ℕ ServeFault) where
+    sent_from : (h : RequestHead) → Serves g mid new (λ a reply. reply ≡ reply_of a rules day h) before after result
+        → Sends (Is (reply_of archive rules day h)) before after result ⊎ IsBroken result (Breaks (λ reply. reply ≡ reply_of archive rules day h) before after)
     sent_from h (inl goes) =
         let it = ran (goes.0 returned) in
-        sends_as written (λ reply. reply ≡ reply_of (archive_in g mid) rules day h) (Is (reply_of archive rules day h)) before after result
-        (λ reply is. inl (subst (λ a. reply ≡ reply_of a rules day h) it.1 is)) (goes.1 returned it.0).1.1
-    sent_from h (inr (goes, sent)) =
-        sends_as written (λ reply. reply ≡ unavailable) (Is (reply_of archive rules day h)) before after result (λ reply is. inr is) sent
+        inl (sends_as (λ reply. reply ≡ reply_of (archive_in g mid) rules day h) (Is (reply_of archive rules day h)) before after result
+        (λ reply is. inl (subst (λ a. reply ≡ reply_of a rules day h) it.1 is)) (goes.1 returned it.0).1.1)
+    sent_from h (inr (inl (goes, sent))) =
+        inl (sends_as (λ reply. reply ≡ unavailable) (Is (reply_of archive rules day h)) before after result (λ reply is. inr is) sent)
+    sent_from h (inr (inr (goes, broken))) =
+        let it = ran (goes.0 returned) in
+        inr (broken_as result (λ n. HasReturned g new → IsReady g mid → Breaks (λ reply. reply ≡ reply_of (archive_in g mid) rules day h) before after n)
+        (Breaks (λ reply. reply ≡ reply_of archive rules day h) before after)
+        (λ n breaks. breaks_as (λ reply. reply ≡ reply_of (archive_in g mid) rules day h) (λ reply. reply ≡ reply_of archive rules day h) before after n
+        (λ reply is. subst (λ a. reply ≡ reply_of a rules day h) it.1 is) (breaks returned it.0)) broken)
 
-    answered_from : (given all : List ℕ) → IsAnswered g mid new rules day given all written before after result
-        → IsAnsweredFrom archive rules day given all written before after result
+    answered_from : (given all : List ℕ) → IsAnswered g mid new rules day given all before after result
+        → IsAnsweredFrom archive rules day given all before after result
     answered_from given all it = record {
       head = λ h begins. sent_from h (it.head h begins);
       none = λ no. (it.none no).1;
@@ -59,13 +66,13 @@ module _ {S : Type 0} (g : Ghosts S) (mid new : Store S) (archive : Archive) (re
 
   -- `answer` after the run
   pub answers_from : (result : Result ℕ ServeFault) (told_before told_after : List ℕ) (ends_before ends_after : ℕ) (before after : List ℕ)
-      → ByOutcome result (Reads told_before told_after ends_before ends_after (λ given all. IsAnswered g mid new rules day given all written_of before after result))
+      → ByOutcome result (Reads told_before told_after ends_before ends_after (λ given all. IsAnswered g mid new rules day given all before after result))
       ((given : List ℕ) × (told_after ≡ told_before ++ given) × HasNoRequest given × (after ≡ before) × Goes g mid new (λ a b. b ≡ a))
       → AnswersFrom archive rules day told_before told_after ends_before ends_after before after result
   answers_from result told_before told_after ends_before ends_after before after =
       by_outcome result
-      (reads told_before told_after ends_before ends_after (λ given all. IsAnswered g mid new rules day given all written_of before after result)
-      (λ given all. IsAnsweredFrom archive rules day given all written_of before after result) (answered_from written_of before after result))
+      (reads told_before told_after ends_before ends_after (λ given all. IsAnswered g mid new rules day given all before after result)
+      (λ given all. IsAnsweredFrom archive rules day given all before after result) (answered_from before after result))
       (λ (given, told, none, silent, goes). (given, told, none, silent))
 
 -- ---- two requests
@@ -74,7 +81,7 @@ module _ {S : Type 0} (g : Ghosts S) (old mid new : Store S) (first : Result ℕ
     (result : Result ℕ ServeFault) (told_before told_after : List ℕ) (ends_before ends_after : ℕ) (before after : List ℕ) where
   -- of a store that remembers what it remembered before the first of them
   pub answers_second : HasReturned g new → IsReady g old
-      → ByOutcome result (Reads told_before told_after ends_before ends_after (λ given all. IsAnswered g mid new rules day given all written_of before after result))
+      → ByOutcome result (Reads told_before told_after ends_before ends_after (λ given all. IsAnswered g mid new rules day given all before after result))
       ((given : List ℕ) × (told_after ≡ told_before ++ given) × HasNoRequest given × (after ≡ before) × Goes g mid new (λ a b. b ≡ a))
       → IfOk first (λ status. status ≢ 503 → AnswersFrom (archive_in g old) rules day told_before told_after ends_before ends_after before after result)
   answers_second returned ready said = ok_as first (λ status goes other.
@@ -83,7 +90,7 @@ module _ {S : Type 0} (g : Ghosts S) (old mid new : Store S) (first : Result ℕ
 
 pub answers_first : {S : Type 0} (g : Ghosts S) (old mid : Store S) → HasReturned g mid → IsReady g old → (rules : List Rule) (day : ℤ)
     (result : Result ℕ ServeFault) (told_before told_after : List ℕ) (ends_before ends_after : ℕ) (before after : List ℕ)
-    → ByOutcome result (Reads told_before told_after ends_before ends_after (λ given all. IsAnswered g old mid rules day given all written_of before after result))
+    → ByOutcome result (Reads told_before told_after ends_before ends_after (λ given all. IsAnswered g old mid rules day given all before after result))
     ((given : List ℕ) × (told_after ≡ told_before ++ given) × HasNoRequest given × (after ≡ before) × Goes g old mid (λ a b. b ≡ a))
     → AnswersFrom (archive_in g old) rules day told_before told_after ends_before ends_after before after result
 answers_first g old mid returned ready rules day result told_before told_after ends_before ends_after before after said =

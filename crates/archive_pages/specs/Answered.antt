@@ -11,30 +11,26 @@ use Rattle.archive_pages.specs.Replies.{Sends, bad_request, head_too_large}
 use Rattle.archive_pages.specs.Answers.{reply_of}
 use Rattle.archive_pages.specs.Serving.{Serves}
 use Rattle.archive_pages.specs.declared.faults.ServeFault.{ServeFault}
-use Rattle.archive_pages.specs.declared.faults.ServeFault.TheVariants.{Read, Write}
-
--- how many bytes of a reply went out before a fault
-abbrev pub written_of : ServeFault → ℕ
-written_of Read = 0
-written_of (Write written) = written
+use Rattle.archive_pages.specs.declared.faults.ServeFault.TheVariants.{Read, Write, Broken}
 
 -- What goes out to an input whose bytes are all of these, of which the given ones came.
-pub record IsAnswered {S E : Type 0} (g : Ghosts S) (old new : Store S) (rules : List Rule) (day : ℤ) (given all : List ℕ)
-    (written : E → ℕ) (told_before told_after : List ℕ) (result : Result ℕ E) : Type 0 where
-  -- to the head that the input begins with, the reply of the definition, or 503
+pub record IsAnswered {S : Type 0} (g : Ghosts S) (old new : Store S) (rules : List Rule) (day : ℤ) (given all : List ℕ)
+    (told_before told_after : List ℕ) (result : Result ℕ ServeFault) : Type 0 where
+  -- to the head that the input begins with, the reply of the definition, or 503; or a beginning of it, where it is an mbox that
+  -- broke off (S3)
   pub head : (h : RequestHead) → BeginsWith all h
-      → Serves g old new written (λ a reply. reply ≡ reply_of a rules day h) told_before told_after result
+      → Serves g old new (λ a reply. reply ≡ reply_of a rules day h) told_before told_after result
   -- to no such head 400 or 431, without a look at the store
   pub none : ((h : RequestHead) → ¬ BeginsWith all h) → Goes g old new (λ a b. b ≡ a)
-      × Sends written (λ reply. (reply ≡ bad_request) ⊎ (reply ≡ head_too_large)) told_before told_after result
+      × Sends (λ reply. (reply ≡ bad_request) ⊎ (reply ≡ head_too_large)) told_before told_after result
   -- 431 to a head of more than 64 fields within 8,192 bytes
-  pub many : (h : RequestHead) → Exceeds all h → Sends written (λ reply. reply ≡ head_too_large) told_before told_after result
+  pub many : (h : RequestHead) → Exceeds all h → Sends (λ reply. reply ≡ head_too_large) told_before told_after result
   -- 431 to 8,192 bytes that hold no head and could still become one
   pub long : 8192 ≤ length all → HasNoRequest (take 8192 all) → CanBecome (take 8192 all)
-      → Sends written (λ reply. reply ≡ head_too_large) told_before told_after result
+      → Sends (λ reply. reply ≡ head_too_large) told_before told_after result
   -- 400 else where fewer bytes came, and no more than 64 whole fields
   pub few : ((h : RequestHead) → ¬ BeginsWith all h) → length given < 8192 → ¬ RequestExceeds 64 given
-      → Sends written (λ reply. reply ≡ bad_request) told_before told_after result
+      → Sends (λ reply. reply ≡ bad_request) told_before told_after result
 
 -- The input told some bytes, and was read to its end; or what came settles the answer, whatever bytes would follow.
 abbrev pub Reads : (told_before told_after : List ℕ) → (ends_before ends_after : ℕ) → (List ℕ → List ℕ → Type 0) → Type 0
@@ -46,4 +42,5 @@ Reads told_before told_after ends_before ends_after Says = (given : List ℕ) ×
 abbrev pub ByOutcome : Result ℕ ServeFault → (answered unread : Type 0) → Type 0
 ByOutcome (Ok status) answered unread = answered
 ByOutcome (Err (Write written)) answered unread = answered
+ByOutcome (Err (Broken written)) answered unread = answered
 ByOutcome (Err Read) answered unread = unread

@@ -13,7 +13,7 @@ use Rattle.policy_core.specs.Rules.{Rule}
 use Rattle.archive_machine.specs.Records.{Archive}
 use Rattle.archive_store.specs.Told.{HoldsArchive, HasReturned, IsReady, archive_in, Goes}
 use Rattle.archive_store.specs.declared.store.Store.{Store}
-use Rattle.archive_pages.specs.Answered.{ByOutcome, IsAnswered, Reads, written_of}
+use Rattle.archive_pages.specs.Answered.{ByOutcome, IsAnswered, Reads}
 use Rattle.archive_pages.specs.Running.{AnswersFrom}
 use Rattle.archive_pages.specs.declared.faults.ServeFault.{ServeFault}
 
@@ -35,7 +35,7 @@ module _ {D : Type 0} {g : Ghosts D} where
       → (told_before told_after : List ℕ) → Result ℕ ServeFault → Type 0
   Answers old new rules day read_before read_after ends_before ends_after told_before told_after result = ByOutcome result
       (Reads read_before read_after ends_before ends_after
-      (λ given all. IsAnswered over_files old new rules day given all written_of told_before told_after result))
+      (λ given all. IsAnswered over_files old new rules day given all told_before told_after result))
       ((given : List ℕ) × (read_after ≡ read_before ++ given) × HasNoRequest given × (told_after ≡ told_before)
       × Goes over_files old new (λ a b. b ≡ a))
 

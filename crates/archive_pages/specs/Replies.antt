@@ -1,7 +1,10 @@
 -- Replies, and their bytes (RFC 9112).
-use Rattle.std.specs.Prelude.{◌≡◌, ◌<◌, ◌^◌, ◌⊎◌, ℕ, Bool, true, false, List, [], ◌∷◌, ◌++◌, length, flat_map, if◌then◌else◌, codes, decimal, Result, MatchResult}
+use Rattle.std.specs.Prelude.{◌≡◌, ◌<◌, ◌^◌, ◌⊎◌, ℕ, Bool, true, false, List, [], ◌∷◌, ◌++◌, length, flat_map, if◌then◌else◌, codes, decimal, Result, Ok, Err, MatchResult}
 use Rattle.http.specs.StatusCode.{status_text}
 use Rattle.mbox_core.specs.Written.{IsCutShort}
+use Rattle.archive_desk.specs.Exporting.{HasWritten}
+use Rattle.archive_pages.specs.declared.faults.ServeFault.{ServeFault}
+use Rattle.archive_pages.specs.declared.faults.ServeFault.TheVariants.{Read, Write, Broken}
 
 -- A reply. `sized`: the length of its body stands in the head; without it the body ends with the connection. `more`: further
 -- lines of the head.
@@ -86,13 +89,52 @@ unavailable = failed 503 []
 
 -- ---- a reply on its way out
 
--- A reply of which this holds went out whole, with its status; or the writer failed, and exactly the first `written` bytes of
--- it went out, where the writer told fewer than 2^64 bytes.
-abbrev pub Sends : {E : Type 0} → (written : E → ℕ) → (Reply → Type 0) → (told_before told_after : List ℕ) → Result ℕ E → Type 0
-Sends written IsRight before after result = (reply : Reply) × IsRight reply × MatchResult result
-    (λ status. (status ≡ reply.status) × (after ≡ before ++ reply_bytes reply))
-    (λ fault. length after < 2 ^ 64 → IsCutShort before after (reply_bytes reply) (written fault))
+-- exactly the first `written` bytes of it went out, where the writer told fewer than 2^64 bytes
+abbrev pub IsPart : (told_before told_after : List ℕ) → Reply → (written : ℕ) → Type 0
+IsPart before after reply written = length after < 2 ^ 64 → IsCutShort before after (reply_bytes reply) written
+
+-- S2: a part of it. It stops by no other fault.
+abbrev pub IsCutOff : (told_before told_after : List ℕ) → Reply → ServeFault → Type 0
+IsCutOff before after reply Read = ⊥
+IsCutOff before after reply (Write written) = IsPart before after reply written
+IsCutOff before after reply (Broken written) = ⊥
+
+-- A reply of which this holds went out whole, with its status; or the output failed (S2), and exactly the first `written` bytes
+-- of it went out.
+abbrev pub Sends : (Reply → Type 0) → (told_before told_after : List ℕ) → Result ℕ ServeFault → Type 0
+Sends IsRight before after result = (reply : Reply) × IsRight reply × MatchResult result
+    (λ status. (status ≡ reply.status) × (after ≡ before ++ reply_bytes reply)) (IsCutOff before after reply)
 
 -- this reply, or that for want of memory or the database
 abbrev pub Is : Reply → Reply → Type 0
 Is wanted reply = (reply ≡ wanted) ⊎ (reply ≡ unavailable)
+
+-- ---- a reply that breaks off
+
+-- it is S3, and this holds of the bytes that it counts
+abbrev pub IsBroken : Result ℕ ServeFault → (ℕ → Type 0) → Type 0
+IsBroken (Ok status) Says = ⊥
+IsBroken (Err Read) Says = ⊥
+IsBroken (Err (Write written)) Says = ⊥
+IsBroken (Err (Broken written)) Says = Says written
+
+-- Of an mbox of which this holds exactly the first `written` bytes went out, and at least one. No other reply breaks off.
+abbrev pub Breaks : (Reply → Type 0) → (told_before told_after : List ℕ) → (written : ℕ) → Type 0
+Breaks IsRight before after written =
+    (text : List ℕ) × IsRight (mbox_reply text) × (0 < written) × IsPart before after (mbox_reply text) written
+
+-- ---- why a reply stops
+
+-- S2: the output failed. S3: it did not, and so many bytes went out, at least one. S1 comes before a reply.
+abbrev pub IsReplyStop : (told_before told_after : List ℕ) → (failed fails : ℕ) → ServeFault → Type 0
+IsReplyStop before after failed fails Read = ⊥
+IsReplyStop before after failed fails (Write written) = failed < fails
+IsReplyStop before after failed fails (Broken written) = (fails ≡ failed) × (0 < written) × HasWritten before after written
+
+-- S1: the input failed, and the output did not. S2 and S3: the input did not.
+abbrev pub IsServeStop : (told_before told_after : List ℕ) → (read_failed read_fails failed fails : ℕ) → ServeFault → Type 0
+IsServeStop before after read_failed read_fails failed fails Read = (read_failed < read_fails) × (fails ≡ failed)
+IsServeStop before after read_failed read_fails failed fails (Write written) =
+    (read_fails ≡ read_failed) × IsReplyStop before after failed fails (Write written)
+IsServeStop before after read_failed read_fails failed fails (Broken written) =
+    (read_fails ≡ read_failed) × IsReplyStop before after failed fails (Broken written)

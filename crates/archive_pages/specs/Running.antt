@@ -5,29 +5,31 @@ use Rattle.httparse.specs.Spans.{RequestExceeds}
 use Rattle.policy_core.specs.Rules.{Rule}
 use Rattle.archive_machine.specs.Records.{Archive}
 use Rattle.archive_requests.specs.Heads.{BeginsWith, Exceeds, CanBecome}
-use Rattle.archive_pages.specs.Replies.{Sends, Is, bad_request, head_too_large}
+use Rattle.archive_pages.specs.Replies.{Sends, Breaks, Is, IsBroken, bad_request, head_too_large}
 use Rattle.archive_pages.specs.Answers.{reply_of}
-use Rattle.archive_pages.specs.Answered.{ByOutcome, Reads, written_of}
+use Rattle.archive_pages.specs.Answered.{ByOutcome, Reads}
 use Rattle.archive_pages.specs.declared.faults.ServeFault.{ServeFault}
 
 -- What goes out of this archive to an input whose bytes are all of these, of which the given ones came. It is `IsAnswered`
 -- without a store.
-pub record IsAnsweredFrom {E : Type 0} (archive : Archive) (rules : List Rule) (day : ℤ) (given all : List ℕ)
-    (written : E → ℕ) (told_before told_after : List ℕ) (result : Result ℕ E) : Type 0 where
-  -- to the head that the input begins with, the reply of the definition, or 503
+pub record IsAnsweredFrom (archive : Archive) (rules : List Rule) (day : ℤ) (given all : List ℕ)
+    (told_before told_after : List ℕ) (result : Result ℕ ServeFault) : Type 0 where
+  -- to the head that the input begins with, the reply of the definition, or 503; or exactly the first bytes of it, at least
+  -- one, where it is an mbox that broke off (S3)
   pub head : (h : RequestHead) → BeginsWith all h
-      → Sends written (Is (reply_of archive rules day h)) told_before told_after result
+      → Sends (Is (reply_of archive rules day h)) told_before told_after result
+      ⊎ IsBroken result (Breaks (λ reply. reply ≡ reply_of archive rules day h) told_before told_after)
   -- to no such head 400 or 431
   pub none : ((h : RequestHead) → ¬ BeginsWith all h)
-      → Sends written (λ reply. (reply ≡ bad_request) ⊎ (reply ≡ head_too_large)) told_before told_after result
+      → Sends (λ reply. (reply ≡ bad_request) ⊎ (reply ≡ head_too_large)) told_before told_after result
   -- 431 to a head of more than 64 fields within 8,192 bytes
-  pub many : (h : RequestHead) → Exceeds all h → Sends written (λ reply. reply ≡ head_too_large) told_before told_after result
+  pub many : (h : RequestHead) → Exceeds all h → Sends (λ reply. reply ≡ head_too_large) told_before told_after result
   -- 431 to 8,192 bytes that hold no head and could still become one
   pub long : 8192 ≤ length all → HasNoRequest (take 8192 all) → CanBecome (take 8192 all)
-      → Sends written (λ reply. reply ≡ head_too_large) told_before told_after result
+      → Sends (λ reply. reply ≡ head_too_large) told_before told_after result
   -- 400 else where fewer bytes came, and no more than 64 whole fields
   pub few : ((h : RequestHead) → ¬ BeginsWith all h) → length given < 8192 → ¬ RequestExceeds 64 given
-      → Sends written (λ reply. reply ≡ bad_request) told_before told_after result
+      → Sends (λ reply. reply ≡ bad_request) told_before told_after result
 
 -- What a call that answers one request out of this archive says: of the bytes that the input told and of those that went out;
 -- or the input failed before it told a whole head, and nothing went out.
@@ -35,5 +37,5 @@ abbrev pub AnswersFrom : Archive → List Rule → (day : ℤ) → (read_before 
     → (told_before told_after : List ℕ) → Result ℕ ServeFault → Type 0
 AnswersFrom archive rules day read_before read_after ends_before ends_after told_before told_after result = ByOutcome result
     (Reads read_before read_after ends_before ends_after
-    (λ given all. IsAnsweredFrom archive rules day given all written_of told_before told_after result))
+    (λ given all. IsAnsweredFrom archive rules day given all told_before told_after result))
     ((given : List ℕ) × (read_after ≡ read_before ++ given) × HasNoRequest given × (told_after ≡ told_before))

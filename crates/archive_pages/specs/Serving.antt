@@ -2,9 +2,10 @@
 use Rattle.std.specs.Prelude.{◌≡◌, ◌≢◌, ◌⊎◌, ℕ, List, Result, MatchResult, IfOk}
 use Rattle.sqlite.specs.Store.{Ghosts}
 use Rattle.archive_machine.specs.Records.{Archive}
-use Rattle.archive_store.specs.Told.{Goes, GoesIfOpen}
+use Rattle.archive_store.specs.Told.{Goes, GoesIfOpen, HasReturned, IsReady, archive_in}
 use Rattle.archive_store.specs.declared.store.Store.{Store}
-use Rattle.archive_pages.specs.Replies.{Reply, Sends, unavailable}
+use Rattle.archive_pages.specs.Replies.{Reply, Sends, Breaks, IsBroken, unavailable}
+use Rattle.archive_pages.specs.declared.faults.ServeFault.{ServeFault}
 
 module _ {S : Type 0} (g : Ghosts S) (old new : Store S) where
   -- The store is left as it was, and this holds of what it remembers and of what was found; or memory or the database was at
@@ -14,14 +15,17 @@ module _ {S : Type 0} (g : Ghosts S) (old new : Store S) where
       (λ found. Goes g old new (λ a b. (b ≡ a) × Says a found))
       (λ _. GoesIfOpen g old new (λ a b. b ≡ a))
 
-  -- The same of a reply that went out; where memory or the database was at fault, it is 503.
-  abbrev pub Serves : {E : Type 0} → (written : E → ℕ) → (Archive → Reply → Type 0) → (told_before told_after : List ℕ) → Result ℕ E → Type 0
-  Serves written Says before after result =
-      Goes g old new (λ a b. (b ≡ a) × Sends written (Says a) before after result)
-      ⊎ (GoesIfOpen g old new (λ a b. b ≡ a) × Sends written (λ reply. reply ≡ unavailable) before after result)
+  -- The same of a reply that went out. Where memory or the database was at fault it is 503; or it is an mbox of what the store
+  -- remembered, which broke off (S3): exactly its first bytes went out, as many as the fault counts, and at least one.
+  abbrev pub Serves : (Archive → Reply → Type 0) → (told_before told_after : List ℕ) → Result ℕ ServeFault → Type 0
+  Serves Says before after result =
+      Goes g old new (λ a b. (b ≡ a) × Sends (Says a) before after result)
+      ⊎ ((GoesIfOpen g old new (λ a b. b ≡ a) × Sends (λ reply. reply ≡ unavailable) before after result)
+      ⊎ (GoesIfOpen g old new (λ a b. b ≡ a)
+      × IsBroken result (λ written. HasReturned g new → IsReady g old → Breaks (Says (archive_in g old)) before after written)))
 
-  -- What an answer leaves of a store, whatever the request and the reply: the same archive, if the connection is still open; and
-  -- where a reply other than 503 went out, the store is ready for the next request.
-  pub record Stays {E : Type 0} (result : Result ℕ E) : Type 0 where
+  -- What an answer leaves of a store, whatever the request and the reply, and whatever the fault: the same archive, if the
+  -- connection is still open; and where a reply other than 503 went out, the store is ready for the next request.
+  pub record Stays (result : Result ℕ ServeFault) : Type 0 where
     pub same : GoesIfOpen g old new (λ a b. b ≡ a)
     pub ready : IfOk result (λ status. status ≢ 503 → Goes g old new (λ a b. b ≡ a))

@@ -1,9 +1,10 @@
 //! Answering a request: from the bytes of its head to the bytes of the reply.
-ghost use Rattle.std.specs.Prelude.{◌≡◌, ◌<◌, ◌++◌, ℕ, List, OnOk, OnErr, IfErr};
+ghost use Rattle.std.specs.Prelude.{◌≡◌, ◌++◌, ℕ, List, OnOk, IfErr};
 ghost use Rattle.httparse.specs.Grammar.{HasNoRequest};
 ghost use Rattle.archive_store.specs.Told.{Goes};
 ghost use Rattle.archive_requests.specs.Reading.{IsRequestAs};
-ghost use Rattle.archive_pages.specs.Answered.{ByOutcome, IsAnswered, Reads, written_of};
+ghost use Rattle.archive_pages.specs.Answered.{ByOutcome, IsAnswered, Reads};
+ghost use Rattle.archive_pages.specs.Replies.{IsReplyStop, IsServeStop};
 ghost use Rattle.archive_pages.specs.Serving.{Stays};
 
 use crate::faults::ServeFault;
@@ -14,7 +15,7 @@ use archive_requests::{MOST_BYTES, RequestRead, read_request};
 use archive_store::Store;
 use civil_time::Day;
 use http::StatusCode;
-use mbox_core::device::{Sink, Source, WriteFault};
+use mbox_core::device::{Sink, Source};
 use policy_core::Policy;
 use sqlite::Alter;
 use std::alloc::Global;
@@ -29,13 +30,14 @@ fn answer_read<T: Threader, S: Alter, W: Sink>(
     day: Day,
     read: &RequestRead<'_>,
     output: &mut W,
-) -> Result<StatusCode, WriteFault>
+) -> Result<StatusCode, ServeFault>
     ensures answered { (given more : List ℕ) → IsRequestAs given (given ++ more) read.now
         → IsAnswered S.Store store.old store.new policy.now day given (given ++ more)
-        (λ e. e.written) (W.told output.old) (W.told output.new) result }
+        (W.told output.old) (W.told output.new) result }
     ensures stays { Stays S.Store store.old store.new result }
     ensures quiet { OnOk result (W.failures output.new ≡ W.failures output.old) }
-    ensures cause { OnErr result (W.failures output.old < W.failures output.new) }
+    ensures cause { IfErr result (λ fault. IsReplyStop (W.told output.old) (W.told output.new)
+        (W.failures output.old) (W.failures output.new) fault) }
 {
     match read {
         RequestRead::Whole(request) => answer_request(
@@ -50,7 +52,8 @@ fn answer_read<T: Threader, S: Alter, W: Sink>(
 /// status of the reply, which went out whole. The store stays as it is, and the next request can
 /// follow. S1 where the input failed before it told a head: nothing was written. S2 where the
 /// output failed. Where memory or the database refuses before the first byte of the reply, the
-/// reply is 503.
+/// reply is 503; S3 where it refuses later, as it can in an mbox, which is written message by
+/// message. After S2 and S3 exactly the first bytes of the reply went out, as many as they count.
 pub fn answer<T: Threader, S: Alter, R: Source, W: Sink>(
     store: &mut Store<S>,
     alloc: Global,
@@ -62,7 +65,7 @@ pub fn answer<T: Threader, S: Alter, R: Source, W: Sink>(
 ) -> Result<StatusCode, ServeFault>
     ensures answered { ByOutcome result
         (Reads (R.told input.old) (R.told input.new) (R.ends input.old) (R.ends input.new)
-        (λ given all. IsAnswered S.Store store.old store.new policy.now day given all written_of
+        (λ given all. IsAnswered S.Store store.old store.new policy.now day given all
         (W.told output.old) (W.told output.new) result))
         ((given : List ℕ) × (R.told input.new ≡ R.told input.old ++ given) × HasNoRequest given
         × (W.told output.new ≡ W.told output.old)
@@ -70,20 +73,13 @@ pub fn answer<T: Threader, S: Alter, R: Source, W: Sink>(
     ensures stays { Stays S.Store store.old store.new result }
     ensures quiet { OnOk result ((R.failures input.new ≡ R.failures input.old)
         × (W.failures output.new ≡ W.failures output.old)) }
-    ensures cause { IfErr result (λ fault. ByOutcome result
-        ((R.failures input.new ≡ R.failures input.old)
-        × (W.failures output.old < W.failures output.new))
-        ((R.failures input.old < R.failures input.new)
-        × (W.failures output.new ≡ W.failures output.old))) }
+    ensures cause { IfErr result (λ fault. IsServeStop (W.told output.old) (W.told output.new)
+        (R.failures input.old) (R.failures input.new)
+        (W.failures output.old) (W.failures output.new) fault) }
 {
     let mut buffer = [0; MOST_BYTES];
     let Ok(read) = read_request(input, &mut buffer) else {
         return Err(ServeFault::Read);
     };
-    match answer_read(store, alloc, policy, threader, day, &read, output) {
-        Ok(status) => Ok(status),
-        Err(fault) => Err(ServeFault::Write {
-            written: fault.written,
-        }),
-    }
+    answer_read(store, alloc, policy, threader, day, &read, output)
 }

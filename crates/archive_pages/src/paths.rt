@@ -1,5 +1,5 @@
 //! The answer of a path.
-ghost use Rattle.std.specs.Prelude.{◌≡◌, ◌<◌, OnOk, OnErr, Some};
+ghost use Rattle.std.specs.Prelude.{◌≡◌, OnOk, IfErr, Some};
 ghost use Rattle.std.specs.Option.{option_map_or};
 ghost use Rattle.archive_requests.specs.Asked.{named_request};
 ghost use Rattle.archive_requests.specs.Routing.{named_route};
@@ -8,9 +8,10 @@ ghost use Rattle.percent_encoding.specs.Percent.{percent_decode};
 ghost use Rattle.archive_html.specs.Pages.{author_page};
 ghost use Rattle.archive_results.specs.Results.{author_lines};
 ghost use Rattle.archive_pages.specs.Answers.{asking, listed_reply, path_reply, reader_of, request_reply, route_reply, shown_view};
-ghost use Rattle.archive_pages.specs.Replies.{page_reply, unauthorized};
+ghost use Rattle.archive_pages.specs.Replies.{IsReplyStop, page_reply, unauthorized};
 ghost use Rattle.archive_pages.specs.Serving.{Serves};
 
+use crate::faults::ServeFault;
 use crate::finding::find_person;
 use crate::replies::Failure;
 use crate::routing::{
@@ -23,7 +24,7 @@ use archive_results::{Ask, Reader};
 use archive_store::Store;
 use civil_time::Day;
 use http::StatusCode;
-use mbox_core::device::{Sink, WriteFault};
+use mbox_core::device::Sink;
 use policy_core::Policy;
 use sqlite::Alter;
 use std::alloc::Global;
@@ -49,13 +50,14 @@ fn answer_escaped_author<S: Alter, W: Sink>(
     ask: &Ask<'_>,
     author: &str,
     output: &mut W,
-) -> Result<StatusCode, WriteFault>
-    ensures sent { Serves S.Store store.old store.new (λ e. e.written)
+) -> Result<StatusCode, ServeFault>
+    ensures sent { Serves S.Store store.old store.new
         (λ a reply. let key = percent_decode author.now in reply ≡ listed_reply a ask.now.list
         (page_reply (author_page ask.now.list key (author_lines key (shown_view a ask.now)))))
         (W.told output.old) (W.told output.new) result }
     ensures quiet { OnOk result (W.failures output.new ≡ W.failures output.old) }
-    ensures cause { OnErr result (W.failures output.old < W.failures output.new) }
+    ensures cause { IfErr result (λ fault. IsReplyStop (W.told output.old) (W.told output.new)
+        (W.failures output.old) (W.failures output.new) fault) }
 {
     match decoded(alloc, author) {
         Ok(author) => answer_author(store, alloc, ask, &author, output),
@@ -73,13 +75,14 @@ fn answer_route<T: Threader, S: Alter, W: Sink>(
     reader: Reader<'_>,
     route: &Route<'_>,
     output: &mut W,
-) -> Result<StatusCode, WriteFault>
-    ensures sent { Serves S.Store store.old store.new (λ e. e.written)
+) -> Result<StatusCode, ServeFault>
+    ensures sent { Serves S.Store store.old store.new
         (λ a reply. reply ≡ route_reply a (asking policy.now day (name_of reader.entry))
         (named_route route.now))
         (W.told output.old) (W.told output.new) result }
     ensures quiet { OnOk result (W.failures output.new ≡ W.failures output.old) }
-    ensures cause { OnErr result (W.failures output.old < W.failures output.new) }
+    ensures cause { IfErr result (λ fault. IsReplyStop (W.told output.old) (W.told output.new)
+        (W.failures output.old) (W.failures output.new) fault) }
 {
     match route {
         Route::Lists => answer_lists(store, alloc, output),
@@ -120,12 +123,13 @@ fn answer_path<T: Threader, S: Alter, W: Sink>(
     reader: Reader<'_>,
     path: &str,
     output: &mut W,
-) -> Result<StatusCode, WriteFault>
-    ensures sent { Serves S.Store store.old store.new (λ e. e.written)
+) -> Result<StatusCode, ServeFault>
+    ensures sent { Serves S.Store store.old store.new
         (λ a reply. reply ≡ path_reply a policy.now day path.now (name_of reader.entry))
         (W.told output.old) (W.told output.new) result }
     ensures quiet { OnOk result (W.failures output.new ≡ W.failures output.old) }
-    ensures cause { OnErr result (W.failures output.old < W.failures output.new) }
+    ensures cause { IfErr result (λ fault. IsReplyStop (W.told output.old) (W.told output.new)
+        (W.failures output.old) (W.failures output.new) fault) }
 {
     match route_of(alloc, path) {
         Ok(Some(route)) => answer_route(
@@ -146,13 +150,14 @@ fn answer_holder<T: Threader, S: Alter, W: Sink>(
     token: &str,
     path: &str,
     output: &mut W,
-) -> Result<StatusCode, WriteFault>
-    ensures sent { Serves S.Store store.old store.new (λ e. e.written)
+) -> Result<StatusCode, ServeFault>
+    ensures sent { Serves S.Store store.old store.new
         (λ a reply. reply ≡ option_map_or (path_reply a policy.now day path.now)
         (reader_of a (Some token.now)) unauthorized) (W.told output.old)
         (W.told output.new) result }
     ensures quiet { OnOk result (W.failures output.new ≡ W.failures output.old) }
-    ensures cause { OnErr result (W.failures output.old < W.failures output.new) }
+    ensures cause { IfErr result (λ fault. IsReplyStop (W.told output.old) (W.told output.new)
+        (W.failures output.old) (W.failures output.new) fault) }
 {
     match find_person(store, token) {
         Ok(Some(name)) => answer_path(
@@ -179,12 +184,13 @@ pub(crate) fn answer_request<T: Threader, S: Alter, W: Sink>(
     day: Day,
     request: &Request<'_>,
     output: &mut W,
-) -> Result<StatusCode, WriteFault>
-    ensures sent { Serves S.Store store.old store.new (λ e. e.written)
+) -> Result<StatusCode, ServeFault>
+    ensures sent { Serves S.Store store.old store.new
         (λ a reply. reply ≡ request_reply a policy.now day (named_request request.now))
         (W.told output.old) (W.told output.new) result }
     ensures quiet { OnOk result (W.failures output.new ≡ W.failures output.old) }
-    ensures cause { OnErr result (W.failures output.old < W.failures output.new) }
+    ensures cause { IfErr result (λ fault. IsReplyStop (W.told output.old) (W.told output.new)
+        (W.failures output.old) (W.failures output.new) fault) }
 {
     match request {
         Request::Bad => write_failure(output, Failure::BadRequest),

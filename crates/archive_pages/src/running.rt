@@ -1,12 +1,12 @@
 //! Commands one after the other, and then a request: the reply is of the archive that the machine
 //! makes of the commands.
-ghost use Rattle.std.specs.Prelude.{◌≡◌, ◌<◌, None, map, IfOk, IfErr, OnOk};
+ghost use Rattle.std.specs.Prelude.{◌≡◌, None, map, IfOk, IfErr, OnOk};
 ghost use Rattle.archive_machine.specs.Runs.{run};
 ghost use Rattle.archive_tables.specs.Making.{empty_archive};
 ghost use Rattle.archive_store.specs.Replies.{refusal};
 ghost use Rattle.archive_store.specs.Running.{command_of};
 ghost use Rattle.archive_store.specs.Told.{IsReady, archive_in, HasReturned};
-ghost use Rattle.archive_pages.specs.Answered.{ByOutcome};
+ghost use Rattle.archive_pages.specs.Replies.{IsServeStop};
 ghost use Rattle.archive_pages.specs.Running.{AnswersFrom};
 
 use crate::answering::answer;
@@ -41,11 +41,9 @@ pub fn run_and_answer<T: Threader, S: Alter, R: Source, W: Sink>(
     ensures quiet { IfOk result (λ answer. OnOk answer
         ((R.failures input.new ≡ R.failures input.old)
         × (W.failures output.new ≡ W.failures output.old))) }
-    ensures cause { IfOk result (λ answer. IfErr answer (λ _. ByOutcome answer
-        ((R.failures input.new ≡ R.failures input.old)
-        × (W.failures output.old < W.failures output.new))
-        ((R.failures input.old < R.failures input.new)
-        × (W.failures output.new ≡ W.failures output.old)))) }
+    ensures cause { IfOk result (λ answer. IfErr answer (λ fault. IsServeStop
+        (W.told output.old) (W.told output.new) (R.failures input.old) (R.failures input.new)
+        (W.failures output.old) (W.failures output.new) fault)) }
     ensures stopped { IfErr result (λ stop. (refusal stop.fault ≡ None) × (input.new ≡ input.old)
         × (output.new ≡ output.old)) }
 {
@@ -73,11 +71,9 @@ pub fn run_and_answer_in_memory<T: Threader, R: Source, W: Sink>(
     ensures quiet { IfOk result (λ answer. OnOk answer
         ((R.failures input.new ≡ R.failures input.old)
         × (W.failures output.new ≡ W.failures output.old))) }
-    ensures cause { IfOk result (λ answer. IfErr answer (λ _. ByOutcome answer
-        ((R.failures input.new ≡ R.failures input.old)
-        × (W.failures output.old < W.failures output.new))
-        ((R.failures input.old < R.failures input.new)
-        × (W.failures output.new ≡ W.failures output.old)))) }
+    ensures cause { IfOk result (λ answer. IfErr answer (λ fault. IsServeStop
+        (W.told output.old) (W.told output.new) (R.failures input.old) (R.failures input.new)
+        (W.failures output.old) (W.failures output.new) fault)) }
     ensures stopped { IfErr result (λ fault. (refusal fault ≡ None) × (input.new ≡ input.old)
         × (output.new ≡ output.old)) }
 {

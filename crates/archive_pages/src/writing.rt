@@ -1,22 +1,24 @@
 //! Writing a reply.
-ghost use Rattle.std.specs.Prelude.{◌≡◌, ◌<◌, IfOk, OnOk, OnErr, string_bytes};
-ghost use Rattle.archive_pages.specs.Replies.{head_bytes, sized, forbidden, Is, Sends};
+ghost use Rattle.std.specs.Prelude.{◌≡◌, IfOk, IfErr, OnOk, string_bytes};
+ghost use Rattle.archive_pages.specs.Replies.{head_bytes, sized, forbidden, Is, IsReplyStop, Sends};
 ghost use Rattle.archive_pages.specs.Seen.{failure_reply, reply_made};
 
+use crate::faults::ServeFault;
 use crate::replies::{Failure, Reply};
 use http::StatusCode;
-use mbox_core::device::{Sink, WriteFault, write_bytes, write_two};
+use mbox_core::device::{Sink, write_bytes, write_two};
 use std::alloc::{AllocError, Global};
 
 /// Writes a reply that no request changes. It takes no memory.
 pub(crate) fn write_failure<W: Sink>(
     output: &mut W,
     failure: Failure,
-) -> Result<StatusCode, WriteFault>
-    ensures sent { Sends (λ e. e.written) (λ r. r ≡ failure_reply failure) (W.told output.old)
+) -> Result<StatusCode, ServeFault>
+    ensures sent { Sends (λ r. r ≡ failure_reply failure) (W.told output.old)
         (W.told output.new) result }
     ensures quiet { OnOk result (W.failures output.new ≡ W.failures output.old) }
-    ensures cause { OnErr result (W.failures output.old < W.failures output.new) }
+    ensures cause { IfErr result (λ fault. IsReplyStop (W.told output.old) (W.told output.new)
+        (W.failures output.old) (W.failures output.new) fault) }
 {
     write_bytes(output, failure.reply())?;
     Ok(failure.status())
@@ -46,18 +48,19 @@ fn write_sized<W: Sink>(
     status: StatusCode,
     content_type: &str,
     body: &[u8],
-) -> Result<StatusCode, WriteFault>
-    ensures sent { Sends (λ e. e.written) (Is (sized status content_type.now body.now))
+) -> Result<StatusCode, ServeFault>
+    ensures sent { Sends (Is (sized status content_type.now body.now))
         (W.told output.old) (W.told output.new) result }
     ensures quiet { OnOk result (W.failures output.new ≡ W.failures output.old) }
-    ensures cause { OnErr result (W.failures output.old < W.failures output.new) }
+    ensures cause { IfErr result (λ fault. IsReplyStop (W.told output.old) (W.told output.new)
+        (W.failures output.old) (W.failures output.new) fault) }
 {
     let Ok(head) = sized_head(alloc, status, content_type, body) else {
         return write_failure(output, Failure::Unavailable);
     };
     match write_two(output, head.as_bytes(), body) {
         Ok(()) => Ok(status),
-        Err(fault) => Err(fault),
+        Err(fault) => Err(ServeFault::from(fault)),
     }
 }
 
@@ -66,11 +69,12 @@ fn write_denial<W: Sink>(
     alloc: Global,
     output: &mut W,
     rule: &str,
-) -> Result<StatusCode, WriteFault>
-    ensures sent { Sends (λ e. e.written) (Is (forbidden rule.now)) (W.told output.old)
+) -> Result<StatusCode, ServeFault>
+    ensures sent { Sends (Is (forbidden rule.now)) (W.told output.old)
         (W.told output.new) result }
     ensures quiet { OnOk result (W.failures output.new ≡ W.failures output.old) }
-    ensures cause { OnErr result (W.failures output.old < W.failures output.new) }
+    ensures cause { IfErr result (λ fault. IsReplyStop (W.told output.old) (W.told output.new)
+        (W.failures output.old) (W.failures output.new) fault) }
 {
     let status = StatusCode::FORBIDDEN;
     match format!(in alloc; "{status}: {rule}\n") {
@@ -91,11 +95,12 @@ pub(crate) fn write_reply<W: Sink>(
     alloc: Global,
     output: &mut W,
     reply: &Reply<'_>,
-) -> Result<StatusCode, WriteFault>
-    ensures sent { Sends (λ e. e.written) (Is (reply_made reply.now)) (W.told output.old)
+) -> Result<StatusCode, ServeFault>
+    ensures sent { Sends (Is (reply_made reply.now)) (W.told output.old)
         (W.told output.new) result }
     ensures quiet { OnOk result (W.failures output.new ≡ W.failures output.old) }
-    ensures cause { OnErr result (W.failures output.old < W.failures output.new) }
+    ensures cause { IfErr result (λ fault. IsReplyStop (W.told output.old) (W.told output.new)
+        (W.failures output.old) (W.failures output.new) fault) }
 {
     match reply {
         Reply::Page(page) => write_sized(

@@ -1,21 +1,23 @@
 -- What an archive answers on a connection.
-use Rattle.std.specs.Prelude.{◌≡◌, ◌<◌, ◌++◌, ℕ, ℤ, List, Result, Ok, Err, OnOk, IfErr}
+use Rattle.std.specs.Prelude.{◌≡◌, ◌++◌, ℕ, ℤ, List, Result, Ok, Err, OnOk, IfErr}
 use Rattle.sqlite.specs.Store.{Ghosts}
 use Rattle.httparse.specs.Grammar.{HasNoRequest}
 use Rattle.policy_core.specs.Rules.{Rule}
 use Rattle.archive_store.specs.Told.{Goes}
 use Rattle.archive_store.specs.declared.store.Store.{Store}
-use Rattle.archive_pages.specs.Answered.{ByOutcome, IsAnswered, Reads, written_of}
+use Rattle.archive_pages.specs.Answered.{ByOutcome, IsAnswered, Reads}
+use Rattle.archive_pages.specs.Replies.{IsServeStop}
 use Rattle.archive_pages.specs.declared.faults.ServeFault.{ServeFault}
 use Rattle.archive_pages.specs.declared.faults.ServeFault.TheVariants as answering
 use Rattle.archive_listen.specs.Connections.{Telling, Outcome}
-use Rattle.archive_listen.specs.declared.faults.ConnectionFault.TheVariants.{Read, Write}
+use Rattle.archive_listen.specs.declared.faults.ConnectionFault.TheVariants.{Read, Write, Broken}
 
 -- how a connection ends by the answer to its request
 abbrev pub outcome_of : Result ℕ ServeFault → Outcome
 outcome_of (Ok status) = Ok status
 outcome_of (Err answering.Read) = Err Read
 outcome_of (Err (answering.Write written)) = Err Write
+outcome_of (Err (answering.Broken written)) = Err Broken
 
 -- By these rules and on this day, one request is answered out of what a store remembers, and the store is left as it is: what
 -- the call that answers says, of what the connection told before and after.
@@ -25,10 +27,9 @@ pub record AnswersAs {S : Type 0} (g : Ghosts S) (rules : List Rule) (day : ℤ)
   pub ends : outcome ≡ outcome_of result
   pub answered : ByOutcome result
       (Reads before.read after.read before.ends after.ends
-      (λ given all. IsAnswered g old new rules day given all written_of before.written after.written result))
+      (λ given all. IsAnswered g old new rules day given all before.written after.written result))
       ((given : List ℕ) × (after.read ≡ before.read ++ given) × HasNoRequest given × (after.written ≡ before.written)
       × Goes g old new (λ a b. b ≡ a))
   pub quiet : OnOk result ((after.read_failures ≡ before.read_failures) × (after.write_failures ≡ before.write_failures))
-  pub cause : IfErr result (λ fault. ByOutcome result
-      ((after.read_failures ≡ before.read_failures) × (before.write_failures < after.write_failures))
-      ((before.read_failures < after.read_failures) × (after.write_failures ≡ before.write_failures)))
+  pub cause : IfErr result (λ fault. IsServeStop before.written after.written
+      before.read_failures after.read_failures before.write_failures after.write_failures fault)

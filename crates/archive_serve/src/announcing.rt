@@ -83,6 +83,7 @@ pub fn serve<T: Threader, S: Alter, L: Listener, O: Sink, E: Sink>(
         × (E.failures faults.new ≡ E.failures faults.old → E.told faults.new ≡ E.told faults.old ++ flat_map outcome_line outcomes) }
     ensures untouched { IfErr result (λ stop. stop ≢ ServeStop.Listen
         → (store.new ≡ store.old) × (listener.new ≡ listener.old) × (faults.new ≡ faults.old)) }
+    ensures failures { E.failures faults.old ≤ E.failures faults.new }
     ensures write { result ≡ Err ServeStop.Write → O.failures output.old < O.failures output.new }
 {
     announce(alloc, port, output)?;

@@ -42,6 +42,7 @@ impl<'a, T: Threader, S: Alter> Service<Store<S>> for Pages<'a, T> {
             Ok(status) => Ok(status.as_u16()),
             Err(ServeFault::Read) => Err(ConnectionFault::Read),
             Err(ServeFault::Write { .. }) => Err(ConnectionFault::Write),
+            Err(ServeFault::Broken { .. }) => Err(ConnectionFault::Broken),
         }
     }
 }

@@ -16,7 +16,7 @@ use std::alloc::Global;
 use thread_core::Threader;
 
 /// Takes `count` connections, one after the other, and answers one request on each, by the policy and on the day; the store stays
-/// as it is. A connection that fails is told in one line, S1 or S2, and the next one follows. F4: after fewer, the listener gave
+/// as it is. A connection that fails is told in one line, S1 to S3, and the next one follows. F4: after fewer, the listener gave
 /// no more.
 pub fn serve_on<T: Threader, S: Alter, L: Listener, E: Sink>(
     alloc: Global,

@@ -1,5 +1,4 @@
 use Rattle.std.proofs.Common.{◌≡◌, ◌++◌, subst}
-use Rattle.mbox_core.specs.declared.device.writing.WriteFault.{WriteFault}
 use Rattle.archive_requests.specs.Asked.{named_request}
 use Rattle.archive_requests.specs.Reading.{IsRequestAs}
 use Rattle.archive_pages.specs.Answers.{request_reply}
@@ -9,23 +8,23 @@ use Rattle.archive_pages.proofs.answering.answer_read.Goals as goal
 
 pub returns-in-Whole-clause-answered : goal.returns-in-Whole-clause-answered
 returns-in-Whole-clause-answered g c = λ given more is.
-    to_whole g.S.Store c.args.policy.now c.args.day given more (λ (e : WriteFault). e.written) (g.W.Sink.told c.args.output.now) (g.W.Sink.told c.answer_request.new.output)
+    to_whole g.S.Store c.args.policy.now c.args.day given more (g.W.Sink.told c.args.output.now) (g.W.Sink.told c.answer_request.new.output)
     c.answer_request.result c.args.store.now c.answer_request.new.store c.in-Whole.request (subst (IsRequestAs given (given ++ more)) c.in-Whole.is is) c.answer_request.ensures.sent
 
 pub returns-in-Malformed-clause-answered : goal.returns-in-Malformed-clause-answered
 returns-in-Malformed-clause-answered g c = λ given more is.
-    to_bad g.S.Store c.args.policy.now c.args.day given (given ++ more) (λ (e : WriteFault). e.written) (g.W.Sink.told c.args.output.now) (g.W.Sink.told c.write_failure.new.output)
+    to_bad g.S.Store c.args.policy.now c.args.day given (given ++ more) (g.W.Sink.told c.args.output.now) (g.W.Sink.told c.write_failure.new.output)
     c.write_failure.result c.args.store.now (subst (IsRequestAs given (given ++ more)) c.in-Malformed.is is) c.write_failure.ensures.sent
 
 pub returns-in-TooLarge-clause-answered : goal.returns-in-TooLarge-clause-answered
 returns-in-TooLarge-clause-answered g c = λ given more is.
-    to_large g.S.Store c.args.policy.now c.args.day given (given ++ more) (λ (e : WriteFault). e.written) (g.W.Sink.told c.args.output.now)
+    to_large g.S.Store c.args.policy.now c.args.day given (given ++ more) (g.W.Sink.told c.args.output.now)
     (g.W.Sink.told c.write_failure-in-TooLarge.new.output) c.write_failure-in-TooLarge.result c.args.store.now (subst (IsRequestAs given (given ++ more)) c.in-TooLarge.is is)
     c.write_failure-in-TooLarge.ensures.sent
 
 pub returns-in-Whole-clause-stays : goal.returns-in-Whole-clause-stays
 returns-in-Whole-clause-stays g c =
-    stays_served g.S.Store (λ (e : WriteFault). e.written) (g.W.Sink.told c.args.output.now) (g.W.Sink.told c.answer_request.new.output) c.args.store.now c.answer_request.new.store
+    stays_served g.S.Store (g.W.Sink.told c.args.output.now) (g.W.Sink.told c.answer_request.new.output) c.args.store.now c.answer_request.new.store
     (λ a reply. reply ≡ request_reply a c.args.policy.now c.args.day (named_request c.in-Whole.request)) c.answer_request.result c.answer_request.ensures.sent
 
 pub returns-in-Malformed-clause-stays : goal.returns-in-Malformed-clause-stays

@@ -1,17 +1,24 @@
 use Rattle.std.proofs.Common.{◌≡◌, subst}
-use Rattle.mbox_core.specs.declared.device.writing.WriteFault.{WriteFault}
 use Rattle.archive_html.specs.Pages.{threads_page}
 use Rattle.archive_results.specs.Results.{tree_lines}
 use Rattle.archive_results.specs.Access.{Ask}
 use Rattle.archive_pages.specs.Replies.{page_reply}
-use Rattle.archive_pages.specs.Answers.{listed_reply, month_reply, shown_view, thread_reply}
+use Rattle.archive_pages.specs.Answers.{keyed_reply, listed_reply, month_reply, shown_view, thread_reply}
 use Rattle.archive_pages.specs.Serving.{Serves}
 use Rattle.archive_pages.proofs.paths.answer_route.Goals as goal
+
+pub returns-in-Message-clause-sent : goal.returns-in-Message-clause-sent
+returns-in-Message-clause-sent g c = rw c.in-Message.is (
+    subst
+    (λ (q : Ask). Serves g.S.Store c.args.store.now c.answer_message.new.store
+    (λ a reply. reply ≡ listed_reply a q.list (keyed_reply a q c.in-Message.key.now))
+    (g.W.Sink.told c.args.output.now) (g.W.Sink.told c.answer_message.new.output) c.answer_message.result)
+    c.ask_of-ask.ensures c.answer_message.ensures.sent)
 
 pub returns-in-Month-clause-sent : goal.returns-in-Month-clause-sent
 returns-in-Month-clause-sent g c = rw c.in-Month.is (
     subst
-    (λ (q : Ask). Serves g.S.Store c.args.store.now c.answer_month.new.store {E = WriteFault} (λ e. e.written)
+    (λ (q : Ask). Serves g.S.Store c.args.store.now c.answer_month.new.store
     (λ a reply. reply ≡ listed_reply a q.list (month_reply q.list c.in-Month.month.now (shown_view a q)))
     (g.W.Sink.told c.args.output.now) (g.W.Sink.told c.answer_month.new.output) c.answer_month.result)
     c.ask_of-ask-in-Month.ensures c.answer_month.ensures.sent)
@@ -19,7 +26,7 @@ returns-in-Month-clause-sent g c = rw c.in-Month.is (
 pub returns-in-Threads-clause-sent : goal.returns-in-Threads-clause-sent
 returns-in-Threads-clause-sent g c = rw c.in-Threads.is (
     subst
-    (λ (q : Ask). Serves g.S.Store c.args.store.now c.answer_threads.new.store {E = WriteFault} (λ e. e.written)
+    (λ (q : Ask). Serves g.S.Store c.args.store.now c.answer_threads.new.store
     (λ a reply. reply ≡ listed_reply a q.list (page_reply (threads_page q.list (tree_lines (shown_view a q)))))
     (g.W.Sink.told c.args.output.now) (g.W.Sink.told c.answer_threads.new.output) c.answer_threads.result)
     c.ask_of-ask-in-Threads.ensures c.answer_threads.ensures.sent)
@@ -27,7 +34,7 @@ returns-in-Threads-clause-sent g c = rw c.in-Threads.is (
 pub returns-in-Thread-clause-sent : goal.returns-in-Thread-clause-sent
 returns-in-Thread-clause-sent g c = rw c.in-Thread.is (
     subst
-    (λ (q : Ask). Serves g.S.Store c.args.store.now c.answer_thread.new.store {E = WriteFault} (λ e. e.written)
+    (λ (q : Ask). Serves g.S.Store c.args.store.now c.answer_thread.new.store
     (λ a reply. reply ≡ listed_reply a q.list (thread_reply q.list c.in-Thread.key.now (shown_view a q)))
     (g.W.Sink.told c.args.output.now) (g.W.Sink.told c.answer_thread.new.output) c.answer_thread.result)
     c.ask_of-ask-in-Thread.ensures c.answer_thread.ensures.sent)

@@ -1,5 +1,4 @@
 use Rattle.std.proofs.Common.{◌≡◌}
-use Rattle.mbox_core.specs.declared.device.writing.WriteFault.{WriteFault}
 use Rattle.archive_html.specs.Pages.{author_page}
 use Rattle.archive_results.specs.Results.{author_lines}
 use Rattle.archive_pages.specs.Replies.{page_reply}
@@ -10,7 +9,7 @@ use Rattle.archive_pages.proofs.routing.answer_author.Goals as goal
 
 pub returns-clause-sent : goal.returns-clause-sent
 returns-clause-sent g c =
-    serves_either g.S.Store (λ (e : WriteFault). e.written) (g.W.Sink.told c.args.output.now) (g.W.Sink.told c.write_found.new.output) c.write_found.result
+    serves_either g.S.Store (g.W.Sink.told c.args.output.now) (g.W.Sink.told c.write_found.new.output) c.write_found.result
     c.args.store.now c.find_author-found.new.store c.find_author-found.result reply_made
     (λ a reply. reply_made reply ≡ listed_reply a c.args.ask.now.list (page_reply (author_page c.args.ask.now.list c.args.author.now (author_lines c.args.author.now (shown_view a c.args.ask.now)))))
     (λ a reply. reply ≡ listed_reply a c.args.ask.now.list (page_reply (author_page c.args.ask.now.list c.args.author.now (author_lines c.args.author.now (shown_view a c.args.ask.now))))) c.find_author-found.ensures (λ a x is. is) c.write_found.ensures.sent

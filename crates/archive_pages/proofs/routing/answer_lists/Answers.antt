@@ -1,5 +1,4 @@
 use Rattle.std.proofs.Common.{◌≡◌}
-use Rattle.mbox_core.specs.declared.device.writing.WriteFault.{WriteFault}
 use Rattle.archive_machine.specs.Questions.{list_names}
 use Rattle.archive_html.specs.Pages.{lists_page}
 use Rattle.archive_pages.specs.Replies.{page_reply}
@@ -9,6 +8,6 @@ use Rattle.archive_pages.proofs.routing.answer_lists.Goals as goal
 
 pub returns-clause-sent : goal.returns-clause-sent
 returns-clause-sent g c =
-    serves_either g.S.Store (λ (e : WriteFault). e.written) (g.W.Sink.told c.args.output.now) (g.W.Sink.told c.write_found.new.output) c.write_found.result
+    serves_either g.S.Store (g.W.Sink.told c.args.output.now) (g.W.Sink.told c.write_found.new.output) c.write_found.result
     c.args.store.now c.find_lists-found.new.store c.find_lists-found.result reply_made (λ a reply. reply_made reply ≡ page_reply (lists_page (list_names a)))
     (λ a reply. reply ≡ page_reply (lists_page (list_names a))) c.find_lists-found.ensures (λ a x is. is) c.write_found.ensures.sent

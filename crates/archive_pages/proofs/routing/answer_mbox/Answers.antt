@@ -1,30 +1,51 @@
-use Rattle.std.proofs.Common.{subst}
-use Rattle.archive_desk.specs.Exporting.{IsHeldStop}
-use Rattle.archive_pages.proofs.DeskLemmas.{exported_whole, exported_part, exported_none}
+use Rattle.std.proofs.Common.{arith}
+use Rattle.archive_desk.specs.declared.faults.DeskFault.TheVariants.{NoPerson, Store as Stored, Memory}
+use Rattle.archive_pages.proofs.DeskLemmas.{cause_at, exported_whole, exported_part, exported_none, exported_broken, none_out}
 use Rattle.archive_pages.proofs.routing.answer_mbox.Goals as goal
 
 pub returns-in-Ok-clause-sent : goal.returns-in-Ok-clause-sent
 returns-in-Ok-clause-sent g c =
-    exported_whole g.S.Store c.args.store.now c.export_held.new.store c.args.ask.now (g.W.Sink.told c.args.output.now) (g.W.Sink.told c.export_held.new.out) _
+    exported_whole g.S.Store c.args.store.now c.export_after.new.store c.args.ask.now (g.W.Sink.told c.args.output.now) (g.W.Sink.told c.export_after.new.out) _
     c.in-Ok.ensures.exported
 
 pub returns-in-Write-clause-sent : goal.returns-in-Write-clause-sent
 returns-in-Write-clause-sent g c =
-    exported_part g.S.Store c.args.store.now c.export_held.new.store c.args.ask.now (g.W.Sink.told c.args.output.now) (g.W.Sink.told c.export_held.new.out) c.in-Err.stop.written
-    (rw c.in-Write.is at c.in-Err.ensures.exported)
+    exported_part g.S.Store c.args.store.now c.export_after.new.store c.args.ask.now (g.W.Sink.told c.args.output.now) (g.W.Sink.told c.export_after.new.out)
+    c.in-Err.stop.written (rw c.in-Write.is at c.in-Err.ensures.exported)
 
 pub returns-in-Store-clause-sent : goal.returns-in-Store-clause-sent
 returns-in-Store-clause-sent g c =
-    exported_none g.S.Store c.args.store.now c.export_held.new.store c.args.ask.now (g.W.Sink.told c.args.output.now) (g.W.Sink.told c.write_failure-in-Store.new.output)
-    c.in-Err.stop (g.W.Sink.told c.export_held.new.out) c.write_failure-in-Store.result c.in-Err.ensures.exported
-    (subst (λ f. IsHeldStop (g.W.Sink.told c.args.output.now) (g.W.Sink.told c.export_held.new.out) (g.W.Sink.failures c.args.output.now) (g.W.Sink.failures c.export_held.new.out) c.in-Err.stop.written f)
-    c.in-Store.is c.in-Err.ensures.cause).1
-    c.write_failure-in-Store.ensures.sent
+    exported_broken g.S.Store c.args.store.now c.export_after.new.store c.args.ask.now (g.W.Sink.told c.args.output.now) (g.W.Sink.told c.export_after.new.out)
+    c.in-Err.stop c.in-Err.ensures.exported c.in-Err.ensures.part c.in-Err.ensures.begun (omega (arith, c.if-written-gt0.true))
+
+pub returns-in-Store-2-clause-sent : goal.returns-in-Store-2-clause-sent
+returns-in-Store-2-clause-sent g c =
+    let before = g.W.Sink.told c.args.output.now in
+    let middle = g.W.Sink.told c.export_after.new.out in
+    exported_none g.S.Store c.args.store.now c.export_after.new.store c.args.ask.now before (g.W.Sink.told c.write_failure.new.output) c.in-Err.stop middle
+    c.write_failure.result c.in-Err.ensures.exported
+    (none_out before middle c.in-Err.stop.written
+    (cause_at before middle (g.W.Sink.failures c.args.output.now) (g.W.Sink.failures c.export_after.new.out) c.in-Err.stop.written c.in-Err.stop.fault
+    (Stored c.in-Store-2.field-0) c.in-Store-2.is c.in-Err.ensures.cause).1
+    (λ some. omega (arith, c.if-written-gt0.false, some)))
+    c.write_failure.ensures.sent
+
+pub returns-in-NoPerson-clause-sent : goal.returns-in-NoPerson-clause-sent
+returns-in-NoPerson-clause-sent g c =
+    let before = g.W.Sink.told c.args.output.now in
+    let middle = g.W.Sink.told c.export_after.new.out in
+    exported_none g.S.Store c.args.store.now c.export_after.new.store c.args.ask.now before (g.W.Sink.told c.write_failure-in-NoPerson.new.output) c.in-Err.stop middle
+    c.write_failure-in-NoPerson.result c.in-Err.ensures.exported
+    (cause_at before middle (g.W.Sink.failures c.args.output.now) (g.W.Sink.failures c.export_after.new.out) c.in-Err.stop.written c.in-Err.stop.fault NoPerson
+    c.in-NoPerson.is c.in-Err.ensures.cause).1
+    c.write_failure-in-NoPerson.ensures.sent
 
 pub returns-in-Memory-clause-sent : goal.returns-in-Memory-clause-sent
 returns-in-Memory-clause-sent g c =
-    exported_none g.S.Store c.args.store.now c.export_held.new.store c.args.ask.now (g.W.Sink.told c.args.output.now) (g.W.Sink.told c.write_failure-in-Memory.new.output)
-    c.in-Err.stop (g.W.Sink.told c.export_held.new.out) c.write_failure-in-Memory.result c.in-Err.ensures.exported
-    (subst (λ f. IsHeldStop (g.W.Sink.told c.args.output.now) (g.W.Sink.told c.export_held.new.out) (g.W.Sink.failures c.args.output.now) (g.W.Sink.failures c.export_held.new.out) c.in-Err.stop.written f)
+    let before = g.W.Sink.told c.args.output.now in
+    let middle = g.W.Sink.told c.export_after.new.out in
+    exported_none g.S.Store c.args.store.now c.export_after.new.store c.args.ask.now before (g.W.Sink.told c.write_failure-in-Memory.new.output) c.in-Err.stop middle
+    c.write_failure-in-Memory.result c.in-Err.ensures.exported
+    (cause_at before middle (g.W.Sink.failures c.args.output.now) (g.W.Sink.failures c.export_after.new.out) c.in-Err.stop.written c.in-Err.stop.fault Memory
     c.in-Memory.is c.in-Err.ensures.cause).1
     c.write_failure-in-Memory.ensures.sent

@@ -1,5 +1,4 @@
 use Rattle.std.proofs.Common.{◌≡◌}
-use Rattle.mbox_core.specs.declared.device.writing.WriteFault.{WriteFault}
 use Rattle.archive_pages.specs.Answers.{keyed_reply, listed_reply}
 use Rattle.archive_pages.specs.Seen.{reply_made}
 use Rattle.archive_pages.proofs.ServingLemmas.{serves_either}
@@ -7,7 +6,7 @@ use Rattle.archive_pages.proofs.routing.answer_message.Goals as goal
 
 pub returns-clause-sent : goal.returns-clause-sent
 returns-clause-sent g c =
-    serves_either g.S.Store (λ (e : WriteFault). e.written) (g.W.Sink.told c.args.output.now) (g.W.Sink.told c.write_found.new.output) c.write_found.result
+    serves_either g.S.Store (g.W.Sink.told c.args.output.now) (g.W.Sink.told c.write_found.new.output) c.write_found.result
     c.args.store.now c.find_message-found.new.store c.find_message-found.result reply_made
     (λ a reply. reply_made reply ≡ listed_reply a c.args.ask.now.list (keyed_reply a c.args.ask.now c.args.key.now))
     (λ a reply. reply ≡ listed_reply a c.args.ask.now.list (keyed_reply a c.args.ask.now c.args.key.now)) c.find_message-found.ensures (λ a x is. is) c.write_found.ensures.sent
