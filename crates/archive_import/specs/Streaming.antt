@@ -1,5 +1,6 @@
 -- What becomes of the messages of an mbox that is read piece by piece into a list.
 use Rattle.std.specs.Prelude.{◌≡◌, ◌⊎◌, ◌≤◌, ℕ, true, false, List, [], length, Option, Some, None, option_map, Result, Ok, Err}
+use Rattle.sqlite.specs.Store.{Ghosts}
 use Rattle.mbox_core.specs.Division.{Item, Divides, IsPreamble}
 use Rattle.mbox_core.specs.declared.faults.MboxFault.{MboxFault}
 use Rattle.mbox_core.specs.declared.faults.MboxFault.TheVariants.{Preamble, Read, Memory, Failed}
@@ -10,6 +11,8 @@ use Rattle.archive_machine.specs.Questions.{has_list}
 use Rattle.archive_machine.specs.Runs.{taken}
 use Rattle.archive_store.specs.Batches.{IsFullAt}
 use Rattle.archive_store.specs.Replies.{refusal}
+use Rattle.archive_store.specs.Told.{Calls}
+use Rattle.archive_store.specs.declared.store.Store.{Store as Open}
 use Rattle.archive_desk.specs.Importing.{HasAddedFirst, IsImported}
 use Rattle.archive_desk.specs.declared.importing.Report.{Report}
 use Rattle.archive_desk.specs.declared.importing.ImportStop.{ImportStop}
@@ -88,3 +91,12 @@ IsBroken list text ends a b done (Store fault) = (items : List Item) × AreRead 
 -- all messages of the input, which was read to its end
 abbrev pub IsReadIn : (list text : List ℕ) → (ends : ℕ) → (a b : Archive) → Report → Type 0
 IsReadIn list text ends a b report = (ends ≡ 1) × IsImported list text a b report
+
+-- ---- what becomes of a store
+
+-- An import of this text, which was read of an input that met its end so often.
+abbrev pub Imports : {S : Type 0} → Ghosts S → (old new : Open S) → (list text : List ℕ) → (ends : ℕ) → Result Report ImportStop → Type 0
+Imports g old new list text ends result = Calls g old new halt_reason result
+    (λ a b report. IsReadIn list text ends a b report)
+    (λ a b why. IsHalted list text ends a b why.0 why.1)
+    (λ a b stop. IsBroken list text ends a b stop.done stop.fault)

@@ -11,7 +11,7 @@ ghost use Rattle.archive_store.specs.Held.{held_of};
 ghost use Rattle.archive_store.specs.Replies.{refusal};
 ghost use Rattle.archive_store.specs.Told.{Asks, Calls};
 ghost use Rattle.archive_desk.specs.Importing.{HasAdded, IsBrokenAdd};
-ghost use Rattle.archive_import.specs.Streaming.{halt_reason, HasFailed, FailedBy, IsHalted, IsBroken, IsReadIn};
+ghost use Rattle.archive_import.specs.Streaming.{Imports, halt_reason, HasFailed, FailedBy, IsHalted, IsBroken, IsReadIn};
 ghost use Rattle.archive_import.specs.Intake.{IsUnderWay, IsHaltedAdd, IsUnread, IsOfStore};
 
 use crate::intake::Intake;
@@ -36,10 +36,7 @@ pub fn import_from<S: Alter, R: Source>(
     input: &mut R,
 ) -> Result<Report, ImportStop>
     ensures imports { (text : List ℕ) × (ends : ℕ) × (R.told input.new ≡ R.told input.old ++ text) × (R.ends input.new ≡ R.ends input.old + ends)
-        × Calls S.Store store.old store.new halt_reason result
-        (λ a b report. IsReadIn list.now text ends a b report)
-        (λ a b why. IsHalted list.now text ends a b why.0 why.1)
-        (λ a b stop. IsBroken list.now text ends a b stop.done stop.fault) }
+        × Imports S.Store store.old store.new list.now text ends result }
     ensures failures { (failed : ℕ) × (R.failures input.new ≡ R.failures input.old + failed) × HasFailed result failed }
     ensures end { OnOk result (R.ends input.new ≡ R.ends input.old + 1) }
 {

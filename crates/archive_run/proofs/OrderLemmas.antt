@@ -25,19 +25,20 @@ if_err_at (Err x) e A is a = subst A (sym is) a
 
 module _ {S D : Type 0} (g : Ghosts S) (opens : D → D → List ℕ → Result (Open S) StoreFault → Type 0) (closes : D → D → Open S → Type 0)
     (old new : D) (before after : Sent) where
-  module _ {F : Type 0} (gives : F → List ℕ → Result (List ℕ) FileFault → Type 0) (files : F) (order : ImportValues) (report : Report)
-      (worked : Works opens closes old new order.file (λ o c. ImportsFile g o c gives files order.list order.mbox report)) where
+  module _ {F I : Type 0} (inputs : F → List ℕ → Result I FileFault → Type 0) (told : I → List ℕ) (ends failures : I → ℕ) (files : F)
+      (order : ImportValues) (report : Report)
+      (worked : Works opens closes old new order.file (λ o c. ImportsFile g o c inputs told ends failures files order.list order.mbox report)) where
     abbrev pub IsReported : Type 0 → Result ⊤ Refusal → Type 0
     IsReported Same result = MatchResult result (λ _. Sends before after (report_line report))
         (λ refusal. ((refusal ≡ Memory) × Same) ⊎ ((refusal ≡ Write) × SendsPart before after (report_line report)))
 
     pub imports_done : (Same : Type 0) (result : Result ⊤ Refusal) → IsReported Same result
-        → OnOk result (IsImportDone g opens closes old new before after gives files order)
+        → OnOk result (IsImportDone g opens closes old new before after inputs told ends failures files order)
     imports_done Same (Ok u) sends = (report, worked, sends)
     imports_done Same (Err e) sends = tt
 
     pub imports_failed : (Same : Type 0) (same : Same → after ≡ before) (result : Result ⊤ Refusal) → IsReported Same result
-        → IfErr result (λ refusal. IsImportCause g opens closes old new before after gives files order refusal)
+        → IfErr result (λ refusal. IsImportCause g opens closes old new before after inputs told ends failures files order refusal)
     imports_failed Same same (Ok u) sends = tt
     imports_failed Same same (Err e) (inl memory) = inr (report, worked, inl (memory.0, same memory.1))
     imports_failed Same same (Err e) (inr write) = inr (report, worked, inr write)

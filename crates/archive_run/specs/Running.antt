@@ -8,10 +8,18 @@ use Rattle.archive_run.specs.declared.faults.Refusal.{Refusal}
 use Rattle.archive_run.specs.declared.faults.Refusal.TheVariants.{Mbox, Policy, Read, Write, Clock, Memory}
 use Rattle.archive_run.specs.declared.files.FileFault.{FileFault}
 use Rattle.archive_run.specs.declared.files.FileFault.TheVariants as file
+use Rattle.clap.specs.Words.{takes}
+use Rattle.archive_words.specs.Program.{archive_app}
+use Rattle.archive_words.specs.Orders.{ordered}
 use Rattle.archive_words.specs.Values.{SiftValues}
+use Rattle.archive_words.specs.declared.orders.Order.{Order}
 use Rattle.mbox_core.specs.declared.faults.MboxFault.{MboxFault}
 use Rattle.archive_run.specs.declared.sifting.SiftFault.TheVariants as sift
 use Rattle.archive_run.specs.Sifting.{Asked, SiftsTold, SiftsPart, IsUnread}
+
+-- the words are such as the program takes, and order this
+abbrev pub GiveOrder : List (List ℕ) → Order → Type 0
+GiveOrder words order = (takes archive_app words ≡ true) × (ordered words ≡ Some order)
 
 -- ---- the policy
 
@@ -105,6 +113,12 @@ module _ {C : Type 0} (tells : C → C → Option ℤ → Type 0) (order : SiftV
   IsSiftCause rules (Mbox fault) = SiftsUnread rules fault
   IsSiftCause rules Write = SiftsPartly rules
   IsSiftCause rules _ = ⊥
+
+-- An order to sift was carried out, whole, by its rules.
+abbrev pub IsRunSiftDone : {F C : Type 0} → (F → List ℕ → Result (List ℕ) FileFault → Type 0) → F
+    → (C → C → Option ℤ → Type 0) → SiftValues → C → C → Streams → Streams → Type 0
+IsRunSiftDone gives files tells order old new before after =
+    (rules : List Rule) × IsPolicyOf gives files order.policy rules × SiftsBy tells order old new before after rules
 
 -- Why an order to sift was refused: it has no rules, and no clock or stream was touched; or by what it read and wrote.
 abbrev pub IsRunSiftCause : {F C : Type 0} → (F → List ℕ → Result (List ℕ) FileFault → Type 0) → F

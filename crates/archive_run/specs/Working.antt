@@ -12,10 +12,12 @@ use Rattle.archive_desk.specs.Exporting.{ExportsPart, IsExportStop, exported}
 use Rattle.archive_desk.specs.declared.importing.Report.{Report}
 use Rattle.archive_words.specs.Values.{AskValues, GetValues, ImportValues, TableCommand, TableValues}
 use Rattle.archive_work.specs.Commands.{answer_line}
-use Rattle.archive_work.specs.Working.{Carries, Exports, Gets, Imports}
+use Rattle.archive_import.specs.Streaming.{FailedBy, Imports}
+use Rattle.archive_work.specs.Working.{Carries, Exports, Gets}
 use Rattle.archive_work.specs.declared.commands.Answer.{Answer}
 use Rattle.archive_work.specs.declared.getting.GetStop.TheVariants as got
 use Rattle.archive_run.specs.Databases.{Works, IsUnopened}
+use Rattle.archive_run.specs.Files.{FileTells, GivesNone}
 use Rattle.archive_run.specs.Running.{IsPolicyOf, IsPolicyCause, IsDayBy}
 use Rattle.archive_run.specs.declared.faults.Refusal.{Refusal}
 use Rattle.archive_run.specs.declared.faults.Refusal.TheVariants.{Store, Desk, Import, Denied, Read, Write, Clock, Memory}
@@ -53,15 +55,23 @@ module _ {S : Type 0} (g : Ghosts S) (old new : Open S) where
   CarriesNot command (Store fault) = Carries g old new command (Err fault)
   CarriesNot command _ = ⊥
 
-  -- an import of the file of this name: F1 where it gave no bytes, or where the import of its bytes stopped
-  abbrev pub ImportsFile : {F : Type 0} → (F → List ℕ → Result (List ℕ) FileFault → Type 0) → F → (list mbox : List ℕ) → Report → Type 0
-  ImportsFile gives files list mbox report = (bytes : List ℕ) × gives files mbox (Ok bytes) × Imports g old new list bytes (Ok report)
+  -- An import of the file of this name, of which an input tells these bytes, meets its end and fails so often.
+  module _ {F I : Type 0} (inputs : F → List ℕ → Result I FileFault → Type 0) (told : I → List ℕ) (ends failures : I → ℕ)
+      (files : F) (list mbox : List ℕ) where
+    -- It was read to its end, no read failed, and its messages were taken in.
+    abbrev pub ImportsFile : Report → Type 0
+    ImportsFile report = FileTells inputs told ends failures files mbox
+        (λ text ended failed. (ended ≡ 1) × (failed ≡ 0) × Imports g old new list text ended (Ok report))
 
-  abbrev pub ImportsNot : {F : Type 0} → (F → List ℕ → Result (List ℕ) FileFault → Type 0) → F → (list mbox : List ℕ) → Refusal → Type 0
-  ImportsNot gives files list mbox Read = gives files mbox (Err file.Read) × (new ≡ old)
-  ImportsNot gives files list mbox Memory = new ≡ old
-  ImportsNot gives files list mbox (Import stop) = (bytes : List ℕ) × gives files mbox (Ok bytes) × Imports g old new list bytes (Err stop)
-  ImportsNot gives files list mbox _ = ⊥
+    -- It gave no input (F1), or there was no memory for one (F5), and nothing was taken in. Or it was read as far as this, and
+    -- the import stopped: no such list, and nothing was read (E4); no mbox (M1); a failed read, after all messages that were
+    -- settled by then (M2); no memory (M3); a full list (E12); or the database, or its memory (E15, E14).
+    abbrev pub ImportsNot : Refusal → Type 0
+    ImportsNot Read = GivesNone inputs told ends failures files mbox file.Read × (new ≡ old)
+    ImportsNot Memory = GivesNone inputs told ends failures files mbox file.Memory × (new ≡ old)
+    ImportsNot (Import stop) = FileTells inputs told ends failures files mbox
+        (λ text ended failed. FailedBy stop.fault failed × Imports g old new list text ended (Err stop))
+    ImportsNot _ = ⊥
 
   -- a message that is asked for: E8, G1, G2, G4, G5, or the rule that denies it, where there was memory for its name
   abbrev pub GetsNot : Ask → (key : List ℕ) → Refusal → Type 0
@@ -111,18 +121,20 @@ module _ {S D : Type 0} (g : Ghosts S) (opens : D → D → List ℕ → Result 
       ⊎ ((refusal ≡ Write) × (answer : Answer) × Works opens closes old new order.file (λ o c. Carries g o c order.command (Ok answer))
       × SendsPart before after (answer_line answer))
 
-  module _ {F : Type 0} (gives : F → List ℕ → Result (List ℕ) FileFault → Type 0) (files : F) where
+  module _ {F I : Type 0} (inputs : F → List ℕ → Result I FileFault → Type 0) (told : I → List ℕ) (ends failures : I → ℕ) (files : F) where
     -- The messages of the named mbox were taken into the list, and the report went out as one line.
     abbrev pub IsImportDone : ImportValues → Type 0
-    IsImportDone order = (report : Report) × Works opens closes old new order.file (λ o c. ImportsFile g o c gives files order.list order.mbox report)
+    IsImportDone order = (report : Report)
+        × Works opens closes old new order.file (λ o c. ImportsFile g o c inputs told ends failures files order.list order.mbox report)
         × Sends before after (report_line report)
 
     -- It was refused, or stopped, and nothing went out; or it was carried out, and there was no memory for the line, or the
     -- output failed (F2).
     abbrev pub IsImportCause : ImportValues → Refusal → Type 0
     IsImportCause order refusal =
-        (Fails opens closes old new order.file (λ o c. ImportsNot g o c gives files order.list order.mbox) refusal × (after ≡ before))
-        ⊎ ((report : Report) × Works opens closes old new order.file (λ o c. ImportsFile g o c gives files order.list order.mbox report)
+        (Fails opens closes old new order.file (λ o c. ImportsNot g o c inputs told ends failures files order.list order.mbox) refusal × (after ≡ before))
+        ⊎ ((report : Report)
+        × Works opens closes old new order.file (λ o c. ImportsFile g o c inputs told ends failures files order.list order.mbox report)
         × (((refusal ≡ Memory) × (after ≡ before)) ⊎ ((refusal ≡ Write) × SendsPart before after (report_line report))))
 
   -- It was refused, and nothing went out; or the output failed (F2).

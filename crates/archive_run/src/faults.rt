@@ -1,5 +1,5 @@
 //! What the program says where it refuses.
-ghost use Rattle.std.specs.Prelude.{◌≡◌};
+ghost use Rattle.std.specs.Prelude.{◌≡◌, ◌≤◌};
 ghost use Rattle.archive_run.specs.Refusals.{TellsOf, desk_text, store_text};
 
 use archive_desk::{DeskFault, ImportFault, ImportStop};
@@ -21,11 +21,11 @@ pub enum Refusal {
     Store(StoreFault),
     /// G1 to G6: a question of a reader.
     Desk(DeskFault),
-    /// M1, E4, E12, E14, E15: an import, with the number of messages that were done.
+    /// M1 to M3, E4, E12, E14, E15: an import, with the number of messages that were done.
     Import(ImportStop),
     /// The rule of this name denies a message.
     Denied(String),
-    /// F1: a file could not be read.
+    /// F1: a file could not be read, or not be opened to be read piece by piece.
     Read,
     /// F2: standard output failed.
     Write,
@@ -168,7 +168,8 @@ impl fmt::Display for Refusal {
 
 /// Writes a refusal as one line. Where that line fails there is nowhere left to say so.
 pub fn tell<E: Sink>(alloc: Global, faults: &mut E, refusal: &Refusal)
-    ensures { E.failures faults.new ≡ E.failures faults.old → TellsOf refusal.now (E.told faults.old) (E.told faults.new) }
+    ensures told { E.failures faults.new ≡ E.failures faults.old → TellsOf refusal.now (E.told faults.old) (E.told faults.new) }
+    ensures failures { E.failures faults.old ≤ E.failures faults.new }
 {
     let _ = match format!(in alloc; "archive: {refusal}\n") {
         Ok(line) => write_bytes(faults, line.as_bytes()),

@@ -15,7 +15,7 @@ mod working;
 pub use clock::DayClock;
 pub use databases::Databases;
 pub use faults::{Refusal, tell};
-pub use files::{FileFault, ReadFiles, SystemFiles};
+pub use files::{FileFault, OpenFiles, ReadFiles, SystemFiles};
 pub use running::{BAD_WORDS, DONE, REFUSED, run};
 pub use serving::run_serve;
 pub use sifting::{SiftFault, SiftWords, sift};

@@ -7,7 +7,7 @@ ghost use Rattle.archive_run.specs.Working.{IsDayCause, IsExportBy, IsExportCaus
 use crate::clock::DayClock;
 use crate::databases::Databases;
 use crate::faults::Refusal;
-use crate::files::ReadFiles;
+use crate::files::{OpenFiles, ReadFiles};
 use crate::running::asked_policy;
 use crate::working::{work_export, work_get, work_import, work_table};
 use archive_desk::Report;
@@ -52,7 +52,7 @@ pub(crate) fn run_table<S: Alter, D: Databases<Store<S>>, W: Sink>(
 }
 
 /// Takes the messages of a file into a list, and writes how many they were.
-pub(crate) fn run_import<S: Alter, D: Databases<Store<S>>, F: ReadFiles, W: Sink>(
+pub(crate) fn run_import<S: Alter, D: Databases<Store<S>>, F: OpenFiles, W: Sink>(
     alloc: Global,
     databases: &mut D,
     files: &F,
@@ -60,9 +60,11 @@ pub(crate) fn run_import<S: Alter, D: Databases<Store<S>>, F: ReadFiles, W: Sink
     output: &mut W,
 ) -> Result<(), Refusal>
     ensures done { OnOk result (IsImportDone S.Store D.opens D.closes databases.old databases.new
-        (sent (W.told output.old) (W.failures output.old)) (sent (W.told output.new) (W.failures output.new)) F.gives files.now order.now) }
+        (sent (W.told output.old) (W.failures output.old)) (sent (W.told output.new) (W.failures output.new))
+        F.inputs F.Input.told F.Input.ends F.Input.failures files.now order.now) }
     ensures cause { IfErr result (λ refusal. IsImportCause S.Store D.opens D.closes databases.old databases.new
-        (sent (W.told output.old) (W.failures output.old)) (sent (W.told output.new) (W.failures output.new)) F.gives files.now order.now refusal) }
+        (sent (W.told output.old) (W.failures output.old)) (sent (W.told output.new) (W.failures output.new))
+        F.inputs F.Input.told F.Input.ends F.Input.failures files.now order.now refusal) }
 {
     let report = work_import(alloc, databases, files, order)?;
     send_report(alloc, output, report)

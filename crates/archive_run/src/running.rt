@@ -10,12 +10,12 @@ ghost use Rattle.archive_words.specs.Values.{SiftValues};
 ghost use Rattle.archive_run.specs.Refusals.{TellsOf};
 ghost use Rattle.archive_run.specs.Orders.{IsOrderDone, IsOrderCause, OnSift};
 ghost use Rattle.archive_run.specs.Working.{sent};
-ghost use Rattle.archive_run.specs.Running.{IsPolicyRefusal, IsPolicyOf, IsPolicyCause, IsDayBy, needs_day, streams, SiftsBy, IsSiftCause, IsRunSiftCause};
+ghost use Rattle.archive_run.specs.Running.{IsPolicyRefusal, IsPolicyOf, IsPolicyCause, GiveOrder, IsDayBy, needs_day, streams, SiftsBy, IsSiftCause, IsRunSiftDone, IsRunSiftCause};
 
 use crate::clock::DayClock;
 use crate::databases::Databases;
 use crate::faults::{Refusal, tell};
-use crate::files::{FileFault, ReadFiles};
+use crate::files::{FileFault, OpenFiles, ReadFiles};
 use crate::ordering::{run_export, run_get, run_import, run_table};
 use crate::sifting::{SiftFault, SiftWords, sift};
 use archive_store::Store;
@@ -134,10 +134,9 @@ fn run_sift<F: ReadFiles, C: DayClock, R: Source, W: Sink>(
     input: &mut R,
     output: &mut W,
 ) -> Result<(), Refusal>
-    ensures ok { OnOk result ((rules : List Rule) × IsPolicyOf F.gives files.now asked.now.policy rules
-        × SiftsBy C.gives asked.now clock.old clock.new
+    ensures ok { OnOk result (IsRunSiftDone F.gives files.now C.gives asked.now clock.old clock.new
         (streams (R.told input.old) (R.failures input.old) (W.told output.old) (W.failures output.old))
-        (streams (R.told input.new) (R.failures input.new) (W.told output.new) (W.failures output.new)) rules) }
+        (streams (R.told input.new) (R.failures input.new) (W.told output.new) (W.failures output.new))) }
     ensures end { OnOk result (R.ends input.new ≡ R.ends input.old + 1) }
     ensures cause { IfErr result (IsRunSiftCause F.gives files.now C.gives asked.now clock.old clock.new
         (streams (R.told input.old) (R.failures input.old) (W.told output.old) (W.failures output.old))
@@ -148,7 +147,14 @@ fn run_sift<F: ReadFiles, C: DayClock, R: Source, W: Sink>(
 }
 
 /// Carries out an order.
-fn run_order<F: ReadFiles, S: Alter, D: Databases<Store<S>>, C: DayClock, R: Source, W: Sink>(
+fn run_order<
+    F: ReadFiles + OpenFiles,
+    S: Alter,
+    D: Databases<Store<S>>,
+    C: DayClock,
+    R: Source,
+    W: Sink,
+>(
     alloc: Global,
     files: &F,
     databases: &mut D,
@@ -157,17 +163,18 @@ fn run_order<F: ReadFiles, S: Alter, D: Databases<Store<S>>, C: DayClock, R: Sou
     input: &mut R,
     output: &mut W,
 ) -> Result<(), Refusal>
-    ensures sifted { OnOk result (OnSift asked.now (λ order. (rules : List Rule) × IsPolicyOf F.gives files.now order.policy rules
-        × SiftsBy C.gives order clock.old clock.new
+    ensures sifted { OnOk result (OnSift asked.now (λ order. IsRunSiftDone F.gives files.now C.gives order clock.old clock.new
         (streams (R.told input.old) (R.failures input.old) (W.told output.old) (W.failures output.old))
-        (streams (R.told input.new) (R.failures input.new) (W.told output.new) (W.failures output.new)) rules
+        (streams (R.told input.new) (R.failures input.new) (W.told output.new) (W.failures output.new))
         × (R.ends input.new ≡ R.ends input.old + 1))) }
     ensures not_sifted { IfErr result (λ refusal. OnSift asked.now (λ order. IsRunSiftCause F.gives files.now C.gives order clock.old clock.new
         (streams (R.told input.old) (R.failures input.old) (W.told output.old) (W.failures output.old))
         (streams (R.told input.new) (R.failures input.new) (W.told output.new) (W.failures output.new)) refusal)) }
-    ensures done { OnOk result (IsOrderDone F.gives files.now C.gives S.Store D.opens D.closes clock.old clock.new databases.old databases.new
+    ensures done { OnOk result (IsOrderDone F.gives F.inputs F.Input.told F.Input.ends F.Input.failures files.now
+        C.gives S.Store D.opens D.closes clock.old clock.new databases.old databases.new
         input.old input.new (sent (W.told output.old) (W.failures output.old)) (sent (W.told output.new) (W.failures output.new)) asked.now) }
-    ensures why { IfErr result (λ refusal. IsOrderCause F.gives files.now C.gives S.Store D.opens D.closes clock.old clock.new databases.old databases.new
+    ensures why { IfErr result (λ refusal. IsOrderCause F.gives F.inputs F.Input.told F.Input.ends F.Input.failures files.now
+        C.gives S.Store D.opens D.closes clock.old clock.new databases.old databases.new
         input.old input.new (sent (W.told output.old) (W.failures output.old)) (sent (W.told output.new) (W.failures output.new)) asked.now refusal) }
 {
     match asked {
@@ -182,8 +189,9 @@ fn run_order<F: ReadFiles, S: Alter, D: Databases<Store<S>>, C: DayClock, R: Sou
 
 /// The exit status, with a line where there is a refusal.
 pub(crate) fn finish<E: Sink>(alloc: Global, faults: &mut E, done: &Result<(), Refusal>) -> u8
-    ensures { MatchResult done.now (λ _. (result ≡ 0) × (faults.new ≡ faults.old))
+    ensures status { MatchResult done.now (λ _. (result ≡ 0) × (faults.new ≡ faults.old))
         (λ refusal. (result ≡ 1) × (E.failures faults.new ≡ E.failures faults.old → TellsOf refusal (E.told faults.old) (E.told faults.new))) }
+    ensures failures { E.failures faults.old ≤ E.failures faults.new }
 {
     match done {
         Ok(()) => DONE,
@@ -196,7 +204,7 @@ pub(crate) fn finish<E: Sink>(alloc: Global, faults: &mut E, done: &Result<(), R
 
 /// Carries out an order, and answers the exit status: 0 done, 1 refused, which one line to `faults` tells.
 fn run_asked<
-    F: ReadFiles,
+    F: ReadFiles + OpenFiles,
     S: Alter,
     D: Databases<Store<S>>,
     C: DayClock,
@@ -215,21 +223,22 @@ fn run_asked<
 ) -> u8
     ensures status { result ≤ 1 }
     ensures silent { result ≡ 0 → E.told faults.new ≡ E.told faults.old }
-    ensures sifted { result ≡ 0 → OnSift asked.now (λ order. (rules : List Rule) × IsPolicyOf F.gives files.now order.policy rules
-        × SiftsBy C.gives order clock.old clock.new
+    ensures sifted { result ≡ 0 → OnSift asked.now (λ order. IsRunSiftDone F.gives files.now C.gives order clock.old clock.new
         (streams (R.told input.old) (R.failures input.old) (W.told output.old) (W.failures output.old))
-        (streams (R.told input.new) (R.failures input.new) (W.told output.new) (W.failures output.new)) rules
+        (streams (R.told input.new) (R.failures input.new) (W.told output.new) (W.failures output.new))
         × (R.ends input.new ≡ R.ends input.old + 1)) }
     ensures not_sifted { result ≡ 1 → (refusal : Refusal)
         × (E.failures faults.new ≡ E.failures faults.old → TellsOf refusal (E.told faults.old) (E.told faults.new))
         × OnSift asked.now (λ order. IsRunSiftCause F.gives files.now C.gives order clock.old clock.new
         (streams (R.told input.old) (R.failures input.old) (W.told output.old) (W.failures output.old))
         (streams (R.told input.new) (R.failures input.new) (W.told output.new) (W.failures output.new)) refusal) }
-    ensures done { result ≡ 0 → IsOrderDone F.gives files.now C.gives S.Store D.opens D.closes clock.old clock.new databases.old databases.new
+    ensures done { result ≡ 0 → IsOrderDone F.gives F.inputs F.Input.told F.Input.ends F.Input.failures files.now
+        C.gives S.Store D.opens D.closes clock.old clock.new databases.old databases.new
         input.old input.new (sent (W.told output.old) (W.failures output.old)) (sent (W.told output.new) (W.failures output.new)) asked.now }
     ensures why { result ≡ 1 → (refusal : Refusal)
         × (E.failures faults.new ≡ E.failures faults.old → TellsOf refusal (E.told faults.old) (E.told faults.new))
-        × IsOrderCause F.gives files.now C.gives S.Store D.opens D.closes clock.old clock.new databases.old databases.new
+        × IsOrderCause F.gives F.inputs F.Input.told F.Input.ends F.Input.failures files.now
+        C.gives S.Store D.opens D.closes clock.old clock.new databases.old databases.new
         input.old input.new (sent (W.told output.old) (W.failures output.old)) (sent (W.told output.new) (W.failures output.new)) asked.now refusal }
 {
     let done = run_order(alloc, files, databases, asked, clock, input, output);
@@ -269,7 +278,7 @@ fn say_stop<W: Sink, E: Sink>(alloc: Global, stop: &OrderStop, output: &mut W, f
 /// 1 refused, 2 bad words. Help and the version go to the output; a refusal is one line, and what is wrong with bad
 /// words is a text, both to `faults`.
 pub fn run<
-    F: ReadFiles,
+    F: ReadFiles + OpenFiles,
     S: Alter,
     D: Databases<Store<S>>,
     C: DayClock,
@@ -289,20 +298,17 @@ pub fn run<
     ensures status { result ≤ 2 }
 
     // At 0 an order to sift is carried out, whole: by the rules of the named file, on the day that was given or told.
-    ensures sifted { (asked : SiftValues) → takes archive_app (map (λ w. w.now) words.now) ≡ true
-        → ordered (map (λ w. w.now) words.now) ≡ Some (Order.Sift asked) → result ≡ 0
-        → (rules : List Rule) × IsPolicyOf F.gives files.now asked.policy rules
-        × SiftsBy C.gives asked clock.old clock.new
+    ensures sifted { (asked : SiftValues) → GiveOrder (map (λ w. w.now) words.now) (Order.Sift asked) → result ≡ 0
+        → IsRunSiftDone F.gives files.now C.gives asked clock.old clock.new
         (streams (R.told input.old) (R.failures input.old) (W.told output.old) (W.failures output.old))
-        (streams (R.told input.new) (R.failures input.new) (W.told output.new) (W.failures output.new)) rules
+        (streams (R.told input.new) (R.failures input.new) (W.told output.new) (W.failures output.new))
         × (R.ends input.new ≡ R.ends input.old + 1) }
     ensures silent { result ≡ 0 → E.told faults.new ≡ E.told faults.old }
 
     // At 1 one line tells the refusal, which has its cause; or there was no memory to read the words.
     ensures refused { result ≡ 1 → (refusal : Refusal)
         × (E.failures faults.new ≡ E.failures faults.old → TellsOf refusal (E.told faults.old) (E.told faults.new)) }
-    ensures cause { (asked : SiftValues) → takes archive_app (map (λ w. w.now) words.now) ≡ true
-        → ordered (map (λ w. w.now) words.now) ≡ Some (Order.Sift asked) → result ≡ 1 → (refusal : Refusal)
+    ensures cause { (asked : SiftValues) → GiveOrder (map (λ w. w.now) words.now) (Order.Sift asked) → result ≡ 1 → (refusal : Refusal)
         × (E.failures faults.new ≡ E.failures faults.old → TellsOf refusal (E.told faults.old) (E.told faults.new))
         × (((refusal ≡ Refusal.Memory) × (clock.new ≡ clock.old) × (input.new ≡ input.old) × (output.new ≡ output.old))
         ⊎ IsRunSiftCause F.gives files.now C.gives asked clock.old clock.new
@@ -310,15 +316,15 @@ pub fn run<
         (streams (R.told input.new) (R.failures input.new) (W.told output.new) (W.failures output.new)) refusal) }
 
     // The same of every order, over the databases: what was done, and why it was not.
-    ensures done { (order : Order) → takes archive_app (map (λ w. w.now) words.now) ≡ true
-        → ordered (map (λ w. w.now) words.now) ≡ Some order → result ≡ 0
-        → IsOrderDone F.gives files.now C.gives S.Store D.opens D.closes clock.old clock.new databases.old databases.new input.old input.new
+    ensures done { (order : Order) → GiveOrder (map (λ w. w.now) words.now) order → result ≡ 0
+        → IsOrderDone F.gives F.inputs F.Input.told F.Input.ends F.Input.failures files.now
+        C.gives S.Store D.opens D.closes clock.old clock.new databases.old databases.new input.old input.new
         (sent (W.told output.old) (W.failures output.old)) (sent (W.told output.new) (W.failures output.new)) order }
-    ensures why { (order : Order) → takes archive_app (map (λ w. w.now) words.now) ≡ true
-        → ordered (map (λ w. w.now) words.now) ≡ Some order → result ≡ 1 → (refusal : Refusal)
+    ensures why { (order : Order) → GiveOrder (map (λ w. w.now) words.now) order → result ≡ 1 → (refusal : Refusal)
         × (E.failures faults.new ≡ E.failures faults.old → TellsOf refusal (E.told faults.old) (E.told faults.new))
         × (((refusal ≡ Refusal.Memory) × (clock.new ≡ clock.old) × (input.new ≡ input.old) × (output.new ≡ output.old) × (databases.new ≡ databases.old))
-        ⊎ IsOrderCause F.gives files.now C.gives S.Store D.opens D.closes clock.old clock.new databases.old databases.new input.old input.new
+        ⊎ IsOrderCause F.gives F.inputs F.Input.told F.Input.ends F.Input.failures files.now
+        C.gives S.Store D.opens D.closes clock.old clock.new databases.old databases.new input.old input.new
         (sent (W.told output.old) (W.failures output.old)) (sent (W.told output.new) (W.failures output.new)) order refusal) }
 
     // At 2 the words order nothing, and nothing is touched.

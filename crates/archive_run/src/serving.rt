@@ -52,6 +52,7 @@ fn serve_listening<T: Threader, S: Alter, L: Listener + Drop, W: Sink, E: Sink>(
     ensures cause { IfErr result (ServesNot S.Store L.accepts L.closes policy.now day listening store.old store.new
         (said (W.told output.old) (W.failures output.old) (E.told faults.old) (E.failures faults.old))
         (said (W.told output.new) (W.failures output.new) (E.told faults.new) (E.failures faults.new)) count) }
+    ensures failures { E.failures faults.old ≤ E.failures faults.new }
 {
     let Listening { listener, port } = listening;
     let mut listener = listener;
@@ -95,6 +96,7 @@ fn serve_store<T: Threader, S: Alter, P: Ports, W: Sink, E: Sink>(
         policy.now day store.old store.new
         (said (W.told output.old) (W.failures output.old) (E.told faults.old) (E.failures faults.old))
         (said (W.told output.new) (W.failures output.new) (E.told faults.new) (E.failures faults.new))) }
+    ensures failures { E.failures faults.old ≤ E.failures faults.new }
 {
     let listening = listen_on(ports, port)?;
     serve_listening(
@@ -126,6 +128,7 @@ fn work_serve<T: Threader, S: Alter, D: Databases<Store<S>>, P: Ports, W: Sink, 
         (said (W.told output.old) (W.failures output.old) (E.told faults.old) (E.failures faults.old))
         (said (W.told output.new) (W.failures output.new) (E.told faults.new) (E.failures faults.new))
         file.now port count policy.now day) }
+    ensures failures { E.failures faults.old ≤ E.failures faults.new }
 {
     let mut store = match databases.open(alloc, file) {
         Ok(store) => store,
@@ -160,6 +163,7 @@ fn serve_by<T: Threader, S: Alter, D: Databases<Store<S>>, C: DayClock, P: Ports
         (said (W.told output.old) (W.failures output.old) (E.told faults.old) (E.failures faults.old))
         (said (W.told output.new) (W.failures output.new) (E.told faults.new) (E.failures faults.new))
         C.gives clock.old clock.new order.now policy.now) }
+    ensures failures { E.failures faults.old ≤ E.failures faults.new }
 {
     let Some(day) = asking_day(order.day, clock) else {
         return Err(Refusal::Clock);
@@ -210,6 +214,7 @@ fn serve_ordered<
         (said (W.told output.old) (W.failures output.old) (E.told faults.old) (E.failures faults.old))
         (said (W.told output.new) (W.failures output.new) (E.told faults.new) (E.failures faults.new))
         C.gives clock.old clock.new F.gives files.now order.now) }
+    ensures failures { E.failures faults.old ≤ E.failures faults.new }
 {
     let policy = asked_policy(alloc, files, Some(order.policy))?;
     serve_by(
@@ -248,14 +253,17 @@ pub fn run_serve<
         (said (W.told output.new) (W.failures output.new) (E.told faults.new) (E.failures faults.new))
         C.gives clock.old clock.new F.gives files.now order.now }
 
-    // At 1 one line tells the refusal, behind those of connections. It has its cause, and what comes after that was not touched.
+    // At 1 one line tells the refusal, behind those of connections: `told` and `failures` are what the stream of faults had told
+    // and how often it had failed before that line. The refusal has its cause, and what comes after that was not touched.
     ensures why { result ≡ 1 → (told : List ℕ) × (failures : ℕ) × (refusal : Refusal)
+        × (E.failures faults.old ≤ failures) × (failures ≤ E.failures faults.new)
         × (E.failures faults.new ≡ failures → TellsOf refusal told (E.told faults.new))
         × IsServeCause S.Store P.Listener.accepts P.Listener.closes P.listens D.opens D.closes ports.old ports.new
         databases.old databases.new
         (said (W.told output.old) (W.failures output.old) (E.told faults.old) (E.failures faults.old))
         (said (W.told output.new) (W.failures output.new) told failures)
         C.gives clock.old clock.new F.gives files.now order.now refusal }
+    ensures failures { E.failures faults.old ≤ E.failures faults.new }
 {
     let done = serve_ordered(
         alloc, files, databases, threader, clock, ports, order, output, faults,

@@ -6,8 +6,9 @@ ghost use Rattle.archive_run.specs.Working.{ExportsNot, Fails, GetsNot, ImportsF
 
 use crate::databases::Databases;
 use crate::faults::Refusal;
-use crate::files::{FileFault, ReadFiles};
-use archive_desk::{Report, export, import};
+use crate::files::{FileFault, OpenFiles};
+use archive_desk::{Report, export};
+use archive_import::import_from;
 use archive_results::Ask;
 use archive_store::{Store, StoreFault};
 use archive_words::{ImportOrder, TableOrder};
@@ -33,8 +34,9 @@ pub(crate) fn work_table<S: Alter, D: Databases<Store<S>>>(
     answer
 }
 
-/// Takes the messages of the file of this name into a list of an open store.
-fn import_file<S: Alter, F: ReadFiles>(
+/// Takes the messages of the file of this name, which is read piece by piece, into a list of an open store. F1: it cannot be
+/// opened; F5: there was no memory to open it. Nothing was taken in then. M1 to M3, E4, E12, E14 and E15 as `import_from`.
+fn import_file<S: Alter, F: OpenFiles>(
     store: &mut Store<S>,
     alloc: Global,
     files: &F,
@@ -42,22 +44,22 @@ fn import_file<S: Alter, F: ReadFiles>(
     name: &str,
 ) -> Result<Report, Refusal>
     ensures imported { MatchResult result
-        (λ report. ImportsFile S.Store store.old store.new F.gives files.now list.now name.now report)
-        (λ refusal. ImportsNot S.Store store.old store.new F.gives files.now list.now name.now refusal) }
+        (λ report. ImportsFile S.Store store.old store.new F.inputs F.Input.told F.Input.ends F.Input.failures files.now list.now name.now report)
+        (λ refusal. ImportsNot S.Store store.old store.new F.inputs F.Input.told F.Input.ends F.Input.failures files.now list.now name.now refusal) }
 {
-    let mbox = match files.read_file(alloc, name) {
-        Ok(mbox) => mbox,
+    let mut input = match files.open_file(alloc, name) {
+        Ok(input) => input,
         Err(FileFault::Read) => return Err(Refusal::Read),
         Err(FileFault::Memory) => return Err(Refusal::Memory),
     };
-    match import(store, alloc, list, &mbox) {
+    match import_from(store, alloc, list, &mut input) {
         Ok(report) => Ok(report),
         Err(stop) => Err(Refusal::Import(stop)),
     }
 }
 
 /// Takes the messages of the mbox of the order into its list.
-pub(crate) fn work_import<S: Alter, D: Databases<Store<S>>, F: ReadFiles>(
+pub(crate) fn work_import<S: Alter, D: Databases<Store<S>>, F: OpenFiles>(
     alloc: Global,
     databases: &mut D,
     files: &F,
@@ -65,9 +67,9 @@ pub(crate) fn work_import<S: Alter, D: Databases<Store<S>>, F: ReadFiles>(
 ) -> Result<Report, Refusal>
     ensures worked { MatchResult result
         (λ report. Works D.opens D.closes databases.old databases.new order.now.file
-        (λ o c. ImportsFile S.Store o c F.gives files.now order.now.list order.now.mbox report))
+        (λ o c. ImportsFile S.Store o c F.inputs F.Input.told F.Input.ends F.Input.failures files.now order.now.list order.now.mbox report))
         (λ refusal. Fails D.opens D.closes databases.old databases.new order.now.file
-        (λ o c. ImportsNot S.Store o c F.gives files.now order.now.list order.now.mbox) refusal) }
+        (λ o c. ImportsNot S.Store o c F.inputs F.Input.told F.Input.ends F.Input.failures files.now order.now.list order.now.mbox) refusal) }
 {
     let mut store = match databases.open(alloc, order.file) {
         Ok(store) => store,

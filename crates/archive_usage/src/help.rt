@@ -86,16 +86,17 @@ pub const IMPORT: &str = "Take the messages of an mbox into a list";
 
 pub const IMPORT_END: &str = "\
 FILE is opened first, and made where it is empty or not there; then MBOX is
-read, whole.
+opened, and read piece by piece.
 
 Prints `new N known N too-large N`: how many messages were taken in, how many the
 list held already and keeps as they were, and how many have more than 4194304
 bytes and were left out.
 
 Status: 0 done; 1 refused, with one line on standard error; 2 bad words.
-Refusals: F1 MBOX cannot be read, E4 no list, M1 MBOX is no mbox, E12 the list is
-full, E14 no memory, E15 the database. Where an import stops, ` after N` tells how
-many messages were done; they stay.
+Refusals: F1 MBOX cannot be opened, E4 no list, M1 MBOX is no mbox, M2 a read of it
+failed, M3 and E14 no memory, E12 the list is full, E15 the database. Where an
+import stops, ` after N` tells how many messages were done. They stay, and the
+same import again takes in the rest.
 
 Example: archive import --db archive.db soc soc.mbox";
 
@@ -190,7 +191,7 @@ same.
 
 Prints `listening on 127.0.0.1:PORT`, answers COUNT connections one after the
 other, and ends. A connection that fails is one line on standard error (S1 it was
-not read, S2 it was not written), and the next one follows.
+not read, S2 it was not written, S3 its mbox broke off), and the next follows.
 
 Status: 0 done; 1 refused, with one line on standard error; 2 bad words.
 Refusals: F1 POLICY cannot be read, P1 to P8 it is no policy, F3 the clock,

@@ -10,10 +10,7 @@ use Rattle.archive_store.specs.declared.faults.StoreFault.{StoreFault}
 use Rattle.archive_results.specs.Access.{Ask}
 use Rattle.archive_desk.specs.Exporting.{IsExportRefused, exported, stop_reason as export_reason}
 use Rattle.archive_desk.specs.Faults.{ask_reason}
-use Rattle.archive_desk.specs.Importing.{IsBrokenImport, IsImported, IsRefusedImport, stop_reason as import_reason}
 use Rattle.archive_desk.specs.declared.exporting.ExportStop.{ExportStop}
-use Rattle.archive_desk.specs.declared.importing.ImportStop.{ImportStop}
-use Rattle.archive_desk.specs.declared.importing.Report.{Report}
 use Rattle.archive_words.specs.Values.{TableCommand}
 use Rattle.archive_work.specs.Commands.{answer_to, stepped}
 use Rattle.archive_work.specs.Getting.{got_of, not_given}
@@ -28,13 +25,6 @@ module _ {S : Type 0} (g : Ghosts S) (old new : Store S) where
       (λ a b answer. (b ≡ (stepped a command).0) × (answer_to command (stepped a command).1 ≡ Some answer))
       (λ a b why. (b ≡ a) × ((stepped a command).1 ≡ refused why))
       (λ a b _. b ≡ a)
-
-  -- An import of the messages of a file.
-  abbrev pub Imports : (list mbox : List ℕ) → Result Report ImportStop → Type 0
-  Imports list mbox result = Calls g old new import_reason result
-      (λ a b report. IsImported list mbox a b report)
-      (λ a b why. IsRefusedImport list mbox a b why.0 why.1)
-      (λ a b stop. IsBrokenImport list mbox a b stop.done stop.fault)
 
   -- A message that is asked for: what is got, or why it is not; the archive is as before.
   abbrev pub Gets : Ask → (key : List ℕ) → Result (Vec ℕ Global) GetStop → Type 0

@@ -5,19 +5,19 @@ use Rattle.archive_run.proofs.running.run.Goals as goal
 
 pub returns-in-Ok-clause-cause : goal.returns-in-Ok-clause-cause
 returns-in-Ok-clause-cause g c =
-    λ asked takes orders one.
+    λ asked given one.
     let refused = c.run_asked.ensures.not_sifted one in
-    let cause = on_sift _ _ _ (same_order _ _ _ c.in-Ok.ensures.ok orders) refused.2 in
+    let cause = on_sift _ _ _ (same_order _ _ _ c.in-Ok.ensures.ok given.1) refused.2 in
     (refused.0, refused.1, inr cause)
 
 pub returns-in-Err-clause-cause : goal.returns-in-Err-clause-cause
 returns-in-Err-clause-cause g c =
-    λ asked takes orders one.
-    let said = c.say_stop.ensures.memory (stopped _ _ _ c.in-Err.ensures.refused takes orders) in
+    λ asked given one.
+    let said = c.say_stop.ensures.memory (stopped _ _ _ c.in-Err.ensures.refused given.0 given.1) in
     (Memory, said.2, inl (refl, refl, refl, said.1))
 
 pub returns-in-Err-clause-why : goal.returns-in-Err-clause-why
 returns-in-Err-clause-why g c =
-    λ order takes orders one.
-    let said = c.say_stop.ensures.memory (stopped _ _ _ c.in-Err.ensures.refused takes orders) in
+    λ order given one.
+    let said = c.say_stop.ensures.memory (stopped _ _ _ c.in-Err.ensures.refused given.0 given.1) in
     (Memory, said.2, inl (refl, refl, refl, said.1, refl))
