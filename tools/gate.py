@@ -12,31 +12,14 @@ Of the wrong bodies it tries those that are due (`due.py`), and says which it le
   gate.py --wrong-bodies [NAME..] the wrong bodies alone, each of these crates or of all, over the libraries that earlier checks
                                   built; it writes the record of those that were all refused
 """
-import importlib.machinery, importlib.util, os, re, resource, shutil, sys, threading
+import os, re, resource, sys, threading
 
-import due, wrong_bodies
+import due, toolchain, wrong_bodies
 
 # The most that a check was seen to take, but for that of `archive`, which takes six: then others beside it take less.
 CHECK_BYTES = 5_000_000_000
 # What of rt is used here and in wrong_bodies.
 NAMES = ("ci", "edits_alone", "edits_of", "must_fail", "must_fail_all", "read_edit", "unread", "checked", "processors", "free", "rtlib")
-
-
-def load_rt():
-    """Returns the toolchain's command rt as a module."""
-    sys.dont_write_bytecode = True
-    found = shutil.which("rt")
-    if not found:
-        sys.exit("check: the toolchain's command rt is not on the PATH")
-    path = os.path.realpath(found)
-    loader = importlib.machinery.SourceFileLoader("rt", path)
-    rt = importlib.util.module_from_spec(importlib.util.spec_from_loader("rt", loader))
-    sys.modules["rt"] = rt
-    loader.exec_module(rt)
-    lacking = [it for it in NAMES if not hasattr(rt, it)]
-    if lacking:
-        sys.exit(f"check: this toolchain's rt has no {' and no '.join(lacking)}: run ./check --all\n0 passed, 1 failed")
-    return rt
 
 
 def remember_checks(rt):
@@ -81,6 +64,11 @@ def leave_what_is_not_due(rt):
     return left
 
 
+def out_of_layout(rt):
+    """Returns the crates that want `rt fmt`, each of which rt would refuse, but only once it is the crate's turn."""
+    return [it.name for it in rt.rtlib.crates_below(os.getcwd()) if rt.rtlib.fmt(it.folder, "--check", sys.stdout)]
+
+
 def alone(rt, names, counts):
     """Tries every wrong body of these crates, or of all, and writes down which crates had all of theirs refused."""
     record, status = due.Record(), 0
@@ -95,7 +83,7 @@ def alone(rt, names, counts):
 
 
 def main(words):
-    rt, counts, left = load_rt(), wrong_bodies.Counts(), {}
+    rt, counts, left = toolchain.load_rt(NAMES, "run ./check --all\n0 passed, 1 failed"), wrong_bodies.Counts(), {}
     rt.must_fail_all = lambda crate, edits, flags: wrong_bodies.try_all(rt, crate, edits, counts)
 
     def say(*texts, **how):
@@ -115,6 +103,9 @@ def main(words):
         left = leave_what_is_not_due(rt)
     elif words != ["--every"]:
         sys.exit(__doc__)
+    if wanting := out_of_layout(rt):
+        print(f"check: run rt fmt in {', '.join(wanting)}\n0 passed, {len(wanting)} failed")
+        return 1
     return rt.ci()
 
 
