@@ -35,7 +35,7 @@ class Server:
             raise SystemExit(f"the server says: {line!r}")
         self.port = int(found[1])
 
-    def connect(self, seconds=60):
+    def connect(self, seconds=150):
         return socket.create_connection(("127.0.0.1", self.port), timeout=seconds)
 
     def finish(self, seconds=10):
