@@ -35,6 +35,13 @@ const PUTS: Peer = Peer::Says {
     writes: 1000,
 };
 
+/// Asks for what breaks off.
+const BREAKS: Peer = Peer::Says {
+    text: b"BREAK",
+    reads: 1000,
+    writes: 1000,
+};
+
 /// Says nothing, to its end.
 const ENDS: Peer = Peer::Says {
     text: b"",
@@ -102,7 +109,7 @@ struct Case {
     told: &'static [u8],
 }
 
-const CASES: [Case; 6] = [
+const CASES: [Case; 7] = [
     Case {
         peers: &[],
         count: 0,
@@ -146,6 +153,14 @@ const CASES: [Case; 6] = [
         answered: 2,
         got: b"200 y200 yes\n",
         told: b"archive: S1 Read\narchive: S2 Write\n",
+    },
+    Case {
+        peers: &[BREAKS, GETS],
+        count: 2,
+        outcome: Ok(()),
+        answered: 2,
+        got: b"200 yes\n",
+        told: b"archive: S3 Broken\n",
     },
     Case {
         peers: &[ENDS, GETS],

@@ -7,8 +7,22 @@ use mbox_core::device::{Sink, Source, write_bytes};
 /// Replies to a request that begins with `GET`.
 pub const FOUND: &[u8] = b"200 yes\n";
 
+/// Replies to a request that begins with `BREAK`, and breaks off.
+pub const BEGUN: &[u8] = b"200 ye";
+
 /// Replies to any other.
 pub const MISSED: &[u8] = b"404 no\n";
+
+/// What is told of a request, and what it gets.
+fn reply_to(request: &[u8]) -> (Result<u16, ConnectionFault>, &'static [u8]) {
+    if request.starts_with(b"GET") {
+        (Ok(200), FOUND)
+    } else if request.starts_with(b"BREAK") {
+        (Err(ConnectionFault::Broken), BEGUN)
+    } else {
+        (Ok(404), MISSED)
+    }
+}
 
 /// It reads up to 64 bytes once.
 pub struct Words;
@@ -27,13 +41,9 @@ impl Service<u32> for Words {
             return Err(ConnectionFault::Read);
         };
         *state = state.saturating_add(1);
-        let (status, reply) = if buffer[..count].starts_with(b"GET") {
-            (200, FOUND)
-        } else {
-            (404, MISSED)
-        };
+        let (told, reply) = reply_to(&buffer[..count]);
         match write_bytes(output, reply) {
-            Ok(()) => Ok(status),
+            Ok(()) => told,
             Err(_) => Err(ConnectionFault::Write),
         }
     }

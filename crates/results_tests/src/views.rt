@@ -1,8 +1,8 @@
 //! A list of four messages, of which the first is withdrawn.
 use archive_machine::{Key, Message};
 use archive_results::{
-    Ask, Asked, Header, Line, Reader, TreeLine, allowed_headers, asked, author_lines, header_of,
-    is_shown, month_lines, thread_lines, tree_lines,
+    Ask, Asked, Header, Line, Reader, TreeLine, asked, author_lines, header_of, is_shown,
+    month_lines, thread_lines, tree_lines,
 };
 use civil_time::{Day, Month};
 use mbox_core::{Item, OwnedItem, cut};
@@ -80,20 +80,17 @@ fn messages(alloc: Global) -> Result<Vec<Message>, Fail> {
     Ok(found)
 }
 
-fn headers(alloc: Global, messages: &[Message]) -> Result<Vec<Header>, Fail> {
-    let mut found = Vec::new(alloc);
-    for message in messages {
-        found.push(header_of(alloc, message)?)?;
-    }
-    Ok(found)
-}
-
 /// The headers of what a reader of this standing may read.
 pub fn view(alloc: Global, standing: Standing) -> Result<Vec<Header>, Fail> {
     let policy = Policy::read(alloc, POLICY)?;
-    let messages = messages(alloc)?;
-    let headers = headers(alloc, &messages)?;
-    Ok(allowed_headers(alloc, &ask(&policy)?, standing, headers)?)
+    let ask = ask(&policy)?;
+    let mut found = Vec::new(alloc);
+    for message in messages(alloc)? {
+        if is_shown(&ask, standing, &message) {
+            found.push(header_of(alloc, &message)?)?;
+        }
+    }
+    Ok(found)
 }
 
 /// The subjects of some lines, each after `|`.

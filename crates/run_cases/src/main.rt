@@ -7,7 +7,7 @@
 //!     new            no database is there
 //!     clock DAY      the day that their clock tells; `clock none`: it tells none
 //!     $ WORDS        a run with these words; a word in double quotes may be empty or hold spaces
-//!     <N $ WORDS     a run whose input fails after N bytes
+//!     <N $ WORDS     a run whose input, and whose mbox, fails after N bytes
 //!     >N $ WORDS     a run whose output fails after N bytes
 //!     <each $ WORDS  runs whose input fails after each number of bytes
 //!     >each $ WORDS  runs whose output fails after each number of bytes that it would have written
@@ -16,12 +16,14 @@
 //! not there, and kept.
 #![tactic(auto)]
 
+mod papers;
 mod shelf;
 
 use anyhow::{Context, bail};
 use archive_run::{DayClock, SystemFiles, run};
 use civil_time::Day;
 use mbox_core::device::{Counted, Tap, read_all, write_bytes};
+use papers::Papers;
 use shelf::Shelf;
 use std::alloc::{AllocError, AllocGlobal, Global};
 use std::rt::Files;
@@ -64,7 +66,7 @@ struct Wrote {
 }
 
 impl Stage {
-    /// A run over an input that passes `passes` bytes and an output that passes `room`.
+    /// A run over an input and an mbox that pass `passes` bytes, and an output that passes `room`.
     fn run<RT: Files + AllocGlobal>(
         &mut self,
         rt: &RT,
@@ -77,7 +79,10 @@ impl Stage {
         let mut input = Tap::new(alloc, &self.input, passes)?;
         let mut output = Tap::new(alloc, b"", room)?;
         let mut faults = Tap::new(alloc, b"", ROOM)?;
-        let files = SystemFiles { rt };
+        let files = Papers {
+            files: SystemFiles { rt },
+            passes,
+        };
         let status = run(
             alloc,
             &files,

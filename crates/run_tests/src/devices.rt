@@ -2,7 +2,7 @@
 ghost use Rattle.std.specs.Prelude.{⊤};
 
 use archive_listen::{AcceptFault, Connection, Gathered, ListenFault, Listener, Listening, Ports};
-use archive_run::{Databases, DayClock, FileFault, ReadFiles};
+use archive_run::{Databases, DayClock, FileFault, OpenFiles, ReadFiles};
 use archive_store::{Store, StoreFault};
 use civil_time::Day;
 use mbox_core::device::Tap;
@@ -15,6 +15,22 @@ pub const POLICY: &str = "policy.toml";
 /// A file that writes none.
 pub const NO_POLICY: &str = "archive.mbox";
 
+/// A file of two messages.
+pub const MBOX: &str = "two.mbox";
+
+/// The same file, of which a read fails behind the second separator line.
+pub const BROKEN: &str = "broken.mbox";
+
+/// A file for which there is no memory.
+pub const NO_MEMORY: &str = "no-memory.mbox";
+
+/// The two messages, the second an answer to the first.
+const TWO: &[u8] =
+    b"From anna@example.org Tue Mar  4 10:00:00 2003\nFrom: Anna <anna@example.org>\nSubject: Hello\n\nOne.\n\nFrom bob@example.org Wed Mar 12 10:30:00 2003\nSubject: Re: Hello\n\nTwo.\n\n";
+
+/// Where the second separator line of the two messages ends.
+const SECOND: usize = 145;
+
 /// The one database.
 pub const ARCHIVE: &str = "archive.db";
 
@@ -24,7 +40,7 @@ pub const TAKEN: u16 = 22;
 /// What port 0 stands for.
 const PICKED: u16 = 49152;
 
-/// Two files.
+/// Two policies, of which one is none, and mboxes.
 #[derive(Drop)]
 pub struct Papers;
 
@@ -38,6 +54,23 @@ impl ReadFiles for Papers {
         let mut bytes = Vec::new(alloc);
         match bytes.extend_from_slice(text) {
             Ok(()) => Ok(bytes),
+            Err(_full) => Err(FileFault::Memory),
+        }
+    }
+}
+
+impl OpenFiles for Papers {
+    type Input = Tap;
+
+    fn open_file(&self, alloc: Global, name: &str) -> Result<Tap, FileFault> {
+        let passes = match name {
+            MBOX => 1000,
+            BROKEN => SECOND,
+            NO_MEMORY => return Err(FileFault::Memory),
+            _ => return Err(FileFault::Read),
+        };
+        match Tap::new(alloc, TWO, passes) {
+            Ok(input) => Ok(input),
             Err(_full) => Err(FileFault::Memory),
         }
     }
@@ -65,6 +98,28 @@ impl Databases<Store<MemStore>> for Shelf {
     {
         let _connection = store.into_connection();
         self.closed = self.closed.saturating_add(1);
+    }
+}
+
+/// One database, which is empty at first, and kept where it is closed.
+#[derive(Drop)]
+pub struct Drawer(pub Option<Store<MemStore>>);
+
+impl Databases<Store<MemStore>> for Drawer {
+    fn open(&mut self, alloc: Global, name: &str) -> Result<Store<MemStore>, StoreFault> {
+        if name != ARCHIVE {
+            return Err(StoreFault::Store);
+        }
+        match self.0.take() {
+            Some(store) => Ok(store),
+            None => Ok(Store::open_in_memory(alloc)?),
+        }
+    }
+
+    fn close(&mut self, store: Store<MemStore>)
+        ensures { ⊤ }
+    {
+        self.0 = Some(store);
     }
 }
 

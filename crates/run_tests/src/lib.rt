@@ -1,7 +1,9 @@
-//! The command that serves, from its order to its exit status, over devices of memory.
+//! The commands that serve and that import, from their orders to their exit status, over devices of memory.
 #![tactic(auto)]
 
 #[cfg(test)]
 mod devices;
+#[cfg(test)]
+mod importing;
 #[cfg(test)]
 mod serving;

@@ -1,0 +1,77 @@
+//! Stores over files that are held in memory, and over disks that stop: one function opens them, imports and closes them.
+use archive_desk::{ImportStop, Report, import};
+use archive_import::import_from;
+use archive_store::{AdoptStop, Store};
+use mbox_core::device::Counted;
+use sqlite::{Alter, Connection, FileStore, Files, Options};
+use sqlite_disk::{Disk, Memory};
+use std::alloc::Global;
+use std::test::Fail;
+
+/// How an mbox is imported: as a text, or read piece by piece.
+#[derive(Clone, Copy)]
+pub enum How {
+    Whole,
+    InPieces,
+}
+
+/// What came of an import. `None` where the files were no store.
+pub type Outcome = Option<Result<Report, ImportStop>>;
+
+/// A database file and its log, both empty.
+pub fn new_files(alloc: Global) -> Files<Memory> {
+    Files {
+        log: Memory::new(alloc),
+        db: Memory::new(alloc),
+    }
+}
+
+/// Imports a file into the list `soc` of a store over these files, and hands them back as a crash leaves them.
+pub fn import_into<D: Disk + Drop>(
+    alloc: Global,
+    files: Files<D>,
+    mbox: &[u8],
+    how: How,
+) -> Result<(Outcome, Files<D>), Fail> {
+    if !files.may_be_used() {
+        return Err(Fail::from("files that may be used"));
+    }
+    match Connection::open_files(alloc, files, Options::new(1)) {
+        Ok(connection) => Ok(import_connection(alloc, connection, mbox, how)),
+        Err((_error, left)) => Ok((None, left.into_files())),
+    }
+}
+
+fn import_connection<D: Disk + Drop>(
+    alloc: Global,
+    connection: Connection<FileStore<D>>,
+    mbox: &[u8],
+    how: How,
+) -> (Outcome, Files<D>) {
+    match Store::adopt(connection) {
+        Ok(mut store) => {
+            let outcome = import_store(alloc, &mut store, mbox, how);
+            (Some(outcome), store.into_connection().into_store().close())
+        }
+        Err(
+            AdoptStop {
+                connection,
+                fault: _fault,
+            },
+        ) => (None, connection.into_store().close()),
+    }
+}
+
+/// The list is added where it is not there.
+fn import_store<S: Alter>(
+    alloc: Global,
+    store: &mut Store<S>,
+    mbox: &[u8],
+    how: How,
+) -> Result<Report, ImportStop> {
+    store.list_add("soc").ok();
+    match how {
+        How::Whole => import(store, alloc, "soc", mbox),
+        How::InPieces => import_from(store, alloc, "soc", &mut Counted::new(mbox)),
+    }
+}

@@ -1,0 +1,249 @@
+//! An mbox that is asked for over files whose disks stop.
+use crate::cases::today;
+use archive_desk::import;
+use archive_pages::{ServeFault, answer};
+use archive_store::{AdoptStop, Store};
+use mbox_core::device::Tap;
+use policy_core::Policy;
+use sqlite::{Alter, Connection, FileStore, Files, Options};
+use sqlite_disk::{Disk, Fuse, Memory};
+use std::alloc::Global;
+use std::process::Abort;
+use std::test::Fail;
+use thread_core::PlainThreader;
+
+/// A request for the mbox.
+const GET: &[u8] = b"GET /l/soc/mbox HTTP/1.1\r\n\r\n";
+
+/// The head of its reply.
+const HEAD: &[u8] =
+    b"HTTP/1.1 200 OK\r\nContent-Type: application/mbox\r\nConnection: close\r\n\r\n";
+
+/// More calls than a disk gets while an mbox is asked for: two to the power of `HALVINGS`.
+const CALLS: u64 = 4096;
+
+const HALVINGS: u32 = 12;
+
+/// The headers of three messages, as an mbox has them.
+const HEADERS: [&[u8]; 3] = [
+    b"From anna@example.org Tue Mar  4 10:00:00 2003\nSubject: one\n\n",
+    b"From bob@example.org Wed Mar 12 10:30:00 2003\nSubject: two\n\n",
+    b"From cleo@example.org Thu Mar 13 11:00:00 2003\nSubject: three\n\n",
+];
+
+/// A line of a body.
+const LINE: &[u8] = b"A body takes more bytes than a page of the database has.\n";
+
+/// How many lines a body has.
+const LINES: usize = 100;
+
+/// 503.
+const UNAVAILABLE: &[u8] =
+    b"HTTP/1.1 503 Service Unavailable\r\nContent-Type: text/plain; charset=us-ascii\r\nContent-Length: 24\r\n\
+      Connection: close\r\n\r\n503 Service Unavailable\n";
+
+/// How far a request came.
+#[derive(Clone, Copy, Debug, PartialEq, Eq)]
+enum Stage {
+    /// The files were not opened.
+    Shut,
+    /// The reply was 503.
+    Unavailable,
+    /// The reply broke off behind the head and so many messages.
+    Broken(usize),
+    /// The reply was whole.
+    Whole,
+}
+
+/// Each stage, in the order in which disks that stop later reach it.
+const STAGES: [Stage; 6] = [
+    Stage::Shut,
+    Stage::Unavailable,
+    Stage::Broken(0),
+    Stage::Broken(1),
+    Stage::Broken(2),
+    Stage::Whole,
+];
+
+/// What is done with a store.
+#[derive(Clone, Copy)]
+enum Step {
+    Import,
+    Ask,
+}
+
+/// Adds a message of these headers.
+fn push_message(text: &mut Vec<u8>, headers: &[u8]) -> Result<(), Fail> {
+    text.extend_from_slice(headers)?;
+    for _line in 0..LINES {
+        text.extend_from_slice(LINE)?;
+    }
+    text.push(b'\n')?;
+    Ok(())
+}
+
+/// The first messages, behind this head.
+fn first(alloc: Global, head: &[u8], count: usize) -> Result<Vec<u8>, Fail> {
+    let mut text = Vec::new(alloc);
+    text.extend_from_slice(head)?;
+    for headers in HEADERS.iter().take(count) {
+        push_message(&mut text, headers)?;
+    }
+    Ok(text)
+}
+
+/// How many messages stand behind a head in a reply that broke off.
+fn count_of(alloc: Global, reply: &[u8]) -> Result<usize, Fail> {
+    for count in 0..=HEADERS.len() {
+        if first(alloc, HEAD, count)?.as_slice() == reply {
+            return Ok(count);
+        }
+    }
+    Err(Fail::from("the head and whole messages"))
+}
+
+/// Asks a store for the mbox: what is said of a reply that broke off is what was written.
+fn ask<S: Alter>(rt: &impl Abort, alloc: Global, store: &mut Store<S>) -> Result<Stage, Fail> {
+    let mut input = Tap::new(alloc, GET, 1000)?;
+    let mut output = Tap::new(alloc, b"", 30_000)?;
+    let told = answer(
+        store,
+        alloc,
+        &Policy::open(),
+        &PlainThreader,
+        today()?,
+        &mut input,
+        &mut output,
+    );
+    match told {
+        Ok(_) if output.bytes() == UNAVAILABLE => Ok(Stage::Unavailable),
+        Ok(_) => {
+            assert_eq!(rt; count_of(alloc, output.bytes())?, HEADERS.len());
+            Ok(Stage::Whole)
+        }
+        Err(ServeFault::Broken { written }) => {
+            assert_eq!(rt; written, output.bytes().len() as u64);
+            Ok(Stage::Broken(count_of(alloc, output.bytes())?))
+        }
+        Err(_) => Err(Fail::from("an input and an output that do not fail")),
+    }
+}
+
+fn take_step<S: Alter>(
+    rt: &impl Abort,
+    alloc: Global,
+    store: &mut Store<S>,
+    step: Step,
+) -> Result<Stage, Fail> {
+    match step {
+        Step::Ask => ask(rt, alloc, store),
+        Step::Import => {
+            store.list_add("soc")?;
+            import(store, alloc, "soc", &first(alloc, b"", HEADERS.len())?)?;
+            Ok(Stage::Whole)
+        }
+    }
+}
+
+/// A cache of one page, so that the pages of each message are read from a disk.
+fn one_page() -> Options {
+    Options {
+        cache_pages: 1,
+        ..Options::new(1)
+    }
+}
+
+/// Opens a store over these files, takes a step, and hands the files back.
+fn over_files<D: Disk + Drop>(
+    rt: &impl Abort,
+    alloc: Global,
+    files: Files<D>,
+    step: Step,
+) -> Result<(Stage, Files<D>), Fail> {
+    if !files.may_be_used() {
+        return Err(Fail::from("files that may be used"));
+    }
+    match Connection::open_files(alloc, files, one_page()) {
+        Ok(connection) => over_connection(rt, alloc, connection, step),
+        Err((_error, left)) => Ok((Stage::Shut, left.into_files())),
+    }
+}
+
+fn over_connection<D: Disk + Drop>(
+    rt: &impl Abort,
+    alloc: Global,
+    connection: Connection<FileStore<D>>,
+    step: Step,
+) -> Result<(Stage, Files<D>), Fail> {
+    match Store::adopt(connection) {
+        Ok(mut store) => {
+            let stage = take_step(rt, alloc, &mut store, step);
+            let files = store.into_connection().into_store().close();
+            Ok((stage?, files))
+        }
+        Err(
+            AdoptStop {
+                connection,
+                fault: _fault,
+            },
+        ) => Ok((Stage::Shut, connection.into_store().close())),
+    }
+}
+
+/// A disk that holds the same bytes, and stops after so many calls.
+fn fused(alloc: Global, disk: &Memory, calls: u64) -> Result<Fuse<Memory>, Fail> {
+    let mut copy = Memory::new(alloc);
+    if !disk.bytes().is_empty() {
+        copy.write_at(0, disk.bytes())?;
+    }
+    Ok(Fuse::new(copy, calls))
+}
+
+/// Asks for the mbox over copies of these files whose disks stop after so many calls.
+fn ask_over(
+    rt: &impl Abort,
+    alloc: Global,
+    files: &Files<Memory>,
+    calls: u64,
+) -> Result<Stage, Fail> {
+    let fuses = Files {
+        log: fused(alloc, &files.log, calls)?,
+        db: fused(alloc, &files.db, calls)?,
+    };
+    let (stage, _files) = over_files(rt, alloc, fuses, Step::Ask)?;
+    Ok(stage)
+}
+
+/// The most calls of a disk over which no store is opened.
+fn last_shut(rt: &impl Abort, alloc: Global, files: &Files<Memory>) -> Result<u64, Fail> {
+    let (mut shut, mut open) = (0, CALLS);
+    for _turn in 0..HALVINGS {
+        let calls = shut / 2 + open / 2;
+        match ask_over(rt, alloc, files, calls)? {
+            Stage::Shut => shut = calls,
+            _ => open = calls,
+        }
+    }
+    Ok(shut)
+}
+
+#[test]
+fn an_mbox_breaks_off_where_a_disk_stops(rt: HostRuntime) -> Result<(), Fail> {
+    let empty = Files {
+        log: Memory::new(rt.alloc()),
+        db: Memory::new(rt.alloc()),
+    };
+    let (_imported, files) = over_files(&rt, rt.alloc(), empty, Step::Import)?;
+    let mut reached = Vec::new(rt.alloc());
+    for calls in last_shut(&rt, rt.alloc(), &files)?..CALLS {
+        let stage = ask_over(&rt, rt.alloc(), &files, calls)?;
+        if reached.last() != Some(&stage) {
+            reached.push(stage)?;
+        }
+        if stage == Stage::Whole {
+            break;
+        }
+    }
+    assert_eq!(rt; reached.as_slice(), STAGES.as_slice());
+    Ok(())
+}

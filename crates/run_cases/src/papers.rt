@@ -1,0 +1,60 @@
+//! Files of a system whose inputs fail after so many bytes.
+use archive_run::{FileFault, OpenFiles, ReadFiles, SystemFiles};
+use mbox_core::device::{Counted, Source};
+use std::alloc::{AllocGlobal, Global};
+use std::io::{self, ErrorKind, Read};
+use std::rt::Files;
+
+/// A reader that passes so many bytes of another one, and then fails at each call that asks for a byte.
+#[derive(Drop)]
+pub struct Short<I> {
+    inner: I,
+    left: usize,
+}
+
+impl<I: Source> Read for Short<I> {
+    fn read(&mut self, buffer: &mut [u8]) -> io::Result<usize> {
+        let most = buffer.len().min(self.left);
+        if most < 1 && !buffer.is_empty() {
+            return Err(io::Error::from(ErrorKind::Other));
+        }
+        match self.inner.read(&mut buffer[..most]) {
+            Ok(count) => {
+                self.left = self.left.saturating_sub(count);
+                Ok(count)
+            }
+            Err(_failure) => Err(io::Error::from(ErrorKind::Other)),
+        }
+    }
+}
+
+/// The files of a system. The inputs that are opened fail after `passes` bytes.
+#[derive(Drop)]
+pub struct Papers<'a, R> {
+    pub files: SystemFiles<'a, R>,
+    pub passes: usize,
+}
+
+impl<'a, R: Files + AllocGlobal> ReadFiles for Papers<'a, R> {
+    fn read_file(&self, alloc: Global, name: &str) -> Result<Vec<u8>, FileFault> {
+        self.files.read_file(alloc, name)
+    }
+}
+
+impl<'a, R: Files + AllocGlobal> OpenFiles for Papers<'a, R> {
+    type Input = Counted<Short<Counted<R::File>>>;
+
+    fn open_file(
+        &self,
+        alloc: Global,
+        name: &str,
+    ) -> Result<Counted<Short<Counted<R::File>>>, FileFault> {
+        match self.files.open_file(alloc, name) {
+            Ok(inner) => Ok(Counted::new(Short {
+                inner,
+                left: self.passes,
+            })),
+            Err(fault) => Err(fault),
+        }
+    }
+}
