@@ -13,7 +13,8 @@ use Rattle.archive_machine.specs.Machine.{added_within, message_limit}
 use Rattle.archive_machine.specs.Runs.{taken, Tally, tally}
 use Rattle.archive_tables.specs.Tables.{IsHeld, IsKept, archive_of}
 use Rattle.archive_tables.specs.Calls.{RestsOver, Rests, StaysOver, IsHeldOrBack}
-use Rattle.archive_store.specs.Replies.{refusal}
+use Rattle.archive_store.specs.Replies.{refusal, Steps, says_added}
+use Rattle.archive_store.specs.declared.words.Added.{Added}
 use Rattle.archive_store.specs.declared.batches.Report.{Report}
 use Rattle.archive_store.specs.declared.batches.Taken.{Taken}
 use Rattle.archive_store.specs.declared.batches.Taken.TheVariants.{New, Known, TooLarge, Full}
@@ -107,3 +108,11 @@ module _ {S : Type 0} (g : Ghosts S) (old new : Held S) where
       (λ count. StaysOver None (state g old) (state g new) × IsCounted (archive_of (state g new)) list count)
       (λ fault. MatchOption (refusal fault) (Rests (state g old) (state g new))
       (λ r. StaysOver None (state g old) (state g new) × (r ≡ no_list) × (has_list (archive_of (state g old)) list ≡ false)))
+
+  -- One message to a list of which it was said that it holds `before` messages: what the machine says, and then it holds `after`,
+  -- where the connection is still open.
+  abbrev pub AddsCounted : Result Added StoreFault → List ℕ → Item → ℕ → ℕ → Type 0
+  AddsCounted result list item before after =
+      HasCleanDisk (state g new) → IsKept (state g old) → length (messages_in (archive_of (state g old)) list) ≡ before
+      → Steps (state g old) (state g new) (λ a. added_within message_limit a list item) (says_added result)
+      × (IsTrue (state g new).is_open → length (messages_in (archive_of (state g new)) list) ≡ after)
