@@ -16,8 +16,9 @@ with docs/TABLES.md.
 
 Then it times, in new files, a thousand messages added to a list that holds
 1,000 and to one that holds 49,000, and a hundred added where two lists hold
-49,000 together and where they hold 52,100. It prints ratios, and what is asked
-for beside them. Build the program first: (cd crates/store_probe && rt run).
+49,000 together and where they hold 52,100, each by `add`, which counts its
+list there, and by `add_counted`, which is told. It prints ratios, and what is
+asked for beside them. Build the program first: (cd crates/store_probe && rt run).
 """
 import argparse, hashlib, os, pathlib, re, sqlite3, subprocess, sys, tempfile, time
 
@@ -163,7 +164,7 @@ def documented():
 
 
 def in_new_file(asked, folder, call):
-    """The two times of a call that fills a file of its own."""
+    """The times of a call that fills a file of its own."""
     path = os.path.join(folder, "new.db")
     took = times(asked.probe, call, path, asked.bytes)
     for made in (path, path + "-wal"):
@@ -175,6 +176,13 @@ def in_new_file(asked, folder, call):
 def beside_stock(title, took, call, wanted):
     ours, stock = took[call], took["stock " + call]
     print(f"{title:32} {ours / 1e9:8.2f} s, stock {stock / 1e9:8.2f} s, ratio {ours / stock:6.2f}{wanted}")
+
+
+def growing(asked, folder, call, titles):
+    """Prints the first time of a call beside each of the others."""
+    fewer, *others = (min(column) for column in zip(*(in_new_file(asked, folder, call) for _ in range(asked.rounds))))
+    for title, more in zip(titles, others):
+        print(f"{title:50} {fewer / 1e9:8.3f} s, {more / 1e9:8.3f} s, ratio {more / fewer:6.2f} (at most 2)")
 
 
 def main():
@@ -202,9 +210,8 @@ def main():
         ours = os.path.join(folder, "batch-0.db")
         print(f"integrity_check of stock SQLite: {check(ours)}")
         print(f"tables as in docs/TABLES.md: {'yes' if schema_of(ours) == documented() else 'NO'}")
-        for call, title in (("grow", "a thousand more to 1,000 and to 49,000:"), ("lists", "a hundred where two lists hold 49,000 and 52,100:")):
-            fewer, more = (min(column) for column in zip(*(in_new_file(asked, folder, call) for _ in range(asked.rounds))))
-            print(f"{title:50} {fewer / 1e9:8.3f} s, {more / 1e9:8.3f} s, ratio {more / fewer:6.2f} (at most 2)")
+        growing(asked, folder, "grow", ["a thousand more to 1,000 and to 49,000:"])
+        growing(asked, folder, "lists", ["a hundred where two lists hold 49,000 and 52,100:", "the same, to a list counted before:"])
 
 
 if __name__ == "__main__":

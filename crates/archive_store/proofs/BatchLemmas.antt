@@ -1,6 +1,6 @@
 -- Messages added to one list, many in one transaction.
-use Rattle.std.proofs.Common.{◌≡◌, inl, inr, ℕ, ◌+◌, ◌<◌, ◌≤◌, Bool, true, false, List, [], ◌∷◌, ◌++◌, length, get_or, take, map, filter, refl, ap, sym, subst, ◌∙◌, arith, Option, Some, None}
-use Rattle.std.specs.Prelude.{nat_lt, nat_le, not, bytes_eq, MatchOption, if◌then◌else◌}
+use Rattle.std.proofs.Common.{◌≡◌, inl, inr, ℕ, ◌+◌, ◌<◌, ◌≤◌, Bool, true, false, List, [], ◌∷◌, ◌++◌, length, get_or, take, map, filter, refl, ap, sym, subst, ◌∙◌, arith, Option, Some, None, Result, Ok, Err}
+use Rattle.std.specs.Prelude.{IsTrue, IsErrAnd, nat_lt, nat_le, not, bytes_eq, MatchOption, if◌then◌else◌}
 use Rattle.std.specs.List.{list_any}
 use Rattle.std.proofs.lemmas.Bool.{cases_Bool}
 use Rattle.std.proofs.lemmas.Bool.Decides.{nat_tests}
@@ -19,7 +19,10 @@ use Rattle.archive_machine.specs.Runs.{taken, run, Tally, tally, is_new, is_know
 use Rattle.archive_tables.specs.Tables.{IsHeld, IsKept, archive_of}
 use Rattle.archive_tables.specs.Calls.{ChangesOver, Rests, RestsOver, StaysOver, IsHeldOrBack}
 use Rattle.archive_store.specs.Batches.{IsCounted, AddsTo, HasTaken, IsAfter, IsFullAt, IsRefusedAt, text_bytes, tally_of}
+use Rattle.archive_store.specs.Replies.{refusal, Steps, says_added}
 use Rattle.archive_store.specs.declared.batches.Report.{Report}
+use Rattle.archive_store.specs.declared.faults.StoreFault.{StoreFault}
+use Rattle.archive_store.specs.declared.words.Added.{Added}
 use Rattle.archive_store.proofs.StepEquations.{add_known, add_full, add_new}
 use Rattle.archive_store.proofs.RunLemmas.{run_archive, run_replies, run_nothing}
 
@@ -92,6 +95,28 @@ module _ (behind : Option Database) (old new : State) (list : List ℕ) (item : 
               ∙ sym (add_new message_limit list k key item e ek small (archive_of old) (((tt, sym n.is_there), none), subst (λ m. false ≡ nat_le message_limit m) (sym n.length_is) (has_room count room))),
           subst (λ a. IsCounted a list (count + 1)) (sym is) more,
         )
+
+-- the same outside a transaction, of the tables before a question on them
+module _ (old mid new : State) (list : List ℕ) (same : archive_of mid ≡ archive_of old) where
+  pub counted_at : (count : ℕ) → true ≡ has_list (archive_of old) list → length (messages_in (archive_of old) list) ≡ count → IsCounted (archive_of mid) list count
+  counted_at count there n = subst (λ a. IsCounted a list count) (sym same) (record { is_there = sym there; length_is = n })
+
+  pub steps_counted : (item : Item) (after : ℕ) (reply : Reply) → AddsTo None mid new list item after reply
+      → (IsKept new × ((archive_of new, reply) ≡ added_within message_limit (archive_of old) list item)) × (IsTrue new.is_open → length (messages_in (archive_of new) list) ≡ after)
+  steps_counted item after reply it = ((it.0, it.1 ∙ ap (λ a. added_within message_limit a list item) same), λ up. it.2.length_is)
+
+  pub rests_counted : (before after : ℕ) → after ≡ before → length (messages_in (archive_of old) list) ≡ before → Rests mid new
+      → Rests old new × (IsTrue new.is_open → length (messages_in (archive_of new) list) ≡ after)
+  rests_counted before after is n rests = (
+    λ up. ((rests up).0, (rests up).1 ∙ same),
+    λ up. subst (λ a. length (messages_in a list) ≡ after) (sym ((rests up).1 ∙ same)) (n ∙ sym is),
+  )
+
+-- a fault is no answer
+pub fails_to_add : (old new : State) (step : Archive → Outcome) (r : Result Added StoreFault) (Q : StoreFault → Type 0) → IsErrAnd r Q → ((fault : StoreFault) → Q fault → refusal fault ≡ None)
+    → Rests old new → Steps old new step (says_added r)
+fails_to_add old new step (Ok added) Q none why rests = absurd none
+fails_to_add old new step (Err fault) Q it why rests = rw (why fault it) rests
 
 pub none_of : (old mid : State) (list k key : List ℕ) → k ≡ key → false ≡ list_any (is_message list k) (archive_of old).messages → archive_of mid ≡ archive_of old
     → list_any (is_message list key) (archive_of mid).messages ≡ false

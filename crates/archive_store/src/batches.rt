@@ -39,7 +39,7 @@ pub struct AddStop {
 }
 
 /// What becomes of one message.
-enum Taken {
+pub(crate) enum Taken {
     New,
     Known,
     TooLarge,
@@ -200,7 +200,10 @@ fn add_some<S: Alter>(
 }
 
 /// How many messages a list holds. E4 where there is no such list.
-fn count_list<S: Alter>(conn: &mut Connection<S>, list: &str) -> Result<usize, StoreFault>
+pub(crate) fn count_list<S: Alter>(
+    conn: &mut Connection<S>,
+    list: &str,
+) -> Result<usize, StoreFault>
     ensures counted { Counts S.Store conn.old conn.new result list.now }
     ensures clean { WasClean S.Store conn.old conn.new }
 {
@@ -212,7 +215,7 @@ fn count_list<S: Alter>(conn: &mut Connection<S>, list: &str) -> Result<usize, S
 }
 
 /// Adds a message to a list that is there and holds so many messages, and counts it.
-fn add_counted<S: Alter>(
+pub(crate) fn add_counted<S: Alter>(
     conn: &mut Connection<S>,
     alloc: Global,
     list: &str,
@@ -220,6 +223,7 @@ fn add_counted<S: Alter>(
     count: &mut usize,
 ) -> Result<Taken, StoreFault>
     ensures step { AddsOne S.Store conn.old conn.new result list.now item.now count.old count.new }
+    ensures uncounted { IfErr result (λ _. count.new ≡ count.old) }
     ensures clean { WasClean S.Store conn.old conn.new }
     ensures fault { IfErr result (λ fault. refusal fault ≡ None) }
 {

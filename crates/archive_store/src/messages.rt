@@ -2,6 +2,7 @@
 ghost use Rattle.std.specs.Prelude.{◌≡◌, not, pos};
 ghost use Rattle.std.specs.Ordering.{int_eq};
 
+use crate::batches::{Taken, add_counted};
 use crate::faults::StoreFault;
 use crate::limits::{MESSAGES, add_limited};
 use crate::store::Store;
@@ -21,6 +22,7 @@ impl<S: Alter> Store<S> {
     ghost use Rattle.archive_store.specs.Held.{held_of};
     ghost use Rattle.archive_store.specs.Words.{party_of};
     ghost use Rattle.archive_store.specs.Replies.{Does, says_added, says_done, says_whether};
+    ghost use Rattle.archive_store.specs.Batches.{AddsCounted};
 
     /// Adds a message. A message whose key the list holds is known, and nothing changes: the first sender and arrival
     /// stay. E4 where there is no such list, E13 where the whole text has more than 4,194,304 bytes, E12 where the list
@@ -30,6 +32,30 @@ impl<S: Alter> Store<S> {
         ensures clean { WasClean S.Store (held_of self.old) (held_of self.new) }
     {
         add_limited(self, alloc, list, item, MESSAGES)
+    }
+
+    /// The same to a list that holds so many messages, as `count` says before the first of such calls and each call says for
+    /// the next: it counts none, so it takes the same time however many messages there are. Of another number nothing is
+    /// promised but that it returns.
+    pub fn add_counted(
+        &mut self,
+        alloc: Global,
+        list: &str,
+        item: &Item<'_>,
+        count: &mut usize,
+    ) -> Result<Added, StoreFault>
+        ensures step { AddsCounted S.Store (held_of self.old) (held_of self.new) result list.now item.now count.old count.new }
+        ensures clean { WasClean S.Store (held_of self.old) (held_of self.new) }
+    {
+        if !texts::lists::has_list(&mut self.conn, list)? {
+            return Err(StoreFault::NoList);
+        }
+        match add_counted(&mut self.conn, alloc, list, item, count)? {
+            Taken::New => Ok(Added::New),
+            Taken::Known => Ok(Added::Known),
+            Taken::TooLarge => Err(StoreFault::TooLarge),
+            Taken::Full => Err(StoreFault::ListFull),
+        }
     }
 
     /// Withdraws a message. E4 where there is no such list, E8 where it holds no such message, E9 where the message is

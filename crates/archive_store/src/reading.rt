@@ -1,4 +1,5 @@
 //! Questions on lists and their messages.
+use crate::batches::count_list;
 use crate::faults::StoreFault;
 use crate::store::Store;
 use archive_database::reading::{read_names, read_or_fail};
@@ -8,8 +9,8 @@ use sqlite::Alter;
 use std::alloc::Global;
 
 impl<S: Alter> Store<S> {
-    ghost use Rattle.std.specs.Prelude.{◌≡◌, None, map, option_map, string_bytes};
-    ghost use Rattle.archive_machine.specs.Questions.{has_list, list_names, list_refusal, message_of};
+    ghost use Rattle.std.specs.Prelude.{◌≡◌, None, length, map, option_map, string_bytes};
+    ghost use Rattle.archive_machine.specs.Questions.{has_list, list_names, list_refusal, message_of, messages_in};
     ghost use Rattle.archive_tables.specs.Calls.{WasClean};
     ghost use Rattle.archive_store.specs.Held.{held_of};
     ghost use Rattle.archive_store.specs.Replies.{Answers};
@@ -31,6 +32,15 @@ impl<S: Alter> Store<S> {
     {
         let shown = texts::lists::list_names(&mut self.conn)?;
         Ok(read_names(alloc, &shown)?)
+    }
+
+    /// How many messages a list holds. E4 where there is no such list. It reads the key of each.
+    pub fn count(&mut self, list: &str) -> Result<usize, StoreFault>
+        ensures answer { Answers S.Store (held_of self.old) (held_of self.new) result (λ a. list_refusal a list.now)
+            (λ a count. count ≡ length (messages_in a list.now)) }
+        ensures clean { WasClean S.Store (held_of self.old) (held_of self.new) }
+    {
+        count_list(&mut self.conn, list)
     }
 
     /// The message of a list with a key, if the list holds it. E4 where there is no such list.

@@ -1,5 +1,5 @@
 //! Many messages at once, and a walk over a list by the messages' numbers.
-use archive_store::{AddStop, Report, Store, StoreFault};
+use archive_store::{AddStop, Added, Report, Store, StoreFault};
 use archive_tables::rows::read_place;
 use archive_tables::texts::messages;
 use civil_time::Instant;
@@ -103,6 +103,36 @@ fn no_list_to_add_to(rt: HostRuntime) -> Result<(), Fail> {
         fault: StoreFault::NoList,
     };
     assert!(&rt; store.add_all(rt.alloc(), "a", &items) == Err(stop));
+    Ok(())
+}
+
+#[test]
+fn messages_to_a_list_that_is_counted_once(rt: HostRuntime) -> Result<(), Fail> {
+    let mut store = with_list(rt.alloc())?;
+    store.list_add("a")?;
+    let mut count = store.count("soc")?;
+    let texts: [(&[u8], Added, usize); 4] = [
+        (b"one\n", Added::New, 1),
+        (b"two\n", Added::New, 2),
+        (b"one", Added::Known, 2),
+        (b"", Added::New, 3),
+    ];
+    for (text, wanted, held) in texts {
+        let added = store.add_counted(rt.alloc(), "soc", &item(text)?, &mut count)?;
+        assert_eq!(&rt; (added, count), (wanted, held));
+    }
+    assert_eq!(&rt; (store.count("soc")?, store.count("a")?), (3, 0));
+    Ok(())
+}
+
+#[test]
+fn no_list_to_count(rt: HostRuntime) -> Result<(), Fail> {
+    let mut store = with_list(rt.alloc())?;
+    let mut count = 0;
+    assert!(&rt; store.count("a") == Err(StoreFault::NoList));
+    let refused = store.add_counted(rt.alloc(), "a", &item(b"one")?, &mut count);
+    assert!(&rt; refused == Err(StoreFault::NoList));
+    assert_eq!(&rt; count, 0);
     Ok(())
 }
 
