@@ -187,9 +187,9 @@ under_way_first list a b i there same is = subst (λ x. IsUnderWay list a b [] x
   told = sym (no_replies a);
 })
 
--- ---- what one transaction takes
+-- ---- what may be held
 
-pub small_more : (held : List Item) (item : Item) (bytes all : ℕ) → bytes ≡ text_bytes held → length held < 500 → all ≡ min (bytes + length item.text) 18446744073709551615 → all ≤ 8388608
+pub small_more : (held : List Item) (item : Item) (bytes all : ℕ) → bytes ≡ text_bytes held → length held < 4000 → all ≡ min (bytes + length item.text) 18446744073709551615 → all ≤ 8388608
     → IsSmall (held ++ item ∷ [])
 small_more held item bytes all is few sum small = (
   omega (arith, few, length-append held (item ∷ [])),

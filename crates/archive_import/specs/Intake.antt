@@ -1,4 +1,4 @@
--- The messages that are held for one transaction, and what became of those before them.
+-- The messages that are held for one call of the store, and what became of those before them.
 use Rattle.std.specs.Prelude.{◌≡◌, ◌⊎◌, ◌≤◌, ◌+◌, ◌++◌, ℕ, true, List, length}
 use Rattle.mbox_core.specs.Division.{Item}
 use Rattle.archive_machine.specs.Records.{Archive}
@@ -18,9 +18,9 @@ pub record IntakeState : Type 0 where
   pub done : ℕ
   pub report : Report
 
--- what one transaction takes: 500 messages, and 8 MB of texts, unless its one text is longer
+-- what may be held: 4,000 messages, and 8 MB of texts, unless the one text is longer
 abbrev pub IsSmall : List Item → Type 0
-IsSmall items = (length items ≤ 500) × ((text_bytes items ≤ 8388608) ⊎ (length items ≤ 1))
+IsSmall items = (length items ≤ 4000) × ((text_bytes items ≤ 8388608) ⊎ (length items ≤ 1))
 
 -- how many messages a report tells of
 abbrev pub sum_of : Report → ℕ

@@ -23,12 +23,12 @@ use mbox_stream::Cutter;
 use sqlite::Alter;
 use std::alloc::{AllocError, Global};
 
-/// Adds the messages of an mbox (RFC 4155) to a list, as `import` does, and reads it piece by piece: it holds the messages
-/// of one transaction and one piece. The list is looked up before the first read: E4 where there is no such list. M1: the
-/// first line that is not empty is no separator line; nothing was added. M2: a read failed, and all messages that were
-/// settled before it were done. M3: no memory was left to hold a message, or there were 2^64 reads. E12, E14 (also after 2^64 messages),
-/// E15 as of `import`. After each stop the first `done` messages were taken in, known or too large, and no other was
-/// taken in; the same input can be imported again.
+/// Adds the messages of an mbox (RFC 4155) to a list, as `import` does, and reads it piece by piece: it holds at most 4,000
+/// messages with 8 MB of texts, or one that is longer, and one piece. The list is looked up before the first read: E4 where
+/// there is no such list. M1: the first line that is not empty is no separator line; nothing was added. M2: a read failed,
+/// and all messages that were settled before it were done. M3: no memory was left to hold a message, or there were 2^64
+/// reads. E12, E14 (also after 2^64 messages), E15 as of `import`. After each stop the first `done` messages were taken in,
+/// known or too large, and no other was taken in; the same input can be imported again.
 pub fn import_from<S: Alter, R: Source>(
     store: &mut Store<S>,
     alloc: Global,
@@ -163,7 +163,7 @@ fn add_last<S: Alter>(
     }
 }
 
-/// Takes all messages that wait, and holds them. As often as one transaction takes no more, those that are held are added.
+/// Takes all messages that wait, and holds them. As often as no more can be held, those that are held are added.
 fn add_waiting<S: Alter>(
     store: &mut Store<S>,
     alloc: Global,
@@ -191,7 +191,7 @@ fn add_waiting<S: Alter>(
     Ok(())
 }
 
-/// Holds a message. Where one transaction does not take it too, those that are held are added first.
+/// Holds a message. Where it cannot be held too, those that are held are added first.
 fn hold_one<S: Alter>(
     store: &mut Store<S>,
     alloc: Global,
@@ -214,7 +214,7 @@ fn hold_one<S: Alter>(
     }
 }
 
-/// Adds the messages that are held, in one transaction, and then holds none.
+/// Adds the messages that are held, in one call of the store, and then holds none.
 fn add_held<S: Alter>(
     store: &mut Store<S>,
     alloc: Global,

@@ -1,4 +1,4 @@
-//! Messages that are held for one transaction.
+//! Messages that are held, and then added in one call.
 ghost use Rattle.std.specs.Prelude.{◌≡◌, ◌+◌, ◌≤◌, ◌<◌, ◌^◌, ◌∷◌, ◌++◌, [], IsTrue, length, IfErr, IfSome, OnOk};
 ghost use Rattle.archive_desk.specs.declared.importing.ImportFault.TheVariants.{Mbox as NotCut, Store as Stored};
 ghost use Rattle.mbox_core.specs.declared.faults.MboxFault.TheVariants.{Memory as NoRoom};
@@ -11,13 +11,13 @@ use mbox_core::{MboxFault, OwnedItem};
 use std::alloc::Global;
 use std::marker::Model;
 
-/// Messages of one transaction, at most.
-const MESSAGES_AT_ONCE: usize = 500;
+/// Messages that are held, at most. They are many transactions: a call of the store counts its list once, and then adds all.
+const MESSAGES_AT_ONCE: usize = 4_000;
 
-/// Bytes of the texts of one transaction, at most, unless its one text is longer.
+/// Bytes of their texts, at most, unless the one text is longer.
 const BYTES_AT_ONCE: usize = 8_388_608;
 
-/// The messages that are held for the next transaction: 500 at most, with 8 MB of texts at most, or one alone; and how
+/// The messages that are held for the next call: 4,000 at most, with 8 MB of texts at most, or one alone; and how
 /// many were done before them, with what became of those.
 #[derive(Drop)]
 pub(crate) struct Intake {
@@ -91,7 +91,7 @@ impl Intake {
         }
     }
 
-    /// Whether one transaction takes this message too.
+    /// Whether this message can be held too.
     pub(crate) fn has_room(&self, item: &OwnedItem) -> bool
         ensures { IsTrue result → IsSmall (self.now.held ++ item.now ∷ []) }
     {

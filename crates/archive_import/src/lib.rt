@@ -1,4 +1,4 @@
-//! Taking an mbox that is read piece by piece into a list, in the memory of one transaction and one piece.
+//! Taking an mbox that is read piece by piece into a list, in the memory of 8 MB of texts and one piece.
 #![tactic(auto)]
 
 mod importing;

@@ -108,12 +108,12 @@ fn refused<S: Alter>(rt: &impl Abort, alloc: Global, store: &mut Store<S>) -> Re
     Ok(())
 }
 
-/// More messages than one transaction takes, and then texts of more than 8 MB: all come in their order, as `import` takes
-/// them, and the same file brings none more.
+/// More messages than are held at once, and than one transaction takes: all come in their order, as `import` takes them, and
+/// the same file brings none more.
 fn batches<S: Alter>(rt: &impl Abort, alloc: Global, store: &mut Store<S>) -> Result<(), Fail> {
     store.list_add("many")?;
     let mut mbox = String::new(alloc);
-    for number in 0..1100 {
+    for number in 0..4100 {
         write!(
             mbox,
             "From a@b Tue Mar  4 10:00:00 2003\nSubject: {number}\n\ntext\n\n"
@@ -122,17 +122,17 @@ fn batches<S: Alter>(rt: &impl Abort, alloc: Global, store: &mut Store<S>) -> Re
     let mut input = Tap::new(alloc, mbox.as_bytes(), mbox.len() + 1)?;
     assert_eq!(rt;
         import_from(store, alloc, "many", &mut input),
-        Ok(report(1100, 0, 0))
+        Ok(report(4100, 0, 0))
     );
     assert_eq!(rt;
         import(store, alloc, "many", mbox.as_bytes()),
-        Ok(report(0, 1100, 0))
+        Ok(report(0, 4100, 0))
     );
     let rows = store.rows(alloc, "many")?;
     let last = rows.last().ok_or("a last message")?;
     assert_eq!(rt;
         last.item.as_item().text,
-        b"Subject: 1099\n\ntext\n".as_slice()
+        b"Subject: 4099\n\ntext\n".as_slice()
     );
     Ok(())
 }

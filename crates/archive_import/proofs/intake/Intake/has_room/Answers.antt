@@ -6,7 +6,7 @@ use Rattle.archive_import.proofs.intake.Intake.has_room.Goals as goal
 
 pub returns-then-len-lt-MESSAGES_AT_ONCE : goal.returns-then-len-lt-MESSAGES_AT_ONCE
 returns-then-len-lt-MESSAGES_AT_ONCE c = λ fits.
-    let few : length c.self.inside.held.items < 500 = omega (arith, c.if-len-lt-MESSAGES_AT_ONCE.true, c.len.ensures) in
+    let few : length c.self.inside.held.items < 4000 = omega (arith, c.if-len-lt-MESSAGES_AT_ONCE.true, c.len.ensures) in
     let small : c.saturating_add.result ≤ 8388608 = grind (arith, nat_tests, fits) in
     subst (λ (s : IntakeState). IsSmall (s.held ++ c.args.item.now ∷ [])) c.self.view_is
     (small_more c.self.inside.held.items c.args.item.now c.self.inside.bytes c.saturating_add.result c.self.invariant.1 few
