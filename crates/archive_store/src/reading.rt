@@ -34,7 +34,7 @@ impl<S: Alter> Store<S> {
         Ok(read_names(alloc, &shown)?)
     }
 
-    /// How many messages a list holds. E4 where there is no such list. It reads the key of each.
+    /// How many messages a list holds. E4 where there is no such list. It reads the number of each.
     pub fn count(&mut self, list: &str) -> Result<usize, StoreFault>
         ensures answer { Answers S.Store (held_of self.old) (held_of self.new) result (λ a. list_refusal a list.now)
             (λ a count. count ≡ length (messages_in a list.now)) }

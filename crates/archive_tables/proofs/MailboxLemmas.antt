@@ -105,12 +105,9 @@ has_plain = (refl, refl)
 -- ---- how many a list has
 
 abbrev pub count_text : List ℕ
-count_text = codes "SELECT key FROM message WHERE list = ?1"
+count_text = codes "SELECT pos FROM message WHERE list = ?1"
 
-abbrev key_cell : List Term
-key_cell = col 1 3 ∷ []
-
-count_is : (command_of (understood archive_schema count_text) ≡ Select (record { lets = []; body = plain_query 8 of_list key_cell [] }) (codes "key" ∷ [])) × (reads_listing archive_schema count_text ≡ false)
+count_is : (command_of (understood archive_schema count_text) ≡ Select (record { lets = []; body = plain_query 8 of_list number_cell [] }) (codes "pos" ∷ [])) × (reads_listing archive_schema count_text ≡ false)
 unfolding understood everything
 count_is = (refl, refl)
 
@@ -136,17 +133,17 @@ module _ (old new : State) (list : List ℕ) {behind : Option Database} (k : IsH
       → (length rows ≡ length (filter (λ m. bytes_eq m.list list) (archive_of old).messages)) × IsTrue new.is_open × RestsOver behind old new
   count rows h =
       let params = Text list ∷ [] in
-      let picks = asked count_text 8 of_list key_cell [] _ count_is.0 count_plain count_is.1 (λ t. refl) params old new k rows h in (
-        count_wanted message_cells message_read message_back (plain_query 8 of_list key_cell []) params (λ m. bytes_eq m.list list) (has_list list) (old.now.trees 8) rows k.tables.messages picks,
-        (leaves count_text 8 of_list key_cell [] _ count_is.0 count_plain count_is.1 (λ t. refl) params old new k rows h).0.is_open,
-        asked_rests count_text 8 of_list key_cell [] _ count_is.0 count_plain count_is.1 (λ t. refl) params old new k rows h,
+      let picks = asked count_text 8 of_list number_cell [] _ count_is.0 count_plain count_is.1 (λ t. refl) params old new k rows h in (
+        count_wanted message_cells message_read message_back (plain_query 8 of_list number_cell []) params (λ m. bytes_eq m.list list) (has_list list) (old.now.trees 8) rows k.tables.messages picks,
+        (leaves count_text 8 of_list number_cell [] _ count_is.0 count_plain count_is.1 (λ t. refl) params old new k rows h).0.is_open,
+        asked_rests count_text 8 of_list number_cell [] _ count_is.0 count_plain count_is.1 (λ t. refl) params old new k rows h,
       )
 
   pub count_stays : (rows : List Row) → Shown count_text (Text list ∷ []) old new rows → StaysOver behind old new
-  count_stays rows h = asked_stays count_text 8 of_list key_cell [] _ count_is.0 count_plain count_is.1 (λ t. refl) (Text list ∷ []) old new k rows h
+  count_stays rows h = asked_stays count_text 8 of_list number_cell [] _ count_is.0 count_plain count_is.1 (λ t. refl) (Text list ∷ []) old new k rows h
 
   pub no_count : (e : Error) → FailsToQuery count_text (Text list ∷ []) old new e → RestsOver behind old new
-  no_count e h = refused_rests count_text 8 of_list key_cell [] _ count_is.0 count_plain count_is.1 (λ t. refl) (Text list ∷ []) old new k e h
+  no_count e h = refused_rests count_text 8 of_list number_cell [] _ count_is.0 count_plain count_is.1 (λ t. refl) (Text list ∷ []) old new k e h
 
   module _ (key : List ℕ) where
     pub one : (rows : List Row) → Shown one_text (Text list ∷ Text key ∷ []) old new rows

@@ -70,7 +70,7 @@ pub fn message<S: Alter>(
     }
 }
 
-/// The marks of the message of the list and key. Its text is not read.
+/// The marks of the message of the list and key, without its text.
 pub fn marks<S: Alter>(
     conn: &mut Connection<S>,
     list: &str,
@@ -134,7 +134,7 @@ pub fn message_at<S: Alter>(
     }
 }
 
-/// How many messages the list has. It reads the key of each.
+/// How many messages the list has. It reads the number of each.
 pub fn count_messages<S: Alter>(conn: &mut Connection<S>, list: &str) -> Result<usize, Error>
     ensures found { Finds S.Store conn.old conn.new result (λ a count. count ≡ length (filter (λ m. bytes_eq m.list list.now) a.messages)) }
     ensures held { AsksOver S.Store conn.old conn.new result (λ a count. count ≡ length (filter (λ m. bytes_eq m.list list.now) a.messages)) }
@@ -142,7 +142,7 @@ pub fn count_messages<S: Alter>(conn: &mut Connection<S>, list: &str) -> Result<
     ensures up { IsUp S.Store conn.old conn.new result }
     ensures clean { WasClean S.Store conn.old conn.new }
 {
-    let rows = conn.query_all("SELECT key FROM message WHERE list = ?1", params![list])?;
+    let rows = conn.query_all("SELECT pos FROM message WHERE list = ?1", params![list])?;
     Ok(rows.len())
 }
 
