@@ -15,12 +15,14 @@
 #
 # A file has to come whole: write it beside under another name, and rename it. After a crash begin again: a command that
 # is carried out twice is refused the second time or changes nothing, and a message that is there is known.
-# The script ends where `serve` is refused (policy.toml is no policy, the port is taken); the reason is on standard error.
+# The script ends with status 1 where `serve` is refused (policy.toml is no policy, the port is taken), and where a command
+# could do better another time: the database is locked by another program or damaged, memory is wanted, the program is
+# not there. The reason is on standard error. What was to be done stays where it lies, for the next beginning.
 # Backups: copy FOLDER between two rounds, or what `sqlite3 archive.db ".backup FILE"` makes while none runs.
 set -u
 umask 077 # the database holds tokens
 
-archive=${ARCHIVE:-$(dirname -- "$(readlink -f -- "$0")")/../archive} # the program
+archive=$(readlink -f -- "${ARCHIVE:-$(dirname -- "$(readlink -f -- "$0")")/../archive}") # the program
 count=${COUNT:-1000}                                                 # connections of a round, at most
 pause=${PAUSE:-5}                                                    # seconds between two looks at the folder
 
@@ -28,12 +30,23 @@ folder=${1:?the folder of the archive is to be given}
 port=${2:-8080}
 cd -- "$folder" || exit 1
 
-# runs a command, and writes it down with what it said
+# whether a command with this status and last line would come to the same if it were carried out again
+is_settled() {
+  case "$1 $2" in
+    '0 '* | '2 '*) return 0 ;;
+    '1 archive: E14 '* | '1 archive: E15 '* | '1 archive: M3 '* | '1 archive: F5 '*) return 1 ;;
+    '1 archive: '[EFM][0-9]*) return 0 ;;
+    *) return 1 ;;
+  esac
+}
+
+# runs a command, and writes it down with what it said; where that settles nothing, the script ends
 run() {
   local said status
   said=$("$archive" "$@" 2>&1 < /dev/null)
   status=$?
   printf '%s %s: %s\n' "$(date -u +%Y-%m-%dT%H:%M:%SZ)" "$*" "$said" >> log
+  is_settled "$status" "${said##*$'\n'}" || { printf 'keep.sh: %s: %s\n' "$*" "$said" >&2; exit 1; }
   return "$status"
 }
 
@@ -94,7 +107,7 @@ serve() {
 
 # stopped, it stops the server too, which writes nothing: no more than the reply under way is lost
 server=
-trap '[ -z "$server" ] || kill "$server" 2> /dev/null; exit 0' INT TERM
+trap '[ -z "$server" ] || { kill "$server" 2> /dev/null; wait "$server" 2> /dev/null; }; exit 0' INT TERM
 
 while :; do
   carry_out
