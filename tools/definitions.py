@@ -12,11 +12,11 @@ HEADER = re.compile(r"^\s*pub fn (\w+).*?^\s*\{", re.M | re.S)
 
 
 def imports(text):
-    """Returns the crate and module of each name that a file imports from the specs of a crate of the repository."""
+    """Returns the crate and module, and the name there, of each name that a file imports from the specs of a crate of the repository."""
     found = {}
     for crate, module, names in IMPORT.findall(text):
         if crate in OWN and not module.startswith(("declared.", "contracts.")):
-            found.update({name.strip().split(" as ")[-1]: f"{crate}::{module}" for name in names.split(",")})
+            found.update({name.split(" as ")[-1].strip(): (f"{crate}::{module}", name.split(" as ")[0].strip()) for name in names.split(",")})
     return found
 
 
@@ -34,7 +34,8 @@ def cited():
         for header in HEADER.finditer(text):
             words = set(re.findall(r"[A-Za-z_][\w'-]*", clauses(header[0])))
             for name in words & set(names):
-                found[names[name]].add(name)
+                where, own = names[name]
+                found[where].add(own)
     return found
 
 

@@ -33,9 +33,10 @@ def version():
 
 def commit():
     """Returns what picks every tenth crate: the commit, or what the repository's list of crates holds where there is no history."""
-    ran = subprocess.run(["git", "rev-parse", "HEAD"], capture_output=True, text=True)
-    if ran.returncode == 0:
-        return ran.stdout.strip()
+    try:
+        return subprocess.run(["git", "rev-parse", "HEAD"], capture_output=True, text=True, check=True).stdout.strip()
+    except (OSError, subprocess.CalledProcessError):
+        pass
     with open("crates.txt", "rb") as it:
         return hashlib.sha256(it.read()).hexdigest()
 

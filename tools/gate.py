@@ -71,8 +71,10 @@ def out_of_layout(rt):
 
 def alone(rt, names, counts):
     """Tries every wrong body of these crates, or of all, and writes down which crates had all of theirs refused."""
-    record, status = due.Record(), 0
-    for crate in rt.rtlib.crates_below(os.getcwd()):
+    record, status, crates = due.Record(), 0, rt.rtlib.crates_below(os.getcwd())
+    if unknown := set(names) - {it.name for it in crates}:
+        sys.exit(f"check: no crate is named {', '.join(sorted(unknown))}")
+    for crate in crates:
         if not rt.edits_of(crate)[0] or names and crate.name not in names:
             continue
         failed = rt.edits_alone([crate.name])
