@@ -35,7 +35,7 @@ pub struct ImportStop {
 /// Why an import stopped. It prints its number and its name.
 #[derive(Clone, Copy, Debug, PartialEq, Eq, Drop)]
 pub enum ImportFault {
-    /// M1: the file is no mbox.
+    /// M1: the file is no mbox. Of one that is read piece by piece also M2 and M3: a read failed, or no memory was left.
     Mbox(MboxFault),
     /// E4: there is no such list. E12: the list holds 50,000 messages, and the next is not on it. E14, E15.
     Store(StoreFault),

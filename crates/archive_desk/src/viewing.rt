@@ -1,4 +1,4 @@
-//! The view: the one place where the policy is applied.
+//! The view: the messages of a list that the policy allows the reader.
 ghost use Rattle.std.specs.Prelude.{◌≡◌, map, filter, IfErr};
 ghost use Rattle.archive_machine.specs.Questions.{messages_in};
 ghost use Rattle.archive_machine.specs.Messages.{remembered};

@@ -226,7 +226,7 @@ pub const DATABASE: &str = "The file of the database";
 
 pub const NAME: &str = "A name: 1 to 40 of a to z, 0 to 9 and -, beginning with a letter";
 
-pub const TOKEN: &str = "A token (RFC 6750): 16 to 64 letters, digits or -._~+/, then any =";
+pub const TOKEN: &str = "A token (RFC 6750): 16 to 64 bytes, letters, digits or -._~+/, then any =";
 
 pub const PERSON: &str = "The person's name";
 
