@@ -2,28 +2,22 @@
 and of every tenth other crate, picked by the commit, so that no record is believed for long.
 
 The record stands in `tools/refused.txt`, a line for each crate: its name, and the digest of its text and of the toolchain's
-version. `./check --wrong-bodies` tries all, and writes the record of the crates whose wrong bodies were all refused.
+version.
 """
-import hashlib, os, subprocess
+import hashlib, subprocess
 
-RECORD = "tools/refused.txt"
+import part
+
+RECORD = part.ROOT / "tools" / "refused.txt"
 PARTS = ("src", "specs", "proofs", "must-fail")
 TENTH = 10
 
 
-def files(folder):
-    for at, folders, names in os.walk(folder):
-        folders[:] = sorted(it for it in folders if it != "out")
-        yield from (f"{at}/{it}" for it in sorted(names))
-
-
-def digest(folder, version):
+def digest(name, version):
     """Returns the digest of a crate's text, by the toolchain of this version."""
-    own = hashlib.sha256(version.encode())
-    for part in PARTS:
-        for file in files(f"{folder}/{part}"):
-            with open(file, "rb") as it:
-                own.update(repr((os.path.relpath(file, folder), it.read())).encode())
+    own, folder = hashlib.sha256(version.encode()), part.CRATES / name
+    for file in sorted(it for of in PARTS for it in (folder / of).rglob("*") if it.is_file()):
+        own.update(repr((str(file.relative_to(folder)), file.read_bytes())).encode())
     return own.hexdigest()
 
 
@@ -34,11 +28,9 @@ def version():
 def commit():
     """Returns what picks every tenth crate: the commit, or what the repository's list of crates holds where there is no history."""
     try:
-        return subprocess.run(["git", "rev-parse", "HEAD"], capture_output=True, text=True, check=True).stdout.strip()
+        return subprocess.run(["git", "rev-parse", "HEAD"], cwd=part.ROOT, capture_output=True, text=True, check=True).stdout.strip()
     except (OSError, subprocess.CalledProcessError):
-        pass
-    with open("crates.txt", "rb") as it:
-        return hashlib.sha256(it.read()).hexdigest()
+        return hashlib.sha256((part.ROOT / "crates.txt").read_bytes()).hexdigest()
 
 
 def is_picked(name, by):
@@ -46,21 +38,21 @@ def is_picked(name, by):
 
 
 class Record:
-    """The digests of the record, and which of them were found wrong or right in this run."""
+    """The digests of the record."""
 
     def __init__(self):
-        self.version, self.commit, self.known = version(), commit(), {}
-        if os.path.isfile(RECORD):
-            with open(RECORD, encoding="utf-8") as it:
-                self.known = dict(line.split() for line in it if line.strip())
+        self.version, self.commit = version(), commit()
+        found = RECORD.read_text(encoding="utf-8").splitlines() if RECORD.is_file() else []
+        self.known = dict(line.split() for line in found if line.strip())
 
-    def is_due(self, crate):
-        return self.known.get(crate.name) != digest(crate.folder, self.version) or is_picked(crate.name, self.commit)
+    def is_due(self, name):
+        return self.known.get(name) != digest(name, self.version) or is_picked(name, self.commit)
 
-    def note(self, crate, all_refused):
-        """Keeps or drops a crate's line in the record."""
-        self.known.pop(crate.name, None)
+    def note(self, name, all_refused):
+        """Keeps or drops a crate's line."""
+        self.known.pop(name, None)
         if all_refused:
-            self.known[crate.name] = digest(crate.folder, self.version)
-        with open(RECORD, "w", encoding="utf-8") as it:
-            it.writelines(f"{name} {text}\n" for name, text in sorted(self.known.items()))
+            self.known[name] = digest(name, self.version)
+
+    def write(self):
+        RECORD.write_text("".join(f"{name} {text}\n" for name, text in sorted(self.known.items())), encoding="utf-8")

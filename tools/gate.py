@@ -1,114 +1,99 @@
 #!/usr/bin/env python3
-"""The gate: the toolchain's own `rt ci`, with its wrong bodies tried many in one check.
+"""The gate: the toolchain's own `rt ci`, on a copy of the repository that lacks the wrong bodies that are not due (`due.py`).
 
-`rt ci` proves each crate from nothing, proves and runs its tests and programs, and tries each must-fail edit in a check of
-its own. Here its call `must_fail_all` is replaced by `wrong_bodies.try_all`; the order of work, the lanes side by side, the
-proofs, the runs and the count at the end are rt's.
+  gate.py [--all] [--anew] [--record]
 
-Of the wrong bodies it tries those that are due (`due.py`), and says which it leaves.
+  --all      every wrong body is due
+  --anew     nothing counts that an earlier run on this machine passed
+  --record   writes tools/refused.txt: of which crates all wrong bodies were refused, over which text
 
-  gate.py                         the gate, at the top of the repository
-  gate.py --every                 the same, with every wrong body
-  gate.py --wrong-bodies [NAME..] the wrong bodies alone, each of these crates or of all, over the libraries that earlier checks
-                                  built; it writes the record of those that were all refused
+The last line is 'N passed, M failed', as `rt ci` counts, but that a wrong body that shows nothing has failed.
 """
-import os, re, resource, sys, threading
+import collections, filecmp, re, resource, subprocess, sys
 
-import due, toolchain, wrong_bodies
+import due, part
 
-# The most that a check was seen to take, but for that of `archive`, which takes six: then others beside it take less.
-CHECK_BYTES = 5_000_000_000
-# What of rt is used here and in wrong_bodies.
-NAMES = ("ci", "edits_alone", "edits_of", "must_fail", "must_fail_all", "read_edit", "unread", "checked", "processors", "free", "rtlib")
-
-
-def remember_checks(rt):
-    """Has rt remember, for each thread, what the last check said."""
-    checked, rt.heard = rt.checked, threading.local()
-
-    def remembered(*words, **how):
-        ran = checked(*words, **how)
-        rt.heard.stdout = ran.stdout
-        return ran
-
-    rt.checked = remembered
+COUNT = re.compile(r"(\d+) passed, (\d+) failed")
+EDIT = re.compile(r"rt: must-fail (\w+)/(\S+\.edit): (refused, as it must be.*|[A-Z]+.*)")
+# What a refused edit says where the prover did not refuse what it does.
+SHOWS_NOTHING = re.compile(r"borrow checker does not cover|says (little|less) of the contract|BAD EDIT")
 
 
-def lanes(rt):
-    """Returns how many checks run side by side, as rt reads it of RT_JOBS: each then has one job, which takes the fewest processor minutes."""
-    return max(1, min(rt.processors(), rt.free() // CHECK_BYTES))
+class Heard:
+    """What `rt ci` said: its count, and of each wrong body whether it was refused for what it does."""
+
+    def __init__(self):
+        self.passed, self.failed, self.edits, self.last = 0, 1, {}, None
+
+    def hear(self, line):
+        # (the last line is its count, which comes with what is said here)
+        if self.last is not None:
+            print(self.last, flush=True)
+        self.last = line
+        if found := EDIT.match(line):
+            name, edit, said = found.groups()
+            self.edits[name, edit] = said, said.startswith("refused") and not SHOWS_NOTHING.search(said)
+
+    def end(self, status):
+        """Takes the count out of the last line, and a run that failed for one that failed."""
+        if found := COUNT.fullmatch(self.last or ""):
+            self.passed, self.failed = int(found[1]), max(int(found[2]), status != 0)
+        elif self.last is not None:
+            print(self.last)
+
+    def refused_of(self, name):
+        return sum(well for (crate, _), (_, well) in self.edits.items() if crate == name)
+
+    def show_nothing(self):
+        """Returns the wrong bodies that show nothing, and how many of them `rt ci` counts as passed. The others it does not count."""
+        found = [f"{name}/{edit}" for (name, edit), (said, _) in self.edits.items() if SHOWS_NOTHING.search(said)]
+        counted = [it for it, (said, _) in self.edits.items() if SHOWS_NOTHING.search(said) and said.startswith("refused")]
+        return found, len(counted)
 
 
-def summary(counts):
-    """Returns what was tried, and what all of it took."""
+def edits_of(name):
+    return sorted((part.CRATES / name / "must-fail").glob("*.edit"))
+
+
+def out_of_layout(top, names):
+    """Returns the crates of which `rt fmt` changes a file. `rt ci` would refuse each, but only once it is the crate's turn."""
+    for name in names:
+        subprocess.run(["rt", "fmt"], cwd=top / "crates" / name, stdout=subprocess.DEVNULL, check=False)
+    texts = [it for it in part.CRATES.glob("*/*/**/*") if it.suffix in (".rt", ".antt") and it.relative_to(part.CRATES).parts[1] != "out"]
+    changed = [it for it in texts if not filecmp.cmp(it, top / it.relative_to(part.ROOT), shallow=False)]
+    return sorted({it.relative_to(part.CRATES).parts[0] for it in changed})
+
+
+def tell(heard, left):
+    """Says what was tried and left, what it took, and the count."""
+    for name, count in left.items():
+        print(f"check: left the {count} wrong bodies of {name}, whose text is as recorded")
     used = resource.getrusage(resource.RUSAGE_CHILDREN)
-    minutes = (used.ru_utime + used.ru_stime) / 60
-    return (
-        f"check: tried {counts.edits} wrong bodies in {counts.checks} checks, {counts.alone} of them alone\n"
-        f"check: {minutes:.0f} processor minutes"
-    )
-
-
-def leave_what_is_not_due(rt):
-    """Has rt see no edits of the crates whose wrong bodies are not due, and returns how many were left, by crate."""
-    record, found, left = due.Record(), rt.edits_of, {}
-
-    def edits_of(crate):
-        good, bad = found(crate)
-        if good and not record.is_due(crate):
-            left[crate.name] = len(good)
-            return [], bad
-        return good, bad
-
-    rt.edits_of = edits_of
-    return left
-
-
-def out_of_layout(rt):
-    """Returns the crates that want `rt fmt`, each of which rt would refuse, but only once it is the crate's turn."""
-    return [it.name for it in rt.rtlib.crates_below(os.getcwd()) if rt.rtlib.fmt(it.folder, "--check", sys.stdout)]
-
-
-def alone(rt, names, counts):
-    """Tries every wrong body of these crates, or of all, and writes down which crates had all of theirs refused."""
-    record, status, crates = due.Record(), 0, rt.rtlib.crates_below(os.getcwd())
-    if unknown := set(names) - {it.name for it in crates}:
-        sys.exit(f"check: no crate is named {', '.join(sorted(unknown))}")
-    for crate in crates:
-        if not rt.edits_of(crate)[0] or names and crate.name not in names:
-            continue
-        failed = rt.edits_alone([crate.name])
-        record.note(crate, not failed)
-        status = status or failed
-    print(summary(counts))
-    return status
+    nothing, counted = heard.show_nothing()
+    for it in nothing:
+        print(f"check: {it} SHOWS NOTHING of a contract: change a value, and keep the names")
+    print(f"check: {len(heard.edits)} wrong bodies tried or kept; {(used.ru_utime + used.ru_stime) / 60:.0f} processor minutes")
+    failed = heard.failed + len(nothing)
+    print(f"{heard.passed - counted} passed, {failed} failed")
+    return 1 if failed else 0
 
 
 def main(words):
-    rt, counts, left = toolchain.load_rt(NAMES, "run ./check --all\n0 passed, 1 failed"), wrong_bodies.Counts(), {}
-    rt.must_fail_all = lambda crate, edits, flags: wrong_bodies.try_all(rt, crate, edits, counts)
-
-    def say(*texts, **how):
-        # (the count of the whole run comes last)
-        if texts and re.fullmatch(r"\d+ passed, \d+ failed", str(texts[0])):
-            for name, count in sorted(left.items()):
-                print(f"check: left the {count} wrong bodies of {name}, whose text is as recorded")
-            print(summary(counts))
-        print(*texts, **how)
-
-    rt.print = say
-    remember_checks(rt)
-    os.environ.setdefault("RT_JOBS", str(lanes(rt)))
-    if words[:1] == ["--wrong-bodies"]:
-        return alone(rt, words[1:], counts)
-    if words == []:
-        left = leave_what_is_not_due(rt)
-    elif words != ["--every"]:
-        sys.exit(__doc__)
-    if wanting := out_of_layout(rt):
-        print(f"check: run rt fmt in {', '.join(wanting)}\n0 passed, {len(wanting)} failed")
-        return 1
-    return rt.ci()
+    if unknown := {*words} - {"--all", "--anew", "--record"}:
+        sys.exit(f"check: unknown: {' '.join(sorted(unknown))}\n{__doc__}")
+    record, names, heard = due.Record(), [*part.lines()], Heard()
+    counts = {it: len(edits_of(it)) for it in names if edits_of(it)}
+    left = {} if "--all" in words else {it: count for it, count in counts.items() if not record.is_due(it)}
+    with part.copied(names, {*counts} - {*left}) as top:
+        if wanting := out_of_layout(top, names):
+            print(f"check: run rt fmt in {', '.join(wanting)}\n0 passed, {len(wanting)} failed")
+            return 1
+        heard.end(part.run_ci(top, ["--anew"] if "--anew" in words else [], heard.hear))
+    if "--record" in words:
+        for name in {*counts} - {*left}:
+            record.note(name, heard.refused_of(name) == counts[name])
+        record.write()
+    return tell(heard, left)
 
 
 if __name__ == "__main__":
