@@ -1,0 +1,5 @@
+use Rattle.archive_usage.proofs.CommandLemmas.{with_subcommand_added}
+use Rattle.archive_usage.proofs.building.with_command.Goals as goal
+
+pub returns : goal.returns
+returns c = with_subcommand_added c.in_ok-more.ensures
