@@ -7,20 +7,20 @@
   --anew     nothing counts that an earlier run on this machine passed
   --record   writes tools/refused.txt: of which crates all wrong bodies were refused, over which text
 
-The last line is 'N passed, M failed', as `rt ci` counts, but that a wrong body that shows nothing has failed.
+The last line is 'N passed, M failed', as `rt ci` counts, but that a wrong body that cannot be applied has failed.
 """
-import collections, filecmp, re, resource, subprocess, sys
+import filecmp, re, resource, subprocess, sys
 
 import due, part
 
 COUNT = re.compile(r"(\d+) passed, (\d+) failed")
 EDIT = re.compile(r"rt: must-fail (\w+)/(\S+\.edit): (refused, as it must be.*|[A-Z]+.*)")
 # What a refused edit says where the prover did not refuse what it does.
-SHOWS_NOTHING = re.compile(r"borrow checker does not cover|says (little|less) of the contract|BAD EDIT")
+SHOWS_LITTLE = re.compile(r"borrow checker does not cover|says (little|less) of the contract")
 
 
 class Heard:
-    """What `rt ci` said: its count, and of each wrong body whether it was refused for what it does."""
+    """What `rt ci` said: its count, and what came of each wrong body."""
 
     def __init__(self):
         self.passed, self.failed, self.edits, self.last = 0, 1, {}, None
@@ -31,8 +31,7 @@ class Heard:
             print(self.last, flush=True)
         self.last = line
         if found := EDIT.match(line):
-            name, edit, said = found.groups()
-            self.edits[name, edit] = said, said.startswith("refused") and not SHOWS_NOTHING.search(said)
+            self.edits[found[1], found[2]] = found[3]
 
     def end(self, status):
         """Takes the count out of the last line, and a run that failed for one that failed."""
@@ -41,14 +40,13 @@ class Heard:
         elif self.last is not None:
             print(self.last)
 
-    def refused_of(self, name):
-        return sum(well for (crate, _), (_, well) in self.edits.items() if crate == name)
+    def that_say(self, words):
+        """Returns the wrong bodies of which this was said."""
+        return [f"{name}/{edit}" for (name, edit), said in self.edits.items() if re.search(words, said)]
 
-    def show_nothing(self):
-        """Returns the wrong bodies that show nothing, and how many of them `rt ci` counts as passed. The others it does not count."""
-        found = [f"{name}/{edit}" for (name, edit), (said, _) in self.edits.items() if SHOWS_NOTHING.search(said)]
-        counted = [it for it, (said, _) in self.edits.items() if SHOWS_NOTHING.search(said) and said.startswith("refused")]
-        return found, len(counted)
+    def refused_of(self, name):
+        """Returns how many wrong bodies of a crate were refused for what they do."""
+        return sum(it[0] == name and said.startswith("refused") and not SHOWS_LITTLE.search(said) for it, said in self.edits.items())
 
 
 def edits_of(name):
@@ -69,13 +67,13 @@ def tell(heard, left):
     for name, count in left.items():
         print(f"check: left the {count} wrong bodies of {name}, whose text is as recorded")
     used = resource.getrusage(resource.RUSAGE_CHILDREN)
-    nothing, counted = heard.show_nothing()
-    for it in nothing:
-        print(f"check: {it} SHOWS NOTHING of a contract: change a value, and keep the names")
+    for it in heard.that_say(SHOWS_LITTLE):
+        print(f"check: {it} shows little of a contract: change a value, and keep the names")
+    # (these rt ci passes over)
+    bad = heard.that_say("^BAD EDIT")
     print(f"check: {len(heard.edits)} wrong bodies tried or kept; {(used.ru_utime + used.ru_stime) / 60:.0f} processor minutes")
-    failed = heard.failed + len(nothing)
-    print(f"{heard.passed - counted} passed, {failed} failed")
-    return 1 if failed else 0
+    print(f"{heard.passed} passed, {heard.failed + len(bad)} failed")
+    return 1 if heard.failed + len(bad) else 0
 
 
 def main(words):
