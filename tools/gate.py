@@ -62,7 +62,7 @@ def out_of_layout(top, names):
     return sorted({it.relative_to(part.CRATES).parts[0] for it in changed})
 
 
-def tell(heard, left):
+def tell(heard, left, due_count):
     """Says what was tried and left, what it took, and the count."""
     for name, count in left.items():
         print(f"check: left the {count} wrong bodies of {name}, whose text is as recorded")
@@ -71,6 +71,10 @@ def tell(heard, left):
         print(f"check: {it} shows little of a contract: change a value, and keep the names")
     # (these rt ci passes over)
     bad = heard.that_say("^BAD EDIT")
+    # (where rt ci's words are others than these here, nothing is heard of them)
+    if not heard.failed and len(heard.edits) != due_count:
+        print(f"check: of {due_count} wrong bodies that are due {len(heard.edits)} were heard of")
+        heard.failed = 1
     print(f"check: {len(heard.edits)} wrong bodies tried or kept; {(used.ru_utime + used.ru_stime) / 60:.0f} processor minutes")
     print(f"{heard.passed} passed, {heard.failed + len(bad)} failed")
     return 1 if heard.failed + len(bad) else 0
@@ -91,7 +95,7 @@ def main(words):
         for name in {*counts} - {*left}:
             record.note(name, heard.refused_of(name) == counts[name])
         record.write()
-    return tell(heard, left)
+    return tell(heard, left, sum(counts.values()) - sum(left.values()))
 
 
 if __name__ == "__main__":
