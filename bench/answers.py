@@ -3,14 +3,14 @@
 
   bench/answers.py [--messages 10000] [--rounds 3] [--probe PROGRAM] [--folder FOLDER]
 
-Makes an mbox (bench/gen_mbox.py), which the program crates/pages_probe imports
+Makes an mbox (bench/gen_mbox.py), which the program crates/archive_probe imports
 in memory, and then into a new file. Over each it answers requests without
 sockets: for the message in the middle of the list, its month, its thread, all
 threads and the mbox, where all may be seen; and in the same run it asks the
 desk for the same. At least 20,000 messages a second in memory are asked for,
 and of each other request at most 1.5 times its question. Last it writes the
 page of all threads alone, from rows that are there.
-Build the program first: (cd crates/pages_probe && rt run < stdin).
+Build the program first: (cd crates/archive_probe && rt run < stdin).
 """
 import argparse, os, pathlib, subprocess, sys, tempfile
 
@@ -41,17 +41,17 @@ def main():
     words.add_argument("--messages", type=int, default=10000)
     words.add_argument("--rounds", type=int, default=3)
     words.add_argument("--folder", help="where the files are made [default: a new one in the system's place for them]")
-    words.add_argument("--probe", default=str(ROOT / "crates" / "pages_probe" / "out" / "pages_probe"))
+    words.add_argument("--probe", default=str(ROOT / "crates" / "archive_probe" / "out" / "archive_probe"))
     asked = words.parse_args()
     if not os.access(asked.probe, os.X_OK):
-        sys.exit(f"{asked.probe} is not there: (cd crates/pages_probe && rt run < stdin) builds it")
+        sys.exit(f"{asked.probe} is not there: (cd crates/archive_probe && rt run < stdin) builds it")
     with tempfile.TemporaryDirectory(dir=asked.folder) as folder:
         mbox = os.path.join(folder, "list.mbox")
         made = [sys.executable, str(ROOT / "bench" / "gen_mbox.py"), "--n", str(asked.messages), "--out", mbox]
         subprocess.run(made, check=True, stderr=subprocess.DEVNULL)
         print(f"{asked.messages} messages, {os.path.getsize(mbox) / 1e6:.0f} MB, best of {asked.rounds} rounds")
-        show("memory", told(asked.probe, mbox, asked.rounds))
-        show("file", told(asked.probe, mbox, asked.rounds, os.path.join(folder, "pages.db")))
+        show("memory", told(asked.probe, mbox, "pages", ":memory:", asked.rounds))
+        show("file", told(asked.probe, mbox, "pages", os.path.join(folder, "pages.db"), asked.rounds))
 
 
 main()

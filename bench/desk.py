@@ -4,7 +4,7 @@
   bench/desk.py [--messages 10000 50000] [--rounds 3] [--probe PROGRAM] [--folder FOLDER]
 
 For each number of messages it makes an mbox (bench/gen_mbox.py), and imports
-it into a new file by the program crates/desk_probe and once more, and by
+it into a new file by the program crates/archive_probe and once more, and by
 Python's sqlite3, which is given the messages cut: the same tables, SHA-256,
 WAL, synchronous=FULL, a transaction for each 500 messages or 8 MB. The times
 are of the imports alone. Then the program reads all rows, and asks for the
@@ -13,7 +13,7 @@ export, where all may be seen. It prints ratios: at most 2 is asked for the
 import, 1.5 for the second over the first, and 1.3 for each question over the
 rows, the threading itself taken off. Memory is what the system counts of the
 program at most.
-Build the program first: (cd crates/desk_probe && rt run < stdin).
+Build the program first: (cd crates/archive_probe && rt run < stdin).
 """
 import argparse, hashlib, os, pathlib, sqlite3, subprocess, sys, tempfile, time
 import gen_mbox
@@ -118,7 +118,7 @@ def measure(asked, folder, count):
     print(f"import: {first / 1e9:8.2f} s, stock {stock / 1e9:8.2f} s, ratio {first / stock:5.2f}")
     print(f"again:  {second / 1e9:8.2f} s, over the first        {second / first:5.2f}")
     print(f"memory of both imports: {max(it[3] for it in rounds):.0f} MB")
-    told, memory = probe(asked.probe, "ask", os.path.join(folder, "ours-0.db"), asked.rounds)
+    told, memory = probe(asked.probe, "desk", os.path.join(folder, "ours-0.db"), asked.rounds)
     *told, threading = told
     rows = told[0]
     for name, took in zip(QUESTIONS, told):
@@ -134,10 +134,10 @@ def main():
     words.add_argument("--messages", type=int, nargs="+", default=[10000, 50000])
     words.add_argument("--rounds", type=int, default=3)
     words.add_argument("--folder", help="where the files are made [default: a new one in the system's place for them]")
-    words.add_argument("--probe", default=str(ROOT / "crates" / "desk_probe" / "out" / "desk_probe"))
+    words.add_argument("--probe", default=str(ROOT / "crates" / "archive_probe" / "out" / "archive_probe"))
     asked = words.parse_args()
     if not os.access(asked.probe, os.X_OK):
-        sys.exit(f"{asked.probe} is not there: (cd crates/desk_probe && rt run < stdin) builds it")
+        sys.exit(f"{asked.probe} is not there: (cd crates/archive_probe && rt run < stdin) builds it")
     with tempfile.TemporaryDirectory(dir=asked.folder) as folder:
         for count in asked.messages:
             measure(asked, folder, count)

@@ -4,7 +4,7 @@
   bench/store.py [--messages 20000] [--bytes 3000] [--rounds 3] [--probe PROGRAM] [--folder FOLDER]
 
 Adds --messages messages of --bytes bytes to one list of a new file, by the
-program crates/store_probe and by Python's sqlite3 (the same tables, WAL,
+program crates/archive_probe and by Python's sqlite3 (the same tables, WAL,
 synchronous=FULL, foreign keys on), in turn: each in a transaction of its own,
 and in another file in transactions of 500. Then both ask for each message by
 its key, far from the one before, and read all rows in order; the program also
@@ -18,7 +18,7 @@ Then it times, in new files, a thousand messages added to a list that holds
 1,000 and to one that holds 49,000, and a hundred added where two lists hold
 49,000 together and where they hold 52,100, each by `add`, which counts its
 list there, and by `add_counted`, which is told. It prints ratios, and what is
-asked for beside them. Build the program first: (cd crates/store_probe && rt run).
+asked for beside them. Build the program first: (cd crates/archive_probe && rt run < stdin).
 """
 import argparse, hashlib, os, pathlib, re, sqlite3, subprocess, sys, tempfile, time
 
@@ -191,10 +191,10 @@ def main():
     words.add_argument("--bytes", type=int, default=3000)
     words.add_argument("--rounds", type=int, default=3)
     words.add_argument("--folder", help="where the files are made [default: a new one in the system's place for them]")
-    words.add_argument("--probe", default=str(ROOT / "crates" / "store_probe" / "out" / "store_probe"))
+    words.add_argument("--probe", default=str(ROOT / "crates" / "archive_probe" / "out" / "archive_probe"))
     asked = words.parse_args()
     if not os.access(asked.probe, os.X_OK):
-        sys.exit(f"{asked.probe} is not there: (cd crates/store_probe && rt run) builds it")
+        sys.exit(f"{asked.probe} is not there: (cd crates/archive_probe && rt run < stdin) builds it")
     with tempfile.TemporaryDirectory(dir=asked.folder) as folder:
         rounds = [compare(asked, folder, round) for round in range(asked.rounds)]
         took = {call: min(each[call] for each in rounds) for call in rounds[0]}

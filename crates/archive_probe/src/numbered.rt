@@ -1,7 +1,4 @@
-//! Fills the tables of a file, asks them, and times both, for the benchmark `bench/store.py`.
-//!
-//! Without words it adds a hundred messages in memory and prints how many it reads back. Else the words are a call, a file
-//! and numbers, and it prints nanoseconds, one number on each line:
+//! Messages whose texts are numbers, and how long a store takes for them. The calls are:
 //!
 //! - `fill FILE COUNT BYTES` adds so many messages of so many bytes to a list of a new file, each by itself;
 //! - `batch FILE COUNT BYTES` adds them in one call;
@@ -11,18 +8,14 @@
 //! - `grow FILE BYTES` adds a thousand messages to a list of 1,000 and to one of 49,000, in a new file;
 //! - `lists FILE BYTES` adds a hundred messages to a list of 25,000 beside another of 24,000, and, where there are 27,000
 //!   in the other, a hundred more, and another hundred to the list counted before, in a new file.
-#![tactic(auto)]
-
+use crate::{LIST, tell};
 use anyhow::bail;
-use archive_store::{AddStop, AdoptStop, Key, Store, key_of};
+use archive_store::{AddStop, Key, Store, key_of};
 use mbox_core::{Item, separator};
-use sqlite::{Alter, Connection, File, FileStore};
+use sqlite::Alter;
 use std::alloc::Global;
-use std::env;
 use std::ops::Range;
-use std::time::{Duration, Instant};
-
-const LIST: &str = "soc";
+use std::time::Instant;
 
 const OTHER_LIST: &str = "dev";
 
@@ -33,7 +26,7 @@ const STRIDE: usize = 7919;
 
 /// What to time. A file's list has so many messages of so many bytes.
 #[derive(Clone, Copy)]
-enum Work {
+pub enum Call {
     Fill { count: u32, size: usize },
     Batch { count: u32, size: usize },
     Ask { count: u32, size: usize },
@@ -265,97 +258,70 @@ fn time_lists<S: Alter>(rt: &HostRuntime, store: &mut Store<S>, size: usize) -> 
     time_counted(rt, store, 25_200..25_300, size)
 }
 
-fn carry_out<S: Alter>(rt: &HostRuntime, store: &mut Store<S>, work: &Work) -> anyhow::Result<()> {
-    match *work {
-        Work::Ask { count, size } => time_asking(rt, store, count, size),
-        Work::Read => time_reading(rt, store),
-        Work::Walk => time_walking(rt, store),
-        Work::Open => Ok(()),
+/// Times a call.
+pub fn carry_out<S: Alter>(
+    rt: &HostRuntime,
+    store: &mut Store<S>,
+    call: Call,
+) -> anyhow::Result<()> {
+    match call {
+        Call::Ask { count, size } => time_asking(rt, store, count, size),
+        Call::Read => time_reading(rt, store),
+        Call::Walk => time_walking(rt, store),
+        Call::Open => Ok(()),
         _ => {
             store.list_add(LIST)?;
-            fill(rt, store, work)
+            fill(rt, store, call)
         }
     }
 }
 
-/// Work on a new list.
-fn fill<S: Alter>(rt: &HostRuntime, store: &mut Store<S>, work: &Work) -> anyhow::Result<()> {
-    match *work {
-        Work::Fill { count, size } => time_adding(rt, store, 0..count, size),
-        Work::Batch { count, size } => time_batches(rt, store, count, size),
-        Work::Grow { size } => time_growth(rt, store, size),
-        Work::Lists { size } => time_lists(rt, store, size),
+/// Times a call on a new list.
+fn fill<S: Alter>(rt: &HostRuntime, store: &mut Store<S>, call: Call) -> anyhow::Result<()> {
+    match call {
+        Call::Fill { count, size } => time_adding(rt, store, 0..count, size),
+        Call::Batch { count, size } => time_batches(rt, store, count, size),
+        Call::Grow { size } => time_growth(rt, store, size),
+        Call::Lists { size } => time_lists(rt, store, size),
         _ => Ok(()),
     }
 }
 
-fn open(rt: &HostRuntime, path: &str) -> anyhow::Result<Store<FileStore<File>>> {
-    match Store::adopt(Connection::open(rt, path)?) {
-        Ok(store) => Ok(store),
-        Err(AdoptStop { connection, fault }) => {
-            connection.close()?;
-            Err(fault.into())
-        }
-    }
-}
-
-fn work_on(rt: &HostRuntime, path: &str, work: &Work) -> anyhow::Result<()> {
-    let mut store = open(rt, path)?;
-    let done = carry_out(rt, &mut store, work);
-    store.into_connection().close()?;
-    done
-}
-
-/// Adds a hundred messages in memory, and prints how many are read back.
-fn sample(rt: &HostRuntime) -> anyhow::Result<()> {
+/// Adds a hundred messages to a new list, and prints how many are read back.
+pub fn show<S: Alter>(rt: &HostRuntime, store: &mut Store<S>) -> anyhow::Result<()> {
     let alloc = rt.alloc();
-    let mut store = Store::open_in_memory(alloc)?;
     store.list_add(LIST)?;
-    add_numbered(alloc, &mut store, LIST, 0..50, 100)?;
-    add_at_once(alloc, &mut store, LIST, 50..100, 100)?;
+    add_numbered(alloc, store, LIST, 0..50, 100)?;
+    add_at_once(alloc, store, LIST, 50..100, 100)?;
     let messages = store.rows(alloc, LIST)?;
     println!(rt; "{}", messages.len())?;
     Ok(())
 }
 
-fn tell(rt: &HostRuntime, took: Duration) -> anyhow::Result<()> {
-    println!(rt; "{}", took.as_nanos())?;
-    Ok(())
-}
-
-/// The work that a call and its numbers name.
-fn work_of(call: &str, numbers: &[String]) -> anyhow::Result<Work> {
-    match (call, numbers) {
-        ("read", []) => Ok(Work::Read),
-        ("walk", []) => Ok(Work::Walk),
-        ("open", []) => Ok(Work::Open),
-        ("grow", [size]) => Ok(Work::Grow {
+/// The call of a name and its numbers.
+pub fn call_of(name: &str, numbers: &[String]) -> anyhow::Result<Call> {
+    match (name, numbers) {
+        ("read", []) => Ok(Call::Read),
+        ("walk", []) => Ok(Call::Walk),
+        ("open", []) => Ok(Call::Open),
+        ("grow", [size]) => Ok(Call::Grow {
             size: size.parse()?,
         }),
-        ("lists", [size]) => Ok(Work::Lists {
+        ("lists", [size]) => Ok(Call::Lists {
             size: size.parse()?,
         }),
-        ("fill", [count, size]) => Ok(Work::Fill {
+        ("fill", [count, size]) => Ok(Call::Fill {
             count: count.parse()?,
             size: size.parse()?,
         }),
-        ("batch", [count, size]) => Ok(Work::Batch {
+        ("batch", [count, size]) => Ok(Call::Batch {
             count: count.parse()?,
             size: size.parse()?,
         }),
-        ("ask", [count, size]) => Ok(Work::Ask {
+        ("ask", [count, size]) => Ok(Call::Ask {
             count: count.parse()?,
             size: size.parse()?,
         }),
-        _ => bail!("words: CALL FILE and the call's numbers"),
-    }
-}
-
-fn main(rt: HostRuntime) -> anyhow::Result<()> {
-    let words: Vec<String> = env::args(&rt)?.collect(rt.alloc())?;
-    match words.as_slice() {
-        [_, call, path, numbers @ ..] => work_on(&rt, path, &work_of(call, numbers)?),
-        [_] => sample(&rt),
-        _ => bail!("words: CALL FILE and the call's numbers"),
+        _ => bail!("no such call, or not with so many numbers"),
     }
 }
