@@ -1,4 +1,5 @@
-//! What the desk answers, by worked cases over memory and over a file.
+//! What the desk answers, by worked cases over memory and over a file; mboxes that are read piece by piece into a list, by
+//! readers that give one byte at once, and by readers that fail; and imports over disks that stop, made again over what is left.
 #![tactic(auto)]
 
 #[cfg(test)]
@@ -9,9 +10,15 @@ pub mod chain;
 #[cfg(test)]
 mod exports;
 #[cfg(test)]
+mod files;
+#[cfg(test)]
 mod imports;
 #[cfg(test)]
 mod listings;
 #[cfg(test)]
 mod messages;
 pub mod noting;
+#[cfg(test)]
+mod stops;
+#[cfg(test)]
+mod streams;

@@ -1,6 +1,9 @@
-//! The replies to known requests, byte for byte.
+//! The replies to known requests, byte for byte, and the archive's pages over connections: peers of memory, some of which fail,
+//! and one on the loopback interface.
 #![tactic(auto)]
 
+#[cfg(test)]
+mod announced;
 #[cfg(test)]
 mod breaking;
 #[cfg(test)]
@@ -8,8 +11,16 @@ mod cases;
 #[cfg(test)]
 mod devices;
 #[cfg(test)]
+mod failing;
+#[cfg(test)]
 mod links;
 #[cfg(test)]
 mod pages;
 #[cfg(test)]
+mod peers;
+#[cfg(test)]
 mod requests;
+#[cfg(test)]
+mod serving;
+#[cfg(test)]
+mod sockets;

@@ -1,4 +1,4 @@
-//! What the store does, by worked cases: over memory, over files, and over disks that stop.
+//! What keys, tokens, the tables and the store do, by worked cases: over memory, over files, and over disks that stop.
 #![tactic(auto)]
 
 #[cfg(test)]
@@ -13,6 +13,10 @@ mod commands;
 #[cfg(test)]
 mod files;
 #[cfg(test)]
+mod keys;
+#[cfg(test)]
 mod questions;
 #[cfg(test)]
 mod stops;
+#[cfg(test)]
+mod tables;

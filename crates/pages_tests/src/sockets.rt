@@ -1,5 +1,5 @@
 //! A peer of this process, on the loopback interface.
-use crate::cases::{GET, LISTS, fill, today};
+use crate::serving::{GET, LISTS, fill, today};
 use archive_listen::Loopback;
 use archive_serve::serve_on;
 use archive_store::Store;

@@ -1,6 +1,6 @@
 //! What is said before the first connection.
-use crate::cases::{GETS, LISTS, fill, today};
 use crate::peers::{Peer, Peers};
+use crate::serving::{GETS, LISTS, fill, today};
 use archive_serve::{ServeStop, serve};
 use archive_store::Store;
 use mbox_core::device::Tap;

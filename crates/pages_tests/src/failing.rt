@@ -1,6 +1,6 @@
 //! Peers that fail at each byte, and the next ones.
-use crate::cases::{GET, GETS, LISTS, fill, joined, today};
 use crate::peers::{ALL, Peer, Peers};
+use crate::serving::{GET, GETS, LISTS, fill, joined, today};
 use archive_serve::serve_on;
 use archive_store::Store;
 use mbox_core::device::Tap;
