@@ -16,15 +16,15 @@
 //! not there, and kept.
 #![tactic(auto)]
 
-mod papers;
 mod shelf;
+mod short_files;
 
 use anyhow::{Context, bail};
 use archive_run::{DayClock, SystemFiles, run};
 use civil_time::Day;
 use mbox_core::device::{Counted, Tap, read_all, write_bytes};
-use papers::Papers;
 use shelf::Shelf;
+use short_files::ShortFiles;
 use std::alloc::{AllocError, AllocGlobal, Global};
 use std::rt::Files;
 use std::{fs, io};
@@ -79,7 +79,7 @@ impl Stage {
         let mut input = Tap::new(alloc, &self.input, passes)?;
         let mut output = Tap::new(alloc, b"", room)?;
         let mut faults = Tap::new(alloc, b"", ROOM)?;
-        let files = Papers {
+        let files = ShortFiles {
             files: SystemFiles { rt },
             passes,
         };

@@ -42,9 +42,9 @@ const PICKED: u16 = 49152;
 
 /// Two policies, of which one is none, and mboxes.
 #[derive(Drop)]
-pub struct Papers;
+pub struct KnownFiles;
 
-impl ReadFiles for Papers {
+impl ReadFiles for KnownFiles {
     fn read_file(&self, alloc: Global, name: &str) -> Result<Vec<u8>, FileFault> {
         let text: &[u8] = match name {
             POLICY => b"[[rule]]\nname = \"all\"\neffect = \"allow\"\n",
@@ -59,7 +59,7 @@ impl ReadFiles for Papers {
     }
 }
 
-impl OpenFiles for Papers {
+impl OpenFiles for KnownFiles {
     type Input = Tap;
 
     fn open_file(&self, alloc: Global, name: &str) -> Result<Tap, FileFault> {

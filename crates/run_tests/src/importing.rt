@@ -1,5 +1,5 @@
 //! What orders to import come to.
-use crate::devices::{ARCHIVE, BROKEN, Drawer, MBOX, NO_MEMORY, Papers, Still};
+use crate::devices::{ARCHIVE, BROKEN, Drawer, KnownFiles, MBOX, NO_MEMORY, Still};
 use archive_run::run;
 use mbox_core::device::Tap;
 use std::alloc::Global;
@@ -74,7 +74,7 @@ fn comes(
     let mut faults = Tap::new(alloc, b"", 100)?;
     let status = run(
         alloc,
-        &Papers,
+        &KnownFiles,
         databases,
         words,
         &mut Still(None),

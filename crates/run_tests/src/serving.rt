@@ -1,5 +1,5 @@
 //! What orders to serve come to.
-use crate::devices::{ARCHIVE, NO_POLICY, POLICY, Papers, Peer, Quay, Shelf, Still, TAKEN};
+use crate::devices::{ARCHIVE, KnownFiles, NO_POLICY, POLICY, Peer, Quay, Shelf, Still, TAKEN};
 use archive_run::run_serve;
 use archive_words::ServeOrder;
 use civil_time::Day;
@@ -142,7 +142,7 @@ fn comes(rt: &impl Abort, alloc: Global, case: &Case) -> Result<(), Fail> {
     let mut faults = Tap::new(alloc, b"", 1000)?;
     let status = run_serve(
         alloc,
-        &Papers,
+        &KnownFiles,
         &mut databases,
         &PlainThreader,
         &mut clock,

@@ -30,18 +30,18 @@ impl<I: Source> Read for Short<I> {
 
 /// The files of a system. The inputs that are opened fail after `passes` bytes.
 #[derive(Drop)]
-pub struct Papers<'a, R> {
+pub struct ShortFiles<'a, R> {
     pub files: SystemFiles<'a, R>,
     pub passes: usize,
 }
 
-impl<'a, R: Files + AllocGlobal> ReadFiles for Papers<'a, R> {
+impl<'a, R: Files + AllocGlobal> ReadFiles for ShortFiles<'a, R> {
     fn read_file(&self, alloc: Global, name: &str) -> Result<Vec<u8>, FileFault> {
         self.files.read_file(alloc, name)
     }
 }
 
-impl<'a, R: Files + AllocGlobal> OpenFiles for Papers<'a, R> {
+impl<'a, R: Files + AllocGlobal> OpenFiles for ShortFiles<'a, R> {
     type Input = Counted<Short<Counted<R::File>>>;
 
     fn open_file(
