@@ -145,6 +145,17 @@ fn drop_front(bytes: &mut Vec<u8>, count: usize)
     bytes.truncate(len - count);
 }
 
+/// The same; where none go, no byte is moved.
+fn let_go(bytes: &mut Vec<u8>, count: usize)
+    requires { count ≤ length bytes.old.items }
+    ensures { bytes.new.items ≡ drop count bytes.old.items }
+{
+    match count {
+        0 => {}
+        _ => drop_front(bytes, count),
+    }
+}
+
 /// Cuts off all messages that are settled, and keeps what follows them.
 fn settle_message(
     alloc: Global,
@@ -169,7 +180,7 @@ fn settle_message(
         Ok(cut) => cut,
         Err(_) => return Err(Stop::Memory),
     };
-    drop_front(&mut bytes, start);
+    let_go(&mut bytes, start);
     Ok(Window {
         bytes,
         place: Place::Message(head, from),
