@@ -1,8 +1,11 @@
+#!/usr/bin/env python3
 """The toolchain's gate, `rt ci`, over a copy of a part of the repository, for the scripts beside this one.
+
+  part.py NAME     prints the crate and those that it stands on, lowest first, one on each line
 
 What `rt ci` passes is kept on the machine by what was read, and not by where it lay: so a copy that passed counts for every other copy.
 """
-import contextlib, pathlib, shutil, subprocess, tempfile
+import contextlib, pathlib, shutil, subprocess, sys, tempfile
 
 ROOT = pathlib.Path(__file__).resolve().parent.parent
 CRATES = ROOT / "crates"
@@ -48,3 +51,16 @@ def run_ci(top, words, hear):
         for line in ran.stdout:
             hear(line.rstrip("\n"))
     return ran.returncode
+
+
+def main(words):
+    if len(words) != 1:
+        sys.exit(__doc__)
+    if words[0] not in lines():
+        sys.exit(f"part: crates.txt has no crate {words[0]}")
+    print("\n".join(with_those_below(words[0])))
+    return 0
+
+
+if __name__ == "__main__":
+    sys.exit(main(sys.argv[1:]))

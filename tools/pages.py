@@ -1,0 +1,63 @@
+#!/usr/bin/env python3
+"""Says what the pages name that is not there, and which page nothing leads to. Status 1 where there is such a thing.
+
+  - A link of a page leads to no file of the repository.
+  - The README has no link to a page of docs.
+  - docs/archive.1 or CHANGELOG.md has another number of the program, or CHANGELOG.md another number of the tables, than the sources.
+"""
+import pathlib, re, sys
+
+ROOT = pathlib.Path(__file__).resolve().parent.parent
+LINK = re.compile(r"\]\(([^)\s]+)\)")
+PROGRAM = ("crates/archive_usage/src/building.rt", r'const VERSION: &str = "([^"]+)"')
+TABLES = ("crates/archive_tables/src/texts/schema.rt", r"const VERSION: i64 = (\d+)")
+
+
+def pages():
+    """Returns the pages of the repository, whatever the crates hold."""
+    folders = (ROOT, ROOT / "docs", ROOT / "bench", ROOT / "examples")
+    return sorted(it for folder in folders if folder.is_dir() for it in folder.glob("*.md"))
+
+
+def targets(page):
+    """Returns the files that a page leads to."""
+    links = LINK.findall(page.read_text(encoding="utf-8"))
+    return [it.partition("#")[0] for it in links if not re.match(r"\w+:|#", it)]
+
+
+def dead_links():
+    return [f"{page.relative_to(ROOT)} leads to {it}, which is not there"
+            for page in pages() for it in targets(page) if not (page.parent / it).exists()]
+
+
+def without_link():
+    """Returns the pages of docs that the README does not lead to."""
+    led_to = {(ROOT / it).resolve() for it in targets(ROOT / "README.md")}
+    return [f"README.md has no link to docs/{it.name}" for it in sorted((ROOT / "docs").glob("*.md")) if it.resolve() not in led_to]
+
+
+def number(where):
+    """Returns a number that a source names."""
+    file, form = where
+    return re.search(form, (ROOT / file).read_text(encoding="utf-8"))[1]
+
+
+def other_numbers():
+    """Returns the pages whose number of the program or of the tables is not that of the sources."""
+    program, tables = number(PROGRAM), number(TABLES)
+    newest = re.search(r"^## .*", (ROOT / "CHANGELOG.md").read_text(encoding="utf-8"), re.M)
+    wrong = [] if newest and newest[0] == f"## Program {program}, tables {tables}" else [
+        f"CHANGELOG.md does not begin with 'Program {program}, tables {tables}'"]
+    manual = (ROOT / "docs" / "archive.1").read_text(encoding="utf-8").partition("\n")[0]
+    return wrong + ([] if f'"archive {program}"' in manual else [f"docs/archive.1 is not of the program {program}"])
+
+
+def main():
+    found = dead_links() + without_link() + other_numbers()
+    for it in found:
+        print(f"pages: {it}")
+    return 1 if found else 0
+
+
+if __name__ == "__main__":
+    sys.exit(main())
