@@ -1,0 +1,40 @@
+//! Threads the messages of an mbox on standard input (RFC 5256, REFERENCES), and prints their places, each row at its depth.
+#![tactic(auto)]
+
+use anyhow::bail;
+use mail_core::{Header, Memory};
+use mbox_core::device::{Counted, read_all};
+use mbox_core::{Item, cut};
+use std::alloc::Global;
+use std::hash::RandomState;
+use subject_core::base;
+use thread_core::{Entry, NodeThreader, References, threads};
+
+/// What a message says about threads.
+fn entry_of(alloc: Global, item: &Item<'_>) -> Result<Entry, Memory> {
+    let header = Header::of(item.text);
+    let subject = base(alloc, &header.unfolded_subject(alloc)?)?;
+    Ok(Entry {
+        id: header.own_id(alloc)?,
+        refs: References::new(header.references(alloc)?),
+        sent: header.sent(item.envelope.arrival),
+        base: subject.text,
+        reply: subject.reply,
+    })
+}
+
+fn main(rt: HostRuntime) -> anyhow::Result<()> {
+    let alloc = rt.alloc();
+    let mut input = Counted::new(rt.reader());
+    let Ok(mbox) = read_all(alloc, &mut input) else {
+        bail!("the input cannot be read");
+    };
+    let mut entries = Vec::new(alloc);
+    for item in cut(&mbox)? {
+        entries.push(entry_of(alloc, &item)?)?;
+    }
+    for row in threads(alloc, &NodeThreader::new(RandomState::new(&rt)?), &entries)? {
+        println!(rt; "{} {:?}", row.depth, row.place)?;
+    }
+    Ok(())
+}
