@@ -20,9 +20,8 @@ import gen_mbox
 
 ROOT = pathlib.Path(__file__).resolve().parent.parent
 AT_ONCE, BYTES_AT_ONCE = 500, 8 << 20
-# Stock SQLite is given the columns of what is filed: the arrival for the sent date, and the sender for the author.
-ADD = ("INSERT OR IGNORE INTO message (list, key, sender, arrival, text, withdrawn, embargo, sent, month, author)"
-       " VALUES ('soc', ?1, ?2, ?3, ?4, 0, NULL, ?3, 1970 * 12 + ?3 / 2629746, CAST(?2 AS BLOB))")
+ADD = ("INSERT OR IGNORE INTO message (list, key, sender, arrival, text, withdrawn, embargo)"
+       " VALUES ('soc', ?, ?, ?, ?, 0, NULL)")
 QUESTIONS = ["rows", "month", "author", "threads", "export"]
 
 
@@ -51,9 +50,9 @@ def probe(program, *words, given=b""):
 
 
 def schema_of(path):
-    """The texts that made the tables and indexes of a file; sqlite_sequence is SQLite's own."""
+    """The texts that made the tables of a file; sqlite_sequence is SQLite's own."""
     made = sqlite3.connect(path)
-    texts = made.execute("SELECT sql FROM sqlite_schema WHERE sql IS NOT NULL AND name <> 'sqlite_sequence' ORDER BY rowid").fetchall()
+    texts = made.execute("SELECT sql FROM sqlite_schema WHERE type = 'table' AND name <> 'sqlite_sequence' ORDER BY rowid").fetchall()
     made.close()
     return [text for (text,) in texts]
 

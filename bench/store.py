@@ -29,9 +29,8 @@ AT_ONCE = 500
 # How far a message stands from the one that is asked for next; the program has the same.
 STRIDE = 7919
 
-# The texts have no header: sent when they arrived, in January 1970, by nobody.
-ADD = ("INSERT INTO message (list, key, sender, arrival, text, withdrawn, embargo, sent, month, author)"
-       " VALUES ('soc', ?1, ?2, ?3, ?4, 0, NULL, ?3, 1970 * 12, x'')")
+ADD = ("INSERT INTO message (list, key, sender, arrival, text, withdrawn, embargo)"
+       " VALUES ('soc', ?, ?, ?, ?, 0, NULL)")
 SHOWN = "SELECT key, sender, arrival, text, withdrawn, embargo FROM message WHERE list = 'soc'"
 READ = SHOWN + " ORDER BY pos"
 ASK = SHOWN + " AND key = ?"
@@ -122,9 +121,9 @@ def stock_read(stock, count):
 
 
 def schema_of(path):
-    """The texts that made the tables and indexes of a file; sqlite_sequence is SQLite's own."""
+    """The texts that made the tables of a file; sqlite_sequence is SQLite's own."""
     made = sqlite3.connect(path)
-    texts = made.execute("SELECT sql FROM sqlite_schema WHERE sql IS NOT NULL AND name <> 'sqlite_sequence' ORDER BY rowid")
+    texts = made.execute("SELECT sql FROM sqlite_schema WHERE type = 'table' AND name <> 'sqlite_sequence' ORDER BY rowid")
     return [text for (text,) in texts.fetchall()]
 
 
@@ -161,7 +160,7 @@ def check(path):
 def documented():
     """The texts of the tables in docs/TABLES.md."""
     page = (ROOT / "docs" / "TABLES.md").read_text()
-    return [text.removesuffix(";") for text in re.findall(r"^CREATE (?:TABLE|INDEX) .*;$", page, re.MULTILINE)]
+    return [text.removesuffix(";") for text in re.findall(r"^CREATE TABLE .*;$", page, re.MULTILINE)]
 
 
 def in_new_file(asked, folder, call):

@@ -7,12 +7,11 @@
   --anew     nothing counts that an earlier run on this machine passed
   --record   writes tools/refused.txt: of which crates all wrong bodies were refused, over which text
 
-The last line is 'N passed, M failed', as `rt ci` counts, but that a wrong body that cannot be applied has failed; and the
-worked calls under refused growths of memory (refused.py) are one more that passed or failed.
+The last line is 'N passed, M failed', as `rt ci` counts, but that a wrong body that cannot be applied has failed.
 """
-import filecmp, re, resource, subprocess, sys, tempfile
+import filecmp, re, resource, subprocess, sys
 
-import due, part, refused
+import due, part
 
 COUNT = re.compile(r"(\d+) passed, (\d+) failed")
 EDIT = re.compile(r"rt: must-fail (\w+)/(\S+\.edit): (refused, as it must be.*|[A-Z]+.*)")
@@ -41,10 +40,6 @@ class Heard:
         elif self.last is not None:
             print(self.last)
 
-    def count(self, is_right):
-        """Counts a step of our own."""
-        self.passed, self.failed = self.passed + is_right, self.failed + (not is_right)
-
     def that_say(self, words):
         """Returns the wrong bodies of which this was said."""
         return [f"{name}/{edit}" for (name, edit), said in self.edits.items() if re.search(words, said)]
@@ -65,17 +60,6 @@ def out_of_layout(top, names):
     texts = [it for it in part.CRATES.glob("*/*/**/*") if it.suffix in (".rt", ".antt") and it.relative_to(part.CRATES).parts[1] != "out"]
     changed = [it for it in texts if not filecmp.cmp(it, top / it.relative_to(part.ROOT), shallow=False)]
     return sorted({it.relative_to(part.CRATES).parts[0] for it in changed})
-
-
-def rows_hold(top):
-    """Returns whether worked calls come to their answers or say that memory is wanting, where each growth of it is refused."""
-    program = top / "crates" / "refused_rows" / "out" / "refused_rows"
-    if not program.exists():
-        print("check: refused_rows was not built")
-        return False
-    with tempfile.TemporaryDirectory() as folder:
-        _, wrong = refused.refused(program, refused.built(folder))
-    return not wrong
 
 
 def tell(heard, left, due_count):
@@ -107,7 +91,6 @@ def main(words):
             print(f"check: run rt fmt in {', '.join(wanting)}\n0 passed, {len(wanting)} failed")
             return 1
         heard.end(part.run_ci(top, ["--anew"] if "--anew" in words else [], heard.hear))
-        heard.count(rows_hold(top))
     if "--record" in words:
         for name in {*counts} - {*left}:
             record.note(name, heard.refused_of(name) == counts[name])

@@ -3,5 +3,3 @@ pub mod Faults
 pub mod Messages
 pub mod Ranks
 pub mod Taking
-pub mod Filed
-pub mod Checking

@@ -1,19 +1,18 @@
-//! The index of a view, and of its messages of a month or an author: their headers, read by one walk.
-ghost use Rattle.std.specs.Prelude.{◌≡◌, ◌∷◌, [], ◌++◌, filter, map, pos, IfErr, OnOk};
-ghost use Rattle.archive_machine.specs.Filing.{in_month, by_author};
+//! The index of a view: the headers of its messages, read by one walk over the list.
+ghost use Rattle.std.specs.Prelude.{◌≡◌, ◌∷◌, [], ◌++◌, filter, map, IfErr, OnOk};
 ghost use Rattle.archive_machine.specs.Messages.{remembered};
-ghost use Rattle.archive_results.specs.Access.{is_shown, reader_marks, view_of};
+ghost use Rattle.archive_results.specs.Access.{is_shown, view_of};
 ghost use Rattle.archive_results.specs.Index.{IsIndexOf, header_of};
-ghost use Rattle.archive_store.specs.Told.{AsksIn, HadReturned, HoldsTables};
+ghost use Rattle.archive_store.specs.Told.{Asks, HadReturned};
 ghost use Rattle.archive_desk.specs.Faults.{IsAskFault, ask_reason, reason};
 ghost use Rattle.archive_desk.specs.Walking.{IsUnlisted, ListsRows};
 
 use crate::faults::DeskFault;
 use crate::viewing::find_reader;
-use archive_results::{Ask, Header, ReaderMarks, header_of, is_shown};
+use archive_results::{Ask, Header, header_of, is_shown};
 use archive_store::{EachRow, Message, Store};
-use civil_time::Month;
 use mail_core::Memory;
+use policy_core::Standing;
 use sqlite::Alter;
 use std::alloc::Global;
 
@@ -24,59 +23,16 @@ pub(crate) fn read_headers<S: Alter>(
     alloc: Global,
     ask: &Ask<'_>,
 ) -> Result<Vec<Header>, DeskFault>
-    ensures held { AsksIn S.Store (HoldsTables S.Store) store.old store.new reason result (λ a. ask_reason a ask.now)
+    ensures held { Asks S.Store store.old store.new reason result (λ a. ask_reason a ask.now)
         (λ a headers. IsIndexOf (view_of a ask.now) headers.items) }
     ensures fault { IfErr result (λ fault. IsAskFault fault) }
 {
-    let reader = match find_reader(store, ask) {
-        Ok(reader) => reader,
+    let standing = match find_reader(store, ask) {
+        Ok(standing) => standing,
         Err(fault) => return Err(fault),
     };
     match store.each_row(alloc, ask.list) {
-        Ok(mut walk) => walk_headers(alloc, ask, &reader, &mut walk),
-        Err(fault) => Err(DeskFault::from(fault)),
-    }
-}
-
-/// The headers of those messages of the view that are filed under a month, by the sent date that is filed and then in mailbox
-/// order. No other message of the list is read.
-pub(crate) fn read_month<S: Alter>(
-    store: &mut Store<S>,
-    alloc: Global,
-    ask: &Ask<'_>,
-    month: Month,
-) -> Result<Vec<Header>, DeskFault>
-    ensures held { AsksIn S.Store (HoldsTables S.Store) store.old store.new reason result (λ a. ask_reason a ask.now)
-        (λ a headers. IsIndexOf (filter (is_shown ask.now (reader_marks a ask.now)) (in_month a ask.now.list (pos month))) headers.items) }
-    ensures fault { IfErr result (λ fault. IsAskFault fault) }
-{
-    let reader = match find_reader(store, ask) {
-        Ok(reader) => reader,
-        Err(fault) => return Err(fault),
-    };
-    match store.each_in_month(alloc, ask.list, month) {
-        Ok(mut walk) => walk_headers(alloc, ask, &reader, &mut walk),
-        Err(fault) => Err(DeskFault::from(fault)),
-    }
-}
-
-/// The same of those that are filed under an author key.
-pub(crate) fn read_author<S: Alter>(
-    store: &mut Store<S>,
-    alloc: Global,
-    ask: &Ask<'_>,
-    key: &[u8],
-) -> Result<Vec<Header>, DeskFault>
-    ensures held { AsksIn S.Store (HoldsTables S.Store) store.old store.new reason result (λ a. ask_reason a ask.now)
-        (λ a headers. IsIndexOf (filter (is_shown ask.now (reader_marks a ask.now)) (by_author a ask.now.list key.now)) headers.items) }
-    ensures fault { IfErr result (λ fault. IsAskFault fault) }
-{
-    let reader = match find_reader(store, ask) {
-        Ok(reader) => reader,
-        Err(fault) => return Err(fault),
-    };
-    match store.each_by_author(alloc, ask.list, key) {
-        Ok(mut walk) => walk_headers(alloc, ask, &reader, &mut walk),
+        Ok(mut walk) => walk_headers(alloc, ask, standing, &mut walk),
         Err(fault) => Err(DeskFault::from(fault)),
     }
 }
@@ -85,17 +41,17 @@ pub(crate) fn read_author<S: Alter>(
 fn walk_headers<S: Alter>(
     alloc: Global,
     ask: &Ask<'_>,
-    reader: &ReaderMarks,
+    standing: Standing,
     walk: &mut EachRow<'_, S>,
 ) -> Result<Vec<Header>, DeskFault>
     ensures same_reference { walk.new.store.ghost_name ≡ walk.old.store.ghost_name }
     ensures clean { HadReturned S.Store walk.old.store.now walk.new.store.now }
-    ensures listed { ListsRows S.Store walk.old walk.new ask.now reader.now result }
+    ensures listed { ListsRows S.Store walk.old walk.new ask.now standing result }
     ensures fault { IfErr result (λ fault. IsUnlisted fault) }
 {
     let mut headers = Vec::new(alloc);
     while let Some(message) = walk.next()? {
-        match push_shown(alloc, ask, reader, &message, &mut headers) {
+        match push_shown(alloc, ask, standing, &message, &mut headers) {
             Ok(()) => {}
             Err(_) => return Err(DeskFault::Memory),
         }
@@ -107,14 +63,14 @@ fn walk_headers<S: Alter>(
 fn push_shown(
     alloc: Global,
     ask: &Ask<'_>,
-    reader: &ReaderMarks,
+    standing: Standing,
     message: &Message,
     headers: &mut Vec<Header>,
 ) -> Result<(), Memory>
     ensures { OnOk result (headers.new.items ≡ headers.old.items
-        ++ map header_of (filter (is_shown ask.now reader.now) (remembered ask.now.list message.now ∷ []))) }
+        ++ map header_of (filter (is_shown ask.now standing) (remembered ask.now.list message.now ∷ []))) }
 {
-    if is_shown(ask, reader, message) {
+    if is_shown(ask, standing, message) {
         headers.push(header_of(alloc, message)?)?;
     }
     Ok(())

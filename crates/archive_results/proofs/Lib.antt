@@ -6,4 +6,3 @@ pub mod ResultExamples
 pub mod ShownExamples
 pub mod SlotLemmas
 pub mod SortLemmas
-pub mod FiledLemmas

@@ -1,5 +1,4 @@
 pub mod Sifting
-pub mod Stops
 pub mod Refusals
 pub mod Running
 pub mod Databases

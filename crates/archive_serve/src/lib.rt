@@ -2,7 +2,6 @@
 #![tactic(auto)]
 
 mod announcing;
-pub mod laws;
 mod pages;
 mod serving;
 

@@ -5,4 +5,3 @@ pub mod Running
 pub mod Batches
 pub mod Told
 pub mod Walking
-pub mod Checking

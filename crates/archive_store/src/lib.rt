@@ -4,7 +4,6 @@
 
 mod adopting;
 mod batches;
-mod checking;
 mod faults;
 mod grants;
 mod keys;
@@ -22,7 +21,6 @@ mod words;
 pub use adopting::AdoptStop;
 pub use archive_machine::{Key, Message};
 pub use batches::{AddStop, Report};
-pub use checking::CheckStop;
 pub use faults::StoreFault;
 pub use keys::key_of;
 pub use running::{Command, Outcome, RunStop};

@@ -5,7 +5,6 @@ pub mod TableLemmas
 pub mod OrderLemmas
 pub mod SelectLemmas
 pub mod ListLemmas
-pub mod ListedLemmas
 pub mod PersonLemmas
 pub mod ChangeLemmas
 pub mod MessageLemmas
@@ -20,4 +19,3 @@ pub mod NamesLemmas
 pub mod ReadLemmas
 pub mod TableExamples
 pub mod WalkLemmas
-pub mod FiledLemmas

@@ -13,7 +13,6 @@ mod values;
 
 pub use commands::{GrantKind, TableCommand, WithdrawnBy};
 pub use orders::{
-    AskOrder, CheckOrder, GetOrder, ImportOrder, Order, OrderStop, ServeOrder, SiftOrder,
-    TableOrder,
+    AskOrder, GetOrder, ImportOrder, Order, OrderStop, ServeOrder, SiftOrder, TableOrder,
 };
 pub use reading::order;

@@ -1,4 +1,4 @@
-//! What the desk answers, by worked cases over memory and over a file, and of rows that another program changed; mboxes that are read piece by piece into a list, by
+//! What the desk answers, by worked cases over memory and over a file; mboxes that are read piece by piece into a list, by
 //! readers that give one byte at once, and by readers that fail; and imports over disks that stop, made again over what is left.
 #![tactic(auto)]
 
@@ -7,8 +7,6 @@ mod asking;
 #[cfg(test)]
 mod cases;
 pub mod chain;
-#[cfg(test)]
-mod damage;
 #[cfg(test)]
 mod exports;
 #[cfg(test)]
@@ -20,8 +18,6 @@ mod listings;
 #[cfg(test)]
 mod messages;
 pub mod noting;
-#[cfg(test)]
-mod shown;
 #[cfg(test)]
 mod stops;
 #[cfg(test)]

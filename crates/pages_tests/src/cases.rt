@@ -1,6 +1,6 @@
 //! The stores, and what they are told and asked.
 use crate::links::Past;
-use crate::{devices, hostile, links, pages, requests};
+use crate::{devices, links, pages, requests};
 use archive_pages::answer;
 use archive_store::Store;
 use civil_time::Day;
@@ -84,7 +84,6 @@ enum Case {
     Withdrawn,
     Withheld,
     Alone,
-    Texts,
 }
 
 /// Tells an empty store a case.
@@ -104,12 +103,11 @@ fn tell<S: Alter>(
         Case::Withdrawn => pages::withdrawn(rt, alloc, store),
         Case::Withheld => pages::withheld(rt, alloc, store),
         Case::Alone => pages::alone(rt, alloc, store),
-        Case::Texts => hostile::texts(rt, alloc, store),
     }
 }
 
-/// What a store is told: a case, or an archive of which all links are followed, whose threads are asked for, whose pages are
-/// made by both threaders, or whose messages refer to each other in a ring.
+/// What a store is told: a case, or an archive of which all links are followed, whose threads are asked for, or whose pages are
+/// made by both threaders.
 #[derive(Clone, Copy, Debug, PartialEq, Eq)]
 enum Order {
     Case(Case),
@@ -117,7 +115,6 @@ enum Order {
     Shown(Past),
     Asking,
     ByBoth,
-    Rings,
 }
 
 /// Tells a new store over memory an order. What nobody in particular is shown of an archive; else nothing.
@@ -144,7 +141,6 @@ fn tell_order<S: Alter>(
         Order::Shown(past) => return links::shown(rt, alloc, store, past),
         Order::Asking => links::asking(rt, alloc, store)?,
         Order::ByBoth => links::by_both(rt, alloc, store, nodes)?,
-        Order::Rings => hostile::rings(rt, alloc, store, nodes)?,
     }
     Ok(Vec::new(alloc))
 }
@@ -159,7 +155,6 @@ fn stores_over_memory(rt: HostRuntime) -> Result<(), Fail> {
         Case::Withdrawn,
         Case::Withheld,
         Case::Alone,
-        Case::Texts,
     ] {
         tell_new(&rt, rt.alloc(), Order::Case(case))?;
     }
@@ -191,11 +186,5 @@ fn a_page_of_threads_asks_the_threader_once_of_the_view_alone(rt: HostRuntime) -
 #[test]
 fn both_threaders_give_the_same_pages(rt: HostRuntime) -> Result<(), Fail> {
     tell_new(&rt, rt.alloc(), Order::ByBoth)?;
-    Ok(())
-}
-
-#[test]
-fn a_ring_of_messages_is_one_thread(rt: HostRuntime) -> Result<(), Fail> {
-    tell_new(&rt, rt.alloc(), Order::Rings)?;
     Ok(())
 }

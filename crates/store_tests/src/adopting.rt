@@ -30,9 +30,6 @@ fn connections_are_adopted_again(rt: HostRuntime) -> Result<(), Fail> {
         (true, list, true),
         (true, other, false),
         (true, "UPDATE version SET number = 9", false),
-        (true, "UPDATE version SET number = 0", false),
-        (true, "DELETE FROM version", false),
-        (true, "DROP INDEX message_by_month", false),
         (false, other, false),
     ] {
         let found = is_adopted(rt.alloc(), is_archive, statement)?;

@@ -9,13 +9,9 @@ pub mod callers;
 #[cfg(test)]
 mod cases;
 #[cfg(test)]
-mod checking;
-#[cfg(test)]
 mod commands;
 #[cfg(test)]
 mod files;
-#[cfg(test)]
-mod filing;
 #[cfg(test)]
 mod keys;
 #[cfg(test)]
@@ -24,5 +20,3 @@ mod questions;
 mod stops;
 #[cfg(test)]
 mod tables;
-#[cfg(test)]
-mod versions;

@@ -8,7 +8,7 @@ abbrev pub invariant-loop-headers : goal.invariant-loop-headers
 invariant-loop-headers g l =
     (l.walk.store.ghost_name ≡ l.fn.walk.store.ghost_name)
     × (HasReturned g.S.Store l.walk.store.now → HasReturned g.S.Store l.fn.walk.store.now)
-    × ListedSoFar l.ask l.reader g.S.Store l.fn.walk l.walk l.headers.items
+    × ListedSoFar l.ask l.standing g.S.Store l.fn.walk l.walk l.headers.items
 
 abbrev pub decreases-loop-headers : goal.decreases-loop-headers
 decreases-loop-headers g l = left_of l.walk
