@@ -3,3 +3,5 @@ pub mod Faults
 pub mod Messages
 pub mod Ranks
 pub mod Taking
+pub mod Filed
+pub mod Checking

@@ -1,5 +1,5 @@
 -- A message that the tables do not hold is written down after the others; or memory or the database was at fault.
-use Rattle.std.specs.Prelude.{◌≡◌, ℕ, false, List, [], ◌∷◌, ◌++◌, Option, Result, MatchResult}
+use Rattle.std.specs.Prelude.{◌≡◌, ℕ, false, List, Option, Result, MatchResult}
 use Rattle.std.specs.List.{list_any}
 use Rattle.sqlite.specs.Effect.{Database}
 use Rattle.sqlite.specs.Store.{Ghosts}
@@ -7,7 +7,7 @@ use Rattle.sqlite.specs.Held.{Held, state}
 use Rattle.sqlite.specs.State.{HasCleanDisk}
 use Rattle.mbox_core.specs.Division.{Item}
 use Rattle.archive_machine.specs.Questions.{is_message}
-use Rattle.archive_machine.specs.Machine.{keyed_message}
+use Rattle.archive_machine.specs.Machine.{with_keyed}
 use Rattle.archive_tables.specs.Tables.{IsHeld, IsKept, archive_of}
 use Rattle.archive_tables.specs.Calls.{Changes, ChangesOver, Rests, RestsOver}
 use Rattle.archive_database.specs.declared.faults.Fault.{Fault}
@@ -18,12 +18,12 @@ module _ {S : Type 0} (g : Ghosts S) (old new : Held S) where
   TakesIn result list key item = HasCleanDisk (state g new) → IsKept (state g old) →
       MatchResult result
       (λ _. list_any (is_message list key) (archive_of (state g old)).messages ≡ false
-      → Changes (state g old) (state g new) (λ a. record a { messages = a.messages ++ keyed_message list key item ∷ [] }))
+      → Changes (state g old) (state g new) (λ a. with_keyed a list key item))
       (λ _. Rests (state g old) (state g new))
 
   -- outside a transaction or within one
   abbrev pub TakesInOver : Result (Unit {0}) Fault → List ℕ → List ℕ → Item → Type 0
   TakesInOver result list key item = HasCleanDisk (state g new) → (behind : Option Database) → IsHeld behind (state g old)
       → list_any (is_message list key) (archive_of (state g old)).messages ≡ false
-      → MatchResult result (λ _. ChangesOver behind (state g old) (state g new) (λ a. record a { messages = a.messages ++ keyed_message list key item ∷ [] }))
+      → MatchResult result (λ _. ChangesOver behind (state g old) (state g new) (λ a. with_keyed a list key item))
       (λ _. RestsOver behind (state g old) (state g new))

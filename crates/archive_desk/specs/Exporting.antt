@@ -2,11 +2,10 @@
 use Rattle.std.specs.Prelude.{◌≡◌, ◌<◌, ◌^◌, ◌-◌, ◌++◌, ℕ, List, length, map, filter, min, Option, Some, None, Result, option_map}
 use Rattle.sqlite.specs.Store.{Ghosts}
 use Rattle.mbox_core.specs.Written.{IsCutShort}
-use Rattle.policy_core.specs.declared.access.Standing.{Standing}
 use Rattle.archive_machine.specs.Records.{Archive, Message as Remembered}
 use Rattle.archive_store.specs.Told.{Calls, HasReturned, IsReady, archive_in}
 use Rattle.archive_store.specs.declared.store.Store.{Store}
-use Rattle.archive_results.specs.Access.{Ask, is_shown, view_of}
+use Rattle.archive_results.specs.Access.{Ask, ReaderMarks, is_shown, view_of}
 use Rattle.archive_results.specs.Results.{export_text}
 use Rattle.archive_results.specs.Shown.{shown_of}
 use Rattle.archive_desk.specs.Faults.{Reason, refused, not_in_view, not_written, declined, reason, ask_reason}
@@ -18,9 +17,9 @@ use Rattle.archive_desk.specs.declared.faults.DeskFault.TheVariants.{Store as St
 abbrev pub exported : Archive → Ask → List ℕ
 exported archive ask = export_text (map shown_of (view_of archive ask))
 
--- the text of those of these messages that the policy shows to a reader of this standing
-abbrev pub shown_text : Ask → Standing → List Remembered → List ℕ
-shown_text ask standing messages = export_text (map shown_of (filter (is_shown ask standing) messages))
+-- the text of those of these messages that the policy shows to a reader of these marks
+abbrev pub shown_text : Ask → ReaderMarks → List Remembered → List ℕ
+shown_text ask reader messages = export_text (map shown_of (filter (is_shown ask reader) messages))
 
 -- how many bytes were written, and why it stopped; none where memory or the database was at fault
 abbrev pub stop_reason : ExportStop → Option (ℕ × Reason)

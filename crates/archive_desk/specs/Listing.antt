@@ -1,12 +1,16 @@
--- Why a thread is not shown.
+-- The lines of messages, and why a thread is not shown.
 use Rattle.std.specs.Prelude.{ℕ, List, map, Option, Some, None}
-use Rattle.archive_machine.specs.Records.{Archive}
+use Rattle.archive_machine.specs.Records.{Archive, Message as Remembered}
 use Rattle.archive_results.specs.Access.{Ask, view_of}
-use Rattle.archive_results.specs.Results.{thread_lines}
-use Rattle.archive_results.specs.Shown.{shown_of}
+use Rattle.archive_results.specs.Results.{lines_of, thread_lines}
+use Rattle.archive_results.specs.Shown.{Line, shown_of}
 use Rattle.archive_desk.specs.Faults.{Reason, not_in_view, ask_reason}
 use Rattle.archive_desk.specs.declared.faults.DeskFault.{DeskFault}
 use Rattle.archive_desk.specs.declared.faults.DeskFault.TheVariants.{Write}
+
+-- the line of each message
+abbrev pub lines_shown : List Remembered → List Line
+lines_shown messages = lines_of (map shown_of messages)
 
 -- a fault of a question on a thread: G1 to G5
 abbrev pub IsThreadFault : DeskFault → Type 0

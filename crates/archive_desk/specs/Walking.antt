@@ -3,14 +3,11 @@ use Rattle.std.specs.Prelude.{◌≡◌, ◌+◌, ◌<◌, ◌^◌, ◌-◌, ◌
 use Rattle.std.specs.declared.alloc.Global.{Global}
 use Rattle.sqlite.specs.Store.{Ghosts}
 use Rattle.mbox_core.specs.Written.{IsCutShort}
-use Rattle.policy_core.specs.declared.access.Standing.{Standing}
-use Rattle.archive_machine.specs.Records.{Archive}
-use Rattle.archive_machine.specs.Questions.{messages_in}
+use Rattle.archive_machine.specs.Records.{Archive, Message as Remembered}
 use Rattle.archive_store.specs.Replies.{refusal}
-use Rattle.archive_store.specs.Told.{HasReturned, IsOpen, IsReady, archive_in}
-use Rattle.archive_store.specs.Walking.{Walk, Walks}
-use Rattle.archive_results.specs.Access.{Ask, is_shown}
-use Rattle.archive_results.specs.Index.{Header, IsIndexOf}
+use Rattle.archive_store.specs.Told.{HasReturned, HoldsTables, IsOpen, archive_in}
+use Rattle.archive_store.specs.Walking.{Walk, WalksOver}
+use Rattle.archive_results.specs.Access.{Ask, ReaderMarks, is_shown}
 use Rattle.archive_desk.specs.Exporting.{HasWritten, shown_text}
 use Rattle.archive_desk.specs.Faults.{reason}
 use Rattle.archive_desk.specs.declared.exporting.ExportStop.{ExportStop}
@@ -41,26 +38,26 @@ IsUnlisted Memory = Unit {0}
 IsUnlisted other = ⊥
 
 module _ {S : Type 0} (g : Ghosts S) where
-  -- its store is ready, and remembers this archive
+  -- its store holds an archive's tables, and remembers this archive
   abbrev pub StandsOn : Archive → Walk S → Type 0
-  StandsOn a walk = IsReady g walk.store.now × (archive_in g walk.store.now ≡ a)
+  StandsOn a walk = HoldsTables g walk.store.now × (archive_in g walk.store.now ≡ a)
 
   -- after a fault that has a reason so; after one of memory or of the database if the connection is still open
   abbrev pub StandsIfOpen : Archive → Walk S → DeskFault → Type 0
   StandsIfOpen a walk fault = MatchOption (reason fault) (IsOpen g walk.store.now → StandsOn a walk) (λ _. StandsOn a walk)
 
-  module _ (old new : Walk S) (ask : Ask) (standing : Standing) where
-    -- A walk over the list that gave nothing yet: these are the headers of its messages, as far as the policy shows them.
-    abbrev pub ListsRows : Result (Vec Header Global) DeskFault → Type 0
-    ListsRows result = HasReturned g new.store.now → (a : Archive) → Walks g ask.list a [] old → MatchResult result
-        (λ headers. StandsOn a new × IsIndexOf (filter (is_shown ask standing) (messages_in a ask.list)) headers.items)
+  module _ (old new : Walk S) (ask : Ask) (reader : ReaderMarks) where
+    -- A walk over messages of the list that gave none yet: this was made of them, as far as the policy shows them.
+    abbrev pub ListsRows : {X : Type 0} → (made : List Remembered → List X) → Result (Vec X Global) DeskFault → Type 0
+    ListsRows made result = HasReturned g new.store.now → (all : List Remembered) (a : Archive) → WalksOver g ask.list all a [] old → MatchResult result
+        (λ found. StandsOn a new × (found.items ≡ made (filter (is_shown ask reader) all)))
         (λ fault. StandsIfOpen a new fault)
 
-    -- A walk over the list that gave nothing yet: the text of its messages was written, as far as the policy shows them, and
+    -- A walk over messages of the list that gave none yet: the text of them was written, as far as the policy shows them, and
     -- counted; or exactly the first bytes of it.
     abbrev pub WritesRows : (before after : List ℕ) → (counted counts : ℕ) → Result (Unit {0}) DeskFault → Type 0
-    WritesRows before after counted counts result = HasReturned g new.store.now → (a : Archive) → Walks g ask.list a [] old →
-        let text = shown_text ask standing (messages_in a ask.list) in
+    WritesRows before after counted counts result = HasReturned g new.store.now → (all : List Remembered) (a : Archive) → WalksOver g ask.list all a [] old →
+        let text = shown_text ask reader all in
         MatchResult result
         (λ _. StandsOn a new × (after ≡ before ++ text) × (counts ≡ min (counted + length text) (2 ^ 64 - 1)))
         (λ fault. StandsIfOpen a new fault × (length after < 2 ^ 64
@@ -68,8 +65,8 @@ module _ {S : Type 0} (g : Ghosts S) where
 
     -- the same behind a head
     abbrev pub WritesWalk : (head before after : List ℕ) → Result ℕ ExportStop → Type 0
-    WritesWalk head before after result = HasReturned g new.store.now → (a : Archive) → Walks g ask.list a [] old →
-        let text = head ++ shown_text ask standing (messages_in a ask.list) in
+    WritesWalk head before after result = HasReturned g new.store.now → (all : List Remembered) (a : Archive) → WalksOver g ask.list all a [] old →
+        let text = head ++ shown_text ask reader all in
         MatchResult result
         (λ count. StandsOn a new × (after ≡ before ++ text) × (count ≡ min (length text) (2 ^ 64 - 1)))
         (λ stop. StandsIfOpen a new stop.fault × (length after < 2 ^ 64 → IsCutShort before after text stop.written))

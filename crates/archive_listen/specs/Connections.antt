@@ -53,7 +53,7 @@ Reaches (Err fault) (Err told) written failed sent = (told ≡ fault) × Begins 
 Reaches (Err fault) (Ok told) written failed sent = ⊥
 
 -- A connection is read on a while before it is closed where its reply is not 200, since a peer that is still sending would
--- else lose the reply.
+-- else lose the reply. (Behind a 200 the listener looks whether something waits; no clause says what waits on a socket.)
 abbrev pub lingers : Outcome → Bool
 lingers (Ok status) = not (status == 200)
 lingers (Err fault) = false

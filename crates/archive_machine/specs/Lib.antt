@@ -3,7 +3,10 @@ pub mod Tokens
 pub mod Keys
 pub mod Commands
 pub mod Questions
+pub mod Filing
 pub mod Machine
 pub mod Runs
 pub mod Sound
+pub mod Damage
 pub mod Messages
+pub mod Firsts

@@ -7,6 +7,7 @@ use Rattle.archive_machine.specs.Records.{Grant, Message, Archive}
 use Rattle.archive_machine.specs.Commands.{Command, list_add, person_add, grant, revoke, add, withdraw, restore, embargo, lift, Refusal, bad_name, bad_text, list_exists, no_list, person_exists, no_person, token_taken, no_message, already_withdrawn, not_withdrawn, bad_days, list_full, too_large, Reply, done, was_there, taken_in, already_known, refused}
 use Rattle.archive_machine.specs.Tokens.{is_token}
 use Rattle.archive_machine.specs.Keys.{item_key}
+use Rattle.archive_machine.specs.Filing.{item_filing}
 use Rattle.archive_machine.specs.Questions.{has_list, has_person, has_token, is_grant, has_grant, messages_in, is_message, message_of, has_message, is_withdrawn, is_embargoed}
 
 -- the archive afterwards, and the answer
@@ -78,15 +79,29 @@ keyed_message list key item = record {
 abbrev pub new_message : List ℕ → Item → Message
 new_message list item = keyed_message list (item_key item) item
 
--- A whole text of more than 4,194,304 bytes is refused. A message whose key the list holds is known, and nothing changes.
+-- the archive with a message more, under this key, which is filed by what its text says
+abbrev pub with_keyed : Archive → List ℕ → List ℕ → Item → Archive
+with_keyed archive list key item = record archive {
+  messages = archive.messages ++ keyed_message list key item ∷ [];
+  filings = archive.filings ++ item_filing item ∷ [];
+}
+
+abbrev pub with_message : Archive → List ℕ → Item → Archive
+with_message archive list item = with_keyed archive list (item_key item) item
+
+-- bytes of the longest whole text that is taken in
+abbrev pub longest_text : ℕ
+longest_text = 4194304
+
+-- A whole text that is longer is refused. A message whose key the list holds is known, and nothing changes.
 -- A list that holds as many messages as the limit takes no more.
 abbrev pub added_within : ℕ → Archive → List ℕ → Item → Outcome
 added_within limit archive list item =
     if not (has_list archive list) then refuse archive no_list
-    else if nat_lt 4194304 (length (whole item.text)) then refuse archive too_large
+    else if nat_lt longest_text (length (whole item.text)) then refuse archive too_large
     else if has_message archive list (item_key item) then (archive, already_known)
     else if nat_le limit (length (messages_in archive list)) then refuse archive list_full
-    else (record archive { messages = archive.messages ++ new_message list item ∷ [] }, taken_in)
+    else (with_message archive list item, taken_in)
 
 abbrev pub message_limit : ℕ
 message_limit = 50000

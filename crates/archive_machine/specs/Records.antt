@@ -1,4 +1,4 @@
--- What the archive remembers: four lists of records, each in the order in which they came.
+-- What the archive remembers: lists of records, each in the order in which they came.
 use Rattle.std.specs.Prelude.{ℕ, ℤ, List, Option}
 
 -- a person, and the token by which a request shows who asks (RFC 6750)
@@ -26,8 +26,17 @@ pub record Message : Type 0 where
   pub withdrawn : ℤ
   pub embargo : Option ℤ
 
+-- what is filed of a message: its sent date, in seconds as an arrival; the month of that, as year times 12 plus month less 1;
+-- and its author key
+pub record Filing : Type 0 where
+  pub sent : ℤ
+  pub month : ℤ
+  pub author : List ℕ
+
+-- the filings are those of the messages, in the same order
 pub record Archive : Type 0 where
   pub lists : List (List ℕ)
   pub persons : List Person
   pub grants : List Grant
   pub messages : List Message
+  pub filings : List Filing

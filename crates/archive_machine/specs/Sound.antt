@@ -1,5 +1,5 @@
 -- Archives that only commands have made.
-use Rattle.std.specs.Prelude.{◌≡◌, ◌≢◌, ℕ, ℤ, List, true, ⊤}
+use Rattle.std.specs.Prelude.{◌≡◌, ◌≢◌, ℕ, ℤ, List, map, true, ⊤}
 use Rattle.std.specs.List.{All, AllPairs}
 use Rattle.policy_core.specs.Names.{is_name}
 use Rattle.mbox_core.specs.Division.{Item, is_whole}
@@ -8,6 +8,7 @@ use Rattle.archive_machine.specs.Records.{Grant, Message, Archive}
 use Rattle.archive_machine.specs.Commands.{Command, add}
 use Rattle.archive_machine.specs.Tokens.{is_token}
 use Rattle.archive_machine.specs.Keys.{key_of}
+use Rattle.archive_machine.specs.Filing.{message_filing}
 
 -- what is written of a message: its sender, its arrival and its text
 abbrev pub item_of : Message → Item
@@ -21,6 +22,10 @@ pub record IsSoundMessage (m : Message) : Type 0 where
 
 abbrev pub IsSound : Archive → Type 0
 IsSound archive = All IsSoundMessage archive.messages
+
+-- what is filed of each message is what its text says
+abbrev pub IsFiledRight : Archive → Type 0
+IsFiledRight archive = archive.filings ≡ map message_filing archive.messages
 
 -- what an `add` adds is a message that can be written
 abbrev pub AddsItem : Command → Type 0

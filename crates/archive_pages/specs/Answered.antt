@@ -1,5 +1,5 @@
 -- What a call that answers a request says.
-use Rattle.std.specs.Prelude.{◌≡◌, ◌≤◌, ◌<◌, ◌+◌, ◌++◌, ◌⊎◌, ℕ, ℤ, List, length, take, Result, Ok, Err}
+use Rattle.std.specs.Prelude.{◌≡◌, ◌≤◌, ◌<◌, ◌+◌, ◌++◌, ◌⊎◌, ℕ, ℤ, List, length, take, IfSome, Result, Ok, Err}
 use Rattle.sqlite.specs.Store.{Ghosts}
 use Rattle.httparse.specs.Grammar.{RequestHead, HasNoRequest}
 use Rattle.httparse.specs.Spans.{RequestExceeds}
@@ -8,7 +8,8 @@ use Rattle.archive_store.specs.Told.{Goes}
 use Rattle.archive_store.specs.declared.store.Store.{Store}
 use Rattle.archive_requests.specs.Heads.{BeginsWith, Exceeds, CanBecome}
 use Rattle.archive_pages.specs.Replies.{Sends, bad_request, head_too_large}
-use Rattle.archive_pages.specs.Answers.{reply_of}
+use Rattle.archive_requests.specs.Requests.{request_of}
+use Rattle.archive_pages.specs.Answers.{reply_of, direct_reply}
 use Rattle.archive_pages.specs.Serving.{Serves}
 use Rattle.archive_pages.specs.declared.faults.ServeFault.{ServeFault}
 use Rattle.archive_pages.specs.declared.faults.ServeFault.TheVariants.{Read, Write, Broken}
@@ -20,6 +21,8 @@ pub record IsAnswered {S : Type 0} (g : Ghosts S) (old new : Store S) (rules : L
   -- broke off (S3)
   pub head : (h : RequestHead) → BeginsWith all h
       → Serves g old new (λ a reply. reply ≡ reply_of a rules day h) told_before told_after result
+  -- to a head that asks for no path just the reply of the definition, whatever the store: never 503
+  pub direct : (h : RequestHead) → BeginsWith all h → IfSome (direct_reply (request_of h)) (λ wanted. Sends (λ reply. reply ≡ wanted) told_before told_after result)
   -- to no such head 400 or 431, without a look at the store
   pub none : ((h : RequestHead) → ¬ BeginsWith all h) → Goes g old new (λ a b. b ≡ a)
       × Sends (λ reply. (reply ≡ bad_request) ⊎ (reply ≡ head_too_large)) told_before told_after result

@@ -85,5 +85,12 @@ request_reply archive rules day no_token = unauthorized
 request_reply archive rules day (asks token path) =
     option_map_or (path_reply archive rules day path) (reader_of archive token) unauthorized
 
+-- The reply to a request that asks for no path: neither the archive nor memory is needed for it. None: it asks for one.
+abbrev pub direct_reply : Request → Option Reply
+direct_reply bad = Some bad_request
+direct_reply other_method = Some not_allowed
+direct_reply no_token = Some unauthorized
+direct_reply (asks token path) = None
+
 abbrev pub reply_of : Archive → List Rule → ℤ → RequestHead → Reply
 reply_of archive rules day head = request_reply archive rules day (request_of head)

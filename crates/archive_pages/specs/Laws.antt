@@ -8,7 +8,7 @@ use Rattle.policy_core.specs.Rules.{Rule, fits}
 use Rattle.archive_machine.specs.Records.{Archive, Message}
 use Rattle.archive_machine.specs.Questions.{has_list, list_names, message_of}
 use Rattle.archive_machine.specs.Keys.{is_key}
-use Rattle.archive_results.specs.Access.{Ask, facts_of, marks_of, reader_standing, is_shown}
+use Rattle.archive_results.specs.Access.{Ask, facts_of, marks_of, reader_marks, is_shown}
 use Rattle.archive_results.specs.Results.{TreeLine, month_lines, author_lines, tree_lines, thread_lines, export_text}
 use Rattle.archive_html.specs.Pages.{month_page, author_page, threads_page, thread_page}
 use Rattle.archive_requests.specs.Requests.{asks, request_of}
@@ -37,7 +37,7 @@ pub record AsksForMessage (archive : Archive) (head : RequestHead) (reader : Opt
 
 -- the facts of a message, on which the rules decide
 abbrev pub facts_on : Archive → Ask → Message → Facts
-facts_on archive ask m = facts_of ask (reader_standing archive ask) (marks_of m)
+facts_on archive ask m = facts_of ask (reader_marks archive ask) (marks_of m)
 
 -- no rule fits
 abbrev pub NoneFits : List Rule → Facts → Type 0
@@ -92,7 +92,7 @@ pub record DeniesWhatIsDenied (archive : Archive) (rules : List Rule) (day : ℤ
 -- Every other reply on a list that is there shows the results of RFC 5256 and RFC 4155 over the messages that the rules allow,
 -- and nothing else.
 pub record ShowsWhatIsAllowed (archive : Archive) (rules : List Rule) (day : ℤ) (head : RequestHead) : Type 0 where
-  pub view : (ask : Ask) (m : Message) → (is_shown ask (reader_standing archive ask) m ≡ true) ↔ IsAllowed ask.rules (facts_on archive ask m)
+  pub view : (ask : Ask) (m : Message) → (is_shown ask (reader_marks archive ask) m ≡ true) ↔ IsAllowed ask.rules (facts_on archive ask m)
   pub of_month : (reader : Option (List ℕ)) (list text : List ℕ) (m : ℕ) → AsksFor archive head reader (month list text) → has_list archive list ≡ true
       → month_of_text text ≡ Some m
       → reply_of archive rules day head ≡ page_reply (month_page list m (month_lines m (shown_view archive (asking rules day reader list))))

@@ -11,7 +11,7 @@ use Rattle.sqlite.specs.Closing.{IsCopied}
 use Rattle.httparse.specs.Grammar.{HasNoRequest}
 use Rattle.policy_core.specs.Rules.{Rule}
 use Rattle.archive_machine.specs.Records.{Archive}
-use Rattle.archive_store.specs.Told.{HoldsArchive, HasReturned, IsReady, archive_in, Goes}
+use Rattle.archive_store.specs.Told.{HoldsArchive, HasReturned, HoldsTables, archive_in, Goes}
 use Rattle.archive_store.specs.declared.store.Store.{Store}
 use Rattle.archive_pages.specs.Answered.{ByOutcome, IsAnswered, Reads}
 use Rattle.archive_pages.specs.Running.{AnswersFrom}
@@ -28,7 +28,7 @@ module _ {D : Type 0} {g : Ghosts D} where
     pub opens : IsOpened opened
     -- `Store::adopt`
     pub adopted : (archive : Archive) → HoldsArchive over_files opened archive → HasReturned over_files store
-        → IsReady over_files store × (archive_in over_files store ≡ archive)
+        → HoldsTables over_files store × (archive_in over_files store ≡ archive)
 
   -- the clause of `answer`
   abbrev pub Answers : (old new : Store (FileStore D g)) → List Rule → (day : ℤ) → (read_before read_after : List ℕ) → (ends_before ends_after : ℕ)

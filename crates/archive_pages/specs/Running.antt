@@ -1,12 +1,13 @@
 -- What a call that carries commands out and then answers a request says.
-use Rattle.std.specs.Prelude.{◌≡◌, ◌≤◌, ◌<◌, ◌++◌, ◌⊎◌, ℕ, ℤ, List, length, take, Result}
+use Rattle.std.specs.Prelude.{◌≡◌, ◌≤◌, ◌<◌, ◌++◌, ◌⊎◌, ℕ, ℤ, List, length, take, IfSome, Result}
 use Rattle.httparse.specs.Grammar.{RequestHead, HasNoRequest}
 use Rattle.httparse.specs.Spans.{RequestExceeds}
 use Rattle.policy_core.specs.Rules.{Rule}
 use Rattle.archive_machine.specs.Records.{Archive}
 use Rattle.archive_requests.specs.Heads.{BeginsWith, Exceeds, CanBecome}
 use Rattle.archive_pages.specs.Replies.{Sends, Breaks, Is, IsBroken, bad_request, head_too_large}
-use Rattle.archive_pages.specs.Answers.{reply_of}
+use Rattle.archive_requests.specs.Requests.{request_of}
+use Rattle.archive_pages.specs.Answers.{reply_of, direct_reply}
 use Rattle.archive_pages.specs.Answered.{ByOutcome, Reads}
 use Rattle.archive_pages.specs.declared.faults.ServeFault.{ServeFault}
 
@@ -19,6 +20,8 @@ pub record IsAnsweredFrom (archive : Archive) (rules : List Rule) (day : ℤ) (g
   pub head : (h : RequestHead) → BeginsWith all h
       → Sends (Is (reply_of archive rules day h)) told_before told_after result
       ⊎ IsBroken result (Breaks (λ reply. reply ≡ reply_of archive rules day h) told_before told_after)
+  -- to a head that asks for no path just the reply of the definition: never 503
+  pub direct : (h : RequestHead) → BeginsWith all h → IfSome (direct_reply (request_of h)) (λ wanted. Sends (λ reply. reply ≡ wanted) told_before told_after result)
   -- to no such head 400 or 431
   pub none : ((h : RequestHead) → ¬ BeginsWith all h)
       → Sends (λ reply. (reply ≡ bad_request) ⊎ (reply ≡ head_too_large)) told_before told_after result

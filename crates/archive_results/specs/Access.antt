@@ -48,6 +48,13 @@ withdrawal_numbered number = if int_eq number (pos 2) then Board else if int_eq 
 abbrev pub reader_standing : Archive → Ask → Standing
 reader_standing archive ask = option_map_or (λ person. standing_ranked (standing_of archive person ask.list ask.day)) ask.reader Public
 
+-- What a policy asks of a reader: the standing on the list and the day.
+pub record ReaderMarks : Type 0 where
+  pub standing : Standing
+
+abbrev pub reader_marks : Archive → Ask → ReaderMarks
+reader_marks archive ask = record { standing = reader_standing archive ask }
+
 -- What a policy asks of a message: when it came, who withdrew it, and the day up to which it is held back.
 pub record Marks : Type 0 where
   pub arrival : ℤ
@@ -57,35 +64,35 @@ pub record Marks : Type 0 where
 unfoldable pub marks_of : Message → Marks
 marks_of m = record { arrival = m.arrival; withdrawn = withdrawal_numbered m.withdrawn; embargo_until = m.embargo }
 
-abbrev pub facts_of : Ask → Standing → Marks → Facts
-facts_of ask standing marks = record {
+abbrev pub facts_of : Ask → ReaderMarks → Marks → Facts
+facts_of ask reader marks = record {
   list = ask.list;
-  standing = standing;
+  standing = reader.standing;
   day = ask.day;
   arrival_day = day_of_instant marks.arrival;
   withdrawn = marks.withdrawn;
   embargo_until = marks.embargo_until;
 }
 
--- what the policy says of a message of these marks to a reader of this standing
-unfoldable pub ruling_on : Ask → Standing → Marks → Ruling
-ruling_on ask standing marks = verdict_of ask.rules (facts_of ask standing marks)
+-- what the policy says of a message of these marks to a reader of these
+unfoldable pub ruling_on : Ask → ReaderMarks → Marks → Ruling
+ruling_on ask reader marks = verdict_of ask.rules (facts_of ask reader marks)
 
 abbrev pub is_allowance : Ruling → Bool
 is_allowance (allowed rule) = true
 is_allowance (denied rule) = false
 
-abbrev pub allows : Ask → Standing → Marks → Bool
-allows ask standing marks = is_allowance (ruling_on ask standing marks)
+abbrev pub allows : Ask → ReaderMarks → Marks → Bool
+allows ask reader marks = is_allowance (ruling_on ask reader marks)
 
-abbrev pub is_shown : Ask → Standing → Message → Bool
-is_shown ask standing m = allows ask standing (marks_of m)
+abbrev pub is_shown : Ask → ReaderMarks → Message → Bool
+is_shown ask reader m = allows ask reader (marks_of m)
 
 -- ---- the view, and one message
 
 -- The view of a reader: the list's messages that the policy allows, in mailbox order.
 abbrev pub view_of : Archive → Ask → List Message
-view_of archive ask = filter (is_shown ask (reader_standing archive ask)) (messages_in archive ask.list)
+view_of archive ask = filter (is_shown ask (reader_marks archive ask)) (messages_in archive ask.list)
 
 -- What who asks for a message by its key gets: its whole text, the rule that denies it, or that the list does not hold it.
 pub data Asked : Type 0 where
@@ -98,11 +105,11 @@ asked_by m (allowed rule) = served m.text
 asked_by m (denied rule) = denied_by rule
 
 -- of the message that the list holds, if it does
-abbrev pub asked_on : Ask → Standing → Option Message → Asked
-asked_on ask standing held = option_map_or (λ m. asked_by m (ruling_on ask standing (marks_of m))) held absent
+abbrev pub asked_on : Ask → ReaderMarks → Option Message → Asked
+asked_on ask reader held = option_map_or (λ m. asked_by m (ruling_on ask reader (marks_of m))) held absent
 
 abbrev pub asked_of : Archive → Ask → (key : List ℕ) → Asked
-asked_of archive ask key = asked_on ask (reader_standing archive ask) (message_of archive ask.list key)
+asked_of archive ask key = asked_on ask (reader_marks archive ask) (message_of archive ask.list key)
 
 -- what an answer of the code says
 abbrev pub told : Told → Asked

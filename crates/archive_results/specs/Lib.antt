@@ -3,3 +3,4 @@ pub mod Shown
 pub mod Results
 pub mod Index
 pub mod Slots
+pub mod Filed

@@ -1,5 +1,5 @@
 -- What is shown of a view. Each is a function of the view alone, so that nothing of a message that is not in it can show.
-use Rattle.std.specs.Prelude.{ℕ, ◌-◌, ◌==◌, int_lt, Bool, List, [], ◌∷◌, map, filter, take, drop, position, slice_get, bytes_eq, Option, option_map, if◌then◌else◌}
+use Rattle.std.specs.Prelude.{ℕ, ◌-◌, ◌==◌, int_lt, Bool, true, List, [], ◌∷◌, map, filter, take, drop, position, slice_get, bytes_eq, Option, option_map, if◌then◌else◌}
 use Rattle.std.specs.List.{list_any}
 use Rattle.std.specs.Option.{option_and_then}
 use Rattle.civil_time.specs.Calendar.{month_of_instant}
@@ -50,8 +50,9 @@ pub record TreeLine : Type 0 where
 abbrev pub tree_line : List Line → Row → TreeLine
 tree_line lines row = record { depth = row.depth; line = option_and_then (slice_get lines) row.place }
 
+-- profile: gathered by subject
 abbrev pub rows_of : List Shown → List Row
-rows_of view = threads_of (map (λ s. entry_of s.item) view)
+rows_of view = threads_of (map (λ s. entry_of s.item) view) true
 
 -- all threads (RFC 5256, section 3, THREAD=REFERENCES)
 abbrev pub tree_lines : List Shown → List TreeLine

@@ -1,4 +1,5 @@
 pub mod Sifting
+pub mod Stops
 pub mod Refusals
 pub mod Running
 pub mod Databases

@@ -5,8 +5,8 @@ use Rattle.archive_store.specs.declared.store.Store.{Store}
 use Rattle.archive_store.specs.declared.faults.StoreFault.{StoreFault}
 use Rattle.archive_words.specs.Values.{SiftValues}
 use Rattle.archive_words.specs.declared.orders.Order.{Order}
-use Rattle.archive_words.specs.declared.orders.Order.TheVariants.{Sift, Table, Import, Get, Export, Serve}
-use Rattle.archive_run.specs.Working.{Sent, IsTableDone, IsTableCause, IsImportDone, IsImportCause, IsGetDone, IsGetCause, IsExportDone, IsExportCause}
+use Rattle.archive_words.specs.declared.orders.Order.TheVariants.{Sift, Table, Import, Get, Export, Check, Serve}
+use Rattle.archive_run.specs.Working.{Sent, IsTableDone, IsTableCause, IsImportDone, IsImportCause, IsGetDone, IsGetCause, IsExportDone, IsExportCause, IsCheckDone, IsCheckCause}
 use Rattle.archive_run.specs.declared.faults.Refusal.{Refusal}
 use Rattle.archive_run.specs.declared.files.FileFault.{FileFault}
 
@@ -17,6 +17,7 @@ OnSift (Table order) P = Unit {0}
 OnSift (Import order) P = Unit {0}
 OnSift (Get order) P = Unit {0}
 OnSift (Export order) P = Unit {0}
+OnSift (Check order) P = Unit {0}
 OnSift (Serve order) P = Unit {0}
 
 -- The files that are read whole, those that are opened and what their inputs tell, a clock, a device of databases and an input
@@ -33,6 +34,7 @@ module _ {F I C S D R : Type 0} (gives : F → List ℕ → Result (List ℕ) Fi
       IsImportDone g opens closes old new before after inputs told ends failures files order × (clock_new ≡ clock_old) × (input_new ≡ input_old)
   IsOrderDone (Get order) = IsGetDone g opens closes old new before after tells clock_old clock_new gives files order × (input_new ≡ input_old)
   IsOrderDone (Export order) = IsExportDone g opens closes old new before after tells clock_old clock_new gives files order × (input_new ≡ input_old)
+  IsOrderDone (Check order) = IsCheckDone g opens closes old new before after order × (clock_new ≡ clock_old) × (input_new ≡ input_old)
   IsOrderDone (Serve order) = ⊥
 
   -- The order was refused for a reason that holds, and nothing else was touched.
@@ -43,4 +45,5 @@ module _ {F I C S D R : Type 0} (gives : F → List ℕ → Result (List ℕ) Fi
       IsImportCause g opens closes old new before after inputs told ends failures files order refusal × (clock_new ≡ clock_old) × (input_new ≡ input_old)
   IsOrderCause (Get order) refusal = IsGetCause g opens closes old new before after tells clock_old clock_new gives files order refusal × (input_new ≡ input_old)
   IsOrderCause (Export order) refusal = IsExportCause g opens closes old new before after tells clock_old clock_new gives files order refusal × (input_new ≡ input_old)
+  IsOrderCause (Check order) refusal = IsCheckCause g opens closes old new before after order refusal × (clock_new ≡ clock_old) × (input_new ≡ input_old)
   IsOrderCause (Serve order) refusal = (new ≡ old) × (clock_new ≡ clock_old) × (input_new ≡ input_old) × (after ≡ before)

@@ -1,5 +1,5 @@
 -- How refusals are told.
-use Rattle.std.specs.Prelude.{◌≡◌, ◌⊎◌, ◌++◌, ℕ, List, codes, decimal, string_bytes}
+use Rattle.std.specs.Prelude.{◌≡◌, ◌⊎◌, ◌&&◌, ◌++◌, nat_le, ℕ, List, map, codes, decimal, string_bytes, if◌then◌else◌}
 use Rattle.mbox_core.specs.declared.faults.MboxFault.{MboxFault}
 use Rattle.mbox_core.specs.declared.faults.MboxFault.TheVariants as mbox
 use Rattle.policy_core.specs.declared.faults.PolicyFault.{PolicyFault}
@@ -11,7 +11,7 @@ use Rattle.archive_desk.specs.declared.faults.DeskFault.TheVariants as desk
 use Rattle.archive_desk.specs.declared.importing.ImportFault.{ImportFault}
 use Rattle.archive_desk.specs.declared.importing.ImportFault.TheVariants as taking
 use Rattle.archive_run.specs.declared.faults.Refusal.{Refusal}
-use Rattle.archive_run.specs.declared.faults.Refusal.TheVariants.{Mbox, Policy, Store, Desk, Import, Denied, Read, Write, Clock, Net, Memory}
+use Rattle.archive_run.specs.declared.faults.Refusal.TheVariants.{Mbox, Policy, Store, Desk, Import, Damaged, Denied, Read, Write, Clock, Net, Memory}
 
 abbrev pub mbox_text : MboxFault → List ℕ
 mbox_text (mbox.Preamble offset) = codes "M1 Preamble at " ++ decimal offset
@@ -58,20 +58,37 @@ abbrev pub import_text : ImportFault → List ℕ
 import_text (taking.Mbox fault) = mbox_text fault
 import_text (taking.Store fault) = store_text fault
 
+-- ---- bytes of a database in a line
+
+-- a byte that is not visible is shown as `?`
+abbrev pub visible_byte : ℕ → ℕ
+visible_byte b = if nat_le 33 b && nat_le b 126 then b else 63
+
+abbrev pub visible : List ℕ → List ℕ
+visible = map visible_byte
+
+-- ---- refusals
+
 -- The number and the name, and where the fault is. Of an import that stopped, how many messages were done; of a message that
--- is denied, the rule that denies it.
+-- is damaged, its list and its key; of one that is denied, the rule that denies it.
 abbrev pub refusal_text : Refusal → List ℕ
 refusal_text (Mbox fault) = mbox_text fault
 refusal_text (Policy fault) = policy_text fault
 refusal_text (Store fault) = store_text fault
 refusal_text (Desk fault) = desk_text fault
 refusal_text (Import stop) = import_text stop.fault ++ codes " after " ++ decimal stop.done
+refusal_text (Damaged list key) = codes "E16 Damaged " ++ string_bytes list ++ codes " " ++ string_bytes key
 refusal_text (Denied rule) = codes "denied by " ++ string_bytes rule
 refusal_text Read = codes "F1 Read"
 refusal_text Write = codes "F2 Write"
 refusal_text Clock = codes "F3 Clock"
 refusal_text Net = codes "F4 Net"
 refusal_text Memory = codes "F5 Memory"
+
+-- The refusal is E16 of a message of this list and key, each byte of which that is not visible it shows as `?`.
+abbrev pub ShowsDamage : (list key : List ℕ) → Refusal → Type 0
+ShowsDamage list key (Damaged shown_list shown_key) = (string_bytes shown_list ≡ visible list) × (string_bytes shown_key ≡ visible key)
+ShowsDamage list key _ = ⊥
 
 -- the one line that tells a refusal
 abbrev pub fault_line : Refusal → List ℕ

@@ -8,7 +8,7 @@ use Rattle.archive_run.specs.declared.faults.Refusal.{Refusal}
 use Rattle.archive_run.specs.declared.faults.Refusal.TheVariants.{Mbox, Policy, Read, Write, Clock, Memory}
 use Rattle.archive_run.specs.declared.files.FileFault.{FileFault}
 use Rattle.archive_run.specs.declared.files.FileFault.TheVariants as file
-use Rattle.clap.specs.Words.{takes}
+use Rattle.clap.specs.Words.{fault_of, takes}
 use Rattle.archive_words.specs.Program.{archive_app}
 use Rattle.archive_words.specs.Orders.{ordered}
 use Rattle.archive_words.specs.Values.{SiftValues}
@@ -17,9 +17,9 @@ use Rattle.mbox_core.specs.declared.faults.MboxFault.{MboxFault}
 use Rattle.archive_run.specs.declared.sifting.SiftFault.TheVariants as sift
 use Rattle.archive_run.specs.Sifting.{Asked, SiftsTold, SiftsPart, IsUnread}
 
--- the words are such as the program takes, and order this
+-- the words are such as the program takes, or `clap` has no fault to tell of them; and they order this
 abbrev pub GiveOrder : List (List ℕ) → Order → Type 0
-GiveOrder words order = (takes archive_app words ≡ true) × (ordered words ≡ Some order)
+GiveOrder words order = ((takes archive_app words ≡ true) ⊎ (fault_of archive_app words ≡ [])) × (ordered words ≡ Some order)
 
 -- ---- the policy
 

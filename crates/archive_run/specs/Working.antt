@@ -7,10 +7,12 @@ use Rattle.policy_core.specs.Rules.{Rule}
 use Rattle.archive_store.specs.declared.store.Store.{Store as Open}
 use Rattle.archive_store.specs.declared.faults.StoreFault.{StoreFault}
 use Rattle.archive_store.specs.declared.faults.StoreFault.TheVariants as store
+use Rattle.archive_store.specs.Checking.{Checks}
+use Rattle.archive_store.specs.declared.checking.CheckStop.TheVariants as check
 use Rattle.archive_results.specs.Access.{Ask}
 use Rattle.archive_desk.specs.Exporting.{ExportsPart, IsExportStop, exported}
 use Rattle.archive_desk.specs.declared.importing.Report.{Report}
-use Rattle.archive_words.specs.Values.{AskValues, GetValues, ImportValues, TableCommand, TableValues}
+use Rattle.archive_words.specs.Values.{AskValues, CheckValues, GetValues, ImportValues, TableCommand, TableValues}
 use Rattle.archive_work.specs.Commands.{answer_line}
 use Rattle.archive_import.specs.Streaming.{FailedBy, Imports}
 use Rattle.archive_work.specs.Working.{Carries, Exports, Gets}
@@ -18,9 +20,10 @@ use Rattle.archive_work.specs.declared.commands.Answer.{Answer}
 use Rattle.archive_work.specs.declared.getting.GetStop.TheVariants as got
 use Rattle.archive_run.specs.Databases.{Works, IsUnopened}
 use Rattle.archive_run.specs.Files.{FileTells, GivesNone}
+use Rattle.archive_run.specs.Refusals.{visible}
 use Rattle.archive_run.specs.Running.{IsPolicyOf, IsPolicyCause, IsDayBy}
 use Rattle.archive_run.specs.declared.faults.Refusal.{Refusal}
-use Rattle.archive_run.specs.declared.faults.Refusal.TheVariants.{Store, Desk, Import, Denied, Read, Write, Clock, Memory}
+use Rattle.archive_run.specs.declared.faults.Refusal.TheVariants.{Store, Desk, Import, Damaged, Denied, Read, Write, Clock, Memory}
 use Rattle.archive_run.specs.declared.files.FileFault.{FileFault}
 use Rattle.archive_run.specs.declared.files.FileFault.TheVariants as file
 
@@ -81,6 +84,17 @@ module _ {S : Type 0} (g : Ghosts S) (old new : Open S) where
   GetsNot ask key Memory = (name : _) × Gets g old new ask key (Err (got.Denied name))
   GetsNot ask key _ = ⊥
 
+  -- a check that says E16 of a message
+  abbrev pub FindsDamage : (list key : List ℕ) → Type 0
+  FindsDamage list key = (l : Vec ℕ Global) × (k : Vec ℕ Global) × (list ≡ visible l.items) × (key ≡ visible k.items) × Checks g old new (Err (check.Damaged l k))
+
+  -- a check: E14, E15; or E16, where there was memory for the list and the key
+  abbrev pub ChecksNot : Refusal → Type 0
+  ChecksNot (Store fault) = Checks g old new (Err (check.Failed fault))
+  ChecksNot (Damaged list key) = FindsDamage (string_bytes list) (string_bytes key)
+  ChecksNot Memory = (list : List ℕ) × (key : List ℕ) × FindsDamage list key
+  ChecksNot _ = ⊥
+
   -- an export: G1, G2, G4 to G6; exactly the first bytes of its text went out
   abbrev pub ExportsNot : Ask → (before after : Sent) → Refusal → Type 0
   ExportsNot ask before after (Desk fault) = (count : ℕ) × Exports g old new ask before.written after.written (Err (record { written = count; fault = fault }))
@@ -120,6 +134,16 @@ module _ {S D : Type 0} (g : Ghosts S) (opens : D → D → List ℕ → Result 
       (Fails opens closes old new order.file (λ o c. CarriesNot g o c order.command) refusal × (after ≡ before))
       ⊎ ((refusal ≡ Write) × (answer : Answer) × Works opens closes old new order.file (λ o c. Carries g o c order.command (Ok answer))
       × SendsPart before after (answer_line answer))
+
+  -- The database of the name was found whole, and `ok` went out as one line.
+  abbrev pub IsCheckDone : CheckValues → Type 0
+  IsCheckDone order = Works opens closes old new order.file (λ o c. Checks g o c (Ok tt)) × Sends before after (codes "ok\n")
+
+  -- It was not, and nothing went out; or it was, and the output failed (F2).
+  abbrev pub IsCheckCause : CheckValues → Refusal → Type 0
+  IsCheckCause order refusal =
+      (Fails opens closes old new order.file (λ o c. ChecksNot g o c) refusal × (after ≡ before))
+      ⊎ ((refusal ≡ Write) × Works opens closes old new order.file (λ o c. Checks g o c (Ok tt)) × SendsPart before after (codes "ok\n"))
 
   module _ {F I : Type 0} (inputs : F → List ℕ → Result I FileFault → Type 0) (told : I → List ℕ) (ends failures : I → ℕ) (files : F) where
     -- The messages of the named mbox were taken into the list, and the report went out as one line.

@@ -7,6 +7,7 @@ use Rattle.archive_store.specs.Told.{Goes}
 use Rattle.archive_store.specs.declared.store.Store.{Store}
 use Rattle.archive_pages.specs.Answered.{ByOutcome, IsAnswered, Reads}
 use Rattle.archive_pages.specs.Replies.{IsServeStop}
+use Rattle.archive_pages.specs.Serving.{Stays}
 use Rattle.archive_pages.specs.declared.faults.ServeFault.{ServeFault}
 use Rattle.archive_pages.specs.declared.faults.ServeFault.TheVariants as answering
 use Rattle.archive_listen.specs.Connections.{Telling, Outcome}
@@ -30,6 +31,7 @@ pub record AnswersAs {S : Type 0} (g : Ghosts S) (rules : List Rule) (day : ℤ)
       (λ given all. IsAnswered g old new rules day given all before.written after.written result))
       ((given : List ℕ) × (after.read ≡ before.read ++ given) × HasNoRequest given × (after.written ≡ before.written)
       × Goes g old new (λ a b. b ≡ a))
+  pub stays : Stays g old new result
   pub quiet : OnOk result ((after.read_failures ≡ before.read_failures) × (after.write_failures ≡ before.write_failures))
   pub cause : IfErr result (λ fault. IsServeStop before.written after.written
       before.read_failures after.read_failures before.write_failures after.write_failures fault)

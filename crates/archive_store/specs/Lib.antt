@@ -5,3 +5,4 @@ pub mod Running
 pub mod Batches
 pub mod Told
 pub mod Walking
+pub mod Checking

@@ -1,20 +1,25 @@
 -- How the commands and outcomes of the code stand for those of the machine.
-use Rattle.std.specs.Prelude.{◌≡◌, IsTrue, List, map, take, Option, Some, None, Result, Ok, Err, option_map, MatchResult, Vec}
+use Rattle.std.specs.Prelude.{◌≡◌, ⊤, ℕ, IsTrue, false, List, length, map, take, Option, Some, None, Result, Ok, Err, option_map, MatchOption, MatchResult, Vec}
 use Rattle.std.specs.declared.alloc.Global.{Global}
 use Rattle.sqlite.specs.Store.{Ghosts}
 use Rattle.sqlite.specs.Held.{Held, state}
 use Rattle.sqlite.specs.State.{State, HasCleanDisk}
-use Rattle.archive_machine.specs.Commands.{Command as Told, list_add, person_add, grant, revoke, add, withdraw, restore, embargo, lift, Reply, done, was_there, refused}
+use Rattle.archive_machine.specs.Records.{Archive}
+use Rattle.archive_machine.specs.Commands.{Command as Told, list_add, person_add, grant, revoke, add, withdraw, restore, embargo, lift, Reply, done, was_there, no_list, refused}
+use Rattle.archive_machine.specs.Questions.{has_list, messages_in}
+use Rattle.archive_machine.specs.Machine.{Outcome as Made}
 use Rattle.archive_machine.specs.Runs.{Run, run}
 use Rattle.archive_tables.specs.Tables.{IsKept, archive_of}
+use Rattle.archive_tables.specs.Calls.{Rests, StaysOver}
 use Rattle.archive_store.specs.Words.{rank_of, party_of, added_reply}
-use Rattle.archive_store.specs.Replies.{refusal}
+use Rattle.archive_store.specs.Replies.{refusal, Steps}
 use Rattle.archive_store.specs.declared.faults.StoreFault.{StoreFault}
 use Rattle.archive_store.specs.declared.running.Command.{Command}
 use Rattle.archive_store.specs.declared.running.Command.TheVariants.{ListAdd, PersonAdd, Grant, Revoke, Add, Withdraw, Restore, Embargo, Lift}
 use Rattle.archive_store.specs.declared.running.Outcome.{Outcome}
 use Rattle.archive_store.specs.declared.running.Outcome.TheVariants.{Done, WasThere, Added, Refused}
 use Rattle.archive_store.specs.declared.running.RunStop.{RunStop}
+use Rattle.archive_store.specs.declared.running.Counted.{Counted}
 
 abbrev pub command_of : Command → Told
 command_of (ListAdd name) = list_add name.now
@@ -43,7 +48,35 @@ carried (Err fault) = None
 abbrev pub RanAll : State → Run → State → List Outcome → Type 0
 RanAll old ran new outcomes = IsKept new × (archive_of new ≡ ran.archive) × (map answer_of outcomes ≡ map Some ran.replies)
 
+-- where a list was counted, it holds so many messages
+abbrev pub IsRightCount : Option Counted → Archive → Type 0
+IsRightCount None archive = ⊤
+IsRightCount (Some it) archive = length (messages_in archive it.list.now) ≡ it.count
+
 module _ {S : Type 0} (g : Ghosts S) (old new : Held S) where
+  -- one step of the machine, where the count was right
+  abbrev pub DoesCounted : Option Counted → (Archive → Made) → Option Reply → Type 0
+  DoesCounted before step reply =
+      HasCleanDisk (state g new) → IsKept (state g old) → IsRightCount before (archive_of (state g old)) → Steps (state g old) (state g new) step reply
+
+  -- where the count was right and there is an answer, the count is right
+  abbrev pub IsCountedOn : (before after : Option Counted) → Option Reply → Type 0
+  IsCountedOn before after reply = HasCleanDisk (state g new) → IsKept (state g old) → IsRightCount before (archive_of (state g old))
+      → MatchOption reply ⊤ (λ _. IsRightCount after (archive_of (state g new)))
+
+  -- only a command that adds a message counts
+  abbrev pub CountsOn : Command → (before after : Option Counted) → Option Reply → Type 0
+  CountsOn (Add list item) before after reply = IsCountedOn before after reply
+  CountsOn command before after reply = after ≡ before
+
+  -- how many messages a list holds, if that was found; a refusal leaves the archive as it was, and so does a fault, if the connection
+  -- is open
+  abbrev pub FindsCount : Option Counted → List ℕ → Result (Option ℕ) StoreFault → Type 0
+  FindsCount counted list result = HasCleanDisk (state g new) → IsKept (state g old) → IsRightCount counted (archive_of (state g old)) → MatchResult result
+      (λ found. StaysOver None (state g old) (state g new) × MatchOption found ⊤ (λ count. length (messages_in (archive_of (state g new)) list) ≡ count))
+      (λ fault. MatchOption (refusal fault) (Rests (state g old) (state g new))
+      (λ r. StaysOver None (state g old) (state g new) × (r ≡ no_list) × (has_list (archive_of (state g old)) list ≡ false)))
+
   abbrev pub Runs : List Told → Result (Vec Outcome Global) RunStop → Type 0
   Runs commands result = HasCleanDisk (state g new) → IsKept (state g old) → MatchResult result
       (λ outcomes. RanAll (state g old) (run (archive_of (state g old)) commands) (state g new) outcomes.items)

@@ -4,22 +4,30 @@ use Rattle.sqlite.specs.Store.{Ghosts}
 use Rattle.sqlite.specs.Held.{Held, state}
 use Rattle.sqlite.specs.State.{HasCleanDisk}
 use Rattle.archive_machine.specs.Records.{Archive}
+use Rattle.archive_machine.specs.Sound.{IsFiledRight}
 use Rattle.archive_tables.specs.Tables.{IsKept, archive_of}
 use Rattle.archive_store.specs.Held.{held_of}
 use Rattle.archive_store.specs.declared.store.Store.{Store}
 
 module _ {S : Type 0} (g : Ghosts S) where
-  -- a connection is open outside a transaction, and its tables are an archive's and hold this one
+  -- a connection is open outside a transaction, and its tables are an archive's and hold this one, in which what is filed of each
+  -- message is what its text says
   abbrev pub HoldsArchive : Held S → Archive → Type 0
-  HoldsArchive connection archive = IsKept (state g connection) × (archive_of (state g connection) ≡ archive)
+  HoldsArchive connection archive = IsKept (state g connection) × (archive_of (state g connection) ≡ archive) × IsFiledRight archive
 
-  -- The premise on a store: it is open, outside a transaction, and its tables are as the calls of a store leave them.
-  abbrev pub IsReady : Store S → Type 0
-  IsReady store = IsKept (state g (held_of store))
+  -- It is open, outside a transaction, and its tables are an archive's, whatever is filed of a message.
+  abbrev pub HoldsTables : Store S → Type 0
+  HoldsTables store = IsKept (state g (held_of store))
 
   -- what it remembers
   abbrev pub archive_in : Store S → Archive
   archive_in store = archive_of (state g (held_of store))
+
+  -- The premise on a store: its tables are as the calls of a store leave them, so what is filed of each message is what its text
+  -- says.
+  pub record IsReady (store : Store S) : Type 0 where
+    pub held : HoldsTables store
+    pub filed_right : IsFiledRight (archive_in store)
 
   abbrev pub IsOpen : Store S → Type 0
   IsOpen store = IsTrue (state g (held_of store)).is_open
@@ -33,24 +41,43 @@ module _ {S : Type 0} (g : Ghosts S) where
     abbrev pub HadReturned : Type 0
     HadReturned = HasReturned new → HasReturned old
 
-    -- where the store was ready it is ready, and this holds of what it remembered and of what it remembers
-    abbrev pub Goes : (Archive → Archive → Type 0) → Type 0
-    Goes R = HadReturned × (HasReturned new → IsReady old → IsReady new × R (archive_in old) (archive_in new))
+  -- ---- under a premise: `HoldsTables` or `IsReady`
+
+  module _ (Premise : Store S → Type 0) (old new : Store S) where
+    -- where the premise held of the store it holds, and this of what the store remembered and of what it remembers
+    abbrev pub GoesIn : (Archive → Archive → Type 0) → Type 0
+    GoesIn R = HadReturned old new × (HasReturned new → Premise old → Premise new × R (archive_in old) (archive_in new))
 
     -- the same, if the connection is still open
-    abbrev pub GoesIfOpen : (Archive → Archive → Type 0) → Type 0
-    GoesIfOpen R = HadReturned × (HasReturned new → IsReady old → IsOpen new → IsReady new × R (archive_in old) (archive_in new))
+    abbrev pub GoesInIfOpen : (Archive → Archive → Type 0) → Type 0
+    GoesInIfOpen R = HadReturned old new × (HasReturned new → Premise old → IsOpen new → Premise new × R (archive_in old) (archive_in new))
 
     -- A call, of the store or of a layer above it, whose faults have a reason, or none where memory or the database was at
     -- fault. `Says` holds of the archives before and after and of an answer, `Refuses` of a reason, and `Stops` of a fault
     -- that has none, if the connection is still open.
-    abbrev pub Calls : {A F R : Type 0} → (F → Option R) → Result A F → (Archive → Archive → A → Type 0) → (Archive → Archive → R → Type 0)
+    abbrev pub CallsIn : {A F R : Type 0} → (F → Option R) → Result A F → (Archive → Archive → A → Type 0) → (Archive → Archive → R → Type 0)
         → (Archive → Archive → F → Type 0) → Type 0
-    Calls reason result Says Refuses Stops = MatchResult result
-        (λ answer. Goes (λ a b. Says a b answer))
-        (λ fault. MatchOption (reason fault) (GoesIfOpen (λ a b. Stops a b fault)) (λ why. Goes (λ a b. Refuses a b why)))
+    CallsIn reason result Says Refuses Stops = MatchResult result
+        (λ answer. GoesIn (λ a b. Says a b answer))
+        (λ fault. MatchOption (reason fault) (GoesInIfOpen (λ a b. Stops a b fault)) (λ why. GoesIn (λ a b. Refuses a b why)))
 
     -- a question: it changes nothing, is refused where `refuses` says so, and is else answered by a value of which this holds
-    abbrev pub Asks : {A F R : Type 0} → (F → Option R) → Result A F → (Archive → Option R) → (Archive → A → Type 0) → Type 0
-    Asks reason result refuses Says = Calls reason result
+    abbrev pub AsksIn : {A F R : Type 0} → (F → Option R) → Result A F → (Archive → Option R) → (Archive → A → Type 0) → Type 0
+    AsksIn reason result refuses Says = CallsIn reason result
         (λ a b answer. (b ≡ a) × (refuses a ≡ None) × Says a answer) (λ a b why. (b ≡ a) × (refuses a ≡ Some why)) (λ a b _. b ≡ a)
+
+  -- ---- of a store that is ready
+
+  module _ (old new : Store S) where
+    abbrev pub Goes : (Archive → Archive → Type 0) → Type 0
+    Goes R = GoesIn IsReady old new R
+
+    abbrev pub GoesIfOpen : (Archive → Archive → Type 0) → Type 0
+    GoesIfOpen R = GoesInIfOpen IsReady old new R
+
+    abbrev pub Calls : {A F R : Type 0} → (F → Option R) → Result A F → (Archive → Archive → A → Type 0) → (Archive → Archive → R → Type 0)
+        → (Archive → Archive → F → Type 0) → Type 0
+    Calls reason result Says Refuses Stops = CallsIn IsReady old new reason result Says Refuses Stops
+
+    abbrev pub Asks : {A F R : Type 0} → (F → Option R) → Result A F → (Archive → Option R) → (Archive → A → Type 0) → Type 0
+    Asks reason result refuses Says = AsksIn IsReady old new reason result refuses Says

@@ -1,5 +1,6 @@
 pub mod Schema
 pub mod Tables
 pub mod Rows
+pub mod Listed
 pub mod Calls
 pub mod Making

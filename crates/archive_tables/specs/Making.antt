@@ -13,7 +13,7 @@ use Rattle.archive_tables.specs.Schema.{archive_schema}
 use Rattle.archive_tables.specs.Tables.{AreTables, archive_of}
 
 abbrev pub empty_archive : Archive
-empty_archive = record { lists = []; persons = []; grants = []; messages = [] }
+empty_archive = record { lists = []; persons = []; grants = []; messages = []; filings = [] }
 
 -- the tables of this schema are there, without rows, in a transaction that goes back to this database
 pub record IsMaking (s : State) (schema : Schema) (before : Database) : Type 0 where

@@ -1,5 +1,5 @@
 -- What the queries show of a record, and the record of what was read.
-use Rattle.std.specs.Prelude.{◌≡◌, ◌⊎◌, IsUtf8, ℕ, ℤ, pos, List, [], ◌∷◌, map, filter, find, bytes_eq, string_bytes, Option, None, option_map}
+use Rattle.std.specs.Prelude.{◌≡◌, ◌⊎◌, if◌then◌else◌, Bool, IsUtf8, ℕ, ℤ, pos, List, [], ◌∷◌, map, filter, find, bytes_eq, string_bytes, Option, None, option_map}
 use Rattle.std.specs.Ordering.{int_eq}
 use Rattle.sqlite.specs.declared.types.Value.TheVariants.{Int, Text, Blob}
 use Rattle.sqlite.specs.Order.{Row, column}
@@ -8,7 +8,8 @@ use Rattle.sqlite.specs.declared.error.Error.{Error}
 use Rattle.sqlite.specs.declared.error.Error.TheVariants.{SqliteFailure, Utf8Error}
 use Rattle.sqlite.specs.declared.error.ErrorCode.TheVariants.{OutOfMemory}
 use Rattle.archive_machine.specs.Records.{Grant, Message}
-use Rattle.archive_tables.specs.Tables.{or_null, Numbered, read_of, message_read}
+use Rattle.archive_machine.specs.Filing.{Filed, is_filed_in_month, is_filed_by_author, is_sent_before}
+use Rattle.archive_tables.specs.Tables.{or_null, Numbered, read_of, filed_read}
 use Rattle.archive_tables.specs.declared.rows.MessageRow.{MessageRow}
 use Rattle.archive_tables.specs.declared.rows.MarksRow.{MarksRow}
 use Rattle.archive_tables.specs.declared.rows.GrantRow.{GrantRow}
@@ -64,16 +65,41 @@ IsTextFault text e = (e ≡ no_memory) ⊎ ((¬ IsUtf8 text) × (e ≡ Utf8Error
 
 -- ---- the messages by their numbers
 
-abbrev pub numbered_messages : Trees → List (Numbered Message)
-numbered_messages trees = map (read_of message_read) (trees 8)
+abbrev pub numbered_filed : Trees → List (Numbered Filed)
+numbered_filed trees = map (read_of filed_read) (trees 8)
 
 -- the numbers of a list's messages, in mailbox order
 abbrev pub places_in : Trees → List ℕ → List ℤ
-places_in trees list = map (λ (r : Numbered Message). r.number) (filter (λ (r : Numbered Message). bytes_eq r.it.list list) (numbered_messages trees))
+places_in trees list = map (λ (r : Numbered Filed). r.number) (filter (λ (r : Numbered Filed). bytes_eq r.it.0.list list) (numbered_filed trees))
 
 -- the message of a number
 abbrev pub message_at : Trees → ℤ → Option Message
-message_at trees place = option_map (λ (r : Numbered Message). r.it) (find (λ (r : Numbered Message). int_eq r.number place) (numbered_messages trees))
+message_at trees place = option_map (λ (r : Numbered Filed). r.it.0) (find (λ (r : Numbered Filed). int_eq r.number place) (numbered_filed trees))
 
 abbrev pub place_shown : ℤ → Row
 place_shown place = Int place ∷ []
+
+-- ---- the messages that are filed under a month or an author key, by the numbers of their rows
+
+abbrev pub was_sent_before : Numbered Filed → Numbered Filed → Bool
+was_sent_before r s = is_sent_before r.it s.it
+
+-- a row before the first that was not sent before it
+abbrev pub with_row : Numbered Filed → List (Numbered Filed) → List (Numbered Filed)
+with_row r [] = r ∷ []
+with_row r (s ∷ rows) = if was_sent_before s r then s ∷ with_row r rows else r ∷ s ∷ rows
+
+-- by the sent date that is filed, and then by their numbers
+abbrev pub rows_by_date : List (Numbered Filed) → List (Numbered Filed)
+rows_by_date [] = []
+rows_by_date (r ∷ rows) = with_row r (rows_by_date rows)
+
+-- the numbers of the rows of which this holds
+abbrev pub places_where : (Filed → Bool) → Trees → List ℤ
+places_where wanted trees = map (λ (r : Numbered Filed). r.number) (rows_by_date (filter (λ (r : Numbered Filed). wanted r.it) (numbered_filed trees)))
+
+abbrev pub month_places : Trees → (list : List ℕ) → (month : ℤ) → List ℤ
+month_places trees list month = places_where (is_filed_in_month list month) trees
+
+abbrev pub author_places : Trees → (list key : List ℕ) → List ℤ
+author_places trees list key = places_where (is_filed_by_author list key) trees

@@ -4,7 +4,7 @@ use Rattle.sqlite.specs.declared.types.Value.TheVariants.{Null, Int}
 use Rattle.sqlite.specs.Collation.TheVariants.{Binary}
 use Rattle.sqlite.specs.Kind.{Kind}
 use Rattle.sqlite.specs.Kind.TheVariants.{Integer, Text, Blob, Any}
-use Rattle.sqlite.specs.Change.{created}
+use Rattle.sqlite.specs.Change.{created, indexed}
 use Rattle.sqlite.specs.Table.{Table}
 use Rattle.sqlite.specs.Schema.{Schema}
 use Rattle.sqlite.specs.Term.{Term, lit, col, op2}
@@ -31,7 +31,13 @@ abbrev pub create_grant : List ℕ
 create_grant = codes "CREATE TABLE grant_row (person TEXT NOT NULL REFERENCES person (name), list TEXT NOT NULL REFERENCES list (name), kind INTEGER NOT NULL CHECK (kind BETWEEN 1 AND 3), from_day INTEGER NOT NULL CHECK (from_day BETWEEN -25567 AND 2932531), until_day INTEGER NOT NULL CHECK (until_day BETWEEN -25567 AND 2932531), PRIMARY KEY (person, list, kind), CHECK (from_day <= until_day)) STRICT"
 
 abbrev pub create_message : List ℕ
-create_message = codes "CREATE TABLE message (pos INTEGER PRIMARY KEY AUTOINCREMENT, list TEXT NOT NULL REFERENCES list (name), key TEXT NOT NULL, sender BLOB NOT NULL, arrival INTEGER NOT NULL, text BLOB NOT NULL, withdrawn INTEGER NOT NULL CHECK (withdrawn BETWEEN 0 AND 2), embargo INTEGER CHECK (embargo BETWEEN -25567 AND 2932531), UNIQUE (list, key)) STRICT"
+create_message = codes "CREATE TABLE message (pos INTEGER PRIMARY KEY AUTOINCREMENT, list TEXT NOT NULL REFERENCES list (name), key TEXT NOT NULL, sender BLOB NOT NULL, arrival INTEGER NOT NULL, text BLOB NOT NULL, withdrawn INTEGER NOT NULL CHECK (withdrawn BETWEEN 0 AND 2), embargo INTEGER CHECK (embargo BETWEEN -25567 AND 2932531), sent INTEGER NOT NULL, month INTEGER NOT NULL, author BLOB NOT NULL, UNIQUE (list, key)) STRICT"
+
+abbrev pub create_month_index : List ℕ
+create_month_index = codes "CREATE INDEX message_by_month ON message (list, month, sent, pos)"
+
+abbrev pub create_author_index : List ℕ
+create_author_index = codes "CREATE INDEX message_by_author ON message (list, author, sent, pos)"
 
 -- ---- what they define: a tree for the rows of each table, and one for each key that is no rowid
 
@@ -101,7 +107,7 @@ grant_table = record (table (codes "grant_row") 6 (needed (codes "person") Text 
 abbrev pub message_table : Table
 message_table = record (table (codes "message") 8 (optional (codes "pos") Integer ∷ needed (codes "list") Text ∷ needed (codes "key") Text
     ∷ needed (codes "sender") Blob ∷ needed (codes "arrival") Integer ∷ needed (codes "text") Blob ∷ needed (codes "withdrawn") Integer
-    ∷ optional (codes "embargo") Integer ∷ [])) {
+    ∷ optional (codes "embargo") Integer ∷ needed (codes "sent") Integer ∷ needed (codes "month") Integer ∷ needed (codes "author") Blob ∷ [])) {
       key = Some 0;
       primary = 0 ∷ [];
       uniques = (2 ∷ 3 ∷ []) ∷ [];
@@ -118,6 +124,23 @@ sequence_table = table (codes "sqlite_sequence") 10 (free (codes "name") ∷ fre
 abbrev key_of : List ℕ → ℕ → ℕ → List ℕ → Index
 key_of name tree table columns = record { name = name; tree = tree; table = table; columns = columns; order = plain; is_unique = true }
 
+-- an index that is no key
+abbrev index_of : List ℕ → List ℕ → Index
+index_of name columns = record {
+  name = name;
+  tree = 0;
+  table = 8;
+  columns = columns;
+  order = plain;
+  is_unique = false;
+}
+
+abbrev pub month_index : Index
+month_index = index_of (codes "message_by_month") (2 ∷ 10 ∷ 9 ∷ 0 ∷ [])
+
+abbrev pub author_index : Index
+author_index = index_of (codes "message_by_author") (2 ∷ 11 ∷ 9 ∷ 0 ∷ [])
+
 abbrev pub no_schema : Schema
 no_schema = record { tables = []; indexes = []; views = [] }
 
@@ -127,7 +150,7 @@ archive_schema = record {
   indexes =
       key_of (codes "sqlite_autoindex_list_1") 2 1 (1 ∷ []) ∷ key_of (codes "sqlite_autoindex_person_1") 4 3 (1 ∷ [])
       ∷ key_of (codes "sqlite_autoindex_person_2") 5 3 (2 ∷ []) ∷ key_of (codes "sqlite_autoindex_grant_row_1") 7 6 (1 ∷ 2 ∷ 3 ∷ [])
-      ∷ key_of (codes "sqlite_autoindex_message_1") 9 8 (2 ∷ 3 ∷ []) ∷ [];
+      ∷ key_of (codes "sqlite_autoindex_message_1") 9 8 (2 ∷ 3 ∷ []) ∷ record month_index { tree = 11 } ∷ record author_index { tree = 12 } ∷ [];
   views = [];
 }
 
@@ -144,3 +167,9 @@ with_person = created with_list person_table
 
 abbrev pub with_grant : Schema
 with_grant = created with_person grant_table
+
+abbrev pub with_message : Schema
+with_message = created (created with_grant message_table) sequence_table
+
+abbrev pub with_month_index : Schema
+with_month_index = indexed with_message message_table month_index

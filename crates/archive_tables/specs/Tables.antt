@@ -9,8 +9,10 @@ use Rattle.sqlite.specs.Order.{Row, column, bytes, value_cmp}
 use Rattle.sqlite.specs.Tree.{Trees, IsTable, rowid}
 use Rattle.sqlite.specs.Edit.{id_in}
 use Rattle.sqlite.specs.Effect.{Database}
+use Rattle.sqlite.specs.Schema.{Schema}
 use Rattle.sqlite.specs.State.{State}
-use Rattle.archive_machine.specs.Records.{Person, Grant, Message, Archive}
+use Rattle.archive_machine.specs.Records.{Person, Grant, Message, Filing, Archive}
+use Rattle.archive_machine.specs.Filing.{Filed}
 use Rattle.archive_machine.specs.Questions.{is_grant, is_message}
 use Rattle.archive_tables.specs.Schema.{archive_schema}
 use Rattle.archive_tables.specs.declared.texts.schema.TheConstants.{VERSION}
@@ -50,9 +52,6 @@ grant_read row = record {
 }
 
 -- the number stands in the place of the column `pos`
-abbrev pub message_cells : Message → Row
-message_cells m = Null ∷ Text m.list ∷ Text m.key ∷ Blob m.sender ∷ Int m.arrival ∷ Blob m.text ∷ Int m.withdrawn ∷ or_null m.embargo ∷ []
-
 abbrev pub message_read : Row → Message
 message_read row = record {
   list = bytes (column row 2);
@@ -63,6 +62,19 @@ message_read row = record {
   withdrawn = id_in (column row 7);
   embargo = if_int (column row 8);
 }
+
+-- ---- what is filed of a message
+
+-- The columns of a message, and behind them those of what is filed of it
+abbrev pub filed_cells : Filed → Row
+filed_cells f = Null ∷ Text f.0.list ∷ Text f.0.key ∷ Blob f.0.sender ∷ Int f.0.arrival ∷ Blob f.0.text ∷ Int f.0.withdrawn ∷ or_null f.0.embargo
+    ∷ Int f.1.sent ∷ Int f.1.month ∷ Blob f.1.author ∷ []
+
+abbrev pub filing_read : Row → Filing
+filing_read row = record { sent = id_in (column row 9); month = id_in (column row 10); author = bytes (column row 11) }
+
+abbrev pub filed_read : Row → Filed
+filed_read row = (message_read row, filing_read row)
 
 -- ---- the rows of a table
 
@@ -104,23 +116,52 @@ same_message a b = is_message a.list a.key b
 
 -- ---- the database
 
-abbrev pub version_rows : List Row
-version_rows = (Int (pos 1) ∷ Int VERSION ∷ []) ∷ []
+-- the row of a version's number
+abbrev pub version_rows : ℤ → List Row
+version_rows number = (Int (pos 1) ∷ Int number ∷ []) ∷ []
 
--- the table `version` holds one row, of the number of these tables
-abbrev pub IsOfVersion : Trees → Type 0
-IsOfVersion trees = (row : Row) × (trees 0 ≡ row ∷ []) × (column row 1 ≡ Int VERSION)
+-- the table `version` holds one row, of this number
+abbrev pub IsOfVersion : ℤ → Trees → Type 0
+IsOfVersion number trees = (row : Row) × (trees 0 ≡ row ∷ []) × (column row 1 ≡ Int number)
 
--- the version is that of these tables, each table holds rows of its records, and no two grants or messages have the same key
-pub record AreTables (trees : Trees) : Type 0 where
-  pub version : trees 0 ≡ version_rows
+-- the version is of this number, each table holds rows of its records, and no two grants or messages have the same key
+pub record AreTablesOf (number : ℤ) (trees : Trees) : Type 0 where
+  pub version : trees 0 ≡ version_rows number
   pub lists : Holds list_cells list_read (trees 1)
   pub persons : Holds person_cells person_read (trees 3)
   pub grants : Holds grant_cells grant_read (trees 6)
-  pub messages : Holds message_cells message_read (trees 8)
+  pub messages : Holds filed_cells filed_read (trees 8)
   pub grants_apart : AreApart same_grant (map grant_read (trees 6))
   pub messages_apart : AreApart same_message (map message_read (trees 8))
   pub positive : ArePositive (trees 8)
+
+abbrev pub AreTables : Trees → Type 0
+AreTables = AreTablesOf VERSION
+
+-- what a database remembers
+abbrev pub archive_in : Trees → Archive
+archive_in trees = record {
+  lists = map list_read (trees 1);
+  persons = map person_read (trees 3);
+  grants = map grant_read (trees 6);
+  messages = map message_read (trees 8);
+  filings = map filing_read (trees 8);
+}
+
+abbrev pub archive_of : State → Archive
+archive_of s = archive_in s.now.trees
+
+-- ---- versions
+
+-- The tables of a version: their schema, of which rows they are, and which archive these stand for.
+pub record Form : Type 1 where
+  pub schema : Schema
+  pub IsOf : Trees → Type 0
+  pub remembered : Trees → Archive
+
+-- those that this program makes
+abbrev pub newest : Form
+newest = record { schema = archive_schema; IsOf = AreTables; remembered = archive_in }
 
 -- ---- outside a transaction (`None`), or within one that goes back to a database
 
@@ -134,39 +175,33 @@ committed_behind None now = now
 committed_behind (Some db) now = db
 
 -- what is behind a transaction is an archive too
-abbrev pub IsArchive : Option Database → Type 0
-IsArchive None = ⊤
-IsArchive (Some db) = (db.schema ≡ archive_schema) × AreTables db.trees
+abbrev pub IsArchiveAs : Form → Option Database → Type 0
+IsArchiveAs form None = ⊤
+IsArchiveAs form (Some db) = (db.schema ≡ form.schema) × form.IsOf db.trees
 
--- The premise on a database: it is open, with this behind it, its schema is the one above, and its tables are as this crate
+-- The premise on a database: it is open, with this behind it, and its schema and its tables are of this form, as this crate
 -- leaves them.
-pub record IsHeld (behind : Option Database) (s : State) : Type 0 where
+pub record IsHeldAs (form : Form) (behind : Option Database) (s : State) : Type 0 where
   pub is_open : IsTrue s.is_open
   pub autocommit : s.in_transaction ≡ is_within behind
   pub settled : s.committed ≡ committed_behind behind s.now
-  pub schema : s.now.schema ≡ archive_schema
-  pub tables : AreTables s.now.trees
-  pub whole : IsArchive behind
+  pub schema : s.now.schema ≡ form.schema
+  pub tables : form.IsOf s.now.trees
+  pub whole : IsArchiveAs form behind
+
+abbrev pub IsHeld : Option Database → State → Type 0
+IsHeld = IsHeldAs newest
 
 -- The same outside a transaction. Each call is given it and gives it back.
 abbrev pub IsKept : State → Type 0
 IsKept = IsHeld None
 
 -- the same, but that its tables may hold any rows
-pub record IsOfArchive (s : State) : Type 0 where
+pub record HasForm (form : Form) (s : State) : Type 0 where
   pub is_open : IsTrue s.is_open
   pub autocommit : s.in_transaction ≡ false
   pub settled : s.committed ≡ s.now
-  pub schema : s.now.schema ≡ archive_schema
+  pub schema : s.now.schema ≡ form.schema
 
--- what a database remembers
-abbrev pub archive_in : Trees → Archive
-archive_in trees = record {
-  lists = map list_read (trees 1);
-  persons = map person_read (trees 3);
-  grants = map grant_read (trees 6);
-  messages = map message_read (trees 8);
-}
-
-abbrev pub archive_of : State → Archive
-archive_of s = archive_in s.now.trees
+abbrev pub IsOfArchive : State → Type 0
+IsOfArchive = HasForm newest

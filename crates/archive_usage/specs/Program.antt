@@ -75,6 +75,9 @@ embargo_app = with_word (message_app (codes "embargo")) (codes "until")
 unfoldable pub lift_app : App
 lift_app = message_app (codes "lift")
 
+unfoldable pub check_app : App
+check_app = table_app (codes "check")
+
 -- ---- commands by a policy
 
 -- a command over a database by a policy, which has to be given, on a day
@@ -117,7 +120,8 @@ mail_app =
 
 -- the program, which may go without a command
 unfoldable pub archive_app : App
-archive_app = with_subcommand (with_subcommand (with_subcommand mail_app get_app.top) export_app.top) serve_app.top
+archive_app =
+    with_subcommand (with_subcommand (with_subcommand (with_subcommand mail_app get_app.top) export_app.top) check_app.top) serve_app.top
 
 -- the command of a name alone; the program, where there is no such command
 unfoldable pub app_named : Text → App
@@ -134,5 +138,6 @@ app_named name =
     else if bytes_eq name (codes "lift") then lift_app
     else if bytes_eq name (codes "get") then get_app
     else if bytes_eq name (codes "export") then export_app
+    else if bytes_eq name (codes "check") then check_app
     else if bytes_eq name (codes "serve") then serve_app
     else archive_app

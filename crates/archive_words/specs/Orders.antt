@@ -16,7 +16,7 @@ use Rattle.archive_words.specs.declared.commands.GrantKind.TheVariants.{Member, 
 use Rattle.archive_words.specs.declared.commands.WithdrawnBy.{WithdrawnBy}
 use Rattle.archive_words.specs.declared.commands.WithdrawnBy.TheVariants.{Author, Board}
 use Rattle.archive_words.specs.declared.orders.Order.{Order}
-use Rattle.archive_words.specs.declared.orders.Order.TheVariants.{Sift, Table, Import, Get, Export, Serve}
+use Rattle.archive_words.specs.declared.orders.Order.TheVariants.{Sift, Table, Import, Get, Export, Check, Serve}
 use Rattle.archive_words.specs.declared.orders.OrderStop.{OrderStop}
 use Rattle.archive_words.specs.declared.orders.OrderStop.TheVariants.{Help, Words, Memory}
 use Rattle.archive_words.specs.Values.{AskValues, TableValues, TableCommand, list_add, person_add, grant, revoke, withdraw, restore, embargo, lift}
@@ -185,6 +185,11 @@ get_of rows =
 abbrev pub export_of : List Row → Option Order
 export_of rows = option_map Export (ask_of rows)
 
+-- ---- a check
+
+abbrev pub check_of : List Row → Option Order
+check_of rows = on (first_of (codes "db") rows) (λ file. Some (Check (record { file = file })))
+
 -- ---- requests over HTTP
 
 abbrev pub serve_of : List Row → Option Order
@@ -204,6 +209,7 @@ order_named name rows =
     else if bytes_eq name (codes "import") then import_of rows
     else if bytes_eq name (codes "get") then get_of rows
     else if bytes_eq name (codes "export") then export_of rows
+    else if bytes_eq name (codes "check") then check_of rows
     else if bytes_eq name (codes "serve") then serve_of rows
     else option_map Table (tables_of name rows)
 

@@ -48,6 +48,10 @@ pub record ImportValues : Type 0 where
   pub list : List ℕ
   pub mbox : List ℕ
 
+-- The file of a database that is looked at.
+pub record CheckValues : Type 0 where
+  pub file : List ℕ
+
 -- A question of a reader on a list: the file of the database, the file of the policy, the reading day, the name of the
 -- person who asks, and the list.
 pub record AskValues : Type 0 where

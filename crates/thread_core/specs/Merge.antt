@@ -119,3 +119,10 @@ merged_trees entries trees =
       trees = without_subject entries trees ++ flat_map (λ (m : MergedTop). m.trees) gathered;
       links = flat_map (λ (m : MergedTop). m.links) gathered;
     }
+
+-- The trees below the root, given those before step 5 in order of key: after it, or, where a mailbox leaves it out, as
+-- they were.
+-- profile: a list may be threaded without step 5, by its references alone.
+abbrev pub top_after : List Entry → (merge : Bool) → List Tree → MergedTop
+top_after entries false trees = record { trees = trees; links = [] }
+top_after entries true trees = merged_trees entries trees
