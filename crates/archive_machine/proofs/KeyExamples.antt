@@ -5,6 +5,7 @@ use Rattle.hex.proofs.OnLiterals.{hex_on_literals}
 use Rattle.mbox_core.specs.Division.{Item}
 use Rattle.archive_machine.specs.Records.{Archive}
 use Rattle.archive_machine.specs.Commands.{no_list, list_full, taken_in, already_known, refused}
+use Rattle.archive_machine.specs.Filing.{item_filing}
 use Rattle.archive_machine.specs.Keys.{key_of, item_key}
 use Rattle.archive_machine.specs.Machine.{Outcome, new_message, added_within}
 
@@ -34,6 +35,7 @@ with_one = record {
   persons = [];
   grants = [];
   messages = new_message (codes "soc") (item (codes "a@b") (codes "one")) ∷ [];
+  filings = item_filing (item (codes "a@b") (codes "one")) ∷ [];
 }
 
 -- the answer to a message, and the archive afterwards

@@ -8,3 +8,8 @@ pub mod SoundLemmas
 pub mod TokenLemmas
 pub mod WordLemmas
 pub mod OrderLemmas
+pub mod FilingLemmas
+pub mod ListedLemmas
+mod DamageExamples
+pub mod FirstLemmas
+pub mod RepeatLemmas

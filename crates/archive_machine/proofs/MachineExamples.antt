@@ -6,7 +6,7 @@ use Rattle.archive_machine.specs.Questions.{standing_of, person_of_token}
 use Rattle.archive_machine.specs.Runs.{run}
 
 abbrev empty : Archive
-empty = record { lists = []; persons = []; grants = []; messages = [] }
+empty = record { lists = []; persons = []; grants = []; messages = []; filings = [] }
 
 -- the answers of some commands to an archive, and the archive afterwards
 abbrev replies : Archive → List Command → List Reply

@@ -6,7 +6,7 @@ use Rattle.std.proofs.lemmas.List.Elements.{All-nil, All-cons, All-map, All-weak
 use Rattle.std.proofs.lemmas.List.Quantifiers.{all_pairs_push}
 use Rattle.std.proofs.lemmas.Bool.Decides.{Decides-int_eq}
 use Rattle.std.proofs.lemmas.Slice.Eq.{bytes_eq-Decides}
-use Rattle.archive_machine.specs.Records.{Person, Grant, Message, Archive}
+use Rattle.archive_machine.specs.Records.{Person, Grant, Message, Filing, Archive}
 use Rattle.archive_machine.specs.Keys.{item_key}
 use Rattle.archive_machine.specs.Questions.{has_list, has_person, has_token, is_grant, has_grant, is_message}
 use Rattle.archive_machine.specs.Machine.{with_days_of, with_grant, new_message, changed, with_change, withdrawn_by, embargoed}
@@ -100,8 +100,9 @@ with_grants : (a : Archive) (grants : List Grant) → HasNamesApart a → AreApa
 with_grants a grants apart new =
     record { lists = apart.lists; persons = apart.persons; tokens = apart.tokens; grants = new; messages = apart.messages }
 
-with_messages : (a : Archive) (messages : List Message) → HasNamesApart a → AreApart message_name messages → HasNamesApart (record a { messages = messages })
-with_messages a messages apart new =
+with_messages : (a : Archive) (messages : List Message) (filings : List Filing) → HasNamesApart a → AreApart message_name messages
+    → HasNamesApart (record a { messages = messages; filings = filings })
+with_messages a messages filings apart new =
     record { lists = apart.lists; persons = apart.persons; tokens = apart.tokens; grants = apart.grants; messages = new }
 
 with_list : (a : Archive) (name : List ℕ) → has_list a name ≡ false → HasNamesApart a → HasNamesApart (record a { lists = a.lists ++ name ∷ [] })
@@ -140,7 +141,7 @@ grants_apart a g apart = cases (has_grant a g.person g.list g.rank) refl
 changes_apart : (a : Archive) (list key : List ℕ) (change : Message → Message) → ((m : Message) → message_name (change m) ≡ message_name m)
     → HasNamesApart a → HasNamesApart (with_change a list key change)
 changes_apart a list key change same apart =
-    with_messages a _ apart (apart_map message_name (changed list key change) keeps a.messages apart.messages)
+    with_messages a _ _ apart (apart_map message_name (changed list key change) keeps a.messages apart.messages)
   where
     keeps : (m : Message) → message_name (changed list key change m) ≡ message_name m
     keeps m = cases (is_message list key m)
@@ -157,7 +158,7 @@ names = record {
   revokes = λ a person list rank apart.
       with_grants a _ apart (apart_filter grant_name (λ g. not (is_grant person list rank g)) a.grants apart.grants);
   messages = λ a list item _ new apart.
-      with_messages a _ apart (apart_push message_name (new_message list item) (is_message list (item_key item)) (finds_message list (item_key item)) a.messages
+      with_messages a _ _ apart (apart_push message_name (new_message list item) (is_message list (item_key item)) (finds_message list (item_key item)) a.messages
       (none_found (is_message list (item_key item)) a.messages new) apart.messages);
   withdrawals = λ a list key party. changes_apart a list key (withdrawn_by party) (λ m. refl);
   embargoes = λ a list key until. changes_apart a list key (embargoed until) (λ m. refl);

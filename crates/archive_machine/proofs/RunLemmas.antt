@@ -10,7 +10,7 @@ use Rattle.archive_machine.specs.Commands.{Command, list_add, person_add, grant,
 use Rattle.archive_machine.specs.Keys.{item_key}
 use Rattle.archive_machine.specs.Tokens.{is_token}
 use Rattle.archive_machine.specs.Questions.{has_list, has_person, has_token, is_grant, has_message, message_of, messages_in, is_withdrawn}
-use Rattle.archive_machine.specs.Machine.{Outcome, with_grant, new_message, message_limit, with_change, withdrawn_by, embargoed, step}
+use Rattle.archive_machine.specs.Machine.{Outcome, with_grant, with_message, longest_text, message_limit, with_change, withdrawn_by, embargoed, step}
 use Rattle.archive_machine.specs.Runs.{run}
 
 -- each change that a command can make keeps P, where Q holds of the command
@@ -22,7 +22,7 @@ pub record EachChangeKeeps (P : Archive → Type 0) (Q : Command → Type 0) : T
   pub revokes : (a : Archive) (person list : List ℕ) (rank : ℤ) → P a
       → P (record a { grants = filter (λ g. not (is_grant person list rank g)) a.grants })
   pub messages : (a : Archive) (list : List ℕ) (item : Item) → Q (add list item) → has_message a list (item_key item) ≡ false → P a
-      → P (record a { messages = a.messages ++ new_message list item ∷ [] })
+      → P (with_message a list item)
   pub withdrawals : (a : Archive) (list key : List ℕ) (party : ℤ) → P a → P (with_change a list key (withdrawn_by party))
   pub embargoes : (a : Archive) (list key : List ℕ) (until : Option ℤ) → P a → P (with_change a list key (embargoed until))
 
@@ -50,7 +50,7 @@ module _ (P : Archive → Type 0) (Q : Command → Type 0) (kept : EachChangeKee
   kept_by_steps a (revoke person list rank) q p =
       unless a p (not (has_person a person)) _ _ (λ _. unless a p (not (has_list a list)) _ _ (λ _. kept.revokes a person list rank p))
   kept_by_steps a (add list item) q p =
-      unless a p (not (has_list a list)) _ _ (λ _. unless a p (nat_lt 4194304 (length (whole item.text))) _ _ (λ _.
+      unless a p (not (has_list a list)) _ _ (λ _. unless a p (nat_lt longest_text (length (whole item.text))) _ _ (λ _.
       unless a p (has_message a list (item_key item)) _ _ (λ new.
       unless a p (nat_le message_limit (length (messages_in a list))) _ _ (λ _. kept.messages a list item q new p))))
   kept_by_steps a (withdraw list key party) q p =

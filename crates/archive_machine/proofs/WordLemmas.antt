@@ -3,7 +3,7 @@ use Rattle.std.proofs.Common.{◌≡◌, ℕ, true, List, [], ◌∷◌, ◌++�
 use Rattle.std.specs.Prelude.{⊤}
 use Rattle.std.proofs.lemmas.List.Elements.{All-push}
 use Rattle.policy_core.specs.Names.{is_name}
-use Rattle.archive_machine.specs.Records.{Person, Grant, Message, Archive}
+use Rattle.archive_machine.specs.Records.{Person, Grant, Message, Filing, Archive}
 use Rattle.archive_machine.specs.Tokens.{is_token}
 use Rattle.archive_machine.specs.Sound.{HasNamesAndTokens}
 use Rattle.archive_machine.proofs.RunLemmas.{EachChangeKeeps}
@@ -11,8 +11,8 @@ use Rattle.archive_machine.proofs.RunLemmas.{EachChangeKeeps}
 with_grants : (a : Archive) (grants : List Grant) → HasNamesAndTokens a → HasNamesAndTokens (record a { grants = grants })
 with_grants a grants h = record { lists = h.lists; persons = h.persons; tokens = h.tokens }
 
-with_messages : (a : Archive) (messages : List Message) → HasNamesAndTokens a → HasNamesAndTokens (record a { messages = messages })
-with_messages a messages h = record { lists = h.lists; persons = h.persons; tokens = h.tokens }
+with_messages : (a : Archive) (messages : List Message) (filings : List Filing) → HasNamesAndTokens a → HasNamesAndTokens (record a { messages = messages; filings = filings })
+with_messages a messages filings h = record { lists = h.lists; persons = h.persons; tokens = h.tokens }
 
 with_list : (a : Archive) (name : List ℕ) → is_name name ≡ true → HasNamesAndTokens a → HasNamesAndTokens (record a { lists = a.lists ++ name ∷ [] })
 with_list a name named h = record {
@@ -34,7 +34,7 @@ words = record {
   persons = λ a p named told new free h. with_person a p named told h;
   grants = λ a g h. with_grants a _ h;
   revokes = λ a person list rank h. with_grants a _ h;
-  messages = λ a list item is new h. with_messages a _ h;
-  withdrawals = λ a list key party h. with_messages a _ h;
-  embargoes = λ a list key until h. with_messages a _ h;
+  messages = λ a list item is new h. with_messages a _ _ h;
+  withdrawals = λ a list key party h. with_messages a _ _ h;
+  embargoes = λ a list key until h. with_messages a _ _ h;
 }

@@ -1,12 +1,15 @@
 //! Laws of the machine: each contract is a law over the definitions of `specs/` alone, and no call does anything.
-ghost use Rattle.std.specs.Prelude.{◌≡◌, ℕ, List, ◌++◌};
+ghost use Rattle.std.specs.Prelude.{◌≡◌, ℕ, ◌+◌, List, ◌++◌, length, map, take, true};
 ghost use Rattle.std.specs.List.{All};
+ghost use Rattle.mbox_core.specs.Division.{Item};
 ghost use Rattle.archive_machine.specs.Records.{Archive};
 ghost use Rattle.archive_machine.specs.Commands.{Command, Refusal, refused};
-ghost use Rattle.archive_machine.specs.Machine.{step};
-ghost use Rattle.archive_machine.specs.Runs.{run};
-ghost use Rattle.archive_machine.specs.Questions.{AreListNames, list_names};
-ghost use Rattle.archive_machine.specs.Sound.{AddsItem, IsSound, HasNamesApart, HasNamesAndTokens};
+ghost use Rattle.archive_machine.specs.Firsts.{accepted, keys_in};
+ghost use Rattle.archive_machine.specs.Machine.{step, message_limit, new_message};
+ghost use Rattle.archive_machine.specs.Runs.{run, taken};
+ghost use Rattle.archive_machine.specs.Questions.{AreListNames, list_names, has_list, messages_in};
+ghost use Rattle.archive_machine.specs.Sound.{AddsItem, IsSound, IsFiledRight, HasNamesApart, HasNamesAndTokens};
+ghost use Rattle.archive_machine.specs.Damage.{IsWhole, IsFirstDamaged};
 
 use mbox_core::laws::{whole_is_whole, whole_items_are_items};
 
@@ -24,6 +27,22 @@ pub fn commands_keep_soundness()
     whole_is_whole();
     whole_items_are_items();
 }
+
+/// Where what is filed of each message is what its text says, the same holds after a command, and after any number of them.
+pub fn commands_file_right()
+    ensures step { (a : Archive) (command : Command) → IsFiledRight a → IsFiledRight (step a command).0 }
+    ensures run { (a : Archive) (commands : List Command) → IsFiledRight a → IsFiledRight (run a commands).archive }
+{}
+
+/// An archive that is whole has no message that is the first that is not sound, and no archive has two. An archive is whole where
+/// its messages are sound and filed right, and, where it files each message, nowhere else.
+pub fn whole_and_damaged_are_apart()
+    ensures apart { (a : Archive) (list key : List ℕ) → IsWhole a → IsFirstDamaged a list key → ⊥ }
+    ensures alone { (a : Archive) (list key other_list other_key : List ℕ) → IsFirstDamaged a list key → IsFirstDamaged a other_list other_key
+        → (list ≡ other_list) × (key ≡ other_key) }
+    ensures sound { (a : Archive) → length a.filings ≡ length a.messages → IsWhole a → IsSound a × IsFiledRight a }
+    ensures whole { (a : Archive) → IsSound a × IsFiledRight a → IsWhole a }
+{}
 
 /// Some commands and then others do what they do together, and are answered alike.
 pub fn commands_follow_one_another()
@@ -49,4 +68,16 @@ pub fn names_and_tokens_are_such()
 pub fn list_names_are_in_order()
     ensures are { (a : Archive) → AreListNames a (list_names a) }
     ensures alone { (a : Archive) (names : List (List ℕ)) → AreListNames a names → names ≡ list_names a }
+{}
+
+/// A list to which items are added, from whatever files and however often, holds behind what it held, left as it was, the
+/// first of each new key among those that are small enough, in the order in which they came, up to the limit of a list. Where
+/// the first items were added before, as by an import that stopped, it holds the same in the end.
+pub fn a_list_holds_the_first_of_each_key()
+    ensures holds { (a : Archive) (list : List ℕ) (items : List Item) (room : ℕ) → has_list a list ≡ true
+        → length (messages_in a list) + room ≡ message_limit
+        → messages_in (taken a list items).archive list ≡ messages_in a list ++ map (new_message list) (accepted room (keys_in a list) items) }
+    ensures repeats { (a : Archive) (list : List ℕ) (items : List Item) (n room : ℕ) → has_list a list ≡ true
+        → length (messages_in a list) + room ≡ message_limit
+        → messages_in (taken (taken a list (take n items)).archive list items).archive list ≡ messages_in (taken a list items).archive list }
 {}
