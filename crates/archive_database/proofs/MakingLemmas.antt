@@ -14,7 +14,7 @@ use Rattle.archive_tables.specs.Rows.{versions_shown}
 use Rattle.archive_tables.specs.declared.texts.schema.TheConstants.{VERSION}
 
 -- one row alone that shows the number of these tables
-one_cell : (trees : Trees) (row : Row) → IsPermutation (versions_shown trees) (row ∷ []) → column row 0 ≡ Int VERSION → IsOfVersion trees
+one_cell : (trees : Trees) (row : Row) → IsPermutation (versions_shown trees) (row ∷ []) → column row 0 ≡ Int VERSION → IsOfVersion VERSION trees
 one_cell trees row same zero = only (trees 0) (one_permutation row (versions_shown trees) (IsPermutation-sym (versions_shown trees) (row ∷ []) same))
   where
     only : (rows : List Row) → map (λ r. column r 1 ∷ []) rows ≡ row ∷ [] → (r : Row) × (rows ≡ r ∷ []) × (column r 1 ≡ Int VERSION)
@@ -29,7 +29,7 @@ sole (x ∷ y ∷ rows) row some few is = absurd (omega (arith, few))
 
 -- where some rows are one that shows the number of these tables
 pub shows_version : (trees : Trees) (rows : List Row) (row : Row) → IsPermutation (versions_shown trees) rows → 1 ≤ length rows → length rows < 2
-    → row ≡ get_or rows 0 row → column row 0 ≡ Int VERSION → IsOfVersion trees
+    → row ≡ get_or rows 0 row → column row 0 ≡ Int VERSION → IsOfVersion VERSION trees
 shows_version trees rows row same some few is zero =
     one_cell trees row (subst (λ l. IsPermutation (versions_shown trees) l) (sole rows row some few is) same) zero
 

@@ -36,6 +36,16 @@ impl From<AllocError> for Fault {
     }
 }
 
+impl From<mail_core::Memory> for Fault {
+    ghost use Rattle.std.specs.Prelude.{◌≡◌};
+
+    ghost from_gives = { λ _ fault. fault ≡ Memory };
+
+    fn from(_error: mail_core::Memory) -> Fault {
+        Fault::Memory
+    }
+}
+
 impl<T: Drop> From<AllocFailed<T>> for Fault {
     ghost use Rattle.std.specs.Prelude.{◌≡◌};
 

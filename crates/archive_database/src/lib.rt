@@ -2,7 +2,9 @@
 //! numbers, ranks and messages, and a message is written down.
 #![tactic(auto)]
 
+pub mod checking;
 mod faults;
+pub mod filing;
 pub mod making;
 pub mod ranks;
 pub mod reading;

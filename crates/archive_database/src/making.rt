@@ -2,8 +2,9 @@
 ghost use Rattle.std.specs.Prelude.{◌≡◌, ◌↔◌, OnOk, OnErr, IsTrue};
 ghost use Rattle.sqlite.specs.Held.{state};
 ghost use Rattle.sqlite.specs.State.{HasCleanDisk};
-ghost use Rattle.archive_tables.specs.Schema.{no_schema, with_person};
+ghost use Rattle.archive_tables.specs.Schema.{no_schema, with_person, with_message};
 ghost use Rattle.archive_tables.specs.Tables.{IsKept, IsOfArchive, IsOfVersion, archive_of};
+ghost use Rattle.archive_tables.specs.declared.texts.schema.TheConstants.{VERSION};
 ghost use Rattle.archive_tables.specs.Calls.{Leaves, WasClean};
 ghost use Rattle.archive_tables.specs.Making.{IsMaking, IsMade, IsUndone, IsIdle, IsBackTo, IsStopped, empty_archive};
 ghost use Rattle.archive_database.specs.Adopting.{HasAsManyObjects};
@@ -25,14 +26,14 @@ pub fn has_as_many_objects<S: Alter>(conn: &Connection<S>) -> bool
     ensures { IsTrue result ↔ HasAsManyObjects (state S.Store conn.now).now.schema }
 {
     let schema = conn.schema();
-    schema.tables.len() == 6 && schema.indexes.len() == 5 && schema.views.is_empty()
+    schema.tables.len() == 6 && schema.indexes.len() == 7 && schema.views.is_empty()
 }
 
 /// Refuses a database whose `version` does not hold one row, of the number of these tables.
 pub fn find_version<S: Alter>(conn: &mut Connection<S>) -> Result<(), Fault>
     ensures same { Leaves S.Store conn.old conn.new }
     ensures up { HasCleanDisk (state S.Store conn.new) → IsKept (state S.Store conn.old) → OnOk result (IsTrue (state S.Store conn.new).is_open) }
-    ensures version { HasCleanDisk (state S.Store conn.new) → IsOfArchive (state S.Store conn.old) → OnOk result (IsOfVersion (state S.Store conn.old).now.trees) }
+    ensures version { HasCleanDisk (state S.Store conn.new) → IsOfArchive (state S.Store conn.old) → OnOk result (IsOfVersion VERSION (state S.Store conn.old).now.trees) }
     ensures back { HasCleanDisk (state S.Store conn.new) → IsOfArchive (state S.Store conn.old) → IsBackTo (state S.Store conn.new) (state S.Store conn.old).now }
     ensures clean { WasClean S.Store conn.old conn.new }
 {
@@ -77,6 +78,7 @@ fn fill<S: Alter>(conn: &mut Connection<S>) -> Result<(), Error>
 {
     make_first(conn)?;
     make_last(conn)?;
+    make_indexes(conn)?;
     texts::schema::commit(conn)?;
     Ok(())
 }
@@ -98,7 +100,7 @@ fn make_first<S: Alter>(conn: &mut Connection<S>) -> Result<(), Error>
 
 fn make_last<S: Alter>(conn: &mut Connection<S>) -> Result<(), Error>
     ensures made { HasCleanDisk (state S.Store conn.new) → (before : _) → IsMaking (state S.Store conn.old) with_person before
-        → OnOk result (IsMade (state S.Store conn.new) before) }
+        → OnOk result (IsMaking (state S.Store conn.new) with_message before) }
     ensures undone { HasCleanDisk (state S.Store conn.new) → (before : _) → IsMaking (state S.Store conn.old) with_person before
         → OnErr result (IsUndone (state S.Store conn.new) before) }
     ensures stopped { HasCleanDisk (state S.Store conn.new) → (before : _) → IsMaking (state S.Store conn.old) with_person before
@@ -107,6 +109,21 @@ fn make_last<S: Alter>(conn: &mut Connection<S>) -> Result<(), Error>
 {
     texts::schema::create_grant(conn)?;
     texts::schema::create_message(conn)?;
+    Ok(())
+}
+
+/// Makes the indexes, and writes the version down.
+fn make_indexes<S: Alter>(conn: &mut Connection<S>) -> Result<(), Error>
+    ensures made { HasCleanDisk (state S.Store conn.new) → (before : _) → IsMaking (state S.Store conn.old) with_message before
+        → OnOk result (IsMade (state S.Store conn.new) before) }
+    ensures undone { HasCleanDisk (state S.Store conn.new) → (before : _) → IsMaking (state S.Store conn.old) with_message before
+        → OnErr result (IsUndone (state S.Store conn.new) before) }
+    ensures stopped { HasCleanDisk (state S.Store conn.new) → (before : _) → IsMaking (state S.Store conn.old) with_message before
+        → OnErr result (IsStopped (state S.Store conn.new) before) }
+    ensures clean { WasClean S.Store conn.old conn.new }
+{
+    texts::schema::create_month_index(conn)?;
+    texts::schema::create_author_index(conn)?;
     texts::schema::add_version(conn)?;
     Ok(())
 }

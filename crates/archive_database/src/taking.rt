@@ -1,11 +1,13 @@
 //! A message that is taken in.
 ghost use Rattle.std.specs.Prelude.{◌≡◌, ◌<◌, false, nat_lt, nat_le, length, IfOk, MatchOption};
 ghost use Rattle.mbox_core.specs.Division.{whole};
+ghost use Rattle.archive_machine.specs.Machine.{longest_text};
 ghost use Rattle.archive_machine.specs.Questions.{messages_in};
 ghost use Rattle.archive_tables.specs.Calls.{Finds, Leaves, IsUp, WasClean};
 ghost use Rattle.archive_database.specs.Taking.{TakesIn, TakesInOver};
 
 use crate::faults::Fault;
+use crate::filing::file;
 use archive_machine::Key;
 use archive_tables::texts;
 use mbox_core::{Item, written_sender};
@@ -17,7 +19,7 @@ const LONGEST: usize = 4_194_304;
 
 /// Whether the whole text of a message is too long to be taken in.
 pub fn is_too_large(item: &Item<'_>) -> bool
-    ensures { result ≡ nat_lt 4194304 (length (whole item.now.text)) }
+    ensures { result ≡ nat_lt longest_text (length (whole item.now.text)) }
 {
     if item.complete {
         item.text.len() > LONGEST
@@ -66,13 +68,39 @@ pub fn take_in<S: Alter>(
     ensures held { TakesInOver S.Store conn.old conn.new result list.now key.now item.now }
     ensures clean { WasClean S.Store conn.old conn.new }
 {
-    let sender = sender_of(alloc, item)?;
-    let arrival = arrival_of(item);
     if let Some(text) = with_line_end(alloc, item)? {
-        texts::messages::add_message(conn, list, key.as_str(), &sender, arrival, &text)?;
-        return Ok(());
+        return write_down(conn, alloc, list, key, item, &text);
     }
-    texts::messages::add_message(conn, list, key.as_str(), &sender, arrival, text_of(item))?;
+    write_down(conn, alloc, list, key, item, text_of(item))
+}
+
+/// Writes a message of this whole text down after the others, filed by what its text says.
+fn write_down<S: Alter>(
+    conn: &mut Connection<S>,
+    alloc: Global,
+    list: &str,
+    key: &Key,
+    item: &Item<'_>,
+    text: &[u8],
+) -> Result<(), Fault>
+    ensures taken { text.now ≡ whole item.now.text → TakesIn S.Store conn.old conn.new result list.now key.now item.now }
+    ensures held { text.now ≡ whole item.now.text → TakesInOver S.Store conn.old conn.new result list.now key.now item.now }
+    ensures clean { WasClean S.Store conn.old conn.new }
+{
+    let sender = sender_of(alloc, item)?;
+    let filing = file(alloc, text, item.envelope.arrival)?;
+    let arrival = arrival_of(item);
+    texts::messages::add_message(
+        conn,
+        list,
+        key.as_str(),
+        &sender,
+        arrival,
+        text,
+        filing.sent,
+        filing.month,
+        &filing.author,
+    )?;
     Ok(())
 }
 

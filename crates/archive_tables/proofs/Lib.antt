@@ -5,6 +5,7 @@ pub mod TableLemmas
 pub mod OrderLemmas
 pub mod SelectLemmas
 pub mod ListLemmas
+pub mod ListedLemmas
 pub mod PersonLemmas
 pub mod ChangeLemmas
 pub mod MessageLemmas
@@ -19,3 +20,4 @@ pub mod NamesLemmas
 pub mod ReadLemmas
 pub mod TableExamples
 pub mod WalkLemmas
+pub mod FiledLemmas

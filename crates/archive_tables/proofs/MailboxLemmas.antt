@@ -15,14 +15,14 @@ use Rattle.sqlite.proofs.Callers.{IsPlain, command_of}
 use Rattle.sqlite_tied.specs.Compute.{everything}
 use Rattle.sqlite_sql.specs.declared.ops.BinaryOp.TheVariants.{Compare}
 use Rattle.sqlite_sql.specs.declared.ops.CompareOp.TheVariants.{Eq}
-use Rattle.archive_machine.specs.Records.{Message}
+use Rattle.archive_machine.specs.Filing.{Filed}
 use Rattle.archive_tables.specs.Schema.{archive_schema}
 use Rattle.archive_machine.specs.Questions.{is_message}
-use Rattle.archive_tables.specs.Tables.{IsHeld, message_cells, message_read, archive_of}
+use Rattle.archive_tables.specs.Tables.{IsHeld, filed_cells, archive_of}
 use Rattle.archive_tables.specs.Rows.{message_shown, marks_shown}
 use Rattle.archive_tables.specs.Calls.{RestsOver, StaysOver}
-use Rattle.archive_tables.proofs.MessageLemmas.{message_back}
-use Rattle.archive_tables.proofs.SelectLemmas.{plain_query, by_number, passes, asked, leaves, asked_stays, asked_rests, refused_rests, any_wanted, count_wanted, shows, alone, text_is}
+use Rattle.archive_tables.proofs.MessageLemmas.{shows_messages, counts_messages, has_messages}
+use Rattle.archive_tables.proofs.SelectLemmas.{plain_query, by_number, passes, asked, leaves, asked_stays, asked_rests, refused_rests, alone, text_is}
 
 abbrev pub of_list : List Term
 of_list = op2 (Compare Eq Binary) (col 1 2) (col 0 0) ∷ []
@@ -30,12 +30,12 @@ of_list = op2 (Compare Eq Binary) (col 1 2) (col 0 0) ∷ []
 abbrev pub at_key : List Term
 at_key = op2 (Compare Eq Binary) (col 1 2) (col 0 0) ∷ op2 (Compare Eq Binary) (col 1 3) (col 0 1) ∷ []
 
-pub has_list : (list : List ℕ) (n : ℤ) (m : Message) → passes of_list (Text list ∷ []) (Int n ∷ message_cells m) ≡ bytes_eq m.list list
-has_list list n m = alone _ ∙ text_is m.list list
+pub has_list : (list : List ℕ) (n : ℤ) (f : Filed) → passes of_list (Text list ∷ []) (Int n ∷ filed_cells f) ≡ bytes_eq f.0.list list
+has_list list n f = alone _ ∙ text_is f.0.list list
 
 -- whatever the later parameters are
-pub has_key : (list key : List ℕ) (more : Row) (n : ℤ) (m : Message) → passes at_key (Text list ∷ Text key ∷ more) (Int n ∷ message_cells m) ≡ is_message list key m
-has_key list key more n m = ap₂ ◌&&◌ (text_is m.list list) (alone _ ∙ text_is m.key key)
+pub has_key : (list key : List ℕ) (more : Row) (n : ℤ) (f : Filed) → passes at_key (Text list ∷ Text key ∷ more) (Int n ∷ filed_cells f) ≡ is_message list key f.0
+has_key list key more n f = ap₂ ◌&&◌ (text_is f.0.list list) (alone _ ∙ text_is f.0.key key)
 
 abbrev all_cells : List Term
 all_cells = col 1 3 ∷ col 1 4 ∷ col 1 5 ∷ col 1 6 ∷ col 1 7 ∷ col 1 8 ∷ []
@@ -121,7 +121,7 @@ module _ (old new : State) (list : List ℕ) {behind : Option Database} (k : IsH
   in_list rows h =
       let params = Text list ∷ [] in
       let picks = asked list_text 8 of_list all_cells by_number _ list_is.0 list_plain list_is.1 (λ t. refl) params old new k rows h in (
-        shows 8 of_list all_cells params message_cells message_read message_back (λ m. bytes_eq m.list list) (has_list list) message_shown (λ n m. refl) (old.now.trees 8) rows k.tables.messages picks,
+        shows_messages of_list all_cells params (λ m. bytes_eq m.list list) (has_list list) message_shown (λ n m. refl) (old.now.trees 8) rows k.tables.messages picks,
         (leaves list_text 8 of_list all_cells by_number _ list_is.0 list_plain list_is.1 (λ t. refl) params old new k rows h).0.is_open,
         asked_rests list_text 8 of_list all_cells by_number _ list_is.0 list_plain list_is.1 (λ t. refl) params old new k rows h,
       )
@@ -134,7 +134,7 @@ module _ (old new : State) (list : List ℕ) {behind : Option Database} (k : IsH
   count rows h =
       let params = Text list ∷ [] in
       let picks = asked count_text 8 of_list number_cell [] _ count_is.0 count_plain count_is.1 (λ t. refl) params old new k rows h in (
-        count_wanted message_cells message_read message_back (plain_query 8 of_list number_cell []) params (λ m. bytes_eq m.list list) (has_list list) (old.now.trees 8) rows k.tables.messages picks,
+        counts_messages of_list number_cell params (λ m. bytes_eq m.list list) (has_list list) (old.now.trees 8) rows k.tables.messages picks,
         (leaves count_text 8 of_list number_cell [] _ count_is.0 count_plain count_is.1 (λ t. refl) params old new k rows h).0.is_open,
         asked_rests count_text 8 of_list number_cell [] _ count_is.0 count_plain count_is.1 (λ t. refl) params old new k rows h,
       )
@@ -151,7 +151,7 @@ module _ (old new : State) (list : List ℕ) {behind : Option Database} (k : IsH
     one rows h =
         let params = Text list ∷ Text key ∷ [] in
         let picks = asked one_text 8 at_key all_cells by_number _ one_is.0 one_plain one_is.1 (λ t. refl) params old new k rows h in (
-          shows 8 at_key all_cells params message_cells message_read message_back (is_message list key) (has_key list key []) message_shown (λ n m. refl) (old.now.trees 8) rows k.tables.messages picks,
+          shows_messages at_key all_cells params (is_message list key) (has_key list key []) message_shown (λ n m. refl) (old.now.trees 8) rows k.tables.messages picks,
           (leaves one_text 8 at_key all_cells by_number _ one_is.0 one_plain one_is.1 (λ t. refl) params old new k rows h).0.is_open,
           asked_rests one_text 8 at_key all_cells by_number _ one_is.0 one_plain one_is.1 (λ t. refl) params old new k rows h,
         )
@@ -164,7 +164,7 @@ module _ (old new : State) (list : List ℕ) {behind : Option Database} (k : IsH
     marks rows h =
         let params = Text list ∷ Text key ∷ [] in
         let picks = asked marks_text 8 at_key mark_cells by_number _ marks_is.0 marks_plain marks_is.1 (λ t. refl) params old new k rows h in (
-          shows 8 at_key mark_cells params message_cells message_read message_back (is_message list key) (has_key list key []) marks_shown (λ n m. refl) (old.now.trees 8) rows k.tables.messages picks,
+          shows_messages at_key mark_cells params (is_message list key) (has_key list key []) marks_shown (λ n m. refl) (old.now.trees 8) rows k.tables.messages picks,
           (leaves marks_text 8 at_key mark_cells by_number _ marks_is.0 marks_plain marks_is.1 (λ t. refl) params old new k rows h).0.is_open,
           asked_rests marks_text 8 at_key mark_cells by_number _ marks_is.0 marks_plain marks_is.1 (λ t. refl) params old new k rows h,
         )
@@ -177,7 +177,7 @@ module _ (old new : State) (list : List ℕ) {behind : Option Database} (k : IsH
     has rows h =
         let params = Text list ∷ Text key ∷ [] in
         let picks = asked has_text 8 at_key number_cell [] _ has_is.0 has_plain has_is.1 (λ t. refl) params old new k rows h in (
-          any_wanted message_cells message_read message_back (plain_query 8 at_key number_cell []) params (is_message list key) (has_key list key []) (old.now.trees 8) rows k.tables.messages picks,
+          has_messages at_key number_cell params (is_message list key) (has_key list key []) (old.now.trees 8) rows k.tables.messages picks,
           (leaves has_text 8 at_key number_cell [] _ has_is.0 has_plain has_is.1 (λ t. refl) params old new k rows h).0.is_open,
           asked_rests has_text 8 at_key number_cell [] _ has_is.0 has_plain has_is.1 (λ t. refl) params old new k rows h,
         )

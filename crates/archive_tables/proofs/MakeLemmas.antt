@@ -1,6 +1,6 @@
 -- The statements that make the tables.
-use Rattle.std.proofs.Common.{◌≡◌, ℕ, List, [], ◌∷◌, ◌++◌, codes, Ok, arith, refl, sym, ap, subst, ◌∙◌, false, true, None}
-use Rattle.std.specs.Prelude.{IsTrue}
+use Rattle.std.proofs.Common.{◌≡◌, ℕ, List, [], ◌∷◌, ◌++◌, codes, Ok, arith, refl, sym, ap, subst, ◌∙◌, false, true, Some, None}
+use Rattle.std.specs.Prelude.{IsTrue, slice_get}
 use Rattle.std.specs.List.{AllByRecursion}
 use Rattle.sqlite.specs.declared.types.Value.TheVariants.{Null, Int}
 use Rattle.sqlite.specs.Order.{Row}
@@ -8,10 +8,11 @@ use Rattle.sqlite.specs.Table.{Table}
 use Rattle.sqlite.specs.Schema.{Schema}
 use Rattle.sqlite.specs.Term.{Term, lit, col}
 use Rattle.sqlite.specs.Source.TheVariants.{Values}
-use Rattle.sqlite.specs.Command.TheVariants.{CreateTable, Begin, Commit, Rollback, Insert}
-use Rattle.sqlite.specs.Compile.{table_defined_by}
-use Rattle.sqlite.specs.Change.{created, next_tree, KeepsRows}
-use Rattle.sqlite.specs.Does.{Tally, Does, MakesTable, lacks_sequence, sequence_text}
+use Rattle.sqlite.specs.Command.TheVariants.{CreateTable, CreateIndex, Begin, Commit, Rollback, Insert}
+use Rattle.sqlite.specs.Compile.{table_defined_by, index_defined_by}
+use Rattle.sqlite.specs.Change.{created, indexed, next_tree, KeepsRows}
+use Rattle.sqlite.specs.Does.{Tally, Does, MakesTable, MakesIndex, lacks_sequence, sequence_text}
+use Rattle.sqlite_schema.specs.declared.schema.Index.{Index}
 use Rattle.sqlite.specs.Edit.{edit_of, edited, taken_by}
 use Rattle.sqlite.specs.Rowids.TheVariants.{Chosen}
 use Rattle.sqlite.specs.Rows.{Written}
@@ -21,11 +22,11 @@ use Rattle.sqlite.specs.Effect.{Database}
 use Rattle.sqlite.specs.State.{State, Writes, Executes, mode_of}
 use Rattle.sqlite.proofs.Callers.{IsPlain, command_of, statement_of, runs_as, one_step}
 use Rattle.sqlite_tied.specs.Compute.{everything}
-use Rattle.archive_tables.specs.Schema.{no_schema, with_version, with_list, with_person, with_grant, archive_schema, create_version, create_list, create_person, create_grant, create_message, version_table, list_table, person_table, grant_table, message_table, sequence_table}
+use Rattle.archive_tables.specs.Schema.{no_schema, with_version, with_list, with_person, with_grant, with_message, with_month_index, archive_schema, create_version, create_list, create_person, create_grant, create_message, create_month_index, create_author_index, version_table, list_table, person_table, grant_table, message_table, sequence_table, month_index, author_index}
 use Rattle.archive_tables.specs.Tables.{AreTables, IsKept, archive_in, archive_of, version_rows}
 use Rattle.archive_tables.specs.Making.{IsMaking, IsMade, empty_archive}
 use Rattle.archive_tables.specs.declared.texts.schema.TheConstants.{VERSION}
-use Rattle.archive_tables.proofs.SchemaLemmas.{unplaced, version_is, list_is, person_is, grant_is, message_is, sequence_is}
+use Rattle.archive_tables.proofs.SchemaLemmas.{unplaced, version_is, list_is, person_is, grant_is, message_is, sequence_is, month_index_is, author_index_is}
 use Rattle.archive_tables.proofs.RunLemmas.{passed, value_is, no_action, cast_null, cast_int}
 use Rattle.archive_tables.proofs.TableLemmas.{SameBut, same_but}
 
@@ -91,7 +92,47 @@ module _ (s : Schema) (sql : List ℕ) (table : Table) (is : command_of (underst
       goes_on (created (created s table) counts) here.schema
       (still_empty (created s table) counts first.0 new.now here (still_empty s table old.now first.0 made k.empty))
 
--- ---- the five texts, each over what the ones before it made
+-- ---- one index more: the rows of all tables stay
+
+same_empty : (old new : Trees) (tables : List Table) → KeepsRows tables old new → AreEmpty old tables → AreEmpty new tables
+same_empty old new [] same empty = tt
+same_empty old new (t ∷ tables) same empty = (same.0 ∙ empty.0, same_empty old new tables same.1 empty.1)
+
+record Indexes (s : Schema) (table : Table) (index : Index) (old new : Database) : Type 0 where
+  schema : new.schema ≡ indexed s table index
+  rows : KeepsRows s.tables old.trees new.trees
+
+one_indexed : (s : Schema) (table : Table) (sql : List ℕ) (index : Index) (old new : Database) → old.schema ≡ s → index_defined_by table sql ≡ Ok index
+    → MakesIndex sql old table (Ok new) → Indexes s table index old new
+one_indexed s table sql index old new has defined it =
+    let same : it.index ≡ index = value_is (sym it.defined ∙ defined) in
+    record {
+      schema = it.is ∙ ap (λ x. indexed x table it.index) has ∙ ap (indexed s table) same;
+      rows = subst (λ x. KeepsRows x.tables old.trees new.trees) has it.rows;
+    }
+
+module _ (s : Schema) (sql : List ℕ) (at : ℕ) (table : Table) (index : Index) (there : slice_get s.tables at ≡ Some table) (is : command_of (understood s sql) ≡ CreateIndex at)
+    (whole : statement_of sql (understood s sql) ≡ sql) (plain : IsPlain (understood s sql)) (defined : index_defined_by table sql ≡ Ok index)
+    (old new : State) (before : Database) (k : IsMaking old s before) (count : ℕ) (h : Executes sql [] old new (Ok count)) where
+  index_ran : Writes old new None (CreateIndex at) sql [] count
+  index_ran = subst (λ t. Writes old new None (CreateIndex at) t [] count) whole (runs_as sql [] old new s k.schema_is (CreateIndex at) is plain count h)
+
+  pub makes_index : IsMaking new (indexed s table index) before
+  makes_index =
+      let ran = index_ran in
+      let changed = subst (λ d. Does old.step_limit (mode_of old) [] (record old.now { schema = d }) sql None (CreateIndex at) (Ok (ran.tally, new.now))) k.schema_is ran.changed in
+      let done = passed (rw there at changed) in
+      let made = one_indexed s table sql index (record old.now { schema = s }) done.0 refl defined done.1 in
+      let now : new.now ≡ done.0 = ap (λ (p : Tally × Database). p.1) (value_is done.2) in
+      record {
+        is_open = ran.shown.is_open;
+        within = ran.shown.mode ∙ k.within;
+        behind = ran.shown.committed_is ∙ rw k.within k.behind;
+        schema_is = ap (λ (d : Database). d.schema) now ∙ made.schema;
+        empty = subst (λ (d : Database). AreEmpty d.trees s.tables) (sym now) (same_empty old.now.trees done.0.trees s.tables made.rows k.empty);
+      }
+
+-- ---- the seven texts, each over what the ones before it made
 
 version_text_is : (command_of (understood no_schema create_version) ≡ CreateTable) × (statement_of create_version (understood no_schema create_version) ≡ create_version)
 unfolding understood everything
@@ -150,9 +191,35 @@ unfolding understood everything
 message_plain = (refl, refl)
 
 message_brings : (lacks_sequence (created with_grant (unplaced message_table)) ≡ true)
-    × (created (created with_grant (unplaced message_table)) (unplaced sequence_table) ≡ archive_schema)
+    × (created (created with_grant (unplaced message_table)) (unplaced sequence_table) ≡ with_message)
 unfolding everything
 message_brings = (refl, refl)
+
+month_index_text_is : (command_of (understood with_message create_month_index) ≡ CreateIndex 4)
+    × (statement_of create_month_index (understood with_message create_month_index) ≡ create_month_index)
+unfolding understood everything
+month_index_text_is = (refl, refl)
+
+month_index_plain : IsPlain (understood with_message create_month_index)
+unfolding understood everything
+month_index_plain = (refl, refl)
+
+month_indexed : indexed with_message message_table month_index ≡ with_month_index
+unfolding everything
+month_indexed = refl
+
+author_index_text_is : (command_of (understood with_month_index create_author_index) ≡ CreateIndex 4)
+    × (statement_of create_author_index (understood with_month_index create_author_index) ≡ create_author_index)
+unfolding understood everything
+author_index_text_is = (refl, refl)
+
+author_index_plain : IsPlain (understood with_month_index create_author_index)
+unfolding understood everything
+author_index_plain = (refl, refl)
+
+author_indexed : indexed with_month_index message_table author_index ≡ archive_schema
+unfolding everything
+author_indexed = refl
 
 module _ (old new : State) (before : Database) (count : ℕ) where
   pub makes_version : IsMaking old no_schema before → Executes create_version [] old new (Ok count) → IsMaking new with_version before
@@ -171,10 +238,17 @@ module _ (old new : State) (before : Database) (count : ℕ) where
   makes_grant k h = subst (λ s. IsMaking new s before) grant_alone.1
       (makes with_person create_grant (unplaced grant_table) grant_text_is.0 grant_text_is.1 grant_plain grant_is old new before k count h grant_alone.0)
 
-  pub makes_message : IsMaking old with_grant before → Executes create_message [] old new (Ok count) → IsMaking new archive_schema before
+  pub makes_message : IsMaking old with_grant before → Executes create_message [] old new (Ok count) → IsMaking new with_message before
   makes_message k h = subst (λ s. IsMaking new s before) message_brings.1
       (makes_both with_grant create_message (unplaced message_table) message_text_is.0 message_text_is.1 message_plain message_is old new before k count h message_brings.0
       (unplaced sequence_table) sequence_is)
+
+  pub makes_month_index : IsMaking old with_message before → Executes create_month_index [] old new (Ok count) → IsMaking new with_month_index before
+  makes_month_index k h = makes_index with_message create_month_index 4 message_table month_index refl month_index_text_is.0 month_index_text_is.1 month_index_plain month_index_is old new before k count h
+
+  pub makes_author_index : IsMaking old with_month_index before → Executes create_author_index [] old new (Ok count) → IsMaking new archive_schema before
+  makes_author_index k h = subst (λ s. IsMaking new s before) author_indexed
+      (makes_index with_month_index create_author_index 4 message_table author_index refl author_index_text_is.0 author_index_text_is.1 author_index_plain author_index_is old new before k count h)
 
 -- ---- the transaction
 
@@ -259,10 +333,10 @@ add_plain : IsPlain (understood archive_schema version_text)
 unfolding understood everything
 add_plain = (refl, refl)
 
-puts : (db : Trees) (given : List Row) → db 0 ≡ [] → given ≡ (Null ∷ Int VERSION ∷ []) ∷ [] → edited db (edit_of db version_table [] Chosen 0 given) ≡ version_rows
+puts : (db : Trees) (given : List Row) → db 0 ≡ [] → given ≡ (Null ∷ Int VERSION ∷ []) ∷ [] → edited db (edit_of db version_table [] Chosen 0 given) ≡ version_rows VERSION
 puts db given none from = rw (from, none, cast_null, cast_int VERSION)
 
-nothing_in : (trees : Trees) → trees 0 ≡ version_rows → trees 1 ≡ [] → trees 3 ≡ [] → trees 6 ≡ [] → trees 8 ≡ []
+nothing_in : (trees : Trees) → trees 0 ≡ version_rows VERSION → trees 1 ≡ [] → trees 3 ≡ [] → trees 6 ≡ [] → trees 8 ≡ []
     → AreTables trees × (archive_in trees ≡ empty_archive)
 nothing_in trees version lists persons grants messages = (
   record {

@@ -1,6 +1,9 @@
 -- The statements on `message`.
-use Rattle.std.proofs.Common.{◌≡◌, inl, inr, ℕ, ℤ, pos, List, [], ◌∷◌, ◌++◌, fold, codes, Ok, Err, Result, OnOk, OnErr, arith, refl, sym, ap, ap₂, subst, ◌∙◌, false, None, Some, Option}
-use Rattle.std.specs.Prelude.{◌&&◌, MatchResult}
+use Rattle.std.proofs.Common.{◌≡◌, inl, inr, ℕ, ℤ, pos, List, [], ◌∷◌, ◌++◌, map, length, Bool, fold, codes, Ok, Err, Result, OnOk, OnErr, arith, refl, sym, ap, ap₂, subst, ◌∙◌, false, None, Some, Option}
+use Rattle.std.specs.Prelude.{◌&&◌, ◌||◌, MatchResult, filter, zip, not, nat_eq}
+use Rattle.std.proofs.lemmas.List.{length-map, map-append}
+use Rattle.sqlite_trees.proofs.ListLemmas.{map-map}
+use Rattle.sqlite.specs.Query.{output}
 use Rattle.std.specs.List.{list_any}
 use Rattle.std.specs.Ordering.{is_lt, int_cmp}
 use Rattle.std.proofs.lemmas.Bool.{cases_Bool}
@@ -23,24 +26,76 @@ use Rattle.sqlite.proofs.Callers.{IsPlain, command_of, statement_of, runs_as, on
 use Rattle.sqlite_tied.specs.Compute.{everything}
 use Rattle.sqlite_rules.specs.Action as Action
 use Rattle.sqlite_schema.specs.declared.schema.Keys.TheVariants.{Enforced}
-use Rattle.archive_machine.specs.Records.{Message}
+use Rattle.archive_machine.specs.Records.{Message, Filing, Archive}
+use Rattle.archive_machine.specs.Filing.{Filed}
 use Rattle.archive_tables.specs.Schema.{archive_schema, message_table, sequence_table}
 use Rattle.archive_machine.specs.Questions.{is_message}
-use Rattle.archive_tables.specs.Tables.{IsHeld, IsKept, Numbered, row_of, message_cells, message_read, archive_of, or_null, if_int, same_message, AreApart}
+use Rattle.archive_tables.specs.Tables.{IsHeld, IsKept, Numbered, row_of, Holds, message_read, filed_cells, filing_read, filed_read, archive_of, or_null, if_int, same_message, AreApart}
 use Rattle.archive_tables.specs.Rows.{new_message}
 use Rattle.archive_tables.specs.Calls.{Changes, ChangesOver, Rests, RestsOver}
 use Rattle.archive_tables.proofs.RunLemmas.{passed, value_is, no_action, cast_null, cast_int, kept_by, rests, execute_fails}
 use Rattle.archive_tables.proofs.RowLemmas.{put_past, raised, positive_more}
 use Rattle.archive_tables.proofs.TableLemmas.{SameBut, same_but, messages_change}
 use Rattle.archive_tables.proofs.ChangeLemmas.{apart_more}
-use Rattle.archive_tables.proofs.SelectLemmas.{text_flips}
+use Rattle.archive_tables.proofs.SelectLemmas.{plain_query, by_number, env_of, passes, Picks, shows, count_wanted, any_wanted, text_flips}
 
 pub embargo_back : (o : Option ℤ) → if_int (or_null o) ≡ o
 embargo_back None = refl
 embargo_back (Some n) = refl
 
-pub message_back : (n : ℤ) (m : Message) → message_read (Int n ∷ message_cells m) ≡ m
-message_back n m = ap (λ o. record m { embargo = o }) (embargo_back m.embargo)
+pub filed_back : (n : ℤ) (f : Filed) → filed_read (Int n ∷ filed_cells f) ≡ f
+filed_back n f = ap (λ o. (record f.0 { embargo = o }, f.1)) (embargo_back f.0.embargo)
+
+-- ---- rows of messages, whatever is filed of them
+
+pub messages_are : (rows : List Row) → map (λ (f : Filed). f.0) (map filed_read rows) ≡ map message_read rows
+messages_are rows = map-map (λ (f : Filed). f.0) filed_read rows
+
+pub filings_are : (rows : List Row) → map (λ (f : Filed). f.1) (map filed_read rows) ≡ map filing_read rows
+filings_are rows = map-map (λ (f : Filed). f.1) filed_read rows
+
+pub filed_are : (rows : List Row) → zip (map message_read rows) (map filing_read rows) ≡ map filed_read rows
+filed_are [] = refl
+filed_are (row ∷ rows) = ap (λ l. filed_read row ∷ l) (filed_are rows)
+
+pub wanted_messages : {X : Type 0} (wanted : Message → Bool) (show : Message → X) (rows : List Row)
+    → map (λ (f : Filed). show f.0) (filter (λ (f : Filed). wanted f.0) (map filed_read rows)) ≡ map show (filter wanted (map message_read rows))
+wanted_messages wanted show [] = refl
+wanted_messages wanted show (row ∷ rows) = elim (cases_Bool (wanted (message_read row))) [
+  | inl kept ↦ rw kept (ap (λ l. show (message_read row) ∷ l) (wanted_messages wanted show rows))
+  | inr dropped ↦ rw dropped (wanted_messages wanted show rows)
+]
+
+any_of_messages : (wanted : Message → Bool) (rows : List Row) → list_any (λ (f : Filed). wanted f.0) (map filed_read rows) ≡ list_any wanted (map message_read rows)
+any_of_messages wanted [] = refl
+any_of_messages wanted (row ∷ rows) = ap (λ b. wanted (message_read row) || b) (any_of_messages wanted rows)
+
+count_of_messages : (wanted : Message → Bool) (rows : List Row)
+    → length (filter (λ (f : Filed). wanted f.0) (map filed_read rows)) ≡ length (filter wanted (map message_read rows))
+count_of_messages wanted rows =
+    sym (length-map (filter (λ (f : Filed). wanted f.0) (map filed_read rows)) (λ (f : Filed). f.0)) ∙ ap length (wanted_messages wanted (λ m. m) rows)
+    ∙ length-map (filter wanted (map message_read rows)) (λ m. m)
+
+pub one_filed : (new old : List Row) (f : Filed) → map filed_read new ≡ map filed_read old ++ f ∷ []
+    → (map message_read new ≡ map message_read old ++ f.0 ∷ []) × (map filing_read new ≡ map filing_read old ++ f.1 ∷ [])
+one_filed new old f is = (
+  sym (messages_are new) ∙ ap (map (λ (g : Filed). g.0)) is ∙ map-append (λ (g : Filed). g.0) (map filed_read old) (f ∷ []) ∙ ap (λ l. l ++ f.0 ∷ []) (messages_are old),
+  sym (filings_are new) ∙ ap (map (λ (g : Filed). g.1)) is ∙ map-append (λ (g : Filed). g.1) (map filed_read old) (f ∷ []) ∙ ap (λ l. l ++ f.1 ∷ []) (filings_are old),
+)
+
+module _ (terms shown : List Term) (params : Row) (wanted : Message → Bool) (tests : (n : ℤ) (f : Filed) → passes terms params (Int n ∷ filed_cells f) ≡ wanted f.0) where
+  pub shows_messages : (show : Message → Row) (same : (n : ℤ) (f : Filed) → (output (plain_query 8 terms shown by_number) (env_of params (Int n ∷ filed_cells f))).1 ≡ show f.0)
+      (rows picked : List Row) → Holds filed_cells filed_read rows → Picks (plain_query 8 terms shown by_number) params rows picked → picked ≡ map show (filter wanted (map message_read rows))
+  shows_messages show same rows picked k it =
+      shows 8 terms shown params filed_cells filed_read filed_back (λ (f : Filed). wanted f.0) tests (λ (f : Filed). show f.0) same rows picked k it ∙ wanted_messages wanted show rows
+
+  pub counts_messages : (rows picked : List Row) → Holds filed_cells filed_read rows → Picks (plain_query 8 terms shown []) params rows picked → length picked ≡ length (filter wanted (map message_read rows))
+  counts_messages rows picked k it =
+      count_wanted filed_cells filed_read filed_back (plain_query 8 terms shown []) params (λ (f : Filed). wanted f.0) tests rows picked k it ∙ count_of_messages wanted rows
+
+  pub has_messages : (rows picked : List Row) → Holds filed_cells filed_read rows → Picks (plain_query 8 terms shown []) params rows picked → not (nat_eq (length picked) 0) ≡ list_any wanted (map message_read rows)
+  has_messages rows picked k it =
+      any_wanted filed_cells filed_read filed_back (plain_query 8 terms shown []) params (λ (f : Filed). wanted f.0) tests rows picked k it ∙ any_of_messages wanted rows
 
 pub flips : (a b : Message) → same_message a b ≡ same_message b a
 flips a b = ap₂ ◌&&◌ (text_flips b.list a.list) (text_flips b.key a.key)
@@ -48,12 +103,12 @@ flips a b = ap₂ ◌&&◌ (text_flips b.list a.list) (text_flips b.key a.key)
 -- ---- INSERT
 
 abbrev pub add_text : List ℕ
-add_text = codes "INSERT INTO message (list, key, sender, arrival, text, withdrawn, embargo) VALUES (?1, ?2, ?3, ?4, ?5, 0, NULL)"
+add_text = codes "INSERT INTO message (list, key, sender, arrival, text, withdrawn, embargo, sent, month, author) VALUES (?1, ?2, ?3, ?4, ?5, 0, NULL, ?6, ?7, ?8)"
 
 abbrev new_cells : List Term
-new_cells = lit Null ∷ lit Null ∷ col 0 0 ∷ col 0 1 ∷ col 0 2 ∷ col 0 3 ∷ col 0 4 ∷ lit (Int (pos 0)) ∷ lit Null ∷ []
+new_cells = lit Null ∷ lit Null ∷ col 0 0 ∷ col 0 1 ∷ col 0 2 ∷ col 0 3 ∷ col 0 4 ∷ lit (Int (pos 0)) ∷ lit Null ∷ col 0 5 ∷ col 0 6 ∷ col 0 7 ∷ []
 
-add_is : command_of (understood archive_schema add_text) ≡ Insert 4 (Values new_cells 9)
+add_is : command_of (understood archive_schema add_text) ≡ Insert 4 (Values new_cells 12)
 unfolding understood everything
 add_is = refl
 
@@ -82,20 +137,23 @@ counts limit params mid next counter top h = elim (cases_Bool (is_lt (int_cmp (c
     counted None h = written (counting mid message_table sequence_table top None) refl h
     counted (Some row) h = written (counting mid message_table sequence_table top (Some row)) refl h
 
-module _ (list key sender : List ℕ) (arrival : ℤ) (text : List ℕ) where
+module _ (list key sender : List ℕ) (arrival : ℤ) (text : List ℕ) (filing : Filing) where
   abbrev new : Message
   new = new_message list key sender arrival text
 
   abbrev params_of : Row
-  params_of = Text list ∷ Text key ∷ Blob sender ∷ Int arrival ∷ Blob text ∷ []
+  params_of = Text list ∷ Text key ∷ Blob sender ∷ Int arrival ∷ Blob text ∷ Int filing.sent ∷ Int filing.month ∷ Blob filing.author ∷ []
 
-  abbrev fresh : Trees → ℤ → Numbered Message
-  fresh db top = record { number = at_least (Above top) (next_rowid (db 8)); it = new }
+  abbrev more : Archive → Archive
+  more a = record a { messages = a.messages ++ new ∷ []; filings = a.filings ++ filing ∷ [] }
+
+  abbrev fresh : Trees → ℤ → Numbered Filed
+  fresh db top = record { number = at_least (Above top) (next_rowid (db 8)); it = (new, filing) }
 
   puts : (db : Trees) (top : ℤ) (given : List Row)
-      → given ≡ (Null ∷ Null ∷ Text list ∷ Text key ∷ Blob sender ∷ Int arrival ∷ Blob text ∷ Int (pos 0) ∷ Null ∷ []) ∷ []
-      → edited db (edit_of db message_table [] (Above top) 0 given) ≡ put_row (row_of message_cells (fresh db top)) (db 8)
-  puts db top given from = rw (from, cast_null, cast_int arrival, cast_int (pos 0))
+      → given ≡ (Null ∷ Null ∷ Text list ∷ Text key ∷ Blob sender ∷ Int arrival ∷ Blob text ∷ Int (pos 0) ∷ Null ∷ Int filing.sent ∷ Int filing.month ∷ Blob filing.author ∷ []) ∷ []
+      → edited db (edit_of db message_table [] (Above top) 0 given) ≡ put_row (row_of filed_cells (fresh db top)) (db 8)
+  puts db top given from = rw (from, cast_null, cast_int arrival, cast_int (pos 0), cast_int filing.sent, cast_int filing.month)
 
   after : (db mid next : Trees) → SameBut 8 db mid → SameBut 10 mid next → SameBut 8 db next
   after db mid next first last = record {
@@ -107,11 +165,11 @@ module _ (list key sender : List ℕ) (arrival : ℤ) (text : List ℕ) where
   }
 
   adds : {behind : Option Database} (old new_state : State) (count : ℕ) → IsHeld behind old → list_any (is_message list key) (archive_of old).messages ≡ false → Executes add_text params_of old new_state (Ok count)
-      → ChangesOver behind old new_state (λ a. record a { messages = a.messages ++ new ∷ [] })
+      → ChangesOver behind old new_state more
   adds old next count k none h =
       let params = params_of in
       let db = old.now.trees in
-      let command = Insert 4 (Values new_cells 9) in
+      let command = Insert 4 (Values new_cells 12) in
       let w = runs_as add_text params old next archive_schema k.schema command add_is add_plain count h in
       let words = statement_of add_text (understood archive_schema add_text) in
       let done = passed (subst (λ s. Does old.step_limit (mode_of old) params (record old.now { schema = s }) words None command (Ok (w.tally, next.now))) k.schema w.changed) in
@@ -126,21 +184,22 @@ module _ (list key sender : List ℕ) (arrival : ℤ) (text : List ℕ) where
       let later = counts old.step_limit params written.0 counted.0 counter.0 (fold higher top edit.news) counted.1 in
       let trees : next.now.trees ≡ counted.0 = ap (λ (d : Database). d.trees) now ∙ ap (λ (it : Written). it.trees) (value_is counted.2) in
       let far = raised top (next_rowid (db 8)) in
-      let put = put_past message_cells message_read message_back (db 8) (fresh db top) far k.tables.messages in
-      let rows : next.now.trees 8 ≡ put_row (row_of message_cells (fresh db top)) (db 8) =
+      let put = put_past filed_cells filed_read filed_back (db 8) (fresh db top) far k.tables.messages in
+      let rows : next.now.trees 8 ≡ put_row (row_of filed_cells (fresh db top)) (db 8) =
       ap (λ (t : Trees). t 8) trees ∙ later.messages (λ e. omega (arith, e)) ∙ applied.rows ∙ puts db top given.0 given.1.1 in
       let same = subst (SameBut 8 db) (sym trees) (after db written.0 counted.0 (same_but 8 db written.0 applied.tables) later) in
-      let apart = subst (AreApart same_message) (sym put.1) (apart_more same_message (archive_of old).messages new flips none k.tables.messages_apart) in
-      let positive = positive_more message_cells message_read message_back (db 8) (fresh db top) far k.tables.messages k.tables.positive in
+      let both = one_filed (put_row (row_of filed_cells (fresh db top)) (db 8)) (db 8) (new, filing) put.1 in
+      let apart = subst (AreApart same_message) (sym both.0) (apart_more same_message (archive_of old).messages new flips none k.tables.messages_apart) in
+      let positive = positive_more filed_cells filed_read filed_back (db 8) (fresh db top) far k.tables.messages k.tables.positive in
       let it = messages_change db next.now.trees k.tables same _ rows put.0 apart positive in
-      (kept_by old next k w.shown (ap (λ (d : Database). d.schema) now) it.0, it.1 ∙ ap (λ l. record (archive_of old) { messages = l }) put.1)
+      (kept_by old next k w.shown (ap (λ (d : Database). d.schema) now) it.0, it.1 ∙ ap₂ (λ l n. record (archive_of old) { messages = l; filings = n }) both.0 both.1)
 
   pub tries_to_add : (old next : State) (r : Result ℕ Error) → IsKept old → Executes add_text params_of old next r
-      → (list_any (is_message list key) (archive_of old).messages ≡ false → OnOk r (Changes old next (λ a. record a { messages = a.messages ++ new ∷ [] }))) × OnErr r (Rests old next)
+      → (list_any (is_message list key) (archive_of old).messages ≡ false → OnOk r (Changes old next more)) × OnErr r (Rests old next)
   tries_to_add old next (Ok count) k h = (λ none. adds old next count k none h, tt)
   tries_to_add old next (Err e) k h = (λ none. tt, rests old next k (execute_fails old next add_text params_of e h))
 
   pub tries_over : (behind : Option Database) (old next : State) (r : Result ℕ Error) → IsHeld behind old → list_any (is_message list key) (archive_of old).messages ≡ false
-      → Executes add_text params_of old next r → MatchResult r (λ _. ChangesOver behind old next (λ a. record a { messages = a.messages ++ new ∷ [] })) (λ _. RestsOver behind old next)
+      → Executes add_text params_of old next r → MatchResult r (λ _. ChangesOver behind old next more) (λ _. RestsOver behind old next)
   tries_over behind old next (Ok count) k none h = adds old next count k none h
   tries_over behind old next (Err e) k none h = rests old next k (execute_fails old next add_text params_of e h)

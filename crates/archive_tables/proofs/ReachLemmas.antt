@@ -29,9 +29,9 @@ use Rattle.sqlite_sql.specs.declared.ops.BinaryOp.TheVariants.{Compare}
 use Rattle.sqlite_sql.specs.declared.ops.CompareOp.TheVariants.{Ge}
 use Rattle.sqlite_trees.proofs.ListLemmas.{map-map}
 use Rattle.sqlite_value.proofs.OrderLemmas.{value_cmp-Int}
-use Rattle.archive_machine.specs.Records.{Message}
+use Rattle.archive_machine.specs.Filing.{Filed}
 use Rattle.archive_tables.specs.Schema.{archive_schema}
-use Rattle.archive_tables.specs.Tables.{IsKept, Numbered, row_of, read_of, Holds, message_cells, message_read, archive_of, reaches_number}
+use Rattle.archive_tables.specs.Tables.{IsKept, Numbered, row_of, read_of, Holds, message_read, filed_cells, filed_read, archive_of, reaches_number}
 use Rattle.archive_tables.specs.Calls.{Rests}
 use Rattle.archive_tables.proofs.RunLemmas.{query_fails, query_leaves, rests}
 use Rattle.archive_tables.proofs.RowLemmas.{int_less}
@@ -91,7 +91,7 @@ some_high trees params rows a =
 
 -- ---- counting
 
-is_high : (limit : ℕ) (r : Numbered Message) → passes high (Int (pos limit) ∷ []) (row_of message_cells r) ≡ is_ge (int_cmp r.number (pos limit))
+is_high : (limit : ℕ) (r : Numbered Filed) → passes high (Int (pos limit) ∷ []) (row_of filed_cells r) ≡ is_ge (int_cmp r.number (pos limit))
 unfolding binary
 is_high limit r = alone _ ∙ truth_back _ ∙ ap is_ge (value_cmp-Int r.number (pos limit))
 
@@ -99,46 +99,46 @@ from_limit : (limit : ℕ) (n : ℤ) → is_ge (int_cmp n (pos limit)) ≡ int_l
 from_limit limit n = grind (arith, ints, nat_tests)
 
 -- the rows that pass are those of a number of at least the limit
-any_high : (limit : ℕ) (all : List (Numbered Message))
-    → list_any (passes high (Int (pos limit) ∷ [])) (map (row_of message_cells) all) ≡ list_any (λ row. int_le (pos limit) (id_in (rowid row))) (map (row_of message_cells) all)
+any_high : (limit : ℕ) (all : List (Numbered Filed))
+    → list_any (passes high (Int (pos limit) ∷ [])) (map (row_of filed_cells) all) ≡ list_any (λ row. int_le (pos limit) (id_in (rowid row))) (map (row_of filed_cells) all)
 any_high limit [] = refl
 any_high limit (r ∷ all) = ap₂ ◌||◌ (is_high limit r ∙ from_limit limit r.number) (any_high limit all)
 
-reaches_in : (limit : ℕ) (rows : List Row) → Holds message_cells message_read rows
+reaches_in : (limit : ℕ) (rows : List Row) → Holds filed_cells filed_read rows
     → list_any (passes high (Int (pos limit) ∷ [])) rows ≡ list_any (λ row. int_le (pos limit) (id_in (rowid row))) rows
 reaches_in limit rows k =
-    let all = map (read_of message_read) rows in
+    let all = map (read_of filed_read) rows in
     subst (λ l. list_any (passes high (Int (pos limit) ∷ [])) l ≡ list_any (λ row. int_le (pos limit) (id_in (rowid row))) l) (sym k.coded) (any_high limit all)
 
-abbrev AreLow : ℕ → List (Numbered Message) → Type 0
+abbrev AreLow : ℕ → List (Numbered Filed) → Type 0
 AreLow limit = AllByRecursion (λ r. r.number <ℤ pos limit)
 
 low : (limit : ℕ) (n : ℤ) → is_ge (int_cmp n (pos limit)) ≡ false → n <ℤ pos limit
 low limit n h = grind (arith, ints, nat_tests)
 
-all_low : (limit : ℕ) (all : List (Numbered Message)) → length (filter (passes high (Int (pos limit) ∷ [])) (map (row_of message_cells) all)) ≡ 0 → AreLow limit all
+all_low : (limit : ℕ) (all : List (Numbered Filed)) → length (filter (passes high (Int (pos limit) ∷ [])) (map (row_of filed_cells) all)) ≡ 0 → AreLow limit all
 all_low limit [] none = tt
-all_low limit (r ∷ all) none = elim (cases_Bool (passes high (Int (pos limit) ∷ []) (row_of message_cells r))) [
+all_low limit (r ∷ all) none = elim (cases_Bool (passes high (Int (pos limit) ∷ []) (row_of filed_cells r))) [
   | inl reaches ↦ absurd (let some = rw reaches at none in omega (arith, some))
   | inr below ↦ (low limit r.number (sym (is_high limit r) ∙ below), all_low limit all (rw below at none))
 ]
 
 -- rising numbers between two bounds are fewer than what lies between
-fewer : (limit : ℕ) (from : ℤ) (all : List (Numbered Message)) → from <ℤ pos limit → AllByRecursion (λ row. value_cmp (Int from) (rowid row) ≡ Less) (map (row_of message_cells) all)
-    → IsTable (map (row_of message_cells) all) → AreLow limit all → (pos (length all) +ℤ from) <ℤ pos limit
+fewer : (limit : ℕ) (from : ℤ) (all : List (Numbered Filed)) → from <ℤ pos limit → AllByRecursion (λ row. value_cmp (Int from) (rowid row) ≡ Less) (map (row_of filed_cells) all)
+    → IsTable (map (row_of filed_cells) all) → AreLow limit all → (pos (length all) +ℤ from) <ℤ pos limit
 fewer limit from [] below above up lows = omega (arith, ints, below)
 fewer limit from (r ∷ all) below above up lows =
     let more = fewer limit r.number all lows.0 up.0 up.1 lows.1 in
     let first : from <ℤ r.number = int_less (sym (value_cmp-Int from r.number) ∙ above.0) in
     omega (arith, ints, more, first)
 
-fewer_messages : (limit : ℕ) (rows : List Row) → 0 < limit → Holds message_cells message_read rows → AllByRecursion (λ row. value_cmp (Int (pos 0)) (rowid row) ≡ Less) rows
+fewer_messages : (limit : ℕ) (rows : List Row) → 0 < limit → Holds filed_cells filed_read rows → AllByRecursion (λ row. value_cmp (Int (pos 0)) (rowid row) ≡ Less) rows
     → length (filter (passes high (Int (pos limit) ∷ [])) rows) ≡ 0 → length (map message_read rows) < limit
 fewer_messages limit rows some k positive none =
-    let all = map (read_of message_read) rows in
+    let all = map (read_of filed_read) rows in
     let lows = all_low limit all (ap (λ l. length (filter (passes high (Int (pos limit) ∷ [])) l)) (sym k.coded) ∙ none) in
     let count = fewer limit (pos 0) all (omega (arith, ints, some)) (subst (AllByRecursion (λ row. value_cmp (Int (pos 0)) (rowid row) ≡ Less)) k.coded positive) (subst IsTable k.coded k.rise) lows in
-    let same : length all ≡ length (map message_read rows) = length-map rows (read_of message_read) ∙ sym (length-map rows message_read) in
+    let same : length all ≡ length (map message_read rows) = length-map rows (read_of filed_read) ∙ sym (length-map rows message_read) in
     omega (arith, ints, count, same)
 
 module _ (old new : State) (limit : ℕ) (k : IsKept old) where

@@ -1,10 +1,10 @@
 -- The texts of the schema define its tables.
 use Rattle.std.proofs.Common.{◌≡◌, Ok, refl}
-use Rattle.sqlite.specs.Compile.{table_defined_by}
+use Rattle.sqlite.specs.Compile.{table_defined_by, index_defined_by}
 use Rattle.sqlite.specs.Does.{sequence_text}
 use Rattle.sqlite.specs.Table.{Table}
 use Rattle.sqlite_tied.specs.Compute.{everything}
-use Rattle.archive_tables.specs.Schema.{create_version, create_list, create_person, create_grant, create_message, version_table, list_table, person_table, grant_table, message_table, sequence_table}
+use Rattle.archive_tables.specs.Schema.{create_version, create_list, create_person, create_grant, create_message, create_month_index, create_author_index, version_table, list_table, person_table, grant_table, message_table, sequence_table, month_index, author_index}
 
 -- as a text defines it, a table has no place yet
 abbrev pub unplaced : Table → Table
@@ -33,3 +33,11 @@ message_is = refl
 pub sequence_is : table_defined_by sequence_text ≡ Ok (unplaced sequence_table)
 unfolding everything
 sequence_is = refl
+
+pub month_index_is : index_defined_by message_table create_month_index ≡ Ok month_index
+unfolding everything
+month_index_is = refl
+
+pub author_index_is : index_defined_by message_table create_author_index ≡ Ok author_index
+unfolding everything
+author_index_is = refl

@@ -5,10 +5,11 @@ use Rattle.sqlite.specs.declared.types.Value.TheVariants.{Null, Int, Text, Blob}
 use Rattle.sqlite.specs.Order.{Row}
 use Rattle.sqlite.specs.Table.{Table}
 use Rattle.sqlite.specs.Tree.{Trees}
-use Rattle.archive_machine.specs.Records.{Message, Grant}
+use Rattle.archive_machine.specs.Records.{Message, Grant, Filing}
 use Rattle.archive_tables.specs.Schema.{archive_schema}
 use Rattle.archive_machine.specs.Questions.{is_message, is_grant}
-use Rattle.archive_tables.specs.Tables.{row_of, read_of, message_cells, message_read, grant_cells, grant_read, same_message, AreApart, archive_in, version_rows, IsOfVersion}
+use Rattle.archive_tables.specs.Tables.{row_of, read_of, filed_cells, filed_read, grant_cells, grant_read, same_message, AreApart, archive_in, version_rows, IsOfVersion}
+use Rattle.archive_tables.specs.declared.texts.schema.TheConstants.{VERSION}
 use Rattle.archive_tables.specs.Rows.{message_shown, marks_shown, marks_of, new_message, versions_shown}
 
 abbrev hello : Message
@@ -25,14 +26,17 @@ hello = record {
 abbrev hello_row : Row
 hello_row =
     Int (pos 7) ∷ Null ∷ Text (codes "soc") ∷ Text (codes "5891") ∷ Blob (codes "anna@example.org") ∷ Int (pos 1046772000) ∷ Blob (codes "hello") ∷ Int (pos 2)
-    ∷ Int (pos 12131) ∷ []
+    ∷ Int (pos 12131) ∷ Int (pos 1046772000) ∷ Int (pos 24038) ∷ Blob (codes "anna@example.org") ∷ []
 
 -- ---- a row and its record
 
-a_message_is_its_row : row_of message_cells (record { number = pos 7; it = hello }) ≡ hello_row
+abbrev its_filing : Filing
+its_filing = record { sent = pos 1046772000; month = pos 24038; author = codes "anna@example.org" }
+
+a_message_is_its_row : row_of filed_cells (record { number = pos 7; it = (hello, its_filing) }) ≡ hello_row
 a_message_is_its_row = refl
 
-a_row_is_its_message : read_of message_read hello_row ≡ record { number = pos 7; it = hello }
+a_row_is_its_message : read_of filed_read hello_row ≡ record { number = pos 7; it = (hello, its_filing) }
 a_row_is_its_message = refl
 
 no_embargo_is_null : message_shown (new_message (codes "soc") (codes "e3b0") (codes "-") (pos 0) [])
@@ -63,13 +67,13 @@ two_lists_may_have_one_key = (refl, (refl, tt))
 
 abbrev two_lists : Trees
 two_lists t =
-    if t == 0 then version_rows
+    if t == 0 then version_rows VERSION
     else (if t == 1 then (Int (pos 1) ∷ Text (codes "soc") ∷ []) ∷ (Int (pos 2) ∷ Text (codes "news") ∷ []) ∷ [] else [])
 
-its_archive : archive_in two_lists ≡ record { lists = codes "soc" ∷ codes "news" ∷ []; persons = []; grants = []; messages = [] }
+its_archive : archive_in two_lists ≡ record { lists = codes "soc" ∷ codes "news" ∷ []; persons = []; grants = []; messages = []; filings = [] }
 its_archive = refl
 
-its_version : IsOfVersion two_lists × (versions_shown two_lists ≡ (Int (pos 0) ∷ []) ∷ [])
+its_version : IsOfVersion VERSION two_lists × (versions_shown two_lists ≡ (Int (pos 1) ∷ []) ∷ [])
 its_version = ((_, refl, refl), refl)
 
 six_tables : map (λ (t : Table). t.name) archive_schema.tables

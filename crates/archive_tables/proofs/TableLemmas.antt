@@ -4,9 +4,9 @@ use Rattle.std.specs.List.{AllByRecursion}
 use Rattle.sqlite.specs.Order.{Row}
 use Rattle.sqlite.specs.Table.{Table}
 use Rattle.sqlite.specs.Tree.{Trees}
-use Rattle.archive_machine.specs.Records.{Person, Grant, Message, Archive}
+use Rattle.archive_machine.specs.Records.{Person, Grant, Message, Filing, Archive}
 use Rattle.archive_tables.specs.Schema.{archive_schema}
-use Rattle.archive_tables.specs.Tables.{Holds, AreApart, ArePositive, AreTables, archive_in, list_cells, list_read, person_cells, person_read, grant_cells, grant_read, message_cells, message_read, same_grant, same_message}
+use Rattle.archive_tables.specs.Tables.{Holds, AreApart, ArePositive, AreTables, archive_in, list_cells, list_read, person_cells, person_read, grant_cells, grant_read, message_read, filed_cells, filing_read, filed_read, same_grant, same_message}
 
 -- every table but the one of this tree is as before
 pub record SameBut (t : ℕ) (old new : Trees) : Type 0 where
@@ -19,13 +19,14 @@ pub record SameBut (t : ℕ) (old new : Trees) : Type 0 where
 pub same_but : (t : ℕ) (old new : Trees) → AllByRecursion (λ (table : Table). table.tree ≢ t → new table.tree ≡ old table.tree) archive_schema.tables → SameBut t old new
 same_but t old new all = record { version = all.0; lists = all.1.0; persons = all.1.1.0; grants = all.1.1.1.0; messages = all.1.1.1.1.0 }
 
-abbrev four : List (List ℕ) → List Person → List Grant → List Message → Archive
-four lists persons grants messages = record { lists = lists; persons = persons; grants = grants; messages = messages }
+abbrev of_lists : List (List ℕ) → List Person → List Grant → List Message → List Filing → Archive
+of_lists lists persons grants messages filings = record { lists = lists; persons = persons; grants = grants; messages = messages; filings = filings }
 
-archive_same : (a b : Archive) → a.lists ≡ b.lists → a.persons ≡ b.persons → a.grants ≡ b.grants → a.messages ≡ b.messages → a ≡ b
-archive_same a b p q r s =
-    ap (λ l. four l a.persons a.grants a.messages) p ∙ ap (λ l. four b.lists l a.grants a.messages) q ∙ ap (λ l. four b.lists b.persons l a.messages) r
-    ∙ ap (λ l. four b.lists b.persons b.grants l) s
+archive_same : (a b : Archive) → a.lists ≡ b.lists → a.persons ≡ b.persons → a.grants ≡ b.grants → a.messages ≡ b.messages → a.filings ≡ b.filings → a ≡ b
+archive_same a b p q r s t =
+    ap (λ l. of_lists l a.persons a.grants a.messages a.filings) p ∙ ap (λ l. of_lists b.lists l a.grants a.messages a.filings) q
+    ∙ ap (λ l. of_lists b.lists b.persons l a.messages a.filings) r ∙ ap (λ l. of_lists b.lists b.persons b.grants l a.filings) s
+    ∙ ap (λ l. of_lists b.lists b.persons b.grants b.messages l) t
 
 module _ (old new : Trees) (k : AreTables old) where
   pub lists_change : SameBut 1 old new → (rows : List Row) → new 1 ≡ rows → Holds list_cells list_read rows
@@ -40,12 +41,12 @@ module _ (old new : Trees) (k : AreTables old) where
           lists = subst (Holds list_cells list_read) (sym is) holds;
           persons = subst (Holds person_cells person_read) (sym persons) k.persons;
           grants = subst (Holds grant_cells grant_read) (sym grants) k.grants;
-          messages = subst (Holds message_cells message_read) (sym messages) k.messages;
+          messages = subst (Holds filed_cells filed_read) (sym messages) k.messages;
           grants_apart = subst (λ l. AreApart same_grant (map grant_read l)) (sym grants) k.grants_apart;
           messages_apart = subst (λ l. AreApart same_message (map message_read l)) (sym messages) k.messages_apart;
           positive = subst ArePositive (sym messages) k.positive;
         },
-        archive_same _ _ (ap (map list_read) is) (ap (map person_read) persons) (ap (map grant_read) grants) (ap (map message_read) messages),
+        archive_same _ _ (ap (map list_read) is) (ap (map person_read) persons) (ap (map grant_read) grants) (ap (map message_read) messages) (ap (map filing_read) messages),
       )
 
   pub persons_change : SameBut 3 old new → (rows : List Row) → new 3 ≡ rows → Holds person_cells person_read rows
@@ -60,12 +61,12 @@ module _ (old new : Trees) (k : AreTables old) where
           lists = subst (Holds list_cells list_read) (sym lists) k.lists;
           persons = subst (Holds person_cells person_read) (sym is) holds;
           grants = subst (Holds grant_cells grant_read) (sym grants) k.grants;
-          messages = subst (Holds message_cells message_read) (sym messages) k.messages;
+          messages = subst (Holds filed_cells filed_read) (sym messages) k.messages;
           grants_apart = subst (λ l. AreApart same_grant (map grant_read l)) (sym grants) k.grants_apart;
           messages_apart = subst (λ l. AreApart same_message (map message_read l)) (sym messages) k.messages_apart;
           positive = subst ArePositive (sym messages) k.positive;
         },
-        archive_same _ _ (ap (map list_read) lists) (ap (map person_read) is) (ap (map grant_read) grants) (ap (map message_read) messages),
+        archive_same _ _ (ap (map list_read) lists) (ap (map person_read) is) (ap (map grant_read) grants) (ap (map message_read) messages) (ap (map filing_read) messages),
       )
 
   pub grants_change : SameBut 6 old new → (rows : List Row) → new 6 ≡ rows → Holds grant_cells grant_read rows → AreApart same_grant (map grant_read rows)
@@ -80,16 +81,16 @@ module _ (old new : Trees) (k : AreTables old) where
           lists = subst (Holds list_cells list_read) (sym lists) k.lists;
           persons = subst (Holds person_cells person_read) (sym persons) k.persons;
           grants = subst (Holds grant_cells grant_read) (sym is) holds;
-          messages = subst (Holds message_cells message_read) (sym messages) k.messages;
+          messages = subst (Holds filed_cells filed_read) (sym messages) k.messages;
           grants_apart = subst (λ l. AreApart same_grant (map grant_read l)) (sym is) apart;
           messages_apart = subst (λ l. AreApart same_message (map message_read l)) (sym messages) k.messages_apart;
           positive = subst ArePositive (sym messages) k.positive;
         },
-        archive_same _ _ (ap (map list_read) lists) (ap (map person_read) persons) (ap (map grant_read) is) (ap (map message_read) messages),
+        archive_same _ _ (ap (map list_read) lists) (ap (map person_read) persons) (ap (map grant_read) is) (ap (map message_read) messages) (ap (map filing_read) messages),
       )
 
-  pub messages_change : SameBut 8 old new → (rows : List Row) → new 8 ≡ rows → Holds message_cells message_read rows → AreApart same_message (map message_read rows) → ArePositive rows
-      → AreTables new × (archive_in new ≡ record (archive_in old) { messages = map message_read rows })
+  pub messages_change : SameBut 8 old new → (rows : List Row) → new 8 ≡ rows → Holds filed_cells filed_read rows → AreApart same_message (map message_read rows) → ArePositive rows
+      → AreTables new × (archive_in new ≡ record (archive_in old) { messages = map message_read rows; filings = map filing_read rows })
   messages_change same rows is holds apart positive =
       let version = same.version (λ e. omega (arith, e)) in
       let lists = same.lists (λ e. omega (arith, e)) in
@@ -100,10 +101,10 @@ module _ (old new : Trees) (k : AreTables old) where
           lists = subst (Holds list_cells list_read) (sym lists) k.lists;
           persons = subst (Holds person_cells person_read) (sym persons) k.persons;
           grants = subst (Holds grant_cells grant_read) (sym grants) k.grants;
-          messages = subst (Holds message_cells message_read) (sym is) holds;
+          messages = subst (Holds filed_cells filed_read) (sym is) holds;
           grants_apart = subst (λ l. AreApart same_grant (map grant_read l)) (sym grants) k.grants_apart;
           messages_apart = subst (λ l. AreApart same_message (map message_read l)) (sym is) apart;
           positive = subst ArePositive (sym is) positive;
         },
-        archive_same _ _ (ap (map list_read) lists) (ap (map person_read) persons) (ap (map grant_read) grants) (ap (map message_read) is),
+        archive_same _ _ (ap (map list_read) lists) (ap (map person_read) persons) (ap (map grant_read) grants) (ap (map message_read) is) (ap (map filing_read) is),
       )

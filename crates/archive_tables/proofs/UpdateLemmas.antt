@@ -1,6 +1,6 @@
 -- The statements that change a message.
 use Rattle.std.proofs.Common.{◌≡◌, ℕ, ℤ, pos, List, [], ◌∷◌, map, codes, Ok, Err, Result, OnOk, OnErr, refl, sym, ap, ap₂, subst, ◌∙◌, false, true, Bool, cond, None, Some, Option}
-use Rattle.std.specs.Prelude.{◌&&◌, bytes_eq, if◌then◌else◌}
+use Rattle.std.specs.Prelude.{◌&&◌, ◌||◌, bytes_eq, if◌then◌else◌}
 use Rattle.sqlite.specs.declared.error.Error.{Error}
 use Rattle.sqlite.specs.declared.types.Value.TheVariants.{Null, Int, Text, Blob}
 use Rattle.sqlite.specs.Order.{Row}
@@ -22,15 +22,17 @@ use Rattle.sqlite.proofs.Callers.{IsPlain, command_of, statement_of, runs_as, on
 use Rattle.sqlite_tied.specs.Compute.{everything}
 use Rattle.sqlite_rules.specs.Calls.{ids_of}
 use Rattle.archive_machine.specs.Records.{Message}
+use Rattle.archive_machine.specs.Filing.{Filed}
+use Rattle.std.specs.List.{list_any}
 use Rattle.archive_tables.specs.Schema.{archive_schema, message_table}
 use Rattle.archive_machine.specs.Questions.{is_message}
-use Rattle.archive_tables.specs.Tables.{IsKept, Numbered, row_of, message_cells, message_read, archive_of, or_null, same_message, AreApart}
+use Rattle.archive_tables.specs.Tables.{IsKept, Numbered, row_of, filed_cells, message_read, filing_read, filed_read, archive_of, or_null, same_message, AreApart}
 use Rattle.archive_tables.specs.Calls.{Changes, Rests}
 use Rattle.archive_tables.proofs.RunLemmas.{passed, value_is, no_action, cast_null, cast_int, kept_by, rests, execute_fails}
 use Rattle.archive_tables.proofs.TableLemmas.{SameBut, same_but, messages_change}
 use Rattle.archive_tables.proofs.ChangeLemmas.{updated, apart_mapped}
 use Rattle.archive_tables.proofs.SelectLemmas.{plain_query, env_of, picks_of, hits, equal_words, no_row, one_row}
-use Rattle.archive_tables.proofs.MessageLemmas.{message_back}
+use Rattle.archive_tables.proofs.MessageLemmas.{filed_back, messages_are, filings_are}
 use Rattle.archive_tables.proofs.MailboxLemmas.{at_key, has_key}
 
 -- a message of this list and key is the same as those of this list and key
@@ -42,6 +44,41 @@ alike list key a b found =
     parts : (p q : Bool) → (p && q) ≡ true → (p ≡ true) × (q ≡ true)
     parts true q h = (refl, h)
     parts false q h = absurd cc
+
+-- ---- the same of what is filed of them
+
+abbrev same_filed : Filed → Filed → Bool
+same_filed f g = same_message f.0 g.0
+
+none_alike : (m : Message) (rows : List Row) → list_any (λ (f : Filed). same_message m f.0) (map filed_read rows) ≡ list_any (same_message m) (map message_read rows)
+none_alike m [] = refl
+none_alike m (row ∷ rows) = ap (λ b. same_message m (message_read row) || b) (none_alike m rows)
+
+filed_apart : (rows : List Row) → AreApart same_message (map message_read rows) → AreApart same_filed (map filed_read rows)
+filed_apart [] apart = tt
+filed_apart (row ∷ rows) apart = (none_alike (message_read row) rows ∙ apart.0, filed_apart rows apart.1)
+
+-- a message is changed, and what is filed of it stays
+changed_filed : (p : Message → Bool) (set : Message → Message) (new old : List Row)
+    → map filed_read new ≡ map (λ (f : Filed). if p f.0 then (set f.0, f.1) else f) (map filed_read old)
+    → (map message_read new ≡ map (λ (m : Message). if p m then set m else m) (map message_read old)) × (map filing_read new ≡ map filing_read old)
+changed_filed p set new old is = (sym (messages_are new) ∙ ap (map (λ (f : Filed). f.0)) is ∙ firsts old, sym (filings_are new) ∙ ap (map (λ (f : Filed). f.1)) is ∙ seconds old)
+  where
+    firsts : (rows : List Row) → map (λ (f : Filed). f.0) (map (λ (f : Filed). if p f.0 then (set f.0, f.1) else f) (map filed_read rows)) ≡ map (λ (m : Message). if p m then set m else m) (map message_read rows)
+    firsts [] = refl
+    firsts (row ∷ rows) = ap₂ ◌∷◌ (by_test (p (message_read row))) (firsts rows)
+      where
+        by_test : (b : Bool) → (if b then (set (message_read row), filing_read row) else filed_read row).0 ≡ (if b then set (message_read row) else message_read row)
+        by_test true = refl
+        by_test false = refl
+
+    seconds : (rows : List Row) → map (λ (f : Filed). f.1) (map (λ (f : Filed). if p f.0 then (set f.0, f.1) else f) (map filed_read rows)) ≡ map filing_read rows
+    seconds [] = refl
+    seconds (row ∷ rows) = ap₂ ◌∷◌ (by_test (p (message_read row))) (seconds rows)
+      where
+        by_test : (b : Bool) → (if b then (set (message_read row), filing_read row) else filed_read row).1 ≡ filing_read row
+        by_test true = refl
+        by_test false = refl
 
 pub cast_or_null : (o : Option ℤ) → cast Integer (or_null o) ≡ or_null o
 cast_or_null None = cast_null
@@ -58,8 +95,8 @@ module _ (sql : List ℕ) (new_cells : List Term) (is : command_of (understood a
   abbrev query : Query
   query = plain_query 8 at_key new_cells []
 
-  abbrev shown_of : Numbered Message → Row
-  shown_of r = (output query (env_of params (row_of message_cells r))).1
+  abbrev shown_of : Numbered Filed → Row
+  shown_of r = (output query (env_of params (row_of filed_cells r))).1
 
   abbrev change : Message → Message
   change m = if is_message list key m then set m else m
@@ -73,8 +110,8 @@ module _ (sql : List ℕ) (new_cells : List Term) (is : command_of (understood a
       same_key : (m : Message) → (change m).key ≡ m.key
       same_key m = elim (is_message list key m) as (λ c. (cond c (set m) m).key ≡ m.key) [ true ↦ keeps_key m | false ↦ refl ]
 
-  module _ (puts : (db : Trees) (r : Numbered Message) (given : List Row) → given ≡ shown_of r ∷ []
-      → edited db (edit_of db message_table (ids_of given) Given 1 given) ≡ put_row (row_of message_cells (record r { it = set r.it })) (without_rowid r.number (db 8))) where
+  module _ (puts : (db : Trees) (r : Numbered Filed) (given : List Row) → given ≡ shown_of r ∷ []
+      → edited db (edit_of db message_table (ids_of given) Given 1 given) ≡ put_row (row_of filed_cells (record r { it = (set r.it.0, r.it.1) })) (without_rowid r.number (db 8))) where
     changes : (old new : State) (count : ℕ) → IsKept old → Executes sql params old new (Ok count) → Changes old new (λ a. record a { messages = map change a.messages })
     changes old new count k h =
         let db = old.now.trees in
@@ -90,14 +127,16 @@ module _ (sql : List ℕ) (new_cells : List Term) (is : command_of (understood a
         let applied = one_step archive_schema _ db written.0 edit (no_action 8 (taken_by db edit) edit.news) written.1 in
         let trees : new.now.trees ≡ written.0 = ap (λ (d : Database). d.trees) now ∙ ap (λ (x : Written). x.trees) (value_is written.2) in
         let rows : new.now.trees 8 ≡ edited db edit = ap (λ (t : Trees). t 8) trees ∙ applied.rows in
-        let found = hits message_cells message_read message_back query params (is_message list key) (has_key list key more) (db 8) k.tables.messages in
-        let it = updated message_cells message_read message_back (is_message list key) set same_message (alike list key) (db 8) (edited db edit) k.tables.messages k.tables.messages_apart
-        (λ r one. puts db r queried.0 (one_row query params (db 8) queried.0 (row_of message_cells r) picks (found.0 ∙ ap (map (row_of message_cells)) one)))
-        (λ none. ap (λ l. edited db (edit_of db message_table (ids_of l) Given 1 l)) (no_row query params (db 8) queried.0 picks (found.0 ∙ ap (map (row_of message_cells)) none))) in
+        let found = hits filed_cells filed_read filed_back query params (λ (f : Filed). is_message list key f.0) (has_key list key more) (db 8) k.tables.messages in
+        let it = updated filed_cells filed_read filed_back (λ (f : Filed). is_message list key f.0) (λ (f : Filed). (set f.0, f.1)) same_filed (λ f g found. alike list key f.0 g.0 found) (db 8) (edited db edit) k.tables.messages
+        (filed_apart (db 8) k.tables.messages_apart)
+        (λ r one. puts db r queried.0 (one_row query params (db 8) queried.0 (row_of filed_cells r) picks (found.0 ∙ ap (map (row_of filed_cells)) one)))
+        (λ none. ap (λ l. edited db (edit_of db message_table (ids_of l) Given 1 l)) (no_row query params (db 8) queried.0 picks (found.0 ∙ ap (map (row_of filed_cells)) none))) in
         let same = subst (SameBut 8 db) (sym trees) (same_but 8 db written.0 applied.tables) in
-        let apart = subst (AreApart same_message) (sym it.1) (apart_mapped same_message change keeps (archive_of old).messages k.tables.messages_apart) in
+        let both = changed_filed (is_message list key) set (edited db edit) (db 8) it.1 in
+        let apart = subst (AreApart same_message) (sym both.0) (apart_mapped same_message change keeps (archive_of old).messages k.tables.messages_apart) in
         let all = messages_change db new.now.trees k.tables same _ rows it.0 apart (it.2 (pos 0) k.tables.positive) in
-        (kept_by old new k w.shown (ap (λ (d : Database). d.schema) now) all.0, all.1 ∙ ap (λ l. record (archive_of old) { messages = l }) it.1)
+        (kept_by old new k w.shown (ap (λ (d : Database). d.schema) now) all.0, all.1 ∙ ap₂ (λ l n. record (archive_of old) { messages = l; filings = n }) both.0 both.1)
 
     pub tries_to_change : (old new : State) (r : Result ℕ Error) → IsKept old → Executes sql params old new r
         → OnOk r (Changes old new (λ a. record a { messages = map change a.messages })) × OnErr r (Rests old new)
@@ -111,7 +150,7 @@ withdrawn_text = codes "UPDATE message SET withdrawn = ?3 WHERE list = ?1 AND ke
 
 -- the number of the row, and then the new row
 abbrev withdrawn_cells : List Term
-withdrawn_cells = col 1 0 ∷ col 1 0 ∷ lit Null ∷ col 1 2 ∷ col 1 3 ∷ col 1 4 ∷ col 1 5 ∷ col 1 6 ∷ col 0 2 ∷ col 1 8 ∷ []
+withdrawn_cells = col 1 0 ∷ col 1 0 ∷ lit Null ∷ col 1 2 ∷ col 1 3 ∷ col 1 4 ∷ col 1 5 ∷ col 1 6 ∷ col 0 2 ∷ col 1 8 ∷ col 1 9 ∷ col 1 10 ∷ col 1 11 ∷ []
 
 withdrawn_is : command_of (understood archive_schema withdrawn_text) ≡ Update 4 (record { lets = []; body = plain_query 8 at_key withdrawn_cells [] })
 unfolding understood everything
@@ -125,7 +164,7 @@ abbrev pub embargo_text : List ℕ
 embargo_text = codes "UPDATE message SET embargo = ?3 WHERE list = ?1 AND key = ?2"
 
 abbrev embargo_cells : List Term
-embargo_cells = col 1 0 ∷ col 1 0 ∷ lit Null ∷ col 1 2 ∷ col 1 3 ∷ col 1 4 ∷ col 1 5 ∷ col 1 6 ∷ col 1 7 ∷ col 0 2 ∷ []
+embargo_cells = col 1 0 ∷ col 1 0 ∷ lit Null ∷ col 1 2 ∷ col 1 3 ∷ col 1 4 ∷ col 1 5 ∷ col 1 6 ∷ col 1 7 ∷ col 0 2 ∷ col 1 9 ∷ col 1 10 ∷ col 1 11 ∷ []
 
 embargo_is : command_of (understood archive_schema embargo_text) ≡ Update 4 (record { lets = []; body = plain_query 8 at_key embargo_cells [] })
 unfolding understood everything
@@ -139,7 +178,7 @@ abbrev pub clear_text : List ℕ
 clear_text = codes "UPDATE message SET embargo = NULL WHERE list = ?1 AND key = ?2"
 
 abbrev clear_cells : List Term
-clear_cells = col 1 0 ∷ col 1 0 ∷ lit Null ∷ col 1 2 ∷ col 1 3 ∷ col 1 4 ∷ col 1 5 ∷ col 1 6 ∷ col 1 7 ∷ lit Null ∷ []
+clear_cells = col 1 0 ∷ col 1 0 ∷ lit Null ∷ col 1 2 ∷ col 1 3 ∷ col 1 4 ∷ col 1 5 ∷ col 1 6 ∷ col 1 7 ∷ lit Null ∷ col 1 9 ∷ col 1 10 ∷ col 1 11 ∷ []
 
 clear_is : command_of (understood archive_schema clear_text) ≡ Update 4 (record { lets = []; body = plain_query 8 at_key clear_cells [] })
 unfolding understood everything
@@ -149,15 +188,15 @@ clear_plain : IsPlain (understood archive_schema clear_text)
 unfolding understood everything
 clear_plain = (refl, refl)
 
-withdrawn_puts : (db : Trees) (r : Numbered Message) (by : ℤ) (given : List Row)
-    → given ≡ (Int r.number ∷ Int r.number ∷ Null ∷ Text r.it.list ∷ Text r.it.key ∷ Blob r.it.sender ∷ Int r.it.arrival ∷ Blob r.it.text ∷ Int by ∷ or_null r.it.embargo ∷ []) ∷ []
-    → edited db (edit_of db message_table (ids_of given) Given 1 given) ≡ put_row (row_of message_cells (record r { it = record r.it { withdrawn = by } })) (without_rowid r.number (db 8))
-withdrawn_puts db r by given from = rw (from, cast_null, cast_int r.number, cast_int r.it.arrival, cast_int by, cast_or_null r.it.embargo)
+withdrawn_puts : (db : Trees) (r : Numbered Filed) (by : ℤ) (given : List Row)
+    → given ≡ (Int r.number ∷ Int r.number ∷ Null ∷ Text r.it.0.list ∷ Text r.it.0.key ∷ Blob r.it.0.sender ∷ Int r.it.0.arrival ∷ Blob r.it.0.text ∷ Int by ∷ or_null r.it.0.embargo ∷ Int r.it.1.sent ∷ Int r.it.1.month ∷ Blob r.it.1.author ∷ []) ∷ []
+    → edited db (edit_of db message_table (ids_of given) Given 1 given) ≡ put_row (row_of filed_cells (record r { it = (record r.it.0 { withdrawn = by }, r.it.1) })) (without_rowid r.number (db 8))
+withdrawn_puts db r by given from = rw (from, cast_null, cast_int r.number, cast_int r.it.0.arrival, cast_int by, cast_or_null r.it.0.embargo, cast_int r.it.1.sent, cast_int r.it.1.month)
 
-embargo_puts : (db : Trees) (r : Numbered Message) (until : Option ℤ) (given : List Row)
-    → given ≡ (Int r.number ∷ Int r.number ∷ Null ∷ Text r.it.list ∷ Text r.it.key ∷ Blob r.it.sender ∷ Int r.it.arrival ∷ Blob r.it.text ∷ Int r.it.withdrawn ∷ or_null until ∷ []) ∷ []
-    → edited db (edit_of db message_table (ids_of given) Given 1 given) ≡ put_row (row_of message_cells (record r { it = record r.it { embargo = until } })) (without_rowid r.number (db 8))
-embargo_puts db r until given from = rw (from, cast_null, cast_int r.number, cast_int r.it.arrival, cast_int r.it.withdrawn, cast_or_null until)
+embargo_puts : (db : Trees) (r : Numbered Filed) (until : Option ℤ) (given : List Row)
+    → given ≡ (Int r.number ∷ Int r.number ∷ Null ∷ Text r.it.0.list ∷ Text r.it.0.key ∷ Blob r.it.0.sender ∷ Int r.it.0.arrival ∷ Blob r.it.0.text ∷ Int r.it.0.withdrawn ∷ or_null until ∷ Int r.it.1.sent ∷ Int r.it.1.month ∷ Blob r.it.1.author ∷ []) ∷ []
+    → edited db (edit_of db message_table (ids_of given) Given 1 given) ≡ put_row (row_of filed_cells (record r { it = (record r.it.0 { embargo = until }, r.it.1) })) (without_rowid r.number (db 8))
+embargo_puts db r until given from = rw (from, cast_null, cast_int r.number, cast_int r.it.0.arrival, cast_int r.it.0.withdrawn, cast_or_null until, cast_int r.it.1.sent, cast_int r.it.1.month)
 
 pub tries_withdrawn : (list key : List ℕ) (by : ℤ) (old new : State) (r : Result ℕ Error) → IsKept old → Executes withdrawn_text (Text list ∷ Text key ∷ Int by ∷ []) old new r
     → OnOk r (Changes old new (λ a. record a { messages = map (λ m. if is_message list key m then record m { withdrawn = by } else m) a.messages })) × OnErr r (Rests old new)

@@ -34,8 +34,8 @@ number_plain : IsPlain (understood archive_schema number_text)
 unfolding understood everything
 number_plain = (refl, refl)
 
-only_version : (rows picked : List Row) → rows ≡ version_rows → Picks (plain_query 0 [] number_cell by_number) [] rows picked → picked ≡ (Int VERSION ∷ []) ∷ []
-only_version rows picked are it = in_order 0 [] number_cell [] version_rows picked (tt, tt) (subst (λ l. Picks (plain_query 0 [] number_cell by_number) [] l picked) are it)
+only_version : (rows picked : List Row) → rows ≡ version_rows VERSION → Picks (plain_query 0 [] number_cell by_number) [] rows picked → picked ≡ (Int VERSION ∷ []) ∷ []
+only_version rows picked are it = in_order 0 [] number_cell [] (version_rows VERSION) picked (tt, tt) (subst (λ l. Picks (plain_query 0 [] number_cell by_number) [] l picked) are it)
 
 -- whatever the rows are, their numbers are shown
 pub numbers_found : (old new : State) → IsOfArchive old → (rows : List Row) → Shown number_text [] old new rows → IsPermutation (versions_shown old.now.trees) rows

@@ -21,13 +21,15 @@ use Rattle.sqlite_tied.specs.Compute.{everything}
 use Rattle.sqlite_sql.specs.declared.ops.BinaryOp.TheVariants.{Compare}
 use Rattle.sqlite_sql.specs.declared.ops.CompareOp.TheVariants.{Eq}
 use Rattle.sqlite_value.proofs.OrderLemmas.{value_cmp-Int}
+use Rattle.sqlite_trees.proofs.ListLemmas.{map-map}
 use Rattle.archive_machine.specs.Records.{Message}
+use Rattle.archive_machine.specs.Filing.{Filed}
 use Rattle.archive_machine.specs.Questions.{messages_in}
 use Rattle.archive_tables.specs.Schema.{archive_schema}
-use Rattle.archive_tables.specs.Tables.{IsHeld, AreTables, Numbered, row_of, message_cells, message_read, archive_in}
-use Rattle.archive_tables.specs.Rows.{message_shown, numbered_messages, places_in, message_at, place_shown}
+use Rattle.archive_tables.specs.Tables.{IsHeld, AreTables, Numbered, row_of, filed_cells, filed_read, archive_in}
+use Rattle.archive_tables.specs.Rows.{message_shown, numbered_filed, places_in, message_at, place_shown}
 use Rattle.archive_tables.specs.Calls.{RowsRest}
-use Rattle.archive_tables.proofs.MessageLemmas.{message_back}
+use Rattle.archive_tables.proofs.MessageLemmas.{filed_back, wanted_messages}
 use Rattle.archive_tables.proofs.MailboxLemmas.{of_list, has_list}
 use Rattle.archive_tables.proofs.RunLemmas.{stays}
 use Rattle.archive_tables.proofs.SelectLemmas.{plain_query, by_number, env_of, passes, hits, in_order, asked, leaves, asked_rows, refused_rows, alone, int_is, tie_is}
@@ -48,7 +50,7 @@ places_plain : IsPlain (understood archive_schema places_text)
 unfolding understood everything
 places_plain = (refl, refl)
 
-abbrev place_of : Numbered Message → Row
+abbrev place_of : Numbered Filed → Row
 place_of r = place_shown r.number
 
 -- ---- the message of a number
@@ -74,50 +76,50 @@ unfolding understood everything
 at_plain = (refl, refl)
 
 module _ (place : ℤ) where
-  abbrev pub is_at : Numbered Message → Bool
+  abbrev pub is_at : Numbered Filed → Bool
   is_at r = int_eq r.number place
 
-  has_place : (r : Numbered Message) → passes at_place (Int place ∷ []) (row_of message_cells r) ≡ is_at r
+  has_place : (r : Numbered Filed) → passes at_place (Int place ∷ []) (row_of filed_cells r) ≡ is_at r
   has_place r = alone _ ∙ int_is r.number place
 
-  abbrev shown_at : Numbered Message → Row
-  shown_at r = message_shown r.it
+  abbrev shown_at : Numbered Filed → Row
+  shown_at r = message_shown r.it.0
 
-  passing : (all : List (Numbered Message)) → filter (passes at_place (Int place ∷ [])) (map (row_of message_cells) all) ≡ map (row_of message_cells) (filter is_at all)
+  passing : (all : List (Numbered Filed)) → filter (passes at_place (Int place ∷ [])) (map (row_of filed_cells) all) ≡ map (row_of filed_cells) (filter is_at all)
   passing [] = refl
   passing (r ∷ all) =
-      rw (has_place r) (elim (is_at r) as (λ b. cond b (row_of message_cells r ∷ filter (passes at_place (Int place ∷ [])) (map (row_of message_cells) all)) (filter (passes at_place (Int place ∷ [])) (map (row_of message_cells) all))
-      ≡ map (row_of message_cells) (cond b (r ∷ filter is_at all) (filter is_at all)))
-      [ true ↦ ap (λ l. row_of message_cells r ∷ l) (passing all) | false ↦ passing all ])
+      rw (has_place r) (elim (is_at r) as (λ b. cond b (row_of filed_cells r ∷ filter (passes at_place (Int place ∷ [])) (map (row_of filed_cells) all)) (filter (passes at_place (Int place ∷ [])) (map (row_of filed_cells) all))
+      ≡ map (row_of filed_cells) (cond b (r ∷ filter is_at all) (filter is_at all)))
+      [ true ↦ ap (λ l. row_of filed_cells r ∷ l) (passing all) | false ↦ passing all ])
 
 -- what the query shows of a row
 abbrev cells_of : ℤ → Row → Row
 cells_of place row = (output (plain_query 8 at_place all_cells by_number) (env_of (Int place ∷ []) row)).1
 
-shown_cells : (place : ℤ) (all : List (Numbered Message)) → map (cells_of place) (map (row_of message_cells) all) ≡ map (λ (r : Numbered Message). message_shown r.it) all
+shown_cells : (place : ℤ) (all : List (Numbered Filed)) → map (cells_of place) (map (row_of filed_cells) all) ≡ map (λ (r : Numbered Filed). message_shown r.it.0) all
 shown_cells place [] = refl
-shown_cells place (r ∷ all) = ap (λ l. message_shown r.it ∷ l) (shown_cells place all)
+shown_cells place (r ∷ all) = ap (λ l. message_shown r.it.0 ∷ l) (shown_cells place all)
 
 abbrev cell_of : List ℕ → Row → Row
 cell_of list row = (output (plain_query 8 of_list number_cell by_number) (env_of (Text list ∷ []) row)).1
 
-shown_cell : (list : List ℕ) (all : List (Numbered Message)) → map (cell_of list) (map (row_of message_cells) all) ≡ map place_shown (map (λ (r : Numbered Message). r.number) all)
+shown_cell : (list : List ℕ) (all : List (Numbered Filed)) → map (cell_of list) (map (row_of filed_cells) all) ≡ map place_shown (map (λ (r : Numbered Filed). r.number) all)
 shown_cell list [] = refl
 shown_cell list (r ∷ all) = ap (λ l. place_shown r.number ∷ l) (shown_cell list all)
 
 -- ---- a walk
 
 -- the numbers rise, so that each message is found by its own
-found_later : (x : Numbered Message) (all : List (Numbered Message)) → AllByRecursion (λ row. value_cmp (rowid (row_of message_cells x)) (rowid row) ≡ Less) (map (row_of message_cells) all)
+found_later : (x : Numbered Filed) (all : List (Numbered Filed)) → AllByRecursion (λ row. value_cmp (rowid (row_of filed_cells x)) (rowid row) ≡ Less) (map (row_of filed_cells) all)
     → AllByRecursion (λ r. int_eq x.number r.number ≡ false) all
 found_later x [] above = tt
 found_later x (r ∷ all) above =
     (sym (tie_is x.number r.number) ∙ ap is_eq (sym (value_cmp-Int x.number r.number) ∙ above.0), found_later x all above.1)
 
-abbrev finds : List (Numbered Message) → Numbered Message → Option (Numbered Message)
-finds all r = find (λ (s : Numbered Message). int_eq s.number r.number) all
+abbrev pub finds : List (Numbered Filed) → Numbered Filed → Option (Numbered Filed)
+finds all r = find (λ (s : Numbered Filed). int_eq s.number r.number) all
 
-past_first : (x : Numbered Message) (all rest : List (Numbered Message)) → AllByRecursion (λ r. int_eq x.number r.number ≡ false) rest → AllByRecursion (λ r. finds all r ≡ Some r) rest
+past_first : (x : Numbered Filed) (all rest : List (Numbered Filed)) → AllByRecursion (λ r. int_eq x.number r.number ≡ false) rest → AllByRecursion (λ r. finds all r ≡ Some r) rest
     → AllByRecursion (λ r. finds (x ∷ all) r ≡ Some r) rest
 past_first x all [] other found = tt
 past_first x all (r ∷ rest) other found = (rw other.0 found.0, past_first x all rest other.1 found.1)
@@ -128,29 +130,30 @@ itself n = sym (tie_is n n) ∙ same
     same : is_eq (int_cmp n n) ≡ true
     same = grind (arith, ints)
 
-each_found : (all : List (Numbered Message)) → IsTable (map (row_of message_cells) all) → AllByRecursion (λ r. finds all r ≡ Some r) all
+pub each_found : (all : List (Numbered Filed)) → IsTable (map (row_of filed_cells) all) → AllByRecursion (λ r. finds all r ≡ Some r) all
 each_found [] up = tt
 each_found (x ∷ all) up = (rw (itself x.number) refl, past_first x all all (found_later x all up.0) (each_found all up.1))
 
-kept_found : (w : Numbered Message → Bool) (P : Numbered Message → Type 0) (all : List (Numbered Message)) → AllByRecursion P all → AllByRecursion P (filter w all)
+pub kept_found : (w : Numbered Filed → Bool) (P : Numbered Filed → Type 0) (all : List (Numbered Filed)) → AllByRecursion P all → AllByRecursion P (filter w all)
 kept_found w P [] h = tt
 kept_found w P (r ∷ all) h =
     elim (w r) as (λ b. AllByRecursion P (cond b (r ∷ filter w all) (filter w all)))
     [ true ↦ (h.0, kept_found w P all h.1) | false ↦ kept_found w P all h.1 ]
 
-messages_at : (all wanted : List (Numbered Message)) → AllByRecursion (λ r. finds all r ≡ Some r) wanted
-    → map (λ place. option_map (λ (r : Numbered Message). r.it) (find (λ (r : Numbered Message). int_eq r.number place) all)) (map (λ (r : Numbered Message). r.number) wanted)
-    ≡ map Some (map (λ (r : Numbered Message). r.it) wanted)
+pub messages_at : (all wanted : List (Numbered Filed)) → AllByRecursion (λ r. finds all r ≡ Some r) wanted
+    → map (λ place. option_map (λ (r : Numbered Filed). r.it.0) (find (λ (r : Numbered Filed). int_eq r.number place) all)) (map (λ (r : Numbered Filed). r.number) wanted)
+    ≡ map (λ (r : Numbered Filed). Some r.it.0) wanted
 messages_at all [] h = refl
-messages_at all (r ∷ wanted) h = ap₂ ◌∷◌ (ap (option_map (λ (r : Numbered Message). r.it)) h.0) (messages_at all wanted h.1)
+messages_at all (r ∷ wanted) h = ap₂ ◌∷◌ (ap (option_map (λ (r : Numbered Filed). r.it.0)) h.0) (messages_at all wanted h.1)
 
 pub walked : (trees : Trees) (list : List ℕ) → AreTables trees → map (message_at trees) (places_in trees list) ≡ map Some (messages_in (archive_in trees) list)
 walked trees list t =
-    let all = numbered_messages trees in
-    let wanted = filter (λ (r : Numbered Message). bytes_eq r.it.list list) all in
-    let found = kept_found (λ (r : Numbered Message). bytes_eq r.it.list list) (λ r. finds all r ≡ Some r) all (each_found all (subst IsTable t.messages.coded t.messages.rise)) in
-    let its = hits message_cells message_read message_back (plain_query 8 of_list number_cell by_number) (Text list ∷ []) (λ (m : Message). bytes_eq m.list list) (has_list list) (trees 8) t.messages in
-    messages_at all wanted found ∙ ap (map Some) its.1
+    let all = numbered_filed trees in
+    let wanted = filter (λ (r : Numbered Filed). bytes_eq r.it.0.list list) all in
+    let found = kept_found (λ (r : Numbered Filed). bytes_eq r.it.0.list list) (λ r. finds all r ≡ Some r) all (each_found all (subst IsTable t.messages.coded t.messages.rise)) in
+    let its = hits filed_cells filed_read filed_back (plain_query 8 of_list number_cell by_number) (Text list ∷ []) (λ (f : Filed). bytes_eq f.0.list list) (has_list list) (trees 8) t.messages in
+    messages_at all wanted found ∙ sym (map-map (λ (f : Filed). Some f.0) (λ (r : Numbered Filed). r.it) wanted) ∙ ap (map (λ (f : Filed). Some f.0)) its.1
+    ∙ wanted_messages (λ (m : Message). bytes_eq m.list list) Some (trees 8)
 
 -- ---- what the texts show
 
@@ -159,10 +162,10 @@ module _ (old new : State) {behind : Option Database} (k : IsHeld behind old) wh
       → (rows ≡ map place_shown (places_in old.now.trees list)) × (new.now ≡ old.now) × IsHeld behind new
   places_found list rows h =
       let params = Text list ∷ [] in
-      let all = numbered_messages old.now.trees in
-      let wanted = filter (λ (r : Numbered Message). bytes_eq r.it.list list) all in
+      let all = numbered_filed old.now.trees in
+      let wanted = filter (λ (r : Numbered Filed). bytes_eq r.it.0.list list) all in
       let picks = asked places_text 8 of_list number_cell by_number _ places_is.0 places_plain places_is.1 (λ t. refl) params old new k rows h in
-      let its = hits message_cells message_read message_back (plain_query 8 of_list number_cell by_number) params (λ (m : Message). bytes_eq m.list list) (has_list list) (old.now.trees 8) k.tables.messages in
+      let its = hits filed_cells filed_read filed_back (plain_query 8 of_list number_cell by_number) params (λ (f : Filed). bytes_eq f.0.list list) (has_list list) (old.now.trees 8) k.tables.messages in
       let same = leaves places_text 8 of_list number_cell by_number _ places_is.0 places_plain places_is.1 (λ t. refl) params old new k rows h in (
         in_order 8 of_list number_cell params (old.now.trees 8) rows k.tables.messages.rise picks ∙ ap (map (cell_of list)) its.0 ∙ shown_cell list wanted,
         same.0.now_is,
@@ -173,10 +176,10 @@ module _ (old new : State) {behind : Option Database} (k : IsHeld behind old) wh
   no_places list e h = refused_rows places_text 8 of_list number_cell by_number _ places_is.0 places_plain places_is.1 (λ t. refl) (Text list ∷ []) old new k e h
 
   pub at_found : (place : ℤ) (rows : List Row) → Shown at_text (Int place ∷ []) old new rows
-      → (rows ≡ map (λ (r : Numbered Message). message_shown r.it) (filter (is_at place) (numbered_messages old.now.trees))) × (new.now ≡ old.now) × IsHeld behind new
+      → (rows ≡ map (λ (r : Numbered Filed). message_shown r.it.0) (filter (is_at place) (numbered_filed old.now.trees))) × (new.now ≡ old.now) × IsHeld behind new
   at_found place rows h =
       let params = Int place ∷ [] in
-      let all = numbered_messages old.now.trees in
+      let all = numbered_filed old.now.trees in
       let picks = asked at_text 8 at_place all_cells by_number _ at_is.0 at_plain at_is.1 (λ t. refl) params old new k rows h in
       let same = leaves at_text 8 at_place all_cells by_number _ at_is.0 at_plain at_is.1 (λ t. refl) params old new k rows h in (
         in_order 8 at_place all_cells params (old.now.trees 8) rows k.tables.messages.rise picks

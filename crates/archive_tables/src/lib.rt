@@ -4,6 +4,7 @@
 //! wherever `IsKept` held before.
 #![tactic(auto)]
 
+pub mod filed;
 pub mod laws;
 pub mod rows;
 pub mod texts;

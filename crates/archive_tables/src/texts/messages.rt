@@ -6,13 +6,14 @@ ghost use Rattle.archive_machine.specs.Questions.{is_message};
 ghost use Rattle.sqlite.specs.Held.{state};
 ghost use Rattle.sqlite.specs.State.{HasCleanDisk};
 ghost use Rattle.archive_tables.specs.Tables.{IsKept, reaches_number};
-ghost use Rattle.archive_tables.specs.Rows.{new_message, message_shown, message_in, marks_of, places_in, message_at, place_shown};
+ghost use Rattle.archive_tables.specs.Rows.{new_message, message_shown, message_in, marks_of, places_in, month_places, author_places, message_at, place_shown};
 ghost use Rattle.archive_tables.specs.Calls.{Writes, WritesWhen, WritesOver, AsksOver, AsksRows, Refuses, Finds, Leaves, IsUp, WasClean};
 
 use crate::rows::{MarksRow, MessageRow, read_marks, read_message};
 use sqlite::{Alter, Connection, Error, Row, params};
 
-/// Adds a message after the others, neither withdrawn nor under embargo.
+/// Adds a message after the others, neither withdrawn nor under embargo, and files it under a sent date, a month and an author
+/// key.
 pub fn add_message<S: Alter>(
     conn: &mut Connection<S>,
     list: &str,
@@ -20,17 +21,26 @@ pub fn add_message<S: Alter>(
     sender: &[u8],
     arrival: i64,
     text: &[u8],
+    sent: i64,
+    month: i64,
+    author: &[u8],
 ) -> Result<usize, Error>
     ensures added { WritesWhen S.Store conn.old conn.new result (λ a. list_any (is_message list.now key.now) a.messages ≡ false)
-        (λ a. record a { messages = a.messages ++ new_message list.now key.now sender.now arrival text.now ∷ [] }) }
+        (λ a. record a {
+          messages = a.messages ++ new_message list.now key.now sender.now arrival text.now ∷ [];
+          filings = a.filings ++ record { sent = sent; month = month; author = author.now } ∷ [];
+        }) }
     ensures refused { Refuses S.Store conn.old conn.new result }
     ensures held { WritesOver S.Store conn.old conn.new result (λ a. list_any (is_message list.now key.now) a.messages ≡ false)
-        (λ a. record a { messages = a.messages ++ new_message list.now key.now sender.now arrival text.now ∷ [] }) }
+        (λ a. record a {
+          messages = a.messages ++ new_message list.now key.now sender.now arrival text.now ∷ [];
+          filings = a.filings ++ record { sent = sent; month = month; author = author.now } ∷ [];
+        }) }
     ensures clean { WasClean S.Store conn.old conn.new }
 {
     conn.execute(
-        "INSERT INTO message (list, key, sender, arrival, text, withdrawn, embargo) VALUES (?1, ?2, ?3, ?4, ?5, 0, NULL)",
-        params![list, key, sender, arrival, text],
+        "INSERT INTO message (list, key, sender, arrival, text, withdrawn, embargo, sent, month, author) VALUES (?1, ?2, ?3, ?4, ?5, 0, NULL, ?6, ?7, ?8)",
+        params![list, key, sender, arrival, text, sent, month, author],
     )
 }
 
@@ -112,6 +122,37 @@ pub fn places<S: Alter>(conn: &mut Connection<S>, list: &str) -> Result<Vec<Row>
     conn.query_all(
         "SELECT pos FROM message WHERE list = ?1 ORDER BY pos",
         params![list],
+    )
+}
+
+/// The numbers of the messages of the list that are filed under the month, by the sent date that is filed and then in mailbox
+/// order. `read_place` reads a row.
+pub fn month_places<S: Alter>(
+    conn: &mut Connection<S>,
+    list: &str,
+    month: i64,
+) -> Result<Vec<Row>, Error>
+    ensures held { AsksRows S.Store conn.old conn.new result (λ trees rows. rows.items ≡ map place_shown (month_places trees list.now month)) }
+    ensures clean { WasClean S.Store conn.old conn.new }
+{
+    conn.query_all(
+        "SELECT pos FROM message WHERE list = ?1 AND month = ?2 ORDER BY sent, pos",
+        params![list, month],
+    )
+}
+
+/// The same of those that are filed under the author key.
+pub fn author_places<S: Alter>(
+    conn: &mut Connection<S>,
+    list: &str,
+    key: &[u8],
+) -> Result<Vec<Row>, Error>
+    ensures held { AsksRows S.Store conn.old conn.new result (λ trees rows. rows.items ≡ map place_shown (author_places trees list.now key.now)) }
+    ensures clean { WasClean S.Store conn.old conn.new }
+{
+    conn.query_all(
+        "SELECT pos FROM message WHERE list = ?1 AND author = ?2 ORDER BY sent, pos",
+        params![list, key],
     )
 }
 

@@ -4,7 +4,7 @@ ghost use Rattle.std.specs.Prelude.{◌≡◌, ◌∷◌, [], false, Some, None,
 ghost use Rattle.sqlite.specs.declared.types.Value.TheVariants.{Int};
 ghost use Rattle.sqlite.specs.State.{HasCleanDisk};
 ghost use Rattle.sqlite.specs.Held.{state};
-ghost use Rattle.archive_tables.specs.Schema.{no_schema, with_version, with_list, with_person, with_grant, archive_schema};
+ghost use Rattle.archive_tables.specs.Schema.{no_schema, with_version, with_list, with_person, with_grant, with_message, with_month_index, archive_schema};
 ghost use Rattle.archive_tables.specs.Tables.{IsHeld, IsKept, IsOfArchive, archive_of};
 ghost use Rattle.archive_tables.specs.Rows.{versions_shown};
 ghost use Rattle.archive_tables.specs.Making.{IsMaking, IsMade, Stops, IsBackTo, IsStopped, empty_archive};
@@ -13,7 +13,7 @@ ghost use Rattle.archive_tables.specs.Calls.{StaysOver, RestsOver, Rests, IsBack
 use sqlite::{Alter, Connection, Error, Row, params};
 
 /// The number of these tables, which `version` holds.
-pub const VERSION: i64 = 0;
+pub const VERSION: i64 = 1;
 
 /// Begins the transaction.
 pub fn begin<S: Alter>(conn: &mut Connection<S>) -> Result<usize, Error>
@@ -75,12 +75,36 @@ pub fn create_grant<S: Alter>(conn: &mut Connection<S>) -> Result<usize, Error>
 
 /// Makes the table `message`, and with it the one in which AUTOINCREMENT counts.
 pub fn create_message<S: Alter>(conn: &mut Connection<S>) -> Result<usize, Error>
-    ensures made { HasCleanDisk (state S.Store conn.new) → (before : _) → IsMaking (state S.Store conn.old) with_grant before → OnOk result (IsMaking (state S.Store conn.new) archive_schema before) }
+    ensures made { HasCleanDisk (state S.Store conn.new) → (before : _) → IsMaking (state S.Store conn.old) with_grant before → OnOk result (IsMaking (state S.Store conn.new) with_message before) }
     ensures stopped { Stops S.Store conn.old conn.new result }
     ensures clean { WasClean S.Store conn.old conn.new }
 {
     conn.execute(
-        "CREATE TABLE message (pos INTEGER PRIMARY KEY AUTOINCREMENT, list TEXT NOT NULL REFERENCES list (name), key TEXT NOT NULL, sender BLOB NOT NULL, arrival INTEGER NOT NULL, text BLOB NOT NULL, withdrawn INTEGER NOT NULL CHECK (withdrawn BETWEEN 0 AND 2), embargo INTEGER CHECK (embargo BETWEEN -25567 AND 2932531), UNIQUE (list, key)) STRICT",
+        "CREATE TABLE message (pos INTEGER PRIMARY KEY AUTOINCREMENT, list TEXT NOT NULL REFERENCES list (name), key TEXT NOT NULL, sender BLOB NOT NULL, arrival INTEGER NOT NULL, text BLOB NOT NULL, withdrawn INTEGER NOT NULL CHECK (withdrawn BETWEEN 0 AND 2), embargo INTEGER CHECK (embargo BETWEEN -25567 AND 2932531), sent INTEGER NOT NULL, month INTEGER NOT NULL, author BLOB NOT NULL, UNIQUE (list, key)) STRICT",
+        &[],
+    )
+}
+
+/// Makes the index of `message` by month.
+pub fn create_month_index<S: Alter>(conn: &mut Connection<S>) -> Result<usize, Error>
+    ensures made { HasCleanDisk (state S.Store conn.new) → (before : _) → IsMaking (state S.Store conn.old) with_message before → OnOk result (IsMaking (state S.Store conn.new) with_month_index before) }
+    ensures stopped { Stops S.Store conn.old conn.new result }
+    ensures clean { WasClean S.Store conn.old conn.new }
+{
+    conn.execute(
+        "CREATE INDEX message_by_month ON message (list, month, sent, pos)",
+        &[],
+    )
+}
+
+/// Makes the index of `message` by author key.
+pub fn create_author_index<S: Alter>(conn: &mut Connection<S>) -> Result<usize, Error>
+    ensures made { HasCleanDisk (state S.Store conn.new) → (before : _) → IsMaking (state S.Store conn.old) with_month_index before → OnOk result (IsMaking (state S.Store conn.new) archive_schema before) }
+    ensures stopped { Stops S.Store conn.old conn.new result }
+    ensures clean { WasClean S.Store conn.old conn.new }
+{
+    conn.execute(
+        "CREATE INDEX message_by_author ON message (list, author, sent, pos)",
         &[],
     )
 }

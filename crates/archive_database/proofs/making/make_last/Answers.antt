@@ -4,22 +4,19 @@ use Rattle.archive_database.proofs.making.make_last.Goals as goal
 
 pub returns-clause-made : goal.returns-clause-made
 returns-clause-made g c = λ clean before making.
-    let clean_2 = c.in_ok-add_version.ensures.clean clean in
-    let clean_1 = c.in_ok-create_message.ensures.clean clean_2 in
-    c.in_ok-add_version.ensures.made clean before (c.in_ok-create_message.ensures.made clean_2 before (c.in_ok-create_grant.ensures.made clean_1 before making))
+    let clean_1 = c.in_ok-create_message.ensures.clean clean in
+    c.in_ok-create_message.ensures.made clean before (c.in_ok-create_grant.ensures.made clean_1 before making)
 
-pub returns-in_err-add_version-clause-undone : goal.returns-in_err-add_version-clause-undone
-returns-in_err-add_version-clause-undone g c = λ clean before making.
-    let clean_2 = c.in_err-add_version.ensures.clean clean in
-    let clean_1 = c.in_ok-create_message.ensures.clean clean_2 in
-    let made = c.in_ok-create_message.ensures.made clean_2 before (c.in_ok-create_grant.ensures.made clean_1 before making) in
-    on_err c.from_residual-in_err-add_version.result _
-    (undone_by (state g.S.Store c.create_message.new.conn) (state g.S.Store c.add_version.new.conn) before made.behind (c.in_err-add_version.ensures.stopped clean))
+pub returns-in_err-create_message-clause-undone : goal.returns-in_err-create_message-clause-undone
+returns-in_err-create_message-clause-undone g c = λ clean before making.
+    let clean_1 = c.in_err-create_message.ensures.clean clean in
+    let made = c.in_ok-create_grant.ensures.made clean_1 before making in
+    on_err c.from_residual-in_err-create_message.result _
+    (undone_by (state g.S.Store c.create_grant.new.conn) (state g.S.Store c.create_message.new.conn) before made.behind (c.in_err-create_message.ensures.stopped clean))
 
-pub returns-in_err-add_version-clause-stopped : goal.returns-in_err-add_version-clause-stopped
-returns-in_err-add_version-clause-stopped g c = λ clean before making.
-    let clean_2 = c.in_err-add_version.ensures.clean clean in
-    let clean_1 = c.in_ok-create_message.ensures.clean clean_2 in
-    let made = c.in_ok-create_message.ensures.made clean_2 before (c.in_ok-create_grant.ensures.made clean_1 before making) in
-    on_err c.from_residual-in_err-add_version.result _
-    (stopped_by (state g.S.Store c.create_message.new.conn) (state g.S.Store c.add_version.new.conn) before made.behind made.within (c.in_err-add_version.ensures.stopped clean))
+pub returns-in_err-create_message-clause-stopped : goal.returns-in_err-create_message-clause-stopped
+returns-in_err-create_message-clause-stopped g c = λ clean before making.
+    let clean_1 = c.in_err-create_message.ensures.clean clean in
+    let made = c.in_ok-create_grant.ensures.made clean_1 before making in
+    on_err c.from_residual-in_err-create_message.result _
+    (stopped_by (state g.S.Store c.create_grant.new.conn) (state g.S.Store c.create_message.new.conn) before made.behind made.within (c.in_err-create_message.ensures.stopped clean))

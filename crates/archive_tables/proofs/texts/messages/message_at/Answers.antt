@@ -3,7 +3,7 @@ use Rattle.std.specs.Prelude.{◌≡◌, Some, None, slice_get, option_map}
 use Rattle.std.proofs.lemmas.Int.{to_z-of_z}
 use Rattle.sqlite.specs.declared.types.Value.TheVariants.{Int}
 use Rattle.sqlite.specs.Held.{state}
-use Rattle.archive_machine.specs.Records.{Message}
+use Rattle.archive_machine.specs.Filing.{Filed}
 use Rattle.archive_tables.specs.Tables.{Numbered}
 use Rattle.archive_tables.specs.Rows.{message_shown}
 use Rattle.archive_tables.proofs.SelectLemmas.{first_found, none_found}
@@ -28,12 +28,12 @@ returns-in-Some-clause-held g c clean behind k =
     let number = c.params-to_sql.ensures ∙ ap Int (to_z-of_z w64 c.args.place c.ranges.place) in
     let found = at_found (state g.S.Store c.args.conn.now) (state g.S.Store c.query_all.new.self) k c.args.place c.in_ok-rows.rows.items (rw number at (c.in_ok-rows.ensures.ok clean)) in
     let first : slice_get c.in_ok-rows.rows.items 0 ≡ Some c.in-Some.row.now = search rules in
-    let it = first_found (is_at c.args.place) (λ (r : Numbered Message). message_shown r.it) _ c.in_ok-rows.rows.items found.0 c.in-Some.row.now first in
-    ((it.0.it, ap (option_map (λ (r : Numbered Message). r.it)) it.1, c.in_ok-read_message-in-Some.ensures.read it.0.it it.2), found.1, found.2)
+    let it = first_found (is_at c.args.place) (λ (r : Numbered Filed). message_shown r.it.0) _ c.in_ok-rows.rows.items found.0 c.in-Some.row.now first in
+    ((it.0.it.0, ap (option_map (λ (r : Numbered Filed). r.it.0)) it.1, c.in_ok-read_message-in-Some.ensures.read it.0.it.0 it.2), found.1, found.2)
 
 pub returns-clause-held : goal.returns-clause-held
 returns-clause-held g c clean behind k =
     let number = c.params-to_sql.ensures ∙ ap Int (to_z-of_z w64 c.args.place c.ranges.place) in
     let found = at_found (state g.S.Store c.args.conn.now) (state g.S.Store c.query_all.new.self) k c.args.place c.in_ok-rows.rows.items (rw number at (c.in_ok-rows.ensures.ok clean)) in
     let first : slice_get c.in_ok-rows.rows.items 0 ≡ None = search rules in
-    (ap (option_map (λ (r : Numbered Message). r.it)) (none_found (is_at c.args.place) (λ (r : Numbered Message). message_shown r.it) _ c.in_ok-rows.rows.items found.0 first), found.1, found.2)
+    (ap (option_map (λ (r : Numbered Filed). r.it.0)) (none_found (is_at c.args.place) (λ (r : Numbered Filed). message_shown r.it.0) _ c.in_ok-rows.rows.items found.0 first), found.1, found.2)

@@ -3,13 +3,13 @@ use Rattle.sqlite.specs.declared.error.Error.{Error}
 use Rattle.sqlite.specs.Effect.{Database}
 use Rattle.sqlite.specs.Held.{state}
 use Rattle.sqlite.specs.State.{State, Executes, IsUnchanged, IsRolledBack}
-use Rattle.archive_tables.specs.Schema.{with_grant, archive_schema, create_message}
+use Rattle.archive_tables.specs.Schema.{with_grant, with_message, create_message}
 use Rattle.archive_tables.specs.Making.{IsMaking}
 use Rattle.archive_tables.proofs.RunLemmas.{execute_fails}
 use Rattle.archive_tables.proofs.MakeLemmas.{makes_message}
 use Rattle.archive_tables.proofs.texts.schema.create_message.Goals as goal
 
-done : (old new : State) (before : Database) → IsMaking old with_grant before → (r : Result ℕ Error) → Executes create_message [] old new r → OnOk r (IsMaking new archive_schema before)
+done : (old new : State) (before : Database) → IsMaking old with_grant before → (r : Result ℕ Error) → Executes create_message [] old new r → OnOk r (IsMaking new with_message before)
 done old new before k (Ok count) h = makes_message old new before count k h
 done old new before k (Err e) h = tt
 

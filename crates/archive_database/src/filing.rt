@@ -1,0 +1,30 @@
+//! What is filed of a message that is taken in.
+ghost use Rattle.std.specs.Prelude.{◌≡◌, IfOk};
+ghost use Rattle.archive_machine.specs.Filing.{filing_of};
+ghost use Rattle.archive_database.specs.Filed.{filing_in};
+
+use civil_time::Instant;
+use mail_core::{Header, Memory};
+use std::alloc::Global;
+
+/// Under what a message is filed: its sent date, in seconds since 1970-01-01 00:00:00 UTC; the month of that, as year times 12
+/// plus month less 1; and its author key.
+#[derive(Drop)]
+pub struct Filing {
+    pub sent: i64,
+    pub month: i64,
+    pub author: Vec<u8>,
+}
+
+/// What is filed of a whole text that arrived at this instant. It reads no byte behind the header.
+pub fn file(alloc: Global, text: &[u8], arrival: Instant) -> Result<Filing, Memory>
+    ensures { IfOk result (λ filing. filing_in filing ≡ filing_of text.now arrival) }
+{
+    let header = Header::of(text);
+    let sent = header.sent(arrival);
+    Ok(Filing {
+        sent: sent.seconds(),
+        month: i64::from(sent.month().index()),
+        author: header.author_key(alloc)?,
+    })
+}

@@ -1,0 +1,285 @@
+-- All messages by the names of their lists, by their numbers.
+use Rattle.std.proofs.Common.{◌≡◌, inl, inr, ℕ, ℤ, Bool, true, false, cond, List, [], ◌∷◌, map, filter, codes, Option, Some, None, refl, sym, ap, ap₂, subst, ◌∙◌}
+use Rattle.std.specs.Prelude.{find, option_map, slice_get, if◌then◌else◌}
+use Rattle.std.specs.List.{AllByRecursion}
+use Rattle.std.specs.List.Sorted.{IsPermutation, IsStrictlySortedBy}
+use Rattle.std.specs.Cmp.Lexicographic.{slice_cmp, nat_list_cmp_total}
+use Rattle.std.specs.Ordering.{int_eq, is_lt, nat_cmp, ordering_then, ordering_reverse}
+use Rattle.std.specs.declared.cmp.Ordering.{Ordering}
+use Rattle.std.specs.declared.cmp.Ordering.TheVariants.{Less, Equal, Greater}
+use Rattle.std.proofs.lemmas.Bool.{cases_Bool}
+use Rattle.std.proofs.lemmas.List.Sorted.{IsPermutation-map, IsPermutation-refl, IsPermutation-sym, IsPermutation-trans, IsPermutation-cons, IsPermutation-middle}
+use Rattle.sqlite.specs.declared.error.Error.{Error}
+use Rattle.sqlite.specs.declared.types.Value.TheVariants.{Int, Text}
+use Rattle.sqlite.specs.Order.{Row, value_cmp}
+use Rattle.sqlite.specs.Tree.{Trees, IsTable, rowid}
+use Rattle.sqlite.specs.Term.{Term, col, op2}
+use Rattle.sqlite.specs.Query.{Query, Output, output, output_cmp}
+use Rattle.sqlite.specs.Collation.TheVariants.{Binary}
+use Rattle.sqlite.specs.Command.TheVariants.{Select}
+use Rattle.sqlite.specs.Listing.{understood, reads_listing}
+use Rattle.sqlite.specs.Effect.{Database}
+use Rattle.sqlite.specs.State.{State, Shown, FailsToQuery}
+use Rattle.sqlite.proofs.Callers.{IsPlain, command_of}
+use Rattle.sqlite_tied.specs.Compute.{everything}
+use Rattle.sqlite_sql.specs.declared.ops.BinaryOp.TheVariants.{Compare}
+use Rattle.sqlite_sql.specs.declared.ops.CompareOp.TheVariants.{Eq}
+use Rattle.sqlite_sql.proofs.QueryLemmas.{output_cmp_total}
+use Rattle.sqlite_trees.proofs.ListLemmas.{map-map, all_weaker}
+use Rattle.sqlite_value.specs.declared.keys.Key.{Key}
+use Rattle.sqlite_value.specs.Keys.{ascending}
+use Rattle.sqlite_value.proofs.OrderLemmas.{value_cmp-Text}
+use Rattle.archive_machine.specs.Filing.{Filed, filed}
+use Rattle.archive_machine.specs.Damage.{is_listed_before, with_listed, by_list}
+use Rattle.archive_tables.specs.Schema.{archive_schema}
+use Rattle.archive_tables.specs.Tables.{IsHeld, AreTables, Numbered, row_of, read_of, filed_cells, filed_read, archive_in}
+use Rattle.archive_tables.specs.Rows.{numbered_filed, place_shown}
+use Rattle.archive_tables.specs.Listed.{was_listed_before, with_listed_row, rows_by_list, all_places, filed_at, filed_shown}
+use Rattle.archive_tables.specs.Calls.{RowsRest}
+use Rattle.archive_tables.proofs.MessageLemmas.{filed_back, filed_are}
+use Rattle.archive_tables.proofs.OrderLemmas.{one_order}
+use Rattle.archive_tables.proofs.RowLemmas.{records_are}
+use Rattle.archive_tables.proofs.RunLemmas.{stays}
+use Rattle.archive_tables.proofs.SelectLemmas.{plain_query, by_number, env_of, passes, all_pass, Picks, in_order, asked, leaves, refused_rows, alone, int_is, first_kept}
+use Rattle.archive_tables.proofs.WalkLemmas.{finds, each_found}
+
+-- ---- rows in the order of the lists' names
+
+all_with_listed : (P : Numbered Filed → Type 0) (r : Numbered Filed) (rows : List (Numbered Filed)) → P r → AllByRecursion P rows → AllByRecursion P (with_listed_row r rows)
+all_with_listed P r [] one all = (one, tt)
+all_with_listed P r (s ∷ rows) one all = elim (cases_Bool (was_listed_before s r)) [
+  | inl before ↦ rw before (all.0, all_with_listed P r rows one all.1)
+  | inr after ↦ rw after (one, all)
+]
+
+all_by_list : (P : Numbered Filed → Type 0) (rows : List (Numbered Filed)) → AllByRecursion P rows → AllByRecursion P (rows_by_list rows)
+all_by_list P [] all = tt
+all_by_list P (r ∷ rows) all = all_with_listed P r (rows_by_list rows) all.0 (all_by_list P rows all.1)
+
+more_same : (r : Numbered Filed) (rows : List (Numbered Filed)) → IsPermutation (r ∷ rows) (with_listed_row r rows)
+more_same r [] = IsPermutation-refl (r ∷ [])
+more_same r (s ∷ rows) = elim (cases_Bool (was_listed_before s r)) [
+  | inl before ↦ rw before (IsPermutation-trans (r ∷ s ∷ rows) (s ∷ r ∷ rows) (s ∷ with_listed_row r rows) (IsPermutation-middle (r ∷ []) s rows) (IsPermutation-cons s (r ∷ rows) (with_listed_row r rows) (more_same r rows)))
+  | inr after ↦ rw after (IsPermutation-refl (r ∷ s ∷ rows))
+]
+
+same_rows : (rows : List (Numbered Filed)) → IsPermutation rows (rows_by_list rows)
+same_rows [] = IsPermutation-refl []
+same_rows (r ∷ rows) =
+    IsPermutation-trans (r ∷ rows) (r ∷ rows_by_list rows) (with_listed_row r (rows_by_list rows))
+    (IsPermutation-cons r rows (rows_by_list rows) (same_rows rows)) (more_same r (rows_by_list rows))
+
+-- what is filed is in the order of its lists' names
+its_with : (r : Numbered Filed) (rows : List (Numbered Filed))
+    → map (λ (s : Numbered Filed). s.it) (with_listed_row r rows) ≡ with_listed r.it (map (λ (s : Numbered Filed). s.it) rows)
+its_with r [] = refl
+its_with r (s ∷ rows) = elim (cases_Bool (was_listed_before s r)) [
+  | inl before ↦ rw before (ap (λ l. s.it ∷ l) (its_with r rows))
+  | inr after ↦ rw after refl
+]
+
+its_by_list : (rows : List (Numbered Filed)) → map (λ (s : Numbered Filed). s.it) (rows_by_list rows) ≡ by_list (map (λ (s : Numbered Filed). s.it) rows)
+its_by_list [] = refl
+its_by_list (r ∷ rows) = its_with r (rows_by_list rows) ∙ ap (with_listed r.it) (its_by_list rows)
+
+-- ---- the query by this order
+
+abbrev pub places_text : List ℕ
+places_text = codes "SELECT pos FROM message ORDER BY list, pos"
+
+abbrev list_then_number : List (Term × Key)
+list_then_number = (col 1 2, ascending Binary) ∷ (col 1 0, ascending Binary) ∷ []
+
+abbrev number_cell : List Term
+number_cell = col 1 0 ∷ []
+
+abbrev query : Query
+query = plain_query 8 [] number_cell list_then_number
+
+places_is : (command_of (understood archive_schema places_text) ≡ Select (record { lets = []; body = query }) (codes "pos" ∷ [])) × (reads_listing archive_schema places_text ≡ false)
+unfolding understood everything
+places_is = (refl, refl)
+
+places_plain : IsPlain (understood archive_schema places_text)
+unfolding understood everything
+places_plain = (refl, refl)
+
+abbrev out : Numbered Filed → Output
+out r = output query (env_of [] (row_of filed_cells r))
+
+abbrev IsBefore : Numbered Filed → Numbered Filed → Type 0
+IsBefore r s = output_cmp query (out r) (out s) ≡ Less
+
+abbrev IsLower : Numbered Filed → Numbered Filed → Type 0
+IsLower r s = value_cmp (Int r.number) (Int s.number) ≡ Less
+
+abbrev order : List ℕ → List ℕ → Ordering
+order = slice_cmp nat_cmp
+
+by_both : (r s : Numbered Filed) → output_cmp query (out r) (out s)
+    ≡ ordering_then (order r.it.0.list s.it.0.list) (ordering_then (value_cmp (Int r.number) (Int s.number)) Equal)
+by_both r s = ap (λ o. ordering_then o (ordering_then (value_cmp (Int r.number) (Int s.number)) Equal)) (value_cmp-Text r.it.0.list s.it.0.list)
+
+list_first : (r s : Numbered Filed) → was_listed_before r s ≡ true → IsBefore r s
+list_first r s first = by_both r s ∙ earlier (order r.it.0.list s.it.0.list) (ordering_then (value_cmp (Int r.number) (Int s.number)) Equal) first
+  where
+    earlier : (o n : Ordering) → is_lt o ≡ true → ordering_then o n ≡ Less
+    earlier Less n e = refl
+    earlier Equal n e = absurd cc
+    earlier Greater n e = absurd cc
+
+or_lower : (r s : Numbered Filed) → was_listed_before s r ≡ false → IsLower r s → IsBefore r s
+or_lower r s not_first lower =
+    by_both r s ∙ later (order s.it.0.list r.it.0.list) (order r.it.0.list s.it.0.list) (value_cmp (Int r.number) (Int s.number))
+    (nat_list_cmp_total.antisymm r.it.0.list s.it.0.list) not_first lower
+  where
+    later : (back o n : Ordering) → o ≡ ordering_reverse back → is_lt back ≡ false → n ≡ Less → ordering_then o (ordering_then n Equal) ≡ Less
+    later Less o n e not_less l = absurd cc
+    later Equal o n e not_less l = rw (e, l) refl
+    later Greater o n e not_less l = rw e refl
+
+abbrev Rises : List (Numbered Filed) → Type 0
+Rises [] = Unit {0}
+Rises (r ∷ rows) = AllByRecursion (IsBefore r) rows × Rises rows
+
+rises_with : (r : Numbered Filed) (rows : List (Numbered Filed)) → AllByRecursion (IsLower r) rows → Rises rows → Rises (with_listed_row r rows)
+rises_with r [] lower up = (tt, tt)
+rises_with r (s ∷ rows) lower up = elim (cases_Bool (was_listed_before s r)) [
+  | inl before ↦ rw before (all_with_listed (IsBefore s) r rows (list_first s r before) up.0, rises_with r rows lower.1 up.1)
+  | inr after ↦
+      let first = or_lower r s after lower.0 in
+      rw after ((first, all_weaker (IsBefore s) (IsBefore r) (λ x later. (output_cmp_total query).trans (out r) (out s) (out x) first later) rows up.0), up)
+]
+
+all_lower : (r : Numbered Filed) (rows : List (Numbered Filed)) → AllByRecursion (λ row. value_cmp (Int r.number) (rowid row) ≡ Less) (map (row_of filed_cells) rows)
+    → AllByRecursion (IsLower r) rows
+all_lower r [] all = tt
+all_lower r (s ∷ rows) all = (all.0, all_lower r rows all.1)
+
+rises_by_list : (rows : List (Numbered Filed)) → IsTable (map (row_of filed_cells) rows) → Rises (rows_by_list rows)
+rises_by_list [] up = tt
+rises_by_list (r ∷ rows) up = rises_with r (rows_by_list rows) (all_by_list (IsLower r) rows (all_lower r rows up.0)) (rises_by_list rows up.1)
+
+all_out : (r : Numbered Filed) (rows : List (Numbered Filed)) → AllByRecursion (IsBefore r) rows → AllByRecursion (λ o. output_cmp query (out r) o ≡ Less) (map out rows)
+all_out r [] all = tt
+all_out r (s ∷ rows) all = (all.0, all_out r rows all.1)
+
+strictly : (rows : List (Numbered Filed)) → Rises rows → IsStrictlySortedBy (output_cmp query) (map out rows)
+unfolding IsStrictlySortedBy
+strictly [] up = tt
+strictly (r ∷ rows) up = (all_out r rows up.0, strictly rows up.1)
+
+numbers_shown : (rows : List (Numbered Filed)) → map (λ (o : Output). o.1) (map out rows) ≡ map place_shown (map (λ (r : Numbered Filed). r.number) rows)
+numbers_shown [] = refl
+numbers_shown (r ∷ rows) = ap (λ l. place_shown r.number ∷ l) (numbers_shown rows)
+
+outs : (rows : List (Numbered Filed)) → map (λ row. output query (env_of [] row)) (map (row_of filed_cells) rows) ≡ map out rows
+outs [] = refl
+outs (r ∷ rows) = ap (λ l. out r ∷ l) (outs rows)
+
+picked_places : (trees : Trees) → AreTables trees → (shown : List Row) → Picks query [] (trees 8) shown → shown ≡ map place_shown (all_places trees)
+picked_places trees k shown it =
+    let all = numbered_filed trees in
+    let start : map (λ row. output query (env_of [] row)) (filter (passes [] []) (trees 8)) ≡ map out all =
+    ap (map (λ row. output query (env_of [] row))) (all_pass [] (trees 8) ∙ k.messages.coded) ∙ outs all in
+    let there = IsPermutation-trans (map out (rows_by_list all)) (map out all) it.ordered
+    (IsPermutation-sym (map out all) (map out (rows_by_list all)) (IsPermutation-map out all (rows_by_list all) (same_rows all)))
+    (subst (λ l. IsPermutation l it.ordered) start it.same) in
+    let rises = rises_by_list all (subst IsTable k.messages.coded k.messages.rise) in
+    let order = one_order (output_cmp_total query) (map out (rows_by_list all)) it.ordered (strictly (rows_by_list all) rises) there it.sorted in
+    it.is ∙ ap (map (λ (o : Output). o.1)) order ∙ numbers_shown (rows_by_list all)
+
+-- ---- the law: a walk over these numbers shows all messages
+
+filed_of : (all wanted : List (Numbered Filed)) → AllByRecursion (λ r. finds all r ≡ Some r) wanted
+    → map (λ place. option_map (λ (r : Numbered Filed). r.it) (find (λ (r : Numbered Filed). int_eq r.number place) all)) (map (λ (r : Numbered Filed). r.number) wanted)
+    ≡ map (λ (r : Numbered Filed). Some r.it) wanted
+filed_of all [] h = refl
+filed_of all (r ∷ wanted) h = ap₂ ◌∷◌ (ap (option_map (λ (r : Numbered Filed). r.it)) h.0) (filed_of all wanted h.1)
+
+pub walked_all : (trees : Trees) → AreTables trees → map (filed_at trees) (all_places trees) ≡ map Some (by_list (filed (archive_in trees)))
+walked_all trees k =
+    let all = numbered_filed trees in
+    let found = all_by_list (λ r. finds all r ≡ Some r) all (each_found all (subst IsTable k.messages.coded k.messages.rise)) in
+    let its : map (λ (r : Numbered Filed). r.it) all ≡ filed (archive_in trees) = sym (records_are filed_cells filed_read filed_back (trees 8) k.messages) ∙ sym (filed_are (trees 8)) in
+    filed_of all (rows_by_list all) found ∙ sym (map-map (λ (f : Filed). Some f) (λ (r : Numbered Filed). r.it) (rows_by_list all))
+    ∙ ap (map Some) (its_by_list all ∙ ap by_list its)
+
+-- ---- the message of a number
+
+abbrev pub filed_text : List ℕ
+filed_text = codes "SELECT list, key, sender, arrival, text, sent, month, author FROM message WHERE pos = ?1 ORDER BY pos"
+
+abbrev at_place : List Term
+at_place = op2 (Compare Eq Binary) (col 1 0) (col 0 0) ∷ []
+
+abbrev cells : List Term
+cells = col 1 2 ∷ col 1 3 ∷ col 1 4 ∷ col 1 5 ∷ col 1 6 ∷ col 1 9 ∷ col 1 10 ∷ col 1 11 ∷ []
+
+abbrev names : List (List ℕ)
+names = codes "list" ∷ codes "key" ∷ codes "sender" ∷ codes "arrival" ∷ codes "text" ∷ codes "sent" ∷ codes "month" ∷ codes "author" ∷ []
+
+filed_is : (command_of (understood archive_schema filed_text) ≡ Select (record { lets = []; body = plain_query 8 at_place cells by_number }) names) × (reads_listing archive_schema filed_text ≡ false)
+unfolding understood everything
+filed_is = (refl, refl)
+
+filed_plain : IsPlain (understood archive_schema filed_text)
+unfolding understood everything
+filed_plain = (refl, refl)
+
+module _ (place : ℤ) where
+  abbrev is_at : Numbered Filed → Bool
+  is_at r = int_eq r.number place
+
+  has_place : (r : Numbered Filed) → passes at_place (Int place ∷ []) (row_of filed_cells r) ≡ is_at r
+  has_place r = alone _ ∙ int_is r.number place
+
+  passing : (all : List (Numbered Filed)) → filter (passes at_place (Int place ∷ [])) (map (row_of filed_cells) all) ≡ map (row_of filed_cells) (filter is_at all)
+  passing [] = refl
+  passing (r ∷ all) =
+      rw (has_place r) (elim (is_at r) as (λ b. cond b (row_of filed_cells r ∷ filter (passes at_place (Int place ∷ [])) (map (row_of filed_cells) all)) (filter (passes at_place (Int place ∷ [])) (map (row_of filed_cells) all))
+      ≡ map (row_of filed_cells) (cond b (r ∷ filter is_at all) (filter is_at all)))
+      [ true ↦ ap (λ l. row_of filed_cells r ∷ l) (passing all) | false ↦ passing all ])
+
+  -- what the query shows of a row
+  abbrev cells_of : Row → Row
+  cells_of row = (output (plain_query 8 at_place cells by_number) (env_of (Int place ∷ []) row)).1
+
+  shown_cells : (all : List (Numbered Filed)) → map cells_of (map (row_of filed_cells) all) ≡ map (λ (r : Numbered Filed). filed_shown r.it) all
+  shown_cells [] = refl
+  shown_cells (r ∷ all) = ap (λ l. filed_shown r.it ∷ l) (shown_cells all)
+
+  first_shown : (all : List (Numbered Filed)) → slice_get (map (λ (r : Numbered Filed). filed_shown r.it) all) 0 ≡ option_map filed_shown (option_map (λ (r : Numbered Filed). r.it) (slice_get all 0))
+  first_shown [] = refl
+  first_shown (r ∷ all) = refl
+
+  first_is : (all : List (Numbered Filed)) (rows : List Row) → rows ≡ map (λ (r : Numbered Filed). filed_shown r.it) (filter is_at all)
+      → slice_get rows 0 ≡ option_map filed_shown (option_map (λ (r : Numbered Filed). r.it) (find is_at all))
+  first_is all rows are =
+      ap (λ l. slice_get l 0) are ∙ first_shown (filter is_at all) ∙ ap (λ o. option_map filed_shown (option_map (λ (r : Numbered Filed). r.it) o)) (first_kept is_at all)
+
+-- ---- what the texts show
+
+module _ (old new : State) {behind : Option Database} (k : IsHeld behind old) where
+  pub all_found : (rows : List Row) → Shown places_text [] old new rows → (rows ≡ map place_shown (all_places old.now.trees)) × (new.now ≡ old.now) × IsHeld behind new
+  all_found rows h =
+      let picks = asked places_text 8 [] number_cell list_then_number _ places_is.0 places_plain places_is.1 (λ t. refl) [] old new k rows h in
+      let same = leaves places_text 8 [] number_cell list_then_number _ places_is.0 places_plain places_is.1 (λ t. refl) [] old new k rows h in
+      (picked_places old.now.trees k.tables rows picks, same.0.now_is, (stays old new k same).0)
+
+  pub none_found : (e : Error) → FailsToQuery places_text [] old new e → RowsRest behind old new
+  none_found e h = refused_rows places_text 8 [] number_cell list_then_number _ places_is.0 places_plain places_is.1 (λ t. refl) [] old new k e h
+
+  pub filed_found : (place : ℤ) (rows : List Row) → Shown filed_text (Int place ∷ []) old new rows
+      → (slice_get rows 0 ≡ option_map filed_shown (filed_at old.now.trees place)) × (new.now ≡ old.now) × IsHeld behind new
+  filed_found place rows h =
+      let params = Int place ∷ [] in
+      let all = numbered_filed old.now.trees in
+      let picks = asked filed_text 8 at_place cells by_number _ filed_is.0 filed_plain filed_is.1 (λ t. refl) params old new k rows h in
+      let same = leaves filed_text 8 at_place cells by_number _ filed_is.0 filed_plain filed_is.1 (λ t. refl) params old new k rows h in
+      let are = in_order 8 at_place cells params (old.now.trees 8) rows k.tables.messages.rise picks
+      ∙ ap (map (cells_of place)) (ap (filter (passes at_place params)) k.tables.messages.coded ∙ passing place all) ∙ shown_cells place (filter (is_at place) all) in
+      (first_is place all rows are, same.0.now_is, (stays old new k same).0)
+
+  pub not_filed : (place : ℤ) (e : Error) → FailsToQuery filed_text (Int place ∷ []) old new e → RowsRest behind old new
+  not_filed place e h = refused_rows filed_text 8 at_place cells by_number _ filed_is.0 filed_plain filed_is.1 (λ t. refl) (Int place ∷ []) old new k e h

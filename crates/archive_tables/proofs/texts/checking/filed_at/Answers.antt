@@ -1,0 +1,27 @@
+use Rattle.std.proofs.lemmas.Int.{to_z-of_z}
+use Rattle.std.proofs.Common.{w64, ap, ◌∙◌, ◌≡◌, ℤ, [], ◌∷◌, Option, Ok, Err, Result, IfOk, IfErr}
+use Rattle.std.specs.Prelude.{Vec, MatchResult, slice_get, option_map}
+use Rattle.std.specs.declared.alloc.Global.{Global}
+use Rattle.sqlite.specs.declared.error.Error.{Error}
+use Rattle.sqlite.specs.declared.types.Value.TheVariants.{Int}
+use Rattle.sqlite.specs.Effect.{Database}
+use Rattle.sqlite.specs.Order.{Row}
+use Rattle.sqlite.specs.Held.{state}
+use Rattle.sqlite.specs.State.{State, Shown, FailsToQuery}
+use Rattle.archive_tables.specs.Tables.{IsHeld}
+use Rattle.archive_tables.specs.Listed.{filed_at, filed_shown}
+use Rattle.archive_tables.specs.Calls.{RowsRest}
+use Rattle.archive_tables.proofs.ListedLemmas.{filed_text, filed_found, not_filed}
+use Rattle.archive_tables.proofs.texts.checking.filed_at.Goals as goal
+
+found : (old new : State) (behind : Option Database) (place : ℤ) (r : Result (Vec Row Global) Error) → IsHeld behind old
+    → IfOk r (λ rows. Shown filed_text (Int place ∷ []) old new rows.items) → IfErr r (FailsToQuery filed_text (Int place ∷ []) old new)
+    → MatchResult r (λ rows. (slice_get rows.items 0 ≡ option_map filed_shown (filed_at old.now.trees place)) × (new.now ≡ old.now) × IsHeld behind new) (λ _. RowsRest behind old new)
+found old new behind place (Ok rows) k ok err = filed_found old new k place rows.items ok
+found old new behind place (Err e) k ok err = not_filed old new k place e err
+
+pub returns-clause-held : goal.returns-clause-held
+returns-clause-held g c clean behind k =
+    let number = c.params-to_sql.ensures ∙ ap Int (to_z-of_z w64 c.args.place c.ranges.place) in
+    found (state g.S.Store c.args.conn.now) (state g.S.Store c.query_all.new.self) behind c.args.place c.query_all.result k
+    (rw number at (c.query_all.ensures.ok clean)) (rw number at (c.query_all.ensures.err clean))

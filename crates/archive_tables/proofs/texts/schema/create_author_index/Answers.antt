@@ -1,0 +1,24 @@
+use Rattle.std.proofs.Common.{◌⊎◌, ℕ, [], Ok, Err, Result, OnOk, OnErr}
+use Rattle.sqlite.specs.declared.error.Error.{Error}
+use Rattle.sqlite.specs.Effect.{Database}
+use Rattle.sqlite.specs.Held.{state}
+use Rattle.sqlite.specs.State.{State, Executes, IsUnchanged, IsRolledBack}
+use Rattle.archive_tables.specs.Schema.{with_month_index, archive_schema, create_author_index}
+use Rattle.archive_tables.specs.Making.{IsMaking}
+use Rattle.archive_tables.proofs.RunLemmas.{execute_fails}
+use Rattle.archive_tables.proofs.MakeLemmas.{makes_author_index}
+use Rattle.archive_tables.proofs.texts.schema.create_author_index.Goals as goal
+
+done : (old new : State) (before : Database) → IsMaking old with_month_index before → (r : Result ℕ Error) → Executes create_author_index [] old new r → OnOk r (IsMaking new archive_schema before)
+done old new before k (Ok count) h = makes_author_index old new before count k h
+done old new before k (Err e) h = tt
+
+stops : (old new : State) (r : Result ℕ Error) → Executes create_author_index [] old new r → OnErr r (IsUnchanged old new ⊎ IsRolledBack old new)
+stops old new (Ok count) h = tt
+stops old new (Err e) h = execute_fails old new create_author_index [] e h
+
+pub returns-clause-made : goal.returns-clause-made
+returns-clause-made g c clean before k = done (state g.S.Store c.args.conn.now) (state g.S.Store c.execute.new.self) before k c.execute.result (c.execute.ensures.runs clean)
+
+pub returns-clause-stopped : goal.returns-clause-stopped
+returns-clause-stopped g c clean = stops (state g.S.Store c.args.conn.now) (state g.S.Store c.execute.new.self) c.execute.result (c.execute.ensures.runs clean)
