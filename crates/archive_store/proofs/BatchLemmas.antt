@@ -14,7 +14,7 @@ use Rattle.archive_machine.specs.Records.{Archive, Message}
 use Rattle.archive_machine.specs.Commands.{add, Reply, Refusal, refused, no_list, too_large, already_known, list_full, taken_in}
 use Rattle.archive_machine.specs.Keys.{item_key}
 use Rattle.archive_machine.specs.Questions.{has_list, has_message, is_message, messages_in}
-use Rattle.archive_machine.specs.Machine.{Outcome, added_within, message_limit, keyed_message, new_message}
+use Rattle.archive_machine.specs.Machine.{Outcome, added_within, longest_text, message_limit, keyed_message, with_keyed, with_message}
 use Rattle.archive_machine.specs.Runs.{taken, run, Tally, tally, is_new, is_known, is_too_large}
 use Rattle.archive_tables.specs.Tables.{IsHeld, IsKept, archive_of}
 use Rattle.archive_tables.specs.Calls.{ChangesOver, Rests, RestsOver, StaysOver, IsHeldOrBack}
@@ -55,14 +55,14 @@ same_word : (a : List ℕ) → bytes_eq a a ≡ true
 same_word a = (bytes_eq-Decides a a).1 refl
 
 module _ (behind : Option Database) (old new : State) (list : List ℕ) (item : Item) (count : ℕ) (n : IsCounted (archive_of old) list count) where
-  pub large_over : true ≡ nat_lt 4194304 (length (whole item.text)) → StaysOver behind old new → AddsTo behind old new list item count (refused too_large)
+  pub large_over : true ≡ nat_lt longest_text (length (whole item.text)) → StaysOver behind old new → AddsTo behind old new list item count (refused too_large)
   large_over large stays = (
     stays.0,
     ap (λ a. (a, refused too_large)) stays.1 ∙ rw (n.is_there, sym large) refl,
     subst (λ a. IsCounted a list count) (sym stays.1) n,
   )
 
-  module _ (k : List ℕ) (small : false ≡ nat_lt 4194304 (length (whole item.text))) where
+  module _ (k : List ℕ) (small : false ≡ nat_lt longest_text (length (whole item.text))) where
     pub known_over : k ≡ item_key item → true ≡ list_any (is_message list k) (archive_of old).messages → StaysOver behind old new
         → AddsTo behind old new list item count already_known
     known_over e known stays = (
@@ -81,10 +81,10 @@ module _ (behind : Option Database) (old new : State) (list : List ℕ) (item : 
     )
 
     pub new_over : (key : List ℕ) (mid : State) → k ≡ key → key ≡ item_key item → false ≡ list_any (is_message list k) (archive_of old).messages → count < 50000
-        → StaysOver behind old mid → ChangesOver behind mid new (λ a. record a { messages = a.messages ++ keyed_message list key item ∷ [] })
+        → StaysOver behind old mid → ChangesOver behind mid new (λ a. with_keyed a list key item)
         → AddsTo behind old new list item (count + 1) taken_in
     new_over key mid e ek none room stays written =
-        let change : Archive → Archive = λ a. record a { messages = a.messages ++ keyed_message list key item ∷ [] } in
+        let change : Archive → Archive = λ a. with_keyed a list key item in
         let is : archive_of new ≡ change (archive_of old) = written.1 ∙ ap change stays.1 in
         let more : IsCounted (change (archive_of old)) list (count + 1) = record {
           is_there = n.is_there;
@@ -150,10 +150,10 @@ is_limit n h = grind (arith, nat_tests, h)
 
 module _ (a : Archive) (list : List ℕ) (item : Item) where
   the_new : Archive
-  the_new = record a { messages = a.messages ++ new_message list item ∷ [] }
+  the_new = with_message a list item
 
   large : Bool
-  large = nat_lt 4194304 (length (whole item.text))
+  large = nat_lt longest_text (length (whole item.text))
 
   pub holds_50000 : (added_within message_limit a list item).1 ≡ refused list_full → 50000 ≤ length (messages_in a list)
   unfolding the_new large

@@ -6,6 +6,7 @@ use Rattle.archive_machine.specs.Records.{Archive}
 use Rattle.archive_machine.specs.Commands.{Refusal, Reply}
 use Rattle.archive_machine.specs.Questions.{messages_in}
 use Rattle.archive_machine.specs.Machine.{Outcome, added_within, message_limit}
+use Rattle.archive_machine.specs.Sound.{IsFiledRight}
 use Rattle.archive_tables.specs.Calls.{WasClean}
 use Rattle.archive_store.specs.Held.{held_of}
 use Rattle.archive_store.specs.declared.store.Store.{Store}
@@ -15,7 +16,8 @@ use Rattle.archive_store.specs.declared.words.Added.{Added}
 use Rattle.archive_store.specs.Words.{added_reply}
 use Rattle.archive_store.specs.Batches.{AddsCounted}
 use Rattle.archive_store.specs.Told.{archive_in, HasReturned, IsReady, Goes, GoesIfOpen}
-use Rattle.archive_store.proofs.Joins.{asked, ask_failed, stepped, goes_on, goes_on_if_open, goes_as, goes_as_if_open}
+use Rattle.archive_store.proofs.Joins.{asked, ask_failed, stepped, goes_on, goes_on_if_open, goes_as, goes_as_if_open, ready_with}
+use Rattle.archive_store.proofs.RightLemmas.{add_right}
 
 abbrev NotRefused : Type 0
 NotRefused = ◌≡◌ {A = Option Refusal} None None
@@ -34,13 +36,13 @@ module _ {S : Type 0} (g : Ghosts S) (old mid new : Store S) {A B : Type 0} (fir
       (asked g old mid was_first first a (λ _. None) SaysFirst is_a asks_first) (asked g mid new was_second second b (λ _. None) SaysSecond is_b asks_second))
 
   -- a command, and then a question that is answered from what it made
-  command_and_question : (step : Archive → Outcome) (said : Option Reply) (reply : Reply) (b : B) → said ≡ Some reply → second ≡ Ok b → Does g (held_of old) (held_of mid) step said
-      → Goes g old new (λ x z. (z ≡ (step x).0) × SaysSecond (step x).0 b)
-  command_and_question step said reply b is_said is_b does =
+  command_and_question : (step : Archive → Outcome) (said : Option Reply) (reply : Reply) (b : B) → ((x : Archive) → IsFiledRight x → IsFiledRight (step x).0)
+      → said ≡ Some reply → second ≡ Ok b → Does g (held_of old) (held_of mid) step said → Goes g old new (λ x z. (z ≡ (step x).0) × SaysSecond (step x).0 b)
+  command_and_question step said reply b keeps is_said is_b does =
       goes_as g old new (λ x z. (y : Archive) × ((y, reply) ≡ step x) × ((z ≡ y) × NotRefused × SaysSecond y b)) (λ x z. (z ≡ (step x).0) × SaysSecond (step x).0 b)
       (λ x z h. let made = ap (λ (o : Outcome). o.0) h.1 in (h.2.0 ∙ made, subst (λ y. SaysSecond y b) made h.2.2))
       (goes_on g old mid new (λ x y. (y, reply) ≡ step x) (λ y z. (z ≡ y) × NotRefused × SaysSecond y b)
-      (stepped g old mid was_first step said reply is_said does) (asked g mid new was_second second b (λ _. None) SaysSecond is_b asks_second))
+      (stepped g old mid was_first step said reply keeps is_said does) (asked g mid new was_second second b (λ _. None) SaysSecond is_b asks_second))
 
   -- a question that is answered, and one in which memory or the database was at fault
   question_and_fault : (a : A) (fault : StoreFault) → first ≡ Ok a → second ≡ Err fault → refusal fault ≡ None → Answers g (held_of old) (held_of mid) first (λ _. None) SaysFirst
@@ -58,6 +60,10 @@ two_counted_messages : {S : Type 0} (g : Ghosts S) (old mid new : Store S) (list
     → IsReady g new × ((archive_in g new, added_reply b) ≡ added_within message_limit (added_within message_limit (archive_in g old) list one).0 list two)
     × (length (messages_in (archive_in g new) list) ≡ after)
 two_counted_messages g old mid new list one two before between after first second a b was is_a is_b adds_first adds_second returned ready holds =
-    let start = (rw is_a at adds_first) (was returned) ready holds in
+    let start = (rw is_a at adds_first) (was returned) ready.held holds in
     let next = (rw is_b at adds_second) returned start.0.0 (start.1 start.0.0.is_open) in
-    (next.0.0, next.0.1 ∙ ap (λ (x : Archive). added_within message_limit x list two) (ap (λ (o : Outcome). o.0) start.0.1), next.1 next.0.0.is_open)
+    let once = (added_within message_limit (archive_in g old) list one).0 in
+    let is : (archive_in g new, added_reply b) ≡ added_within message_limit once list two =
+    next.0.1 ∙ ap (λ (x : Archive). added_within message_limit x list two) (ap (λ (o : Outcome). o.0) start.0.1) in
+    let right = add_right list two once (add_right list one (archive_in g old) ready.filed_right) in
+    (ready_with g new (added_within message_limit once list two).0 next.0.0 (ap (λ (o : Outcome). o.0) is) right, is, next.1 next.0.0.is_open)

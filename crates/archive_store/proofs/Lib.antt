@@ -3,8 +3,11 @@ pub mod StepEquations
 pub mod StepLemmas
 pub mod ReadingLemmas
 pub mod RunLemmas
+mod CountLemmas
 pub mod BatchLemmas
 pub mod Joins
+pub mod RightLemmas
 mod JoinExamples
 pub mod ReopenLemmas
 pub mod WalkingLemmas
+pub mod CheckLemmas

@@ -13,7 +13,7 @@ use Rattle.archive_machine.specs.Tokens.{is_token}
 use Rattle.archive_machine.specs.Questions.{has_list, has_person, has_token, is_grant, has_grant, is_message, message_of, messages_in}
 use Rattle.archive_tables.specs.Rows.{marks_of}
 use Rattle.archive_tables.specs.declared.rows.MarksRow.{MarksRow}
-use Rattle.archive_machine.specs.Machine.{person_added, granted, revoked, withdrawal, restored, held_back, lifted, keyed_message, added_within}
+use Rattle.archive_machine.specs.Machine.{person_added, granted, revoked, withdrawal, restored, held_back, lifted, with_keyed, added_within, longest_text}
 
 found : {X : Type 0} (b : Bool) (x : X) (o : Option X) (c : Bool) → is_some o ≡ c → is_some (cond b (Some x) o) ≡ (b || c)
 found true x o c h = refl
@@ -136,18 +136,18 @@ known_by : (a : Archive) (list key k : List ℕ) (there : Bool) → k ≡ key �
 known_by a list key k there e h =
     is_some-find (is_message list key) a.messages ∙ subst (λ k. list_any (is_message list k) a.messages ≡ there) e (sym h)
 
-pub add_known : (limit : ℕ) (list k : List ℕ) (item : Item) → k ≡ item_key item → false ≡ nat_lt 4194304 (length (whole item.text))
+pub add_known : (limit : ℕ) (list k : List ℕ) (item : Item) → k ≡ item_key item → false ≡ nat_lt longest_text (length (whole item.text))
     → (a : Archive) → (⊤ × (true ≡ has_list a list)) × (true ≡ list_any (is_message list k) a.messages)
     → added_within limit a list item ≡ (a, already_known)
 add_known limit list k item e small a h = rw (sym h.0.1, sym small, known_by a list (item_key item) k true e h.1) refl
 
-pub add_full : (limit : ℕ) (list k : List ℕ) (item : Item) → k ≡ item_key item → false ≡ nat_lt 4194304 (length (whole item.text))
+pub add_full : (limit : ℕ) (list k : List ℕ) (item : Item) → k ≡ item_key item → false ≡ nat_lt longest_text (length (whole item.text))
     → (a : Archive) → ((⊤ × (true ≡ has_list a list)) × (false ≡ list_any (is_message list k) a.messages)) × (true ≡ nat_le limit (length (messages_in a list)))
     → added_within limit a list item ≡ (a, refused list_full)
 add_full limit list k item e small a h = rw (sym h.0.0.1, sym small, known_by a list (item_key item) k false e h.0.1, sym h.1) refl
 
-pub add_new : (limit : ℕ) (list k key : List ℕ) (item : Item) → k ≡ key → key ≡ item_key item → false ≡ nat_lt 4194304 (length (whole item.text))
+pub add_new : (limit : ℕ) (list k key : List ℕ) (item : Item) → k ≡ key → key ≡ item_key item → false ≡ nat_lt longest_text (length (whole item.text))
     → (a : Archive) → ((⊤ × (true ≡ has_list a list)) × (false ≡ list_any (is_message list k) a.messages)) × (false ≡ nat_le limit (length (messages_in a list)))
-    → added_within limit a list item ≡ (record a { messages = a.messages ++ keyed_message list key item ∷ [] }, taken_in)
+    → added_within limit a list item ≡ (with_keyed a list key item, taken_in)
 add_new limit list k key item e ek small a h =
     rw ek (rw (sym h.0.0.1, sym small, known_by a list (item_key item) k false (e ∙ ek) h.0.1, sym h.1) refl)

@@ -1,28 +1,29 @@
 -- Walks over the messages of a list.
 use Rattle.std.proofs.Common.{◌≡◌, ℕ, ℤ, ◌+◌, ◌<◌, ◌≤◌, true, List, [], ◌∷◌, ◌++◌, length, get_or, drop, map, bytes_eq, refl, ap, sym, subst, append_assoc, ◌∙◌, Option, Some, None, Result, Ok, Err, IfErr, inl, inr}
-use Rattle.std.specs.Prelude.{IsErrAnd, slice_get, Vec}
+use Rattle.std.specs.Prelude.{IsErrAnd, slice_get, Vec, ◌&&◌, Bool, false, filter}
 use Rattle.std.specs.declared.alloc.Global.{Global}
 use Rattle.std.proofs.lemmas.Option.{slice_get_cases}
-use Rattle.std.specs.List.{All}
+use Rattle.std.specs.List.{AllByRecursion}
+use Rattle.std.specs.Ordering.{int_eq}
+use Rattle.std.proofs.lemmas.Bool.{cases_Bool}
 use Rattle.std.proofs.lemmas.List.{drop_more, drop_all, map-append}
-use Rattle.std.proofs.lemmas.List.Elements.{All-head, All-tail}
 use Rattle.std.proofs.lemmas.Slice.Eq.{bytes_eq-Decides}
 use Rattle.archive_machine.specs.Records.{Message, Archive}
 use Rattle.archive_machine.specs.Questions.{list_refusal, messages_in}
 use Rattle.archive_machine.specs.Messages.{remembered}
+use Rattle.archive_machine.specs.Filing.{Filed, filed, is_sent_before, with_filed, by_filed_date, is_filed_in_month, is_filed_by_author, in_month, by_author}
 use Rattle.archive_machine.specs.declared.messages.Message.{Message as Given}
 use Rattle.sqlite.specs.Effect.{Database}
+use Rattle.sqlite.specs.Tree.{Trees}
 use Rattle.sqlite.specs.Store.{Ghosts}
-use Rattle.archive_tables.specs.Rows.{message_at, places_in}
-use Rattle.archive_tables.specs.Tables.{archive_in}
-use Rattle.archive_tables.proofs.WalkLemmas.{walked}
+use Rattle.archive_tables.specs.Rows.{message_at}
+use Rattle.archive_tables.specs.Tables.{AreTables, archive_in}
 use Rattle.archive_store.specs.Replies.{refusal, Answers}
 use Rattle.archive_store.specs.Held.{held_of}
-use Rattle.archive_store.specs.Told.{IsReady, IsOpen, HasReturned, HadReturned, GoesIfOpen, archive_in as now_holds}
-use Rattle.archive_store.specs.Walking.{Walk, Walks, Begins, IsNotBegun, GivesAll, now_in, rows_of}
+use Rattle.archive_store.specs.Told.{HoldsTables, IsOpen, HasReturned, HadReturned, GoesInIfOpen, archive_in as now_holds}
+use Rattle.archive_store.specs.Walking.{Walk, WalksOver, BeginsOver, IsNotBegun, GivesAll, now_in, rows_of}
 use Rattle.archive_store.specs.declared.store.Store.{Store}
 use Rattle.archive_store.specs.declared.faults.StoreFault.{StoreFault}
-use Rattle.archive_store.proofs.ReadingLemmas.{AreOf, are_of}
 
 some_is : {A : Type 0} {x y : A} → Some x ≡ Some y → x ≡ y
 some_is e = cc
@@ -58,15 +59,69 @@ pub one_more : {A : Type 0} (given : List A) (x : A) (rest : List A) → (given 
 one_more [] x rest = refl
 one_more (g ∷ given) x rest = ap (λ xs. g ∷ xs) (one_more given x rest)
 
-behind_some : {A : Type 0} (P : A → Type 0) (given rest : List A) → All P (given ++ rest) → All P rest
-behind_some P [] rest all = all
-behind_some P (g ∷ given) rest all = behind_some P given rest (All-tail P g (given ++ rest) all)
+-- ---- messages of one list
 
--- a message that a list's messages have is of the list
-pub is_of_list : (list : List ℕ) (a : Archive) (given rest : List Message) (m : Message) → given ++ m ∷ rest ≡ messages_in a list → m.list ≡ list
-is_of_list list a given rest m joined =
-    (bytes_eq-Decides m.list list).0
-    (All-head (λ m. bytes_eq m.list list ≡ true) m rest (behind_some (λ m. bytes_eq m.list list ≡ true) given (m ∷ rest) (subst (AreOf list) (sym joined) (are_of list a))))
+abbrev AreOfList : List ℕ → List Message → Type 0
+AreOfList list = AllByRecursion (λ m. bytes_eq m.list list ≡ true)
+
+-- a message among those of a list is of the list
+pub is_of_list : (list : List ℕ) (given rest all : List Message) (m : Message) → AreOfList list all → given ++ m ∷ rest ≡ all → m.list ≡ list
+is_of_list list given rest all m are joined = (bytes_eq-Decides m.list list).0 (behind given (subst (AreOfList list) (sym joined) are))
+  where
+    behind : (given : List Message) → AreOfList list (given ++ m ∷ rest) → bytes_eq m.list list ≡ true
+    behind [] all = all.0
+    behind (g ∷ given) all = behind given all.1
+
+kept_of_list : (list : List ℕ) (ms : List Message) → AreOfList list (filter (λ m. bytes_eq m.list list) ms)
+kept_of_list list [] = tt
+kept_of_list list (m ∷ ms) = elim (cases_Bool (bytes_eq m.list list)) [
+  | inl kept ↦ rw kept (kept, kept_of_list list ms)
+  | inr dropped ↦ rw dropped (kept_of_list list ms)
+]
+
+pub mailbox_of_list : (list : List ℕ) (a : Archive) → AreOfList list (messages_in a list)
+mailbox_of_list list a = kept_of_list list a.messages
+
+-- the same of what is filed
+
+abbrev AreFiledOf : List ℕ → List Filed → Type 0
+AreFiledOf list = AllByRecursion (λ (f : Filed). bytes_eq f.0.list list ≡ true)
+
+with_of_list : (list : List ℕ) (f : Filed) (fs : List Filed) → bytes_eq f.0.list list ≡ true → AreFiledOf list fs → AreFiledOf list (with_filed f fs)
+with_of_list list f [] one all = (one, tt)
+with_of_list list f (g ∷ fs) one all = elim (cases_Bool (is_sent_before g f)) [
+  | inl before ↦ rw before (all.0, with_of_list list f fs one all.1)
+  | inr after ↦ rw after (one, all)
+]
+
+sorted_of_list : (list : List ℕ) (fs : List Filed) → AreFiledOf list fs → AreFiledOf list (by_filed_date fs)
+sorted_of_list list [] all = tt
+sorted_of_list list (f ∷ fs) all = with_of_list list f (by_filed_date fs) all.0 (sorted_of_list list fs all.1)
+
+first_of : (a b : Bool) → (a && b) ≡ true → a ≡ true
+first_of true b h = refl
+first_of false b h = absurd cc
+
+wanted_of_list : (list : List ℕ) (test : Filed → Bool) (fs : List Filed) → AreFiledOf list (filter (λ (f : Filed). bytes_eq f.0.list list && test f) fs)
+wanted_of_list list test [] = tt
+wanted_of_list list test (f ∷ fs) = elim (cases_Bool (bytes_eq f.0.list list && test f)) [
+  | inl kept ↦ rw kept (first_of (bytes_eq f.0.list list) (test f) kept, wanted_of_list list test fs)
+  | inr dropped ↦ rw dropped (wanted_of_list list test fs)
+]
+
+messages_of_list : (list : List ℕ) (fs : List Filed) → AreFiledOf list fs → AreOfList list (map (λ (f : Filed). f.0) fs)
+messages_of_list list [] all = tt
+messages_of_list list (f ∷ fs) all = (all.0, messages_of_list list fs all.1)
+
+pub month_of_list : (list : List ℕ) (month : ℤ) (a : Archive) → AreOfList list (in_month a list month)
+month_of_list list month a =
+    messages_of_list list (by_filed_date (filter (is_filed_in_month list month) (filed a)))
+    (sorted_of_list list (filter (is_filed_in_month list month) (filed a)) (wanted_of_list list (λ (f : Filed). int_eq f.1.month month) (filed a)))
+
+pub author_of_list : (list key : List ℕ) (a : Archive) → AreOfList list (by_author a list key)
+author_of_list list key a =
+    messages_of_list list (by_filed_date (filter (is_filed_by_author list key) (filed a)))
+    (sorted_of_list list (filter (is_filed_by_author list key) (filed a)) (wanted_of_list list (λ (f : Filed). bytes_eq f.1.author key) (filed a)))
 
 pub no_refusal : {A : Type 0} (r : Result A StoreFault) (Q : StoreFault → Type 0) → IsErrAnd r Q → ((fault : StoreFault) → Q fault → refusal fault ≡ None) → IfErr r (λ fault. refusal fault ≡ None)
 no_refusal (Ok x) Q none why = absurd none
@@ -77,69 +132,74 @@ past_end xs i none = elim ((slice_get_cases xs i).1) [ inl found ↦ absurd (let
 
 module _ {S : Type 0} (g : Ghosts S) where
   -- the numbers that were found are those that the walk holds
-  pub at_start : (mid old : Store S) (list : List ℕ) (walk : Walk S) (places : Vec ℤ Global) → walk.places ≡ places
-      → (list_refusal (now_holds g old) list ≡ None) × IsReady g mid × (now_holds g mid ≡ now_holds g old) × (places.items ≡ places_in (rows_of g mid) list)
-      → (list_refusal (now_holds g old) list ≡ None) × IsReady g mid × (now_holds g mid ≡ now_holds g old) × (walk.places.items ≡ places_in (rows_of g mid) list)
-  at_start mid old list walk places same it = (it.0, it.1, it.2, ap (λ (v : Vec ℤ Global). v.items) same ∙ it.3)
+  pub at_start : (mid old : Store S) (list : List ℕ) (which : Trees → List ℤ) (walk : Walk S) (places : Vec ℤ Global) → walk.places ≡ places
+      → (list_refusal (now_holds g old) list ≡ None) × HoldsTables g mid × (now_holds g mid ≡ now_holds g old) × (places.items ≡ which (rows_of g mid))
+      → (list_refusal (now_holds g old) list ≡ None) × HoldsTables g mid × (now_holds g mid ≡ now_holds g old) × (walk.places.items ≡ which (rows_of g mid))
+  at_start mid old list which walk places same it = (it.0, it.1, it.2, ap (λ (v : Vec ℤ Global). v.items) same ∙ it.3)
 
-  pub fails : {A : Type 0} (old new : Store S) (list : List ℕ) (r : Result A StoreFault) → IfErr r (λ fault. refusal fault ≡ None) → GoesIfOpen g old new (λ a b. b ≡ a)
+  pub fails : {A : Type 0} (old new : Store S) (list : List ℕ) (r : Result A StoreFault) → IfErr r (λ fault. refusal fault ≡ None) → GoesInIfOpen g (HoldsTables g) old new (λ a b. b ≡ a)
       → IsNotBegun g old list r new
   fails old new list (Ok x) none goes = tt
   fails old new list (Err fault) none goes = rw none goes
 
-  pub begins_walk : (old mid : Store S) (list : List ℕ) (walk : Walk S) → walk.store.now ≡ mid → walk.at ≡ 0 → HadReturned g old mid
-      → (HasReturned g mid → IsReady g old → (list_refusal (now_holds g old) list ≡ None) × IsReady g mid × (now_holds g mid ≡ now_holds g old) × (walk.places.items ≡ places_in (rows_of g mid) list))
-      → Begins g old list walk
-  begins_walk old mid list walk store at was found = (
+  pub begins_walk : (old mid : Store S) (list : List ℕ) (which : Trees → List ℤ) (all : Archive → List Message)
+      → ((trees : Trees) → AreTables trees → map (message_at trees) (which trees) ≡ map Some (all (archive_in trees))) → ((a : Archive) → AreOfList list (all a))
+      → (walk : Walk S) → walk.store.now ≡ mid → walk.at ≡ 0 → HadReturned g old mid
+      → (HasReturned g mid → HoldsTables g old → (list_refusal (now_holds g old) list ≡ None) × HoldsTables g mid × (now_holds g mid ≡ now_holds g old) × (walk.places.items ≡ which (rows_of g mid)))
+      → BeginsOver g old list all walk
+  begins_walk old mid list which all shown of_list walk store at was found = (
     (λ returned. was (subst (HasReturned g) store returned)),
-    (λ returned ready.
-        let it = found (subst (HasReturned g) store returned) ready in (
+    (λ returned held.
+        let it = found (subst (HasReturned g) store returned) held in (
           it.0,
           record {
-            ready = subst (IsReady g) (sym store) it.1;
+            held = subst (HoldsTables g) (sym store) it.1;
             archive_is = ap (now_holds g) store ∙ it.2;
-            left = messages_in (now_holds g old) list;
+            left = all (now_holds g old);
             ahead = ap (λ s. map (message_at (rows_of g s)) (drop walk.at walk.places.items)) store
                 ∙ ap (λ n. map (message_at (rows_of g mid)) (drop n walk.places.items)) at
-                ∙ ap (map (message_at (rows_of g mid))) it.3 ∙ walked (rows_of g mid) list it.1.tables ∙ ap (λ a. map Some (messages_in a list)) it.2;
+                ∙ ap (map (message_at (rows_of g mid))) it.3 ∙ shown (rows_of g mid) it.1.tables ∙ ap (λ a. map Some (all a)) it.2;
             joined = refl;
+            of_list = of_list (now_holds g old);
           },
         )),
   )
 
-module _ {S : Type 0} (g : Ghosts S) (list : List ℕ) (a : Archive) (given : List Message) where
+module _ {S : Type 0} (g : Ghosts S) (list : List ℕ) (all : List Message) (a : Archive) (given : List Message) where
   -- the same walk over a store that shows the same
-  pub same_walk : (old new : Walk S) → Walks g list a given old → new.places.items ≡ old.places.items → new.at ≡ old.at → now_in g new.store.now ≡ now_in g old.store.now
-      → IsReady g new.store.now → Walks g list a given new
-  same_walk old new w places at now ready = record {
-    ready = ready;
+  pub same_walk : (old new : Walk S) → WalksOver g list all a given old → new.places.items ≡ old.places.items → new.at ≡ old.at → now_in g new.store.now ≡ now_in g old.store.now
+      → HoldsTables g new.store.now → WalksOver g list all a given new
+  same_walk old new w places at now held = record {
+    held = held;
     archive_is = ap (λ (d : Database). archive_in d.trees) now ∙ w.archive_is;
     left = w.left;
     ahead = ap (λ (d : Database). map (message_at d.trees) (drop new.at new.places.items)) now
         ∙ ap (λ n. map (message_at (rows_of g old.store.now)) (drop n new.places.items)) at
         ∙ ap (λ l. map (message_at (rows_of g old.store.now)) (drop old.at l)) places ∙ w.ahead;
     joined = w.joined;
+    of_list = w.of_list;
   }
 
   -- one message further
-  pub further : (old new : Walk S) (d : ℤ) (m : Given) → Walks g list a given old → old.at < length old.places.items → new.places.items ≡ old.places.items → new.at ≡ old.at + 1
-      → now_in g new.store.now ≡ now_in g old.store.now → IsReady g new.store.now
+  pub further : (old new : Walk S) (d : ℤ) (m : Given) → WalksOver g list all a given old → old.at < length old.places.items → new.places.items ≡ old.places.items → new.at ≡ old.at + 1
+      → now_in g new.store.now ≡ now_in g old.store.now → HoldsTables g new.store.now
       → (it : Message) × (message_at (rows_of g old.store.now) (get_or old.places.items old.at d) ≡ Some it) × (remembered it.list m ≡ it)
-      → Walks g list a (given ++ remembered list m ∷ []) new
-  further old new d m w within places at now ready shown =
+      → WalksOver g list all a (given ++ remembered list m ∷ []) new
+  further old new d m w within places at now held shown =
       let n = next_is (message_at (rows_of g old.store.now)) old.places.items old.at d w.left w.ahead within in
       let same : shown.0 ≡ n.0 = some_is (sym shown.1 ∙ n.3) in
-      let joined : given ++ n.0 ∷ n.1 ≡ messages_in a list = ap (λ l. given ++ l) (sym n.2) ∙ w.joined in
-      let of_list : shown.0.list ≡ list = ap (λ (x : Message). x.list) same ∙ is_of_list list a given n.1 n.0 joined in
+      let joined : given ++ n.0 ∷ n.1 ≡ all = ap (λ l. given ++ l) (sym n.2) ∙ w.joined in
+      let of_list : shown.0.list ≡ list = ap (λ (x : Message). x.list) same ∙ is_of_list list given n.1 all n.0 w.of_list joined in
       let read : remembered list m ≡ n.0 = ap (λ l. remembered l m) (sym of_list) ∙ shown.2 ∙ same in
       record {
-        ready = ready;
+        held = held;
         archive_is = ap (λ (d : Database). archive_in d.trees) now ∙ w.archive_is;
         left = n.1;
         ahead = ap (λ (d : Database). map (message_at d.trees) (drop new.at new.places.items)) now
             ∙ ap (λ k. map (message_at (rows_of g old.store.now)) (drop k new.places.items)) at
             ∙ ap (λ l. map (message_at (rows_of g old.store.now)) (drop (old.at + 1) l)) places ∙ n.4;
         joined = one_more given (remembered list m) n.1 ∙ ap (λ x. given ++ x ∷ n.1) read ∙ joined;
+        of_list = w.of_list;
       }
 
 -- one message more was read
@@ -148,16 +208,16 @@ given_more f given found found' x is =
     append_assoc given (map f found) (f x ∷ []) ∙ ap (λ l. given ++ l) (sym (map-append f found (x ∷ [])) ∙ ap (map f) (sym is))
 
 -- a walk that is read to its end, and dropped
-pub rows_answer : {S : Type 0} (g : Ghosts S) (old last : Store S) (walk new : Walk S) (list : List ℕ) (r : Result (Vec Given Global) StoreFault) → last ≡ new.store.now
-    → Begins g old list walk → HadReturned g walk.store.now new.store.now → GivesAll g walk new r → IfErr r (λ fault. refusal fault ≡ None)
-    → Answers g (held_of old) (held_of last) r (λ a. list_refusal a list) (λ a found. map (remembered list) found.items ≡ messages_in a list)
-rows_answer g old last walk new list (Ok found) is begun was gives none = λ returned ready.
+pub rows_answer : {S : Type 0} (g : Ghosts S) (old last : Store S) (walk new : Walk S) (list : List ℕ) (all : Archive → List Message) (r : Result (Vec Given Global) StoreFault) → last ≡ new.store.now
+    → BeginsOver g old list all walk → HadReturned g walk.store.now new.store.now → GivesAll g walk new r → IfErr r (λ fault. refusal fault ≡ None)
+    → Answers g (held_of old) (held_of last) r (λ a. list_refusal a list) (λ a found. map (remembered list) found.items ≡ all a)
+rows_answer g old last walk new list all (Ok found) is begun was gives none = λ returned held.
     let returned' = subst (HasReturned g) is returned in
-    let b = begun.1 (was returned') ready in
-    let w = gives returned' list (now_holds g old) [] b.1 in
-    ((subst (IsReady g) (sym is) w.0.ready, ap (now_holds g) is ∙ w.0.archive_is), b.0, w.1)
-rows_answer g old last walk new list (Err fault) is begun was gives none = λ returned ready.
+    let b = begun.1 (was returned') held in
+    let w = gives returned' list (all (now_holds g old)) (now_holds g old) [] b.1 in
+    ((subst (HoldsTables g) (sym is) w.0.held, ap (now_holds g) is ∙ w.0.archive_is), b.0, w.1)
+rows_answer g old last walk new list all (Err fault) is begun was gives none = λ returned held.
     let returned' = subst (HasReturned g) is returned in
-    let b = begun.1 (was returned') ready in
-    let rest = gives returned' list (now_holds g old) [] b.1 in
-    rw none (λ up. let w = rest (subst (IsOpen g) is up) in (subst (IsReady g) (sym is) w.0, ap (now_holds g) is ∙ w.1))
+    let b = begun.1 (was returned') held in
+    let rest = gives returned' list (all (now_holds g old)) (now_holds g old) [] b.1 in
+    rw none (λ up. let w = rest (subst (IsOpen g) is up) in (subst (HoldsTables g) (sym is) w.0, ap (now_holds g) is ∙ w.1))

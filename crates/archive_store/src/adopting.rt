@@ -5,6 +5,7 @@ ghost use Rattle.sqlite.specs.State.{HasCleanDisk};
 ghost use Rattle.sqlite.specs.Steps.{over_memory};
 ghost use Rattle.archive_tables.specs.Schema.{no_schema};
 ghost use Rattle.archive_tables.specs.Tables.{IsKept, IsOfArchive, IsOfVersion, archive_of};
+ghost use Rattle.archive_tables.specs.declared.texts.schema.TheConstants.{VERSION};
 ghost use Rattle.archive_tables.specs.Calls.{Rests};
 ghost use Rattle.archive_tables.specs.Making.{IsUndone, IsIdle, IsBackTo, empty_archive};
 ghost use Rattle.archive_database.specs.Adopting.{MayBeTaken, IsUnderstood};
@@ -57,7 +58,7 @@ impl<S: Alter> Store<S> {
             → Rests (state S.Store connection) (state S.Store stop.connection)) }
         ensures objects { IfOk result (λ _. MayBeTaken (state S.Store connection).now.schema) }
         ensures version { IfOk result (λ store. HasCleanDisk (state S.Store (held_of store)) → IsOfArchive (state S.Store connection)
-            → IsOfVersion (state S.Store connection).now.trees) }
+            → IsOfVersion VERSION (state S.Store connection).now.trees) }
         ensures undone { IfErr result (λ stop. HasCleanDisk (state S.Store stop.connection) → (state S.Store connection).now.schema ≡ no_schema
             → IsUndone (state S.Store stop.connection) (state S.Store connection).committed) }
         ensures as_before { IfErr result (λ stop. HasCleanDisk (state S.Store stop.connection) → IsIdle (state S.Store connection) → IsUnderstood (state S.Store connection).now.schema

@@ -4,6 +4,7 @@
 
 mod adopting;
 mod batches;
+mod checking;
 mod faults;
 mod grants;
 mod keys;
@@ -21,6 +22,7 @@ mod words;
 pub use adopting::AdoptStop;
 pub use archive_machine::{Key, Message};
 pub use batches::{AddStop, Report};
+pub use checking::CheckStop;
 pub use faults::StoreFault;
 pub use keys::key_of;
 pub use running::{Command, Outcome, RunStop};

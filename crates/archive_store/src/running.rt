@@ -1,18 +1,21 @@
 //! Commands one after the other.
 ghost use Rattle.std.specs.Prelude.{◌≡◌, ◌≤◌, true, length, map, is_some, IfOk, IfErr, Err, None};
-ghost use Rattle.archive_machine.specs.Machine.{step};
+ghost use Rattle.archive_machine.specs.Machine.{added_within, message_limit, step};
 ghost use Rattle.archive_tables.specs.Calls.{WasClean};
 ghost use Rattle.archive_store.specs.Held.{held_of};
 ghost use Rattle.archive_store.specs.Replies.{Does, refusal, says_done, says_whether, says_added};
-ghost use Rattle.archive_store.specs.Running.{command_of, answer_of, carried, Runs};
+ghost use Rattle.archive_store.specs.Running.{command_of, answer_of, carried, CountsOn, DoesCounted, FindsCount, IsCountedOn, Runs};
 
+use crate::batches::count_list;
 use crate::faults::StoreFault;
+use crate::limits::MESSAGES;
 use crate::store::Store;
 use crate::words::{Added, Kind, Party};
 use archive_machine::Key;
+use archive_tables::texts;
 use civil_time::Day;
 use mbox_core::Item;
-use sqlite::Alter;
+use sqlite::{Alter, Connection};
 use std::alloc::Global;
 
 /// A command with its arguments: each is the call of `Store` of that name.
@@ -78,6 +81,13 @@ pub struct RunStop {
     pub fault: StoreFault,
 }
 
+/// How many messages a list holds, as a run knows it of the list to which it added the last.
+#[derive(Clone, Copy)]
+struct Counted<'a> {
+    list: &'a str,
+    count: usize,
+}
+
 /// A refusal, or a stop.
 fn refused(fault: StoreFault) -> Result<Outcome, StoreFault>
     ensures value { carried result ≡ says_done (Err fault) }
@@ -126,10 +136,69 @@ fn added(answer: Result<Added, StoreFault>) -> Result<Outcome, StoreFault>
     }
 }
 
+/// How many messages a list holds: as it was counted before, or counted now. `None` where no list can be full, since no message's
+/// number reaches the limit. E4 where there is no such list.
+fn find_count<S: Alter>(
+    conn: &mut Connection<S>,
+    list: &str,
+    counted: Option<Counted<'_>>,
+) -> Result<Option<usize>, StoreFault>
+    ensures found { FindsCount S.Store conn.old conn.new counted.entry list.now result }
+    ensures clean { WasClean S.Store conn.old conn.new }
+{
+    match counted {
+        Some(known) if known.list == list => return Ok(Some(known.count)),
+        _ => {}
+    }
+    if !texts::messages::reaches(conn, MESSAGES)? {
+        return Ok(None);
+    }
+    match count_list(conn, list) {
+        Ok(count) => Ok(Some(count)),
+        Err(fault) => Err(fault),
+    }
+}
+
 impl<S: Alter> Store<S> {
+    /// Adds a message, as `add`. Where the list may be full, it is counted once for all that are added to it one after the other.
+    fn add_next<'a>(
+        &mut self,
+        alloc: Global,
+        list: &'a str,
+        item: &Item<'_>,
+        counted: &mut Option<Counted<'a>>,
+    ) -> Result<Added, StoreFault>
+        ensures step { DoesCounted S.Store (held_of self.old) (held_of self.new) counted.old (λ a. added_within message_limit a list.now item.now) (says_added result) }
+        ensures counted { IsCountedOn S.Store (held_of self.old) (held_of self.new) counted.old counted.new (says_added result) }
+        ensures clean { WasClean S.Store (held_of self.old) (held_of self.new) }
+    {
+        let known = match find_count(&mut self.conn, list, *counted) {
+            Ok(known) => known,
+            Err(fault) => return Err(fault),
+        };
+        match known {
+            Some(before) => {
+                let mut count = before;
+                let answer = self.add_counted(alloc, list, item, &mut count);
+                *counted = Some(Counted { list, count });
+                answer
+            }
+            None => {
+                *counted = None;
+                self.add(alloc, list, item)
+            }
+        }
+    }
+
     /// Carries a command out. E14 and E15 are errors.
-    fn carry_out(&mut self, alloc: Global, command: &Command<'_>) -> Result<Outcome, StoreFault>
-        ensures step { Does S.Store (held_of self.old) (held_of self.new) (λ a. step a (command_of command.now)) (carried result) }
+    fn carry_out<'a>(
+        &mut self,
+        alloc: Global,
+        command: &Command<'a>,
+        counted: &mut Option<Counted<'a>>,
+    ) -> Result<Outcome, StoreFault>
+        ensures step { DoesCounted S.Store (held_of self.old) (held_of self.new) counted.old (λ a. step a (command_of command.now)) (carried result) }
+        ensures counted { CountsOn S.Store (held_of self.old) (held_of self.new) command.now counted.old counted.new (carried result) }
         ensures clean { WasClean S.Store (held_of self.old) (held_of self.new) }
         ensures told { IfOk result (λ outcome. is_some (answer_of outcome) ≡ true) }
         ensures stop { IfErr result (λ fault. refusal fault ≡ None) }
@@ -145,7 +214,7 @@ impl<S: Alter> Store<S> {
                 until,
             } => done(self.grant(person, list, *kind, *from, *until)),
             Command::Revoke { person, list, kind } => whether(self.revoke(person, list, *kind)),
-            Command::Add { list, item } => added(self.add(alloc, list, item)),
+            Command::Add { list, item } => added(self.add_next(alloc, list, item, counted)),
             Command::Withdraw { list, key, by } => done(self.withdraw(list, key, *by)),
             Command::Restore { list, key } => done(self.restore(list, key)),
             Command::Embargo { list, key, until } => done(self.embargo(list, key, *until)),
@@ -154,7 +223,7 @@ impl<S: Alter> Store<S> {
     }
 
     /// Carries commands out one after the other, with the outcome of each. Room for the outcomes is made before the
-    /// first command.
+    /// first command. Messages that are added to one list one after the other are counted once, where a list may be full.
     pub fn run(&mut self, alloc: Global, commands: &[Command<'_>]) -> Result<Vec<Outcome>, RunStop>
         ensures step { Runs S.Store (held_of self.old) (held_of self.new) (map command_of commands.entry.now) result }
         ensures bound { IfErr result (λ stop. stop.done ≤ length commands.entry.now) }
@@ -167,8 +236,9 @@ impl<S: Alter> Store<S> {
                 fault: StoreFault::Memory,
             });
         };
+        let mut counted = None;
         for command in commands.iter() {
-            match self.carry_out(alloc, command) {
+            match self.carry_out(alloc, command, &mut counted) {
                 Ok(outcome) => {
                     let done = outcomes.len() + 1;
                     match outcomes.push(outcome) {

@@ -1,8 +1,9 @@
 //! Walks over the messages of a list.
-ghost use Rattle.std.specs.Prelude.{◌≡◌, ◌+◌, ◌∷◌, [], ◌++◌, map, slice_get, None, IfOk, IfErr, MatchResult, MatchOption};
+ghost use Rattle.std.specs.Prelude.{◌≡◌, ◌+◌, ◌∷◌, [], ◌++◌, map, slice_get, pos, None, IfOk, IfErr, MatchResult, MatchOption};
 ghost use Rattle.archive_machine.specs.Messages.{remembered};
 ghost use Rattle.archive_machine.specs.Questions.{list_refusal, messages_in};
 ghost use Rattle.archive_tables.specs.Calls.{WasClean};
+ghost use Rattle.archive_tables.specs.Rows.{places_in, month_places, author_places};
 ghost use Rattle.archive_store.specs.Held.{held_of};
 ghost use Rattle.archive_store.specs.Replies.{refusal};
 ghost use Rattle.archive_store.specs.Told.{HadReturned};
@@ -10,15 +11,17 @@ ghost use Rattle.archive_store.specs.Walking.{GivesNext, GivesAll, ShowsMessage,
 
 use crate::faults::StoreFault;
 use crate::store::Store;
+use crate::words::month_number;
 use archive_database::reading::{read_or_fail, read_places};
 use archive_machine::Message;
 use archive_tables::texts;
+use civil_time::Month;
 use sqlite::Alter;
 use std::alloc::Global;
 
-/// The messages of a list in mailbox order, one at a time. It holds the numbers of the messages, and no message. It may be
-/// dropped at any message, and leaves the store as it stands then: `P` is a parameter so that this is known of a walk that
-/// owns memory.
+/// Messages of a list, one at a time: all in mailbox order, or those of a month or an author. It holds the numbers of the
+/// messages, and no message. It may be dropped at any message, and leaves the store as it stands then: `P` is a parameter so
+/// that this is known of a walk that owns memory.
 pub struct EachRow<'a, S: Alter, P = Vec<i64>> {
     store: &'a mut Store<S>,
     places: P,
@@ -41,7 +44,9 @@ impl<S: Alter> Store<S> {
     ghost use Rattle.std.specs.Borrow.{sem, RestsIfErr};
     ghost use Rattle.archive_store.specs.contracts.store.Store.{the_row};
     ghost use Rattle.archive_store.specs.Replies.{Answers};
-    ghost use Rattle.archive_store.specs.Walking.{Begins, IsNotBegun};
+    ghost use Rattle.std.specs.Prelude.{pos};
+    ghost use Rattle.archive_machine.specs.Filing.{in_month, by_author};
+    ghost use Rattle.archive_store.specs.Walking.{Begins, BeginsOver, IsNotBegun};
 
     /// The messages of a list in mailbox order. E4 where there is no such list.
     pub fn rows(&mut self, alloc: Global, list: &str) -> Result<Vec<Message>, StoreFault>
@@ -60,6 +65,67 @@ impl<S: Alter> Store<S> {
         ensures begun { IfOk result (λ walk. Begins S.Store self.old list.now walk) }
     {
         let places = find_places(self, alloc, list)?;
+        Ok(EachRow::new(self, places))
+    }
+
+    /// The messages of a list that are filed under a month, by the sent date that is filed and then in mailbox order. E4 where
+    /// there is no such list.
+    pub fn in_month(
+        &mut self,
+        alloc: Global,
+        list: &str,
+        month: Month,
+    ) -> Result<Vec<Message>, StoreFault>
+        ensures answer { Answers S.Store (held_of self.old) (held_of self.new) result (λ a. list_refusal a list.now)
+            (λ a found. map (remembered list.now) found.items ≡ in_month a list.now (pos month)) }
+        ensures clean { WasClean S.Store (held_of self.old) (held_of self.new) }
+    {
+        let mut walk = self.each_in_month(alloc, list, month)?;
+        read_rows(alloc, &mut walk)
+    }
+
+    /// The messages of a list that are filed under an author key, in the same order. E4 where there is no such list.
+    pub fn by_author(
+        &mut self,
+        alloc: Global,
+        list: &str,
+        key: &[u8],
+    ) -> Result<Vec<Message>, StoreFault>
+        ensures answer { Answers S.Store (held_of self.old) (held_of self.new) result (λ a. list_refusal a list.now)
+            (λ a found. map (remembered list.now) found.items ≡ by_author a list.now key.now) }
+        ensures clean { WasClean S.Store (held_of self.old) (held_of self.new) }
+    {
+        let mut walk = self.each_by_author(alloc, list, key)?;
+        read_rows(alloc, &mut walk)
+    }
+
+    /// Begins a walk over the messages of `in_month`. E4 where there is no such list.
+    pub fn each_in_month(
+        &mut self,
+        alloc: Global,
+        list: &str,
+        month: Month,
+    ) -> Result<EachRow<'_, S>, StoreFault>
+        ensures* refused { sem 𝓛 (RestsIfErr (the_row S.row S.Store) self.entry (λ walk. walk.store.ghost_name) result (IsNotBegun S.Store self.old list.now result)) }
+        ensures same_reference { IfOk result (λ walk. walk.store.ghost_name ≡ self.entry.ghost_name) }
+        ensures begun { IfOk result (λ walk. BeginsOver S.Store self.old list.now (λ a. in_month a list.now (pos month)) walk) }
+    {
+        let places = find_month_places(self, alloc, list, month)?;
+        Ok(EachRow::new(self, places))
+    }
+
+    /// Begins a walk over the messages of `by_author`. E4 where there is no such list.
+    pub fn each_by_author(
+        &mut self,
+        alloc: Global,
+        list: &str,
+        key: &[u8],
+    ) -> Result<EachRow<'_, S>, StoreFault>
+        ensures* refused { sem 𝓛 (RestsIfErr (the_row S.row S.Store) self.entry (λ walk. walk.store.ghost_name) result (IsNotBegun S.Store self.old list.now result)) }
+        ensures same_reference { IfOk result (λ walk. walk.store.ghost_name ≡ self.entry.ghost_name) }
+        ensures begun { IfOk result (λ walk. BeginsOver S.Store self.old list.now (λ a. by_author a list.now key.now) walk) }
+    {
+        let places = find_author_places(self, alloc, list, key)?;
         Ok(EachRow::new(self, places))
     }
 }
@@ -124,13 +190,50 @@ fn find_places<S: Alter>(
     list: &str,
 ) -> Result<Vec<i64>, StoreFault>
     ensures refused { IsNotBegun S.Store store.old list.now result store.new }
-    ensures found { FindsPlaces S.Store store.old store.new list.now result }
+    ensures found { FindsPlaces S.Store store.old store.new list.now (λ trees. places_in trees list.now) result }
     ensures clean { HadReturned S.Store store.old store.new }
 {
     if !texts::lists::has_list(&mut store.conn, list)? {
         return Err(StoreFault::NoList);
     }
     let shown = texts::messages::places(&mut store.conn, list)?;
+    Ok(read_places(alloc, &shown)?)
+}
+
+/// The numbers of those that are filed under a month. E4 where there is no such list.
+fn find_month_places<S: Alter>(
+    store: &mut Store<S>,
+    alloc: Global,
+    list: &str,
+    month: Month,
+) -> Result<Vec<i64>, StoreFault>
+    ensures refused { IsNotBegun S.Store store.old list.now result store.new }
+    ensures found { FindsPlaces S.Store store.old store.new list.now (λ trees. month_places trees list.now (pos month)) result }
+    ensures clean { HadReturned S.Store store.old store.new }
+{
+    if !texts::lists::has_list(&mut store.conn, list)? {
+        return Err(StoreFault::NoList);
+    }
+    let number = month_number(month);
+    let shown = texts::messages::month_places(&mut store.conn, list, number)?;
+    Ok(read_places(alloc, &shown)?)
+}
+
+/// The numbers of those that are filed under an author key. E4 where there is no such list.
+fn find_author_places<S: Alter>(
+    store: &mut Store<S>,
+    alloc: Global,
+    list: &str,
+    key: &[u8],
+) -> Result<Vec<i64>, StoreFault>
+    ensures refused { IsNotBegun S.Store store.old list.now result store.new }
+    ensures found { FindsPlaces S.Store store.old store.new list.now (λ trees. author_places trees list.now key.now) result }
+    ensures clean { HadReturned S.Store store.old store.new }
+{
+    if !texts::lists::has_list(&mut store.conn, list)? {
+        return Err(StoreFault::NoList);
+    }
+    let shown = texts::messages::author_places(&mut store.conn, list, key)?;
     Ok(read_places(alloc, &shown)?)
 }
 

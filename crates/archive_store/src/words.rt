@@ -1,8 +1,8 @@
 //! The words in which the archive is told.
-ghost use Rattle.std.specs.Prelude.{◌≡◌};
+ghost use Rattle.std.specs.Prelude.{◌≡◌, pos};
 ghost use Rattle.archive_store.specs.Words.{rank_of, party_of};
 
-use civil_time::Day;
+use civil_time::{Day, Month};
 
 /// What a grant makes of a person on a list: one of the standings above `Public`.
 #[derive(Clone, Copy, Debug, PartialEq, Eq, Hash)]
@@ -56,4 +56,11 @@ pub(crate) fn day_number(day: Day) -> i64
     ensures { result ≡ day }
 {
     i64::from(day.number())
+}
+
+/// The number of a month: year times 12 plus month less 1.
+pub(crate) fn month_number(month: Month) -> i64
+    ensures { result ≡ pos month }
+{
+    i64::from(month.index())
 }

@@ -1,9 +1,9 @@
-use Rattle.std.proofs.Common.{◌≡◌, true, false, sym, subst, ◌∙◌, length, [], ◌∷◌, ◌++◌}
+use Rattle.std.proofs.Common.{◌≡◌, true, false, sym, subst, ◌∙◌, length}
 use Rattle.std.specs.Prelude.{⊤, nat_le}
 use Rattle.std.specs.List.{list_any}
 use Rattle.archive_machine.specs.Commands.{already_known, list_full, taken_in, refused}
 use Rattle.archive_machine.specs.Questions.{has_list, is_message, messages_in}
-use Rattle.archive_machine.specs.Machine.{added_within, keyed_message}
+use Rattle.archive_machine.specs.Machine.{added_within, with_keyed}
 use Rattle.archive_store.proofs.StepLemmas.{begins, asks, answers, writes_when}
 use Rattle.archive_store.proofs.StepEquations.{add_known, add_full, add_new}
 use Rattle.archive_store.proofs.limits.add_limited.Goals as goal
@@ -52,7 +52,7 @@ returns-clause-step g c =
     two c.in_ok-is_full.ensures.clean c.in_ok-is_full.ensures.same c.in_ok-is_full.ensures.up
     (λ clean kept. sym c.if-branch-2.false ∙ c.in_ok-is_full.ensures.found clean kept) in
     writes_when g.S.Store c.args.store.now.conn c.is_full.new.conn c.take_in.new.conn _ (λ a. list_any (is_message list key) a.messages ≡ false) (λ a. added_within c.args.limit a list c.args.item.now) taken_in
-    (λ a. record a { messages = a.messages ++ keyed_message list key c.args.item.now ∷ [] })
+    (λ a. with_keyed a list key c.args.item.now)
     three c.in_ok-take_in.ensures.clean c.in_ok-take_in.ensures.taken
     (λ a h. subst (λ k. list_any (is_message list k) a.messages ≡ false) c.as_str.ensures (sym h.0.1))
     (add_new c.args.limit list k key c.args.item.now c.as_str.ensures c.of-key.ensures c.if-is_too_large.ensures)

@@ -1,34 +1,34 @@
 use Rattle.std.proofs.Common.{◌∙◌, subst}
 use Rattle.archive_machine.specs.Messages.{remembered}
 use Rattle.archive_tables.proofs.RunLemmas.{on_fault}
-use Rattle.archive_store.specs.Walking.{Walks}
+use Rattle.archive_store.specs.Walking.{WalksOver}
 use Rattle.archive_store.proofs.WalkingLemmas.{given_more}
 use Rattle.archive_store.proofs.walking.read_rows.Goals as goal
 
 pub returns-in_err-message-clause-given : goal.returns-in_err-message-clause-given
-returns-in_err-message-clause-given g c = λ returned list a given w.
-    let so_far = c.loop-found.invariant.2 (c.next.ensures.clean returned) list a given w in
-    let rest = c.in_err-message.ensures.given returned list a _ so_far in
-    on_fault _ _ c.from_residual-in_err-message.result c.from_residual-in_err-message.ensures.1 (λ up. let w = rest up in (w.ready, w.archive_is))
+returns-in_err-message-clause-given g c = λ returned list all a given w.
+    let so_far = c.loop-found.invariant.2 (c.next.ensures.clean returned) list all a given w in
+    let rest = c.in_err-message.ensures.given returned list all a _ so_far in
+    on_fault _ _ c.from_residual-in_err-message.result c.from_residual-in_err-message.ensures.1 (λ up. let w = rest up in (w.held, w.archive_is))
 
 pub loop-found-preserved : goal.loop-found-preserved
 loop-found-preserved g c = (
   c.next.ensures.same_reference ∙ c.loop-found.invariant.0,
   (λ returned. c.loop-found.invariant.1 (c.next.ensures.clean returned)),
-  (λ returned list a given w.
-      let so_far = c.loop-found.invariant.2 (c.next.ensures.clean returned) list a given w in
-      let more = rw c.in-Some.is at (c.in_ok-message.ensures.given returned list a _ so_far) in
-      subst (λ all. Walks g.S.Store list a all c.next.new.self)
+  (λ returned list all a given w.
+      let so_far = c.loop-found.invariant.2 (c.next.ensures.clean returned) list all a given w in
+      let more = rw c.in-Some.is at (c.in_ok-message.ensures.given returned list all a _ so_far) in
+      subst (λ so. WalksOver g.S.Store list all a so c.next.new.self)
       (given_more (remembered list) given c.loop-found.found.items c.push.new.self.items c.in-Some.message c.in_ok-push.ensures.items) more),
 )
 
 pub returns-in_err-push-clause-given : goal.returns-in_err-push-clause-given
-returns-in_err-push-clause-given g c = λ returned list a given w.
-    let so_far = c.loop-found.invariant.2 (c.next.ensures.clean returned) list a given w in
-    let more = rw c.in-Some.is at (c.in_ok-message.ensures.given returned list a _ so_far) in
-    on_fault _ _ c.from_residual-in_err-push.result c.from_residual-in_err-push.ensures.1 (λ up. (more.ready, more.archive_is))
+returns-in_err-push-clause-given g c = λ returned list all a given w.
+    let so_far = c.loop-found.invariant.2 (c.next.ensures.clean returned) list all a given w in
+    let more = rw c.in-Some.is at (c.in_ok-message.ensures.given returned list all a _ so_far) in
+    on_fault _ _ c.from_residual-in_err-push.result c.from_residual-in_err-push.ensures.1 (λ up. (more.held, more.archive_is))
 
 pub returns-clause-given : goal.returns-clause-given
-returns-clause-given g c = λ returned list a given w.
-    let so_far = c.loop-found.invariant.2 (c.next.ensures.clean returned) list a given w in
-    rw c.in_default.is at (c.in_ok-message.ensures.given returned list a _ so_far)
+returns-clause-given g c = λ returned list all a given w.
+    let so_far = c.loop-found.invariant.2 (c.next.ensures.clean returned) list all a given w in
+    rw c.in_default.is at (c.in_ok-message.ensures.given returned list all a _ so_far)

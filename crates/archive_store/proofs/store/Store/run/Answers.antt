@@ -3,8 +3,9 @@ use Rattle.std.proofs.lemmas.List.{take_all}
 use Rattle.sqlite.specs.Held.{state}
 use Rattle.archive_machine.specs.Runs.{run}
 use Rattle.archive_tables.specs.Tables.{archive_of}
-use Rattle.archive_store.specs.Running.{command_of, RanAll}
+use Rattle.archive_store.specs.Running.{command_of, answer_of, RanAll}
 use Rattle.archive_store.proofs.RunLemmas.{run_nothing, ran_none, ran_next, ran_stop, first_commands}
+use Rattle.archive_store.proofs.CountLemmas.{count_after}
 use Rattle.archive_store.proofs.store.Store.run.Goals as goal
 
 pub returns-in_default-clause-step : goal.returns-in_default-clause-step
@@ -15,7 +16,7 @@ loop-command-init g c =
     let first = state g.S.Store c.args.self.now.conn in (
       ap length c.in-Ok.ensures.items,
       (λ clean. clean),
-      (λ clean kept. subst (λ outcomes. RanAll first (run (archive_of first) []) first outcomes) (sym c.in-Ok.ensures.items) (ran_none first kept)),
+      (λ clean kept. (subst (λ outcomes. RanAll first (run (archive_of first) []) first outcomes) (sym c.in-Ok.ensures.items) (ran_none first kept), tt)),
     )
 
 pub returns-in-Err-clause-clean : goal.returns-in-Err-clause-clean
@@ -28,7 +29,7 @@ pub returns-clause-step : goal.returns-clause-step
 returns-clause-step g c = λ clean kept.
     let first = state g.S.Store c.args.self.now.conn in
     subst (λ commands. RanAll first (run (archive_of first) (map command_of commands)) (state g.S.Store c.loop-command.self.conn) c.loop-command.outcomes.items)
-    (take_all c.loop-command.command-index c.args.commands.now c.loop-command-test.false) (c.loop-command.invariant.2 clean kept)
+    (take_all c.loop-command.command-index c.args.commands.now c.loop-command-test.false) (c.loop-command.invariant.2 clean kept).0
 
 pub returns-in-Err-clause-step : goal.returns-in-Err-clause-step
 returns-in-Err-clause-step g c = λ clean kept up.
@@ -36,7 +37,7 @@ returns-in-Err-clause-step g c = λ clean kept up.
     let before = c.loop-command.invariant.2 (c.carry_out.ensures.clean clean) kept in
     let at = c.loop-command.command-index in
     let stopped = ran_stop first (state g.S.Store c.loop-command.self.conn) (state g.S.Store c.carry_out.new.self.conn) (map command_of (take at c.args.commands.now))
-    c.loop-command.outcomes.items before (c.in-Err.ensures.step clean before.0) up in
+    c.loop-command.outcomes.items before.0 (c.in-Err.ensures.step clean before.0.0 before.1) up in
     let len : vec_len c.loop-command.outcomes ≡ length c.loop-command.outcomes.items = search rules in
     (stopped.0, stopped.1 ∙ ap (λ commands. (run (archive_of first) commands).archive) (sym (first_commands c.args.commands.now c.len.result at (c.len.ensures ∙ len ∙ c.loop-command.invariant.0))))
 
@@ -51,9 +52,12 @@ loop-command-preserved g c =
       (λ clean. c.loop-command.invariant.1 (c.carry_out.ensures.clean clean)),
       (λ clean kept.
           let ran = c.loop-command.invariant.2 (c.carry_out.ensures.clean clean) kept in
-          ran_next first mid new c.args.commands.now c.loop-command.command-index c.command-item.result outcomes c.push.new.self.items o ran
-          c.in-Ok-carry_out.ensures.told (c.in-Ok-carry_out.ensures.step clean ran.0) (omega (arith, c.loop-command-test.true)) c.command-item.is
-          c.in-Ok-push.ensures.items),
+          let steps = c.in-Ok-carry_out.ensures.step clean ran.0.0 ran.1 in (
+            ran_next first mid new c.args.commands.now c.loop-command.command-index c.command-item.result outcomes c.push.new.self.items o ran.0
+                c.in-Ok-carry_out.ensures.told steps (omega (arith, c.loop-command-test.true)) c.command-item.is c.in-Ok-push.ensures.items,
+            count_after g.S.Store c.loop-command.self.conn c.carry_out.new.self.conn c.command-item.result c.loop-command.counted c.carry_out.new.counted
+                (answer_of o) clean ran.0.0 c.in-Ok-carry_out.ensures.told steps c.in-Ok-carry_out.ensures.counted ran.1,
+          )),
     )
 
 pub returns-in-Err-push-clause-step : goal.returns-in-Err-push-clause-step
@@ -63,8 +67,8 @@ returns-in-Err-push-clause-step g c = λ clean kept up.
     let o = c.in-Ok-carry_out.outcome in
     let outcomes = c.loop-command.outcomes.items in
     let before = c.loop-command.invariant.2 (c.carry_out.ensures.clean clean) kept in
-    let ran = ran_next first (state g.S.Store c.loop-command.self.conn) (state g.S.Store c.carry_out.new.self.conn) c.args.commands.now at c.command-item.result outcomes (outcomes ++ o ∷ []) o before
-    c.in-Ok-carry_out.ensures.told (c.in-Ok-carry_out.ensures.step clean before.0) (omega (arith, c.loop-command-test.true)) c.command-item.is refl in
+    let ran = ran_next first (state g.S.Store c.loop-command.self.conn) (state g.S.Store c.carry_out.new.self.conn) c.args.commands.now at c.command-item.result outcomes (outcomes ++ o ∷ []) o before.0
+    c.in-Ok-carry_out.ensures.told (c.in-Ok-carry_out.ensures.step clean before.0.0 before.1) (omega (arith, c.loop-command-test.true)) c.command-item.is refl in
     let len : vec_len c.loop-command.outcomes ≡ length outcomes = search rules in
     (ran.0, ran.1 ∙ ap (λ commands. (run (archive_of first) commands).archive) (sym (first_commands c.args.commands.now (c.len-done.result + 1) (at + 1) (ap (λ n. n + 1) (c.len-done.ensures ∙ len ∙ c.loop-command.invariant.0)))))
 

@@ -3,7 +3,7 @@ use Rattle.sqlite.specs.Held.{state}
 use Rattle.sqlite.specs.State.{HasCleanDisk}
 use Rattle.archive_machine.specs.Runs.{run}
 use Rattle.archive_tables.specs.Tables.{IsKept, archive_of}
-use Rattle.archive_store.specs.Running.{command_of, RanAll}
+use Rattle.archive_store.specs.Running.{command_of, IsRightCount, RanAll}
 use Rattle.archive_store.proofs.store.Store.run.Given as goal
 
 abbrev pub invariant-loop-command : goal.invariant-loop-command
@@ -11,4 +11,5 @@ invariant-loop-command g l =
     let first = state g.S.Store l.fn.self.conn in
     let now = state g.S.Store l.self.conn in
     (length l.outcomes.items ≡ l.command-index) × (HasCleanDisk now → HasCleanDisk first)
-    × (HasCleanDisk now → IsKept first → RanAll first (run (archive_of first) (map command_of (take l.command-index l.commands))) now l.outcomes.items)
+    × (HasCleanDisk now → IsKept first
+    → RanAll first (run (archive_of first) (map command_of (take l.command-index l.commands))) now l.outcomes.items × IsRightCount l.counted (archive_of now))

@@ -2,17 +2,16 @@ use Rattle.std.proofs.Common.{◌≡◌, ◌∙◌, ap, sym, refl, length, arith
 use Rattle.std.specs.Prelude.{slice_get}
 use Rattle.std.proofs.lemmas.Int.{to_z-of_z}
 use Rattle.std.proofs.lemmas.Option.{get_or_from_slice_get, slice_get_within}
-use Rattle.archive_machine.specs.Questions.{messages_in}
 use Rattle.archive_tables.specs.Rows.{message_at}
 use Rattle.archive_store.specs.Walking.{rows_of}
 use Rattle.archive_store.proofs.WalkingLemmas.{all_given, further, past_end}
 use Rattle.archive_store.proofs.walking.EachRow+S.next.Goals as goal
 
 pub returns-in_default-clause-given : goal.returns-in_default-clause-given
-returns-in_default-clause-given g c = λ returned list a given w.
+returns-in_default-clause-given g c = λ returned list all a given w.
     let walk = c.args.self.now in
     let none : slice_get walk.places.items walk.at ≡ None = ap (λ l. slice_get l walk.at) (sym c.deref.ensures.value) ∙ sym c.place_at.ensures ∙ c.in_default.is in
-    (w, all_given (message_at (rows_of g.S.Store walk.store.now)) walk.places.items walk.at given w.left (messages_in a list) w.ahead w.joined (past_end walk.places.items walk.at none))
+    (w, all_given (message_at (rows_of g.S.Store walk.store.now)) walk.places.items walk.at given w.left all w.ahead w.joined (past_end walk.places.items walk.at none))
 
 pub returns-in_default-clause-left : goal.returns-in_default-clause-left
 returns-in_default-clause-left g c =
@@ -30,14 +29,14 @@ overflow_add-self g c =
     omega (arith, within, same, c.deref.type_inv.0)
 
 pub returns-clause-given : goal.returns-clause-given
-returns-clause-given g c = λ returned list a given w.
+returns-clause-given g c = λ returned list all a given w.
     let walk = c.args.self.now in
     let place = c.in-Some.place in
     let fits = rw c.in-Some.is at c.place_at.type_inv in
     let itself = to_z-of_z w64 place (record { sfits = assumption fits }) in
     let some : slice_get walk.places.items walk.at ≡ Some place = ap (λ l. slice_get l walk.at) (sym c.deref.ensures.value) ∙ sym c.place_at.ensures ∙ c.in-Some.is in
-    let shown = rw itself at (c.in_ok-message.ensures.shown returned w.ready) in
-    further g.S.Store list a given walk _ place c.in_ok-message.message w (slice_get_within walk.places.items walk.at place some) refl refl shown.1 shown.2
+    let shown = rw itself at (c.in_ok-message.ensures.shown returned w.held) in
+    further g.S.Store list all a given walk _ place c.in_ok-message.message w (slice_get_within walk.places.items walk.at place some) refl refl shown.1 shown.2
     (shown.0.0, ap (message_at (rows_of g.S.Store walk.store.now)) (get_or_from_slice_get walk.places.items walk.at place place some) ∙ shown.0.1, shown.0.2)
 
 pub returns-clause-left : goal.returns-clause-left

@@ -1,0 +1,17 @@
+use Rattle.std.proofs.Common.{◌∙◌, None}
+use Rattle.archive_tables.proofs.RunLemmas.{on_fault}
+use Rattle.archive_store.proofs.checking.find_all_places.Goals as goal
+
+pub returns-in_err-shown-clause-found : goal.returns-in_err-shown-clause-found
+returns-in_err-shown-clause-found g c = λ returned held.
+    on_fault _ _ c.from_residual.result c.from_residual.ensures.1 (c.in_err-shown.ensures.held returned None held)
+
+pub returns-in_err-read_places-clause-found : goal.returns-in_err-read_places-clause-found
+returns-in_err-read_places-clause-found g c = λ returned held.
+    let shown = c.in_ok-shown.ensures.held returned None held in
+    on_fault _ _ c.from_residual-in_err-read_places.result c.from_residual-in_err-read_places.ensures.1 (λ up. (shown.1, shown.2))
+
+pub returns-clause-found : goal.returns-clause-found
+returns-clause-found g c = λ returned held.
+    let shown = c.in_ok-shown.ensures.held returned None held in
+    (c.in_ok-read_places.ensures.read _ (c.deref.ensures.value ∙ shown.0), (shown.1, shown.2))
