@@ -35,6 +35,17 @@ impl Merged {
         }
     }
 
+    /// These trees and no links, which takes no memory.
+    pub fn unmerged(alloc: Global, trees: Vec<Tree>) -> Merged
+        ensures trees { result.trees.items ≡ trees.items }
+        ensures links { result.links.items ≡ [] }
+    {
+        Merged {
+            trees,
+            links: Vec::new(alloc),
+        }
+    }
+
     /// Adds what becomes of a group.
     pub fn add(&mut self, alloc: Global, entries: &[Entry], group: Group) -> Result<(), Memory>
         ensures trees { OnOk result (self.new.trees.items

@@ -65,14 +65,15 @@ impl Threader for NodeThreader {
         &self,
         alloc: Global,
         entries: &[Entry],
+        merge: bool,
         links: Nodes,
         steps: &mut Steps<L>,
     ) -> Result<Vec<Row>, Memory>
         ensures steps_two_to_six { IfOk result
-            (λ rows. rows.items ≡ rows_of entries.now links.count (parent_of links.links)) }
+            (λ rows. rows.items ≡ rows_of entries.now merge links.count (parent_of links.links)) }
         ensures few { steps.new ≤ steps.old + links.count }
     {
         let parents = read_parents(alloc, &links, steps)?;
-        table_rows(alloc, entries, parents, Some(self.state))
+        table_rows(alloc, entries, merge, parents, Some(self.state))
     }
 }

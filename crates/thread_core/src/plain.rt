@@ -10,7 +10,7 @@ use crate::forest::find_tops;
 use crate::order::order_trees;
 use crate::row::Row;
 use crate::rows::tree_rows;
-use crate::subjects::merge;
+use crate::subjects::gather;
 use crate::threader::Threader;
 use mail_core::Memory;
 use std::alloc::Global;
@@ -18,20 +18,22 @@ use std::hash::RandomState;
 use std::sync::ledger::Ledger;
 use thread_links::{Entry, Pairs, Steps, join_plain};
 
-/// Steps 2 to 6 over a list of parents, with a table of subjects where a state for it is given.
+/// Steps 2 to 6 over a list of parents, step 5 only where `merge` is true, and then with a table of
+/// subjects where a state for it is given.
 pub fn table_rows(
     alloc: Global,
     entries: &[Entry],
+    merge: bool,
     parents: Vec<Option<usize>>,
     state: Option<RandomState>,
 ) -> Result<Vec<Row>, Memory>
     ensures { IfOk result (λ rows. rows.items
-        ≡ rows_of_containers entries.now (containers_of parents.items (length entries.now))) }
+        ≡ rows_of_containers entries.now merge (containers_of parents.items (length entries.now))) }
 {
     let all = Family::new(alloc, parents, entries.len())?;
     let tops = find_tops(alloc, &all)?;
     let ordered = order_trees(alloc, entries, tops)?;
-    let merged = merge(alloc, state, entries, ordered)?;
+    let merged = gather(alloc, merge, state, entries, ordered)?;
     let trees = order_trees(alloc, entries, merged.trees)?;
     let taken = Taken::new(alloc, merged.links)?;
     tree_rows(alloc, entries, &all, &taken, &trees)
@@ -60,10 +62,11 @@ impl Threader for PlainThreader {
         &self,
         alloc: Global,
         entries: &[Entry],
+        merge: bool,
         links: Pairs,
         _steps: &mut Steps<L>,
     ) -> Result<Vec<Row>, Memory> {
         let parents = links.parents(alloc)?;
-        table_rows(alloc, entries, parents, None)
+        table_rows(alloc, entries, merge, parents, None)
     }
 }

@@ -7,7 +7,7 @@ ghost use Rattle.std.specs.Prelude.{if◌then◌else◌, flat_map, get_or, is_no
 ghost use Rattle.thread_links.specs.declared.entry.Entry.{Entry};
 ghost use Rattle.thread_core.specs.declared.tree.Tree.{Tree};
 ghost use Rattle.thread_core.specs.Forest.{key};
-ghost use Rattle.thread_core.specs.Merge.{base_of, is_dummy_tree, merged_group, merged_trees, messages_of, subject};
+ghost use Rattle.thread_core.specs.Merge.{base_of, is_dummy_tree, merged_group, merged_trees, messages_of, subject, top_after};
 ghost use Rattle.thread_core.specs.Subjects.{lead_of, picked, AreLeaders};
 
 use crate::family::{list_at, list_children};
@@ -214,17 +214,21 @@ fn merge_by_table(
     })
 }
 
-/// The trees after the merge, given those before it in order: by a table where a state for it is
-/// given, else by comparisons.
-pub fn merge(
+/// The trees below the root, given those before step 5 in order: after it, by a table where a state
+/// for it is given and else by comparisons; or as they were, where it is left out.
+pub fn gather(
     alloc: Global,
+    merge: bool,
     state: Option<RandomState>,
     entries: &[Entry],
     trees: Vec<Tree>,
 ) -> Result<Merged, Memory>
-    ensures trees { IfOk result (λ merged. merged.trees.items ≡ (merged_trees entries.now trees.items).trees) }
-    ensures links { IfOk result (λ merged. merged.links.items ≡ (merged_trees entries.now trees.items).links) }
+    ensures trees { IfOk result (λ merged. merged.trees.items ≡ (top_after entries.now merge trees.items).trees) }
+    ensures links { IfOk result (λ merged. merged.links.items ≡ (top_after entries.now merge trees.items).links) }
 {
+    if !merge {
+        return Ok(Merged::unmerged(alloc, trees));
+    }
     match state {
         Some(state) => merge_by_table(alloc, state, entries, trees),
         None => merge_trees(alloc, entries, trees),

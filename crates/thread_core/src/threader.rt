@@ -30,30 +30,33 @@ pub trait Threader {
         ensures step_one { IfOk result (λ links. IsLinkedAs (count_of entries.now) (links_of entries.now)
             (linked links)) };
 
-    /// Steps 2 to 6 over any links, in preorder: the first containers are the messages, by place,
-    /// and the others are dummies. A refusal drops the links.
+    /// Steps 2 to 6 over any links, in preorder, step 5 only where `merge` is true: the first
+    /// containers are the messages, by place, and the others are dummies. A refusal drops the links.
     fn rows<L: Ledger>(
         &self,
         alloc: Global,
         entries: &[Entry],
+        merge: bool,
         links: Self::Links,
         steps: &mut Steps<L>,
     ) -> Result<Vec<Row>, Memory>
         requires { length entries.now ≤ (linked links).count }
         ensures steps_two_to_six { IfOk result
-            (λ rows. rows.items ≡ rows_of entries.now (linked links).count
+            (λ rows. rows.items ≡ rows_of entries.now merge (linked links).count
             (parent_of (linked links).links)) };
 }
 
-/// The threads of a mailbox in preorder, by both parts of a threader.
+/// The threads of a mailbox in preorder, by both parts of a threader; those of one base subject are
+/// gathered (step 5) only where `merge` is true.
 pub fn threads<T: Threader>(
     alloc: Global,
     threader: &T,
     entries: &[Entry],
+    merge: bool,
 ) -> Result<Vec<Row>, Memory>
-    ensures { IfOk result (λ rows. rows.items ≡ threads_of entries.now) }
+    ensures { IfOk result (λ rows. rows.items ≡ threads_of entries.now merge) }
 {
-    join_and_rows::<T, Brand>(alloc, threader, entries, Blank::new(1))
+    join_and_rows::<T, Brand>(alloc, threader, entries, merge, Blank::new(1))
 }
 
 /// Both parts, one after the other, with a count that nobody reads.
@@ -61,14 +64,15 @@ fn join_and_rows<T: Threader, L: Ledger>(
     alloc: Global,
     threader: &T,
     entries: &[Entry],
+    merge: bool,
     blank: Blank,
 ) -> Result<Vec<Row>, Memory>
     requires name { blank.name ≡ L.name }
     requires parts { blank.parts ≡ L.parts }
     requires some { 0 < blank.parts }
-    ensures { IfOk result (λ rows. rows.items ≡ threads_of entries.now) }
+    ensures { IfOk result (λ rows. rows.items ≡ threads_of entries.now merge) }
 {
     let mut steps = Steps::<L>::new(blank);
     let links = threader.join(alloc, entries, &mut steps)?;
-    threader.rows(alloc, entries, links, &mut steps)
+    threader.rows(alloc, entries, merge, links, &mut steps)
 }

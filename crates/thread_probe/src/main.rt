@@ -76,7 +76,7 @@ fn entries(alloc: Global, mbox: &[u8]) -> anyhow::Result<Vec<Entry>> {
 }
 
 fn thread(alloc: Global, state: RandomState, entries: &[Entry]) -> anyhow::Result<Vec<Row>> {
-    let Ok(rows) = threads(alloc, &NodeThreader::new(state), entries) else {
+    let Ok(rows) = threads(alloc, &NodeThreader::new(state), entries, true) else {
         bail!("no memory");
     };
     Ok(rows)

@@ -131,7 +131,7 @@ fn rows_of_two<L: Ledger>(
     if linked {
         let _made = nodes::link(&mut links, 0, 1, &mut steps);
     }
-    Ok(threader.rows(alloc, &entries, links, &mut steps)?)
+    Ok(threader.rows(alloc, &entries, true, links, &mut steps)?)
 }
 
 #[test]
@@ -170,11 +170,12 @@ impl Threader for Counted {
         &self,
         alloc: Global,
         entries: &[Entry],
+        merge: bool,
         links: Pairs,
         steps: &mut Steps<L>,
     ) -> Result<Vec<Row>, Memory> {
         self.rows.set(self.rows.get().wrapping_add(1));
-        PlainThreader.rows(alloc, entries, links, steps)
+        PlainThreader.rows(alloc, entries, merge, links, steps)
     }
 }
 
@@ -185,17 +186,22 @@ fn threads_joins_once_and_makes_rows_once(rt: HostRuntime) -> Result<(), Fail> {
         rows: Cell::new(0),
     };
     let entries = two_entries(rt.alloc())?;
-    let rows = threads(rt.alloc(), &counted, &entries)?;
+    let rows = threads(rt.alloc(), &counted, &entries, true)?;
     assert_eq!(rt; rows.len(), 2);
     assert_eq!(rt; (counted.joins.get(), counted.rows.get()), (1, 1));
     Ok(())
 }
 
-/// Whether both threaders give the same rows.
+/// Whether both threaders give the same rows, with step 5 and without it.
 fn is_same(alloc: Global, threader: &NodeThreader, entries: &[Entry]) -> Result<bool, Fail> {
-    let fast = threads(alloc, threader, entries)?;
-    let plain = threads(alloc, &PlainThreader, entries)?;
-    Ok(fast.as_slice() == plain.as_slice())
+    for merge in [true, false] {
+        let fast = threads(alloc, threader, entries, merge)?;
+        let plain = threads(alloc, &PlainThreader, entries, merge)?;
+        if fast.as_slice() != plain.as_slice() {
+            return Ok(false);
+        }
+    }
+    Ok(true)
 }
 
 /// References that short lists have.
@@ -426,7 +432,7 @@ fn measure(
     count: usize,
 ) -> Result<(usize, usize), Fail> {
     let entries = long_list(alloc, shape, count)?;
-    let rows = threads(alloc, threader, &entries)?;
+    let rows = threads(alloc, threader, &entries, true)?;
     let mut deepest = 0;
     for row in &rows {
         if row.depth > deepest {
@@ -557,7 +563,7 @@ fn rows_of_references(
     let mut entries = Vec::new(alloc);
     entries.push(entry(alloc, Some(0), &[], 0, b"", false)?)?;
     entries.push(entry(alloc, None, &refs, 1, b"", false)?)?;
-    Ok(threads(alloc, threader, &entries)?)
+    Ok(threads(alloc, threader, &entries, true)?)
 }
 
 #[test]
@@ -565,5 +571,61 @@ fn a_message_with_many_references(rt: HostRuntime) -> Result<(), Fail> {
     let threader = NodeThreader::new(RandomState::new(&rt)?);
     let rows = rows_of_references(rt.alloc(), &threader, 400000)?;
     assert_eq!(rt; rows.as_slice(), [row(0, 0), row(1, 1)].as_slice());
+    Ok(())
+}
+
+/// Long lists of one thread, in which each message stands one deeper than the row before: how each is made, how many messages
+/// it has, and whether its last message stands first.
+const ONE_DEEPER: [(Shape, usize, bool); 2] = [
+    (Shape::Forward, 2000, false),
+    (Shape::Ring, 500, true),
+];
+
+/// Whether the rows of such a list are these, to the last one.
+fn goes_one_deeper(
+    alloc: Global,
+    threader: &NodeThreader,
+    shape: Shape,
+    count: usize,
+    last_first: bool,
+) -> Result<bool, Fail> {
+    let entries = long_list(alloc, shape, count)?;
+    let rows = threads(alloc, threader, &entries, true)?;
+    let mut wanted = Vec::new(alloc);
+    for depth in 0..count {
+        let place = if last_first { count - 1 - depth } else { depth };
+        wanted.push(row(depth, place))?;
+    }
+    Ok(rows.as_slice() == wanted.as_slice())
+}
+
+#[test]
+fn a_chain_and_a_ring_go_one_deeper_each_row(rt: HostRuntime) -> Result<(), Fail> {
+    let threader = NodeThreader::new(RandomState::new(&rt)?);
+    for (shape, count, last_first) in &ONE_DEEPER {
+        assert!(rt;
+            goes_one_deeper(rt.alloc(), &threader, *shape, *count, *last_first)?,
+            "{count}"
+        );
+    }
+    Ok(())
+}
+
+/// The rows of one message with so many references to ids that no message has.
+fn rows_of_unowned(alloc: Global, threader: &NodeThreader, count: usize) -> Result<Vec<Row>, Fail> {
+    let mut refs = Vec::new(alloc);
+    for number in 0..count {
+        refs.push(number)?;
+    }
+    let mut entries = Vec::new(alloc);
+    entries.push(entry(alloc, None, &refs, 0, b"", false)?)?;
+    Ok(threads(alloc, threader, &entries, true)?)
+}
+
+#[test]
+fn references_that_nobody_owns_make_no_row(rt: HostRuntime) -> Result<(), Fail> {
+    let threader = NodeThreader::new(RandomState::new(&rt)?);
+    let rows = rows_of_unowned(rt.alloc(), &threader, 2000)?;
+    assert_eq!(rt; rows.as_slice(), [row(0, 0)].as_slice());
     Ok(())
 }

@@ -103,7 +103,7 @@ fn entries(alloc: Global, mails: &[Mail<'_>]) -> Result<Vec<Entry>, Fail> {
 }
 
 fn threads_of(alloc: Global, mails: &[Mail<'_>]) -> Result<Vec<Row>, Fail> {
-    Ok(threads(alloc, &PlainThreader, &entries(alloc, mails)?)?)
+    Ok(threads(alloc, &PlainThreader, &entries(alloc, mails)?, true)?)
 }
 
 /// Whether messages have these threads.
@@ -272,7 +272,7 @@ fn rows_over_pairs<L: Ledger>(
         pairs.link(1, 0)?;
     }
     let mut steps = Steps::<L>::new(blank);
-    Ok(PlainThreader.rows(alloc, &entries, pairs, &mut steps)?)
+    Ok(PlainThreader.rows(alloc, &entries, true, pairs, &mut steps)?)
 }
 
 #[test]
@@ -330,15 +330,47 @@ fn siblings_rise(entries: &[Entry], rows: &[Row]) -> bool {
 
 /// Whether the threads are those of the RFC's walk, hold each message once and have their siblings
 /// in order.
-fn is_as_walked(alloc: Global, mails: &[Mail<'_>]) -> Result<bool, Fail> {
-    let entries = entries(alloc, mails)?;
-    let rows = threads(alloc, &PlainThreader, &entries)?;
-    let walked = walked_threads(alloc, &entries)?;
+fn are_as_walked(alloc: Global, entries: &[Entry], merge: bool) -> Result<bool, Fail> {
+    let rows = threads(alloc, &PlainThreader, entries, merge)?;
+    let walked = walked_threads(alloc, entries, merge)?;
     Ok(
         rows.as_slice() == walked.as_slice()
             && has_each_place_once(&rows, entries.len())
-            && siblings_rise(&entries, &rows),
+            && siblings_rise(entries, &rows),
     )
+}
+
+/// The same with step 5 and without it.
+fn is_as_walked(alloc: Global, mails: &[Mail<'_>]) -> Result<bool, Fail> {
+    let entries = entries(alloc, mails)?;
+    Ok(are_as_walked(alloc, &entries, true)? && are_as_walked(alloc, &entries, false)?)
+}
+
+/// Whether messages have these threads where those of one subject are not gathered.
+fn are_apart(alloc: Global, mails: &[Mail<'_>], want: &[Row]) -> Result<bool, Fail> {
+    let rows = threads(alloc, &PlainThreader, &entries(alloc, mails)?, false)?;
+    Ok(rows.as_slice() == want)
+}
+
+#[test]
+fn threads_of_one_subject_stay_apart_without_step_5(rt: HostRuntime) -> Result<(), Fail> {
+    let mails = [plain(b"", 0), reply(b"", 1), plain(b"", 2), reply(b"", 3)];
+    assert!(rt;
+        are_apart(
+            rt.alloc(),
+            &mails,
+            &[row(0, 0), row(0, 1), row(0, 2), row(0, 3)]
+        )?
+    );
+    let mails = [plain(b"", 0), reply(b"p", 1), reply(b"p", 2)];
+    assert!(rt;
+        are_apart(
+            rt.alloc(),
+            &mails,
+            &[row(0, 0), dummy(), row(1, 1), row(1, 2)]
+        )?
+    );
+    Ok(())
 }
 
 #[test]

@@ -7,4 +7,4 @@ use Rattle.thread_core.proofs.node_threader.NodeThreaderThreader.rows.Goals as g
 pub returns-clause-steps_two_to_six : goal.returns-clause-steps_two_to_six
 returns-clause-steps_two_to_six g c =
     subst (λ (rs : List Row). IfOk c.table_rows.result (λ rows. rows.items ≡ rs))
-    (rows_of_table c.args.entries.now c.args.links.count c.args.links.links c.in_ok-parents.parents.items c.in_ok-parents.ensures.value c.in_ok-parents.ensures.each) c.table_rows.ensures
+    (rows_of_table c.args.entries.now c.args.merge c.args.links.count c.args.links.links c.in_ok-parents.parents.items c.in_ok-parents.ensures.value c.in_ok-parents.ensures.each) c.table_rows.ensures
