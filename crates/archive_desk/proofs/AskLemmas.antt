@@ -14,12 +14,12 @@ use Rattle.archive_machine.specs.Messages.{remembered}
 use Rattle.archive_machine.specs.declared.messages.Message.{Message}
 use Rattle.archive_store.specs.Replies.{refusal}
 use Rattle.archive_store.specs.Words.{standing_rank}
-use Rattle.archive_store.specs.Told.{Goes, GoesIfOpen, Asks}
+use Rattle.archive_store.specs.Told.{HoldsTables, GoesIn, GoesInIfOpen, AsksIn}
 use Rattle.archive_store.specs.declared.store.Store.{Store}
 use Rattle.archive_store.specs.declared.faults.StoreFault.{StoreFault}
 use Rattle.archive_store.specs.declared.faults.StoreFault.TheVariants.{BadName, BadText, ListExists, NoList, PersonExists, NoPerson, TokenTaken, NoMessage, AlreadyWithdrawn, NotWithdrawn, BadDays, ListFull, TooLarge, Memory, Store as Failed}
-use Rattle.archive_store.proofs.Joins.{goes_as}
-use Rattle.archive_results.specs.Access.{Ask, Refusal, no_list, no_person, is_shown, reader_standing, standing_ranked, view_of}
+use Rattle.archive_store.proofs.Joins.{goes_in_as}
+use Rattle.archive_results.specs.Access.{Ask, ReaderMarks, Refusal, no_list, no_person, is_shown, reader_marks, reader_standing, standing_ranked, view_of}
 use Rattle.archive_results.specs.Access.{Asked, asked_on, asked_of}
 use Rattle.archive_desk.specs.Asking.{standing_reason}
 use Rattle.archive_desk.specs.declared.faults.DeskFault.{DeskFault}
@@ -64,26 +64,26 @@ is_ask_fault Failed = tt
 
 module _ {S : Type 0} (g : Ghosts S) (old new : Store S) {A : Type 0} (refuses : Archive → Option Declined) (Says : Archive → A → Type 0) where
   -- a question that the store answers
-  pub desk_answered : (answer : A) → Goes g old new (λ a b. (b ≡ a) × (refuses a ≡ None) × Says a answer)
-      → Asks g old new {A = A} reason (Ok answer) (λ a. option_map reason_by (refuses a)) Says
+  pub desk_answered : (answer : A) → GoesIn g (HoldsTables g) old new (λ a b. (b ≡ a) × (refuses a ≡ None) × Says a answer)
+      → AsksIn g (HoldsTables g) old new {A = A} reason (Ok answer) (λ a. option_map reason_by (refuses a)) Says
   desk_answered answer it =
-      goes_as g old new (λ a b. (b ≡ a) × (refuses a ≡ None) × Says a answer) (λ a b. (b ≡ a) × (option_map reason_by (refuses a) ≡ None) × Says a answer)
+      goes_in_as g (HoldsTables g) old new (λ a b. (b ≡ a) × (refuses a ≡ None) × Says a answer) (λ a b. (b ≡ a) × (option_map reason_by (refuses a) ≡ None) × Says a answer)
       (λ a b h. (h.0, ap (option_map reason_by) h.1, h.2)) it
 
   -- one that it refuses
   pub desk_declined : (fault : StoreFault)
-      → MatchOption (refusal fault) (GoesIfOpen g old new (λ a b. b ≡ a)) (λ why. Goes g old new (λ a b. (b ≡ a) × (refuses a ≡ Some why)))
-      → Asks g old new {A = A} reason (Err (desk_fault fault)) (λ a. option_map reason_by (refuses a)) Says
+      → MatchOption (refusal fault) (GoesInIfOpen g (HoldsTables g) old new (λ a b. b ≡ a)) (λ why. GoesIn g (HoldsTables g) old new (λ a b. (b ≡ a) × (refuses a ≡ Some why)))
+      → AsksIn g (HoldsTables g) old new {A = A} reason (Err (desk_fault fault)) (λ a. option_map reason_by (refuses a)) Says
   desk_declined fault it =
-      subst (λ r. MatchOption r (GoesIfOpen g old new (λ a b. b ≡ a)) (λ why. Goes g old new (λ a b. (b ≡ a) × (option_map reason_by (refuses a) ≡ Some why))))
+      subst (λ r. MatchOption r (GoesInIfOpen g (HoldsTables g) old new (λ a b. b ≡ a)) (λ why. GoesIn g (HoldsTables g) old new (λ a b. (b ≡ a) × (option_map reason_by (refuses a) ≡ Some why))))
       (sym (reasoned fault)) (by_reason (refusal fault) it)
     where
       by_reason : (r : Option Declined)
-          → MatchOption r (GoesIfOpen g old new (λ a b. b ≡ a)) (λ why. Goes g old new (λ a b. (b ≡ a) × (refuses a ≡ Some why)))
-          → MatchOption (option_map reason_by r) (GoesIfOpen g old new (λ a b. b ≡ a)) (λ why. Goes g old new (λ a b. (b ≡ a) × (option_map reason_by (refuses a) ≡ Some why)))
+          → MatchOption r (GoesInIfOpen g (HoldsTables g) old new (λ a b. b ≡ a)) (λ why. GoesIn g (HoldsTables g) old new (λ a b. (b ≡ a) × (refuses a ≡ Some why)))
+          → MatchOption (option_map reason_by r) (GoesInIfOpen g (HoldsTables g) old new (λ a b. b ≡ a)) (λ why. GoesIn g (HoldsTables g) old new (λ a b. (b ≡ a) × (option_map reason_by (refuses a) ≡ Some why)))
       by_reason None same = same
       by_reason (Some why) same =
-          goes_as g old new (λ a b. (b ≡ a) × (refuses a ≡ Some why)) (λ a b. (b ≡ a) × (option_map reason_by (refuses a) ≡ Some (reason_by why)))
+          goes_in_as g (HoldsTables g) old new (λ a b. (b ≡ a) × (refuses a ≡ Some why)) (λ a b. (b ≡ a) × (option_map reason_by (refuses a) ≡ Some (reason_by why)))
           (λ a b h. (h.0, ap (option_map reason_by) h.1)) same
 
 -- ---- the list, and then the reader
@@ -122,50 +122,50 @@ by_reader_alone a ask there = by_reader ask.reader (has_list a ask.list) (list_t
 module _ {S : Type 0} (g : Ghosts S) (ask : Ask) where
   -- the list is not there, or memory or the database was at fault
   pub list_refused : (old new : Store S) {A B : Type 0} (fault : DeskFault) (Says : Archive → A → Type 0) (Says' : Archive → B → Type 0)
-      → Asks g old new {A = A} reason (Err fault) (λ a. option_map reason_by (list_refusal a ask.list)) Says
-      → Asks g old new {A = B} reason (Err fault) (λ a. ask_reason a ask) Says'
+      → AsksIn g (HoldsTables g) old new {A = A} reason (Err fault) (λ a. option_map reason_by (list_refusal a ask.list)) Says
+      → AsksIn g (HoldsTables g) old new {A = B} reason (Err fault) (λ a. ask_reason a ask) Says'
   list_refused old new fault Says Says' it = by_reason (reason fault) it
     where
       by_reason : (r : Option Reason)
-          → MatchOption r (GoesIfOpen g old new (λ a b. b ≡ a)) (λ why. Goes g old new (λ a b. (b ≡ a) × (option_map reason_by (list_refusal a ask.list) ≡ Some why)))
-          → MatchOption r (GoesIfOpen g old new (λ a b. b ≡ a)) (λ why. Goes g old new (λ a b. (b ≡ a) × (ask_reason a ask ≡ Some why)))
+          → MatchOption r (GoesInIfOpen g (HoldsTables g) old new (λ a b. b ≡ a)) (λ why. GoesIn g (HoldsTables g) old new (λ a b. (b ≡ a) × (option_map reason_by (list_refusal a ask.list) ≡ Some why)))
+          → MatchOption r (GoesInIfOpen g (HoldsTables g) old new (λ a b. b ≡ a)) (λ why. GoesIn g (HoldsTables g) old new (λ a b. (b ≡ a) × (ask_reason a ask ≡ Some why)))
       by_reason None same = same
       by_reason (Some why) same =
-          goes_as g old new (λ a b. (b ≡ a) × (option_map reason_by (list_refusal a ask.list) ≡ Some why)) (λ a b. (b ≡ a) × (ask_reason a ask ≡ Some why))
+          goes_in_as g (HoldsTables g) old new (λ a b. (b ≡ a) × (option_map reason_by (list_refusal a ask.list) ≡ Some why)) (λ a b. (b ≡ a) × (ask_reason a ask ≡ Some why))
           (λ a b h. (h.0, no_such_list a ask why h.1)) same
 
-  -- the reader's standing, after what was found of the list
-  pub standing_after : (old mid new : Store S) (First : Archive → Type 0) (result : Result Standing DeskFault)
-      → Goes g old mid (λ a b. (b ≡ a) × (option_map reason_by (list_refusal a ask.list) ≡ None) × First a)
-      → Asks g mid new reason result (λ a. standing_reason a ask) (λ a standing. standing ≡ reader_standing a ask)
-      → Asks g old new reason result (λ a. ask_reason a ask) (λ a standing. First a × (standing ≡ reader_standing a ask))
-  standing_after old mid new First result before asks =
-      calls_after g old mid new reason (λ a b. (b ≡ a) × (option_map reason_by (list_refusal a ask.list) ≡ None) × First a)
-      (λ a b standing. (b ≡ a) × (standing_reason a ask ≡ None) × (standing ≡ reader_standing a ask))
-      (λ a b standing. (b ≡ a) × (ask_reason a ask ≡ None) × (First a × (standing ≡ reader_standing a ask)))
+  -- the reader's marks, after what was found of the list
+  pub marks_after : (old mid new : Store S) (First : Archive → Type 0) (result : Result ReaderMarks DeskFault)
+      → GoesIn g (HoldsTables g) old mid (λ a b. (b ≡ a) × (option_map reason_by (list_refusal a ask.list) ≡ None) × First a)
+      → AsksIn g (HoldsTables g) mid new reason result (λ a. standing_reason a ask) (λ a reader. reader ≡ reader_marks a ask)
+      → AsksIn g (HoldsTables g) old new reason result (λ a. ask_reason a ask) (λ a reader. First a × (reader ≡ reader_marks a ask))
+  marks_after old mid new First result before asks =
+      calls_after g (HoldsTables g) old mid new reason (λ a b. (b ≡ a) × (option_map reason_by (list_refusal a ask.list) ≡ None) × First a)
+      (λ a b reader. (b ≡ a) × (standing_reason a ask ≡ None) × (reader ≡ reader_marks a ask))
+      (λ a b reader. (b ≡ a) × (ask_reason a ask ≡ None) × (First a × (reader ≡ reader_marks a ask)))
       (λ a b why. (b ≡ a) × (standing_reason a ask ≡ Some why)) (λ a b why. (b ≡ a) × (ask_reason a ask ≡ Some why)) (λ a b _. b ≡ a) (λ a b _. b ≡ a)
-      (λ a b c standing first it. (
+      (λ a b c reader first it. (
         it.0 ∙ first.0,
         by_reader_alone a ask first.1 ∙ subst (λ x. standing_reason x ask ≡ None) first.0 it.1,
-        (first.2, subst (λ x. standing ≡ reader_standing x ask) first.0 it.2),
+        (first.2, subst (λ x. reader ≡ reader_marks x ask) first.0 it.2),
       ))
       (λ a b c why first it. (it.0 ∙ first.0, by_reader_alone a ask first.1 ∙ subst (λ x. standing_reason x ask ≡ Some why) first.0 it.1))
       (λ a b c fault first it. it ∙ first.0) result before asks
 
-  -- the reader's standing, after the list was found
-  pub reader_after : (old mid new : Store S) (result : Result Standing DeskFault)
-      → Goes g old mid (λ a b. (b ≡ a) × (list_refusal a ask.list ≡ None) × (has_list a ask.list ≡ true))
-      → Asks g mid new reason result (λ a. standing_reason a ask) (λ a standing. standing ≡ reader_standing a ask)
-      → Asks g old new reason result (λ a. ask_reason a ask) (λ a standing. standing ≡ reader_standing a ask)
+  -- the reader's marks, after the list was found
+  pub reader_after : (old mid new : Store S) (result : Result ReaderMarks DeskFault)
+      → GoesIn g (HoldsTables g) old mid (λ a b. (b ≡ a) × (list_refusal a ask.list ≡ None) × (has_list a ask.list ≡ true))
+      → AsksIn g (HoldsTables g) mid new reason result (λ a. standing_reason a ask) (λ a reader. reader ≡ reader_marks a ask)
+      → AsksIn g (HoldsTables g) old new reason result (λ a. ask_reason a ask) (λ a reader. reader ≡ reader_marks a ask)
   reader_after old mid new result before asks =
-      calls_after g old mid new reason (λ a b. (b ≡ a) × (list_refusal a ask.list ≡ None) × (has_list a ask.list ≡ true))
-      (λ a b standing. (b ≡ a) × (standing_reason a ask ≡ None) × (standing ≡ reader_standing a ask))
-      (λ a b standing. (b ≡ a) × (ask_reason a ask ≡ None) × (standing ≡ reader_standing a ask))
+      calls_after g (HoldsTables g) old mid new reason (λ a b. (b ≡ a) × (list_refusal a ask.list ≡ None) × (has_list a ask.list ≡ true))
+      (λ a b reader. (b ≡ a) × (standing_reason a ask ≡ None) × (reader ≡ reader_marks a ask))
+      (λ a b reader. (b ≡ a) × (ask_reason a ask ≡ None) × (reader ≡ reader_marks a ask))
       (λ a b why. (b ≡ a) × (standing_reason a ask ≡ Some why)) (λ a b why. (b ≡ a) × (ask_reason a ask ≡ Some why)) (λ a b _. b ≡ a) (λ a b _. b ≡ a)
-      (λ a b c standing first it. (
+      (λ a b c reader first it. (
         it.0 ∙ first.0,
         by_reader_alone a ask (ap (option_map reason_by) first.1) ∙ subst (λ x. standing_reason x ask ≡ None) first.0 it.1,
-        subst (λ x. standing ≡ reader_standing x ask) first.0 it.2,
+        subst (λ x. reader ≡ reader_marks x ask) first.0 it.2,
       ))
       (λ a b c why first it. (
         it.0 ∙ first.0,
@@ -175,8 +175,8 @@ module _ {S : Type 0} (g : Ghosts S) (ask : Ask) where
 
   -- the store refuses a question on the list
   pub list_declined : (old new : Store S) {A B : Type 0} (fault : StoreFault) (Says : Archive → A → Type 0) (Says' : Archive → B → Type 0)
-      → MatchOption (refusal fault) (GoesIfOpen g old new (λ a b. b ≡ a)) (λ why. Goes g old new (λ a b. (b ≡ a) × (list_refusal a ask.list ≡ Some why)))
-      → Asks g old new {A = B} reason (Err (desk_fault fault)) (λ a. ask_reason a ask) Says'
+      → MatchOption (refusal fault) (GoesInIfOpen g (HoldsTables g) old new (λ a b. b ≡ a)) (λ why. GoesIn g (HoldsTables g) old new (λ a b. (b ≡ a) × (list_refusal a ask.list ≡ Some why)))
+      → AsksIn g (HoldsTables g) old new {A = B} reason (Err (desk_fault fault)) (λ a. ask_reason a ask) Says'
   list_declined old new fault Says Says' it =
       list_refused old new (desk_fault fault) Says Says' (desk_declined g old new (λ a. list_refusal a ask.list) Says fault it)
 
@@ -188,11 +188,22 @@ ranked Member = refl
 ranked Subscriber = refl
 ranked Moderator = refl
 
-pub standing_is : (a : Archive) (ask : Ask) (person : List ℕ) (standing : Standing) → ask.reader ≡ Some person
+standing_is : (a : Archive) (ask : Ask) (person : List ℕ) (standing : Standing) → ask.reader ≡ Some person
     → standing_rank standing ≡ standing_of a person ask.list ask.day → standing ≡ reader_standing a ask
 standing_is a ask person standing is rank =
     sym (ranked standing) ∙ ap standing_ranked rank
     ∙ ap (λ r. option_map_or (λ p. standing_ranked (standing_of a p ask.list ask.day)) r Public) (sym is)
+
+-- what is known of a reader of this standing
+abbrev pub marks_with : Standing → ReaderMarks
+marks_with standing = record { standing = standing }
+
+pub marks_are : (a : Archive) (ask : Ask) (person : List ℕ) (standing : Standing) → ask.reader ≡ Some person
+    → standing_rank standing ≡ standing_of a person ask.list ask.day → marks_with standing ≡ reader_marks a ask
+marks_are a ask person standing is rank = ap marks_with (standing_is a ask person standing is rank)
+
+pub marks_of_nobody : (a : Archive) (ask : Ask) → ask.reader ≡ None → marks_with Public ≡ reader_marks a ask
+marks_of_nobody a ask is = ap (λ r. marks_with (option_map_or (λ p. standing_ranked (standing_of a p ask.list ask.day)) r Public)) (sym is)
 
 -- ---- the view
 
@@ -205,47 +216,47 @@ map_kept f test (x ∷ xs) = by_test (test (f x)) (map_kept f test xs)
     by_test true h = ap (λ ys. f x ∷ ys) h
     by_test false h = h
 
-pub viewed : (a : Archive) (ask : Ask) (standing : Standing) (found kept : List Message) → map (remembered ask.list) found ≡ messages_in a ask.list
-    → standing ≡ reader_standing a ask → kept ≡ filter (λ m. is_shown ask standing (remembered ask.list m)) found
+pub viewed : (a : Archive) (ask : Ask) (reader : ReaderMarks) (found kept : List Message) → map (remembered ask.list) found ≡ messages_in a ask.list
+    → reader ≡ reader_marks a ask → kept ≡ filter (λ m. is_shown ask reader (remembered ask.list m)) found
     → map (remembered ask.list) kept ≡ view_of a ask
-viewed a ask standing found kept all is e = ap (map (remembered ask.list)) e ∙ map_kept (remembered ask.list) (is_shown ask standing) found
-    ∙ ap (filter (is_shown ask standing)) all ∙ ap (λ s. filter (is_shown ask s) (messages_in a ask.list)) is
+viewed a ask reader found kept all is e = ap (map (remembered ask.list)) e ∙ map_kept (remembered ask.list) (is_shown ask reader) found
+    ∙ ap (filter (is_shown ask reader)) all ∙ ap (λ s. filter (is_shown ask s) (messages_in a ask.list)) is
 
 -- ---- the calls
 
-module _ {S : Type 0} (g : Ghosts S) (old new : Store S) (ask : Ask) (standing : Standing) where
+module _ {S : Type 0} (g : Ghosts S) (old new : Store S) (ask : Ask) (reader : ReaderMarks) where
   pub view_found : (found kept : List Message)
-      → Goes g old new (λ a b. (b ≡ a) × (ask_reason a ask ≡ None) × ((map (remembered ask.list) found ≡ messages_in a ask.list) × (standing ≡ reader_standing a ask)))
-      → kept ≡ filter (λ m. is_shown ask standing (remembered ask.list m)) found
-      → Goes g old new (λ a b. (b ≡ a) × (ask_reason a ask ≡ None) × (map (remembered ask.list) kept ≡ view_of a ask))
+      → GoesIn g (HoldsTables g) old new (λ a b. (b ≡ a) × (ask_reason a ask ≡ None) × ((map (remembered ask.list) found ≡ messages_in a ask.list) × (reader ≡ reader_marks a ask)))
+      → kept ≡ filter (λ m. is_shown ask reader (remembered ask.list m)) found
+      → GoesIn g (HoldsTables g) old new (λ a b. (b ≡ a) × (ask_reason a ask ≡ None) × (map (remembered ask.list) kept ≡ view_of a ask))
   view_found found kept goes is =
-      goes_as g old new (λ a b. (b ≡ a) × (ask_reason a ask ≡ None) × ((map (remembered ask.list) found ≡ messages_in a ask.list) × (standing ≡ reader_standing a ask)))
+      goes_in_as g (HoldsTables g) old new (λ a b. (b ≡ a) × (ask_reason a ask ≡ None) × ((map (remembered ask.list) found ≡ messages_in a ask.list) × (reader ≡ reader_marks a ask)))
       (λ a b. (b ≡ a) × (ask_reason a ask ≡ None) × (map (remembered ask.list) kept ≡ view_of a ask))
-      (λ a b h. (h.0, h.1, viewed a ask standing found kept h.2.0 h.2.1 is)) goes
+      (λ a b h. (h.0, h.1, viewed a ask reader found kept h.2.0 h.2.1 is)) goes
 
 module _ {S : Type 0} (g : Ghosts S) (ask : Ask) where
   -- what is said of a message that the list holds
-  pub answer_told : (old new : Store S) (standing : Standing) (held : Option Remembered) (answer : Asked)
-      → Goes g old new (λ a b. (b ≡ a) × (standing_reason a ask ≡ None) × (standing ≡ reader_standing a ask)) → answer ≡ asked_on ask standing held
-      → Goes g old new (λ a b. (b ≡ a) × (standing_reason a ask ≡ None) × (answer ≡ asked_on ask (reader_standing a ask) held))
-  answer_told old new standing held answer goes is =
-      goes_as g old new (λ a b. (b ≡ a) × (standing_reason a ask ≡ None) × (standing ≡ reader_standing a ask))
-      (λ a b. (b ≡ a) × (standing_reason a ask ≡ None) × (answer ≡ asked_on ask (reader_standing a ask) held))
+  pub answer_told : (old new : Store S) (reader : ReaderMarks) (held : Option Remembered) (answer : Asked)
+      → GoesIn g (HoldsTables g) old new (λ a b. (b ≡ a) × (standing_reason a ask ≡ None) × (reader ≡ reader_marks a ask)) → answer ≡ asked_on ask reader held
+      → GoesIn g (HoldsTables g) old new (λ a b. (b ≡ a) × (standing_reason a ask ≡ None) × (answer ≡ asked_on ask (reader_marks a ask) held))
+  answer_told old new reader held answer goes is =
+      goes_in_as g (HoldsTables g) old new (λ a b. (b ≡ a) × (standing_reason a ask ≡ None) × (reader ≡ reader_marks a ask))
+      (λ a b. (b ≡ a) × (standing_reason a ask ≡ None) × (answer ≡ asked_on ask (reader_marks a ask) held))
       (λ a b h. (h.0, h.1, is ∙ ap (λ s. asked_on ask s held) h.2)) goes
 
   pub answer_after : (old mid new : Store S) {X : Type 0} (say : X → Asked) (key : List ℕ) (held : Option Remembered) (result : Result X DeskFault)
-      → Goes g old mid (λ a b. (b ≡ a) × (option_map reason_by (list_refusal a ask.list) ≡ None) × (held ≡ message_of a ask.list key))
-      → Asks g mid new reason result (λ a. standing_reason a ask) (λ a answer. say answer ≡ asked_on ask (reader_standing a ask) held)
-      → Asks g old new reason result (λ a. ask_reason a ask) (λ a answer. say answer ≡ asked_of a ask key)
+      → GoesIn g (HoldsTables g) old mid (λ a b. (b ≡ a) × (option_map reason_by (list_refusal a ask.list) ≡ None) × (held ≡ message_of a ask.list key))
+      → AsksIn g (HoldsTables g) mid new reason result (λ a. standing_reason a ask) (λ a answer. say answer ≡ asked_on ask (reader_marks a ask) held)
+      → AsksIn g (HoldsTables g) old new reason result (λ a. ask_reason a ask) (λ a answer. say answer ≡ asked_of a ask key)
   answer_after old mid new say key held result before asks =
-      calls_after g old mid new reason (λ a b. (b ≡ a) × (option_map reason_by (list_refusal a ask.list) ≡ None) × (held ≡ message_of a ask.list key))
-      (λ a b answer. (b ≡ a) × (standing_reason a ask ≡ None) × (say answer ≡ asked_on ask (reader_standing a ask) held))
+      calls_after g (HoldsTables g) old mid new reason (λ a b. (b ≡ a) × (option_map reason_by (list_refusal a ask.list) ≡ None) × (held ≡ message_of a ask.list key))
+      (λ a b answer. (b ≡ a) × (standing_reason a ask ≡ None) × (say answer ≡ asked_on ask (reader_marks a ask) held))
       (λ a b answer. (b ≡ a) × (ask_reason a ask ≡ None) × (say answer ≡ asked_of a ask key))
       (λ a b why. (b ≡ a) × (standing_reason a ask ≡ Some why)) (λ a b why. (b ≡ a) × (ask_reason a ask ≡ Some why)) (λ a b _. b ≡ a) (λ a b _. b ≡ a)
       (λ a b c answer first it. (
         it.0 ∙ first.0,
         by_reader_alone a ask first.1 ∙ subst (λ x. standing_reason x ask ≡ None) first.0 it.1,
-        subst (λ x. say answer ≡ asked_on ask (reader_standing x ask) held) first.0 it.2 ∙ ap (asked_on ask (reader_standing a ask)) first.2,
+        subst (λ x. say answer ≡ asked_on ask (reader_marks x ask) held) first.0 it.2 ∙ ap (asked_on ask (reader_marks a ask)) first.2,
       ))
       (λ a b c why first it. (it.0 ∙ first.0, by_reader_alone a ask first.1 ∙ subst (λ x. standing_reason x ask ≡ Some why) first.0 it.1))
       (λ a b c fault first it. it ∙ first.0) result before asks

@@ -1,5 +1,5 @@
 -- What an import says, from what its calls say.
-use Rattle.std.proofs.Common.{◌≡◌, refl, sym, ◌∙◌, subst, inl, inr, ℕ, Bool, true, false, not, cond, List, Option, Some, None, Result, Err}
+use Rattle.std.proofs.Common.{◌≡◌, ◌≤◌, refl, sym, ◌∙◌, subst, inl, inr, ℕ, Bool, true, false, not, cond, List, length, take, Option, Some, None, Result, Ok, Err}
 use Rattle.std.specs.Prelude.{MatchOption, option_map}
 use Rattle.sqlite.specs.Store.{Ghosts}
 use Rattle.mbox_core.specs.Division.{Item, Divides}
@@ -7,13 +7,23 @@ use Rattle.mbox_core.specs.declared.faults.MboxFault.TheVariants.{Preamble, Read
 use Rattle.archive_machine.specs.Records.{Archive}
 use Rattle.archive_machine.specs.Commands.{Refusal, no_list, bad_name, bad_text, list_exists, person_exists, no_person, token_taken, no_message, already_withdrawn, not_withdrawn, bad_days, list_full, too_large}
 use Rattle.archive_machine.specs.Questions.{has_list, list_refusal}
+use Rattle.sqlite.specs.Held.{state}
+use Rattle.sqlite.specs.State.{HasCleanDisk}
+use Rattle.archive_machine.specs.Runs.{taken}
+use Rattle.archive_tables.specs.Calls.{WasClean}
+use Rattle.archive_tables.specs.Tables.{IsKept, archive_of}
+use Rattle.archive_store.specs.Batches.{AddsAll, IsAfter, IsRefusedAt, tally_of as store_tally}
+use Rattle.archive_store.specs.Held.{held_of}
 use Rattle.archive_store.specs.Replies.{refusal}
-use Rattle.archive_store.specs.Told.{Goes, GoesIfOpen, Calls}
+use Rattle.archive_store.specs.declared.batches.AddStop.{AddStop}
+use Rattle.archive_store.specs.declared.batches.Report.{Report as Counts}
+use Rattle.archive_store.specs.Told.{HoldsTables, IsReady, archive_in, GoesIn, GoesInIfOpen, Goes, GoesIfOpen, Calls}
 use Rattle.archive_store.specs.declared.store.Store.{Store}
 use Rattle.archive_store.specs.declared.faults.StoreFault.{StoreFault}
-use Rattle.archive_store.proofs.Joins.{goes_as, goes_as_if_open}
+use Rattle.archive_store.proofs.Joins.{goes_as, goes_as_if_open, ready_with, sound_too, sound_too_if_open}
+use Rattle.archive_store.proofs.RightLemmas.{taken_right}
 use Rattle.archive_desk.proofs.CallLemmas.{calls_after}
-use Rattle.archive_desk.specs.Importing.{Cause, no_mbox, not_taken, stop_reason, IsCutStop, HasAdded, IsImported, IsRefusedAdd, IsRefusedImport, IsBrokenAdd, IsBrokenImport}
+use Rattle.archive_desk.specs.Importing.{Cause, no_mbox, not_taken, stop_reason, IsCutStop, tally_of, HasAdded, IsImported, IsRefusedAdd, IsRefusedImport, IsBrokenAdd, IsBrokenImport}
 use Rattle.archive_desk.specs.declared.importing.Report.{Report}
 use Rattle.archive_desk.specs.declared.importing.ImportStop.{ImportStop}
 use Rattle.archive_desk.specs.declared.importing.ImportFault.{ImportFault}
@@ -45,34 +55,89 @@ module _ {S : Type 0} (g : Ghosts S) (old new : Store S) (list text : List ℕ) 
   Stops a b stop = IsBrokenImport list text a b stop.done stop.fault
 
   pub list_not_found : (fault : StoreFault)
-      → MatchOption (refusal fault) (GoesIfOpen g old new (λ a b. b ≡ a)) (λ why. Goes g old new (λ a b. (b ≡ a) × (list_refusal a list ≡ Some why)))
+      → MatchOption (refusal fault) (GoesInIfOpen g (HoldsTables g) old new (λ a b. b ≡ a)) (λ why. GoesIn g (HoldsTables g) old new (λ a b. (b ≡ a) × (list_refusal a list ≡ Some why)))
       → Calls g old new {A = Report} stop_reason (Err (record { done = 0; fault = Stored fault })) Says Refuses Stops
   list_not_found fault asked = by_reason (refusal fault) asked
     where
       by_reason : (r : Option Refusal)
-          → MatchOption r (GoesIfOpen g old new (λ a b. b ≡ a)) (λ why. Goes g old new (λ a b. (b ≡ a) × (list_refusal a list ≡ Some why)))
+          → MatchOption r (GoesInIfOpen g (HoldsTables g) old new (λ a b. b ≡ a)) (λ why. GoesIn g (HoldsTables g) old new (λ a b. (b ≡ a) × (list_refusal a list ≡ Some why)))
           → MatchOption (option_map (λ (cause : Cause). (0, cause)) (option_map not_taken r)) (GoesIfOpen g old new (λ a b. Stops a b (record { done = 0; fault = Stored fault })))
           (λ why. Goes g old new (λ a b. Refuses a b why))
       by_reason None it =
-          goes_as_if_open g old new (λ a b. b ≡ a) (λ a b. Stops a b (record { done = 0; fault = Stored fault })) (λ a b same. inl (refl, same)) it
+          goes_as_if_open g old new (λ a b. b ≡ a) (λ a b. Stops a b (record { done = 0; fault = Stored fault })) (λ a b same. inl (refl, same))
+          (sound_too_if_open g old new (λ a b. b ≡ a) (λ a b same. same) it)
       by_reason (Some why) it =
-          goes_as g old new (λ a b. (b ≡ a) × (list_refusal a list ≡ Some why)) (λ a b. Refuses a b (0, not_taken why)) (λ a b h. refused_list list text a b why h.0 h.1) it
+          goes_as g old new (λ a b. (b ≡ a) × (list_refusal a list ≡ Some why)) (λ a b. Refuses a b (0, not_taken why)) (λ a b h. refused_list list text a b why h.0 h.1)
+          (sound_too g old new (λ a b. (b ≡ a) × (list_refusal a list ≡ Some why)) (λ a b h. h.0) it)
 
   -- ---- the file is not cut
 
-  pub not_cut : (fault : ImportFault) → IsCutStop text fault
+  -- the list is there
+  pub there : GoesIn g (HoldsTables g) old new (λ a b. (b ≡ a) × (list_refusal a list ≡ None) × (has_list a list ≡ true))
       → Goes g old new (λ a b. (b ≡ a) × (list_refusal a list ≡ None) × (has_list a list ≡ true))
+  there before = sound_too g old new (λ a b. (b ≡ a) × (list_refusal a list ≡ None) × (has_list a list ≡ true)) (λ a b h. h.0) before
+
+  pub not_cut : (fault : ImportFault) → IsCutStop text fault
+      → GoesIn g (HoldsTables g) old new (λ a b. (b ≡ a) × (list_refusal a list ≡ None) × (has_list a list ≡ true))
       → Calls g old new {A = Report} stop_reason (Err (record { done = 0; fault = fault })) Says Refuses Stops
   not_cut (Mbox (Preamble offset)) why before =
       goes_as g old new (λ a b. (b ≡ a) × (list_refusal a list ≡ None) × (has_list a list ≡ true)) (λ a b. Refuses a b (0, no_mbox offset))
-      (λ a b h. (refl, h.0, h.2, why)) before
+      (λ a b h. (refl, h.0, h.2, why)) (there before)
   not_cut (Mbox Read) why before = absurd why
   not_cut (Mbox Memory) why before = absurd why
   not_cut (Mbox Failed) why before = absurd why
   not_cut (Stored fault) why before = subst (λ f. Calls g old new {A = Report} stop_reason (Err (record { done = 0; fault = Stored f })) Says Refuses Stops) (sym why)
-      (before.0, (λ returned ready up. let it = before.1 returned ready in (it.0, inl (refl, it.1.0))))
+      ((there before).0, (λ returned ready up. let it = (there before).1 returned ready in (it.0, inl (refl, it.1.0))))
 
--- ---- its messages are added
+-- ---- its messages are added, one after the other
+
+module _ {S : Type 0} (g : Ghosts S) (old new : Store S) (list : List ℕ) (items : List Item) (was : WasClean g (held_of old) (held_of new)) where
+  -- all of them
+  pub added_all : (counts : Counts) (report : Report) → tally_of report ≡ store_tally counts → AddsAll g (held_of old) (held_of new) (Ok counts) list items
+      → Goes g old new (λ a b. HasAdded list items a b report)
+  added_all counts report same adds = (
+    was,
+    λ returned ready.
+        let it = adds returned ready.held in
+        let a = archive_in g old in (
+          ready_with g new (taken a list items).archive it.0 it.1 (taken_right a list items ready.filed_right),
+          record { archive_is = it.1; told = same ∙ it.2 },
+        ),
+  )
+
+  -- the first of them
+  module _ (stop : AddStop) (bound : stop.done ≤ length items) where
+    abbrev first : List Item
+    first = take stop.done items
+
+    pub added_first : AddsAll g (held_of old) (held_of new) (Err stop) list items
+        → Calls g old new {A = Report} stop_reason (Err (record { done = stop.done; fault = Stored stop.fault })) (λ a b report. HasAdded list items a b report)
+        (λ a b why. IsRefusedAdd list items a b why.0 why.1) (λ a b stop. IsBrokenAdd list items a b stop.done stop.fault)
+    added_first adds = by_reason (refusal stop.fault) adds
+      where
+        by_reason : (r : Option Refusal)
+            → (HasCleanDisk (state g (held_of new)) → IsKept (state g (held_of old)) → MatchOption r (IsAfter (state g (held_of new)) (archive_in g old) list first)
+            (λ why. IsKept (state g (held_of new)) × (archive_of (state g (held_of new)) ≡ (taken (archive_in g old) list first).archive)
+            × IsRefusedAt (archive_in g old) list items stop.done why))
+            → MatchOption {T = ℕ × Cause} (option_map (λ (cause : Cause). (stop.done, cause)) (option_map not_taken r))
+            (GoesIfOpen g old new (λ a b. IsBrokenAdd list items a b stop.done (Stored stop.fault)))
+            (λ why. Goes g old new (λ a b. IsRefusedAdd list items a b why.0 why.1))
+        by_reason None it = (
+          was,
+          λ returned ready up.
+              let here = it returned ready.held up in
+              (ready_with g new (taken (archive_in g old) list first).archive here.0 here.1 (taken_right (archive_in g old) list first ready.filed_right), (bound, here.1)),
+        )
+        by_reason (Some why) it = (
+          was,
+          λ returned ready.
+              let here = it returned ready.held in (
+                ready_with g new (taken (archive_in g old) list first).archive here.0 here.1 (taken_right (archive_in g old) list first ready.filed_right),
+                ((bound, here.1), here.2),
+              ),
+        )
+
+-- ---- the messages of a file
 
 pub refused_add : (list text : List ℕ) (items : List Item) (a b c : Archive) (done : ℕ) (cause : Cause) → Divides text items
     → (b ≡ a) × (list_refusal a list ≡ None) × (has_list a list ≡ true) → IsRefusedAdd list items b c done cause → IsRefusedImport list text a c done cause
@@ -108,16 +173,16 @@ completed list text items a b c report divides before added =
 
 module _ {S : Type 0} (g : Ghosts S) (old mid new : Store S) (list text : List ℕ) (items : List Item) (divides : Divides text items) where
   -- the list is there, the file is cut, and its messages are added
-  pub import_after : (result : Result Report ImportStop) → Goes g old mid (λ a b. (b ≡ a) × (list_refusal a list ≡ None) × (has_list a list ≡ true))
+  pub import_after : (result : Result Report ImportStop) → GoesIn g (HoldsTables g) old mid (λ a b. (b ≡ a) × (list_refusal a list ≡ None) × (has_list a list ≡ true))
       → Calls g mid new stop_reason result (λ a b report. HasAdded list items a b report) (λ a b why. IsRefusedAdd list items a b why.0 why.1)
       (λ a b stop. IsBrokenAdd list items a b stop.done stop.fault)
       → Calls g old new stop_reason result (λ a b report. IsImported list text a b report) (λ a b why. IsRefusedImport list text a b why.0 why.1)
       (λ a b stop. IsBrokenImport list text a b stop.done stop.fault)
   import_after result before call =
-      calls_after g old mid new stop_reason (λ a b. (b ≡ a) × (list_refusal a list ≡ None) × (has_list a list ≡ true))
+      calls_after g (IsReady g) old mid new stop_reason (λ a b. (b ≡ a) × (list_refusal a list ≡ None) × (has_list a list ≡ true))
       (λ a b report. HasAdded list items a b report) (λ a b report. IsImported list text a b report)
       (λ a b why. IsRefusedAdd list items a b why.0 why.1) (λ a b why. IsRefusedImport list text a b why.0 why.1)
       (λ a b stop. IsBrokenAdd list items a b stop.done stop.fault) (λ a b stop. IsBrokenImport list text a b stop.done stop.fault)
       (λ a b c report first it. completed list text items a b c report divides first it)
       (λ a b c why first it. refused_add list text items a b c why.0 why.1 divides first it)
-      (λ a b c stop first it. broken_add list text items a b c stop.done stop.fault divides first.0 it) result before call
+      (λ a b c stop first it. broken_add list text items a b c stop.done stop.fault divides first.0 it) result (there g old mid list text before) call

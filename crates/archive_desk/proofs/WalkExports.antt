@@ -4,21 +4,22 @@ use Rattle.std.specs.Prelude.{⊤, MatchOption}
 use Rattle.std.proofs.lemmas.List.{append-nil}
 use Rattle.sqlite.specs.Store.{Ghosts}
 use Rattle.mbox_core.specs.Written.{IsCutShort}
-use Rattle.policy_core.specs.declared.access.Standing.{Standing}
 use Rattle.archive_machine.specs.Records.{Archive}
 use Rattle.archive_machine.specs.Questions.{list_refusal, messages_in}
+use Rattle.archive_machine.specs.Sound.{IsFiledRight}
 use Rattle.archive_store.specs.Replies.{refusal}
-use Rattle.archive_store.specs.Told.{Goes, GoesIfOpen, Calls, HasReturned, HadReturned, IsReady, IsOpen, archive_in}
+use Rattle.archive_store.specs.Told.{GoesIn, GoesInIfOpen, Calls, HasReturned, HadReturned, HoldsTables, IsReady, IsOpen, archive_in}
 use Rattle.archive_store.specs.Walking.{Walk, Begins}
 use Rattle.archive_store.specs.declared.store.Store.{Store}
 use Rattle.archive_store.specs.declared.faults.StoreFault.{StoreFault}
-use Rattle.archive_results.specs.Access.{Ask, reader_standing}
+use Rattle.archive_results.specs.Access.{Ask, ReaderMarks, reader_marks}
 use Rattle.archive_desk.specs.Exporting.{Exports, ExportsPart, HasBegun, IsExportRefused, IsExportStop, exported, shown_text, stop_reason}
 use Rattle.archive_desk.specs.Faults.{ask_reason, desk_fault, reason, IsAskFault}
-use Rattle.archive_desk.specs.Walking.{IsWalkStop, WritesWalk}
+use Rattle.archive_desk.specs.Walking.{IsWalkStop, StandsOn, WritesWalk}
 use Rattle.archive_desk.specs.declared.faults.DeskFault.{DeskFault}
 use Rattle.archive_desk.specs.declared.faults.DeskFault.TheVariants.{NoList, NoPerson, NotInView, Store as Stored, Memory, Write}
-use Rattle.archive_desk.proofs.CallLemmas.{calls_after}
+use Rattle.archive_store.proofs.Joins.{ready_with}
+use Rattle.archive_desk.proofs.CallLemmas.{calls_after, unanswered_too}
 use Rattle.archive_desk.proofs.AskLemmas.{list_declined}
 use Rattle.archive_desk.proofs.ExportLemmas.{not_viewed}
 
@@ -29,34 +30,34 @@ pub none_cut : (told text : List ℕ) → IsCutShort told told text 0
 none_cut told text = (omega (arith), sym (append-nil told))
 
 module _ {S : Type 0} (g : Ghosts S) (old mid : Store S) (ask : Ask) (First : Archive → Type 0)
-    (found : Goes g old mid (λ a b. (b ≡ a) × (ask_reason a ask ≡ None) × First a)) where
+    (found : GoesIn g (HoldsTables g) old mid (λ a b. (b ≡ a) × (ask_reason a ask ≡ None) × First a)) where
   -- it does not begin
   pub not_begun : (last : Store S) (before after : List ℕ) (text : Archive → List ℕ) (fault : StoreFault)
-      → MatchOption (refusal fault) (GoesIfOpen g mid last (λ a b. b ≡ a)) (λ why. Goes g mid last (λ a b. (b ≡ a) × (list_refusal a ask.list ≡ Some why)))
+      → MatchOption (refusal fault) (GoesInIfOpen g (HoldsTables g) mid last (λ a b. b ≡ a)) (λ why. GoesIn g (HoldsTables g) mid last (λ a b. (b ≡ a) × (list_refusal a ask.list ≡ Some why)))
       → Calls g old last {A = ℕ} stop_reason (Err (record { written = 0; fault = desk_fault fault })) (λ a b _. b ≡ a)
       (λ a b why. (b ≡ a) × IsExportRefused (ask_reason a ask) before after (text a) why.0 why.1) (λ a b _. b ≡ a)
   not_begun last before after text fault it =
       let Nothing : Archive → ℕ → Type 0 = λ a n. ⊤ in
       not_viewed g old last ask before after text (desk_fault fault)
-      (calls_after g old mid last reason (λ a b. (b ≡ a) × (ask_reason a ask ≡ None) × First a)
+      (unanswered_too g old last reason (λ a. ask_reason a ask) (desk_fault fault) (calls_after g (HoldsTables g) old mid last reason (λ a b. (b ≡ a) × (ask_reason a ask ≡ None) × First a)
       (λ a b n. (b ≡ a) × (ask_reason a ask ≡ None) × Nothing a n) (λ a b n. (b ≡ a) × (ask_reason a ask ≡ None) × Nothing a n)
       (λ a b why. (b ≡ a) × (ask_reason a ask ≡ Some why)) (λ a b why. (b ≡ a) × (ask_reason a ask ≡ Some why)) (λ a b _. b ≡ a) (λ a b _. b ≡ a)
       (λ a b c n first h. (h.0 ∙ first.0, first.1, tt))
       (λ a b c why first h. (h.0 ∙ first.0, subst (λ x. ask_reason x ask ≡ Some why) first.0 h.1))
-      (λ a b c f first h. h ∙ first.0) (Err (desk_fault fault)) found (list_declined g ask mid last fault Nothing Nothing it))
+      (λ a b c f first h. h ∙ first.0) (Err (desk_fault fault)) found (list_declined g ask mid last fault Nothing Nothing it)))
 
-module _ {S : Type 0} (g : Ghosts S) (old mid last : Store S) (walk new : Walk S) (ask : Ask) (standing : Standing) (head before after : List ℕ)
+module _ {S : Type 0} (g : Ghosts S) (old mid last : Store S) (walk new : Walk S) (ask : Ask) (reader : ReaderMarks) (head before after : List ℕ)
     (is : last ≡ new.store.now)
-    (found : Goes g old mid (λ a b. (b ≡ a) × (ask_reason a ask ≡ None) × (standing ≡ reader_standing a ask)))
+    (found : GoesIn g (HoldsTables g) old mid (λ a b. (b ≡ a) × (ask_reason a ask ≡ None) × (reader ≡ reader_marks a ask)))
     (begun : Begins g mid ask.list walk) (was : HadReturned g walk.store.now new.store.now) where
   abbrev text : Archive → List ℕ
   text a = head ++ exported a ask
 
   abbrev seen : Archive → List ℕ
-  seen a = head ++ shown_text ask standing (messages_in a ask.list)
+  seen a = head ++ shown_text ask reader (messages_in a ask.list)
 
   -- the text of the walk is the export's
-  texts : (a b : Archive) → b ≡ a → standing ≡ reader_standing a ask → seen b ≡ text a
+  texts : (a b : Archive) → b ≡ a → reader ≡ reader_marks a ask → seen b ≡ text a
   texts a b same ranked = ap seen same ∙ ap (λ s. head ++ shown_text ask s (messages_in a ask.list)) ranked
 
   at_walk : HasReturned g last → HasReturned g walk.store.now
@@ -65,17 +66,21 @@ module _ {S : Type 0} (g : Ghosts S) (old mid last : Store S) (walk new : Walk S
   at_start : HasReturned g last → HasReturned g mid
   at_start returned = begun.0 (at_walk returned)
 
+  -- the store was ready, and nothing of the archive changed
+  ready_last : StandsOn g (archive_in g mid) new → archive_in g mid ≡ archive_in g old → IsFiledRight (archive_in g old) → IsReady g last
+  ready_last stands same right = ready_with g last (archive_in g old) (subst (HoldsTables g) (sym is) stands.0) (ap (archive_in g) is ∙ stands.1 ∙ same) right
+
   -- all of it is out
-  pub walk_exported : (count : ℕ) → WritesWalk g walk new ask standing head before after (Ok count)
+  pub walk_exported : (count : ℕ) → WritesWalk g walk new ask reader head before after (Ok count)
       → Exports g old last (Ok count) ask before after (λ a. head ++ exported a ask)
   walk_exported count writes = (
     (λ returned. found.0 (at_start returned)),
     (λ returned ready.
-        let first = found.1 (at_start returned) ready in
+        let first = found.1 (at_start returned) ready.held in
         let walks = begun.1 (at_walk returned) first.0 in
-        let it = writes (subst (HasReturned g) is returned) (archive_in g mid) walks.1 in
+        let it = writes (subst (HasReturned g) is returned) (messages_in (archive_in g mid) ask.list) (archive_in g mid) walks.1 in
         let same = texts (archive_in g old) (archive_in g mid) first.1.0 first.1.2 in (
-          subst (IsReady g) (sym is) it.0.0,
+          ready_last it.0 first.1.0 ready.filed_right,
           (
             ap (archive_in g) is ∙ it.0.1 ∙ first.1.0,
             first.1.1,
@@ -87,17 +92,17 @@ module _ {S : Type 0} (g : Ghosts S) (old mid last : Store S) (walk new : Walk S
 
   module _ (written failed fails : ℕ) where
     -- exactly the first bytes of it are
-    pub walk_part : (fault : DeskFault) → WritesWalk g walk new ask standing head before after (Err (record { written = written; fault = fault }))
+    pub walk_part : (fault : DeskFault) → WritesWalk g walk new ask reader head before after (Err (record { written = written; fault = fault }))
         → ExportsPart g old last before after written (λ a. head ++ exported a ask)
     walk_part fault writes = λ returned ready fits.
-        let first = found.1 (at_start returned) ready in
+        let first = found.1 (at_start returned) ready.held in
         let walks = begun.1 (at_walk returned) first.0 in
-        let it = writes (subst (HasReturned g) is returned) (archive_in g mid) walks.1 in
+        let it = writes (subst (HasReturned g) is returned) (messages_in (archive_in g mid) ask.list) (archive_in g mid) walks.1 in
         subst (λ x. IsCutShort before after x written) (texts (archive_in g old) (archive_in g mid) first.1.0 first.1.2) (it.1 fits)
 
     -- and the archive stays
     pub walk_unexported : (fault : DeskFault) → IsWalkStop before after failed fails written fault
-        → WritesWalk g walk new ask standing head before after (Err (record { written = written; fault = fault }))
+        → WritesWalk g walk new ask reader head before after (Err (record { written = written; fault = fault }))
         → Exports g old last (Err (record { written = written; fault = fault })) ask before after (λ a. head ++ exported a ask)
     walk_unexported NoList why writes = absurd why
     walk_unexported NoPerson why writes = absurd why
@@ -106,26 +111,26 @@ module _ {S : Type 0} (g : Ghosts S) (old mid last : Store S) (walk new : Walk S
     walk_unexported Write why writes = (
       (λ returned. found.0 (at_start returned)),
       (λ returned ready.
-          let first = found.1 (at_start returned) ready in
+          let first = found.1 (at_start returned) ready.held in
           let walks = begun.1 (at_walk returned) first.0 in
-          let it = writes (subst (HasReturned g) is returned) (archive_in g mid) walks.1 in (
-            subst (IsReady g) (sym is) it.0.0,
+          let it = writes (subst (HasReturned g) is returned) (messages_in (archive_in g mid) ask.list) (archive_in g mid) walks.1 in (
+            ready_last it.0 first.1.0 ready.filed_right,
             (ap (archive_in g) is ∙ it.0.1 ∙ first.1.0, (first.1.1, walk_part Write writes returned ready)),
           )),
     )
     walk_unexported (Stored fault) why writes = rw why.0 (
       (λ returned. found.0 (at_start returned)),
       (λ returned ready up.
-          let first = found.1 (at_start returned) ready in
+          let first = found.1 (at_start returned) ready.held in
           let walks = begun.1 (at_walk returned) first.0 in
-          let it = (rw why.0 at writes) (subst (HasReturned g) is returned) (archive_in g mid) walks.1 in
+          let it = (rw why.0 at writes) (subst (HasReturned g) is returned) (messages_in (archive_in g mid) ask.list) (archive_in g mid) walks.1 in
           let there = it.0 (subst (IsOpen g) is up) in
-          (subst (IsReady g) (sym is) there.0, ap (archive_in g) is ∙ there.1 ∙ first.1.0)),
+          (ready_last there first.1.0 ready.filed_right, ap (archive_in g) is ∙ there.1 ∙ first.1.0)),
     )
 
     -- it began, so nothing was refused
     pub walk_begun : HasBegun g old last ask written
-    walk_begun = λ returned ready some. (found.1 (at_start returned) ready).1.1
+    walk_begun = λ returned ready some. (found.1 (at_start returned) ready.held).1.1
 
     pub walk_cause : (fault : DeskFault) → IsWalkStop before after failed fails written fault → IsExportStop before after failed fails written fault
     walk_cause NoList why = absurd why

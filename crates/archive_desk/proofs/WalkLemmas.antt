@@ -5,14 +5,12 @@ use Rattle.std.proofs.Math.Seq.{take-append-add}
 use Rattle.sqlite.specs.Store.{Ghosts}
 use Rattle.mbox_core.specs.Division.{Item}
 use Rattle.mbox_core.specs.Written.{IsCutShort, written, written_item}
-use Rattle.policy_core.specs.declared.access.Standing.{Standing}
 use Rattle.archive_machine.specs.Records.{Archive, Message as Remembered}
-use Rattle.archive_machine.specs.Questions.{messages_in}
 use Rattle.archive_machine.specs.Messages.{remembered}
 use Rattle.archive_machine.specs.declared.messages.Message.{Message}
 use Rattle.archive_store.specs.Told.{HasReturned, IsOpen}
-use Rattle.archive_store.specs.Walking.{Walk, Walks}
-use Rattle.archive_results.specs.Access.{Ask, is_shown}
+use Rattle.archive_store.specs.Walking.{Walk, WalksOver}
+use Rattle.archive_results.specs.Access.{Ask, ReaderMarks, is_shown}
 use Rattle.archive_results.specs.Shown.{shown_of}
 use Rattle.archive_desk.specs.Exporting.{shown_text}
 use Rattle.archive_desk.specs.Faults.{reason}
@@ -22,32 +20,32 @@ use Rattle.archive_desk.specs.declared.faults.DeskFault.TheVariants.{Write}
 
 -- ---- the text
 
-module _ (ask : Ask) (standing : Standing) where
+module _ (ask : Ask) (reader : ReaderMarks) where
   abbrev text_of : List Remembered → List ℕ
   text_of messages = written (map (λ s. s.item) (map shown_of messages))
 
   -- messages one after the other
-  pub shown_joined : (xs ys : List Remembered) → shown_text ask standing (xs ++ ys) ≡ shown_text ask standing xs ++ shown_text ask standing ys
+  pub shown_joined : (xs ys : List Remembered) → shown_text ask reader (xs ++ ys) ≡ shown_text ask reader xs ++ shown_text ask reader ys
   shown_joined [] ys = refl
-  shown_joined (x ∷ xs) ys = by_test (is_shown ask standing x) (shown_joined xs ys)
+  shown_joined (x ∷ xs) ys = by_test (is_shown ask reader x) (shown_joined xs ys)
     where
-      by_test : (t : Bool) → text_of (filter (is_shown ask standing) (xs ++ ys)) ≡ text_of (filter (is_shown ask standing) xs) ++ text_of (filter (is_shown ask standing) ys)
-          → text_of (cond t (x ∷ filter (is_shown ask standing) (xs ++ ys)) (filter (is_shown ask standing) (xs ++ ys))) ≡ text_of (cond t (x ∷ filter (is_shown ask standing) xs) (filter (is_shown ask standing) xs)) ++ text_of (filter (is_shown ask standing) ys)
+      by_test : (t : Bool) → text_of (filter (is_shown ask reader) (xs ++ ys)) ≡ text_of (filter (is_shown ask reader) xs) ++ text_of (filter (is_shown ask reader) ys)
+          → text_of (cond t (x ∷ filter (is_shown ask reader) (xs ++ ys)) (filter (is_shown ask reader) (xs ++ ys))) ≡ text_of (cond t (x ∷ filter (is_shown ask reader) xs) (filter (is_shown ask reader) xs)) ++ text_of (filter (is_shown ask reader) ys)
       by_test true h = ap (λ rest. written_item (shown_of x).item ++ rest) h
-          ∙ sym (append_assoc (written_item (shown_of x).item) (text_of (filter (is_shown ask standing) xs)) (text_of (filter (is_shown ask standing) ys)))
+          ∙ sym (append_assoc (written_item (shown_of x).item) (text_of (filter (is_shown ask reader) xs)) (text_of (filter (is_shown ask reader) ys)))
       by_test false h = h
 
   -- one that is shown, and one that is not
-  pub one_shown : (list : List ℕ) (m : Message) (item : Item) → true ≡ is_shown ask standing (remembered list m) → item ≡ m.item
-      → shown_text ask standing (remembered list m ∷ []) ≡ written_item item
-  one_shown list m item is same = by_test (is_shown ask standing (remembered list m)) is
+  pub one_shown : (list : List ℕ) (m : Message) (item : Item) → true ≡ is_shown ask reader (remembered list m) → item ≡ m.item
+      → shown_text ask reader (remembered list m ∷ []) ≡ written_item item
+  one_shown list m item is same = by_test (is_shown ask reader (remembered list m)) is
     where
       by_test : (t : Bool) → true ≡ t → text_of (cond t (remembered list m ∷ []) []) ≡ written_item item
       by_test true e = append-nil (written_item m.item) ∙ ap written_item (sym same)
       by_test false e = absurd (cc)
 
-  pub none_shown : (list : List ℕ) (m : Message) → false ≡ is_shown ask standing (remembered list m) → shown_text ask standing (remembered list m ∷ []) ≡ []
-  none_shown list m is = by_test (is_shown ask standing (remembered list m)) is
+  pub none_shown : (list : List ℕ) (m : Message) → false ≡ is_shown ask reader (remembered list m) → shown_text ask reader (remembered list m ∷ []) ≡ []
+  none_shown list m is = by_test (is_shown ask reader (remembered list m)) is
     where
       by_test : (t : Bool) → false ≡ t → text_of (cond t (remembered list m ∷ []) []) ≡ []
       by_test true e = absurd (cc)
@@ -73,15 +71,15 @@ cut_there before after part rest all out whole =
     let here = cut_behind before after after part [] rest all 0 out whole none in
     subst (λ n. IsCutShort before after all n) (let e : length part + 0 ≡ length part = omega (arith) in e) here
 
-module _ {S : Type 0} (g : Ghosts S) (ask : Ask) (standing : Standing) where
+module _ {S : Type 0} (g : Ghosts S) (ask : Ask) (reader : ReaderMarks) where
   -- What was written is the text of the messages that the walk gave, as far as the policy shows them, and it was counted. The
   -- walk has those left that are not written.
   pub record RowsSoFar (old now : Walk S) (before after : List ℕ) (counted counts : ℕ) : Type 0 where
     pub part : List ℕ
     pub out : after ≡ before ++ part
     pub counts_is : counts ≡ min (counted + length part) 18446744073709551615
-    pub walked : HasReturned g now.store.now → (a : Archive) → Walks g ask.list a [] old
-        → (given : List Remembered) × Walks g ask.list a given now × (part ≡ shown_text ask standing given)
+    pub walked : HasReturned g now.store.now → (all : List Remembered) (a : Archive) → WalksOver g ask.list all a [] old
+        → (given : List Remembered) × WalksOver g ask.list all a given now × (part ≡ shown_text ask reader given)
 
   -- nothing yet
   pub rows_none : (walk : Walk S) (told : List ℕ) (counted : ℕ) → counted < 2 ^ 64 → RowsSoFar walk walk told told counted counted
@@ -89,16 +87,16 @@ module _ {S : Type 0} (g : Ghosts S) (ask : Ask) (standing : Standing) where
     part = [];
     out = sym (append-nil told);
     counts_is = omega (arith, fits);
-    walked = λ returned a w. ([], w, refl);
+    walked = λ returned all a w. ([], w, refl);
   }
 
   module _ (old mid new : Walk S) (before middle : List ℕ) (counted count : ℕ) (s : RowsSoFar old mid before middle counted count)
       (was : HasReturned g new.store.now → HasReturned g mid.store.now) where
     module _ (m : Message)
-        (gives : HasReturned g new.store.now → (a : Archive) (given : List Remembered) → Walks g ask.list a given mid
-        → Walks g ask.list a (given ++ remembered ask.list m ∷ []) new) where
+        (gives : HasReturned g new.store.now → (all : List Remembered) (a : Archive) (given : List Remembered) → WalksOver g ask.list all a given mid
+        → WalksOver g ask.list all a (given ++ remembered ask.list m ∷ []) new) where
       abbrev text : List ℕ
-      text = shown_text ask standing (remembered ask.list m ∷ [])
+      text = shown_text ask reader (remembered ask.list m ∷ [])
 
       -- one message more
       pub rows_more : (after : List ℕ) (more counts : ℕ) → after ≡ middle ++ text → more ≡ min (length text) 18446744073709551615
@@ -107,93 +105,93 @@ module _ {S : Type 0} (g : Ghosts S) (ask : Ask) (standing : Standing) where
         part = s.part ++ text;
         out = out ∙ ap (λ x. x ++ text) s.out ∙ append_assoc before s.part text;
         counts_is = omega (arith, is, sum, s.counts_is, length-append s.part text);
-        walked = λ returned a w.
-            let so_far = s.walked (was returned) a w in (
+        walked = λ returned all a w.
+            let so_far = s.walked (was returned) all a w in (
               so_far.0 ++ remembered ask.list m ∷ [],
-              gives returned a so_far.0 so_far.1,
-              ap (λ x. x ++ text) so_far.2 ∙ sym (shown_joined ask standing so_far.0 (remembered ask.list m ∷ [])),
+              gives returned all a so_far.0 so_far.1,
+              ap (λ x. x ++ text) so_far.2 ∙ sym (shown_joined ask reader so_far.0 (remembered ask.list m ∷ [])),
             );
       }
 
       -- the writer fails at it
       pub rows_unwritten : (after : List ℕ) (k counts : ℕ) → (length after < 2 ^ 64 → IsCutShort middle after text k)
-          → counts ≡ min (count + k) 18446744073709551615 → WritesRows g old new ask standing before after counted counts (Err Write)
-      rows_unwritten after k counts cut sum = λ returned a w.
-          let so_far = s.walked (was returned) a w in
-          let here = gives returned a so_far.0 so_far.1 in
+          → counts ≡ min (count + k) 18446744073709551615 → WritesRows g old new ask reader before after counted counts (Err Write)
+      rows_unwritten after k counts cut sum = λ returned all a w.
+          let so_far = s.walked (was returned) all a w in
+          let here = gives returned all a so_far.0 so_far.1 in
           let given = so_far.0 in
           let one = remembered ask.list m ∷ [] in
-          let all : shown_text ask standing (messages_in a ask.list) ≡ s.part ++ (text ++ shown_text ask standing here.left) =
-          ap (shown_text ask standing) (sym here.joined) ∙ shown_joined ask standing (given ++ one) here.left
-          ∙ ap (λ x. x ++ shown_text ask standing here.left) (shown_joined ask standing given one ∙ ap (λ x. x ++ text) (sym so_far.2))
-          ∙ append_assoc s.part text (shown_text ask standing here.left) in (
-            (here.ready, here.archive_is),
+          let whole : shown_text ask reader all ≡ s.part ++ (text ++ shown_text ask reader here.left) =
+          ap (shown_text ask reader) (sym here.joined) ∙ shown_joined ask reader (given ++ one) here.left
+          ∙ ap (λ x. x ++ shown_text ask reader here.left) (shown_joined ask reader given one ∙ ap (λ x. x ++ text) (sym so_far.2))
+          ∙ append_assoc s.part text (shown_text ask reader here.left) in (
+            (here.held, here.archive_is),
             λ fits. (
               length s.part + k,
-              cut_behind before middle after s.part text (shown_text ask standing here.left) (shown_text ask standing (messages_in a ask.list)) k s.out all (cut fits),
+              cut_behind before middle after s.part text (shown_text ask reader here.left) (shown_text ask reader all) k s.out whole (cut fits),
               omega (arith, sum, s.counts_is),
             ),
           )
 
     -- the store fails at the next
     pub rows_unread : (fault : DeskFault) → reason fault ≡ None
-        → (HasReturned g new.store.now → (a : Archive) (given : List Remembered) → Walks g ask.list a given mid → IsOpen g new.store.now → Walks g ask.list a given new)
-        → WritesRows g old new ask standing before middle counted count (Err fault)
-    rows_unread fault none rests = λ returned a w.
-        let so_far = s.walked (was returned) a w in
+        → (HasReturned g new.store.now → (all : List Remembered) (a : Archive) (given : List Remembered) → WalksOver g ask.list all a given mid → IsOpen g new.store.now → WalksOver g ask.list all a given new)
+        → WritesRows g old new ask reader before middle counted count (Err fault)
+    rows_unread fault none rests = λ returned all a w.
+        let so_far = s.walked (was returned) all a w in
         let here = so_far.1 in
-        let all : shown_text ask standing (messages_in a ask.list) ≡ s.part ++ shown_text ask standing here.left =
-        ap (shown_text ask standing) (sym here.joined) ∙ shown_joined ask standing so_far.0 here.left
-        ∙ ap (λ x. x ++ shown_text ask standing here.left) (sym so_far.2) in (
-          rw none (λ up. let last = rests returned a so_far.0 here up in (last.ready, last.archive_is)),
+        let whole : shown_text ask reader all ≡ s.part ++ shown_text ask reader here.left =
+        ap (shown_text ask reader) (sym here.joined) ∙ shown_joined ask reader so_far.0 here.left
+        ∙ ap (λ x. x ++ shown_text ask reader here.left) (sym so_far.2) in (
+          rw none (λ up. let last = rests returned all a so_far.0 here up in (last.held, last.archive_is)),
           λ fits. (
             length s.part,
-            cut_there before middle s.part (shown_text ask standing here.left) (shown_text ask standing (messages_in a ask.list)) s.out all,
+            cut_there before middle s.part (shown_text ask reader here.left) (shown_text ask reader all) s.out whole,
             s.counts_is,
           ),
         )
 
     -- none is left
-    pub rows_all : (HasReturned g new.store.now → (a : Archive) (given : List Remembered) → Walks g ask.list a given mid
-        → Walks g ask.list a given new × (given ≡ messages_in a ask.list)) → WritesRows g old new ask standing before middle counted count (Ok tt)
-    rows_all ends = λ returned a w.
-        let so_far = s.walked (was returned) a w in
-        let here = ends returned a so_far.0 so_far.1 in
-        let all : s.part ≡ shown_text ask standing (messages_in a ask.list) = so_far.2 ∙ ap (shown_text ask standing) here.1 in (
-          (here.0.ready, here.0.archive_is),
-          s.out ∙ ap (λ x. before ++ x) all,
-          s.counts_is ∙ ap (λ x. min (counted + length x) 18446744073709551615) all,
+    pub rows_all : (HasReturned g new.store.now → (all : List Remembered) (a : Archive) (given : List Remembered) → WalksOver g ask.list all a given mid
+        → WalksOver g ask.list all a given new × (given ≡ all)) → WritesRows g old new ask reader before middle counted count (Ok tt)
+    rows_all ends = λ returned all a w.
+        let so_far = s.walked (was returned) all a w in
+        let here = ends returned all a so_far.0 so_far.1 in
+        let whole : s.part ≡ shown_text ask reader all = so_far.2 ∙ ap (shown_text ask reader) here.1 in (
+          (here.0.held, here.0.archive_is),
+          s.out ∙ ap (λ x. before ++ x) whole,
+          s.counts_is ∙ ap (λ x. min (counted + length x) 18446744073709551615) whole,
         )
 
 -- ---- behind a head
 
 -- the writer fails in the head
-pub head_unwritten : {S : Type 0} (g : Ghosts S) (ask : Ask) (standing : Standing) (walk : Walk S) (head before after : List ℕ) (k : ℕ) → IsCutShort before after head k
-    → WritesWalk g walk walk ask standing head before after (Err (record { written = k; fault = Write }))
-head_unwritten g ask standing walk head before after k cut = λ returned a w.
-    let text = shown_text ask standing (messages_in a ask.list) in (
-      (w.ready, w.archive_is),
+pub head_unwritten : {S : Type 0} (g : Ghosts S) (ask : Ask) (reader : ReaderMarks) (walk : Walk S) (head before after : List ℕ) (k : ℕ) → IsCutShort before after head k
+    → WritesWalk g walk walk ask reader head before after (Err (record { written = k; fault = Write }))
+head_unwritten g ask reader walk head before after k cut = λ returned all a w.
+    let text = shown_text ask reader all in (
+      (w.held, w.archive_is),
       λ fits.
           let none : length {A = ℕ} [] + k ≡ k = omega (arith) in
           subst (λ n. IsCutShort before after (head ++ text) n) none (cut_behind before before after [] head text (head ++ text) k (sym (append-nil before)) refl cut),
     )
 
-module _ {S : Type 0} (g : Ghosts S) (ask : Ask) (standing : Standing) (old new : Walk S) (head before middle after : List ℕ) (out : middle ≡ before ++ head)
+module _ {S : Type 0} (g : Ghosts S) (ask : Ask) (reader : ReaderMarks) (old new : Walk S) (head before middle after : List ℕ) (out : middle ≡ before ++ head)
     (fits : length head < 2 ^ 64) where
   -- all of it is out
-  pub walk_written : (count : ℕ) → WritesRows g old new ask standing middle after (length head) count (Ok tt)
-      → WritesWalk g old new ask standing head before after (Ok count)
-  walk_written count rows = λ returned a w.
-      let it = rows returned a w in
-      let text = shown_text ask standing (messages_in a ask.list) in
+  pub walk_written : (count : ℕ) → WritesRows g old new ask reader middle after (length head) count (Ok tt)
+      → WritesWalk g old new ask reader head before after (Ok count)
+  walk_written count rows = λ returned all a w.
+      let it = rows returned all a w in
+      let text = shown_text ask reader all in
       (it.0, it.1 ∙ ap (λ x. x ++ text) out ∙ append_assoc before head text, omega (arith, it.2, length-append head text))
 
   -- or a part, where the writer or the store fails
-  pub walk_stopped : (count : ℕ) (fault : DeskFault) → WritesRows g old new ask standing middle after (length head) count (Err fault)
-      → WritesWalk g old new ask standing head before after (Err (record { written = count; fault = fault }))
-  walk_stopped count fault rows = λ returned a w.
-      let it = rows returned a w in
-      let text = shown_text ask standing (messages_in a ask.list) in (
+  pub walk_stopped : (count : ℕ) (fault : DeskFault) → WritesRows g old new ask reader middle after (length head) count (Err fault)
+      → WritesWalk g old new ask reader head before after (Err (record { written = count; fault = fault }))
+  walk_stopped count fault rows = λ returned all a w.
+      let it = rows returned all a w in
+      let text = shown_text ask reader all in (
         it.0,
         λ low.
             let more = it.1 low in

@@ -8,11 +8,10 @@ ghost use Rattle.archive_desk.specs.Walking.{CountsMore, IsRowsStop, IsWalkStop,
 
 use crate::faults::DeskFault;
 use crate::viewing::find_reader;
-use archive_results::{Ask, is_shown};
+use archive_results::{Ask, ReaderMarks, is_shown};
 use archive_store::{EachRow, Message, Store};
 use mbox_core::device::{Sink, WriteFault, write_bytes};
 use mbox_core::{write_item, written_len};
-use policy_core::Standing;
 use sqlite::Alter;
 use std::alloc::Global;
 
@@ -62,12 +61,12 @@ pub fn export_after<S: Alter, W: Sink>(
     ensures cause { IfErr result (λ stop. IsExportStop (W.told out.old) (W.told out.new)
         (W.failures out.old) (W.failures out.new) stop.written stop.fault) }
 {
-    let standing = match find_reader(store, ask) {
-        Ok(standing) => standing,
+    let reader = match find_reader(store, ask) {
+        Ok(reader) => reader,
         Err(fault) => return Err(ExportStop { written: 0, fault }),
     };
     match store.each_row(alloc, ask.list) {
-        Ok(mut walk) => write_walk(ask, standing, head, &mut walk, out),
+        Ok(mut walk) => write_walk(ask, &reader, head, &mut walk, out),
         Err(fault) => Err(ExportStop {
             written: 0,
             fault: DeskFault::from(fault),
@@ -78,14 +77,14 @@ pub fn export_after<S: Alter, W: Sink>(
 /// Writes these bytes, and then the messages of a walk, as far as the policy shows them: how many bytes that is in all.
 fn write_walk<S: Alter, W: Sink>(
     ask: &Ask<'_>,
-    standing: Standing,
+    reader: &ReaderMarks,
     head: &[u8],
     walk: &mut EachRow<'_, S>,
     out: &mut W,
 ) -> Result<u64, ExportStop>
     ensures same_reference { walk.new.store.ghost_name ≡ walk.old.store.ghost_name }
     ensures clean { HadReturned S.Store walk.old.store.now walk.new.store.now }
-    ensures written { WritesWalk S.Store walk.old walk.new ask.now standing head.now (W.told out.old) (W.told out.new) result }
+    ensures written { WritesWalk S.Store walk.old walk.new ask.now reader.now head.now (W.told out.old) (W.told out.new) result }
     ensures quiet { OnOk result (W.failures out.new ≡ W.failures out.old) }
     ensures cause { IfErr result (λ stop. IsWalkStop (W.told out.old) (W.told out.new)
         (W.failures out.old) (W.failures out.new) stop.written stop.fault) }
@@ -97,7 +96,7 @@ fn write_walk<S: Alter, W: Sink>(
         });
     }
     let mut count = head.len() as u64;
-    match write_rows(ask, standing, walk, out, &mut count) {
+    match write_rows(ask, reader, walk, out, &mut count) {
         Ok(()) => Ok(count),
         Err(fault) => Err(ExportStop {
             written: count,
@@ -109,7 +108,7 @@ fn write_walk<S: Alter, W: Sink>(
 /// Writes the messages that a walk has not given yet, as far as the policy shows them, and counts their bytes.
 fn write_rows<S: Alter, W: Sink>(
     ask: &Ask<'_>,
-    standing: Standing,
+    reader: &ReaderMarks,
     walk: &mut EachRow<'_, S>,
     out: &mut W,
     count: &mut u64,
@@ -117,13 +116,13 @@ fn write_rows<S: Alter, W: Sink>(
     requires { count.old < 2 ^ 64 }
     ensures same_reference { walk.new.store.ghost_name ≡ walk.old.store.ghost_name }
     ensures clean { HadReturned S.Store walk.old.store.now walk.new.store.now }
-    ensures written { WritesRows S.Store walk.old walk.new ask.now standing (W.told out.old) (W.told out.new) count.old count.new result }
+    ensures written { WritesRows S.Store walk.old walk.new ask.now reader.now (W.told out.old) (W.told out.new) count.old count.new result }
     ensures quiet { OnOk result (W.failures out.new ≡ W.failures out.old) }
     ensures cause { IfErr result (λ fault. IsRowsStop (W.told out.old) (W.told out.new)
         (W.failures out.old) (W.failures out.new) count.old count.new fault) }
 {
     while let Some(message) = walk.next()? {
-        match write_shown(ask, standing, &message, out) {
+        match write_shown(ask, reader, &message, out) {
             Ok(more) => *count = count.saturating_add(more),
             Err(fault) => {
                 *count = count.saturating_add(fault.written);
@@ -137,20 +136,20 @@ fn write_rows<S: Alter, W: Sink>(
 /// Writes a message if the policy shows it: how many bytes that is.
 fn write_shown<W: Sink>(
     ask: &Ask<'_>,
-    standing: Standing,
+    reader: &ReaderMarks,
     message: &Message,
     out: &mut W,
 ) -> Result<u64, WriteFault>
     ensures ok { OnOk result (W.told out.new
-        ≡ W.told out.old ++ shown_text ask.now standing (remembered ask.now.list message.now ∷ [])) }
+        ≡ W.told out.old ++ shown_text ask.now reader.now (remembered ask.now.list message.now ∷ [])) }
     ensures count { IfOk result (λ count.
-        count ≡ min (length (shown_text ask.now standing (remembered ask.now.list message.now ∷ []))) (2 ^ 64 - 1)) }
+        count ≡ min (length (shown_text ask.now reader.now (remembered ask.now.list message.now ∷ []))) (2 ^ 64 - 1)) }
     ensures fault { IfErr result (λ e. length (W.told out.new) < 2 ^ 64 → IsCutShort (W.told out.old) (W.told out.new)
-        (shown_text ask.now standing (remembered ask.now.list message.now ∷ [])) e.written) }
+        (shown_text ask.now reader.now (remembered ask.now.list message.now ∷ [])) e.written) }
     ensures quiet { OnOk result (W.failures out.new ≡ W.failures out.old) }
     ensures cause { OnErr result (W.failures out.old < W.failures out.new) }
 {
-    if !is_shown(ask, standing, message) {
+    if !is_shown(ask, reader, message) {
         return Ok(0);
     }
     let item = message.item.as_item();

@@ -1,18 +1,20 @@
-//! The index of a view: the headers of its messages, read by one walk over the list.
-ghost use Rattle.std.specs.Prelude.{◌≡◌, ◌∷◌, [], ◌++◌, filter, map, IfErr, OnOk};
+//! The index of a view, the headers of its messages, and the lines of its messages of a month or an author, each read by one walk.
+ghost use Rattle.std.specs.Prelude.{◌≡◌, ◌∷◌, [], ◌++◌, filter, map, pos, IfErr, OnOk};
 ghost use Rattle.archive_machine.specs.Messages.{remembered};
-ghost use Rattle.archive_results.specs.Access.{is_shown, view_of};
+ghost use Rattle.archive_results.specs.Access.{is_shown, reader_marks, view_of};
+ghost use Rattle.archive_results.specs.Filed.{filed_author_lines, filed_month_lines};
 ghost use Rattle.archive_results.specs.Index.{IsIndexOf, header_of};
-ghost use Rattle.archive_store.specs.Told.{Asks, HadReturned};
+ghost use Rattle.archive_store.specs.Told.{AsksIn, HadReturned, HoldsTables};
 ghost use Rattle.archive_desk.specs.Faults.{IsAskFault, ask_reason, reason};
+ghost use Rattle.archive_desk.specs.Listing.{lines_shown};
 ghost use Rattle.archive_desk.specs.Walking.{IsUnlisted, ListsRows};
 
 use crate::faults::DeskFault;
 use crate::viewing::find_reader;
-use archive_results::{Ask, Header, header_of, is_shown};
+use archive_results::{Ask, Header, Line, ReaderMarks, header_of, is_shown, line_of};
 use archive_store::{EachRow, Message, Store};
+use civil_time::Month;
 use mail_core::Memory;
-use policy_core::Standing;
 use sqlite::Alter;
 use std::alloc::Global;
 
@@ -23,16 +25,59 @@ pub(crate) fn read_headers<S: Alter>(
     alloc: Global,
     ask: &Ask<'_>,
 ) -> Result<Vec<Header>, DeskFault>
-    ensures held { Asks S.Store store.old store.new reason result (λ a. ask_reason a ask.now)
+    ensures held { AsksIn S.Store (HoldsTables S.Store) store.old store.new reason result (λ a. ask_reason a ask.now)
         (λ a headers. IsIndexOf (view_of a ask.now) headers.items) }
     ensures fault { IfErr result (λ fault. IsAskFault fault) }
 {
-    let standing = match find_reader(store, ask) {
-        Ok(standing) => standing,
+    let reader = match find_reader(store, ask) {
+        Ok(reader) => reader,
         Err(fault) => return Err(fault),
     };
     match store.each_row(alloc, ask.list) {
-        Ok(mut walk) => walk_headers(alloc, ask, standing, &mut walk),
+        Ok(mut walk) => walk_headers(alloc, ask, &reader, &mut walk),
+        Err(fault) => Err(DeskFault::from(fault)),
+    }
+}
+
+/// The lines of those messages of the view that are filed under a month, by the sent date that is filed and then in mailbox
+/// order. No other message of the list is read, and what a message refers to is not kept.
+pub(crate) fn read_month<S: Alter>(
+    store: &mut Store<S>,
+    alloc: Global,
+    ask: &Ask<'_>,
+    month: Month,
+) -> Result<Vec<Line>, DeskFault>
+    ensures held { AsksIn S.Store (HoldsTables S.Store) store.old store.new reason result (λ a. ask_reason a ask.now)
+        (λ a lines. lines.items ≡ filed_month_lines a ask.now (pos month)) }
+    ensures fault { IfErr result (λ fault. IsAskFault fault) }
+{
+    let reader = match find_reader(store, ask) {
+        Ok(reader) => reader,
+        Err(fault) => return Err(fault),
+    };
+    match store.each_in_month(alloc, ask.list, month) {
+        Ok(mut walk) => walk_lines(alloc, ask, &reader, &mut walk),
+        Err(fault) => Err(DeskFault::from(fault)),
+    }
+}
+
+/// The same of those that are filed under an author key.
+pub(crate) fn read_author<S: Alter>(
+    store: &mut Store<S>,
+    alloc: Global,
+    ask: &Ask<'_>,
+    key: &[u8],
+) -> Result<Vec<Line>, DeskFault>
+    ensures held { AsksIn S.Store (HoldsTables S.Store) store.old store.new reason result (λ a. ask_reason a ask.now)
+        (λ a lines. lines.items ≡ filed_author_lines a ask.now key.now) }
+    ensures fault { IfErr result (λ fault. IsAskFault fault) }
+{
+    let reader = match find_reader(store, ask) {
+        Ok(reader) => reader,
+        Err(fault) => return Err(fault),
+    };
+    match store.each_by_author(alloc, ask.list, key) {
+        Ok(mut walk) => walk_lines(alloc, ask, &reader, &mut walk),
         Err(fault) => Err(DeskFault::from(fault)),
     }
 }
@@ -41,17 +86,17 @@ pub(crate) fn read_headers<S: Alter>(
 fn walk_headers<S: Alter>(
     alloc: Global,
     ask: &Ask<'_>,
-    standing: Standing,
+    reader: &ReaderMarks,
     walk: &mut EachRow<'_, S>,
 ) -> Result<Vec<Header>, DeskFault>
     ensures same_reference { walk.new.store.ghost_name ≡ walk.old.store.ghost_name }
     ensures clean { HadReturned S.Store walk.old.store.now walk.new.store.now }
-    ensures listed { ListsRows S.Store walk.old walk.new ask.now standing result }
+    ensures listed { ListsRows S.Store walk.old walk.new ask.now reader.now (map header_of) result }
     ensures fault { IfErr result (λ fault. IsUnlisted fault) }
 {
     let mut headers = Vec::new(alloc);
     while let Some(message) = walk.next()? {
-        match push_shown(alloc, ask, standing, &message, &mut headers) {
+        match push_header(alloc, ask, reader, &message, &mut headers) {
             Ok(()) => {}
             Err(_) => return Err(DeskFault::Memory),
         }
@@ -59,19 +104,58 @@ fn walk_headers<S: Alter>(
     Ok(headers)
 }
 
-/// The header of a message more, if the policy shows it.
-fn push_shown(
+/// The lines of the messages that a walk has not given yet, as far as the policy shows them.
+fn walk_lines<S: Alter>(
     alloc: Global,
     ask: &Ask<'_>,
-    standing: Standing,
+    reader: &ReaderMarks,
+    walk: &mut EachRow<'_, S>,
+) -> Result<Vec<Line>, DeskFault>
+    ensures same_reference { walk.new.store.ghost_name ≡ walk.old.store.ghost_name }
+    ensures clean { HadReturned S.Store walk.old.store.now walk.new.store.now }
+    ensures listed { ListsRows S.Store walk.old walk.new ask.now reader.now lines_shown result }
+    ensures fault { IfErr result (λ fault. IsUnlisted fault) }
+{
+    let mut lines = Vec::new(alloc);
+    while let Some(message) = walk.next()? {
+        match push_line(alloc, ask, reader, &message, &mut lines) {
+            Ok(()) => {}
+            Err(_) => return Err(DeskFault::Memory),
+        }
+    }
+    Ok(lines)
+}
+
+/// The header of a message more, if the policy shows it.
+fn push_header(
+    alloc: Global,
+    ask: &Ask<'_>,
+    reader: &ReaderMarks,
     message: &Message,
     headers: &mut Vec<Header>,
 ) -> Result<(), Memory>
     ensures { OnOk result (headers.new.items ≡ headers.old.items
-        ++ map header_of (filter (is_shown ask.now standing) (remembered ask.now.list message.now ∷ []))) }
+        ++ map header_of (filter (is_shown ask.now reader.now) (remembered ask.now.list message.now ∷ []))) }
 {
-    if is_shown(ask, standing, message) {
+    if is_shown(ask, reader, message) {
         headers.push(header_of(alloc, message)?)?;
+    }
+    Ok(())
+}
+
+/// The line of a message more, if the policy shows it.
+fn push_line(
+    alloc: Global,
+    ask: &Ask<'_>,
+    reader: &ReaderMarks,
+    message: &Message,
+    lines: &mut Vec<Line>,
+) -> Result<(), Memory>
+    ensures { OnOk result (lines.new.items ≡ lines.old.items
+        ++ lines_shown (filter (is_shown ask.now reader.now) (remembered ask.now.list message.now ∷ []))) }
+{
+    if is_shown(ask, reader, message) {
+        lines.push(line_of(alloc, message.key, &message.item.as_item())?)?;
     }
     Ok(())
 }

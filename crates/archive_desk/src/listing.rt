@@ -1,23 +1,25 @@
 //! The lists of a month and of an author, and threads.
-ghost use Rattle.std.specs.Prelude.{◌≡◌, map, Some, IfErr};
+ghost use Rattle.std.specs.Prelude.{◌≡◌, map, pos, Some, IfErr};
 ghost use Rattle.archive_results.specs.Access.{view_of};
+ghost use Rattle.archive_results.specs.Filed.{filed_author_lines, filed_month_lines};
 ghost use Rattle.archive_results.specs.Results.{author_lines, month_lines, tree_lines, thread_lines};
 ghost use Rattle.archive_results.specs.Shown.{shown_of};
-ghost use Rattle.archive_store.specs.Told.{Asks};
+ghost use Rattle.archive_store.specs.Told.{Asks, AsksIn, HoldsTables};
 ghost use Rattle.archive_desk.specs.Faults.{IsAskFault, ask_reason, reason};
 ghost use Rattle.archive_desk.specs.Listing.{IsThreadFault, thread_reason};
 
 use crate::faults::DeskFault;
-use crate::index::read_headers;
-use archive_results::{Ask, Line, TreeLine, author_lines, month_lines, thread_lines, tree_lines};
+use crate::index::{read_author, read_headers, read_month};
+use archive_results::{Ask, Line, TreeLine, thread_lines, tree_lines};
 use archive_store::{Key, Store};
 use civil_time::Month;
 use sqlite::Alter;
 use std::alloc::Global;
 use thread_core::Threader;
 
-/// The messages of the view whose sent date lies in a month, by sent date and then in mailbox order. G1 where there is no
-/// such list, G2 where there is no such person; G5 where no memory is left, G4 where the store has none or fails.
+/// The messages of the view whose sent date lies in a month, by sent date and then in mailbox order: those that are filed under
+/// it, by the sent date that is filed, also where another program filed them otherwise. G1 where there is no such list, G2
+/// where there is no such person; G5 where no memory is left, G4 where the store has none or fails.
 pub fn month<S: Alter>(
     store: &mut Store<S>,
     alloc: Global,
@@ -26,17 +28,16 @@ pub fn month<S: Alter>(
 ) -> Result<Vec<Line>, DeskFault>
     ensures listed { Asks S.Store store.old store.new reason result (λ a. ask_reason a ask.now)
         (λ a lines. lines.items ≡ month_lines month (map shown_of (view_of a ask.now))) }
+    ensures filed { AsksIn S.Store (HoldsTables S.Store) store.old store.new reason result (λ a. ask_reason a ask.now)
+        (λ a lines. lines.items ≡ filed_month_lines a ask.now (pos month)) }
     ensures fault { IfErr result (λ fault. IsAskFault fault) }
 {
-    let headers = read_headers(store, alloc, ask)?;
-    match month_lines(alloc, headers, month) {
-        Ok(lines) => Ok(lines),
-        Err(_) => Err(DeskFault::Memory),
-    }
+    read_month(store, alloc, ask, month)
 }
 
-/// The messages of the view that have an author key, by sent date and then in mailbox order. G1 where there is no such list,
-/// G2 where there is no such person; G5 where no memory is left, G4 where the store has none or fails.
+/// The messages of the view that have an author key, by sent date and then in mailbox order: those that are filed under it, as
+/// for a month. G1 where there is no such list, G2 where there is no such person; G5 where no memory is left, G4 where the
+/// store has none or fails.
 pub fn author<S: Alter>(
     store: &mut Store<S>,
     alloc: Global,
@@ -45,13 +46,11 @@ pub fn author<S: Alter>(
 ) -> Result<Vec<Line>, DeskFault>
     ensures listed { Asks S.Store store.old store.new reason result (λ a. ask_reason a ask.now)
         (λ a lines. lines.items ≡ author_lines key.now (map shown_of (view_of a ask.now))) }
+    ensures filed { AsksIn S.Store (HoldsTables S.Store) store.old store.new reason result (λ a. ask_reason a ask.now)
+        (λ a lines. lines.items ≡ filed_author_lines a ask.now key.now) }
     ensures fault { IfErr result (λ fault. IsAskFault fault) }
 {
-    let headers = read_headers(store, alloc, ask)?;
-    match author_lines(alloc, headers, key) {
-        Ok(lines) => Ok(lines),
-        Err(_) => Err(DeskFault::Memory),
-    }
+    read_author(store, alloc, ask, key)
 }
 
 /// The threads of the view (RFC 5256, section 3, THREAD=REFERENCES), in preorder. G1 where there is no such list, G2 where
@@ -66,7 +65,10 @@ pub fn threads<T: Threader, S: Alter>(
         (λ a rows. rows.items ≡ tree_lines (map shown_of (view_of a ask.now))) }
     ensures fault { IfErr result (λ fault. IsAskFault fault) }
 {
-    let headers = read_headers(store, alloc, ask)?;
+    let headers = match read_headers(store, alloc, ask) {
+        Ok(headers) => headers,
+        Err(fault) => return Err(fault),
+    };
     match tree_lines(alloc, threader, headers) {
         Ok(rows) => Ok(rows),
         Err(_) => Err(DeskFault::Memory),

@@ -2,13 +2,13 @@
 ghost use Rattle.std.specs.Prelude.{◌≡◌, IfErr, option_map};
 ghost use Rattle.archive_machine.specs.Questions.{message_of};
 ghost use Rattle.archive_machine.specs.Messages.{remembered};
-ghost use Rattle.archive_results.specs.Access.{asked_of, asked_on, reader_standing, told};
-ghost use Rattle.archive_store.specs.Told.{Asks};
+ghost use Rattle.archive_results.specs.Access.{asked_of, asked_on, reader_marks, told};
+ghost use Rattle.archive_store.specs.Told.{Asks, AsksIn, HoldsTables};
 ghost use Rattle.archive_desk.specs.Asking.{standing_reason};
 ghost use Rattle.archive_desk.specs.Faults.{IsAskFault, ask_reason, list_reason, reason};
 
 use crate::faults::DeskFault;
-use crate::viewing::find_standing;
+use crate::viewing::find_marks;
 use archive_results::{Ask, Asked, asked};
 use archive_store::{Key, Message, Store};
 use sqlite::Alter;
@@ -39,7 +39,7 @@ fn find_row<S: Alter>(
     ask: &Ask<'_>,
     key: &Key,
 ) -> Result<Option<Message>, DeskFault>
-    ensures held { Asks S.Store store.old store.new reason result (λ a. list_reason a ask.now)
+    ensures held { AsksIn S.Store (HoldsTables S.Store) store.old store.new reason result (λ a. list_reason a ask.now)
         (λ a found. option_map (remembered ask.now.list) found ≡ message_of a ask.now.list key.now) }
     ensures fault { IfErr result (λ fault. IsAskFault fault) }
 {
@@ -53,13 +53,13 @@ fn answer_on<'p, S: Alter>(
     ask: &Ask<'p>,
     held: &Option<Message>,
 ) -> Result<Asked<'p>, DeskFault>
-    ensures asked { Asks S.Store store.old store.new reason result (λ a. standing_reason a ask.entry.now)
-        (λ a answer. told answer ≡ asked_on ask.entry.now (reader_standing a ask.entry.now)
+    ensures asked { AsksIn S.Store (HoldsTables S.Store) store.old store.new reason result (λ a. standing_reason a ask.entry.now)
+        (λ a answer. told answer ≡ asked_on ask.entry.now (reader_marks a ask.entry.now)
         (option_map (remembered ask.entry.now.list) held.now)) }
     ensures fault { IfErr result (λ fault. IsAskFault fault) }
 {
-    let standing = find_standing(store, ask)?;
-    match asked(alloc, ask, standing, held) {
+    let reader = find_marks(store, ask)?;
+    match asked(alloc, ask, &reader, held) {
         Ok(answer) => Ok(answer),
         Err(_) => Err(DeskFault::Memory),
     }

@@ -16,6 +16,7 @@ use Rattle.archive_machine.proofs.RunLemmas.{archive_of_both, replies_of_both}
 use Rattle.archive_store.specs.Batches.{IsFullAt, text_bytes}
 use Rattle.archive_store.proofs.RunLemmas.{run_nothing}
 use Rattle.archive_desk.specs.Importing.{HasAddedFirst, tally_of}
+use Rattle.archive_import.specs.declared.intake.TheConstants.{MESSAGES_AT_ONCE, BYTES_AT_ONCE}
 use Rattle.archive_import.specs.Intake.{IntakeState, IsUnderWay, IsSmall, is_more, tally_sum}
 
 -- ---- some messages and then others
@@ -189,7 +190,7 @@ under_way_first list a b i there same is = subst (λ x. IsUnderWay list a b [] x
 
 -- ---- what may be held
 
-pub small_more : (held : List Item) (item : Item) (bytes all : ℕ) → bytes ≡ text_bytes held → length held < 4000 → all ≡ min (bytes + length item.text) 18446744073709551615 → all ≤ 8388608
+pub small_more : (held : List Item) (item : Item) (bytes all : ℕ) → bytes ≡ text_bytes held → length held < MESSAGES_AT_ONCE → all ≡ min (bytes + length item.text) 18446744073709551615 → all ≤ BYTES_AT_ONCE
     → IsSmall (held ++ item ∷ [])
 small_more held item bytes all is few sum small = (
   omega (arith, few, length-append held (item ∷ [])),

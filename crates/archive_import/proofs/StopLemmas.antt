@@ -10,23 +10,24 @@ use Rattle.archive_machine.specs.Records.{Archive}
 use Rattle.archive_machine.specs.Commands.{Refusal, no_list, bad_name, bad_text, list_exists, person_exists, no_person, token_taken, no_message, already_withdrawn, not_withdrawn, bad_days, list_full, too_large}
 use Rattle.archive_machine.specs.Questions.{has_list}
 use Rattle.archive_machine.specs.Runs.{taken}
+use Rattle.archive_machine.specs.Sound.{IsFiledRight}
 use Rattle.archive_tables.specs.Tables.{IsKept, archive_of}
 use Rattle.archive_tables.specs.Calls.{WasClean}
 use Rattle.archive_store.specs.Batches.{AddsAll, IsAfter, IsRefusedAt, tally_of}
 use Rattle.archive_store.specs.Held.{held_of}
 use Rattle.archive_store.specs.Replies.{refusal}
-use Rattle.archive_store.specs.Told.{Goes, GoesIfOpen, Calls}
+use Rattle.archive_store.specs.Told.{HoldsTables, IsReady, archive_in, Goes, GoesIfOpen, Calls}
 use Rattle.archive_store.specs.declared.store.Store.{Store}
 use Rattle.archive_store.specs.declared.faults.StoreFault.TheVariants.{Memory as NoMemory}
 use Rattle.archive_store.specs.declared.batches.AddStop.{AddStop}
 use Rattle.archive_store.specs.declared.batches.Report.{Report as Counts}
-use Rattle.archive_store.proofs.Joins.{goes_on, goes_on_if_open, goes_as, goes_as_if_open, stays_there}
+use Rattle.archive_store.proofs.Joins.{goes_on, goes_on_if_open, goes_as, goes_as_if_open, ready_with, stays_there}
+use Rattle.archive_store.proofs.RightLemmas.{taken_right}
 use Rattle.archive_store.proofs.RunLemmas.{run_nothing}
 use Rattle.archive_desk.specs.Importing.{IsBrokenAdd, HasAddedFirst}
 use Rattle.archive_desk.specs.declared.importing.ImportStop.{ImportStop}
 use Rattle.archive_desk.specs.declared.importing.ImportFault.{ImportFault}
 use Rattle.archive_desk.specs.declared.importing.ImportFault.TheVariants.{Mbox, Store as Stored}
-use Rattle.archive_desk.proofs.CallLemmas.{calls_after}
 use Rattle.archive_import.specs.Streaming.{Halt, no_mbox, not_read, no_room, unknown_list, full, declined, halt_by, halt_reason}
 use Rattle.archive_import.specs.Intake.{IntakeState, IsUnderWay, IsHaltedAdd, is_more}
 use Rattle.archive_import.proofs.IntakeLemmas.{some_added, full_amid, still_listed, all_added, first_longer, full_longer, one_held, first_done}
@@ -126,8 +127,10 @@ module _ {S : Type 0} (g : Ghosts S) (old new : Store S) (list : List ℕ) (i : 
   held_added j counts was adds none done more = (
     was,
     λ returned ready.
-        let it = adds returned ready in
-        (it.0, (λ a items w. all_added list a _ items i w _ j (tally_of counts) it.1 it.2 none done more)),
+        let it = adds returned ready.held in (
+          ready_with g new (taken (archive_in g old) list i.held).archive it.0 it.1 (taken_right (archive_in g old) list i.held ready.filed_right),
+          (λ a items w. all_added list a _ items i w _ j (tally_of counts) it.1 it.2 none done more),
+        ),
   )
 
   pub add_stopped : (stop : AddStop) (at : ImportStop) → at ≡ record { done = i.done + stop.done; fault = Stored stop.fault } → WasClean g (held_of old) (held_of new)
@@ -135,6 +138,10 @@ module _ {S : Type 0} (g : Ghosts S) (old new : Store S) (list : List ℕ) (i : 
       → Calls g old new {A = Unit {0}} halt_reason (Err at) Nothing (HaltsAmid list i) (BreaksAmid list i)
   add_stopped stop at is was adds low = subst (λ s. Calls g old new {A = Unit {0}} halt_reason (Err s) Nothing (HaltsAmid list i) (BreaksAmid list i)) (sym is) (by_reason (refusal stop.fault) adds)
     where
+      some_right : HoldsTables g new → archive_in g new ≡ (taken (archive_in g old) list (take stop.done i.held)).archive → IsFiledRight (archive_in g old) → IsReady g new
+      some_right held same right =
+          ready_with g new (taken (archive_in g old) list (take stop.done i.held)).archive held same (taken_right (archive_in g old) list (take stop.done i.held) right)
+
       by_reason : (r : Option Refusal)
           → (HasCleanDisk (state g (held_of new)) → IsKept (state g (held_of old)) → MatchOption r (IsAfter (state g (held_of new)) (archive_of (state g (held_of old))) list (take stop.done i.held))
           (λ why. IsKept (state g (held_of new)) × (archive_of (state g (held_of new)) ≡ (taken (archive_of (state g (held_of old))) list (take stop.done i.held)).archive) × IsRefusedAt (archive_of (state g (held_of old))) list i.held stop.done why))
@@ -143,14 +150,14 @@ module _ {S : Type 0} (g : Ghosts S) (old new : Store S) (list : List ℕ) (i : 
       by_reason None it = (
         was,
         λ returned ready up.
-            let after = it returned ready up in
-            (after.0, (λ a items w. some_added list a _ items i w _ stop.done low after.1)),
+            let after = it returned ready.held up in
+            (some_right after.0 after.1 ready.filed_right, (λ a items w. some_added list a _ items i w _ stop.done low after.1)),
       )
       by_reason (Some why) it = (
         was,
         λ returned ready.
-            let after = it returned ready in
-            (after.0, (λ a items w. halted_by list a _ _ items i stop.done why w low after.1 after.2)),
+            let after = it returned ready.held in
+            (some_right after.0 after.1 ready.filed_right, (λ a items w. halted_by list a _ _ items i stop.done why w low after.1 after.2)),
       )
 
 -- there are too many messages to count: nothing more is added

@@ -9,7 +9,7 @@ ghost use Rattle.archive_tables.specs.Calls.{WasClean};
 ghost use Rattle.archive_store.specs.Batches.{AddsAll, told_in};
 ghost use Rattle.archive_store.specs.Held.{held_of};
 ghost use Rattle.archive_store.specs.Replies.{refusal};
-ghost use Rattle.archive_store.specs.Told.{Asks, Calls};
+ghost use Rattle.archive_store.specs.Told.{AsksIn, Calls, HoldsTables};
 ghost use Rattle.archive_desk.specs.Importing.{HasAdded, IsBrokenAdd};
 ghost use Rattle.archive_import.specs.Streaming.{Imports, halt_reason, HasFailed, FailedBy, IsHalted, IsBroken, IsReadIn};
 ghost use Rattle.archive_import.specs.Intake.{IsUnderWay, IsHaltedAdd, IsUnread, IsOfStore};
@@ -60,7 +60,7 @@ pub fn import_from<S: Alter, R: Source>(
 
 /// E4 where there is no such list.
 fn find_list<S: Alter>(store: &mut Store<S>, list: &str) -> Result<(), StoreFault>
-    ensures found { Asks S.Store store.old store.new refusal result (λ a. list_refusal a list.now)
+    ensures found { AsksIn S.Store (HoldsTables S.Store) store.old store.new refusal result (λ a. list_refusal a list.now)
         (λ a _. has_list a list.now ≡ true) }
 {
     match store.has_list(list) {

@@ -17,7 +17,7 @@ const MESSAGES_AT_ONCE: usize = 4_000;
 /// Bytes of their texts, at most, unless the one text is longer.
 const BYTES_AT_ONCE: usize = 8_388_608;
 
-/// The messages that are held for the next call: 4,000 at most, with 8 MB of texts at most, or one alone; and how
+/// The messages that are held for the next call, as many as `MESSAGES_AT_ONCE` and `BYTES_AT_ONCE` allow, or one alone; and how
 /// many were done before them, with what became of those.
 #[derive(Drop)]
 pub(crate) struct Intake {

@@ -35,6 +35,7 @@ archive = record {
       ∷ record { person = codes "mo"; list = codes "soc"; rank = pos 1; from_day = pos 12000; until_day = pos 20000 }
       ∷ record { person = codes "sue"; list = codes "other"; rank = pos 3; from_day = pos 12000; until_day = pos 20000 } ∷ [];
   messages = first ∷ elsewhere ∷ second ∷ [];
+  filings = [];
 }
 
 abbrev withdrawn_rule : Rule
@@ -71,7 +72,7 @@ nobody_is_the_public : reader_standing archive (by rules None (pos 12131)) ≡ P
 nobody_is_the_public = refl
 
 -- ---- facts: the reading day is that of the question, and the arrival day that of the message
-the_facts : facts_of (by rules None (pos 12131)) Public (marks_of second)
+the_facts : facts_of (by rules None (pos 12131)) (record { standing = Public }) (marks_of second)
     ≡ record { list = codes "soc"; standing = Public; day = pos 12131; arrival_day = pos 12115; withdrawn = No; embargo_until = Some (pos 12143) }
 unfolding marks_of
 the_facts = refl

@@ -65,7 +65,7 @@ abbrev thread_from : List Shown → (place : ℕ) → Option ℕ → Option (Lis
 thread_from view place row =
     option_map (λ range. map (tree_line (lines_of view)) (within range (rows_of view))) (option_map (λ at. (last_top (rows_of view) at, next_top (rows_of view) at)) row)
 
-module _ (each : (entries : List Entry) → HasEachPlaceOnce (length entries) (threads_of entries)) (key : List ℕ) (view : List Shown) where
+module _ (each : (entries : List Entry) (merge : Bool) → HasEachPlaceOnce (length entries) (threads_of entries merge)) (key : List ℕ) (view : List Shown) where
   not_held : holds key view ≡ false → thread_lines key view ≡ None
   not_held e = ap (thread_at view) (position_none (λ l. bytes_eq l.key key) (lines_of view) (sym (line_held key view) ∙ e))
 
@@ -75,7 +75,7 @@ module _ (each : (entries : List Entry) → HasEachPlaceOnce (length entries) (t
       let at : ℕ = position_or_len (λ l. bytes_eq l.key key) (lines_of view) in
       let below : at < length (lines_of view) = position_within (λ l. bytes_eq l.key key) (lines_of view) passes in
       let low : at < length (map (λ s. entry_of s.item) view) = omega (arith, below, same_length view) in
-      let there : list_any (is_row_of at) (rows_of view) ≡ true = row_there at (rows_of view) ((each (map (λ s. entry_of s.item) view)).once at low) in
+      let there : list_any (is_row_of at) (rows_of view) ≡ true = row_there at (rows_of view) ((each (map (λ s. entry_of s.item) view) true).once at low) in
       ap (λ (o : Option ℕ). is_none (thread_at view o)) (position_some (λ l. bytes_eq l.key key) (lines_of view) passes)
       ∙ ap (λ (o : Option ℕ). is_none (thread_from view at o)) (position_some (is_row_of at) (rows_of view) there)
 

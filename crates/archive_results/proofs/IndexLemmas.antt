@@ -1,15 +1,15 @@
 -- What the headers of a view give is what the view gives.
-use Rattle.std.proofs.Common.{◌≡◌, ℕ, Bool, true, false, cond, List, [], ◌∷◌, ◌++◌, map, filter, Option, Some, None, option_map, refl, sym, ap, ◌∙◌}
-use Rattle.std.proofs.lemmas.List.{append-nil, map-append}
-use Rattle.std.proofs.lemmas.List.Elements.{filter-append}
+use Rattle.std.proofs.Common.{◌≡◌, ℕ, true, List, [], ◌∷◌, map, Option, Some, None, option_map, Result, Ok, Err, refl, ap, ◌∙◌}
 use Rattle.std.specs.Option.{option_and_then}
+use Rattle.std.specs.Prelude.{IfOk, Vec}
+use Rattle.std.specs.declared.alloc.Global.{Global}
 use Rattle.thread_core.specs.Threads.{threads_of}
 use Rattle.thread_core.specs.TopThread.{top_thread_of}
 use Rattle.thread_links.specs.declared.entry.Entry.{Entry}
 use Rattle.thread_core.specs.declared.row.Row.{Row}
 use Rattle.archive_machine.specs.Records.{Message}
 use Rattle.archive_results.specs.Shown.{Line, shown_of, entry_of}
-use Rattle.archive_results.specs.Results.{lines_of, by_sent, is_of_month, is_of_author, month_lines, author_lines, TreeLine, tree_line, rows_of, tree_lines, within, place_of, thread_lines}
+use Rattle.archive_results.specs.Results.{lines_of, TreeLine, tree_line, rows_of, tree_lines, within, place_of, thread_lines}
 use Rattle.archive_results.specs.Index.{Header, header_of, IsIndexOf, lines_in, entries_in}
 
 lines_of_view : (view : List Message) → lines_in (map header_of view) ≡ lines_of (map shown_of view)
@@ -23,32 +23,14 @@ entries_of_view (m ∷ ms) = rw (entries_of_view ms) refl
 pub lines_are : (view : List Message) (headers : List Header) (lines : List Line) → IsIndexOf view headers → lines ≡ lines_in headers → lines ≡ lines_of (map shown_of view)
 lines_are view headers lines e h = h ∙ ap lines_in e ∙ lines_of_view view
 
-pub rows_are : (view : List Message) (headers : List Header) (entries : List Entry) (rows : List Row) → IsIndexOf view headers → entries ≡ entries_in headers → rows ≡ threads_of entries → rows ≡ rows_of (map shown_of view)
-rows_are view headers entries rows e h r = r ∙ ap threads_of (h ∙ ap entries_in e ∙ entries_of_view view)
+-- those that a call gives, where it gives them
+pub lines_are_ok : {E : Type 0} (view : List Message) (headers : List Header) (result : Result (Vec Line Global) E) → IsIndexOf view headers
+    → IfOk result (λ lines. lines.items ≡ lines_in headers) → IfOk result (λ lines. lines.items ≡ lines_of (map shown_of view))
+lines_are_ok view headers (Ok lines) e h = lines_are view headers lines.items e h
+lines_are_ok view headers (Err fault) e h = tt
 
--- ---- one message more, and its line where the test holds of it
-
-kept_more : (test : Line → Bool) (before : List Header) (h : Header)
-    → filter test (lines_in (before ++ h ∷ [])) ≡ filter test (lines_in before) ++ cond (test h.line) (h.line ∷ []) []
-kept_more test before h = ap (filter test) (map-append (λ (x : Header). x.line) before (h ∷ [])) ∙ filter-append test (lines_in before) (h.line ∷ [])
-
-pub kept_one : (test : Line → Bool) (before : List Header) (h : Header) (found more : List Line) → found ≡ filter test (lines_in before) → true ≡ test h.line
-    → more ≡ found ++ h.line ∷ [] → more ≡ filter test (lines_in (before ++ h ∷ []))
-kept_one test before h found more so_far is e =
-    e ∙ ap (λ ls. ls ++ h.line ∷ []) so_far ∙ ap (λ t. filter test (lines_in before) ++ cond t (h.line ∷ []) []) is ∙ sym (kept_more test before h)
-
-pub kept_none : (test : Line → Bool) (before : List Header) (h : Header) (found : List Line) → found ≡ filter test (lines_in before) → false ≡ test h.line
-    → found ≡ filter test (lines_in (before ++ h ∷ []))
-kept_none test before h found so_far is =
-    so_far ∙ sym (append-nil (filter test (lines_in before))) ∙ ap (λ t. filter test (lines_in before) ++ cond t (h.line ∷ []) []) is ∙ sym (kept_more test before h)
-
-pub month_is : (month : ℕ) (view : List Message) (headers : List Header) (found lines : List Line) → IsIndexOf view headers → found ≡ filter (is_of_month month) (lines_in headers) → lines ≡ by_sent found
-    → lines ≡ month_lines month (map shown_of view)
-month_is month view headers found lines e h s = s ∙ ap by_sent (h ∙ ap (filter (is_of_month month)) (lines_are view headers (lines_in headers) e refl))
-
-pub author_is : (key : List ℕ) (view : List Message) (headers : List Header) (found lines : List Line) → IsIndexOf view headers → found ≡ filter (is_of_author key) (lines_in headers) → lines ≡ by_sent found
-    → lines ≡ author_lines key (map shown_of view)
-author_is key view headers found lines e h s = s ∙ ap by_sent (h ∙ ap (filter (is_of_author key)) (lines_are view headers (lines_in headers) e refl))
+pub rows_are : (view : List Message) (headers : List Header) (entries : List Entry) (rows : List Row) → IsIndexOf view headers → entries ≡ entries_in headers → rows ≡ threads_of entries true → rows ≡ rows_of (map shown_of view)
+rows_are view headers entries rows e h r = r ∙ ap (λ (es : List Entry). threads_of es true) (h ∙ ap entries_in e ∙ entries_of_view view)
 
 -- ---- threads
 

@@ -6,3 +6,4 @@ pub mod ResultExamples
 pub mod ShownExamples
 pub mod SlotLemmas
 pub mod SortLemmas
+pub mod FiledLemmas

@@ -19,10 +19,10 @@ use Rattle.archive_results.specs.Slots.{slots_in, held_at, row_held, HasNoPlaceT
 once_each : (count : ℕ) (rows : List Row) → HasEachPlaceOnce count rows → HasNoPlaceTwice rows
 once_each count rows each = λ place. ⊎_elim (λ l. omega (arith, each.once place l)) (λ l. omega (arith, each.no_other place l)) (cases_lt place count)
 
-pub once_of_threads : ((entries : List Entry) → HasEachPlaceOnce (length entries) (threads_of entries)) → (entries : List Entry) (rows : List Row)
-    → rows ≡ threads_of entries → HasNoPlaceTwice rows
-once_of_threads each entries rows e =
-    subst (λ (rs : List Row). HasNoPlaceTwice rs) (sym e) (once_each (length entries) (threads_of entries) (each entries))
+pub once_of_threads : ((entries : List Entry) (merge : Bool) → HasEachPlaceOnce (length entries) (threads_of entries merge)) → (merge : Bool) (entries : List Entry) (rows : List Row)
+    → rows ≡ threads_of entries merge → HasNoPlaceTwice rows
+once_of_threads each merge entries rows e =
+    subst (λ (rs : List Row). HasNoPlaceTwice rs) (sym e) (once_each (length entries) (threads_of entries merge) (each entries merge))
 
 fewer_behind : (place n : ℕ) (rows : List Row) → rows_at place (drop n rows) ≤ rows_at place rows
 fewer_behind place zero rows = omega arith

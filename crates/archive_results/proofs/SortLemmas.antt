@@ -1,25 +1,21 @@
--- A stable sort gives one list alone: that which insertion gives.
-use Rattle.std.proofs.Common.{◌≡◌, ℕ, suc, ◌<◌, ◌≤◌, Bool, true, false, not, ◌&&◌, if◌then◌else◌, List, [], ◌∷◌, filter, length, get_or, Less, Equal, Greater, refl, arith, cond, ap, ◌∙◌, sym, ℤ, int_lt}
+-- Insertion sorts stably, and one list alone is in order and has those that tie in their order.
+use Rattle.std.proofs.Common.{◌≡◌, Bool, true, false, not, ◌&&◌, if◌then◌else◌, List, [], ◌∷◌, filter, Less, Equal, Greater, refl, cond, ap, ◌∙◌, sym, ℤ, int_lt}
 use Rattle.std.specs.List.{AllByRecursion}
-use Rattle.std.specs.List.Sorted.{IsSortedBy, ties}
+use Rattle.std.specs.List.Sorted.{ties}
 use Rattle.std.specs.Cmp.{IsStrictWeakOrder}
 use Rattle.std.specs.Ordering.{is_lt, int_cmp}
 use Rattle.std.specs.Prelude.{⊤}
-use Rattle.std.proofs.lemmas.List.Sorted.{sorted_far, ranks_by}
-use Rattle.std.proofs.lemmas.Cmp.{int_cmp_total}
-use Rattle.archive_results.specs.Shown.{Line}
-use Rattle.archive_results.specs.Results.{with_line, by_sent}
 
 -- an element before the first that does not stand before it
-abbrev put : {X : Type 0} → (X → X → Bool) → X → List X → List X
+abbrev pub put : {X : Type 0} → (X → X → Bool) → X → List X → List X
 put lt x [] = x ∷ []
 put lt x (y ∷ ys) = if lt y x then y ∷ put lt x ys else x ∷ y ∷ ys
 
-abbrev ordered : {X : Type 0} → (X → X → Bool) → List X → List X
+abbrev pub ordered : {X : Type 0} → (X → X → Bool) → List X → List X
 ordered lt [] = []
 ordered lt (x ∷ xs) = put lt x (ordered lt xs)
 
-abbrev Rising : {X : Type 0} → (X → X → Bool) → List X → Type 0
+abbrev pub Rising : {X : Type 0} → (X → X → Bool) → List X → Type 0
 Rising lt [] = ⊤
 Rising lt (x ∷ xs) = AllByRecursion (λ y. lt y x ≡ false) xs × Rising lt xs
 
@@ -89,22 +85,9 @@ rising-put lt o x (y ∷ ys) up = go (lt y x) refl (rising-put lt o x ys up.1)
     go true e ih = (all-put (λ m. lt m y ≡ false) lt x ys (o.one_way y x e) up.0, ih)
     go false e ih = ((e, all-above lt o x y e ys up.0), up)
 
-rising : {X : Type 0} (lt : X → X → Bool) → IsStrictWeakOrder lt → (xs : List X) → Rising lt (ordered lt xs)
+pub rising : {X : Type 0} (lt : X → X → Bool) → IsStrictWeakOrder lt → (xs : List X) → Rising lt (ordered lt xs)
 rising lt o [] = tt
 rising lt o (x ∷ xs) = rising-put lt o x (ordered lt xs) (rising lt o xs)
-
--- ---- what a sort ensures
-
-all-at : {X : Type 0} (P : X → Type 0) (d : X) (xs : List X) → ((j : ℕ) → j < length xs → P (get_or xs j d)) → AllByRecursion P xs
-all-at P d [] h = tt
-all-at P d (x ∷ xs) h = (h 0 (omega arith), all-at P d xs (λ j lt. h (suc j) (omega (arith, lt))))
-
-rising-sorted : {X : Type 0} (lt : X → X → Bool) → IsStrictWeakOrder lt → (xs : List X) → ((i j : ℕ) (d : X) → i ≤ j → j < length xs → lt (get_or xs j d) (get_or xs i d) ≡ false) → Rising lt xs
-rising-sorted lt o [] h = tt
-rising-sorted lt o (x ∷ xs) h = (
-  all-at (λ m. lt m x ≡ false) x xs (λ j low. h 0 (suc j) x (omega arith) (omega (arith, low))),
-  rising-sorted lt o xs (λ i j d low high. h (suc i) (suc j) d (omega (arith, low)) (omega (arith, high))),
-)
 
 -- ---- one list alone
 
@@ -163,30 +146,12 @@ alone {X = X} lt o (x ∷ xs) (y ∷ ys) up rise same = go (lt x y) (lt y x) ref
         let rests : (z : X) → filter (ties lt z) xs ≡ filter (ties lt z) ys = λ z. cancel x (ties lt z x) _ _ (same z ∙ ap (λ (w : X). filter (ties lt z) (w ∷ ys)) (sym e)) in
         ap (λ (w : X). w ∷ xs) e ∙ ap (λ (ws : List X). y ∷ ws) (ih rests)
 
--- a stable sort gives what insertion gives
-pub sorted_is : {X : Type 0} (lt : X → X → Bool) → IsStrictWeakOrder lt → (xs ys : List X) → IsSortedBy lt ys → ((z : X) → filter (ties lt z) ys ≡ filter (ties lt z) xs) → ys ≡ ordered lt xs
-sorted_is lt o xs ys up same = alone lt o ys (ordered lt xs) (rising-sorted lt o ys (sorted_far lt o ys up)) (rising lt o xs) (λ z. same z ∙ sym (stable lt o z xs))
+-- ---- numbers
 
--- ---- lines by sent date
-
-abbrev pub sent_before : Line → Line → Bool
-sent_before l m = is_lt (int_cmp l.sent m.sent)
-
-is_less : (a b : ℤ) → is_lt (int_cmp a b) ≡ int_lt a b
+pub is_less : (a b : ℤ) → is_lt (int_cmp a b) ≡ int_lt a b
 is_less a b = go (int_lt a b) (int_lt b a)
   where
     go : (t u : Bool) → is_lt (cond t Less (cond u Greater Equal)) ≡ t
     go true u = refl
     go false true = refl
     go false false = refl
-
-put-line : (l : Line) (ms : List Line) → put sent_before l ms ≡ with_line l ms
-put-line l [] = refl
-put-line l (m ∷ ms) = rw (is_less m.sent l.sent, put-line l ms) refl
-
-ordered-lines : (ls : List Line) → ordered sent_before ls ≡ by_sent ls
-ordered-lines [] = refl
-ordered-lines (l ∷ ls) = put-line l (ordered sent_before ls) ∙ ap (with_line l) (ordered-lines ls)
-
-pub by_sent_is : (ls ms : List Line) → IsSortedBy sent_before ms → ((z : Line) → filter (ties sent_before z) ms ≡ filter (ties sent_before z) ls) → ms ≡ by_sent ls
-by_sent_is ls ms up same = sorted_is sent_before (ranks_by int_cmp_total (λ (l : Line). l.sent)) ls ms up same ∙ ordered-lines ls

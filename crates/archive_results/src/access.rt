@@ -12,6 +12,20 @@ use policy_core::{Facts, Standing, Verdict, Withdrawn};
 use std::alloc::Global;
 use std::marker::Model;
 
+/// What a policy asks of a reader: the standing on the list and the day.
+#[derive(Drop)]
+pub struct ReaderMarks {
+    pub standing: Standing,
+}
+
+impl Model for ReaderMarks {
+    ghost use Rattle.archive_results.specs.Access.{ReaderMarks as Reading};
+
+    ghost Value = { Reading };
+
+    ghost view = { λ r. record { standing = r.standing } };
+}
+
 /// What a policy asks of a message: when it came, who withdrew it, and the day up to which it is held back.
 #[derive(Clone, Copy)]
 pub struct Marks {
@@ -42,14 +56,14 @@ pub fn marks_of(message: &Message) -> Marks
     }
 }
 
-/// What the policy says of a message of these marks to a reader of this standing.
+/// What the policy says of a message of these marks to a reader of these.
 #[tactic(auto, unfolding(crate::specs::Access::ruling_on))]
-fn verdict<'a>(ask: &Ask<'a>, standing: Standing, marks: Marks) -> Verdict<'a>
-    ensures { ruling result ≡ ruling_on ask.now standing marks }
+fn verdict<'a>(ask: &Ask<'a>, reader: &ReaderMarks, marks: Marks) -> Verdict<'a>
+    ensures { ruling result ≡ ruling_on ask.now reader.now marks }
 {
     let facts = Facts {
         list: ask.list,
-        standing,
+        standing: reader.standing,
         day: ask.day,
         arrival_day: marks.arrival.day(),
         withdrawn: marks.withdrawn,
@@ -58,38 +72,38 @@ fn verdict<'a>(ask: &Ask<'a>, standing: Standing, marks: Marks) -> Verdict<'a>
     ask.policy.verdict(&facts)
 }
 
-/// Whether the policy allows a message of these marks to a reader of this standing. It takes no memory.
-pub fn allows(ask: &Ask<'_>, standing: Standing, marks: Marks) -> bool
-    ensures { result ≡ allows ask.now standing marks }
+/// Whether the policy allows a message of these marks to a reader of these. It takes no memory.
+pub fn allows(ask: &Ask<'_>, reader: &ReaderMarks, marks: Marks) -> bool
+    ensures { result ≡ allows ask.now reader.now marks }
 {
-    match verdict(ask, standing, marks) {
+    match verdict(ask, reader, marks) {
         Verdict::Allowed(_) => true,
         Verdict::Denied(_) => false,
     }
 }
 
-/// Whether the policy allows a message to a reader of this standing. It takes no memory.
-pub fn is_shown(ask: &Ask<'_>, standing: Standing, message: &Message) -> bool
-    ensures { (list : List ℕ) → result ≡ is_shown ask.now standing (remembered list message.now) }
+/// Whether the policy allows a message to a reader of these marks. It takes no memory.
+pub fn is_shown(ask: &Ask<'_>, reader: &ReaderMarks, message: &Message) -> bool
+    ensures { (list : List ℕ) → result ≡ is_shown ask.now reader.now (remembered list message.now) }
 {
-    allows(ask, standing, marks_of(message))
+    allows(ask, reader, marks_of(message))
 }
 
-/// What a reader of this standing gets who asks for a message that the list holds, or for one that it does not hold. `Memory`
+/// What a reader of these marks gets who asks for a message that the list holds, or for one that it does not hold. `Memory`
 /// where no memory is left for its text.
 pub fn asked<'a>(
     alloc: Global,
     ask: &Ask<'a>,
-    standing: Standing,
+    reader: &ReaderMarks,
     held: &Option<Message>,
 ) -> Result<Asked<'a>, Memory>
     ensures { (list : List ℕ) → IfOk result (λ asked.
-        told asked ≡ asked_on ask.now standing (option_map (remembered list) held.now)) }
+        told asked ≡ asked_on ask.now reader.now (option_map (remembered list) held.now)) }
 {
     let Some(message) = held else {
         return Ok(Asked::Absent);
     };
-    match verdict(ask, standing, marks_of(message)) {
+    match verdict(ask, reader, marks_of(message)) {
         Verdict::Allowed(_) => Ok(Asked::Served(message.item.as_item().text.to_vec(alloc)?)),
         Verdict::Denied(rule) => Ok(Asked::Denied(rule)),
     }

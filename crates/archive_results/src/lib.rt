@@ -11,10 +11,10 @@ mod lines;
 mod results;
 mod threads;
 
-pub use access::{Marks, allows, asked, is_shown, marks_of};
+pub use access::{Marks, ReaderMarks, allows, asked, is_shown, marks_of};
 pub use asking::{Ask, Asked, Reader};
 pub use entries::{entry_of, line_of};
 pub use headers::{Header, header_of};
 pub use lines::{Line, TreeLine};
-pub use results::{author_lines, month_lines};
+pub use results::lines_of;
 pub use threads::{thread_lines, tree_lines};

@@ -114,7 +114,7 @@ pub fn tree_lines<T: Threader>(
 {
     each_place_stands_in_one_row();
     let mut parts = split(alloc, headers)?;
-    let rows = threads(alloc, threader, &parts.entries)?;
+    let rows = threads(alloc, threader, &parts.entries, true)?;
     let shown = lines_at(alloc, &mut parts.slots, &rows)?;
     Ok(shown)
 }
@@ -135,7 +135,7 @@ pub fn thread_lines<T: Threader>(
         return Ok(None);
     };
     let mut parts = split(alloc, headers)?;
-    let rows = threads(alloc, threader, &parts.entries)?;
+    let rows = threads(alloc, threader, &parts.entries, true)?;
     let Some((first, end)) = thread_of(&rows, place) else {
         return Ok(None);
     };

@@ -10,6 +10,7 @@ use Rattle.archive_machine.specs.Keys.{is_key}
 use Rattle.archive_machine.specs.Questions.{has_list, has_person, has_token, has_grant, message_of, has_message, is_withdrawn, is_embargoed}
 use Rattle.archive_machine.specs.Tokens.{is_token}
 use Rattle.archive_machine.specs.Machine.{Outcome, step, refuse}
+use Rattle.archive_machine.specs.Sound.{IsFiledRight}
 use Rattle.sqlite.specs.Held.{state}
 use Rattle.archive_tables.specs.Tables.{archive_of}
 use Rattle.archive_tables.specs.Calls.{WasClean}
@@ -19,6 +20,7 @@ use Rattle.archive_store.specs.declared.store.Store.{Store}
 use Rattle.archive_store.specs.declared.faults.StoreFault.{StoreFault}
 use Rattle.archive_store.specs.declared.faults.StoreFault.TheVariants.{NoMessage}
 use Rattle.archive_store.proofs.Joins.{stepped as store_stepped, step_failed, stays_there, goes_as, calls_refused, calls_failed}
+use Rattle.archive_store.proofs.RightLemmas.{step_right}
 use Rattle.archive_words.specs.Values.{TableCommand, list_add, person_add, grant, revoke, withdraw, restore, embargo, lift}
 use Rattle.archive_work.specs.Commands.{answer_to, stepped, keyed, done_by, whether_by, rank_named, party_named}
 use Rattle.archive_work.specs.Working.{Carries}
@@ -74,6 +76,25 @@ refusal_stays a (lift list key) =
     stays_keyed a key (machine.lift list key)
     (on_whether a _ _ _ (not (has_list a list)) (not (has_message a list key)) (is_embargoed (message_of a list key)))
 
+-- ---- what is filed stays right
+
+keyed_right : (key : List ℕ) (command : machine.Command) (a : Archive) → IsFiledRight a → IsFiledRight (keyed a key command).0
+keyed_right key command a right = by_test (is_key key)
+  where
+    by_test : (t : Bool) → IsFiledRight (cond t (step a command) (refuse a no_message)).0
+    by_test true = step_right command a right
+    by_test false = right
+
+stepped_right : (command : TableCommand) (a : Archive) → IsFiledRight a → IsFiledRight (stepped a command).0
+stepped_right (list_add name) a right = step_right (machine.list_add name) a right
+stepped_right (person_add name token) a right = step_right (machine.person_add name token) a right
+stepped_right (grant person list kind from until) a right = step_right (machine.grant person list (rank_named kind) from until) a right
+stepped_right (revoke person list kind) a right = step_right (machine.revoke person list (rank_named kind)) a right
+stepped_right (withdraw list key by) a right = keyed_right key (machine.withdraw list key (party_named by)) a right
+stepped_right (restore list key) a right = keyed_right key (machine.restore list key) a right
+stepped_right (embargo list key until) a right = keyed_right key (machine.embargo list key until) a right
+stepped_right (lift list key) a right = keyed_right key (machine.lift list key) a right
+
 -- ---- a step of the store
 
 module _ {S : Type 0} (g : Ghosts S) (old new : Store S) (command : TableCommand) (was : WasClean g (held_of old) (held_of new)) where
@@ -92,13 +113,13 @@ module _ {S : Type 0} (g : Ghosts S) (old new : Store S) (command : TableCommand
       (λ a b h.
       let told = sym (ap (λ (o : Outcome). o.1) h) in
       (ap (λ (o : Outcome). o.0) h ∙ refusal_stays a command why told, told))
-      (store_stepped g old new was (λ a. stepped a command) (Some (refused why)) (refused why) refl does))
+      (store_stepped g old new was (λ a. stepped a command) (Some (refused why)) (refused why) (stepped_right command) refl does))
 
   carries_answer : (answer : Answer) (reply : Reply) → answer_to command reply ≡ Some answer → DoesReply (Some reply) → Carries g old new command (Ok answer)
   carries_answer answer reply named does =
       goes_as g old new (λ a b. (b, reply) ≡ stepped a command) (λ a b. (b ≡ (stepped a command).0) × (answer_to command (stepped a command).1 ≡ Some answer))
       (λ a b h. (ap (λ (o : Outcome). o.0) h, ap (answer_to command) (sym (ap (λ (o : Outcome). o.1) h)) ∙ named))
-      (store_stepped g old new was (λ a. stepped a command) (Some reply) reply refl does)
+      (store_stepped g old new was (λ a. stepped a command) (Some reply) reply (stepped_right command) refl does)
 
   pub carries_done : (answer : Answer) (result : Result (Unit {0}) StoreFault) → answer_to command done ≡ Some answer → DoesReply (says_done result)
       → Carries g old new command (done_by answer result)

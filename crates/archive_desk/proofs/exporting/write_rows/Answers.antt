@@ -8,7 +8,7 @@ use Rattle.archive_desk.proofs.exporting.write_rows.Goals as goal
 
 pub loop-message-init : goal.loop-message-init
 loop-message-init g c =
-    (refl, (λ returned. returned), refl, rows_none g.S.Store c.args.ask.now c.args.standing c.args.walk.now (g.W.Sink.told c.args.out.now) c.args.count.now c.requires)
+    (refl, (λ returned. returned), refl, rows_none g.S.Store c.args.ask.now c.args.reader.now c.args.walk.now (g.W.Sink.told c.args.out.now) c.args.count.now c.requires)
 
 pub loop-message-preserved : goal.loop-message-preserved
 loop-message-preserved g c =
@@ -16,32 +16,32 @@ loop-message-preserved g c =
       c.next.ensures.same_reference ∙ so_far.0,
       (λ returned. so_far.1 (c.next.ensures.clean returned)),
       c.in-Ok.ensures.quiet ∙ so_far.2,
-      rows_more g.S.Store c.args.ask.now c.args.standing c.args.walk.now c.loop-message.walk c.next.new.self (g.W.Sink.told c.args.out.now)
+      rows_more g.S.Store c.args.ask.now c.args.reader.now c.args.walk.now c.loop-message.walk c.next.new.self (g.W.Sink.told c.args.out.now)
           (g.W.Sink.told c.loop-message.out) c.args.count.now c.loop-message.count so_far.3 c.next.ensures.clean c.in-Some.message
-          (λ returned a given w. rw c.in-Some.is at (c.in_ok-message.ensures.given returned c.args.ask.now.list a given w))
+          (λ returned all a given w. rw c.in-Some.is at (c.in_ok-message.ensures.given returned c.args.ask.now.list all a given w))
           (g.W.Sink.told c.write_shown.new.out) c.in-Ok.more c.saturating_add.result c.in-Ok.ensures.ok c.in-Ok.ensures.count c.saturating_add.ensures,
     )
 
 pub returns-in-Err-clause-written : goal.returns-in-Err-clause-written
 returns-in-Err-clause-written g c =
-    rows_unwritten g.S.Store c.args.ask.now c.args.standing c.args.walk.now c.loop-message.walk c.next.new.self (g.W.Sink.told c.args.out.now)
+    rows_unwritten g.S.Store c.args.ask.now c.args.reader.now c.args.walk.now c.loop-message.walk c.next.new.self (g.W.Sink.told c.args.out.now)
     (g.W.Sink.told c.loop-message.out) c.args.count.now c.loop-message.count c.loop-message.invariant.3 c.next.ensures.clean c.in-Some.message
-    (λ returned a given w. rw c.in-Some.is at (c.in_ok-message.ensures.given returned c.args.ask.now.list a given w))
+    (λ returned all a given w. rw c.in-Some.is at (c.in_ok-message.ensures.given returned c.args.ask.now.list all a given w))
     (g.W.Sink.told c.write_shown.new.out) c.in-Err.fault.written c.saturating_add-in-Err.result c.in-Err.ensures.fault c.saturating_add-in-Err.ensures
 
 pub returns-in_err-message-clause-written : goal.returns-in_err-message-clause-written
 returns-in_err-message-clause-written g c =
     let fault = c.in_err-message.field-0.0 in
     let is : c.from_residual.result ≡ Err (desk_fault fault) = search rules in
-    subst (λ r. WritesRows g.S.Store c.args.walk.now c.next.new.self c.args.ask.now c.args.standing (g.W.Sink.told c.args.out.now)
+    subst (λ r. WritesRows g.S.Store c.args.walk.now c.next.new.self c.args.ask.now c.args.reader.now (g.W.Sink.told c.args.out.now)
     (g.W.Sink.told c.loop-message.out) c.args.count.now c.loop-message.count r) (sym is)
-    (rows_unread g.S.Store c.args.ask.now c.args.standing c.args.walk.now c.loop-message.walk c.next.new.self (g.W.Sink.told c.args.out.now)
+    (rows_unread g.S.Store c.args.ask.now c.args.reader.now c.args.walk.now c.loop-message.walk c.next.new.self (g.W.Sink.told c.args.out.now)
     (g.W.Sink.told c.loop-message.out) c.args.count.now c.loop-message.count c.loop-message.invariant.3 c.next.ensures.clean (desk_fault fault)
     (reasoned fault ∙ ap (option_map reason_by) c.in_err-message.ensures.fault)
-    (λ returned a given w. c.in_err-message.ensures.given returned c.args.ask.now.list a given w))
+    (λ returned all a given w. c.in_err-message.ensures.given returned c.args.ask.now.list all a given w))
 
 pub returns-clause-written : goal.returns-clause-written
 returns-clause-written g c =
-    rows_all g.S.Store c.args.ask.now c.args.standing c.args.walk.now c.loop-message.walk c.next.new.self (g.W.Sink.told c.args.out.now)
+    rows_all g.S.Store c.args.ask.now c.args.reader.now c.args.walk.now c.loop-message.walk c.next.new.self (g.W.Sink.told c.args.out.now)
     (g.W.Sink.told c.loop-message.out) c.args.count.now c.loop-message.count c.loop-message.invariant.3 c.next.ensures.clean
-    (λ returned a given w. rw c.in_default.is at (c.in_ok-message.ensures.given returned c.args.ask.now.list a given w))
+    (λ returned all a given w. rw c.in_default.is at (c.in_ok-message.ensures.given returned c.args.ask.now.list all a given w))

@@ -9,7 +9,7 @@ invariant-loop-message g l =
     (l.walk.store.ghost_name ≡ l.fn.walk.store.ghost_name)
     × (HasReturned g.S.Store l.walk.store.now → HasReturned g.S.Store l.fn.walk.store.now)
     × (g.W.Sink.failures l.out ≡ g.W.Sink.failures l.fn.out)
-    × RowsSoFar g.S.Store l.ask l.standing l.fn.walk l.walk (g.W.Sink.told l.fn.out) (g.W.Sink.told l.out) l.fn.count l.count
+    × RowsSoFar g.S.Store l.ask l.reader l.fn.walk l.walk (g.W.Sink.told l.fn.out) (g.W.Sink.told l.out) l.fn.count l.count
 
 abbrev pub decreases-loop-message : goal.decreases-loop-message
 decreases-loop-message g l = left_of l.walk

@@ -1,10 +1,16 @@
-use Rattle.std.proofs.Common.{◌≡◌, map}
+use Rattle.std.proofs.Common.{◌≡◌, map, ◌∙◌}
+use Rattle.archive_results.specs.Access.{view_of}
+use Rattle.archive_results.specs.Filed.{filed_author_lines}
 use Rattle.archive_results.specs.Results.{author_lines}
 use Rattle.archive_results.specs.Shown.{shown_of}
-use Rattle.archive_desk.proofs.ListLemmas.{listed_from}
+use Rattle.archive_results.proofs.FiledLemmas.{author_is_filed}
+use Rattle.archive_desk.specs.Faults.{ask_reason, reason}
+use Rattle.archive_desk.proofs.CallLemmas.{asks_right}
 use Rattle.archive_desk.proofs.listing.author.Goals as goal
 
-pub returns-in-Ok-clause-listed : goal.returns-in-Ok-clause-listed
-returns-in-Ok-clause-listed g c =
-    listed_from g.S.Store c.args.store.now c.read_headers.new.store c.args.ask.now c.in_ok-headers.headers.items c.in_ok-headers.ensures.held
-    (λ view. c.in-Ok.lines.items ≡ author_lines c.args.key.now (map shown_of view)) c.in-Ok.ensures
+pub returns-clause-listed : goal.returns-clause-listed
+returns-clause-listed g c =
+    let ask = c.args.ask.now in
+    asks_right g.S.Store c.args.store.now c.read_author.new.store reason (λ a. ask_reason a ask) (λ a lines. lines.items ≡ filed_author_lines a ask c.args.key.now)
+    (λ a lines. lines.items ≡ author_lines c.args.key.now (map shown_of (view_of a ask))) (λ a lines right is. is ∙ author_is_filed a ask c.args.key.now right)
+    c.read_author.result c.read_author.ensures.held

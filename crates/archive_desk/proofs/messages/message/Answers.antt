@@ -3,17 +3,26 @@ use Rattle.std.specs.Prelude.{option_map}
 use Rattle.archive_machine.specs.Messages.{remembered}
 use Rattle.archive_machine.specs.Questions.{message_of}
 use Rattle.archive_results.specs.Access.{asked_of, told}
+use Rattle.archive_store.proofs.Joins.{asks_too}
+use Rattle.archive_desk.specs.Faults.{ask_reason, reason}
 use Rattle.archive_desk.proofs.AskLemmas.{answer_after, list_refused}
+use Rattle.archive_desk.proofs.CallLemmas.{unanswered_too}
 use Rattle.archive_desk.proofs.messages.message.Goals as goal
 
 pub returns-in-Ok-clause-asked : goal.returns-in-Ok-clause-asked
 returns-in-Ok-clause-asked g c =
     let ask = c.args.ask.now in
-    answer_after g.S.Store ask c.args.store.now c.find_row.new.store c.answer_on.new.store told c.args.key.now (option_map (remembered ask.list) c.in-Ok.held)
-    c.answer_on.result c.in-Ok.ensures.held c.answer_on.ensures.asked
+    let old = c.args.store.now in
+    let new = c.answer_on.new.store in
+    asks_too g.S.Store old new reason c.answer_on.result (λ a. ask_reason a ask) (λ a answer. told answer ≡ asked_of a ask c.args.key.now)
+    (answer_after g.S.Store ask old c.find_row.new.store new told c.args.key.now (option_map (remembered ask.list) c.in-Ok.held)
+    c.answer_on.result c.in-Ok.ensures.held c.answer_on.ensures.asked)
 
 pub returns-in-Err-clause-asked : goal.returns-in-Err-clause-asked
 returns-in-Err-clause-asked g c =
     let ask = c.args.ask.now in
-    list_refused g.S.Store ask c.args.store.now c.find_row.new.store c.in-Err.fault
-    (λ a found. option_map (remembered ask.list) found ≡ message_of a ask.list c.args.key.now) (λ a answer. told answer ≡ asked_of a ask c.args.key.now) c.in-Err.ensures.held
+    let old = c.args.store.now in
+    let new = c.find_row.new.store in
+    unanswered_too g.S.Store old new reason (λ a. ask_reason a ask) c.in-Err.fault
+    (list_refused g.S.Store ask old new c.in-Err.fault
+    (λ a found. option_map (remembered ask.list) found ≡ message_of a ask.list c.args.key.now) (λ a answer. told answer ≡ asked_of a ask c.args.key.now) c.in-Err.ensures.held)

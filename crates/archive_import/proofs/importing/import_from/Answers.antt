@@ -1,13 +1,24 @@
 use Rattle.std.proofs.Common.{[], ◌∙◌, sym, ap, subst, refl, append-nil, arith}
 use Rattle.archive_machine.specs.Records.{Archive}
+use Rattle.archive_machine.specs.Questions.{list_refusal}
+use Rattle.archive_store.specs.Replies.{refusal}
 use Rattle.archive_store.specs.Told.{Goes}
+use Rattle.archive_store.proofs.Joins.{sound_too}
+use Rattle.archive_desk.proofs.CallLemmas.{unanswered_too}
 use Rattle.archive_import.specs.Streaming.{IsReadIn}
 use Rattle.archive_import.specs.Intake.{IsUnderWay}
-use Rattle.archive_import.proofs.ReadLemmas.{not_found, found_begun, settled_stopped, last_stopped, read_in}
+use Rattle.archive_import.proofs.ReadLemmas.{IsFound, not_found, found_begun, settled_stopped, last_stopped, read_in}
 use Rattle.archive_import.proofs.importing.import_from.Goals as goal
 
 pub returns-in-Err-clause-imports : goal.returns-in-Err-clause-imports
-returns-in-Err-clause-imports g c = ([], 0, sym (append-nil _), omega arith, not_found g.S.Store c.args.store.now c.find_list.new.store c.args.list.now c.in-Err.fault c.in-Err.ensures.found)
+returns-in-Err-clause-imports g c = (
+  [],
+  0,
+  sym (append-nil _),
+  omega arith,
+  not_found g.S.Store c.args.store.now c.find_list.new.store c.args.list.now c.in-Err.fault
+      (unanswered_too g.S.Store c.args.store.now c.find_list.new.store refusal (λ a. list_refusal a c.args.list.now) c.in-Err.fault c.in-Err.ensures.found),
+)
 
 pub returns-in-Err-add_settled-clause-imports : goal.returns-in-Err-add_settled-clause-imports
 returns-in-Err-add_settled-clause-imports g c = (
@@ -15,7 +26,8 @@ returns-in-Err-add_settled-clause-imports g c = (
   0,
   c.add_settled.ensures.told,
   omega (arith, c.in-Err-add_settled.ensures.no_end),
-  settled_stopped g.S.Store c.args.store.now c.find_list.new.store c.add_settled.new.store c.args.list.now c.new-intake.result c.new-intake.ensures c.in_default.ensures.found
+  settled_stopped g.S.Store c.args.store.now c.find_list.new.store c.add_settled.new.store c.args.list.now c.new-intake.result c.new-intake.ensures
+      (sound_too g.S.Store c.args.store.now c.find_list.new.store (IsFound c.args.list.now) (λ a b h. h.0) c.in_default.ensures.found)
       c.add_settled.new.cutter.stream c.in-Err-add_settled.stop c.in-Err-add_settled.ensures.adds,
 )
 
@@ -30,7 +42,8 @@ returns-in-Ok-add_last-clause-imports g c =
       c.add_settled.ensures.told,
       c.in-Ok.ensures.end,
       read_in g.S.Store store c.add_settled.new.store c.add_last.new.store list cutter.stream cutter.taken intake
-          (found_begun g.S.Store store c.find_list.new.store c.add_settled.new.store list c.new-intake.result c.new-intake.ensures c.in_default.ensures.found cutter.taken intake c.in-Ok.ensures.adds)
+          (found_begun g.S.Store store c.find_list.new.store c.add_settled.new.store list c.new-intake.result c.new-intake.ensures
+          (sound_too g.S.Store store c.find_list.new.store (IsFound list) (λ a b h. h.0) c.in_default.ensures.found) cutter.taken intake c.in-Ok.ensures.adds)
           c.report.result
           (subst (λ r. Goes g.S.Store c.add_settled.new.store c.add_last.new.store (λ b c. (a : Archive) → IsUnderWay list a b cutter.taken intake → IsReadIn list cutter.stream 1 a c r)) (sym c.report.ensures) c.in-Ok-add_last.ensures.adds),
     )
@@ -46,6 +59,7 @@ returns-clause-imports g c =
       c.add_settled.ensures.told,
       c.in-Ok.ensures.end,
       last_stopped g.S.Store store c.add_settled.new.store c.add_last.new.store list cutter.stream cutter.taken intake
-          (found_begun g.S.Store store c.find_list.new.store c.add_settled.new.store list c.new-intake.result c.new-intake.ensures c.in_default.ensures.found cutter.taken intake c.in-Ok.ensures.adds)
+          (found_begun g.S.Store store c.find_list.new.store c.add_settled.new.store list c.new-intake.result c.new-intake.ensures
+          (sound_too g.S.Store store c.find_list.new.store (IsFound list) (λ a b h. h.0) c.in_default.ensures.found) cutter.taken intake c.in-Ok.ensures.adds)
           c.in-Err-add_last.stop c.in-Err-add_last.ensures.adds,
     )

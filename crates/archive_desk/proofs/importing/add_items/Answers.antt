@@ -1,0 +1,25 @@
+use Rattle.std.proofs.Common.{sym, subst, Err}
+use Rattle.archive_store.specs.Told.{Calls}
+use Rattle.archive_desk.specs.Importing.{HasAdded, IsBrokenAdd, IsRefusedAdd, stop_reason}
+use Rattle.archive_desk.specs.declared.importing.Report.{Report}
+use Rattle.archive_desk.proofs.ImportLemmas.{added_all, added_first}
+use Rattle.archive_desk.proofs.importing.add_items.Goals as goal
+
+pub returns-in-Ok : goal.returns-in-Ok
+returns-in-Ok g c = record {
+  added = added_all g.S.Store c.args.store.now c.add_all.new.self c.args.list.now c.args.items.now c.add_all.ensures.clean c.in-Ok.counts c.report_of.result
+      c.report_of.ensures c.in-Ok.ensures.step;
+}
+
+pub returns-in-Err : goal.returns-in-Err
+returns-in-Err g c =
+    let list = c.args.list.now in
+    let items = c.args.items.now in
+    let old = c.args.store.now in
+    let new = c.add_all.new.self in
+    record {
+      added = subst
+          (λ s. Calls g.S.Store old new {A = Report} stop_reason (Err s) (λ a b report. HasAdded list items a b report)
+          (λ a b why. IsRefusedAdd list items a b why.0 why.1) (λ a b stop. IsBrokenAdd list items a b stop.done stop.fault)) (sym c.stop_of.ensures)
+          (added_first g.S.Store old new list items c.add_all.ensures.clean c.in-Err.stop c.in-Err.ensures.bound c.in-Err.ensures.step);
+    }

@@ -1,0 +1,32 @@
+use Rattle.std.proofs.Common.{◌≡◌, List, Some, Err, rules, sym, subst}
+use Rattle.std.specs.Prelude.{MatchOption, Vec}
+use Rattle.std.specs.declared.alloc.Global.{Global}
+use Rattle.archive_machine.specs.Records.{Archive, Message as Remembered}
+use Rattle.archive_machine.specs.Questions.{list_refusal}
+use Rattle.archive_machine.specs.Filing.{by_author}
+use Rattle.archive_results.specs.Access.{reader_marks}
+use Rattle.archive_results.specs.Filed.{filed_author_lines}
+use Rattle.archive_results.specs.Shown.{Line}
+use Rattle.archive_store.specs.Replies.{refusal}
+use Rattle.archive_store.specs.Told.{HoldsTables, GoesIn, GoesInIfOpen, AsksIn}
+use Rattle.archive_desk.specs.Faults.{ask_reason, reason}
+use Rattle.archive_desk.specs.Listing.{lines_shown}
+use Rattle.archive_desk.proofs.IndexLemmas.{not_listed}
+use Rattle.archive_desk.proofs.index.read_author.Goals as goal
+
+pub returns-in-Err-each_by_author-clause-held : goal.returns-in-Err-each_by_author-clause-held
+returns-in-Err-each_by_author-clause-held g c =
+    let ask = c.args.ask.now in
+    let old = c.args.store.now in
+    let mid = c.find_reader.new.store in
+    let last = c.each_by_author.follows.lender-at-none in
+    let fault = c.in-Err-each_by_author.fault in
+    let which : Archive → List Remembered = λ a. by_author a ask.list c.args.key.now in
+    let is : c.ask.inside.list.now ≡ ask.list = search rules in
+    let refused =
+    subst (λ l. MatchOption (refusal fault) (GoesInIfOpen g.S.Store (HoldsTables g.S.Store) mid last (λ a b. b ≡ a))
+    (λ why. GoesIn g.S.Store (HoldsTables g.S.Store) mid last (λ a b. (b ≡ a) × (list_refusal a l ≡ Some why)))) is
+    (rw c.in-Err-each_by_author.is at c.each_by_author.follows.holds-at-none) in
+    subst (λ f. AsksIn g.S.Store (HoldsTables g.S.Store) old last reason (Err f) (λ a. ask_reason a ask)
+    (λ a (lines : Vec Line Global). lines.items ≡ filed_author_lines a ask c.args.key.now)) (sym c.from.ensures)
+    (not_listed lines_shown g.S.Store old mid ask which (λ a. c.in-Ok.reader ≡ reader_marks a ask) c.in-Ok.ensures.found last fault refused)
