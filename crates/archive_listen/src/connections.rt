@@ -49,7 +49,8 @@ pub trait Listener {
             (Self.Output.told c.output) (Self.Output.failures c.output) ≡ untold) }
         ensures accepts { MatchResult result (λ _. accepts self.old self.new None) (λ fault. accepts self.old self.new (Some fault)) };
 
-    /// Takes a connection back and closes it. `lingers`: its peer may still be sending, and is read on a while.
+    /// Takes a connection back and closes it. `lingers`: its peer may still be sending, and is read on a while; else it is so
+    /// where the listener finds that more came than was read.
     fn close(&mut self, connection: Connection<Self::Input, Self::Output>, lingers: bool)
         ensures closes { closes self.old self.new
             (exchange (Self.Input.told connection.input) (Self.Output.sent connection.output)) lingers };

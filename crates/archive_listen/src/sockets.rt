@@ -32,6 +32,9 @@ const LINGER_SECONDS: u64 = 1;
 /// How many bytes are read on at most.
 const LINGER_BYTES: usize = 1_048_576;
 
+/// How long it is looked whether more comes behind a request that got what it asked for, in milliseconds.
+const LOOK_MILLISECONDS: u64 = 1;
+
 /// What is read of a peer, within the times that a request may take. A read past them fails.
 #[derive(Drop)]
 pub struct SocketInput<'a, R, S> {
@@ -39,6 +42,7 @@ pub struct SocketInput<'a, R, S> {
     stream: S,
     since: Instant,
     begun: bool,
+    failed: bool,
     told: Told,
     ends: Told,
     faults: Told,
@@ -67,6 +71,7 @@ impl<'a, R: Clock, S: Read + OpenStream> SocketInput<'a, R, S> {
             stream,
             since,
             begun: false,
+            failed: false,
             told: Told::new(),
             ends: Told::new(),
             faults: Told::new(),
@@ -103,6 +108,7 @@ impl<'a, R: Clock, S: Read + OpenStream> Source for SocketInput<'a, R, S> {
                 Ok(count)
             }
             Err(failure) => {
+                self.failed = true;
                 self.faults.note(&[0]);
                 Err(failure)
             }
@@ -110,20 +116,37 @@ impl<'a, R: Clock, S: Read + OpenStream> Source for SocketInput<'a, R, S> {
     }
 }
 
-/// Ends what is written, and reads on a while, so that the peer gets the reply before the connection is closed.
-fn linger<R: Clock, S: Read + OpenStream>(clock: &R, stream: &mut S) {
+/// Whether something comes within a span. It is dropped.
+fn drops_some<R: Clock, S: Read + OpenStream>(clock: &R, stream: &mut S, span: Span) -> bool {
+    match read_within(clock, stream, span, &mut [0; 8192]) {
+        Ok(count) => count > 0,
+        Err(_) => false,
+    }
+}
+
+/// Ends what is written, and reads on a while where something comes within a first wait, so that the peer gets the reply before
+/// the connection is closed.
+fn linger<R: Clock, S: Read + OpenStream>(clock: &R, stream: &mut S, first: Duration) {
     let Ok(since) = Instant::now(clock) else {
         return;
     };
     if stream.shutdown(Shutdown::Write).is_err() {
         return;
     }
-    let span = Span {
+    let whole = Duration::from_secs(LINGER_SECONDS);
+    let looking = Span {
         since,
-        whole: Duration::from_secs(LINGER_SECONDS),
-        most: Duration::from_secs(LINGER_SECONDS),
+        whole,
+        most: first,
     };
-    read_on(clock, stream, span);
+    let reading = Span {
+        since,
+        whole,
+        most: whole,
+    };
+    if drops_some(clock, stream, looking) {
+        read_on(clock, stream, reading);
+    }
 }
 
 /// Reads and drops what comes within a span.
@@ -246,9 +269,19 @@ impl<'a, R: Net + Clock> Listener for Loopback<'a, R> {
     )
         ensures closes { ⊤ }
     {
-        let mut connection = connection;
+        let mut input = connection.input;
         if lingers {
-            linger(self.rt, &mut connection.input.stream);
+            linger(
+                self.rt,
+                &mut input.stream,
+                Duration::from_secs(LINGER_SECONDS),
+            );
+        } else if !input.failed {
+            linger(
+                self.rt,
+                &mut input.stream,
+                Duration::from_millis(LOOK_MILLISECONDS),
+            );
         }
     }
 }

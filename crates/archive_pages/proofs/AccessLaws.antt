@@ -10,7 +10,7 @@ use Rattle.policy_core.specs.Verdict.{allowed, denied, ruling_by, verdict_of}
 use Rattle.archive_machine.specs.Records.{Archive, Message}
 use Rattle.archive_machine.specs.Questions.{has_list, message_of}
 use Rattle.archive_machine.specs.Keys.{is_key}
-use Rattle.archive_results.specs.Access.{Ask, asked_on, asked_by, asked_of, is_allowance, is_shown, reader_standing, ruling_on}
+use Rattle.archive_results.specs.Access.{Ask, asked_on, asked_by, asked_of, is_allowance, is_shown, reader_marks, ruling_on}
 use Rattle.archive_results.specs.Shown.{Shown}
 use Rattle.archive_results.specs.Results.{TreeLine, month_lines, thread_lines}
 use Rattle.archive_html.specs.Pages.{month_page, thread_page}
@@ -78,12 +78,12 @@ refused_is rules f (inr none) = (codes "default", undecided rules f none)
 
 module _ (archive : Archive) (ask : Ask) (m : Message) where
   shown_by : (is : IsAllowed ask.rules (facts_on archive ask m) ⊎ IsRefused ask.rules (facts_on archive ask m))
-      → is_shown ask (reader_standing archive ask) m ≡ true → IsAllowed ask.rules (facts_on archive ask m)
+      → is_shown ask (reader_marks archive ask) m ≡ true → IsAllowed ask.rules (facts_on archive ask m)
   unfolding ruling_on
   shown_by (inl is) h = is
   shown_by (inr denial) h = absurd (true≢false (sym h ∙ ap is_allowance (refused_is ask.rules (facts_on archive ask m) denial).1))
 
-  pub shown_exactly : (is_shown ask (reader_standing archive ask) m ≡ true) ↔ IsAllowed ask.rules (facts_on archive ask m)
+  pub shown_exactly : (is_shown ask (reader_marks archive ask) m ≡ true) ↔ IsAllowed ask.rules (facts_on archive ask m)
   unfolding ruling_on
   shown_exactly = (
     shown_by (by_decision ask.rules (facts_on archive ask m) (decide ask.rules (facts_on archive ask m))),
@@ -105,7 +105,7 @@ module _ (archive : Archive) (rules : List Rule) (day : ℤ) (head : RequestHead
     held_reply : AsksForMessage archive head reader list key → (m : Message) → message_of archive list key ≡ Some m
         → reply_of archive rules day head ≡ asked_reply (asked_by m (verdict_of rules (facts_on archive ask m)))
     unfolding ruling_on
-    held_reply it m held = of_message it ∙ ap (λ o. asked_reply (asked_on ask (reader_standing archive ask) o)) held
+    held_reply it m held = of_message it ∙ ap (λ o. asked_reply (asked_on ask (reader_marks archive ask) o)) held
 
     served_whole : AsksForMessage archive head reader list key → (m : Message) → message_of archive list key ≡ Some m
         → IsAllowed rules (facts_on archive ask m) → reply_of archive rules day head ≡ message_reply m.text
@@ -133,7 +133,7 @@ module _ (archive : Archive) (rules : List Rule) (day : ℤ) (head : RequestHead
         → OfHeld archive ask key (IsAllowed rules)
     by_held it (Some m) held status = on_200 it m held (by_decision rules (facts_on archive ask m) (decide rules (facts_on archive ask m))) status
     by_held it None held status =
-        let reply = of_message it ∙ ap (λ o. asked_reply (asked_on ask (reader_standing archive ask) o)) held in
+        let reply = of_message it ∙ ap (λ o. asked_reply (asked_on ask (reader_marks archive ask) o)) held in
         absurd (true≢false (sym (ap (λ (r : Reply). r.status == 200) (sym reply) ∙ ap (λ (n : ℕ). n == 200) status)))
 
     served_exactly : AsksForMessage archive head reader list key → ((reply_of archive rules day head).status ≡ 200) ↔ OfHeld archive ask key (IsAllowed rules)
@@ -164,7 +164,7 @@ module _ (archive : Archive) (rules : List Rule) (day : ℤ) (head : RequestHead
     by_verdict m held (inr denial) status = (reader, list, key, it, (m, held, denial))
 
     by_message : (o : Option Message) → message_of archive list key ≡ o
-        → (asked_reply (asked_on (asking rules day reader list) (reader_standing archive (asking rules day reader list)) o)).status ≡ 403 → Denies
+        → (asked_reply (asked_on (asking rules day reader list) (reader_marks archive (asking rules day reader list)) o)).status ≡ 403 → Denies
     unfolding ruling_on
     by_message None held status = other 404 refl status
     by_message (Some m) held status = by_verdict m held

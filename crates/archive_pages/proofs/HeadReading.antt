@@ -1,6 +1,6 @@
 -- What is answered to what was read of a request.
 use Rattle.std.proofs.Common.{◌≡◌, ◌≤◌, ◌<◌, ◌++◌, ◌⊎◌, inl, inr, ℕ, ℤ, List, [], length, Result, Ok, Err, refl, sym, subst, arith, append-nil}
-use Rattle.std.specs.Prelude.{IfErr}
+use Rattle.std.specs.Prelude.{IfErr, IfSome}
 use Rattle.sqlite.specs.Store.{Ghosts}
 use Rattle.httparse.specs.Grammar.{RequestHead}
 use Rattle.httparse.specs.Spans.{RequestExceeds}
@@ -15,7 +15,7 @@ use Rattle.archive_requests.specs.declared.requests.Request.{Request as Asked}
 use Rattle.archive_requests.specs.declared.reading.RequestRead.{RequestRead}
 use Rattle.archive_requests.specs.declared.reading.RequestRead.TheVariants.{Whole, Malformed, TooLarge}
 use Rattle.archive_pages.specs.Replies.{Sends, IsReplyStop, IsServeStop, bad_request, head_too_large}
-use Rattle.archive_pages.specs.Answers.{request_reply}
+use Rattle.archive_pages.specs.Answers.{request_reply, direct_reply}
 use Rattle.archive_pages.specs.Answered.{ByOutcome, IsAnswered}
 use Rattle.archive_pages.specs.declared.faults.ServeFault.{ServeFault}
 use Rattle.archive_pages.specs.declared.faults.ServeFault.TheVariants.{Read, Write, Broken}
@@ -33,6 +33,7 @@ module _ {S : Type 0} (g : Ghosts S) (rules : List Rule) (day : ℤ) (given all 
     pub to_bad : IsRequestAs given all Malformed → Sends (λ r. r ≡ bad_request) before after result → IsAnswered g store store rules day given all before after result
     to_bad is sent = record {
       head = λ h begins. absurd (is.head h begins);
+      direct = λ h begins. absurd (is.head h begins);
       none = λ nothing. (stays_there g store, sends_as (λ r. r ≡ bad_request) (λ r. (r ≡ bad_request) ⊎ (r ≡ head_too_large)) before after result (λ r e. inl e) sent);
       many = λ h exceeds. absurd (bad_large (is.many h exceeds));
       long = λ enough nothing could. absurd (bad_large (is.long enough nothing could));
@@ -46,6 +47,7 @@ module _ {S : Type 0} (g : Ghosts S) (rules : List Rule) (day : ℤ) (given all 
     pub to_large : IsRequestAs given all TooLarge → Sends (λ r. r ≡ head_too_large) before after result → IsAnswered g store store rules day given all before after result
     to_large is sent = record {
       head = λ h begins. absurd (is.head h begins);
+      direct = λ h begins. absurd (is.head h begins);
       none = λ nothing. (stays_there g store, sends_as (λ r. r ≡ head_too_large) (λ r. (r ≡ bad_request) ⊎ (r ≡ head_too_large)) before after result (λ r e. inr e) sent);
       many = λ h exceeds. sent;
       long = λ enough nothing could. sent;
@@ -63,9 +65,11 @@ begins_still given more h it = record {
 module _ {S : Type 0} (g : Ghosts S) (rules : List Rule) (day : ℤ) (given more before after : List ℕ) (result : Result ℕ ServeFault) where
   pub to_whole : (old new : Store S) (request : Asked) → IsRequestAs given (given ++ more) (Whole request)
       → Serves g old new (λ a reply. reply ≡ request_reply a rules day (named_request request)) before after result
+      → IfSome (direct_reply (named_request request)) (λ wanted. Sends (λ reply. reply ≡ wanted) before after result)
       → IsAnswered g old new rules day given (given ++ more) before after result
-  to_whole old new request is sent = record {
+  to_whole old new request is sent direct = record {
     head = λ h begins. subst (λ q. Serves g old new (λ a reply. reply ≡ request_reply a rules day q) before after result) (is.head h begins) sent;
+    direct = λ h begins. subst (λ q. IfSome (direct_reply q) (λ wanted. Sends (λ reply. reply ≡ wanted) before after result)) (is.head h begins) direct;
     none = λ nothing. absurd (nothing is.whole.0 (begins_still given more is.whole.0 is.whole.1));
     many = λ h exceeds. absurd (whole_large request (is.many h exceeds));
     long = λ enough nothing could. absurd (whole_large request (is.long enough nothing could));

@@ -6,4 +6,4 @@ pub mod ServingLemmas
 mod HeadReading
 mod DeskLemmas
 pub mod AnswerExamples
-mod RunningLemmas
+pub mod RunningLemmas

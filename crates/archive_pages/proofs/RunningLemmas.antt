@@ -15,6 +15,7 @@ use Rattle.policy_core.specs.Rules.{Rule}
 use Rattle.archive_machine.specs.Records.{Archive}
 use Rattle.archive_store.specs.Told.{HoldsArchive, IsReady, archive_in, HasReturned, Goes}
 use Rattle.archive_store.specs.declared.store.Store.{Store}
+use Rattle.archive_store.proofs.Joins.{ready_with}
 use Rattle.archive_pages.specs.Replies.{Sends, Breaks, Is, IsBroken, unavailable}
 use Rattle.archive_pages.specs.Answers.{reply_of}
 use Rattle.archive_pages.specs.Serving.{Serves, Stays}
@@ -58,6 +59,7 @@ module _ {S : Type 0} (g : Ghosts S) (mid new : Store S) (archive : Archive) (re
         → IsAnsweredFrom archive rules day given all before after result
     answered_from given all it = record {
       head = λ h begins. sent_from h (it.head h begins);
+      direct = it.direct;
       none = λ no. (it.none no).1;
       many = it.many;
       long = it.long;
@@ -103,5 +105,7 @@ module _ {D : Type 0} {g : DiskGhosts D} (closed opened : Held (FileStore D g)) 
     → Finds files opened → IsOpened opened → HoldsArchive over_files opened archive) where
   pub answers_reopened : AnswersReopened closed opened files store new archive
   answers_reopened holds it returned rules day read_before read_after ends_before ends_after told_before told_after result said =
-      answers_from over_files store new archive returned (λ was. it.adopted archive (again holds it.live it.copied it.found it.opens) was) rules day
+      let found = again holds it.live it.copied it.found it.opens in
+      answers_from over_files store new archive returned
+      (λ was. let is = it.adopted archive found was in (ready_with over_files store archive is.0 is.1 found.2, is.1)) rules day
       result read_before read_after ends_before ends_after told_before told_after said

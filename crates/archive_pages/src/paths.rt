@@ -1,5 +1,5 @@
 //! The answer of a path.
-ghost use Rattle.std.specs.Prelude.{◌≡◌, OnOk, IfErr, Some};
+ghost use Rattle.std.specs.Prelude.{◌≡◌, OnOk, IfErr, IfSome, Some};
 ghost use Rattle.std.specs.Option.{option_map_or};
 ghost use Rattle.archive_requests.specs.Asked.{named_request};
 ghost use Rattle.archive_requests.specs.Routing.{named_route};
@@ -7,8 +7,8 @@ ghost use Rattle.archive_results.specs.Access.{name_of};
 ghost use Rattle.percent_encoding.specs.Percent.{percent_decode};
 ghost use Rattle.archive_html.specs.Pages.{author_page};
 ghost use Rattle.archive_results.specs.Results.{author_lines};
-ghost use Rattle.archive_pages.specs.Answers.{asking, listed_reply, path_reply, reader_of, request_reply, route_reply, shown_view};
-ghost use Rattle.archive_pages.specs.Replies.{IsReplyStop, page_reply, unauthorized};
+ghost use Rattle.archive_pages.specs.Answers.{asking, direct_reply, listed_reply, path_reply, reader_of, request_reply, route_reply, shown_view};
+ghost use Rattle.archive_pages.specs.Replies.{IsReplyStop, Sends, page_reply, unauthorized};
 ghost use Rattle.archive_pages.specs.Serving.{Serves};
 
 use crate::faults::ServeFault;
@@ -188,6 +188,8 @@ pub(crate) fn answer_request<T: Threader, S: Alter, W: Sink>(
     ensures sent { Serves S.Store store.old store.new
         (λ a reply. reply ≡ request_reply a policy.now day (named_request request.now))
         (W.told output.old) (W.told output.new) result }
+    ensures direct { IfSome (direct_reply (named_request request.now)) (λ wanted. Sends (λ reply. reply ≡ wanted)
+        (W.told output.old) (W.told output.new) result) }
     ensures quiet { OnOk result (W.failures output.new ≡ W.failures output.old) }
     ensures cause { IfErr result (λ fault. IsReplyStop (W.told output.old) (W.told output.new)
         (W.failures output.old) (W.failures output.new) fault) }

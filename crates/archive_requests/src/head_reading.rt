@@ -52,7 +52,16 @@ fn read_noted<R: Source>(input: &mut R, buffer: &mut [u8]) -> Result<(usize, boo
     Ok((count, has_line(&buffer[..count])))
 }
 
-/// One read behind the bytes that came: how many more came, and whether a line feed is among them.
+/// Whether the bytes so far are looked at, where so many had come before the last read, and a line feed came in it or did not:
+/// after the first read, since no head may begin so, and where a line ended, since a head ends with one.
+fn is_looked_at(before: usize, line: bool) -> bool
+    ensures { result ≡ false → line ≡ false }
+{
+    before == 0 || line
+}
+
+/// One read behind the bytes that came: how many more came, and whether they are looked at, as they are where a line feed is
+/// among them.
 fn read_more<R: Source>(
     input: &mut R,
     buffer: &mut [u8],
@@ -71,7 +80,7 @@ fn read_more<R: Source>(
     ensures lost { OnErr result (R.told input.new ≡ R.told input.old) }
 {
     let (count, line) = read_noted(input, &mut buffer[filled..])?;
-    Ok((count, line))
+    Ok((count, is_looked_at(filled, line)))
 }
 
 /// Reads a request's head into the beginning of the buffer. It stops at the head's end, at bytes
@@ -96,12 +105,12 @@ pub(crate) fn read_head<R: Source>(
 {
     let mut filled = 0;
     while filled < MOST_BYTES {
-        let (count, line) = read_more(input, buffer, filled)?;
+        let (count, looks) = read_more(input, buffer, filled)?;
         if count == 0 {
             return Ok(at_end(&buffer[..filled]));
         }
         filled += count;
-        if line {
+        if looks {
             match settled(&buffer[..filled]) {
                 Some(read) => return Ok(read),
                 None => {}

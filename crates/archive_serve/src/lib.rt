@@ -2,6 +2,7 @@
 #![tactic(auto)]
 
 mod announcing;
+pub mod laws;
 mod pages;
 mod serving;
 

@@ -9,7 +9,7 @@ use Rattle.archive_pages.proofs.answering.answer_read.Goals as goal
 pub returns-in-Whole-clause-answered : goal.returns-in-Whole-clause-answered
 returns-in-Whole-clause-answered g c = λ given more is.
     to_whole g.S.Store c.args.policy.now c.args.day given more (g.W.Sink.told c.args.output.now) (g.W.Sink.told c.answer_request.new.output)
-    c.answer_request.result c.args.store.now c.answer_request.new.store c.in-Whole.request (subst (IsRequestAs given (given ++ more)) c.in-Whole.is is) c.answer_request.ensures.sent
+    c.answer_request.result c.args.store.now c.answer_request.new.store c.in-Whole.request (subst (IsRequestAs given (given ++ more)) c.in-Whole.is is) c.answer_request.ensures.sent c.answer_request.ensures.direct
 
 pub returns-in-Malformed-clause-answered : goal.returns-in-Malformed-clause-answered
 returns-in-Malformed-clause-answered g c = λ given more is.

@@ -17,7 +17,7 @@ pub loop-filled-preserved : goal.loop-filled-preserved
 loop-filled-preserved g c =
     let so_far = c.loop-filled.invariant in
     let b = c.in_ok-count.ensures.bytes in
-    let none = no_line _ b.0 so_far.no_head (b.5 c.if-line.false) in
+    let none = no_line _ b.0 so_far.no_head (b.5 c.if-looks.false) in
     record {
       within = search rules;
       told = b.3 ∙ ap (λ (t : List ℕ). t ++ b.0) so_far.told ∙ append_assoc _ _ b.0 ∙ ap (λ (t : List ℕ). g.R.Source.told c.args.input.now ++ t) (sym b.4);

@@ -12,5 +12,5 @@ returns-clause-bytes g c =
       omega (arith, size, b.0, c.requires),
       b.1,
       take_put c.args.filled c.in_ok-count.count _ c.args.buffer.now c.read_noted.new.buffer (omega (arith, c.requires)) b.0,
-      b.2,
+      λ skipped. b.2 (c.is_looked_at.ensures skipped),
     )

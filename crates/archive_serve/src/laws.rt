@@ -1,0 +1,13 @@
+//! Laws of a run of connections: each contract is a law over the definitions of `specs/` alone, and no call does anything.
+ghost use Rattle.std.specs.Prelude.{ℤ, List};
+ghost use Rattle.policy_core.specs.Rules.{Rule};
+ghost use Rattle.archive_serve.specs.Runs.{AreOfOneArchive};
+
+use archive_listen::Listener;
+use sqlite::Alter;
+
+/// Connections whose replies went out whole, and none of which was 503, were all answered out of the archive that the store
+/// remembered before the first of them, and it remembers the same.
+pub fn replies_are_of_one_archive<S: Alter, L: Listener>()
+    ensures { (rules : List Rule) (day : ℤ) → AreOfOneArchive S.Store rules day L.accepts L.closes }
+{}
