@@ -7,7 +7,7 @@ mod databases;
 use archive_desk::DeskFault;
 use archive_listen::LoopbackPorts;
 use archive_run::{BAD_WORDS, DONE, REFUSED, Refusal, SystemFiles, run, run_serve, tell};
-use archive_words::{Order, ServeOrder, order};
+use archive_words::{Order, OrderStop, ServeOrder, order};
 use clock::SystemDay;
 use databases::SystemDatabases;
 use mbox_core::device::{Counted, write_bytes};
@@ -70,7 +70,7 @@ fn serve_streams(rt: &HostRuntime, asked: &ServeOrder<'_>) -> u8 {
     let mut ports = LoopbackPorts { rt };
     let files = SystemFiles { rt };
     let Ok(state) = RandomState::new(rt) else {
-        tell(alloc, &mut faults, &Refusal::Memory);
+        tell(alloc, &mut faults, &Refusal::Read);
         return REFUSED;
     };
     run_serve(
@@ -94,10 +94,17 @@ fn run_order(rt: &HostRuntime, words: &[&str], asked: &Order<'_>) -> u8 {
     }
 }
 
-/// Carries out what the words order, or says why they order nothing.
+/// Carries out what the words order, or says why they order nothing. Where there was no memory to read them they are not read
+/// again, since what they order is not known: it may be a server.
 fn run_words(rt: &HostRuntime, words: &[&str]) -> u8 {
-    match order(rt.alloc(), words) {
+    let alloc = rt.alloc();
+    match order(alloc, words) {
         Ok(asked) => run_order(rt, words, &asked),
+        Err(OrderStop::Memory) => {
+            let mut faults = Counted::new(rt.stderr());
+            tell(alloc, &mut faults, &Refusal::Memory);
+            REFUSED
+        }
         Err(_stop) => run_streams(rt, words),
     }
 }
@@ -116,7 +123,7 @@ fn main(rt: HostRuntime) -> ExitCode {
     let Ok(args) = env::args(&rt) else {
         let _ = write_bytes(
             &mut faults,
-            b"error: the words of the command line are no text\n",
+            b"error: the words of the command line cannot be read\n",
         );
         return ExitCode::from(BAD_WORDS);
     };

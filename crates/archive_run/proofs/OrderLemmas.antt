@@ -1,6 +1,6 @@
 -- What an order over a database did, from what its store became, the day and the rules.
 use Rattle.std.proofs.Common.{◌≡◌, ◌⊎◌, inl, inr, sym, subst, ℕ, ℤ, true, List, Option, Some, Result, Ok, Err}
-use Rattle.std.specs.Prelude.{OnOk, IfErr, MatchResult, Vec, ⊤}
+use Rattle.std.specs.Prelude.{OnOk, IfErr, MatchResult, Vec, ⊤, codes}
 use Rattle.std.specs.Result.{IsErrAnd}
 use Rattle.std.specs.declared.alloc.Global.{Global}
 use Rattle.sqlite.specs.Store.{Ghosts}
@@ -9,11 +9,12 @@ use Rattle.archive_store.specs.declared.store.Store.{Store as Open}
 use Rattle.archive_store.specs.declared.faults.StoreFault.{StoreFault}
 use Rattle.archive_results.specs.Access.{Ask}
 use Rattle.archive_desk.specs.declared.importing.Report.{Report}
-use Rattle.archive_words.specs.Values.{AskValues, GetValues, ImportValues}
+use Rattle.archive_store.specs.Checking.{Checks}
+use Rattle.archive_words.specs.Values.{AskValues, CheckValues, GetValues, ImportValues}
 use Rattle.archive_work.specs.Working.{Exports, Gets}
 use Rattle.archive_run.specs.Databases.{Works}
 use Rattle.archive_run.specs.Running.{IsDayBy}
-use Rattle.archive_run.specs.Working.{Sent, Sends, SendsPart, report_line, ask_by, NotOpened, Fails, ImportsFile, GetsNot, ExportsNot, IsImportDone, IsImportCause, IsGetBy, IsGetFailed, IsExportBy, IsExportFailed, IsDayCause}
+use Rattle.archive_run.specs.Working.{Sent, Sends, SendsPart, report_line, ask_by, NotOpened, Fails, ImportsFile, GetsNot, ExportsNot, IsCheckDone, IsImportDone, IsImportCause, IsGetBy, IsGetFailed, IsExportBy, IsExportFailed, IsDayCause}
 use Rattle.archive_run.specs.declared.faults.Refusal.{Refusal}
 use Rattle.archive_run.specs.declared.faults.Refusal.TheVariants.{Write, Memory}
 use Rattle.archive_run.specs.declared.files.FileFault.{FileFault}
@@ -42,6 +43,13 @@ module _ {S D : Type 0} (g : Ghosts S) (opens : D → D → List ℕ → Result 
     imports_failed Same same (Ok u) sends = tt
     imports_failed Same same (Err e) (inl memory) = inr (report, worked, inl (memory.0, same memory.1))
     imports_failed Same same (Err e) (inr write) = inr (report, worked, inr write)
+
+  module _ (order : CheckValues) (worked : Works opens closes old new order.file (λ o c. Checks g o c (Ok tt))) where
+    pub checks_done : (result : Result ⊤ Refusal)
+        → MatchResult result (λ _. Sends before after (codes "ok\n")) (λ refusal. (refusal ≡ Write) × SendsPart before after (codes "ok\n"))
+        → OnOk result (IsCheckDone g opens closes old new before after order)
+    checks_done (Ok u) sends = (worked, sends)
+    checks_done (Err e) sends = tt
 
   module _ {C : Type 0} (tells : C → C → Option ℤ → Type 0) (clock_old clock_new : C) (rules : List Rule) (day : ℤ) where
     module _ (order : AskValues) (file : List ℕ) (given : Option ℤ) (ask : Ask) (is_file : file ≡ order.file) (is_given : given ≡ order.day)

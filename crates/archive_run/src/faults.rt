@@ -23,6 +23,8 @@ pub enum Refusal {
     Desk(DeskFault),
     /// M1 to M3, E4, E12, E14, E15: an import, with the number of messages that were done.
     Import(ImportStop),
+    /// E16: the message of this list and key is damaged. Each byte that is not visible is `?`.
+    Damaged { list: String, key: String },
     /// The rule of this name denies a message.
     Denied(String),
     /// F1: a file could not be read, or not be opened to be read piece by piece.
@@ -156,6 +158,7 @@ impl fmt::Display for Refusal {
             Refusal::Store(fault) => f.write_str(store_name(*fault)),
             Refusal::Desk(fault) => f.write_str(desk_name(*fault)),
             Refusal::Import(stop) => ImportText(*stop).fmt(f),
+            Refusal::Damaged { list, key } => write!(f, "E16 Damaged {list} {key}"),
             Refusal::Denied(rule) => write!(f, "denied by {rule}"),
             Refusal::Read => f.write_str("F1 Read"),
             Refusal::Write => f.write_str("F2 Write"),

@@ -1,5 +1,5 @@
-//! Carrying out what words order, over any devices: `run` is the whole program but for the streams and the clock of a
-//! machine, and `sift` is the command of that name.
+//! Carrying out what words order, over any devices: `run` and, where they order a server, `run_serve` are the whole program
+//! but for the streams, the clock and the ports of a machine, and `sift` is the command of that name.
 #![tactic(auto)]
 
 mod clock;

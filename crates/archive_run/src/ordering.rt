@@ -2,18 +2,18 @@
 ghost use Rattle.std.specs.Prelude.{◌≡◌, ◌⊎◌, ℤ, true, List, Some, None, Ok, MatchResult, OnOk, IfErr};
 ghost use Rattle.policy_core.specs.Rules.{Rule};
 ghost use Rattle.archive_run.specs.Running.{IsDayBy};
-ghost use Rattle.archive_run.specs.Working.{IsDayCause, IsExportBy, IsExportCause, IsExportDone, IsExportFailed, IsGetBy, IsGetCause, IsGetDone, IsGetFailed, IsImportCause, IsImportDone, IsTableCause, IsTableDone, Sends, SendsPart, ask_by, report_line, sent};
+ghost use Rattle.archive_run.specs.Working.{IsDayCause, IsCheckCause, IsCheckDone, IsExportBy, IsExportCause, IsExportDone, IsExportFailed, IsGetBy, IsGetCause, IsGetDone, IsGetFailed, IsImportCause, IsImportDone, IsTableCause, IsTableDone, Sends, SendsPart, ask_by, report_line, sent};
 
 use crate::clock::DayClock;
 use crate::databases::Databases;
 use crate::faults::Refusal;
 use crate::files::{OpenFiles, ReadFiles};
 use crate::running::asked_policy;
-use crate::working::{work_export, work_get, work_import, work_table};
+use crate::working::{work_check, work_export, work_get, work_import, work_table};
 use archive_desk::Report;
 use archive_results::{Ask, Reader};
 use archive_store::Store;
-use archive_words::{AskOrder, GetOrder, ImportOrder, TableOrder};
+use archive_words::{AskOrder, CheckOrder, GetOrder, ImportOrder, TableOrder};
 use civil_time::Day;
 use mbox_core::device::{Sink, write_bytes};
 use policy_core::Policy;
@@ -87,6 +87,24 @@ fn send_report<W: Sink>(alloc: Global, output: &mut W, report: Report) -> Result
     };
     match send(output, line.as_bytes()) {
         Ok(()) => Ok(()),
+        Err(refusal) => Err(refusal),
+    }
+}
+
+/// Looks whether a database is whole, and says so.
+pub(crate) fn run_check<S: Alter, D: Databases<Store<S>>, W: Sink>(
+    alloc: Global,
+    databases: &mut D,
+    order: &CheckOrder<'_>,
+    output: &mut W,
+) -> Result<(), Refusal>
+    ensures done { OnOk result (IsCheckDone S.Store D.opens D.closes databases.old databases.new
+        (sent (W.told output.old) (W.failures output.old)) (sent (W.told output.new) (W.failures output.new)) order.now) }
+    ensures cause { IfErr result (λ refusal. IsCheckCause S.Store D.opens D.closes databases.old databases.new
+        (sent (W.told output.old) (W.failures output.old)) (sent (W.told output.new) (W.failures output.new)) order.now refusal) }
+{
+    match work_check(alloc, databases, order) {
+        Ok(()) => send(output, b"ok\n"),
         Err(refusal) => Err(refusal),
     }
 }

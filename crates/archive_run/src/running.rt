@@ -1,14 +1,17 @@
 //! Running the order that words give.
 ghost use Rattle.std.specs.Prelude.{◌≡◌, ◌≤◌, ◌⊎◌, ◌+◌, List, map, option_map, string_bytes, true, false, Some, None, Ok, IfOk, IfErr, OnOk, MatchResult};
-ghost use Rattle.clap.specs.Words.{takes};
 ghost use Rattle.policy_core.specs.Rules.{Rule};
 ghost use Rattle.policy_core.specs.Written.{written_policy};
+ghost use Rattle.clap.specs.Words.{takes};
 ghost use Rattle.archive_words.specs.Program.{archive_app};
-ghost use Rattle.archive_words.specs.Orders.{IsMemory, ordered};
+ghost use Rattle.archive_words.specs.Orders.{AreBad, IsMemory, IsStopOf, ordered};
+ghost use Rattle.archive_words.specs.declared.orders.OrderStop.{OrderStop};
 ghost use Rattle.archive_words.specs.declared.orders.Order.{Order};
 ghost use Rattle.archive_words.specs.Values.{SiftValues};
 ghost use Rattle.archive_run.specs.Refusals.{TellsOf};
 ghost use Rattle.archive_run.specs.Orders.{IsOrderDone, IsOrderCause, OnSift};
+ghost use Rattle.archive_run.specs.Serving.{said};
+ghost use Rattle.archive_run.specs.Stops.{SaysStop};
 ghost use Rattle.archive_run.specs.Working.{sent};
 ghost use Rattle.archive_run.specs.Running.{IsPolicyRefusal, IsPolicyOf, IsPolicyCause, GiveOrder, IsDayBy, needs_day, streams, SiftsBy, IsSiftCause, IsRunSiftDone, IsRunSiftCause};
 
@@ -16,7 +19,7 @@ use crate::clock::DayClock;
 use crate::databases::Databases;
 use crate::faults::{Refusal, tell};
 use crate::files::{FileFault, OpenFiles, ReadFiles};
-use crate::ordering::{run_export, run_get, run_import, run_table};
+use crate::ordering::{run_check, run_export, run_get, run_import, run_table};
 use crate::sifting::{SiftFault, SiftWords, sift};
 use archive_store::Store;
 use archive_words::{Order, OrderStop, SiftOrder, order};
@@ -183,6 +186,7 @@ fn run_order<
         Order::Import(asked) => run_import(alloc, databases, files, asked, output),
         Order::Get(asked) => run_get(alloc, databases, files, asked, clock, output),
         Order::Export(asked) => run_export(alloc, databases, files, asked, clock, output),
+        Order::Check(asked) => run_check(alloc, databases, asked, output),
         Order::Serve(_) => Err(Refusal::Net),
     }
 }
@@ -248,6 +252,9 @@ fn run_asked<
 /// What is said where the words gave no order, and the exit status.
 fn say_stop<W: Sink, E: Sink>(alloc: Global, stop: &OrderStop, output: &mut W, faults: &mut E) -> u8
     ensures status { result ≤ 2 }
+    ensures said { SaysStop stop.now result
+        (said (W.told output.old) (W.failures output.old) (E.told faults.old) (E.failures faults.old))
+        (said (W.told output.new) (W.failures output.new) (E.told faults.new) (E.failures faults.new)) }
     ensures silent { result ≡ 0 → E.told faults.new ≡ E.told faults.old }
     ensures refused { result ≡ 1 → (refusal : Refusal)
         × (E.failures faults.new ≡ E.failures faults.old → TellsOf refusal (E.told faults.old) (E.told faults.new)) }
@@ -327,10 +334,19 @@ pub fn run<
         C.gives S.Store D.opens D.closes clock.old clock.new databases.old databases.new input.old input.new
         (sent (W.told output.old) (W.failures output.old)) (sent (W.told output.new) (W.failures output.new)) order refusal) }
 
-    // At 2 the words order nothing, and nothing is touched.
+    // At 2 the words order nothing, for they are bad, and nothing is touched.
     ensures bad { result ≡ 2 → (takes archive_app (map (λ w. w.now) words.now) ≡ false)
         ⊎ (ordered (map (λ w. w.now) words.now) ≡ None) }
+    ensures are_bad { result ≡ 2 → AreBad (map (λ w. w.now) words.now) }
     ensures untouched { result ≡ 2 → (clock.new ≡ clock.old) × (input.new ≡ input.old) × (output.new ≡ output.old) × (databases.new ≡ databases.old) }
+
+    // Words order something; or they order nothing, which has a cause, and then that alone is said of which the cause is, with its
+    // status: help 0, bad words 2, want of memory 1.
+    ensures stopped { ((order : Order) × GiveOrder (map (λ w. w.now) words.now) order)
+        ⊎ ((stop : OrderStop) × IsStopOf (map (λ w. w.now) words.now) stop × SaysStop stop result
+        (said (W.told output.old) (W.failures output.old) (E.told faults.old) (E.failures faults.old))
+        (said (W.told output.new) (W.failures output.new) (E.told faults.new) (E.failures faults.new))
+        × (clock.new ≡ clock.old) × (input.new ≡ input.old) × (databases.new ≡ databases.old)) }
 {
     match order(alloc, words) {
         Ok(asked) => run_asked(

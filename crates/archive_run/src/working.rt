@@ -1,8 +1,10 @@
 //! Orders over a database: each opens the database of the name, does one thing, and closes it.
-ghost use Rattle.std.specs.Prelude.{◌≡◌, ◌⊎◌, ℕ, Ok, Err, MatchResult, IfErr, OnOk};
+ghost use Rattle.std.specs.Prelude.{◌≡◌, ◌⊎◌, ◌++◌, ℕ, Ok, Err, MatchResult, IfOk, IfErr, OnOk, string_bytes};
 ghost use Rattle.archive_work.specs.Working.{Carries, Exports, Gets};
 ghost use Rattle.archive_run.specs.Databases.{Works, IsUnopened};
-ghost use Rattle.archive_run.specs.Working.{ExportsNot, Fails, GetsNot, ImportsFile, ImportsNot, NotOpened, sent};
+ghost use Rattle.archive_run.specs.Refusals.{ShowsDamage, visible, visible_byte};
+ghost use Rattle.archive_run.specs.Working.{ChecksNot, ExportsNot, Fails, GetsNot, ImportsFile, ImportsNot, NotOpened, sent};
+ghost use Rattle.archive_store.specs.Checking.{Checks};
 
 use crate::databases::Databases;
 use crate::faults::Refusal;
@@ -10,12 +12,12 @@ use crate::files::{FileFault, OpenFiles};
 use archive_desk::{Report, export};
 use archive_import::import_from;
 use archive_results::Ask;
-use archive_store::{Store, StoreFault};
-use archive_words::{ImportOrder, TableOrder};
+use archive_store::{CheckStop, Store, StoreFault};
+use archive_words::{CheckOrder, ImportOrder, TableOrder};
 use archive_work::{Answer, GetStop, carry_out, get};
 use mbox_core::device::Sink;
 use sqlite::Alter;
-use std::alloc::Global;
+use std::alloc::{AllocError, Global};
 
 /// Carries a command out in the database of the order.
 pub(crate) fn work_table<S: Alter, D: Databases<Store<S>>>(
@@ -121,6 +123,72 @@ pub(crate) fn work_get<S: Alter, D: Databases<Store<S>>>(
     let text = get_text(&mut store, alloc, ask, key);
     databases.close(store);
     text
+}
+
+/// A byte as a line shows it: `?` where it is not visible.
+fn visible_byte(byte: u8) -> u8
+    ensures { result ≡ visible_byte byte }
+{
+    match byte {
+        b'!'..=b'~' => byte,
+        _ => b'?',
+    }
+}
+
+/// Bytes of a database as a line shows them.
+fn visible(alloc: Global, bytes: &[u8]) -> Result<String, AllocError>
+    ensures { IfOk result (λ text. string_bytes text ≡ visible bytes.now) }
+{
+    let mut text = String::with_capacity(alloc, bytes.len())?;
+    for byte in bytes.iter() {
+        text.push(char::from(visible_byte(*byte)))?;
+    }
+    Ok(text)
+}
+
+/// E16 of a message of this list and key, where there is memory to show them.
+fn damaged(alloc: Global, list: &[u8], key: &[u8]) -> Result<Refusal, AllocError>
+    ensures { IfOk result (ShowsDamage list.now key.now) }
+{
+    Ok(Refusal::Damaged {
+        list: visible(alloc, list)?,
+        key: visible(alloc, key)?,
+    })
+}
+
+/// Looks whether an open store is whole.
+fn check_store<S: Alter>(store: &mut Store<S>, alloc: Global) -> Result<(), Refusal>
+    ensures checked { MatchResult result
+        (λ _. Checks S.Store store.old store.new (Ok tt))
+        (λ refusal. ChecksNot S.Store store.old store.new refusal) }
+{
+    match store.check(alloc) {
+        Ok(()) => Ok(()),
+        Err(CheckStop::Failed(fault)) => Err(Refusal::Store(fault)),
+        Err(CheckStop::Damaged { list, key }) => match damaged(alloc, &list, &key) {
+            Ok(refusal) => Err(refusal),
+            Err(_) => Err(Refusal::Memory),
+        },
+    }
+}
+
+/// Looks whether the database of the order is whole.
+pub(crate) fn work_check<S: Alter, D: Databases<Store<S>>>(
+    alloc: Global,
+    databases: &mut D,
+    order: &CheckOrder<'_>,
+) -> Result<(), Refusal>
+    ensures worked { MatchResult result
+        (λ _. Works D.opens D.closes databases.old databases.new order.now.file (λ o c. Checks S.Store o c (Ok tt)))
+        (λ refusal. Fails D.opens D.closes databases.old databases.new order.now.file (λ o c. ChecksNot S.Store o c) refusal) }
+{
+    let mut store = match databases.open(alloc, order.file) {
+        Ok(store) => store,
+        Err(fault) => return Err(Refusal::Store(fault)),
+    };
+    let checked = check_store(&mut store, alloc);
+    databases.close(store);
+    checked
 }
 
 /// Writes the messages of a list of the database of this name that the reader may see.

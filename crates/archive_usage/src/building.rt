@@ -2,7 +2,7 @@
 ghost use Rattle.std.specs.Prelude.{◌≡◌, false, IfOk};
 ghost use Rattle.clap.specs.Words.{App, app_of, new_app, rule_of, with_rule, with_subcommand};
 ghost use Rattle.clap.specs.declared.builder.Command.TheViews.{out-Command};
-ghost use Rattle.archive_usage.specs.Program.{IsCommand, with_word, option_rule, needed_rule, word_rule, table_app, message_app, grant_of_app, dated_app, sift_app, list_add_app, person_add_app, grant_app, revoke_app, import_app, withdraw_app, restore_app, embargo_app, lift_app, ruled_app, ask_app, get_app, export_app, serve_app, versioned, bare_app, person_app, mail_app, archive_app, app_named};
+ghost use Rattle.archive_usage.specs.Program.{IsCommand, with_word, option_rule, needed_rule, word_rule, table_app, message_app, grant_of_app, dated_app, sift_app, list_add_app, person_add_app, grant_app, revoke_app, import_app, withdraw_app, restore_app, embargo_app, lift_app, ruled_app, ask_app, get_app, export_app, check_app, serve_app, versioned, bare_app, person_app, mail_app, archive_app, app_named};
 
 use crate::help;
 use clap::{Arg, Command};
@@ -281,6 +281,13 @@ fn export_command<'a>(alloc: Global) -> Result<Command<'a>, AllocError>
     ask_command(alloc, "export", help::EXPORT, help::EXPORT_END)
 }
 
+#[tactic(auto, unfolding(crate::specs::Program::check_app))]
+fn check_command<'a>(alloc: Global) -> Result<Command<'a>, AllocError>
+    ensures { IfOk result (IsCommand check_app) }
+{
+    table_command(alloc, "check", help::CHECK, help::CHECK_END)
+}
+
 #[tactic(auto, unfolding(crate::specs::Program::serve_app))]
 fn serve_command<'a>(alloc: Global) -> Result<Command<'a>, AllocError>
     ensures { IfOk result (IsCommand serve_app) }
@@ -359,7 +366,8 @@ pub fn program<'a>(alloc: Global) -> Result<Command<'a>, AllocError>
 {
     let getting = with_command(mail_program(alloc)?, get_command(alloc)?)?;
     let exporting = with_command(getting, export_command(alloc)?)?;
-    with_command(exporting, serve_command(alloc)?)
+    let checking = with_command(exporting, check_command(alloc)?)?;
+    with_command(checking, serve_command(alloc)?)
 }
 
 /// The command of this name alone, with the name that its usage begins with; else the program.
@@ -380,6 +388,7 @@ pub fn command_named<'a>(alloc: Global, name: &str) -> Result<Command<'a>, Alloc
         "lift" => named(lift_command(alloc)?, "archive lift"),
         "get" => named(get_command(alloc)?, "archive get"),
         "export" => named(export_command(alloc)?, "archive export"),
+        "check" => named(check_command(alloc)?, "archive check"),
         "serve" => named(serve_command(alloc)?, "archive serve"),
         _ => program(alloc),
     }

@@ -182,6 +182,22 @@ E14, E15 or G4 the database, G1 no list, G2 no person, G6 the output.
 
 Example: archive export --db archive.db --policy policy.toml soc > soc.mbox";
 
+pub const CHECK: &str = "Look whether the database is whole";
+
+pub const CHECK_END: &str = "\
+Reads FILE, and makes it where it is empty or not there.
+
+Looks at every message: whether its sender, arrival and text make a complete
+message, its key is that of the text, and it is filed by what the text says.
+Prints `ok` where all are so. It changes nothing.
+
+Status: 0 done; 1 refused, with one line on standard error; 2 bad words.
+Refusals: E16 a message is damaged: the first, lists by name and then in the
+order of the list, with its list and its key, each byte that is not visible as
+`?`; E14 no memory, E15 the database, F2 the output.
+
+Example: archive check --db archive.db";
+
 pub const SERVE: &str = "Answer requests over HTTP, on this machine alone";
 
 pub const SERVE_END: &str = "\

@@ -7,7 +7,7 @@ use Rattle.policy_core.specs.declared.access.Standing.TheVariants.{Public, Membe
 use Rattle.archive_usage.proofs.OnLiterals.{archive_on_literals}
 use Rattle.archive_words.specs.declared.commands.GrantKind.TheVariants as kind
 use Rattle.archive_words.specs.declared.commands.WithdrawnBy.TheVariants as party
-use Rattle.archive_words.specs.declared.orders.Order.TheVariants.{Sift, Table, Import, Get, Export, Serve}
+use Rattle.archive_words.specs.declared.orders.Order.TheVariants.{Sift, Table, Import, Get, Export, Check, Serve}
 use Rattle.archive_words.specs.Values.{list_add, person_add, grant, revoke, withdraw, restore, embargo, lift}
 use Rattle.archive_words.specs.Program.{archive_app}
 use Rattle.archive_words.specs.Orders.{ordered, number_up_to, age_of_text}
@@ -103,6 +103,13 @@ exports : ordered (codes "export" ∷ codes "--db" ∷ codes "f" ∷ codes "--po
     ≡ Some (Export (record { file = codes "f"; policy = codes "p"; day = None; person = Some (codes "anna"); list = codes "soc" }))
 unfolding archive_on_literals
 exports = refl
+
+-- ---- a check
+
+checks : ordered (codes "check" ∷ codes "--db" ∷ codes "f" ∷ [])
+    ≡ Some (Check (record { file = codes "f" }))
+unfolding archive_on_literals
+checks = refl
 
 -- ---- requests over HTTP
 
@@ -205,6 +212,10 @@ near_miss_is_no_command = refl
 without_file : fault_of archive_app (codes "lift" ∷ codes "soc" ∷ codes "k" ∷ []) ≡ error.MissingRequiredArgument ∷ []
 unfolding archive_on_literals
 without_file = refl
+
+checks_no_list : fault_of archive_app (codes "check" ∷ codes "--db" ∷ codes "f" ∷ codes "soc" ∷ []) ≡ error.UnknownArgument ∷ []
+unfolding archive_on_literals
+checks_no_list = refl
 
 without_key : fault_of archive_app (codes "lift" ∷ codes "--db" ∷ codes "f" ∷ codes "soc" ∷ []) ≡ error.MissingRequiredArgument ∷ []
 unfolding archive_on_literals

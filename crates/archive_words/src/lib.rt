@@ -13,6 +13,7 @@ mod values;
 
 pub use commands::{GrantKind, TableCommand, WithdrawnBy};
 pub use orders::{
-    AskOrder, GetOrder, ImportOrder, Order, OrderStop, ServeOrder, SiftOrder, TableOrder,
+    AskOrder, CheckOrder, GetOrder, ImportOrder, Order, OrderStop, ServeOrder, SiftOrder,
+    TableOrder,
 };
 pub use reading::order;

@@ -17,6 +17,8 @@ pub enum Order<'a> {
     Get(GetOrder<'a>),
     /// Writes those messages of a list as an mbox that the policy lets the reader read.
     Export(AskOrder<'a>),
+    /// Looks whether the database is whole.
+    Check(CheckOrder<'a>),
     /// Answers requests over HTTP.
     Serve(ServeOrder<'a>),
 }
@@ -118,6 +120,21 @@ impl<'a> Model for GetOrder<'a> {
     ghost Value = { GetValues };
 
     ghost view = { λ o. record { asked = o.asked; key = o.key.now } };
+}
+
+/// The values of `check`.
+#[derive(Debug, Drop)]
+pub struct CheckOrder<'a> {
+    /// The name of the database's file.
+    pub file: &'a str,
+}
+
+impl<'a> Model for CheckOrder<'a> {
+    ghost use Rattle.archive_words.specs.Values.{CheckValues};
+
+    ghost Value = { CheckValues };
+
+    ghost view = { λ o. record { file = o.file.now } };
 }
 
 /// The values of `serve`.

@@ -2,9 +2,11 @@
 ghost use Rattle.std.specs.Prelude.{◌≡◌, ◌⊎◌, Some, None, [], false, IfOk, IfErr, MatchResult, map, option_map};
 ghost use Rattle.clap.specs.Words.{fault_of, takes, subcommand_rows_of, found_of, rows_of};
 ghost use Rattle.archive_words.specs.Program.{archive_app};
-ghost use Rattle.archive_words.specs.Orders.{sift_of, import_of, ask_of, get_of, export_of, serve_of, tables_of, order_named, order_of, ordered, IsMemory, IsStopOf};
+ghost use Rattle.archive_words.specs.Orders.{sift_of, import_of, ask_of, get_of, export_of, check_of, serve_of, tables_of, order_named, order_of, ordered, IsMemory, IsStopOf};
 
-use crate::orders::{AskOrder, GetOrder, ImportOrder, Order, OrderStop, ServeOrder, SiftOrder};
+use crate::orders::{
+    AskOrder, CheckOrder, GetOrder, ImportOrder, Order, OrderStop, ServeOrder, SiftOrder,
+};
 use crate::stops::{BadValue, bad_value_text, stop_of};
 use crate::table_reading::table_order;
 use crate::values::{
@@ -89,6 +91,16 @@ fn export_order<'a>(inner: &ArgMatches<'a>) -> Result<Order<'a>, BadValue<'a>>
     Ok(Order::Export(asked))
 }
 
+/// The order of `check`'s matches.
+fn check_order<'a>(inner: &ArgMatches<'a>) -> Result<Order<'a>, BadValue<'a>>
+    ensures { MatchResult result
+        (λ order. check_of (rows_of (found_of inner.now)) ≡ Some order)
+        (λ _. check_of (rows_of (found_of inner.now)) ≡ None) }
+{
+    let file = needed(inner, "db")?;
+    Ok(Order::Check(CheckOrder { file }))
+}
+
 /// The order of `serve`'s matches.
 fn serve_order<'a>(inner: &ArgMatches<'a>) -> Result<Order<'a>, BadValue<'a>>
     ensures { MatchResult result
@@ -148,6 +160,7 @@ fn named_order<'a>(name: &'a str, inner: &ArgMatches<'a>) -> Result<Order<'a>, B
         "import" => import_order(inner),
         "get" => get_order(inner),
         "export" => export_order(inner),
+        "check" => check_order(inner),
         "serve" => serve_order(inner),
         _ => named_table_order(name, inner),
     }
