@@ -294,7 +294,7 @@ fn time_threading(
     let mut best = Duration::MAX;
     for _ in 0..rounds {
         let begun = Instant::now(rt)?;
-        if thread_core::threads(rt.alloc(), threader, entries).is_err() {
+        if thread_core::threads(rt.alloc(), threader, entries, true).is_err() {
             bail!("no memory");
         }
         best = best.min(begun.elapsed(rt)?);

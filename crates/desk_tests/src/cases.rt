@@ -1,5 +1,5 @@
 //! The worked cases for any store, and the stores that are told them.
-use crate::{asking, exports, imports, listings, messages};
+use crate::{asking, exports, imports, listings, messages, shown};
 use archive_results::{Ask, Reader};
 use archive_store::Store;
 use civil_time::Day;
@@ -53,6 +53,7 @@ pub enum Case {
     Messages,
     Exports,
     Listings,
+    Shown,
     Asking,
     Chain,
 }
@@ -71,6 +72,7 @@ fn tell<S: Alter>(
         Case::Messages => messages::messages(rt, alloc, store),
         Case::Exports => exports::exports(rt, alloc, store),
         Case::Listings => listings::listings(rt, alloc, store),
+        Case::Shown => shown::shown(rt, alloc, store),
         Case::Asking => asking::asking(rt, alloc, store, nodes),
         Case::Chain => exports::chain(rt, alloc, store),
     }
@@ -91,6 +93,7 @@ fn stores_over_memory(rt: HostRuntime) -> Result<(), Fail> {
         Case::Messages,
         Case::Exports,
         Case::Listings,
+        Case::Shown,
         Case::Chain,
     ] {
         tell_new(&rt, rt.alloc(), case)?;

@@ -1,8 +1,11 @@
-//! Stores over files that are held in memory, and over disks that stop: one function opens them, imports and closes them.
-use archive_desk::{ImportStop, Report, import};
+//! Stores over files that are held in memory, and over disks that stop: one function opens them, imports, exports and closes them.
+use archive_desk::{ImportStop, Report, export, import};
 use archive_import::import_from;
+use archive_results::{Ask, Reader};
 use archive_store::{AdoptStop, Store};
-use mbox_core::device::Counted;
+use civil_time::Day;
+use mbox_core::device::{Counted, Tap};
+use policy_core::Policy;
 use sqlite::{Alter, Connection, FileStore, Files, Options};
 use sqlite_disk::{Disk, Memory};
 use std::alloc::Global;
@@ -26,18 +29,20 @@ pub fn new_files(alloc: Global) -> Files<Memory> {
     }
 }
 
-/// Imports a file into the list `soc` of a store over these files, and hands them back as a crash leaves them.
+/// Imports a file into the list `soc` of a store over these files, exports that list as far as `held` takes it, and hands the files
+/// back as a crash leaves them.
 pub fn import_into<D: Disk + Drop>(
     alloc: Global,
     files: Files<D>,
     mbox: &[u8],
     how: How,
+    held: &mut Tap,
 ) -> Result<(Outcome, Files<D>), Fail> {
     if !files.may_be_used() {
         return Err(Fail::from("files that may be used"));
     }
     match Connection::open_files(alloc, files, Options::new(1)) {
-        Ok(connection) => Ok(import_connection(alloc, connection, mbox, how)),
+        Ok(connection) => Ok(import_connection(alloc, connection, mbox, how, held)),
         Err((_error, left)) => Ok((None, left.into_files())),
     }
 }
@@ -47,10 +52,12 @@ fn import_connection<D: Disk + Drop>(
     connection: Connection<FileStore<D>>,
     mbox: &[u8],
     how: How,
+    held: &mut Tap,
 ) -> (Outcome, Files<D>) {
     match Store::adopt(connection) {
         Ok(mut store) => {
             let outcome = import_store(alloc, &mut store, mbox, how);
+            export_store(alloc, &mut store, held);
             (Some(outcome), store.into_connection().into_store().close())
         }
         Err(
@@ -60,6 +67,21 @@ fn import_connection<D: Disk + Drop>(
             },
         ) => (None, connection.into_store().close()),
     }
+}
+
+/// What the list holds goes out, as far as it can be read and written.
+fn export_store<S: Alter>(alloc: Global, store: &mut Store<S>, held: &mut Tap) {
+    let Some(day) = Day::of(2003, 3, 20) else {
+        return;
+    };
+    let policy = Policy::open();
+    let ask = Ask {
+        policy: &policy,
+        reader: Reader::Nobody,
+        list: "soc",
+        day,
+    };
+    export(store, alloc, &ask, held).ok();
 }
 
 /// The list is added where it is not there.

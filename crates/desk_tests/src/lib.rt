@@ -1,5 +1,6 @@
-//! What the desk answers, by worked cases over memory and over a file; mboxes that are read piece by piece into a list, by
-//! readers that give one byte at once, and by readers that fail; and imports over disks that stop, made again over what is left.
+//! What the desk answers, by worked cases over memory and over a file, and of rows that another program changed; mboxes that are
+//! read piece by piece into a list, by readers that give one byte at once, and by readers that fail; and imports over disks that
+//! stop, made again over what is left.
 #![tactic(auto)]
 
 #[cfg(test)]
@@ -7,6 +8,8 @@ mod asking;
 #[cfg(test)]
 mod cases;
 pub mod chain;
+#[cfg(test)]
+mod damage;
 #[cfg(test)]
 mod exports;
 #[cfg(test)]
@@ -18,6 +21,8 @@ mod listings;
 #[cfg(test)]
 mod messages;
 pub mod noting;
+#[cfg(test)]
+mod shown;
 #[cfg(test)]
 mod stops;
 #[cfg(test)]

@@ -54,6 +54,10 @@ From a@b Wed Mar  5 11:00:00 2003\nFrom: a@b\nDate: Tue, 4 Mar 2003 09:59:59 +00
 From a@b Tue Mar  4 10:00:01 2003\nFrom: a@b\nSubject: 4\n\n4\n\n\
 From a@b Tue Mar  4 09:00:00 2003\nFrom: a@b\nDate: Tue, 4 Mar 2003 05:00:00 -0500\nSubject: 5\n\n5\n\n";
 
+/// A message that was sent in another month than it arrived in.
+const LATE: &[u8] =
+    b"From a@b Sat Mar  1 00:30:00 2003\nDate: 28 Feb 2003 23:50:00 +0000\nSubject: late\n\n";
+
 /// Threads, months and authors on an empty archive.
 pub fn listings<S: Alter>(
     rt: &impl Abort,
@@ -79,7 +83,33 @@ pub fn listings<S: Alter>(
     by_month(rt, alloc, store, &ask)?;
     by_author(rt, alloc, store, &ask)?;
     ties(rt, alloc, store, &policy)?;
+    late(rt, alloc, store, &policy)?;
     withheld(rt, alloc, store)
+}
+
+/// A month is that of the sent date.
+fn late<S: Alter>(
+    rt: &impl Abort,
+    alloc: Global,
+    store: &mut Store<S>,
+    policy: &Policy,
+) -> Result<(), Fail> {
+    store.list_add("late")?;
+    import(store, alloc, "late", LATE)?;
+    let ask = Ask {
+        policy,
+        reader: Reader::Nobody,
+        list: "late",
+        day: day("2003-03-20")?,
+    };
+    let february = Month::read(b"2003-02").ok_or("a month")?;
+    let march = Month::read(b"2003-03").ok_or("a month")?;
+    are_subjects(
+        rt,
+        &month(store, alloc, &ask, february)?,
+        &[b"late".as_slice()],
+    )?;
+    are_subjects(rt, &month(store, alloc, &ask, march)?, &[])
 }
 
 /// Messages of one sent date stand in the order in which they came: in a month, of an author, and as threads of their own.
@@ -122,7 +152,8 @@ fn are_rows(rt: &impl Abort, rows: &[TreeLine], wanted: &[Row]) -> Result<(), Fa
     Ok(())
 }
 
-fn are_subjects(rt: &impl Abort, lines: &[Line], wanted: &[&[u8]]) -> Result<(), Fail> {
+/// The lines have these subjects, in this order.
+pub fn are_subjects(rt: &impl Abort, lines: &[Line], wanted: &[&[u8]]) -> Result<(), Fail> {
     assert_eq!(rt; lines.len(), wanted.len());
     for (line, want) in lines.iter().zip(wanted.iter()) {
         assert_eq!(rt; line.subject.as_slice(), *want);

@@ -1,6 +1,7 @@
 //! Imports over disks that stop, and then again over what is left.
 use crate::files::{How, Outcome, import_into, new_files};
 use archive_desk::Report;
+use mbox_core::device::Tap;
 use sqlite::Files;
 use sqlite_disk::{Disk, Fuse, Memory};
 use std::alloc::Global;
@@ -34,12 +35,25 @@ fn copied(alloc: Global, disk: &Memory) -> Result<Memory, Fail> {
     Ok(copy)
 }
 
-/// Files that hold the same bytes, of which the log stops after so many calls.
-fn fused(alloc: Global, files: &Files<Memory>, calls: u64) -> Result<Files<Fuse<Memory>>, Fail> {
+/// More calls than a disk gets here.
+const CALLS: u64 = 10_000;
+
+/// Files that hold the same bytes, of which the log and the database file stop after so many calls.
+fn fused(
+    alloc: Global,
+    files: &Files<Memory>,
+    log_calls: u64,
+    db_calls: u64,
+) -> Result<Files<Fuse<Memory>>, Fail> {
     Ok(Files {
-        log: Fuse::new(copied(alloc, &files.log)?, calls),
-        db: Fuse::new(copied(alloc, &files.db)?, 10_000),
+        log: Fuse::new(copied(alloc, &files.log)?, log_calls),
+        db: Fuse::new(copied(alloc, &files.db)?, db_calls),
     })
+}
+
+/// Takes nothing of an export.
+fn nothing(alloc: Global) -> Result<Tap, Fail> {
+    Ok(Tap::new(alloc, b"", 0)?)
 }
 
 /// What disks that stopped hold.
@@ -68,9 +82,10 @@ fn again(
     mbox: &[u8],
     how: How,
 ) -> Result<bool, Fail> {
-    let (first, stopped) = import_into(alloc, files, mbox, how)?;
+    let mut none = nothing(alloc)?;
+    let (first, stopped) = import_into(alloc, files, mbox, how, &mut none)?;
     let (said, is_whole) = done(first);
-    let (second, _files) = import_into(alloc, left(alloc, &stopped)?, mbox, How::Whole)?;
+    let (second, _files) = import_into(alloc, left(alloc, &stopped)?, mbox, How::Whole, &mut none)?;
     let Some(Ok(report)) = second else {
         return Err(Fail::from("an import of the same file"));
     };
@@ -95,7 +110,7 @@ fn halve(
     let (mut stops, mut lasts) = (0, 2048);
     for _turn in 0..11 {
         let calls = stops / 2 + lasts / 2;
-        if again(rt, alloc, fused(alloc, files, calls)?, mbox, how)? {
+        if again(rt, alloc, fused(alloc, files, calls, CALLS)?, mbox, how)? {
             lasts = calls;
         } else {
             stops = calls;
@@ -114,21 +129,108 @@ fn stops_late(
 ) -> Result<(), Fail> {
     let (stops, lasts) = halve(rt, alloc, files, mbox, how)?;
     assert!(rt; 0 < stops && lasts < 2048, "{stops}, {lasts}");
-    let (last, _files) = import_into(alloc, fused(alloc, files, stops)?, mbox, how)?;
+    let stopping = fused(alloc, files, stops, CALLS)?;
+    let (last, _files) = import_into(alloc, stopping, mbox, how, &mut nothing(alloc)?)?;
     assert_eq!(rt; done(last), (AT_ONCE, false));
     Ok(())
+}
+
+/// Files with a list and no message.
+fn with_a_list(rt: &impl Abort, alloc: Global) -> Result<Files<Memory>, Fail> {
+    let (none, files) = import_into(
+        alloc,
+        new_files(alloc),
+        b"",
+        How::Whole,
+        &mut nothing(alloc)?,
+    )?;
+    let nothing_new = Report {
+        new: 0,
+        known: 0,
+        too_large: 0,
+    };
+    assert_eq!(rt; none, Some(Ok(nothing_new)));
+    Ok(files)
 }
 
 #[test]
 fn an_import_that_stopped_is_made_again(rt: HostRuntime) -> Result<(), Fail> {
     let mbox = numbered(rt.alloc())?;
-    let (none, files) = import_into(rt.alloc(), new_files(rt.alloc()), b"", How::Whole)?;
-    let nothing = Report {
-        new: 0,
-        known: 0,
-        too_large: 0,
-    };
-    assert_eq!(rt; none, Some(Ok(nothing)));
+    let files = with_a_list(&rt, rt.alloc())?;
     stops_late(&rt, rt.alloc(), &files, &mbox, How::Whole)?;
     stops_late(&rt, rt.alloc(), &files, &mbox, How::InPieces)
+}
+
+/// Three messages, each as an mbox has it.
+const THREE: [&[u8]; 3] = [
+    b"From anna@example.org Tue Mar  4 10:00:00 2003\nSubject: one\n\nOne.\n\n",
+    b"From bob@example.org Wed Mar 12 10:30:00 2003\nSubject: two\n\nTwo.\n\n",
+    b"From cleo@example.org Thu Mar 13 11:00:00 2003\nSubject: three\n\nThree.\n\n",
+];
+
+/// The first of the three messages, as an mbox.
+fn first_of_three(alloc: Global, count: usize) -> Result<Vec<u8>, Fail> {
+    let mut mbox = Vec::new(alloc);
+    for text in THREE.iter().take(count) {
+        mbox.extend_from_slice(text)?;
+    }
+    Ok(mbox)
+}
+
+/// How many of the three messages an mbox holds, where these are the first ones, byte for byte.
+fn count_of_three(alloc: Global, mbox: &[u8]) -> Result<u64, Fail> {
+    for (number, count) in [0, 1, 2, 3].iter().enumerate() {
+        if first_of_three(alloc, number)?.as_slice() == mbox {
+            return Ok(*count);
+        }
+    }
+    Err(Fail::from("the first messages"))
+}
+
+/// Imports the three messages over files of which one stops: what is left holds the first ones, as many as were said to be done
+/// or more; the same import knows these, and the others are new. Whether the first import came to its end.
+fn stops_between(rt: &impl Abort, alloc: Global, files: Files<Fuse<Memory>>) -> Result<bool, Fail> {
+    let mbox = first_of_three(alloc, 3)?;
+    let (mut none, mut held) = (nothing(alloc)?, Tap::new(alloc, b"", 1000)?);
+    let (outcome, stopped) = import_into(alloc, files, &mbox, How::Whole, &mut none)?;
+    let (said, is_whole) = done(outcome);
+    let (_nothing, files) = import_into(alloc, left(alloc, &stopped)?, b"", How::Whole, &mut held)?;
+    let known = count_of_three(alloc, held.bytes())?;
+    assert!(rt; said <= known && known <= 3, "{said}, {known}");
+    let (again, _files) = import_into(alloc, files, &mbox, How::Whole, &mut none)?;
+    let rest = Report {
+        new: 3 - known,
+        known,
+        too_large: 0,
+    };
+    assert_eq!(rt; again, Some(Ok(rest)));
+    Ok(is_whole)
+}
+
+/// The log, or the database file, stops at each call in turn, until none is met.
+fn stop_at_each_call(
+    rt: &impl Abort,
+    alloc: Global,
+    files: &Files<Memory>,
+    is_log: bool,
+) -> Result<(), Fail> {
+    for calls in 0..CALLS {
+        let (log, db) = if is_log {
+            (calls, CALLS)
+        } else {
+            (CALLS, calls)
+        };
+        if stops_between(rt, alloc, fused(alloc, files, log, db)?)? {
+            assert!(rt; calls > 0, "a disk that is called");
+            return Ok(());
+        }
+    }
+    Err(Fail::from("a disk that stops no more"))
+}
+
+#[test]
+fn an_import_of_three_stops_at_each_call(rt: HostRuntime) -> Result<(), Fail> {
+    let files = with_a_list(&rt, rt.alloc())?;
+    stop_at_each_call(&rt, rt.alloc(), &files, true)?;
+    stop_at_each_call(&rt, rt.alloc(), &files, false)
 }

@@ -3,8 +3,7 @@
 
 use anyhow::bail;
 use mail_core::{Header, Memory};
-use mbox_core::device::{Counted, read_all};
-use mbox_core::{Item, cut};
+use mbox_core::{Item, cut, device};
 use std::alloc::Global;
 use std::hash::RandomState;
 use subject_core::base;
@@ -25,15 +24,16 @@ fn entry_of(alloc: Global, item: &Item<'_>) -> Result<Entry, Memory> {
 
 fn main(rt: HostRuntime) -> anyhow::Result<()> {
     let alloc = rt.alloc();
-    let mut input = Counted::new(rt.reader());
-    let Ok(mbox) = read_all(alloc, &mut input) else {
+    let mut input = device::Counted::new(rt.reader());
+    let Ok(mbox) = device::read_all(alloc, &mut input) else {
         bail!("the input cannot be read");
     };
     let mut entries = Vec::new(alloc);
     for item in cut(&mbox)? {
         entries.push(entry_of(alloc, &item)?)?;
     }
-    for row in threads(alloc, &NodeThreader::new(RandomState::new(&rt)?), &entries)? {
+    let threader = NodeThreader::new(RandomState::new(&rt)?);
+    for row in threads(alloc, &threader, &entries, true)? {
         println!(rt; "{} {:?}", row.depth, row.place)?;
     }
     Ok(())

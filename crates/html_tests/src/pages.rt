@@ -25,7 +25,7 @@ const K1: &str = "11111111111111111111111111111111111111111111111111111111111111
 
 const K2: &str = "22222222222222222222222222222222222222222222222222222222222222ff";
 
-static PAGES: [(Ask, &[Row], &[u8]); 6] = [
+static PAGES: [(Ask, &[Row], &[u8]); 7] = [
     (
         Ask::Threads,
         &[
@@ -98,6 +98,18 @@ static PAGES: [(Ask, &[Row], &[u8]); 6] = [
         b"<!DOCTYPE html>\n\
           <html><head><title>soc: by &lt;anna&gt;/??</title></head><body>\n\
           <h1>soc: by &lt;anna&gt;/??</h1>\n\
+          </body></html>\n",
+    ),
+    (
+        Ask::Threads,
+        &[(0, Some((K1, 1_046_772_000, b"a\"b", b"<script>\"&\xe9")))],
+        b"<!DOCTYPE html>\n\
+          <html><head><title>soc: threads</title></head><body>\n\
+          <h1>soc: threads</h1>\n\
+          <div class=\"d0\"><a href=\"/l/soc/month/2003-03\">2003-03-04 10:00</a> \
+          <a href=\"/l/soc/by/a%22b\">a&quot;b</a> \
+          <a href=\"/l/soc/m/1111111111111111111111111111111111111111111111111111111111111111\">&lt;script&gt;&quot;&amp;?</a> \
+          <a href=\"/l/soc/t/1111111111111111111111111111111111111111111111111111111111111111\">thread</a></div>\n\
           </body></html>\n",
     ),
     (
@@ -211,6 +223,44 @@ fn lists_are_linked_by_name(rt: HostRuntime) -> Result<(), Fail> {
     for (number, (names, page)) in LISTS.iter().enumerate() {
         let made = page_of_lists(rt.alloc(), names)?;
         assert!(rt; made.as_slice() == *page, "lists {number}");
+    }
+    Ok(())
+}
+
+/// A tree of so many messages, each one deeper than the one before.
+fn deep_tree(alloc: Global, count: usize) -> Result<Vec<TreeLine>, Fail> {
+    let mut tree = Vec::new(alloc);
+    for depth in 0..count {
+        let line = line_of(alloc, K1, 0, b"a", b"b")?;
+        tree.push(TreeLine {
+            depth,
+            line: Some(line),
+        })?;
+    }
+    Ok(tree)
+}
+
+/// How many times this stands between quotes in a page.
+fn count_quoted(page: &[u8], word: &[u8]) -> usize {
+    page.split(|byte| *byte == b'"')
+        .filter(|part| *part == word)
+        .count()
+}
+
+/// The classes of rows that are asked for, and how many rows of 500, each one deeper, have each.
+static CLASSES: [(&[u8], usize); 5] = [
+    (b"d0", 1),
+    (b"d1", 1),
+    (b"d19", 1),
+    (b"d20", 480),
+    (b"d21", 0),
+];
+
+#[test]
+fn rows_deeper_than_twenty_have_one_class(rt: HostRuntime) -> Result<(), Fail> {
+    let page = thread_page(rt.alloc(), "soc", &deep_tree(rt.alloc(), 500)?)?;
+    for (class, count) in &CLASSES {
+        assert_eq!(rt; count_quoted(&page, class), *count);
     }
     Ok(())
 }

@@ -16,7 +16,7 @@ struct Case {
     told: &'static [u8],
 }
 
-const CASES: [Case; 4] = [
+const CASES: [Case; 5] = [
     Case {
         says: b"GET",
         ends: false,
@@ -33,6 +33,13 @@ const CASES: [Case; 4] = [
         says: b"",
         ends: true,
         gets: MISSED,
+        told: b"",
+    },
+    // It says more than the service reads, and is read on before its connection is closed.
+    Case {
+        says: b"GET, and then so much that more than the sixty-four bytes which are read have come",
+        ends: false,
+        gets: FOUND,
         told: b"",
     },
     // It says nothing, and is waited for two seconds.

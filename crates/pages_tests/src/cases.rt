@@ -1,6 +1,6 @@
 //! The stores, and what they are told and asked.
 use crate::links::Past;
-use crate::{devices, links, pages, requests};
+use crate::{devices, hostile, links, pages, requests};
 use archive_pages::answer;
 use archive_store::Store;
 use civil_time::Day;
@@ -84,6 +84,7 @@ enum Case {
     Withdrawn,
     Withheld,
     Alone,
+    Texts,
 }
 
 /// Tells an empty store a case.
@@ -103,11 +104,12 @@ fn tell<S: Alter>(
         Case::Withdrawn => pages::withdrawn(rt, alloc, store),
         Case::Withheld => pages::withheld(rt, alloc, store),
         Case::Alone => pages::alone(rt, alloc, store),
+        Case::Texts => hostile::texts(rt, alloc, store),
     }
 }
 
-/// What a store is told: a case, or an archive of which all links are followed, whose threads are asked for, or whose pages are
-/// made by both threaders.
+/// What a store is told: a case, or an archive of which all links are followed, whose threads are asked for, whose pages are
+/// made by both threaders, or whose messages refer to each other in a ring.
 #[derive(Clone, Copy, Debug, PartialEq, Eq)]
 enum Order {
     Case(Case),
@@ -115,6 +117,7 @@ enum Order {
     Shown(Past),
     Asking,
     ByBoth,
+    Rings,
 }
 
 /// Tells a new store over memory an order. What nobody in particular is shown of an archive; else nothing.
@@ -141,12 +144,13 @@ fn tell_order<S: Alter>(
         Order::Shown(past) => return links::shown(rt, alloc, store, past),
         Order::Asking => links::asking(rt, alloc, store)?,
         Order::ByBoth => links::by_both(rt, alloc, store, nodes)?,
+        Order::Rings => hostile::rings(rt, alloc, store, nodes)?,
     }
     Ok(Vec::new(alloc))
 }
 
 #[test]
-fn stores_over_memory(rt: HostRuntime) -> Result<(), Fail> {
+fn each_request_gets_its_reply(rt: HostRuntime) -> Result<(), Fail> {
     for case in [
         Case::Requests,
         Case::Heads,
@@ -155,6 +159,7 @@ fn stores_over_memory(rt: HostRuntime) -> Result<(), Fail> {
         Case::Withdrawn,
         Case::Withheld,
         Case::Alone,
+        Case::Texts,
     ] {
         tell_new(&rt, rt.alloc(), Order::Case(case))?;
     }
@@ -186,5 +191,11 @@ fn a_page_of_threads_asks_the_threader_once_of_the_view_alone(rt: HostRuntime) -
 #[test]
 fn both_threaders_give_the_same_pages(rt: HostRuntime) -> Result<(), Fail> {
     tell_new(&rt, rt.alloc(), Order::ByBoth)?;
+    Ok(())
+}
+
+#[test]
+fn a_ring_of_messages_is_one_thread(rt: HostRuntime) -> Result<(), Fail> {
+    tell_new(&rt, rt.alloc(), Order::Rings)?;
     Ok(())
 }

@@ -72,7 +72,9 @@ fn all_fail<S: Alter>(rt: &impl Abort, alloc: Global, store: &mut Store<S>) -> R
 }
 
 #[test]
-fn peers_fail_at_each_byte(rt: HostRuntime) -> Result<(), Fail> {
+fn a_peer_that_fails_at_any_byte_is_told_in_a_line_and_the_next_gets_its_page(
+    rt: HostRuntime,
+) -> Result<(), Fail> {
     let mut store = Store::open_in_memory(rt.alloc())?;
     all_fail(&rt, rt.alloc(), &mut store)
 }

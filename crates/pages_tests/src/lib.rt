@@ -9,9 +9,13 @@ mod breaking;
 #[cfg(test)]
 mod cases;
 #[cfg(test)]
+mod damaged;
+#[cfg(test)]
 mod devices;
 #[cfg(test)]
 mod failing;
+#[cfg(test)]
+mod hostile;
 #[cfg(test)]
 mod links;
 #[cfg(test)]

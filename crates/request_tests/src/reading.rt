@@ -295,3 +295,27 @@ fn heads_as_large_as_may_be(rt: HostRuntime) -> Result<(), Fail> {
     }
     Ok(())
 }
+
+/// First bytes that no head begins with: a TLS handshake, as a browser sends it that was told https; zeros; a target before a
+/// method; a token that ends in no space.
+static NO_BEGINNINGS: [&[u8]; 5] = [
+    b"\x16\x03\x01\x02\x00\x01\x00\x01\xfc\x03\x03",
+    b"\x00\x00\x00",
+    b"/l/soc GET",
+    b"GET\t/",
+    b"\xff",
+];
+
+/// Whether a source that passes just these bytes, and then fails, is read as no request.
+fn is_refused_at_once(alloc: Global, text: &[u8]) -> Result<bool, Memory> {
+    let mut tap = Tap::new(alloc, text, text.len())?;
+    Ok(gives(&mut tap, RequestRead::Malformed) == Ok(true))
+}
+
+#[test]
+fn first_bytes_that_no_head_begins_with_are_refused_at_once(rt: HostRuntime) -> Result<(), Fail> {
+    for (number, text) in NO_BEGINNINGS.iter().enumerate() {
+        assert!(rt; is_refused_at_once(rt.alloc(), text)?, "beginning {number}");
+    }
+    Ok(())
+}

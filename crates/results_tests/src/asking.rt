@@ -64,11 +64,12 @@ impl Threader for Noting {
         &self,
         alloc: Global,
         entries: &[Entry],
+        merge: bool,
         links: Pairs,
         steps: &mut Steps<L>,
     ) -> Result<Vec<Row>, Memory> {
         self.rows.set(self.rows.get().wrapping_add(1));
-        PlainThreader.rows(alloc, entries, links, steps)
+        PlainThreader.rows(alloc, entries, merge, links, steps)
     }
 }
 

@@ -1,10 +1,10 @@
 //! A list of four messages, of which the first is withdrawn.
 use archive_machine::{Key, Message};
 use archive_results::{
-    Ask, Asked, Header, Line, Reader, TreeLine, asked, author_lines, header_of, is_shown,
-    month_lines, thread_lines, tree_lines,
+    Ask, Asked, Header, Line, Reader, ReaderMarks, TreeLine, asked, header_of, is_shown, lines_of,
+    thread_lines, tree_lines,
 };
-use civil_time::{Day, Month};
+use civil_time::Day;
 use mbox_core::{Item, OwnedItem, cut};
 use policy_core::{Policy, Standing, Withdrawn};
 use std::alloc::Global;
@@ -84,9 +84,10 @@ fn messages(alloc: Global) -> Result<Vec<Message>, Fail> {
 pub fn view(alloc: Global, standing: Standing) -> Result<Vec<Header>, Fail> {
     let policy = Policy::read(alloc, POLICY)?;
     let ask = ask(&policy)?;
+    let reader = ReaderMarks { standing };
     let mut found = Vec::new(alloc);
     for message in messages(alloc)? {
-        if is_shown(&ask, standing, &message) {
+        if is_shown(&ask, &reader, &message) {
             found.push(header_of(alloc, &message)?)?;
         }
     }
@@ -121,14 +122,8 @@ fn outline(alloc: Global, rows: &[TreeLine]) -> Result<Vec<u8>, Fail> {
     Ok(text)
 }
 
-fn month(alloc: Global, standing: Standing, month: &[u8]) -> Result<Vec<u8>, Fail> {
-    let month = Month::read(month).ok_or("no month")?;
-    let lines = month_lines(alloc, view(alloc, standing)?, month)?;
-    subjects(alloc, &lines)
-}
-
-fn author(alloc: Global, standing: Standing, key: &[u8]) -> Result<Vec<u8>, Fail> {
-    let lines = author_lines(alloc, view(alloc, standing)?, key)?;
+fn list(alloc: Global, standing: Standing) -> Result<Vec<u8>, Fail> {
+    let lines = lines_of(alloc, view(alloc, standing)?)?;
     subjects(alloc, &lines)
 }
 
@@ -155,45 +150,14 @@ fn thread(alloc: Global, standing: Standing, place: usize) -> Result<Vec<u8>, Fa
 }
 
 #[test]
-fn months_are_by_sent_date_and_then_in_mailbox_order(rt: HostRuntime) -> Result<(), Fail> {
-    let cases: [(Standing, &[u8], &[u8]); 4] = [
-        (Standing::Public, b"2003-03", b"|Re: Hello|Re: [soc] Hello"),
-        (
-            Standing::Moderator,
-            b"2003-03",
-            b"|Hello|Re: Hello|Re: [soc] Hello",
-        ),
-        (Standing::Public, b"2003-02", b"|Tea"),
-        (Standing::Public, b"2003-04", b""),
+fn lines_are_those_of_the_view_in_its_order(rt: HostRuntime) -> Result<(), Fail> {
+    let cases: [(Standing, &[u8]); 2] = [
+        (Standing::Public, b"|Re: Hello|Re: [soc] Hello|Tea"),
+        (Standing::Moderator, b"|Hello|Re: Hello|Re: [soc] Hello|Tea"),
     ];
-    for (number, (standing, asked, want)) in cases.iter().enumerate() {
+    for (number, (standing, want)) in cases.iter().enumerate() {
         assert!(rt;
-            month(rt.alloc(), *standing, asked)?.as_slice() == *want,
-            "case {number}"
-        );
-    }
-    Ok(())
-}
-
-#[test]
-fn authors_are_by_key_in_lower_case(rt: HostRuntime) -> Result<(), Fail> {
-    let cases: [(Standing, &[u8], &[u8]); 4] = [
-        (
-            Standing::Public,
-            b"anna@example.org",
-            b"|Tea|Re: [soc] Hello",
-        ),
-        (
-            Standing::Moderator,
-            b"anna@example.org",
-            b"|Tea|Hello|Re: [soc] Hello",
-        ),
-        (Standing::Moderator, b"ANNA@example.org", b""),
-        (Standing::Public, b"", b""),
-    ];
-    for (number, (standing, asked, want)) in cases.iter().enumerate() {
-        assert!(rt;
-            author(rt.alloc(), *standing, asked)?.as_slice() == *want,
+            list(rt.alloc(), *standing)?.as_slice() == *want,
             "case {number}"
         );
     }
@@ -238,11 +202,12 @@ fn first(alloc: Global, standing: Standing) -> Result<(Vec<u8>, bool), Fail> {
     let item = cut(MBOX)?.next().ok_or("no message")?;
     let held = Some(message(alloc, &item, Withdrawn::Board)?);
     let ask = ask(&policy)?;
+    let reader = ReaderMarks { standing };
     let shown = match &held {
-        Some(message) => is_shown(&ask, standing, message),
+        Some(message) => is_shown(&ask, &reader, message),
         None => false,
     };
-    match asked(alloc, &ask, standing, &held)? {
+    match asked(alloc, &ask, &reader, &held)? {
         Asked::Served(text) => Ok((text, shown)),
         Asked::Denied(rule) => Ok((rule.as_bytes().to_vec(alloc)?, shown)),
         Asked::Absent => Ok((Vec::new(alloc), shown)),

@@ -5,6 +5,7 @@
 //!     mbox TEXT      what the next runs read, with `\n`, `\r` and `\\` as escapes
 //!     file NAME      what they read: this file
 //!     new            no database is there
+//!     sql NAME TEXT  another program carries out this statement of SQL in the database of this name
 //!     clock DAY      the day that their clock tells; `clock none`: it tells none
 //!     $ WORDS        a run with these words; a word in double quotes may be empty or hold spaces
 //!     <N $ WORDS     a run whose input, and whose mbox, fails after N bytes
@@ -248,6 +249,11 @@ fn limits(devices: &str) -> anyhow::Result<(usize, usize)> {
     }
 }
 
+/// The name of a database, and the statement behind it.
+fn named_statement(text: &str) -> Option<(&str, &str)> {
+    text.split_once(' ')
+}
+
 /// Carries out a line of the script.
 fn follow<RT: Files + AllocGlobal>(
     rt: &RT,
@@ -263,6 +269,8 @@ fn follow<RT: Files + AllocGlobal>(
         stage.input = fs::read(rt, name)?;
     } else if line == "new" {
         stage.databases = Shelf::new(rt.alloc());
+    } else if let Some((name, sql)) = line.strip_prefix("sql ").and_then(named_statement) {
+        stage.databases.alter(rt.alloc(), name, sql)?;
     } else if let Some(day) = line.strip_prefix("clock ") {
         stage.today = Day::read(day.as_bytes());
     } else if let Some((devices, words)) = line.split_once('$') {

@@ -2,6 +2,7 @@
 ghost use Rattle.std.specs.Prelude.{◌≡◌, None, IfErr};
 ghost use Rattle.archive_store.specs.Replies.{refusal};
 
+use anyhow::bail;
 use archive_run::Databases;
 use archive_store::{AdoptStop, Store, StoreFault};
 use sqlite::{Connection, FileStore, Files, Options};
@@ -46,6 +47,29 @@ impl Shelf {
                 db: Memory::new(alloc),
             },
         }
+    }
+
+    /// Carries out a statement of SQL in the database of this name, as another program does.
+    pub fn alter(&mut self, alloc: Global, name: &str, sql: &str) -> anyhow::Result<()> {
+        let files = self.take(alloc, name);
+        if !files.may_be_used() {
+            bail!("the files are used");
+        }
+        let mut connection = match Connection::open_files(alloc, files, Options::new(1)) {
+            Ok(connection) => connection,
+            Err(_) => bail!("the database is not opened"),
+        };
+        let done = connection.execute(sql, &[]);
+        let files = match connection.close_files() {
+            Ok(files) => files,
+            Err((_error, left)) => left.close(),
+        };
+        self.open = Some(String::from_str(alloc, name)?);
+        self.keep(files);
+        if done.is_err() {
+            bail!("the statement is refused");
+        }
+        Ok(())
     }
 
     /// Keeps the files of the database that is open.

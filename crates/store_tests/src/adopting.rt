@@ -30,6 +30,10 @@ fn connections_are_adopted_again(rt: HostRuntime) -> Result<(), Fail> {
         (true, list, true),
         (true, other, false),
         (true, "UPDATE version SET number = 9", false),
+        (true, "UPDATE version SET number = 0", false),
+        (true, "DELETE FROM version", false),
+        (true, "DROP INDEX message_by_month", false),
+        (true, "DROP INDEX message_by_author", false),
         (false, other, false),
     ] {
         let found = is_adopted(rt.alloc(), is_archive, statement)?;

@@ -1,7 +1,8 @@
-//! Calls that follow one another, with what they do together proved: of a walk that is dropped early, and a question behind it.
+//! Calls that follow one another, with what they do together proved, whatever is filed: of a walk that is dropped early, and a
+//! question behind it.
 ghost use Rattle.std.specs.Prelude.{◌≡◌, IfOk};
 ghost use Rattle.archive_machine.specs.Questions.{has_list};
-ghost use Rattle.archive_store.specs.Told.{HadReturned, HasReturned, IsReady, archive_in};
+ghost use Rattle.archive_store.specs.Told.{HadReturned, HasReturned, HoldsTables, archive_in};
 
 use archive_store::{Message, Store, StoreFault};
 use sqlite::Alter;
@@ -14,7 +15,7 @@ pub fn first_of<S: Alter>(
     list: &str,
     other: &str,
 ) -> Result<(Option<Message>, bool), StoreFault>
-    ensures left { HasReturned S.Store store.new → IsReady S.Store store.old → IfOk result (λ found. IsReady S.Store store.new
+    ensures left { HasReturned S.Store store.new → HoldsTables S.Store store.old → IfOk result (λ found. HoldsTables S.Store store.new
         × (archive_in S.Store store.new ≡ archive_in S.Store store.old) × (found.1 ≡ has_list (archive_in S.Store store.old) other.now)) }
     ensures clean { HadReturned S.Store store.old store.new }
 {
@@ -28,7 +29,7 @@ fn walk_to_first<S: Alter>(
     alloc: Global,
     list: &str,
 ) -> Result<Option<Message>, StoreFault>
-    ensures left { HasReturned S.Store store.new → IsReady S.Store store.old → IfOk result (λ _. IsReady S.Store store.new
+    ensures left { HasReturned S.Store store.new → HoldsTables S.Store store.old → IfOk result (λ _. HoldsTables S.Store store.new
         × (archive_in S.Store store.new ≡ archive_in S.Store store.old)) }
     ensures clean { HadReturned S.Store store.old store.new }
 {

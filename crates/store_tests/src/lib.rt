@@ -9,9 +9,13 @@ pub mod callers;
 #[cfg(test)]
 mod cases;
 #[cfg(test)]
+mod checking;
+#[cfg(test)]
 mod commands;
 #[cfg(test)]
 mod files;
+#[cfg(test)]
+mod filing;
 #[cfg(test)]
 mod keys;
 #[cfg(test)]
@@ -20,3 +24,5 @@ mod questions;
 mod stops;
 #[cfg(test)]
 mod tables;
+#[cfg(test)]
+mod versions;

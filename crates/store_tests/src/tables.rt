@@ -1,11 +1,19 @@
 //! What each statement does, and what is read of its rows.
-use archive_tables::rows::{GrantRow, MarksRow, read_grant, read_marks, read_message, read_name};
+use archive_tables::rows::{
+    GrantRow, MarksRow, read_grant, read_marks, read_message, read_name, read_place,
+};
 use archive_tables::texts::{grants, lists, messages, persons, schema};
-use sqlite::{Alter, Connection, Error, ErrorCode};
+use sqlite::{Alter, Connection, Error, ErrorCode, Row};
 use std::process::Abort;
 use std::test::Fail;
 
 const KEY: &str = "5891b5b522d5df086d0ff0b110fbd9d21bb4fc7163af34d08286a2e846f6be03";
+
+/// March 2003: the year times 12, and the month less 1.
+const MARCH: i64 = 24038;
+
+/// January 1970.
+const EPOCH: i64 = 23640;
 
 const OTHER: &str = "e3b0c44298fc1c149afbf4c8996fb92427ae41e4649b934ca495991b7852b855";
 
@@ -19,12 +27,13 @@ enum Case {
     Persons,
     Grants,
     Messages,
+    Filed,
     Changes,
     Marks,
     Numbers,
 }
 
-const CASES: [Case; 10] = [
+const CASES: [Case; 11] = [
     Case::Versions,
     Case::Rollback,
     Case::Lists,
@@ -32,6 +41,7 @@ const CASES: [Case; 10] = [
     Case::Persons,
     Case::Grants,
     Case::Messages,
+    Case::Filed,
     Case::Changes,
     Case::Marks,
     Case::Numbers,
@@ -55,6 +65,7 @@ fn tell<S: Alter>(rt: &impl Abort, conn: &mut Connection<S>, case: Case) -> Resu
         Case::Persons => a_token_leads_to_its_person(rt, conn),
         Case::Grants => a_grant_is_changed_and_removed(rt, conn),
         Case::Messages => messages_come_in_the_order_of_the_mailbox(rt, conn),
+        Case::Filed => numbers_come_by_what_is_filed(rt, conn),
         Case::Changes => a_message_is_withdrawn_and_held_back(rt, conn),
         Case::Marks => marks_are_those_of_the_message(rt, conn),
         Case::Numbers => numbers_reach_a_limit(rt, conn),
@@ -69,6 +80,8 @@ fn begin_tables<S: Alter>(conn: &mut Connection<S>) -> Result<(), Error> {
     schema::create_person(conn)?;
     schema::create_grant(conn)?;
     schema::create_message(conn)?;
+    schema::create_month_index(conn)?;
+    schema::create_author_index(conn)?;
     schema::add_version(conn)?;
     Ok(())
 }
@@ -86,8 +99,11 @@ fn fill<S: Alter>(conn: &mut Connection<S>) -> Result<(), Error> {
     lists::add_list(conn, "soc")?;
     persons::add_person(conn, "anna", "0123456789abcdef")?;
     let sender = b"anna@example.org";
-    messages::add_message(conn, "soc", KEY, sender, 1046772000, b"hello\n")?;
-    messages::add_message(conn, "soc", OTHER, b"-", 0, b"")?;
+    let arrival = 1_046_772_000;
+    messages::add_message(
+        conn, "soc", KEY, sender, arrival, b"hello\n", arrival, MARCH, b"",
+    )?;
+    messages::add_message(conn, "soc", OTHER, b"-", 0, b"", 0, EPOCH, b"")?;
     Ok(())
 }
 
@@ -100,9 +116,9 @@ fn is_constraint(outcome: Result<usize, Error>) -> bool {
 
 fn each_version_is_shown<S: Alter>(rt: &impl Abort, conn: &mut Connection<S>) -> Result<(), Fail> {
     make(conn)?;
-    are_versions(rt, conn, &[0])?;
+    are_versions(rt, conn, &[1])?;
     conn.execute("INSERT INTO version (number) VALUES (7)", &[])?;
-    are_versions(rt, conn, &[0, 7])
+    are_versions(rt, conn, &[1, 7])
 }
 
 fn are_versions<S: Alter>(
@@ -226,12 +242,12 @@ fn messages_come_in_the_order_of_the_mailbox<S: Alter>(
 ) -> Result<(), Fail> {
     fill(conn)?;
     lists::add_list(conn, "news")?;
-    messages::add_message(conn, "news", KEY, b"-", 1, b"hello\n")?;
+    messages::add_message(conn, "news", KEY, b"-", 1, b"hello\n", 1, EPOCH, b"")?;
     for (key, is_there) in [(KEY, true), (OTHER, false)] {
         let found = messages::has_message(conn, "news", key)?;
         assert_eq!(rt; found, is_there, "{key}");
     }
-    let added = messages::add_message(conn, "soc", KEY, b"-", 1, b"");
+    let added = messages::add_message(conn, "soc", KEY, b"-", 1, b"", 1, EPOCH, b"");
     assert!(rt; is_constraint(added));
     assert_eq!(rt; messages::count_messages(conn, "soc")?, 2);
     let rows = messages::messages(conn, "soc")?;
@@ -244,6 +260,58 @@ fn messages_come_in_the_order_of_the_mailbox<S: Alter>(
     assert_eq!(rt; first.withdrawn, 0);
     assert_eq!(rt; first.embargo, None);
     assert_eq!(rt; read_message(&rows[1])?.key.as_str(), OTHER);
+    Ok(())
+}
+
+/// What is filed of a message: its sent date, its month and its author key.
+type Filed = (i64, i64, &'static [u8]);
+
+/// Six messages, which get the numbers 1, 3, 5, 7, 9 and 11, since each stands in another list too.
+const FILED: [Filed; 6] = [
+    (20, MARCH, b"a"),
+    (10, MARCH, b"b"),
+    (20, MARCH, b"b"),
+    (-5, MARCH, b"a"),
+    (10, MARCH + 1, b"a"),
+    (10, MARCH, b"A"),
+];
+
+/// By sent date, and then as they came; those of another list are not among them.
+fn numbers_come_by_what_is_filed<S: Alter>(
+    rt: &impl Abort,
+    conn: &mut Connection<S>,
+) -> Result<(), Fail> {
+    make(conn)?;
+    lists::add_list(conn, "soc")?;
+    lists::add_list(conn, "news")?;
+    for (key, (sent, month, author)) in ["1", "2", "3", "4", "5", "6"].iter().zip(FILED.iter()) {
+        messages::add_message(conn, "soc", key, b"-", 0, b"", *sent, *month, author)?;
+        messages::add_message(conn, "news", key, b"-", 0, b"", *sent, *month, author)?;
+    }
+    let numbers = messages::places(conn, "soc")?;
+    assert_eq!(rt; numbers.len(), FILED.len());
+    for (month, wanted) in [
+        (MARCH, [7, 3, 11, 1, 5].as_slice()),
+        (MARCH + 1, [9].as_slice()),
+        (MARCH - 1, [].as_slice()),
+    ] {
+        are_numbers(rt, &messages::month_places(conn, "soc", month)?, wanted)?;
+    }
+    for (author, wanted) in [
+        (b"a".as_slice(), [7, 9, 1].as_slice()),
+        (b"b".as_slice(), [3, 5].as_slice()),
+        (b"".as_slice(), [].as_slice()),
+    ] {
+        are_numbers(rt, &messages::author_places(conn, "soc", author)?, wanted)?;
+    }
+    Ok(())
+}
+
+fn are_numbers(rt: &impl Abort, rows: &[Row], wanted: &[i64]) -> Result<(), Fail> {
+    assert_eq!(rt; rows.len(), wanted.len());
+    for (row, want) in rows.iter().zip(wanted.iter()) {
+        assert_eq!(rt; read_place(row)?, *want);
+    }
     Ok(())
 }
 
@@ -281,7 +349,7 @@ fn marks_are_those_of_the_message<S: Alter>(
 ) -> Result<(), Fail> {
     fill(conn)?;
     lists::add_list(conn, "news")?;
-    messages::add_message(conn, "news", KEY, b"-", 1, b"hello\n")?;
+    messages::add_message(conn, "news", KEY, b"-", 1, b"hello\n", 1, EPOCH, b"")?;
     messages::set_withdrawn(conn, "news", KEY, 1)?;
     messages::set_embargo(conn, "news", KEY, -25567)?;
     for (list, key, want) in [
@@ -299,7 +367,7 @@ fn numbers_reach_a_limit<S: Alter>(rt: &impl Abort, conn: &mut Connection<S>) ->
     assert!(rt; !messages::reaches(conn, 1)?);
     lists::add_list(conn, "soc")?;
     for key in [KEY, OTHER] {
-        messages::add_message(conn, "soc", key, b"-", 0, b"")?;
+        messages::add_message(conn, "soc", key, b"-", 0, b"", 0, EPOCH, b"")?;
     }
     for (limit, is_reached) in [(2, true), (3, false)] {
         assert_eq!(rt; messages::reaches(conn, limit)?, is_reached, "{limit}");
