@@ -1,19 +1,17 @@
 #!/usr/bin/env python3
 """hostile.py: peers that do harm, and how long the next one waits for its reply.
 
-  bench/hostile.py [--archive PROGRAM] [--only WORD]
+  trials/hostile.py [--archive PROGRAM] [--only WORD]
 
-Each case starts a server of its own on 127.0.0.1, lets one or more peers do
-what its name says, and has a last peer ask for all lists. It measures how long
-that one waits, and compares this with the time that docs/HTTP.md gives to the
-peers before it; the reply has to be the page, the server has to end by itself
-with status 0, and its lines of faults have to be those of the case. Three
-minutes in all. Status 1 where something is not as it shall be.
-Build the program first: ./archive --version.
+Each case starts a server of its own on 127.0.0.1, lets one or more peers do what its name says, and has a last peer ask for all
+lists. It measures how long that one waits, beside the time that docs/HTTP.md gives to the peers before it; the reply has to be the
+page, the server has to end by itself with status 0, and its lines of faults have to be those of the case. Three minutes in all.
+The last line is 'N passed, N failed, N skipped'; status 1 where one failed. Build the program first: ./archive --version.
 """
-import argparse, pathlib, socket, struct, sys, tempfile, threading, time
+import pathlib, socket, struct, tempfile, threading, time
 
-from serving import ROOT, Server, archive, get, heard, make_archive
+from trial import Server, Trial, words_of
+from serving import archive, get, heard, make_archive
 
 S1, S2 = "archive: S1 Read", "archive: S2 Write"
 SLACK = 1.0  # seconds for a machine that does other things
@@ -177,8 +175,11 @@ ASK_FOR_MUCH = [gone_in_the_reply, never_reads]
 
 def run_case(program, db, peers, count, most, told):
     """What the last peer waited, what the server said, and whether all is as it shall be."""
-    server = Server(program, db, count + 1)
-    kept = peers(server)
+    server, kept, replied = Server(program, db, count + 1), [], True
+    try:
+        kept = peers(server)
+    except (AssertionError, OSError):
+        replied = False
     begun = time.perf_counter()
     last = server.connect()
     last.sendall(get("/"))
@@ -187,7 +188,7 @@ def run_case(program, db, peers, count, most, told):
     status, lines = server.finish()
     for peer in kept:
         peer.close()
-    good = b"<h1>Lists</h1>" in reply and status == 0 and lines in told and waited <= most + SLACK
+    good = replied and b"<h1>Lists</h1>" in reply and status == 0 and lines in told and waited <= most + SLACK
     return waited, status, lines, good
 
 
@@ -206,25 +207,18 @@ def make_large(program, folder):
 
 
 def main():
-    words = argparse.ArgumentParser(description=__doc__.splitlines()[0])
-    words.add_argument("--archive", default=ROOT / "crates" / "archive" / "out" / "archive")
-    words.add_argument("--only", default="", help="the cases whose name has this word")
-    asked = words.parse_args()
-    bad = 0
-    with tempfile.TemporaryDirectory() as folder:
+    asked = words_of(__doc__, only={"default": "", "help": "the cases whose name has this word"})
+    with Trial() as trial, tempfile.TemporaryDirectory() as folder:
         small, large = make_archive(asked.archive, folder), None
-        print(f"{'peers':24} {'next one waits':>14} {'at most':>8}  faults told")
         for peers, count, most, told in CASES:
             if asked.only in peers.__name__:
                 if peers in ASK_FOR_MUCH:
                     large = large or make_large(asked.archive, folder)
-                db = large if peers in ASK_FOR_MUCH else small
-                waited, status, lines, good = run_case(asked.archive, db, peers, count, most, told)
-                bad += not good
-                name = peers.__name__.replace("_", " ")
-                faults = ", ".join(f"{lines.count(s)} {s[9:]}" for s in (S1, S2) if s in lines) or "none"
-                print(f"{name:24} {waited:12.2f} s {most:6} s  {faults}{'' if good else f'   WRONG: {status} {lines}'}")
-    sys.exit(1 if bad else 0)
+                waited, status, lines, good = run_case(asked.archive, large if peers in ASK_FOR_MUCH else small, peers, count, most, told)
+                faults = ", ".join(f"{lines.count(it)} {it[9:]}" for it in (S1, S2) if it in lines) or "none"
+                wrong = "" if good else f"; status {status}, {lines}"
+                trial.holds(peers.__name__.replace("_", " "), good, f"the next one waits {waited:.2f} s of {most} at most; faults told: {faults}{wrong}")
 
 
-main()
+if __name__ == "__main__":
+    main()

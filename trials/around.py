@@ -1,0 +1,260 @@
+#!/usr/bin/env python3
+"""around.py: what stands beside the program: samples/*.sh and *.py, the units, the help, and the surprises that the pages speak of.
+
+  trials/around.py [--archive PROGRAM]
+
+The last line is 'N passed, N failed, N skipped'.
+"""
+import os, pathlib, re, shutil, sqlite3, stat, subprocess, tempfile
+
+from trial import ROOT, SAMPLES, Server, Trial, output, words_of
+from serving import archive, make_archive
+import mbox
+
+POLICY = SAMPLES / "seeds.toml"
+DASHED = "-5fW2xkQ0aTz7uYp1"
+# Lines that are separators, by docs/MBOX.md, and lines that are none.
+SEPARATORS = [
+    b"From a@b Tue Mar  4 10:00:00 2003", b"From anna at example.org  Tue Mar  4 10:00:00 2003", b"From 12@xxx Tue Mar 04 10:00:00 +0100 2003",
+    b"From - Tue Mar  4 10:00 2003", b"From  12@xxx mon MAR 04 23:59:60 2003 ", b"From a@b Thu Feb 29 10:00:00 2024\r", b"From a@b Mon Jan  1 00:00:00 EST 9998",
+    b"From a@b Sun Dec 31 23:00:00 -0500 1899",
+]
+OTHERS = [
+    b"From here on we sail", b"From a b Tue Mar 4 10:00:00 2003", b"From a@b Tue Mar  4 10:00:00 2003 +0100", b"From a@b Tue Feb 29 10:00:00 2023",
+    b"From a@b Tue Mar  4 24:00:00 2003", b"From a@b Tue Mar  4 10:00:00 03", b"From a@b Tue Mar  4 10:00:00 +0160 2003", b">From a@b Tue Mar  4 10:00:00 2003",
+    b"From a AT b Tue Mar  4 10:00:00 2003", b"From a@b Tue Mar  4 10:00:00 1899", b"From a@b Sun Jan  1 00:00:00 +0500 1900", b"From a@b Tue Mar  4 10:00:61 2003",
+]
+
+
+def refused(program, *words):
+    """The status, and what it says."""
+    ran = subprocess.run([program, *map(str, words)], stdin=subprocess.DEVNULL, capture_output=True, text=True, check=False)
+    return ran.returncode, (ran.stdout + ran.stderr).strip()
+
+
+def surprises(trial, program, room):
+    """What surprises, and is said in docs/REFUSALS.md and docs/COMMANDS.md."""
+    db = make_archive(program, room)
+    trial.check("a FILE that is mistyped is made, and has no list (E4)", refused(program, "import", "--db", room / "archve.db", "seeds", SAMPLES / "seeds.mbox"), (1, "archive: E4 NoList after 0"))
+    trial.check("so it is for a question (G1)", refused(program, "export", "--db", room / "arhive.db", "--policy", POLICY, "seeds"), (1, "archive: G1 NoList"))
+    trial.holds("both files are there then", (room / "archve.db").exists() and (room / "arhive.db").exists())
+    trial.check("a folder that is not there (E15)", refused(program, "list-add", "--db", room / "no" / "a.db", "x"), (1, "archive: E15 Store"))
+    trial.check("a FILE that is a folder (E15)", refused(program, "list-add", "--db", room, "x"), (1, "archive: E15 Store"))
+    (room / "text.db").write_text("no database at all, but a text of some length that is none\n" * 20)
+    trial.check("a FILE that is no database (E15)", refused(program, "list-add", "--db", room / "text.db", "x"), (1, "archive: E15 Store"))
+    stock = sqlite3.connect(room / "other.db")
+    stock.execute("CREATE TABLE x (y)")
+    stock.commit()
+    stock.close()
+    trial.check("a FILE of another program (E15)", refused(program, "list-add", "--db", room / "other.db", "x"), (1, "archive: E15 Store"))
+    served(trial, program, room, db)
+    not_writable(trial, program, room, db)
+    trial.check("a token that begins with - is bad words", refused(program, "person-add", "--db", db, "dash", DASHED)[0], 2)
+    trial.check("but behind --", refused(program, "person-add", "--db", db, "--", "dash", DASHED), (0, "added"))
+    trial.check("a policy is tried", refused(program, "sift", "--policy", POLICY), (0, ""))
+    (room / "wrong.toml").write_text('[[rule]]\nname = "x"\n')
+    status, said = refused(program, "sift", "--policy", room / "wrong.toml")
+    trial.holds("and one that is none", status == 1 and said.startswith("archive: P"), said)
+    old = os.umask(0o077)
+    archive(program, "list-add", "--db", room / "own.db", "x")
+    os.umask(old)
+    trial.check("after umask 077 the file is its owner's alone", oct(stat.S_IMODE((room / "own.db").stat().st_mode)), "0o600")
+    with open(SAMPLES / "seeds.mbox", "rb") as lines:
+        ran = subprocess.run([program, "import", "--db", room / "own.db", "x", "/dev/stdin"], stdin=lines, capture_output=True, text=True, check=False)
+    trial.check("MBOX is /dev/stdin", ran.stdout, "new 40 known 0 too-large 0\n")
+    trial.check("MBOX is -, which is a file of that name", refused(program, "import", "--db", room / "own.db", "x", "-"), (1, "archive: F1 Read"))
+
+
+def served(trial, program, room, db):
+    server = Server(program, db, 1000)
+    trial.check("a FILE that is served (E15)", refused(program, "list-add", "--db", db, "x"), (1, "archive: E15 Store"))
+    said = output("sqlite3", "-init", "/dev/null", db, "SELECT count(*) FROM message")
+    trial.holds("stock sqlite3 finds it locked", "database is locked" in said, said)
+    copied = output(SAMPLES / "copy.sh", db, room / "copy.db")
+    trial.check("samples/copy.sh copies it", (copied, output("sqlite3", "-init", "/dev/null", room / "copy.db", "PRAGMA integrity_check; SELECT count(*) FROM message")), ("", "ok\n40"))
+    shown = output(SAMPLES / "show.sh", db)
+    trial.holds("samples/show.sh shows it", "seeds\t40\t10789\t0\t0" in shown, shown.splitlines()[1:2])
+    server.kill()
+
+
+def not_writable(trial, program, room, db):
+    """A file and a folder that may not be written to, as somebody who is not root."""
+    if os.getuid() != 0:
+        trial.skip("a FILE that may not be written to (E15)", "this is not root, which becomes somebody else for it")
+        return
+    shut = room / "shut"
+    shut.mkdir()
+    shutil.copyfile(db, shut / "a.db")
+    shutil.copy(program, shut / "archive")
+    for it, mode in ((room, 0o755), (room / "policy.toml", 0o644), (shut / "a.db", 0o644), (shut / "archive", 0o755)):
+        it.chmod(mode)
+    if not all(it.stat().st_mode & 0o001 for it in room.parents):
+        trial.skip("a FILE that may not be written to (E15)", f"somebody else cannot reach {room}")
+        return
+    somebody = {"user": 65534, "group": 65534, "extra_groups": [], "capture_output": True, "text": True, "check": False}
+    trial.check("somebody else can run the program", subprocess.run([shut / "archive", "--version"], **somebody).returncode, 0)
+    for what, name in (("a FILE of which one may only read", "a.db"), ("a folder in which one may make nothing", "new.db")):
+        ran = subprocess.run([shut / "archive", "export", "--db", shut / name, "--policy", room / "policy.toml", "seeds"], **somebody)
+        trial.check(f"{what} (E15)", (ran.returncode, ran.stdout, ran.stderr.strip()), (1, "", "archive: E15 Store"))
+
+
+def cutting(trial, program, room):
+    """samples/mbox.py cuts as the program does."""
+    for lines, wanted in ((SEPARATORS, True), (OTHERS, False)):
+        trial.check(f"mbox.py: lines that are {'separators' if wanted else 'none'}", [it for it in lines if mbox.is_separator(it + b"\n") != wanted], [])
+    archive(program, "list-add", "--db", room / "cut.db", "x")
+    for lines, wanted in ((SEPARATORS, "new 2"), (OTHERS, "new 1")):
+        wrong = []
+        for number, line in enumerate(lines):
+            (room / "cut.mbox").write_bytes(b"From a@b Tue Mar  4 10:00:00 2003\n%s %d\n\n%s\ny %d\n\n" % (wanted.encode(), number, line, number + 100 * len(lines)))
+            if not archive(program, "import", "--db", room / "cut.db", "x", room / "cut.mbox").decode().startswith(wanted):
+                wrong.append(line)
+        trial.check(f"the program: lines that {'cut' if wanted == 'new 2' else 'do not'}", wrong, [])
+    for name in ("seeds", "soc"):
+        file = SAMPLES / f"{name}.mbox"
+        written = subprocess.run([program], stdin=open(file, "rb"), stdout=subprocess.PIPE, check=True).stdout
+        with open(file, "rb") as lines:
+            cut = [text for _, _, text in mbox.messages(lines)]
+        again = [text for _, _, text in mbox.messages(written.splitlines(True))]
+        trial.holds(f"mbox.py: {name}.mbox is cut as what the program writes of it", cut == again, len(cut))
+    box = room / "box.mbox"
+    box.write_bytes((SAMPLES / "seeds.mbox").read_bytes())
+    key = output(SAMPLES / "mbox.py", "list", box).splitlines()[21].split()[3]
+    (room / "rest.mbox").write_text(output(SAMPLES / "mbox.py", "without", key, box) + "\n\n")
+    trial.check("mbox.py without a mail: how many are left, and of that one", (len(output(SAMPLES / "mbox.py", "list", room / "rest.mbox").splitlines()),
+                key in output(SAMPLES / "mbox.py", "list", room / "rest.mbox")), (39, False))
+
+
+def backups(trial, program, room):
+    """samples/backup.sh: what it takes along, what it leaves, and that it takes nothing that is damaged."""
+    kept, to = room / "kept", room / "to"
+    kept.mkdir()
+    db = make_archive(program, kept)
+    (kept / "policy.toml").write_text("x = 1\n")
+    (kept / "mail.done" / "seeds").mkdir(parents=True)
+    (kept / "mail.done" / "seeds" / "1.mbox").write_text("x")
+    to.mkdir()
+    for day in range(1, 10):
+        (to / f"archive-2001-01-0{day}.db").write_text("old")
+    trial.check("backup.sh says nothing", output(SAMPLES / "backup.sh", kept, to, 4), "")
+    names = sorted(it.name for it in to.iterdir())
+    trial.check("backup.sh: what is there then", ([it for it in names if it.startswith("archive-2001")], len(names), (to / "mail.done" / "seeds" / "1.mbox").exists()),
+                (["archive-2001-01-07.db", "archive-2001-01-08.db", "archive-2001-01-09.db"], 6, True))
+    trial.check("the copy is whole, as check finds", [refused(program, "check", "--db", it) for it in to.glob("archive-20[2-9]*.db")], [(0, "ok")])
+    trial.check("backup.sh: the copy is its owner's alone", {oct(stat.S_IMODE(it.stat().st_mode)) for it in to.glob("archive-20[2-9]*")}, {"0o600"})
+    text = bytearray(db.read_bytes())
+    text[4096:8192] = b"\xa5" * 4096
+    db.write_bytes(text)
+    ran = subprocess.run([SAMPLES / "backup.sh", kept, to, "1"], capture_output=True, text=True, check=False)
+    trial.holds("backup.sh: a damaged file is told, and nothing older goes", ran.returncode == 1 and "archive.db: " in ran.stderr and len([*to.glob("archive-2001*")]) == 3,
+                f"{ran.returncode} {ran.stderr.strip()[-80:]}")
+    trial.check("copy.sh: no such file", output(SAMPLES / "copy.sh", room / "none", room / "x"), f"copy.sh: {room / 'none'}: no such file")
+
+
+def moved_in(trial, program, room):
+    """samples/from-news.sh and from-public-inbox.py: what they do with what goes wrong; what they make of the samples the walk shows."""
+    trial.check("from-news.sh: no such folder", ran_to(SAMPLES / "from-news.sh", room / "none"), (1, 0))
+    (room / "empty").mkdir()
+    trial.check("from-news.sh: a folder without articles", ran_to(SAMPLES / "from-news.sh", room / "empty"), (1, 0))
+    spool = room / "spool"
+    spool.mkdir()
+    # (years that no separator line has, no date at all, a line end that is missing, a folded field)
+    for number, date in ((9, "Mon, 1 Jan 2024 10:00:00 +0000"), (10, "Mon, 1 Jan 0099 10:00:00 +0000"), (11, "soon"), (100, "Tue,\n 2 Jan 2024\n\t10:00:00 -0500 (EST)")):
+        (spool / str(number)).write_text(f"From: a@example.org\nDate: {date}\nMessage-ID: <{number}@example.org>\n\nText {number}.")
+    written = subprocess.run([SAMPLES / "from-news.sh", spool], stdout=subprocess.PIPE, check=True).stdout
+    found = [(separator.decode()[7:-1], text.decode().splitlines()[-1]) for _, separator, text in mbox.messages(written.splitlines(True))]
+    first, last = "Mon Jan  1 10:00:00 2024", "Tue Jan  2 15:00:00 2024"
+    trial.check("from-news.sh: arrivals, and the order of numbers", found, [(first, "Text 9."), (first, "Text 10."), (first, "Text 11."), (last, "Text 100.")])
+    archive(program, "list-add", "--db", room / "news.db", "x")
+    (room / "news.mbox").write_bytes(written)
+    trial.check("the program takes in each of them", archive(program, "import", "--db", room / "news.db", "x", room / "news.mbox"), b"new 4 known 0 too-large 0\n")
+    trial.check("from-public-inbox.py: no such repository", ran_to(SAMPLES / "from-public-inbox.py", room / "none"), (1, 0))
+    trial.holds("it says so", output(SAMPLES / "from-public-inbox.py", room / "none").endswith(f"from-public-inbox.py: {room / 'none'}: no repository of mails"))
+    trial.check("mbox.py: no such file", output(SAMPLES / "mbox.py", "list", room / "none"), f"mbox.py: [Errno 2] No such file or directory: '{room / 'none'}'")
+
+
+def ran_to(*words):
+    """The status of a script (1 for any that is not 0), and how much it wrote."""
+    ran = subprocess.run([*map(str, words)], stdin=subprocess.DEVNULL, capture_output=True, check=False)
+    return int(ran.returncode != 0), len(ran.stdout)
+
+
+def units(trial):
+    """What systemd says of the units; of a unit with a word that is none it has to say something."""
+    if trial.has("systemd-analyze"):
+        for name in ("archive.service", "archive-backup.service", "archive-backup.timer"):
+            # (what it begins is this repository's)
+            text = (SAMPLES / name).read_text().replace("/opt/archive", str(ROOT)).replace("User=archive", "User=root")
+            trial.check(f"systemd-analyze verify {name}", found_in_unit(name, text), [])
+            trial.holds(f"and of {name} with a word that is none it says something", found_in_unit(name, text.replace("]\n", "]\nNoSuchWord=1\n")))
+
+
+def found_in_unit(name, text):
+    with tempfile.TemporaryDirectory() as folder:
+        file = pathlib.Path(folder) / name
+        if name.endswith(".timer"):
+            file.with_name("archive-backup.service").write_text("[Service]\nExecStart=/bin/true\n")
+        file.write_text(text)
+        return [it for it in output("systemd-analyze", "verify", "--man=no", file).splitlines() if name in it]
+
+
+def helped(trial):
+    """Each sample that is run says what it does, and does nothing else."""
+    for script in sorted([*SAMPLES.glob("*.sh"), *SAMPLES.glob("*.py")]):
+        ran = subprocess.run([script, "--help"], stdin=subprocess.DEVNULL, capture_output=True, text=True, check=False)
+        trial.check(f"{script.name} --help: status, errors, whether it shows how it is called", (ran.returncode, ran.stderr, f"  samples/{script.name} " in ran.stdout), (0, "", True))
+
+
+def commands():
+    """The commands of docs/COMMANDS.md: the words of each, and what it prints."""
+    table = (ROOT / "docs" / "COMMANDS.md").read_text().split("\n\n")[2]
+    rows = re.findall(r"^\| `([a-z-]+)( [^`]*)` \|[^|]*\| ([^|]*) \|$", table, re.MULTILINE)
+    return {command: (words, re.findall("`([^`]*)`", printed)) for command, words, printed in rows}
+
+
+def told(trial, program):
+    """The help of each command: it has the options, the places and the words that docs/COMMANDS.md has of it."""
+    top = refused(program, "--help")
+    trial.check("--help, -h and help are the same", ({refused(program, it) for it in ("-h", "help")}, top[0]), ({top}, 0))
+    for command, (words, printed) in commands().items():
+        status, said = refused(program, command, "--help")
+        trial.check(f"{command} --help is help {command}", (status, refused(program, "help", command)), (0, (status, said)))
+        wanted = [*re.findall(r"--[a-z-]+|[A-Z]+", words), *printed]
+        trial.check(f"{command} --help: what of the page it lacks", [it for it in wanted if it not in said], [])
+        trial.holds(f"--help has {command}", re.search(rf"^ +{command} ", top[1], re.MULTILINE))
+
+
+def completed(trial):
+    """What samples/archive.bash offers: of the first word, all that docs/COMMANDS.md has."""
+    trial.check("completion of the first word", sorted(offered("./archive", "")), sorted([*commands(), "help", "--help", "--version"]))
+    for command, (line, _) in commands().items():
+        options = {*re.findall(r"--[a-z-]+", line)}
+        trial.check(f"completion of the options of {command}", {*offered("archive", command, "--")}, options | {"--help"})
+    for words, wanted in ((["./archive", "wi"], ["withdraw"]), (["archive", "help", "ex"], ["export"]), (["archive", "sift", "--st"], ["--standing"]),
+                          (["archive", "sift", "--standing", "mo"], ["moderator"]), (["archive", "get", "--p"], ["--policy", "--person"]),
+                          (["archive", "serve", "--policy", str(SAMPLES / "seeds.t")], [str(SAMPLES / "seeds.toml")]), (["archive", "serve", "--port", ""], [])):
+        trial.check(f"completion of {' '.join(words[:-1])} {words[-1][-9:]}", offered(*words), wanted)
+
+
+def offered(*words):
+    """What is offered for the last of these words."""
+    script = f". {SAMPLES}/archive.bash; COMP_WORDS=(\"$@\"); COMP_CWORD=$(($# - 1)); _archive; printf '%s\\n' \"${{COMPREPLY[@]}}\""
+    return output("bash", "-c", script, "bash", *words).split()
+
+
+def main():
+    asked = words_of(__doc__)
+    with Trial() as trial:
+        units(trial)
+        helped(trial)
+        completed(trial)
+        told(trial, asked.archive)
+        for what in (surprises, cutting, backups, moved_in):
+            if what is cutting or trial.has("sqlite3", what.__name__):
+                with tempfile.TemporaryDirectory() as room:
+                    room = pathlib.Path(room)
+                    (room / "policy.toml").write_text(POLICY.read_text())
+                    what(trial, asked.archive, room)
+
+
+main()
