@@ -12,9 +12,10 @@ and of each other request at most 1.5 times its question. Last it writes the
 page of all threads alone, from rows that are there.
 Build the program first: (cd crates/archive_probe && rt run < stdin).
 """
-import argparse, os, pathlib, subprocess, sys, tempfile
+import os, subprocess, sys, tempfile
 
-ROOT = pathlib.Path(__file__).resolve().parent.parent
+from probing import ROOT, read_words
+
 TIMES = 1000  # how often the program asks for a message in a round
 QUESTIONS = ["message", "month", "thread", "threads", "mbox"]
 
@@ -37,14 +38,7 @@ def show(where, numbers):
 
 
 def main():
-    words = argparse.ArgumentParser(description=__doc__.splitlines()[0])
-    words.add_argument("--messages", type=int, default=10000)
-    words.add_argument("--rounds", type=int, default=3)
-    words.add_argument("--folder", help="where the files are made [default: a new one in the system's place for them]")
-    words.add_argument("--probe", default=str(ROOT / "crates" / "archive_probe" / "out" / "archive_probe"))
-    asked = words.parse_args()
-    if not os.access(asked.probe, os.X_OK):
-        sys.exit(f"{asked.probe} is not there: (cd crates/archive_probe && rt run < stdin) builds it")
+    asked = read_words(__doc__, messages={"type": int, "default": 10000})
     with tempfile.TemporaryDirectory(dir=asked.folder) as folder:
         mbox = os.path.join(folder, "list.mbox")
         made = [sys.executable, str(ROOT / "bench" / "gen_mbox.py"), "--n", str(asked.messages), "--out", mbox]

@@ -35,6 +35,7 @@ def commands(program, db, one, rounds):
         ("embargo", ["embargo", "--db", db, "many", key, "2003-01-01"]),
         ("get", ["get", "--db", db, *policy, "many", key]),
         ("export of all", ["export", "--db", db, *policy, "many"]),
+        ("check", ["check", "--db", db]),
     ]
     once = [("list-add", ["list-add", "--db", db, "other"]), ("withdraw", ["withdraw", "--db", db, "many", key, "board"])]
     for what, words in once:

@@ -15,13 +15,15 @@ rows, the threading itself taken off. Memory is what the system counts of the
 program at most.
 Build the program first: (cd crates/archive_probe && rt run < stdin).
 """
-import argparse, hashlib, os, pathlib, sqlite3, subprocess, sys, tempfile, time
-import gen_mbox
+import argparse, hashlib, os, sqlite3, subprocess, sys, tempfile, time
 
-ROOT = pathlib.Path(__file__).resolve().parent.parent
+import gen_mbox
+from probing import read_words
+
 AT_ONCE, BYTES_AT_ONCE = 500, 8 << 20
-ADD = ("INSERT OR IGNORE INTO message (list, key, sender, arrival, text, withdrawn, embargo)"
-       " VALUES ('soc', ?, ?, ?, ?, 0, NULL)")
+# Stock SQLite is given the columns of what is filed: the arrival for the sent date, and the sender for the author.
+ADD = ("INSERT OR IGNORE INTO message (list, key, sender, arrival, text, withdrawn, embargo, sent, month, author)"
+       " VALUES ('soc', ?1, ?2, ?3, ?4, 0, NULL, ?3, 1970 * 12 + ?3 / 2629746, CAST(?2 AS BLOB))")
 QUESTIONS = ["rows", "month", "author", "threads", "export"]
 
 
@@ -50,9 +52,9 @@ def probe(program, *words, given=b""):
 
 
 def schema_of(path):
-    """The texts that made the tables of a file; sqlite_sequence is SQLite's own."""
+    """The texts that made the tables and indexes of a file; sqlite_sequence is SQLite's own."""
     made = sqlite3.connect(path)
-    texts = made.execute("SELECT sql FROM sqlite_schema WHERE type = 'table' AND name <> 'sqlite_sequence' ORDER BY rowid").fetchall()
+    texts = made.execute("SELECT sql FROM sqlite_schema WHERE sql IS NOT NULL AND name <> 'sqlite_sequence' ORDER BY rowid").fetchall()
     made.close()
     return [text for (text,) in texts]
 
@@ -130,14 +132,7 @@ def measure(asked, folder, count):
 
 
 def main():
-    words = argparse.ArgumentParser(description="How fast the desk imports and answers.")
-    words.add_argument("--messages", type=int, nargs="+", default=[10000, 50000])
-    words.add_argument("--rounds", type=int, default=3)
-    words.add_argument("--folder", help="where the files are made [default: a new one in the system's place for them]")
-    words.add_argument("--probe", default=str(ROOT / "crates" / "archive_probe" / "out" / "archive_probe"))
-    asked = words.parse_args()
-    if not os.access(asked.probe, os.X_OK):
-        sys.exit(f"{asked.probe} is not there: (cd crates/archive_probe && rt run < stdin) builds it")
+    asked = read_words(__doc__, messages={"type": int, "nargs": "+", "default": [10000, 50000]})
     with tempfile.TemporaryDirectory(dir=asked.folder) as folder:
         for count in asked.messages:
             measure(asked, folder, count)

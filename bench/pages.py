@@ -15,7 +15,7 @@ Build the programs first: ./archive --version, (cd crates/listen_probe && rt run
 """
 import argparse, pathlib, re, subprocess, sys, tempfile, time
 
-from serving import ROOT, SAMPLES, Server, get, heard, make_archive
+from serving import ROOT, Server, get, heard, make_archive
 
 MESSAGE = "42878bd42d7da5eafb1b26a55e1c580b1b633248c93a5927c5f4467c406221ec"
 PAGES = {"message": f"/l/seeds/m/{MESSAGE}", "threads": "/l/seeds/threads"}

@@ -23,8 +23,8 @@ def make_archive(program, folder, mbox=SAMPLES / "seeds.mbox", name="seeds"):
 class Server:
     """The program, which answers so many connections and then has to end with status 0."""
 
-    def __init__(self, program, db, count, policy=SAMPLES / "seeds.toml", day=DAY):
-        words = ["serve", "--db", db, "--policy", policy, "--day", day, "--port", "0", "--count", count]
+    def __init__(self, program, db, count, policy=SAMPLES / "seeds.toml", day=DAY, port=0):
+        words = ["serve", "--db", db, "--policy", policy, "--day", day, "--port", port, "--count", count]
         self.faults = tempfile.TemporaryFile()
         self.process = subprocess.Popen(
             [program, *map(str, words)], stdout=subprocess.PIPE, stderr=self.faults, text=True)
@@ -47,7 +47,7 @@ class Server:
             self.process.wait()
             status = "it goes on"
         self.faults.seek(0)
-        return status, self.faults.read().decode().splitlines()
+        return status, self.faults.read().decode(errors="replace").splitlines()
 
 
 def get(path, token=None):

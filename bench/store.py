@@ -20,17 +20,18 @@ Then it times, in new files, a thousand messages added to a list that holds
 list there, and by `add_counted`, which is told. It prints ratios, and what is
 asked for beside them. Build the program first: (cd crates/archive_probe && rt run < stdin).
 """
-import argparse, hashlib, os, pathlib, re, sqlite3, subprocess, sys, tempfile, time
+import hashlib, os, pathlib, re, sqlite3, subprocess, sys, tempfile, time
 
-ROOT = pathlib.Path(__file__).resolve().parent.parent
+from probing import ROOT, read_words
 
 AT_ONCE = 500
 
 # How far a message stands from the one that is asked for next; the program has the same.
 STRIDE = 7919
 
-ADD = ("INSERT INTO message (list, key, sender, arrival, text, withdrawn, embargo)"
-       " VALUES ('soc', ?, ?, ?, ?, 0, NULL)")
+# The texts have no header: sent when they arrived, in January 1970, by nobody.
+ADD = ("INSERT INTO message (list, key, sender, arrival, text, withdrawn, embargo, sent, month, author)"
+       " VALUES ('soc', ?1, ?2, ?3, ?4, 0, NULL, ?3, 1970 * 12, x'')")
 SHOWN = "SELECT key, sender, arrival, text, withdrawn, embargo FROM message WHERE list = 'soc'"
 READ = SHOWN + " ORDER BY pos"
 ASK = SHOWN + " AND key = ?"
@@ -121,9 +122,9 @@ def stock_read(stock, count):
 
 
 def schema_of(path):
-    """The texts that made the tables of a file; sqlite_sequence is SQLite's own."""
+    """The texts that made the tables and indexes of a file; sqlite_sequence is SQLite's own."""
     made = sqlite3.connect(path)
-    texts = made.execute("SELECT sql FROM sqlite_schema WHERE type = 'table' AND name <> 'sqlite_sequence' ORDER BY rowid")
+    texts = made.execute("SELECT sql FROM sqlite_schema WHERE sql IS NOT NULL AND name <> 'sqlite_sequence' ORDER BY rowid")
     return [text for (text,) in texts.fetchall()]
 
 
@@ -160,7 +161,7 @@ def check(path):
 def documented():
     """The texts of the tables in docs/TABLES.md."""
     page = (ROOT / "docs" / "TABLES.md").read_text()
-    return [text.removesuffix(";") for text in re.findall(r"^CREATE TABLE .*;$", page, re.MULTILINE)]
+    return [text.removesuffix(";") for text in re.findall(r"^CREATE (?:TABLE|INDEX) .*;$", page, re.MULTILINE)]
 
 
 def in_new_file(asked, folder, call):
@@ -186,15 +187,7 @@ def growing(asked, folder, call, titles):
 
 
 def main():
-    words = argparse.ArgumentParser(description="How fast the tables are, beside stock SQLite.")
-    words.add_argument("--messages", type=int, default=20000)
-    words.add_argument("--bytes", type=int, default=3000)
-    words.add_argument("--rounds", type=int, default=3)
-    words.add_argument("--folder", help="where the files are made [default: a new one in the system's place for them]")
-    words.add_argument("--probe", default=str(ROOT / "crates" / "archive_probe" / "out" / "archive_probe"))
-    asked = words.parse_args()
-    if not os.access(asked.probe, os.X_OK):
-        sys.exit(f"{asked.probe} is not there: (cd crates/archive_probe && rt run < stdin) builds it")
+    asked = read_words(__doc__, messages={"type": int, "default": 20000}, bytes={"type": int, "default": 3000})
     with tempfile.TemporaryDirectory(dir=asked.folder) as folder:
         rounds = [compare(asked, folder, round) for round in range(asked.rounds)]
         took = {call: min(each[call] for each in rounds) for call in rounds[0]}
