@@ -3,7 +3,8 @@
 
   - A definition that a contract of a public function cites stands in no line of the page. It goes by names: a definition is cited
     where a clause of a `pub fn` has a name that the file imports from a crate's specs.
-  - A line of the page names a module that the crate's specs have not, or a definition that the module does not make.
+  - A line of the page names a module that the crate's specs have not, or a definition that the module does not make, or one that
+    another line of the module names.
 """
 import collections, pathlib, re, sys
 
@@ -71,6 +72,8 @@ def faults(page):
     for where, names in sorted(cited().items()):
         if lacking := sorted(names - named):
             found.append(f"{where}: contracts cite {', '.join(lacking)}, which no line names")
+    seen = collections.Counter((crate, *modules, name) for crate, modules, names in lines(page) for name in names)
+    found += [f"{crate}::{', '.join(modules)}: {name} stands in {count} lines" for (crate, *modules, name), count in seen.items() if count > 1]
     for crate, modules, names in lines(page):
         there = made(crate, modules)
         if there is None:

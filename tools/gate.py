@@ -7,11 +7,13 @@
   --anew     nothing counts that an earlier run on this machine passed
   --record   writes tools/refused.txt: of which crates all wrong bodies were refused, over which text
 
-The last line is 'N passed, M failed', as `rt ci` counts, but that a wrong body that cannot be applied has failed.
+The last line is 'N passed, M failed', as `rt ci` counts, but that a wrong body that cannot be applied has failed; and the
+worked calls under refused growths of memory (refused.py) are one more that passed or failed. Where something failed, the lines
+that say why stand together before it.
 """
-import filecmp, re, resource, subprocess, sys
+import filecmp, re, resource, subprocess, sys, tempfile
 
-import due, part
+import due, part, refused, why
 
 COUNT = re.compile(r"(\d+) passed, (\d+) failed")
 EDIT = re.compile(r"rt: must-fail (\w+)/(\S+\.edit): (refused, as it must be.*|[A-Z]+.*)")
@@ -20,10 +22,10 @@ SHOWS_LITTLE = re.compile(r"borrow checker does not cover|says (little|less) of 
 
 
 class Heard:
-    """What `rt ci` said: its count, and what came of each wrong body."""
+    """What `rt ci` said: its count, what came of each wrong body, and why something failed."""
 
     def __init__(self):
-        self.passed, self.failed, self.edits, self.last = 0, 1, {}, None
+        self.passed, self.failed, self.edits, self.last, self.why = 0, 1, {}, None, why.Why()
 
     def hear(self, line):
         # (the last line is its count, which comes with what is said here)
@@ -32,6 +34,7 @@ class Heard:
         self.last = line
         if found := EDIT.match(line):
             self.edits[found[1], found[2]] = found[3]
+        self.why.hear(line)
 
     def end(self, status):
         """Takes the count out of the last line, and a run that failed for one that failed."""
@@ -39,6 +42,11 @@ class Heard:
             self.passed, self.failed = int(found[1]), max(int(found[2]), status != 0)
         elif self.last is not None:
             print(self.last)
+
+    def count(self, is_right, what):
+        """Counts a step of our own."""
+        self.passed, self.failed = self.passed + is_right, self.failed + (not is_right)
+        self.why.lines += [] if is_right else [f"check: {what}"]
 
     def that_say(self, words):
         """Returns the wrong bodies of which this was said."""
@@ -62,6 +70,16 @@ def out_of_layout(top, names):
     return sorted({it.relative_to(part.CRATES).parts[0] for it in changed})
 
 
+def rows_hold(top):
+    """Returns whether worked calls come to their answers or say that memory is wanting, where each growth of it is refused."""
+    program = top / "crates" / "refused_rows" / "out" / "refused_rows"
+    if not program.exists():
+        return False
+    with tempfile.TemporaryDirectory() as folder:
+        _, wrong = refused.refused(program, refused.built(folder))
+    return not wrong
+
+
 def tell(heard, left, due_count):
     """Says what was tried and left, what it took, and the count."""
     for name, count in left.items():
@@ -73,8 +91,9 @@ def tell(heard, left, due_count):
     bad = heard.that_say("^BAD EDIT")
     # (where rt ci's words are others than these here, nothing is heard of them)
     if not heard.failed and len(heard.edits) != due_count:
-        print(f"check: of {due_count} wrong bodies that are due {len(heard.edits)} were heard of")
-        heard.failed = 1
+        heard.count(False, f"of {due_count} wrong bodies that are due {len(heard.edits)} were heard of")
+    if heard.failed or bad:
+        heard.why.tell("check")
     print(f"check: {len(heard.edits)} wrong bodies tried or kept; {(used.ru_utime + used.ru_stime) / 60:.0f} processor minutes")
     print(f"{heard.passed} passed, {heard.failed + len(bad)} failed")
     return 1 if heard.failed + len(bad) else 0
@@ -91,6 +110,7 @@ def main(words):
             print(f"check: run rt fmt in {', '.join(wanting)}\n0 passed, {len(wanting)} failed")
             return 1
         heard.end(part.run_ci(top, ["--anew"] if "--anew" in words else [], heard.hear))
+        heard.count(rows_hold(top), "worked calls under refused growths of memory: refused_rows was not built, or did not come to its answers")
     if "--record" in words:
         for name in {*counts} - {*left}:
             record.note(name, heard.refused_of(name) == counts[name])

@@ -3,11 +3,13 @@
 
   - A link of a page leads to no file of the repository.
   - The README has no link to a page of docs.
+  - The README has 150 lines or more, or a point of more than 25 words.
   - docs/archive.1 or CHANGELOG.md has another number of the program, or CHANGELOG.md another number of the tables, than the sources.
 """
 import pathlib, re, sys
 
 ROOT = pathlib.Path(__file__).resolve().parent.parent
+MOST_LINES, MOST_WORDS = 150, 25
 LINK = re.compile(r"\]\(([^)\s]+)\)")
 PROGRAM = ("crates/archive_usage/src/building.rt", r'const VERSION: &str = "([^"]+)"')
 TABLES = ("crates/archive_tables/src/texts/schema.rt", r"const VERSION: i64 = (\d+)")
@@ -15,8 +17,8 @@ TABLES = ("crates/archive_tables/src/texts/schema.rt", r"const VERSION: i64 = (\
 
 def pages():
     """Returns the pages of the repository, whatever the crates hold."""
-    folders = (ROOT, ROOT / "docs", ROOT / "bench", ROOT / "examples")
-    return sorted(it for folder in folders if folder.is_dir() for it in folder.glob("*.md"))
+    folders = (ROOT, *(ROOT / it for it in ("docs", "bench", "examples", "samples")))
+    return sorted(it for folder in folders for it in folder.glob("*.md")) + sorted((ROOT / "samples").glob("*/*.md"))
 
 
 def targets(page):
@@ -36,6 +38,13 @@ def without_link():
     return [f"README.md has no link to docs/{it.name}" for it in sorted((ROOT / "docs").glob("*.md")) if it.resolve() not in led_to]
 
 
+def too_long():
+    """Returns what is too long in the README for whoever reads it first."""
+    lines = (ROOT / "README.md").read_text(encoding="utf-8").splitlines()
+    points = [it for it in lines if re.match(r"\d+\. |- ", it) and len(it.split()) > MOST_WORDS + 1]
+    return [f"README.md has {len(lines)} lines"] * (len(lines) >= MOST_LINES) + [f"README.md has a long point: {it[:60]} .." for it in points]
+
+
 def number(where):
     """Returns a number that a source names."""
     file, form = where
@@ -53,7 +62,7 @@ def other_numbers():
 
 
 def main():
-    found = dead_links() + without_link() + other_numbers()
+    found = dead_links() + without_link() + too_long() + other_numbers()
     for it in found:
         print(f"pages: {it}")
     return 1 if found else 0

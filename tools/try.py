@@ -6,21 +6,36 @@
 Where a script calls the toolchain's command it gets a stand-in, which says what the case has it say and writes down what it was asked.
 The last line is 'N passed, M failed'; status 0 where M is 0.
 """
-import concurrent.futures, contextlib, hashlib, os, pathlib, shutil, subprocess, sys, tempfile
+import concurrent.futures, contextlib, hashlib, os, pathlib, re, shutil, subprocess, sys, tempfile
 
 TOOLS = pathlib.Path(__file__).resolve().parent
 
-# The stand-in of the toolchain's command: `ci` notes its words and the files that it was given, builds what `builds` names, says
-# what `says` holds, and ends with the number of `status`; `fmt` lays out by taking double spaces away.
+# The stand-in of the toolchain's command: `ci` notes its words and the files that it was given, builds what `builds` names out of
+# `program`, says what `says` holds, and ends with the number of `status`; `fmt` lays out by taking double spaces away; beside the
+# page that `doc` names lies a compiler, which makes an empty file.
 STAND_IN = r'''#!/bin/sh
 case $1 in
   version) cat "$STAND_IN/version";;
   fmt) sed -i 's/  / /g' src/*.rt;;
   ci) shift
     { for word in "$@"; do echo "$word"; done; find . -type f | sed 's|^\./||'; cat crates.txt; } > "$STAND_IN/asked"
-    for name in $(cat "$STAND_IN/builds"); do mkdir "crates/$name/out"; printf 'a program' > "crates/$name/out/$name"; done
+    for name in $(cat "$STAND_IN/builds"); do
+      mkdir -p "crates/$name/out"; cp "$STAND_IN/program" "crates/$name/out/$name"; chmod +x "crates/$name/out/$name"
+    done
     cat "$STAND_IN/says"
     exit "$(cat "$STAND_IN/status")";;
+  doc) echo "$STAND_IN/page.md";;
+esac
+'''
+COMPILER = '''#!/bin/sh
+while [ "$1" != -o ]; do shift; done
+: > "$2"
+'''
+# A program of worked calls: one growth of memory in each first call, and what it says where that is refused.
+ROWS = '''#!/bin/sh
+case $REFUSE in
+  1 | 1+) echo "sift: Memory, exact true, then answer"; echo "base: Memory, then answer"; echo 1 1 >&9;;
+  *) echo "sift: answer, exact true, then answer"; echo "base: answer, then answer"; echo 1 0 >&9;;
 esac
 '''
 
@@ -48,11 +63,12 @@ def repository(files, /, **told):
         for name, text in files.items():
             (top / name).parent.mkdir(parents=True, exist_ok=True)
             (top / name).write_text(text, encoding="utf-8")
-        stand_in.mkdir()
-        for name, text in {"version": "kit of today", "says": "1 passed, 0 failed\n", "status": "0", "builds": "", **told}.items():
+            (top / name).chmod(0o755 if text.startswith("#!") else 0o644)
+        (stand_in / "toolchain" / "bin").mkdir(parents=True)
+        usual = {"version": "kit of today", "says": "1 passed, 0 failed\n", "status": "0", "builds": "refused_rows", "program": ROWS}
+        for name, text in {**usual, "rt": STAND_IN, "toolchain/bin/clang": COMPILER, **told}.items():
             (stand_in / name).write_text(text, encoding="utf-8")
-        (stand_in / "rt").write_text(STAND_IN, encoding="utf-8")
-        (stand_in / "rt").chmod(0o755)
+            (stand_in / name).chmod(0o755)
         yield top, stand_in
 
 
@@ -118,7 +134,7 @@ def equal(found, wanted):
 
 # ---- build.py
 
-BUILT = {"says": "rt: low proved\nrt: middle is kept: 3 files\nrt: ok\n1 passed, 0 failed\n", "builds": "middle"}
+BUILT = {"says": "rt: low proved\nrt: middle is kept: 3 files\nrt: ok\n1 passed, 0 failed\n", "builds": "middle", "program": "a program"}
 
 
 def takes_the_program():
@@ -127,14 +143,16 @@ def takes_the_program():
         ended, _, errors = run(top, stand_in, "build.py", ["middle", "log"])
         program = top / "crates" / "middle" / "out" / "middle"
         told = [ended == 0, program.read_text() == "a program", os.access(program, os.X_OK), [*program.parent.iterdir()] == [program],
-                (top / "log").read_text() == BUILT["says"], errors == "middle: proved low (1 of 2)\nmiddle: proved middle (2 of 2)\n"]
+                (top / "log").read_text() == BUILT["says"],
+                re.findall(r"^middle: (.*?); \d+ % of the work is done, after 0 minutes; some \d+ more$", errors, re.M)
+                == ["proved low (1 of 2)", "proved middle (2 of 2)"]]
         return [] if all(told) else [str(told), errors]
 
 
 def leaves_the_old_program():
     """Where the gate fails the program that was there stays."""
     with repository({**CHAIN, "crates/middle/out/middle": "the old one"}, says="1 passed, 1 failed\n", status="1",
-                    builds="middle") as (top, stand_in):
+                    **{it: BUILT[it] for it in ("builds", "program")}) as (top, stand_in):
         ended = run(top, stand_in, "build.py", ["middle", "log"])[0]
         return equal((ended, (top / "crates/middle/out/middle").read_text()), (1, "the old one"))
 
@@ -142,6 +160,9 @@ def leaves_the_old_program():
 BUILD = {
     "the program is taken": takes_the_program,
     "a gate that fails leaves the old one": leaves_the_old_program,
+    "why it fails is said": says("build.py", ["middle", "log"], CHAIN, 1, faults="middle: what failed, and why (what was said before says more):\n"
+        "  low: src/lib.rt:3:1: error: not so\n  rt: low NOT PROVED\n",
+        says="== low\nsrc/lib.rt:3:1: error: not so\n  more of it\nrt: low NOT PROVED\n0 passed, 1 failed\n", status="1", builds=""),
     "the copy holds the crates below alone": asks("build.py", ["middle", "log"], WITH_EDITS,
         ["crates/low/src/lib.rt", "crates/middle/src/lib.rt", "low: memchr", "middle: low", "HANDLES"],
         ["crates/beside/src/lib.rt", "crates/top/src/lib.rt", "beside: low", "crates/low/must-fail/f.turns_it.edit"], **BUILT),
@@ -188,24 +209,51 @@ def record_is_believed():
         return equal((top / "tools/refused.txt").read_text(), recorded(["low", "middle"])["tools/refused.txt"])
 
 
+WHY = "check: what failed, and why (what was said before says more):"
+ROWS_FAIL = "  check: worked calls under refused growths of memory: refused_rows was not built, or did not come to its answers"
+
+
+def ends(script, files, wanted, edits=0, **told):
+    """A case of a script that fails and says these lines before the two of its counts."""
+    def holds():
+        said = output_of(script, [], files, **told).splitlines()
+        return equal(said[-2 - len(wanted):-1], [*wanted, f"check: {edits} wrong bodies tried or kept; 0 processor minutes"])
+    return holds
+
+
 EDITS = ["crates/low/must-fail/f.turns_it.edit", "crates/low/must-fail/g.drops_it.edit"]
 LITTLE = "rt: must-fail low/f.turns_it.edit: refused, as it must be, but it says little of the contract\n"
 GATE = {
-    "all passes": says("gate.py", [], WITH_EDITS, 0, "9 passed, 0 failed", "check: 3 wrong bodies tried or kept; 0 processor minutes",
+    "all passes": says("gate.py", [], WITH_EDITS, 0, "10 passed, 0 failed", "check: 3 wrong bodies tried or kept; 0 processor minutes",
         says=f"rt: ok\n{ALL_REFUSED}9 passed, 0 failed\n"),
+    "nothing is said of why where all passes": lambda: equal("what failed" in output_of("gate.py", [], WITH_EDITS,
+        says=f"{ALL_REFUSED}9 passed, 0 failed\n"), False),
     "the count is the last line": lambda: equal(output_of("gate.py", [], CHAIN, says="rt: ok\n4 passed, 0 failed\n").splitlines()[-1],
-        "4 passed, 0 failed"),
-    "a proof that fails": says("gate.py", [], CHAIN, 1, "3 passed, 1 failed", says="3 passed, 1 failed\n", status="1"),
-    "a run that fails and counts nothing": says("gate.py", [], CHAIN, 1, "0 passed, 1 failed", "rt: no room", says="rt: no room\n", status="1"),
-    "a run that says nothing": says("gate.py", [], CHAIN, 1, "0 passed, 1 failed", says=""),
-    "a run that counts no failure and fails": says("gate.py", [], CHAIN, 1, "3 passed, 1 failed", says="3 passed, 0 failed\n", status="1"),
-    "a count with more behind it": says("gate.py", [], CHAIN, 1, "0 passed, 1 failed", says="3 passed, 0 failed (of some)\n"),
-    "fewer wrong bodies than are due": says("gate.py", [], WITH_EDITS, 1, "check: of 3 wrong bodies that are due 1 were heard of",
-        "9 passed, 1 failed", says=REFUSED.format("low/f.turns_it.edit") + "9 passed, 0 failed\n"),
-    "a wrong body that cannot be applied": says("gate.py", [], WITH_EDITS, 1, "9 passed, 1 failed",
+        "5 passed, 0 failed"),
+    "a proof that fails": says("gate.py", [], CHAIN, 1, "4 passed, 1 failed", says="3 passed, 1 failed\n", status="1"),
+    "why it fails stands at the end": ends("gate.py", CHAIN, [WHY, *(f"  {it}" for it in (
+        "middle: src/lib.rt:3:1: error: not so", "fn middle::f: not proved", "rt: middle NOT PROVED", "rt: FAILED: middle"))],
+        says="== low\nrt: low proved\n== middle\nsrc/lib.rt:3:1: error: not so\n  more of it\nfn middle::f: not proved\n"
+             "rt: middle NOT PROVED\nrt: FAILED: middle\n3 passed, 1 failed\n", status="1"),
+    "a long line of it is cut": ends("gate.py", CHAIN, [WHY, "  " + "rt: " + "x" * 236 + " .."], says=f"rt: {'x' * 300}\n3 passed, 1 failed\n", status="1"),
+    "so are many": ends("gate.py", CHAIN, [WHY, *["  rt: no"] * 40, "  and 2 lines more"], says="rt: no\n" * 42 + "3 passed, 1 failed\n", status="1"),
+    "a run that fails and counts nothing": says("gate.py", [], CHAIN, 1, "1 passed, 1 failed", "rt: no room", says="rt: no room\n", status="1"),
+    "a run that says nothing": says("gate.py", [], CHAIN, 1, "1 passed, 1 failed", says=""),
+    "a run that counts no failure and fails": says("gate.py", [], CHAIN, 1, "4 passed, 1 failed", says="3 passed, 0 failed\n", status="1"),
+    "a count with more behind it": says("gate.py", [], CHAIN, 1, "1 passed, 1 failed", says="3 passed, 0 failed (of some)\n"),
+    "no program of worked calls": says("gate.py", [], CHAIN, 1, "4 passed, 1 failed", ROWS_FAIL, says="4 passed, 0 failed\n", builds=""),
+    "a worked call that comes to another answer": says("gate.py", [], CHAIN, 1, "4 passed, 1 failed", ROWS_FAIL, "FAILED growth 1: sift: answer, exact false, then answer",
+        says="4 passed, 0 failed\n", program=ROWS.replace("Memory, exact true", "answer, exact false")),
+    "fewer wrong bodies than are due": says("gate.py", [], WITH_EDITS, 1, "  check: of 3 wrong bodies that are due 1 were heard of",
+        "10 passed, 1 failed", says=REFUSED.format("low/f.turns_it.edit") + "9 passed, 0 failed\n"),
+    "a wrong body that cannot be applied": says("gate.py", [], WITH_EDITS, 1, "10 passed, 1 failed",
+        "  rt: must-fail low/f.turns_it.edit: BAD EDIT (a clause is not proved)",
         says=ALL_REFUSED.replace("low/f.turns_it.edit: refused, as it must be", "low/f.turns_it.edit: BAD EDIT") + "9 passed, 0 failed\n"),
+    "a wrong body that is proved": ends("gate.py", WITH_EDITS, [WHY, "  rt: must-fail low/g.drops_it.edit: NOT REFUSED: still proved", "  rt: FAILED: low/g.drops_it.edit"],
+        says=ALL_REFUSED.replace(REFUSED.format("low/g.drops_it.edit"), "rt: must-fail low/g.drops_it.edit: NOT REFUSED: still proved\n")
+             + "rt: FAILED: low/g.drops_it.edit\n8 passed, 1 failed\n", status="1", edits=3),
     "a wrong body that shows little": says("gate.py", [], WITH_EDITS, 0,
-        "check: low/f.turns_it.edit shows little of a contract: change a value, and keep the names", "9 passed, 0 failed",
+        "check: low/f.turns_it.edit shows little of a contract: change a value, and keep the names", "10 passed, 0 failed",
         says=ALL_REFUSED.replace(REFUSED.format("low/f.turns_it.edit"), LITTLE) + "9 passed, 0 failed\n"),
     "a file that is not laid out": says("gate.py", [], {**CHAIN, "crates/low/src/lib.rt": "fn  f"}, 1, "check: run rt fmt in low",
         "0 passed, 1 failed"),
@@ -233,6 +281,53 @@ GATE = {
         ALL_REFUSED.replace("low/g.drops_it.edit: refused, as it must be", "low/g.drops_it.edit: NOT REFUSED"), ["middle"],
         recorded(["low"], **{"crates/low/src/lib.rt": "// new\n"})),
     "the record's digest": record_is_believed,
+}
+
+
+# ---- refused.py
+
+def rows(wanted, *lines, library=True, **changed):
+    """A case of a program of worked calls, with some of its texts changed."""
+    text = ROWS
+    for old, new in changed.items():
+        text = text.replace(NAMES[old], new)
+    return says("refused.py", ["--program", "./rows", *(["--library", "none"] if library else [])], {"rows": text}, *wanted, *lines)
+
+
+NAMES = {"refused": "sift: Memory, exact true, then answer", "base": "base: Memory, then answer", "base_call": 'echo "base: Memory, then answer"; ', "at_first": "sift: answer, exact true, then answer",
+         "end": "1 1 >&9", "none_left": "1 0 >&9"}
+# an import of two new messages: what it says where a growth is refused
+IMPORTED = "import: Ok(Report { new: 2, known: 0, too_large: 0 }), 2 held, then Ok(Report { new: 0, known: 2, too_large: 0 })"
+
+
+def imports(stopped, wanted):
+    """A case of the imports of such a program, of which the first says so under a refusal."""
+    three = [IMPORTED, IMPORTED.replace("2, known: 0", "0, known: 2"), IMPORTED.replace("2, known: 0", "1, known: 1").replace("2 held", "3 held")]
+    said = lambda lines: "; ".join(f"echo '{it}'" for it in lines)
+    text = f"#!/bin/sh\ncase $REFUSE in\n1 | 1+) {said([stopped, *three[1:]])}; echo 1 1 >&9;;\n*) {said(three)}; echo 1 0 >&9;;\nesac\n"
+    return says("refused.py", ["--program", "./rows", "--library", "none"], {"rows": text}, *wanted)
+
+
+GOOD, BAD = (0, "4 passed, 0 failed"), (1, "2 passed, 2 failed")
+STOPPED = "import: Err(ImportStop {{ done: {}, fault: E14(Memory) }}), {} held, then Ok(Report {{ new: {}, known: {}, too_large: 0 }})"
+ROWS_CASES = {
+    "each call answers, or says that memory is wanting": rows(GOOD),
+    "without a library it is built": rows(GOOD, library=False),
+    "another answer": rows(BAD, "FAILED growth 1: sift: answer, exact false, then answer",
+        "FAILED growth 1+: sift: answer, exact false, then answer", refused="sift: answer, exact false, then answer"),
+    "no answer when it is called again": rows(BAD, refused="sift: Memory, exact true, then Memory"),
+    "a row that is empty": rows(BAD, "FAILED growth 1: ", base=""),
+    "a row less": rows(BAD, base_call=""),
+    "a row that nobody knows": rows(BAD, base="other: Memory, then answer"),
+    "a program that aborts": rows(BAD, end="1 1 >&9; exit 7"),
+    "wrong without a refusal": rows((1, "0 passed, 1 failed"), at_first="sift: another answer"),
+    "an import that is whole": imports(IMPORTED, GOOD),
+    "one that stopped at the first": imports(STOPPED.format(0, 0, 2, 0), GOOD),
+    "one that stopped behind it": imports(STOPPED.format(1, 1, 1, 1), GOOD),
+    "one that is said to have done none, and holds one": imports(STOPPED.format(0, 1, 1, 1), BAD),
+    "one after which the same import knows too few": imports(STOPPED.format(1, 1, 2, 0), BAD),
+    "one that holds more than it was given": imports(STOPPED.format(2, 3, 0, 2), BAD),
+    "no program": says("refused.py", ["--program", "./none"], CHAIN, 1, faults="./none is not there"),
 }
 
 
@@ -273,6 +368,8 @@ DEFINITIONS = {
         "definitions: low::Rules: contracts cite Suits, which no line names"),
     "one that is cited under another name": is_silent("definitions.py", {**DEFINED, "crates/low/src/lib.rt": RENAMED}),
     "one that a private function cites": is_silent("definitions.py", {**DEFINED, "crates/low/src/lib.rt": PRIVATE}),
+    "one that stands in two lines": says("definitions.py", [], {**DEFINED,
+        "docs/DEFINITIONS.md": DEFINED["docs/DEFINITIONS.md"] + "| `step` | `Rules` | words again |\n"}, 1, "definitions: low::Rules: step stands in 2 lines"),
     "a definition that is gone": says("definitions.py", [], {**DEFINED, "crates/low/specs/Rules.antt": "Fits = T\n"}, 1,
         "definitions: low::Rules makes no step"),
     "a module that is gone": says("definitions.py", [], {**DEFINED,
@@ -299,11 +396,16 @@ PAGES = {
     "another number of the program": says("pages.py", [],
         {**PAGES_FILES, "crates/archive_usage/src/building.rt": 'const VERSION: &str = "0.3.0";\n'}, 1,
         "pages: docs/archive.1 is not of the program 0.3.0", "pages: CHANGELOG.md does not begin with 'Program 0.3.0, tables 3'"),
+    "a README of many lines": says("pages.py", [], {**PAGES_FILES, "README.md": PAGES_FILES["README.md"] + "line\n" * 149}, 1, "pages: README.md has 150 lines"),
+    "a point of many words": says("pages.py", [], {**PAGES_FILES, "README.md": PAGES_FILES["README.md"] + f"- {'of ' * 26}\n2. {'of ' * 25}\n"}, 1,
+        "pages: README.md has a long point: - of of of of of of of of of of of of of of of of of of of o .."),
+    "a page of the samples": says("pages.py", [], {**PAGES_FILES, "samples/a/README.md": "[b](../b.sh)"}, 1,
+        "pages: samples/a/README.md leads to ../b.sh, which is not there"),
     "another number of the tables": says("pages.py", [], {**PAGES_FILES, "crates/archive_tables/src/texts/schema.rt": "pub const VERSION: i64 = 4;\n"}, 1,
         "pages: CHANGELOG.md does not begin with 'Program 0.2.0, tables 4'"),
 }
 
-TABLES = {"part.py": PART, "build.py": BUILD, "gate.py": GATE, "cases.py": CASES, "definitions.py": DEFINITIONS, "pages.py": PAGES}
+TABLES = {"part.py": PART, "build.py": BUILD, "gate.py": GATE, "refused.py": ROWS_CASES, "cases.py": CASES, "definitions.py": DEFINITIONS, "pages.py": PAGES}
 
 
 def main(words):
