@@ -11,3 +11,4 @@ mod JoinExamples
 pub mod ReopenLemmas
 pub mod WalkingLemmas
 pub mod CheckLemmas
+pub mod FollowLemmas
