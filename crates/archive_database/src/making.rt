@@ -5,7 +5,7 @@ ghost use Rattle.sqlite.specs.State.{HasCleanDisk};
 ghost use Rattle.archive_tables.specs.Schema.{no_schema, with_person, with_message};
 ghost use Rattle.archive_tables.specs.Tables.{IsKept, IsOfArchive, IsOfVersion, archive_of};
 ghost use Rattle.archive_tables.specs.declared.texts.schema.TheConstants.{VERSION};
-ghost use Rattle.archive_tables.specs.Calls.{Leaves, WasClean, Lasts, AnswersOpen};
+ghost use Rattle.archive_tables.specs.Calls.{Leaves, WasClean};
 ghost use Rattle.archive_tables.specs.Making.{IsMaking, IsMade, IsUndone, IsIdle, IsBackTo, IsStopped, empty_archive};
 ghost use Rattle.archive_database.specs.Adopting.{HasAsManyObjects};
 
@@ -36,8 +36,6 @@ pub fn find_version<S: Alter>(conn: &mut Connection<S>) -> Result<(), Fault>
     ensures version { HasCleanDisk (state S.Store conn.new) → IsOfArchive (state S.Store conn.old) → OnOk result (IsOfVersion VERSION (state S.Store conn.old).now.trees) }
     ensures back { HasCleanDisk (state S.Store conn.new) → IsOfArchive (state S.Store conn.old) → IsBackTo (state S.Store conn.new) (state S.Store conn.old).now }
     ensures clean { WasClean S.Store conn.old conn.new }
-    ensures lasts { Lasts (state S.Store conn.old) (state S.Store conn.new) }
-    ensures was_open { AnswersOpen S.Store conn.old conn.new result }
 {
     let rows = texts::schema::versions(conn)?;
     let [row] = rows.as_slice() else {
@@ -59,8 +57,6 @@ pub fn make_tables<S: Alter>(conn: &mut Connection<S>) -> Result<(), Fault>
     ensures back { HasCleanDisk (state S.Store conn.new) → (state S.Store conn.old).now.schema ≡ no_schema → IsIdle (state S.Store conn.old)
         → OnErr result (IsBackTo (state S.Store conn.new) (state S.Store conn.old).now) }
     ensures clean { WasClean S.Store conn.old conn.new }
-    ensures lasts { Lasts (state S.Store conn.old) (state S.Store conn.new) }
-    ensures was_open { AnswersOpen S.Store conn.old conn.new result }
 {
     texts::schema::begin(conn)?;
     if let Err(error) = fill(conn) {
@@ -79,7 +75,6 @@ fn fill<S: Alter>(conn: &mut Connection<S>) -> Result<(), Error>
     ensures stopped { HasCleanDisk (state S.Store conn.new) → (before : _) → IsMaking (state S.Store conn.old) no_schema before
         → OnErr result (IsStopped (state S.Store conn.new) before) }
     ensures clean { WasClean S.Store conn.old conn.new }
-    ensures lasts { Lasts (state S.Store conn.old) (state S.Store conn.new) }
 {
     make_first(conn)?;
     make_last(conn)?;
@@ -96,7 +91,6 @@ fn make_first<S: Alter>(conn: &mut Connection<S>) -> Result<(), Error>
     ensures stopped { HasCleanDisk (state S.Store conn.new) → (before : _) → IsMaking (state S.Store conn.old) no_schema before
         → OnErr result (IsStopped (state S.Store conn.new) before) }
     ensures clean { WasClean S.Store conn.old conn.new }
-    ensures lasts { Lasts (state S.Store conn.old) (state S.Store conn.new) }
 {
     texts::schema::create_version(conn)?;
     texts::schema::create_list(conn)?;
@@ -112,7 +106,6 @@ fn make_last<S: Alter>(conn: &mut Connection<S>) -> Result<(), Error>
     ensures stopped { HasCleanDisk (state S.Store conn.new) → (before : _) → IsMaking (state S.Store conn.old) with_person before
         → OnErr result (IsStopped (state S.Store conn.new) before) }
     ensures clean { WasClean S.Store conn.old conn.new }
-    ensures lasts { Lasts (state S.Store conn.old) (state S.Store conn.new) }
 {
     texts::schema::create_grant(conn)?;
     texts::schema::create_message(conn)?;
@@ -128,7 +121,6 @@ fn make_indexes<S: Alter>(conn: &mut Connection<S>) -> Result<(), Error>
     ensures stopped { HasCleanDisk (state S.Store conn.new) → (before : _) → IsMaking (state S.Store conn.old) with_message before
         → OnErr result (IsStopped (state S.Store conn.new) before) }
     ensures clean { WasClean S.Store conn.old conn.new }
-    ensures lasts { Lasts (state S.Store conn.old) (state S.Store conn.new) }
 {
     texts::schema::create_month_index(conn)?;
     texts::schema::create_author_index(conn)?;

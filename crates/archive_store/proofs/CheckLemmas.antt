@@ -15,7 +15,7 @@ use Rattle.sqlite.specs.Store.{Ghosts}
 use Rattle.archive_tables.specs.Tables.{archive_in}
 use Rattle.archive_tables.specs.Listed.{all_places, filed_at}
 use Rattle.archive_tables.proofs.ListedLemmas.{walked_all}
-use Rattle.archive_store.specs.Told.{HoldsTables, IsOpen, HasReturned, Lasts, archive_in as now_holds}
+use Rattle.archive_store.specs.Told.{HoldsTables, IsOpen, HasReturned, archive_in as now_holds}
 use Rattle.archive_store.specs.Walking.{now_in, rows_of}
 use Rattle.archive_store.specs.Checking.{Checks, RowsStay}
 use Rattle.archive_store.specs.declared.checking.CheckStop.{CheckStop}
@@ -120,6 +120,6 @@ module _ {S : Type 0} (g : Ghosts S) where
   -- ---- in the words for the layers above
 
   pub fails_to_check : (old new : Store S) (result : Result ⊤ CheckStop) (fault : StoreFault) → IsErrAnd result (λ stop. stop ≡ Failed fault)
-      → Lasts g old new → (HasReturned g new → HoldsTables g old → IsOpen g new → RowsStay g old new) → Checks g old new result
-  fails_to_check old new (Ok u) fault is lasts stays = absurd is
-  fails_to_check old new (Err stop) fault is lasts stays = rw is ((lasts, (λ returned held up. let it = stays returned held up in (it.1, same_archive old new it))))
+      → (HasReturned g new → HasReturned g old) → (HasReturned g new → HoldsTables g old → IsOpen g new → RowsStay g old new) → Checks g old new result
+  fails_to_check old new (Ok u) fault is had stays = absurd is
+  fails_to_check old new (Err stop) fault is had stays = rw is ((had, (λ returned held up. let it = stays returned held up in (it.1, same_archive old new it))))

@@ -11,4 +11,3 @@ mod JoinExamples
 pub mod ReopenLemmas
 pub mod WalkingLemmas
 pub mod CheckLemmas
-pub mod FollowLemmas

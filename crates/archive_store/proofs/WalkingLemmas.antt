@@ -20,7 +20,7 @@ use Rattle.archive_tables.specs.Rows.{message_at}
 use Rattle.archive_tables.specs.Tables.{AreTables, archive_in}
 use Rattle.archive_store.specs.Replies.{refusal, Answers}
 use Rattle.archive_store.specs.Held.{held_of}
-use Rattle.archive_store.specs.Told.{HoldsTables, IsOpen, HasReturned, HadReturned, Lasts, GoesInIfOpen, archive_in as now_holds}
+use Rattle.archive_store.specs.Told.{HoldsTables, IsOpen, HasReturned, HadReturned, GoesInIfOpen, archive_in as now_holds}
 use Rattle.archive_store.specs.Walking.{Walk, WalksOver, BeginsOver, IsNotBegun, GivesAll, now_in, rows_of}
 use Rattle.archive_store.specs.declared.store.Store.{Store}
 use Rattle.archive_store.specs.declared.faults.StoreFault.{StoreFault}
@@ -144,11 +144,11 @@ module _ {S : Type 0} (g : Ghosts S) where
 
   pub begins_walk : (old mid : Store S) (list : List ℕ) (which : Trees → List ℤ) (all : Archive → List Message)
       → ((trees : Trees) → AreTables trees → map (message_at trees) (which trees) ≡ map Some (all (archive_in trees))) → ((a : Archive) → AreOfList list (all a))
-      → (walk : Walk S) → walk.store.now ≡ mid → walk.at ≡ 0 → Lasts g old mid
+      → (walk : Walk S) → walk.store.now ≡ mid → walk.at ≡ 0 → HadReturned g old mid
       → (HasReturned g mid → HoldsTables g old → (list_refusal (now_holds g old) list ≡ None) × HoldsTables g mid × (now_holds g mid ≡ now_holds g old) × (walk.places.items ≡ which (rows_of g mid)))
       → BeginsOver g old list all walk
-  begins_walk old mid list which all shown of_list walk store at lasts found = (
-    subst (λ s. Lasts g old s) (sym store) lasts,
+  begins_walk old mid list which all shown of_list walk store at was found = (
+    (λ returned. was (subst (HasReturned g) store returned)),
     (λ returned held.
         let it = found (subst (HasReturned g) store returned) held in (
           it.0,

@@ -1,12 +1,11 @@
 -- The words in which the layers above speak of a store: they name neither its tables nor its database.
-use Rattle.std.specs.Prelude.{◌≡◌, ℕ, IsTrue, Option, None, Some, Result, MatchResult, MatchOption}
+use Rattle.std.specs.Prelude.{◌≡◌, IsTrue, Option, None, Some, Result, MatchResult, MatchOption}
 use Rattle.sqlite.specs.Store.{Ghosts}
 use Rattle.sqlite.specs.Held.{Held, state}
 use Rattle.sqlite.specs.State.{HasCleanDisk}
 use Rattle.archive_machine.specs.Records.{Archive}
 use Rattle.archive_machine.specs.Sound.{IsFiledRight}
 use Rattle.archive_tables.specs.Tables.{IsKept, archive_of}
-use Rattle.archive_tables.specs.Calls.{Lasts as LastsOpen}
 use Rattle.archive_store.specs.Held.{held_of}
 use Rattle.archive_store.specs.declared.store.Store.{Store}
 
@@ -37,30 +36,21 @@ module _ {S : Type 0} (g : Ghosts S) where
   abbrev pub HasReturned : Store S → Type 0
   HasReturned store = HasCleanDisk (state g (held_of store))
 
-  -- how often its disk failed or refused
-  abbrev pub faults_of : Store S → ℕ
-  faults_of store = (state g (held_of store)).faults
-
   module _ (old new : Store S) where
     -- a disk that has returned what was written so far had done so before
     abbrev pub HadReturned : Type 0
     HadReturned = HasReturned new → HasReturned old
 
-    -- What a call does to a store, whatever its tables hold and whatever it answers: only a fault of the disk shuts its connection,
-    -- and one that is shut stays shut.
-    abbrev pub Lasts : Type 0
-    Lasts = LastsOpen (state g (held_of old)) (state g (held_of new))
-
   -- ---- under a premise: `HoldsTables` or `IsReady`
 
   module _ (Premise : Store S → Type 0) (old new : Store S) where
-    -- the store lasts, and where the premise held of it it holds, and this of what it remembered and of what it remembers
+    -- where the premise held of the store it holds, and this of what the store remembered and of what it remembers
     abbrev pub GoesIn : (Archive → Archive → Type 0) → Type 0
-    GoesIn R = Lasts old new × (HasReturned new → Premise old → Premise new × R (archive_in old) (archive_in new))
+    GoesIn R = HadReturned old new × (HasReturned new → Premise old → Premise new × R (archive_in old) (archive_in new))
 
     -- the same, if the connection is still open
     abbrev pub GoesInIfOpen : (Archive → Archive → Type 0) → Type 0
-    GoesInIfOpen R = Lasts old new × (HasReturned new → Premise old → IsOpen new → Premise new × R (archive_in old) (archive_in new))
+    GoesInIfOpen R = HadReturned old new × (HasReturned new → Premise old → IsOpen new → Premise new × R (archive_in old) (archive_in new))
 
     -- A call, of the store or of a layer above it, whose faults have a reason, or none where memory or the database was at
     -- fault. `Says` holds of the archives before and after and of an answer, `Refuses` of a reason, and `Stops` of a fault

@@ -13,7 +13,7 @@ use Rattle.archive_machine.specs.declared.messages.Message.{Message}
 use Rattle.archive_tables.specs.Rows.{message_at}
 use Rattle.archive_store.specs.Held.{held_of}
 use Rattle.archive_store.specs.Replies.{refusal}
-use Rattle.archive_store.specs.Told.{HoldsTables, IsOpen, HasReturned, Lasts, archive_in, GoesIn, GoesInIfOpen}
+use Rattle.archive_store.specs.Told.{HoldsTables, IsOpen, HasReturned, HadReturned, archive_in, GoesIn, GoesInIfOpen}
 use Rattle.archive_store.specs.declared.store.Store.{Store}
 use Rattle.archive_store.specs.declared.faults.StoreFault.{StoreFault}
 use Rattle.archive_store.specs.declared.walking.EachRow.{EachRow}
@@ -48,9 +48,9 @@ module _ {S : Type 0} (g : Ghosts S) where
   abbrev pub Walks : (list : List ℕ) (a : Archive) (given : List Remembered) (walk : Walk S) → Type 0
   Walks list a given walk = WalksOver list (messages_in a list) a given walk
 
-  -- the store lasts, and where it held an archive's tables, the list is there, and the walk over these of its messages gave nothing yet
+  -- where the store held an archive's tables, the list is there, and the walk over these of its messages gave nothing yet
   abbrev pub BeginsOver : Store S → List ℕ → (Archive → List Remembered) → Walk S → Type 0
-  BeginsOver old list which walk = Lasts g old walk.store.now
+  BeginsOver old list which walk = HadReturned g old walk.store.now
       × (HasReturned g walk.store.now → HoldsTables g old
       → (list_refusal (archive_in g old) list ≡ None) × WalksOver list (which (archive_in g old)) (archive_in g old) [] walk)
 

@@ -6,7 +6,7 @@ ghost use Rattle.sqlite.specs.Steps.{over_memory};
 ghost use Rattle.archive_tables.specs.Schema.{no_schema};
 ghost use Rattle.archive_tables.specs.Tables.{IsKept, IsOfArchive, IsOfVersion, archive_of};
 ghost use Rattle.archive_tables.specs.declared.texts.schema.TheConstants.{VERSION};
-ghost use Rattle.archive_tables.specs.Calls.{Rests, Lasts};
+ghost use Rattle.archive_tables.specs.Calls.{Rests};
 ghost use Rattle.archive_tables.specs.Making.{IsUndone, IsIdle, IsBackTo, empty_archive};
 ghost use Rattle.archive_database.specs.Adopting.{MayBeTaken, IsUnderstood};
 ghost use Rattle.archive_store.specs.Held.{held_of};
@@ -67,8 +67,6 @@ impl<S: Alter> Store<S> {
         ensures fault { IfErr result (λ stop. refusal stop.fault ≡ None) }
         ensures clean { MatchResult result (λ store. HasCleanDisk (state S.Store (held_of store)) → HasCleanDisk (state S.Store connection))
             (λ stop. HasCleanDisk (state S.Store stop.connection) → HasCleanDisk (state S.Store connection)) }
-        ensures lasts { MatchResult result (λ store. Lasts (state S.Store connection) (state S.Store (held_of store)))
-            (λ stop. Lasts (state S.Store connection) (state S.Store stop.connection)) }
     {
         let mut conn = connection;
         let done = if has_nothing(&conn) {

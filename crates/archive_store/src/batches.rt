@@ -1,10 +1,8 @@
 //! Many messages to one list, in transactions of many messages.
 ghost use Rattle.std.specs.Prelude.{◌≡◌, ◌≤◌, ◌<◌, ◌+◌, ◌⊎◌, ℕ, IfOk, IfErr, length, take, None};
 ghost use Rattle.mbox_core.specs.Division.{Item};
-ghost use Rattle.sqlite.specs.Held.{state};
-ghost use Rattle.archive_tables.specs.Calls.{WasClean, Lasts, AnswersOpen};
+ghost use Rattle.archive_tables.specs.Calls.{WasClean};
 ghost use Rattle.archive_store.specs.Held.{held_of};
-ghost use Rattle.archive_store.specs.Told.{Lasts as StoreLasts};
 ghost use Rattle.archive_store.specs.Replies.{refusal};
 ghost use Rattle.archive_store.specs.Batches.{AddsOne, AddsSome, AddsBatch, AddsAll, Counts, told_in, text_bytes};
 
@@ -61,8 +59,6 @@ impl<S: Alter> Store<S> {
         ensures total { IfOk result (λ report. told_in report ≡ length items.entry.now) }
         ensures bound { IfErr result (λ stop. stop.done ≤ length items.entry.now) }
         ensures clean { WasClean S.Store (held_of self.old) (held_of self.new) }
-        ensures lasts { StoreLasts S.Store self.old self.new }
-        ensures was_open { AnswersOpen S.Store (held_of self.old) (held_of self.new) result }
     {
         let mut done = 0;
         let mut count = match count_list(&mut self.conn, list) {
@@ -148,7 +144,6 @@ fn add_batch<S: Alter>(
     ensures step { AddsBatch S.Store conn.old conn.new result list.now items.now from to count.old report.entry.now count.new report.exit.now }
     ensures told { IfOk result (λ at. told_in report.exit.now ≡ at) }
     ensures clean { WasClean S.Store conn.old conn.new }
-    ensures lasts { Lasts (state S.Store conn.old) (state S.Store conn.new) }
     ensures from { IfOk result (λ at. from ≤ at) }
     ensures to { IfOk result (λ at. at ≤ to) }
     ensures fault { IfErr result (λ fault. refusal fault ≡ None) }
@@ -186,7 +181,6 @@ fn add_some<S: Alter>(
     ensures step { AddsSome S.Store conn.old conn.new result list.now items.now from to count.old report.entry.now count.new report.exit.now }
     ensures told { IfOk result (λ at. told_in report.exit.now ≡ at) }
     ensures clean { WasClean S.Store conn.old conn.new }
-    ensures lasts { Lasts (state S.Store conn.old) (state S.Store conn.new) }
     ensures from { IfOk result (λ at. from ≤ at) }
     ensures to { IfOk result (λ at. at ≤ to) }
     ensures fault { IfErr result (λ fault. refusal fault ≡ None) }
@@ -212,8 +206,6 @@ pub(crate) fn count_list<S: Alter>(
 ) -> Result<usize, StoreFault>
     ensures counted { Counts S.Store conn.old conn.new result list.now }
     ensures clean { WasClean S.Store conn.old conn.new }
-    ensures lasts { Lasts (state S.Store conn.old) (state S.Store conn.new) }
-    ensures was_open { AnswersOpen S.Store conn.old conn.new result }
 {
     if !texts::lists::has_list(conn, list)? {
         return Err(StoreFault::NoList);
@@ -233,7 +225,6 @@ pub(crate) fn add_counted<S: Alter>(
     ensures step { AddsOne S.Store conn.old conn.new result list.now item.now count.old count.new }
     ensures uncounted { IfErr result (λ _. count.new ≡ count.old) }
     ensures clean { WasClean S.Store conn.old conn.new }
-    ensures lasts { Lasts (state S.Store conn.old) (state S.Store conn.new) }
     ensures fault { IfErr result (λ fault. refusal fault ≡ None) }
 {
     if is_too_large(item) {

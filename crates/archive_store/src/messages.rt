@@ -18,9 +18,8 @@ use std::alloc::Global;
 impl<S: Alter> Store<S> {
     ghost use Rattle.std.specs.Prelude.{pos, Some, None};
     ghost use Rattle.archive_machine.specs.Machine.{message_limit, added_within, withdrawal, restored, held_back, lifted};
-    ghost use Rattle.archive_tables.specs.Calls.{WasClean, AnswersOpen};
+    ghost use Rattle.archive_tables.specs.Calls.{WasClean};
     ghost use Rattle.archive_store.specs.Held.{held_of};
-    ghost use Rattle.archive_store.specs.Told.{Lasts};
     ghost use Rattle.archive_store.specs.Words.{party_of};
     ghost use Rattle.archive_store.specs.Replies.{Does, says_added, says_done, says_whether};
     ghost use Rattle.archive_store.specs.Batches.{AddsCounted};
@@ -32,8 +31,6 @@ impl<S: Alter> Store<S> {
     pub fn add(&mut self, alloc: Global, list: &str, item: &Item<'_>) -> Result<Added, StoreFault>
         ensures step { Does S.Store (held_of self.old) (held_of self.new) (λ a. added_within message_limit a list.now item.now) (says_added result) }
         ensures clean { WasClean S.Store (held_of self.old) (held_of self.new) }
-        ensures lasts { Lasts S.Store self.old self.new }
-        ensures was_open { AnswersOpen S.Store (held_of self.old) (held_of self.new) result }
     {
         add_limited(self, alloc, list, item, MESSAGES)
     }
@@ -50,8 +47,6 @@ impl<S: Alter> Store<S> {
     ) -> Result<Added, StoreFault>
         ensures step { AddsCounted S.Store (held_of self.old) (held_of self.new) result list.now item.now count.old count.new }
         ensures clean { WasClean S.Store (held_of self.old) (held_of self.new) }
-        ensures lasts { Lasts S.Store self.old self.new }
-        ensures was_open { AnswersOpen S.Store (held_of self.old) (held_of self.new) result }
     {
         if !texts::lists::has_list(&mut self.conn, list)? {
             return Err(StoreFault::NoList);
@@ -69,8 +64,6 @@ impl<S: Alter> Store<S> {
     pub fn withdraw(&mut self, list: &str, key: &Key, by: Party) -> Result<(), StoreFault>
         ensures step { Does S.Store (held_of self.old) (held_of self.new) (λ a. withdrawal a list.now key.now (party_of by)) (says_done result) }
         ensures clean { WasClean S.Store (held_of self.old) (held_of self.new) }
-        ensures lasts { Lasts S.Store self.old self.new }
-        ensures was_open { AnswersOpen S.Store (held_of self.old) (held_of self.new) result }
     {
         if !texts::lists::has_list(&mut self.conn, list)? {
             return Err(StoreFault::NoList);
@@ -91,8 +84,6 @@ impl<S: Alter> Store<S> {
     pub fn restore(&mut self, list: &str, key: &Key) -> Result<(), StoreFault>
         ensures step { Does S.Store (held_of self.old) (held_of self.new) (λ a. restored a list.now key.now) (says_done result) }
         ensures clean { WasClean S.Store (held_of self.old) (held_of self.new) }
-        ensures lasts { Lasts S.Store self.old self.new }
-        ensures was_open { AnswersOpen S.Store (held_of self.old) (held_of self.new) result }
     {
         if !texts::lists::has_list(&mut self.conn, list)? {
             return Err(StoreFault::NoList);
@@ -113,8 +104,6 @@ impl<S: Alter> Store<S> {
     pub fn embargo(&mut self, list: &str, key: &Key, until: Day) -> Result<(), StoreFault>
         ensures step { Does S.Store (held_of self.old) (held_of self.new) (λ a. held_back a list.now key.now until) (says_done result) }
         ensures clean { WasClean S.Store (held_of self.old) (held_of self.new) }
-        ensures lasts { Lasts S.Store self.old self.new }
-        ensures was_open { AnswersOpen S.Store (held_of self.old) (held_of self.new) result }
     {
         if !texts::lists::has_list(&mut self.conn, list)? {
             return Err(StoreFault::NoList);
@@ -132,8 +121,6 @@ impl<S: Alter> Store<S> {
     pub fn lift(&mut self, list: &str, key: &Key) -> Result<bool, StoreFault>
         ensures step { Does S.Store (held_of self.old) (held_of self.new) (λ a. lifted a list.now key.now) (says_whether result) }
         ensures clean { WasClean S.Store (held_of self.old) (held_of self.new) }
-        ensures lasts { Lasts S.Store self.old self.new }
-        ensures was_open { AnswersOpen S.Store (held_of self.old) (held_of self.new) result }
     {
         if !texts::lists::has_list(&mut self.conn, list)? {
             return Err(StoreFault::NoList);

@@ -14,9 +14,8 @@ use sqlite::Alter;
 impl<S: Alter> Store<S> {
     ghost use Rattle.std.specs.Prelude.{◌≡◌, None, option_map, string_bytes};
     ghost use Rattle.archive_machine.specs.Questions.{person_of_token, standing_of, standing_refusal};
-    ghost use Rattle.archive_tables.specs.Calls.{WasClean, AnswersOpen};
+    ghost use Rattle.archive_tables.specs.Calls.{WasClean};
     ghost use Rattle.archive_store.specs.Held.{held_of};
-    ghost use Rattle.archive_store.specs.Told.{Lasts};
     ghost use Rattle.archive_store.specs.Replies.{Answers};
     ghost use Rattle.archive_store.specs.Words.{standing_rank};
 
@@ -25,8 +24,6 @@ impl<S: Alter> Store<S> {
         ensures answer { Answers S.Store (held_of self.old) (held_of self.new) result (λ _. None)
             (λ a name. option_map string_bytes name ≡ person_of_token a token.now) }
         ensures clean { WasClean S.Store (held_of self.old) (held_of self.new) }
-        ensures lasts { Lasts S.Store self.old self.new }
-        ensures was_open { AnswersOpen S.Store (held_of self.old) (held_of self.new) result }
     {
         Ok(texts::persons::person_of_token(&mut self.conn, token)?)
     }
@@ -37,8 +34,6 @@ impl<S: Alter> Store<S> {
         ensures answer { Answers S.Store (held_of self.old) (held_of self.new) result (λ a. standing_refusal a person.now list.now)
             (λ a standing. standing_rank standing ≡ standing_of a person.now list.now day) }
         ensures clean { WasClean S.Store (held_of self.old) (held_of self.new) }
-        ensures lasts { Lasts S.Store self.old self.new }
-        ensures was_open { AnswersOpen S.Store (held_of self.old) (held_of self.new) result }
     {
         if !texts::persons::has_person(&mut self.conn, person)? {
             return Err(StoreFault::NoPerson);

@@ -11,9 +11,8 @@ use std::alloc::Global;
 impl<S: Alter> Store<S> {
     ghost use Rattle.std.specs.Prelude.{◌≡◌, None, length, map, option_map, string_bytes};
     ghost use Rattle.archive_machine.specs.Questions.{has_list, list_names, list_refusal, message_of, messages_in};
-    ghost use Rattle.archive_tables.specs.Calls.{WasClean, AnswersOpen};
+    ghost use Rattle.archive_tables.specs.Calls.{WasClean};
     ghost use Rattle.archive_store.specs.Held.{held_of};
-    ghost use Rattle.archive_store.specs.Told.{Lasts};
     ghost use Rattle.archive_store.specs.Replies.{Answers};
     ghost use Rattle.archive_machine.specs.Messages.{remembered};
 
@@ -21,8 +20,6 @@ impl<S: Alter> Store<S> {
     pub fn has_list(&mut self, name: &str) -> Result<bool, StoreFault>
         ensures answer { Answers S.Store (held_of self.old) (held_of self.new) result (λ _. None) (λ a found. found ≡ has_list a name.now) }
         ensures clean { WasClean S.Store (held_of self.old) (held_of self.new) }
-        ensures lasts { Lasts S.Store self.old self.new }
-        ensures was_open { AnswersOpen S.Store (held_of self.old) (held_of self.new) result }
     {
         Ok(texts::lists::has_list(&mut self.conn, name)?)
     }
@@ -32,8 +29,6 @@ impl<S: Alter> Store<S> {
         ensures answer { Answers S.Store (held_of self.old) (held_of self.new) result (λ _. None)
             (λ a names. map string_bytes names.items ≡ list_names a) }
         ensures clean { WasClean S.Store (held_of self.old) (held_of self.new) }
-        ensures lasts { Lasts S.Store self.old self.new }
-        ensures was_open { AnswersOpen S.Store (held_of self.old) (held_of self.new) result }
     {
         let shown = texts::lists::list_names(&mut self.conn)?;
         Ok(read_names(alloc, &shown)?)
@@ -44,8 +39,6 @@ impl<S: Alter> Store<S> {
         ensures answer { Answers S.Store (held_of self.old) (held_of self.new) result (λ a. list_refusal a list.now)
             (λ a count. count ≡ length (messages_in a list.now)) }
         ensures clean { WasClean S.Store (held_of self.old) (held_of self.new) }
-        ensures lasts { Lasts S.Store self.old self.new }
-        ensures was_open { AnswersOpen S.Store (held_of self.old) (held_of self.new) result }
     {
         count_list(&mut self.conn, list)
     }
@@ -55,8 +48,6 @@ impl<S: Alter> Store<S> {
         ensures answer { Answers S.Store (held_of self.old) (held_of self.new) result (λ a. list_refusal a list.now)
             (λ a found. option_map (remembered list.now) found ≡ message_of a list.now key.now) }
         ensures clean { WasClean S.Store (held_of self.old) (held_of self.new) }
-        ensures lasts { Lasts S.Store self.old self.new }
-        ensures was_open { AnswersOpen S.Store (held_of self.old) (held_of self.new) result }
     {
         if !texts::lists::has_list(&mut self.conn, list)? {
             return Err(StoreFault::NoList);

@@ -1,12 +1,12 @@
 //! Walks over the messages of a list.
-ghost use Rattle.std.specs.Prelude.{◌≡◌, ◌+◌, ◌∷◌, [], ◌++◌, map, slice_get, pos, None, IfOk, IfErr, OnOk, MatchResult, MatchOption};
+ghost use Rattle.std.specs.Prelude.{◌≡◌, ◌+◌, ◌∷◌, [], ◌++◌, map, slice_get, pos, None, IfOk, IfErr, MatchResult, MatchOption};
 ghost use Rattle.archive_machine.specs.Messages.{remembered};
 ghost use Rattle.archive_machine.specs.Questions.{list_refusal, messages_in};
 ghost use Rattle.archive_tables.specs.Calls.{WasClean};
 ghost use Rattle.archive_tables.specs.Rows.{places_in, month_places, author_places};
 ghost use Rattle.archive_store.specs.Held.{held_of};
 ghost use Rattle.archive_store.specs.Replies.{refusal};
-ghost use Rattle.archive_store.specs.Told.{HadReturned, HasReturned, IsOpen, Lasts};
+ghost use Rattle.archive_store.specs.Told.{HadReturned};
 ghost use Rattle.archive_store.specs.Walking.{GivesNext, GivesAll, ShowsMessage, FindsPlaces, IsNotBegun, left_of};
 
 use crate::faults::StoreFault;
@@ -53,8 +53,6 @@ impl<S: Alter> Store<S> {
         ensures answer { Answers S.Store (held_of self.old) (held_of self.new) result (λ a. list_refusal a list.now)
             (λ a found. map (remembered list.now) found.items ≡ messages_in a list.now) }
         ensures clean { WasClean S.Store (held_of self.old) (held_of self.new) }
-        ensures lasts { Lasts S.Store self.old self.new }
-        ensures was_open { HasReturned S.Store self.new → OnOk result (IsOpen S.Store self.old) }
     {
         let mut walk = self.each_row(alloc, list)?;
         read_rows(alloc, &mut walk)
@@ -65,7 +63,6 @@ impl<S: Alter> Store<S> {
         ensures* refused { sem 𝓛 (RestsIfErr (the_row S.row S.Store) self.entry (λ walk. walk.store.ghost_name) result (IsNotBegun S.Store self.old list.now result)) }
         ensures same_reference { IfOk result (λ walk. walk.store.ghost_name ≡ self.entry.ghost_name) }
         ensures begun { IfOk result (λ walk. Begins S.Store self.old list.now walk) }
-        ensures was_open { IfOk result (λ walk. HasReturned S.Store walk.store.now → IsOpen S.Store self.old) }
     {
         let places = find_places(self, alloc, list)?;
         Ok(EachRow::new(self, places))
@@ -82,8 +79,6 @@ impl<S: Alter> Store<S> {
         ensures answer { Answers S.Store (held_of self.old) (held_of self.new) result (λ a. list_refusal a list.now)
             (λ a found. map (remembered list.now) found.items ≡ in_month a list.now (pos month)) }
         ensures clean { WasClean S.Store (held_of self.old) (held_of self.new) }
-        ensures lasts { Lasts S.Store self.old self.new }
-        ensures was_open { HasReturned S.Store self.new → OnOk result (IsOpen S.Store self.old) }
     {
         let mut walk = self.each_in_month(alloc, list, month)?;
         read_rows(alloc, &mut walk)
@@ -99,8 +94,6 @@ impl<S: Alter> Store<S> {
         ensures answer { Answers S.Store (held_of self.old) (held_of self.new) result (λ a. list_refusal a list.now)
             (λ a found. map (remembered list.now) found.items ≡ by_author a list.now key.now) }
         ensures clean { WasClean S.Store (held_of self.old) (held_of self.new) }
-        ensures lasts { Lasts S.Store self.old self.new }
-        ensures was_open { HasReturned S.Store self.new → OnOk result (IsOpen S.Store self.old) }
     {
         let mut walk = self.each_by_author(alloc, list, key)?;
         read_rows(alloc, &mut walk)
@@ -116,7 +109,6 @@ impl<S: Alter> Store<S> {
         ensures* refused { sem 𝓛 (RestsIfErr (the_row S.row S.Store) self.entry (λ walk. walk.store.ghost_name) result (IsNotBegun S.Store self.old list.now result)) }
         ensures same_reference { IfOk result (λ walk. walk.store.ghost_name ≡ self.entry.ghost_name) }
         ensures begun { IfOk result (λ walk. BeginsOver S.Store self.old list.now (λ a. in_month a list.now (pos month)) walk) }
-        ensures was_open { IfOk result (λ walk. HasReturned S.Store walk.store.now → IsOpen S.Store self.old) }
     {
         let places = find_month_places(self, alloc, list, month)?;
         Ok(EachRow::new(self, places))
@@ -132,7 +124,6 @@ impl<S: Alter> Store<S> {
         ensures* refused { sem 𝓛 (RestsIfErr (the_row S.row S.Store) self.entry (λ walk. walk.store.ghost_name) result (IsNotBegun S.Store self.old list.now result)) }
         ensures same_reference { IfOk result (λ walk. walk.store.ghost_name ≡ self.entry.ghost_name) }
         ensures begun { IfOk result (λ walk. BeginsOver S.Store self.old list.now (λ a. by_author a list.now key.now) walk) }
-        ensures was_open { IfOk result (λ walk. HasReturned S.Store walk.store.now → IsOpen S.Store self.old) }
     {
         let places = find_author_places(self, alloc, list, key)?;
         Ok(EachRow::new(self, places))
@@ -168,7 +159,6 @@ impl<'a, S: Alter> EachRow<'a, S> {
             (λ _. left_of self.new ≡ left_of self.old) }
         ensures fault { IfErr result (λ fault. refusal fault ≡ None) }
         ensures clean { HadReturned S.Store self.old.store.now self.new.store.now }
-        ensures lasts { Lasts S.Store self.old.store.now self.new.store.now }
     {
         let Some(place) = place_at(&self.places, self.at) else {
             return Ok(None);
@@ -185,7 +175,6 @@ fn read_rows<S: Alter>(alloc: Global, walk: &mut EachRow<'_, S>) -> Result<Vec<M
     ensures given { GivesAll S.Store walk.old walk.new result }
     ensures fault { IfErr result (λ fault. refusal fault ≡ None) }
     ensures clean { HadReturned S.Store walk.old.store.now walk.new.store.now }
-    ensures lasts { Lasts S.Store walk.old.store.now walk.new.store.now }
 {
     let mut found = Vec::with_capacity(alloc, walk.left())?;
     while let Some(message) = walk.next()? {
@@ -203,8 +192,6 @@ fn find_places<S: Alter>(
     ensures refused { IsNotBegun S.Store store.old list.now result store.new }
     ensures found { FindsPlaces S.Store store.old store.new list.now (λ trees. places_in trees list.now) result }
     ensures clean { HadReturned S.Store store.old store.new }
-    ensures lasts { Lasts S.Store store.old store.new }
-    ensures was_open { HasReturned S.Store store.new → OnOk result (IsOpen S.Store store.old) }
 {
     if !texts::lists::has_list(&mut store.conn, list)? {
         return Err(StoreFault::NoList);
@@ -223,8 +210,6 @@ fn find_month_places<S: Alter>(
     ensures refused { IsNotBegun S.Store store.old list.now result store.new }
     ensures found { FindsPlaces S.Store store.old store.new list.now (λ trees. month_places trees list.now (pos month)) result }
     ensures clean { HadReturned S.Store store.old store.new }
-    ensures lasts { Lasts S.Store store.old store.new }
-    ensures was_open { HasReturned S.Store store.new → OnOk result (IsOpen S.Store store.old) }
 {
     if !texts::lists::has_list(&mut store.conn, list)? {
         return Err(StoreFault::NoList);
@@ -244,8 +229,6 @@ fn find_author_places<S: Alter>(
     ensures refused { IsNotBegun S.Store store.old list.now result store.new }
     ensures found { FindsPlaces S.Store store.old store.new list.now (λ trees. author_places trees list.now key.now) result }
     ensures clean { HadReturned S.Store store.old store.new }
-    ensures lasts { Lasts S.Store store.old store.new }
-    ensures was_open { HasReturned S.Store store.new → OnOk result (IsOpen S.Store store.old) }
 {
     if !texts::lists::has_list(&mut store.conn, list)? {
         return Err(StoreFault::NoList);
@@ -265,7 +248,6 @@ fn message_at<S: Alter>(store: &mut Store<S>, place: i64) -> Result<Message, Sto
     ensures shown { ShowsMessage S.Store store.old store.new place result }
     ensures fault { IfErr result (λ fault. refusal fault ≡ None) }
     ensures clean { HadReturned S.Store store.old store.new }
-    ensures lasts { Lasts S.Store store.old store.new }
 {
     match texts::messages::message_at(&mut store.conn, place)? {
         Some(row) => Ok(read_or_fail(row)?),

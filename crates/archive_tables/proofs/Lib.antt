@@ -21,6 +21,3 @@ pub mod ReadLemmas
 pub mod TableExamples
 pub mod WalkLemmas
 pub mod FiledLemmas
-pub mod LastLemmas
-pub mod LastExamples
-pub mod CauseLemmas

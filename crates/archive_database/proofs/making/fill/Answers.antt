@@ -1,4 +1,3 @@
-use Rattle.archive_tables.proofs.LastLemmas.{lasts_then}
 use Rattle.archive_database.proofs.making.fill.Goals as goal
 
 pub returns-clause-kept : goal.returns-clause-kept
@@ -7,12 +6,3 @@ returns-clause-kept g c = λ clean before making.
     let clean_1 = c.in_ok-make_indexes.ensures.clean clean_2 in
     let clean_0 = c.in_ok-make_last.ensures.clean clean_1 in
     c.in_ok-commit.ensures.kept clean before (c.in_ok-make_indexes.ensures.made clean_2 before (c.in_ok-make_last.ensures.made clean_1 before (c.in_ok-make_first.ensures.made clean_0 before making)))
-
-pub returns-in_err-make_indexes-clause-lasts : goal.returns-in_err-make_indexes-clause-lasts
-returns-in_err-make_indexes-clause-lasts g c = lasts_then _ _ _ (lasts_then _ _ _ c.make_first.ensures.lasts c.make_last.ensures.lasts) c.make_indexes.ensures.lasts
-
-pub returns-in_err-commit-clause-lasts : goal.returns-in_err-commit-clause-lasts
-returns-in_err-commit-clause-lasts g c = lasts_then _ _ _ (lasts_then _ _ _ (lasts_then _ _ _ c.make_first.ensures.lasts c.make_last.ensures.lasts) c.make_indexes.ensures.lasts) c.commit.ensures.lasts
-
-pub returns-clause-lasts : goal.returns-clause-lasts
-returns-clause-lasts g c = lasts_then _ _ _ (lasts_then _ _ _ (lasts_then _ _ _ c.make_first.ensures.lasts c.make_last.ensures.lasts) c.make_indexes.ensures.lasts) c.commit.ensures.lasts

@@ -7,14 +7,13 @@ use Rattle.sqlite.specs.Held.{state}
 use Rattle.archive_store.specs.Told.{archive_in as now_holds}
 use Rattle.archive_store.proofs.ReadingLemmas.{is_there}
 use Rattle.archive_store.proofs.WalkingLemmas.{fails, no_refusal}
-use Rattle.archive_tables.proofs.LastLemmas.{lasts_then}
 use Rattle.archive_store.proofs.walking.find_month_places.Goals as goal
 
 pub returns-in_err-shown-clause-refused : goal.returns-in_err-shown-clause-refused
 returns-in_err-shown-clause-refused g c =
     fails g.S.Store c.args.store.now (record { conn = c.month_places.new.conn }) c.args.list.now c.from_residual-in_err-shown.result
     (no_refusal c.from_residual-in_err-shown.result _ c.from_residual-in_err-shown.ensures.1 (λ fault it. it.1)) (
-      lasts_then _ _ _ c.has_list.ensures.lasts c.month_places.ensures.lasts,
+      (λ returned. c.in_ok-has_list.ensures.clean (c.in_err-shown.ensures.clean returned)),
       (λ returned kept up.
           let has = c.in_ok-has_list.ensures.held (c.in_err-shown.ensures.clean returned) None kept in
           let rest = c.in_err-shown.ensures.held returned None has.1.0 up in
@@ -25,7 +24,7 @@ pub returns-in_err-read_places-clause-refused : goal.returns-in_err-read_places-
 returns-in_err-read_places-clause-refused g c =
     fails g.S.Store c.args.store.now (record { conn = c.month_places.new.conn }) c.args.list.now c.from_residual-in_err-read_places.result
     (no_refusal c.from_residual-in_err-read_places.result _ c.from_residual-in_err-read_places.ensures.1 (λ fault it. it.1)) (
-      lasts_then _ _ _ c.has_list.ensures.lasts c.month_places.ensures.lasts,
+      (λ returned. c.in_ok-has_list.ensures.clean (c.in_ok-shown.ensures.clean returned)),
       (λ returned kept up.
           let has = c.in_ok-has_list.ensures.held (c.in_ok-shown.ensures.clean returned) None kept in
           let shown = c.in_ok-shown.ensures.held returned None has.1.0 in

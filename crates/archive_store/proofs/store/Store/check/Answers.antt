@@ -1,6 +1,5 @@
 use Rattle.std.proofs.Common.{rules, ◌≡◌, ◌∙◌, pos, get_or, arith, to_z, of_z, w64}
 use Rattle.archive_store.proofs.CheckLemmas.{looks_first, looks_next, looked_all, same_archive, both_stay, fails_to_check}
-use Rattle.archive_tables.proofs.LastLemmas.{lasts_then}
 use Rattle.archive_store.proofs.store.Store.check.Goals as goal
 
 pub loop-place-init : goal.loop-place-init
@@ -9,7 +8,6 @@ loop-place-init g c = (
   (λ returned held.
       let found = c.in_ok-places.ensures.found returned held in
       looks_first g.S.Store c.args.self.now c.find_all_places.new.store c.deref-place-items.result.now held (c.deref-place-items.ensures.value ∙ found.0) found.1),
-  c.in_ok-places.ensures.lasts,
 )
 
 pub loop-place-preserved : goal.loop-place-preserved
@@ -22,7 +20,6 @@ loop-place-preserved g c =
           let next = looks_next g.S.Store c.args.self.now now c.deref-place-items.result.now c.loop-place.place-index (to_z w64 (of_z w64 (get_or c.deref-place-items.result.now c.loop-place.place-index (pos 0)))) (pos 0) so_far (omega (arith, c.loop-place-test.true)) it in
           let looked = rw c.in_default.is at (c.in_ok-list.ensures.looked returned so_far.stays.1 next.it next.found) in
           next.goes_on c.damage_at.new.store looked.0 looked.1),
-      lasts_then _ _ _ c.loop-place.invariant.2 c.damage_at.ensures.lasts,
     )
 
 pub returns-in_err-list-clause-checked : goal.returns-in_err-list-clause-checked
@@ -30,7 +27,7 @@ returns-in_err-list-clause-checked g c =
     let it : to_z w64 (of_z w64 (get_or c.deref-place-items.result.now c.loop-place.place-index (pos 0))) ≡ get_or c.deref-place-items.result.now c.loop-place.place-index (pos 0) = search rules in
     let now = c.loop-place.self in
     fails_to_check g.S.Store c.args.self.now c.damage_at.new.store c.from_residual-in_err-list.result _ c.from_residual-in_err-list.ensures.1
-    (lasts_then _ _ _ c.loop-place.invariant.2 c.damage_at.ensures.lasts)
+    (λ returned. c.loop-place.invariant.0 (c.damage_at.ensures.clean returned))
     (λ returned held up.
     let so_far = c.loop-place.invariant.1 (c.damage_at.ensures.clean returned) held in
     let next = looks_next g.S.Store c.args.self.now now c.deref-place-items.result.now c.loop-place.place-index (to_z w64 (of_z w64 (get_or c.deref-place-items.result.now c.loop-place.place-index (pos 0)))) (pos 0) so_far (omega (arith, c.loop-place-test.true)) it in
@@ -40,7 +37,7 @@ pub returns-in-Some-clause-checked : goal.returns-in-Some-clause-checked
 returns-in-Some-clause-checked g c =
     let it : to_z w64 (of_z w64 (get_or c.deref-place-items.result.now c.loop-place.place-index (pos 0))) ≡ get_or c.deref-place-items.result.now c.loop-place.place-index (pos 0) = search rules in
     let now = c.loop-place.self in (
-      lasts_then _ _ _ c.loop-place.invariant.2 c.damage_at.ensures.lasts,
+      (λ returned. c.loop-place.invariant.0 (c.damage_at.ensures.clean returned)),
       (λ returned held.
           let so_far = c.loop-place.invariant.1 (c.damage_at.ensures.clean returned) held in
           let next = looks_next g.S.Store c.args.self.now now c.deref-place-items.result.now c.loop-place.place-index (to_z w64 (of_z w64 (get_or c.deref-place-items.result.now c.loop-place.place-index (pos 0)))) (pos 0) so_far (omega (arith, c.loop-place-test.true)) it in
@@ -51,7 +48,7 @@ returns-in-Some-clause-checked g c =
 
 pub returns-clause-checked : goal.returns-clause-checked
 returns-clause-checked g c = (
-  c.loop-place.invariant.2,
+  c.loop-place.invariant.0,
   (λ returned held.
       let so_far = c.loop-place.invariant.1 returned held in (
         so_far.stays.1,

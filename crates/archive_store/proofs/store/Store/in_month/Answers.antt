@@ -1,9 +1,7 @@
-use Rattle.std.proofs.Common.{◌≡◌, subst, rules, pos, sym}
+use Rattle.std.proofs.Common.{◌≡◌, subst, rules, pos}
 use Rattle.archive_machine.specs.Filing.{in_month}
-use Rattle.archive_store.specs.Told.{HasReturned, Lasts}
-use Rattle.archive_store.proofs.FollowLemmas.{when_ok}
+use Rattle.archive_store.specs.Told.{HasReturned}
 use Rattle.archive_store.proofs.WalkingLemmas.{rows_answer}
-use Rattle.archive_tables.proofs.LastLemmas.{lasts_then}
 use Rattle.archive_store.proofs.store.Store.in_month.Goals as goal
 
 pub returns-clause-answer : goal.returns-clause-answer
@@ -16,14 +14,4 @@ returns-clause-answer g c =
 pub returns-clause-clean : goal.returns-clause-clean
 returns-clause-clean g c = λ returned.
     let is : c.self-2-1.given.0 ≡ c.read_rows.new.walk.store.now = search rules in
-    c.in_ok-walk.ensures.begun.0.returned (c.read_rows.ensures.clean (subst (HasReturned g.S.Store) is returned))
-
-pub returns-clause-lasts : goal.returns-clause-lasts
-returns-clause-lasts g c =
-    let is : c.self-2-1.given.0 ≡ c.read_rows.new.walk.store.now = search rules in
-    subst (λ s. Lasts g.S.Store c.args.self.now s) (sym is) (lasts_then _ _ _ c.in_ok-walk.ensures.begun.0 c.read_rows.ensures.lasts)
-
-pub returns-clause-was_open : goal.returns-clause-was_open
-returns-clause-was_open g c = λ returned.
-    let is : c.self-2-1.given.0 ≡ c.read_rows.new.walk.store.now = search rules in
-    when_ok c.read_rows.result _ (c.in_ok-walk.ensures.was_open (c.read_rows.ensures.clean (subst (HasReturned g.S.Store) is returned)))
+    c.in_ok-walk.ensures.begun.0 (c.read_rows.ensures.clean (subst (HasReturned g.S.Store) is returned))

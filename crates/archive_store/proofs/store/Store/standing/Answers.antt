@@ -7,7 +7,6 @@ use Rattle.archive_tables.specs.Rows.{grant_shown}
 use Rattle.archive_tables.specs.Tables.{archive_of}
 use Rattle.archive_store.proofs.StepLemmas.{begins, asks}
 use Rattle.archive_store.proofs.RankLemmas.{standing_is, is_answered}
-use Rattle.archive_tables.proofs.LastLemmas.{lasts_then}
 use Rattle.archive_store.proofs.store.Store.standing.Goals as goal
 
 pub returns-in-Some-clause-answer : goal.returns-in-Some-clause-answer
@@ -51,15 +50,3 @@ returns-clause-answer g c =
     λ clean kept.
     let k = three clean kept in
     (λ _. (k.kept, k.same))
-
-pub returns-in_err-grants-clause-lasts : goal.returns-in_err-grants-clause-lasts
-returns-in_err-grants-clause-lasts g c = lasts_then _ _ _ (lasts_then _ _ _ c.has_person.ensures.lasts c.has_list.ensures.lasts) c.grants_of.ensures.lasts
-
-pub returns-in_err-rank-clause-lasts : goal.returns-in_err-rank-clause-lasts
-returns-in_err-rank-clause-lasts g c = lasts_then _ _ _ (lasts_then _ _ _ c.has_person.ensures.lasts c.has_list.ensures.lasts) c.grants_of.ensures.lasts
-
-pub returns-in-Some-clause-lasts : goal.returns-in-Some-clause-lasts
-returns-in-Some-clause-lasts g c = lasts_then _ _ _ (lasts_then _ _ _ c.has_person.ensures.lasts c.has_list.ensures.lasts) c.grants_of.ensures.lasts
-
-pub returns-clause-lasts : goal.returns-clause-lasts
-returns-clause-lasts g c = lasts_then _ _ _ (lasts_then _ _ _ c.has_person.ensures.lasts c.has_list.ensures.lasts) c.grants_of.ensures.lasts

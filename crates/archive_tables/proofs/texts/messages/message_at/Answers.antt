@@ -9,7 +9,6 @@ use Rattle.archive_tables.specs.Rows.{message_shown}
 use Rattle.archive_tables.proofs.SelectLemmas.{first_found, none_found}
 use Rattle.archive_tables.proofs.RunLemmas.{on_fault}
 use Rattle.archive_tables.proofs.WalkLemmas.{at_found, at_rests, none_at, is_at}
-use Rattle.archive_tables.proofs.LastLemmas.{query_lasts, shown_open}
 use Rattle.archive_tables.proofs.texts.messages.message_at.Goals as goal
 
 pub returns-in_err-rows-clause-held : goal.returns-in_err-rows-clause-held
@@ -38,21 +37,3 @@ returns-clause-held g c clean behind k =
     let found = at_found (state g.S.Store c.args.conn.now) (state g.S.Store c.query_all.new.self) k c.args.place c.in_ok-rows.rows.items (rw number at (c.in_ok-rows.ensures.ok clean)) in
     let first : slice_get c.in_ok-rows.rows.items 0 ≡ None = search rules in
     (ap (option_map (λ (r : Numbered Filed). r.it.0)) (none_found (is_at c.args.place) (λ (r : Numbered Filed). message_shown r.it.0) _ c.in_ok-rows.rows.items found.0 first), found.1, found.2)
-
-pub returns-in_err-rows-clause-lasts : goal.returns-in_err-rows-clause-lasts
-returns-in_err-rows-clause-lasts g c = query_lasts (state g.S.Store c.args.conn.now) (state g.S.Store c.query_all.new.self) _ _ _ c.query_all.result c.query_all.ensures.survives c.query_all.ensures.ok c.query_all.ensures.err
-
-pub returns-in_err-read_message-in-Some-clause-lasts : goal.returns-in_err-read_message-in-Some-clause-lasts
-returns-in_err-read_message-in-Some-clause-lasts g c = query_lasts (state g.S.Store c.args.conn.now) (state g.S.Store c.query_all.new.self) _ _ _ c.query_all.result c.query_all.ensures.survives c.query_all.ensures.ok c.query_all.ensures.err
-
-pub returns-in-Some-clause-lasts : goal.returns-in-Some-clause-lasts
-returns-in-Some-clause-lasts g c = query_lasts (state g.S.Store c.args.conn.now) (state g.S.Store c.query_all.new.self) _ _ _ c.query_all.result c.query_all.ensures.survives c.query_all.ensures.ok c.query_all.ensures.err
-
-pub returns-clause-lasts : goal.returns-clause-lasts
-returns-clause-lasts g c = query_lasts (state g.S.Store c.args.conn.now) (state g.S.Store c.query_all.new.self) _ _ _ c.query_all.result c.query_all.ensures.survives c.query_all.ensures.ok c.query_all.ensures.err
-
-pub returns-in-Some-clause-was_open : goal.returns-in-Some-clause-was_open
-returns-in-Some-clause-was_open g c clean = shown_open (state g.S.Store c.args.conn.now) (state g.S.Store c.query_all.new.self) _ _ c.in_ok-rows.rows.items (c.in_ok-rows.ensures.ok clean)
-
-pub returns-clause-was_open : goal.returns-clause-was_open
-returns-clause-was_open g c clean = shown_open (state g.S.Store c.args.conn.now) (state g.S.Store c.query_all.new.self) _ _ c.in_ok-rows.rows.items (c.in_ok-rows.ensures.ok clean)
