@@ -2,27 +2,37 @@
 use Rattle.std.specs.Prelude.{◌≡◌, ◌≢◌, ◌⊎◌, ℕ, List, Result, MatchResult, IfOk}
 use Rattle.sqlite.specs.Store.{Ghosts}
 use Rattle.archive_machine.specs.Records.{Archive}
-use Rattle.archive_store.specs.Told.{Goes, GoesIfOpen, HasReturned, IsReady, archive_in}
+use Rattle.archive_store.specs.Told.{Goes, GoesIfOpen, HasReturned, IsReady, IsShut, archive_in}
 use Rattle.archive_store.specs.declared.store.Store.{Store}
 use Rattle.archive_pages.specs.Replies.{Reply, Sends, Breaks, IsBroken, unavailable}
 use Rattle.archive_pages.specs.declared.faults.ServeFault.{ServeFault}
 
 module _ {S : Type 0} (g : Ghosts S) (old new : Store S) where
+  -- where the store was shut, this is so of every archive, and not of one
+  abbrev pub OfEvery : (Archive → Type 0) → Type 0
+  OfEvery Says = HasReturned g new → IsShut g old → (a : Archive) → Says a
+
   -- The store is left as it was, and this holds of what it remembers and of what was found; or memory or the database was at
-  -- fault, and it is left as it was if its connection is still open.
+  -- fault, and it is left as it was if its connection is still open. In a store that is shut nothing is found but what is so
+  -- of every archive.
   abbrev pub Finds : {A F : Type 0} → Result A F → (Archive → A → Type 0) → Type 0
   Finds result Says = MatchResult result
-      (λ found. Goes g old new (λ a b. (b ≡ a) × Says a found))
+      (λ found. Goes g old new (λ a b. (b ≡ a) × Says a found) × OfEvery (λ a. Says a found))
       (λ _. GoesIfOpen g old new (λ a b. b ≡ a))
 
   -- The same of a reply that went out. Where memory or the database was at fault it is 503; or it is an mbox of what the store
   -- remembered, which broke off (S3): exactly its first bytes went out, as many as the fault counts, and at least one.
-  abbrev pub Serves : (Archive → Reply → Type 0) → (told_before told_after : List ℕ) → Result ℕ ServeFault → Type 0
-  Serves Says before after result =
+  abbrev pub Sent : (Archive → Reply → Type 0) → (told_before told_after : List ℕ) → Result ℕ ServeFault → Type 0
+  Sent Says before after result =
       Goes g old new (λ a b. (b ≡ a) × Sends (Says a) before after result)
       ⊎ ((GoesIfOpen g old new (λ a b. b ≡ a) × Sends (λ reply. reply ≡ unavailable) before after result)
       ⊎ (GoesIfOpen g old new (λ a b. b ≡ a)
       × IsBroken result (λ written. HasReturned g new → IsReady g old → Breaks (Says (archive_in g old)) before after written)))
+
+  pub record Serves (Says : Archive → Reply → Type 0) (before after : List ℕ) (result : Result ℕ ServeFault) : Type 0 where
+    pub sent : Sent Says before after result
+    -- out of a store that is shut 503, or a reply that is the same for every archive
+    pub shut : HasReturned g new → IsShut g old → Sends (λ reply. (reply ≡ unavailable) ⊎ ((a : Archive) → Says a reply)) before after result
 
   -- What an answer leaves of a store, whatever the request and the reply, and whatever the fault: the same archive, if the
   -- connection is still open; and where a reply other than 503 went out, the store is ready for the next request.

@@ -1,5 +1,5 @@
 -- Whether a store is whole: what `check` answers, and what it does message by message.
-use Rattle.std.specs.Prelude.{◌≡◌, ℕ, ℤ, List, Option, None, Some, Result, Vec, MatchResult}
+use Rattle.std.specs.Prelude.{◌≡◌, ℕ, ℤ, List, Option, None, Some, Result, Vec, IfErr, MatchResult}
 use Rattle.std.specs.declared.alloc.Global.{Global}
 use Rattle.sqlite.specs.Store.{Ghosts}
 use Rattle.archive_machine.specs.Filing.{Filed}
@@ -7,10 +7,11 @@ use Rattle.archive_machine.specs.Damage.{IsWhole, IsFirstDamaged}
 use Rattle.archive_tables.specs.Listed.{all_places, filed_at}
 use Rattle.archive_database.specs.Checking.{SaysOf}
 use Rattle.archive_database.specs.declared.checking.Damage.{Damage}
-use Rattle.archive_store.specs.Told.{HoldsTables, IsOpen, HasReturned, CallsIn}
+use Rattle.archive_store.specs.Told.{HoldsTables, IsOpen, HasReturned, HasNoLimit, HasFailed, CallsIn}
 use Rattle.archive_store.specs.Walking.{now_in, rows_of}
 use Rattle.archive_store.specs.declared.store.Store.{Store}
 use Rattle.archive_store.specs.declared.faults.StoreFault.{StoreFault}
+use Rattle.archive_store.specs.declared.faults.StoreFault.TheVariants as faults
 use Rattle.archive_store.specs.declared.checking.CheckStop.{CheckStop}
 use Rattle.archive_store.specs.declared.checking.CheckStop.TheVariants.{Damaged, Failed}
 
@@ -39,3 +40,8 @@ module _ {S : Type 0} (g : Ghosts S) (old new : Store S) where
   abbrev pub LooksAt : ℤ → Result (Option Damage) StoreFault → Type 0
   LooksAt place result = HasReturned g new → HoldsTables g old → (f : Filed) → filed_at (rows_of g old) place ≡ Some f
       → MatchResult result (λ found. SaysOf f found × RowsStay) (λ _. IsOpen g new → RowsStay)
+
+  -- what E15 means of a message that is there, where no limit is set: the disk failed
+  abbrev pub StopsLooking : {A : Type 0} → ℤ → Result A StoreFault → Type 0
+  StopsLooking place result = HasReturned g new → HoldsTables g old → HasNoLimit g old → (f : Filed) → filed_at (rows_of g old) place ≡ Some f
+      → IfErr result (λ fault. fault ≡ faults.Store → HasFailed g old new)

@@ -1,5 +1,6 @@
 -- How the answers of a store stand for those of the machine.
-use Rattle.std.specs.Prelude.{◌≡◌, Bool, MatchResult, MatchOption, Option, Some, None, Result, Ok, Err, option_map}
+use Rattle.std.specs.Prelude.{◌≡◌, ◌⊎◌, Bool, List, [], ◌∷◌, IfErr, IfSome, MatchResult, MatchOption, Option, Some, None, Result, Ok, Err, option_map}
+use Rattle.sqlite_disk.specs.Disk.{MoreFaults}
 use Rattle.sqlite.specs.Store.{Ghosts}
 use Rattle.sqlite.specs.declared.error.Error.{Error}
 use Rattle.sqlite.specs.declared.error.Error.TheVariants.{SqliteFailure}
@@ -46,6 +47,15 @@ abbrev pub fault_in : Fault → StoreFault
 fault_in NoMemory = Memory
 fault_in Database = Store
 
+-- one of these reasons
+abbrev pub IsOneOf : Refusal → List Refusal → Type 0
+IsOneOf why [] = ⊥
+IsOneOf why (w ∷ whys) = (why ≡ w) ⊎ IsOneOf why whys
+
+-- a call is refused for one of these reasons alone, whatever the tables hold; else memory or the database was at fault
+abbrev pub RefusedFor : {A : Type 0} → Result A StoreFault → List Refusal → Type 0
+RefusedFor result whys = IfErr result (λ fault. IfSome (refusal fault) (λ why. IsOneOf why whys))
+
 -- the answer of a call whose success says this
 abbrev pub reply_of : {A : Type 0} → (A → Reply) → Result A StoreFault → Option Reply
 reply_of says (Ok a) = Some (says a)
@@ -84,3 +94,8 @@ module _ {S : Type 0} (g : Ghosts S) (old new : Held S) where
       MatchResult result
       (λ a. Stays × (refuses (archive_of (state g old)) ≡ None) × Says (archive_of (state g old)) a)
       (λ fault. MatchOption (refusal fault) (Rests (state g old) (state g new)) (λ r. Stays × (refuses (archive_of (state g old)) ≡ Some r)))
+
+  -- What E15 of a question means, where no limit is set on the steps of a query: the disk failed or refused once more.
+  abbrev pub FailsByDisk : {A : Type 0} → Result A StoreFault → Type 0
+  FailsByDisk result = HasCleanDisk (state g new) → IsKept (state g old) → (state g old).step_limit ≡ None
+      → IfErr result (λ fault. fault ≡ Store → MoreFaults (state g old).faults (state g new).faults)

@@ -1,19 +1,28 @@
 -- The words in which the layers above speak of a store: they name neither its tables nor its database.
-use Rattle.std.specs.Prelude.{◌≡◌, IsTrue, Option, None, Some, Result, MatchResult, MatchOption}
+use Rattle.std.specs.Prelude.{◌≡◌, ℕ, ⊤, IsTrue, Option, None, Some, Result, MatchResult, MatchOption}
+use Rattle.std.specs.Prelude.{◌≡◌, ◌⊎◌, ℕ, IsTrue, Option, None, Some, Result, IfErr, MatchResult, MatchOption}
+use Rattle.sqlite_disk.specs.Disk.{MoreFaults}
 use Rattle.sqlite.specs.Store.{Ghosts}
 use Rattle.sqlite.specs.Held.{Held, state}
 use Rattle.sqlite.specs.State.{HasCleanDisk}
 use Rattle.archive_machine.specs.Records.{Archive}
 use Rattle.archive_machine.specs.Sound.{IsFiledRight}
 use Rattle.archive_tables.specs.Tables.{IsKept, archive_of}
+use Rattle.archive_tables.specs.Calls.{Lasts as LastsOpen}
 use Rattle.archive_store.specs.Held.{held_of}
 use Rattle.archive_store.specs.declared.store.Store.{Store}
+use Rattle.archive_store.specs.declared.faults.StoreFault.{StoreFault}
+use Rattle.archive_store.specs.declared.faults.StoreFault.TheVariants as faults
 
 module _ {S : Type 0} (g : Ghosts S) where
   -- a connection is open outside a transaction, and its tables are an archive's and hold this one, in which what is filed of each
   -- message is what its text says
   abbrev pub HoldsArchive : Held S → Archive → Type 0
   HoldsArchive connection archive = IsKept (state g connection) × (archive_of (state g connection) ≡ archive) × IsFiledRight archive
+
+  -- what adopting does to a connection: but for the limit on the steps of a query, it lasts
+  abbrev pub LastsButLimit : Held S → Held S → Type 0
+  LastsButLimit old new = LastsOpen (state g old) (record (state g new) { step_limit = (state g old).step_limit })
 
   -- It is open, outside a transaction, and its tables are an archive's, whatever is filed of a message.
   abbrev pub HoldsTables : Store S → Type 0
@@ -32,25 +41,58 @@ module _ {S : Type 0} (g : Ghosts S) where
   abbrev pub IsOpen : Store S → Type 0
   IsOpen store = IsTrue (state g (held_of store)).is_open
 
+  abbrev pub IsShut : Store S → Type 0
+  IsShut store = ¬ IsOpen store
+
   -- its disk has returned what was written to it
   abbrev pub HasReturned : Store S → Type 0
   HasReturned store = HasCleanDisk (state g (held_of store))
+
+  -- how often its disk failed or refused
+  abbrev pub faults_of : Store S → ℕ
+  faults_of store = (state g (held_of store)).faults
+
+  -- no limit is set on the steps of a query: `adopt` takes it off, and nothing sets one
+  abbrev pub HasNoLimit : Store S → Type 0
+  HasNoLimit store = (state g (held_of store)).step_limit ≡ None
 
   module _ (old new : Store S) where
     -- a disk that has returned what was written so far had done so before
     abbrev pub HadReturned : Type 0
     HadReturned = HasReturned new → HasReturned old
 
+    -- What a call does to a store, whatever its tables hold and whatever it answers: only a fault of the disk shuts its connection,
+    -- and one that is shut stays shut.
+    abbrev pub Lasts : Type 0
+    Lasts = LastsOpen (state g (held_of old)) (state g (held_of new))
+
+    -- who was answered, or refused for a reason, asked a store whose connection was open
+    abbrev pub WasOpen : {A F R : Type 0} → (F → Option R) → Result A F → Type 0
+    WasOpen reason result = HasReturned new → MatchResult result (λ _. IsOpen old) (λ fault. MatchOption (reason fault) ⊤ (λ _. IsOpen old))
+
+    -- in a call its disk failed or refused once more
+    abbrev pub HasFailed : Type 0
+    HasFailed = MoreFaults (faults_of old) (faults_of new)
+
+    -- What E15 of a question means, where the tables are an archive's and no limit is set: the disk failed in that call.
+    abbrev pub Caused : {A : Type 0} → Result A StoreFault → Type 0
+    Caused result = HasReturned new → HoldsTables old → HasNoLimit old → IfErr result (λ fault. fault ≡ faults.Store → HasFailed)
+
+    -- the same, or this is so of the archive, which holds what no command writes
+    abbrev pub CausedOr : {A : Type 0} → Result A StoreFault → (Archive → Type 0) → Type 0
+    CausedOr result Unread = HasReturned new → HoldsTables old → HasNoLimit old
+        → IfErr result (λ fault. fault ≡ faults.Store → HasFailed ⊎ Unread (archive_in old))
+
   -- ---- under a premise: `HoldsTables` or `IsReady`
 
   module _ (Premise : Store S → Type 0) (old new : Store S) where
-    -- where the premise held of the store it holds, and this of what the store remembered and of what it remembers
+    -- the store lasts, and where the premise held of it it holds, and this of what it remembered and of what it remembers
     abbrev pub GoesIn : (Archive → Archive → Type 0) → Type 0
-    GoesIn R = HadReturned old new × (HasReturned new → Premise old → Premise new × R (archive_in old) (archive_in new))
+    GoesIn R = Lasts old new × (HasReturned new → Premise old → Premise new × R (archive_in old) (archive_in new))
 
     -- the same, if the connection is still open
     abbrev pub GoesInIfOpen : (Archive → Archive → Type 0) → Type 0
-    GoesInIfOpen R = HadReturned old new × (HasReturned new → Premise old → IsOpen new → Premise new × R (archive_in old) (archive_in new))
+    GoesInIfOpen R = Lasts old new × (HasReturned new → Premise old → IsOpen new → Premise new × R (archive_in old) (archive_in new))
 
     -- A call, of the store or of a layer above it, whose faults have a reason, or none where memory or the database was at
     -- fault. `Says` holds of the archives before and after and of an answer, `Refuses` of a reason, and `Stops` of a fault

@@ -1,7 +1,8 @@
 -- Walks over the messages of a list, one message at a time.
-use Rattle.std.specs.Prelude.{◌≡◌, ◌-◌, ℕ, ℤ, true, bytes_eq, List, [], ◌∷◌, ◌++◌, length, drop, map, Option, Some, None, Result, IfOk, IfErr, MatchResult, MatchOption, Vec}
+use Rattle.std.specs.Prelude.{◌≡◌, ◌⊎◌, ◌-◌, ℕ, ℤ, true, bytes_eq, List, [], ◌∷◌, ◌++◌, length, drop, map, Option, Some, None, Result, IfOk, IfErr, MatchResult, MatchOption, Vec}
 use Rattle.std.specs.declared.alloc.Global.{Global}
-use Rattle.std.specs.List.{AllByRecursion}
+use Rattle.std.specs.List.{All, AllByRecursion}
+use Rattle.std.specs.Option.{IsSomeAnd}
 use Rattle.sqlite.specs.Effect.{Database}
 use Rattle.sqlite.specs.Tree.{Trees}
 use Rattle.sqlite.specs.Store.{Ghosts}
@@ -11,11 +12,13 @@ use Rattle.archive_machine.specs.Questions.{list_refusal, messages_in}
 use Rattle.archive_machine.specs.Messages.{remembered}
 use Rattle.archive_machine.specs.declared.messages.Message.{Message}
 use Rattle.archive_tables.specs.Rows.{message_at}
+use Rattle.archive_database.specs.Messages.{IsReadable}
 use Rattle.archive_store.specs.Held.{held_of}
 use Rattle.archive_store.specs.Replies.{refusal}
-use Rattle.archive_store.specs.Told.{HoldsTables, IsOpen, HasReturned, HadReturned, archive_in, GoesIn, GoesInIfOpen}
+use Rattle.archive_store.specs.Told.{HoldsTables, IsOpen, HasReturned, HasNoLimit, HasFailed, Lasts, Caused, archive_in, GoesIn, GoesInIfOpen}
 use Rattle.archive_store.specs.declared.store.Store.{Store}
 use Rattle.archive_store.specs.declared.faults.StoreFault.{StoreFault}
+use Rattle.archive_store.specs.declared.faults.StoreFault.TheVariants as faults
 use Rattle.archive_store.specs.declared.walking.EachRow.{EachRow}
 
 -- a walk, with the numbers that it holds
@@ -48,9 +51,9 @@ module _ {S : Type 0} (g : Ghosts S) where
   abbrev pub Walks : (list : List ℕ) (a : Archive) (given : List Remembered) (walk : Walk S) → Type 0
   Walks list a given walk = WalksOver list (messages_in a list) a given walk
 
-  -- where the store held an archive's tables, the list is there, and the walk over these of its messages gave nothing yet
+  -- the store lasts, and where it held an archive's tables, the list is there, and the walk over these of its messages gave nothing yet
   abbrev pub BeginsOver : Store S → List ℕ → (Archive → List Remembered) → Walk S → Type 0
-  BeginsOver old list which walk = HadReturned g old walk.store.now
+  BeginsOver old list which walk = Lasts g old walk.store.now
       × (HasReturned g walk.store.now → HoldsTables g old
       → (list_refusal (archive_in g old) list ≡ None) × WalksOver list (which (archive_in g old)) (archive_in g old) [] walk)
 
@@ -86,3 +89,27 @@ module _ {S : Type 0} (g : Ghosts S) where
       → WalksOver list all a given old → MatchResult result
       (λ found. WalksOver list all a (given ++ map (remembered list) found.items) new × (given ++ map (remembered list) found.items ≡ all))
       (λ _. IsOpen g new.store.now → HoldsTables g new.store.now × (archive_in g new.store.now ≡ a))
+
+  -- ---- what E15 of a walk means, where no limit is set
+
+  -- it does not begin, and the disk failed
+  abbrev pub DoesNotBegin : {A : Type 0} → Store S → List ℕ → Result A StoreFault → Store S → Type 0
+  DoesNotBegin old list result last = IsNotBegun old list result last × Caused g old last result
+
+  -- the disk failed, or no message of the number can be read
+  abbrev pub StopsShowing : {A : Type 0} → Store S → Store S → ℤ → Result A StoreFault → Type 0
+  StopsShowing old new place result = HasReturned g new → HoldsTables g old → HasNoLimit g old
+      → IfErr result (λ fault. fault ≡ faults.Store → HasFailed g old new ⊎ (¬ IsSomeAnd (message_at (rows_of old) place) IsReadable))
+
+  -- the disk failed, or the next message cannot be read
+  abbrev pub StopsNext : {A : Type 0} → Walk S → Walk S → Result A StoreFault → Type 0
+  StopsNext old new result = HasReturned g new.store.now → (list : List ℕ) (all : List Remembered) (a : Archive) (given : List Remembered)
+      → WalksOver list all a given old → HasNoLimit g old.store.now
+      → IfErr result (λ fault. fault ≡ faults.Store → HasFailed g old.store.now new.store.now
+      ⊎ ((next : Remembered) × (rest : List Remembered) × (given ++ next ∷ rest ≡ all) × (¬ IsReadable next)))
+
+  -- the disk failed, or one of the messages cannot be read
+  abbrev pub StopsAll : {A : Type 0} → Walk S → Walk S → Result A StoreFault → Type 0
+  StopsAll old new result = HasReturned g new.store.now → (list : List ℕ) (all : List Remembered) (a : Archive) (given : List Remembered)
+      → WalksOver list all a given old → HasNoLimit g old.store.now
+      → IfErr result (λ fault. fault ≡ faults.Store → HasFailed g old.store.now new.store.now ⊎ (¬ All IsReadable all))

@@ -1,6 +1,9 @@
 -- What a call does to a database whose tables are as this crate leaves them, where the disk has returned what was written to it.
-use Rattle.std.specs.Prelude.{◌≡◌, ◌⊎◌, IsTrue, Option, Some, None, Result, IfOk, OnOk, OnErr, MatchResult}
+use Rattle.std.specs.Prelude.{◌≡◌, ◌⊎◌, ◌≤◌, IsTrue, Option, Some, None, Result, IfOk, IfErr, OnOk, OnErr, MatchResult}
+use Rattle.sqlite_disk.specs.Disk.{MoreFaults}
 use Rattle.sqlite.specs.declared.error.Error.{Error}
+use Rattle.sqlite.specs.declared.error.Error.TheVariants.{SqliteFailure}
+use Rattle.sqlite.specs.declared.error.ErrorCode.TheVariants.{OutOfMemory}
 use Rattle.sqlite.specs.Effect.{Database}
 use Rattle.sqlite.specs.Tree.{Trees}
 use Rattle.sqlite.specs.Store.{Ghosts}
@@ -41,6 +44,23 @@ Rests = RestsOver None
 abbrev pub RowsRest : Option Database → State → State → Type 0
 RowsRest None old new = IsTrue new.is_open → (new.now ≡ old.now) × IsHeld None new
 RowsRest (Some db) old new = IsTrue new.is_open → ((new.now ≡ old.now) × IsHeld (Some db) new) ⊎ IsBackAt db new
+
+-- What shuts a connection: nothing but a fault of the disk, and none is forgotten.
+pub record ShutsByFault (old new : State) : Type 0 where
+  pub faults : old.faults ≤ new.faults
+  pub stays_open : HasCleanDisk new → IsTrue old.is_open → IsTrue new.is_open ⊎ MoreFaults old.faults new.faults
+
+-- What a call does to a connection, whatever the tables are and whatever it answers: only a fault shuts it, one that is shut stays
+-- shut, a disk that has returned what was written so far had done so before, and the limit on the steps of a query stays.
+pub record Lasts (old new : State) : Type 0 where
+  pub returned : HasCleanDisk new → HasCleanDisk old
+  pub shut : ShutsByFault old new
+  pub stays_shut : HasCleanDisk new → IsTrue new.is_open → IsTrue old.is_open
+  pub limit : new.step_limit ≡ old.step_limit
+
+-- A fault has a cause: memory was wanted, or the disk failed or refused once more than before.
+abbrev pub IsCaused : State → State → Error → Type 0
+IsCaused old new e = (e ≡ SqliteFailure OutOfMemory) ⊎ MoreFaults old.faults new.faults
 
 module _ {S : Type 0} (g : Ghosts S) (old new : Held S) where
   -- a write that succeeds
@@ -91,3 +111,18 @@ module _ {S : Type 0} (g : Ghosts S) (old new : Held S) where
   -- a disk that has returned what was written so far had done so before
   abbrev pub WasClean : Type 0
   WasClean = HasCleanDisk (state g new) → HasCleanDisk (state g old)
+
+  -- a connection that is shut answers nothing
+  abbrev pub AnswersOpen : {A E : Type 0} → Result A E → Type 0
+  AnswersOpen result = HasCleanDisk (state g new) → OnOk result (IsTrue (state g old).is_open)
+
+  -- Where the connection has no limit on the steps of a query, a question fails for want of memory or by a fault of the disk, and
+  -- for nothing else.
+  abbrev pub FailsByFault : {A : Type 0} → Result A Error → Type 0
+  FailsByFault result =
+      HasCleanDisk (state g new) → IsKept (state g old) → (state g old).step_limit ≡ None → IfErr result (IsCaused (state g old) (state g new))
+
+  -- the same of a question that reads a row, or there is such a row, which cannot be read
+  abbrev pub FailsByFaultOr : {A : Type 0} → Result A Error → Type 0 → Type 0
+  FailsByFaultOr result Unread =
+      HasCleanDisk (state g new) → IsKept (state g old) → (state g old).step_limit ≡ None → IfErr result (λ e. IsCaused (state g old) (state g new) e ⊎ Unread)
