@@ -8,7 +8,9 @@ pub mod Headers
 pub mod Lines
 pub mod MsgIds
 pub mod Pieces
+pub mod Places
 pub mod Quotes
+pub mod Reading
 pub mod Sent
 pub mod TokenViews
 pub mod Tokens
