@@ -12,7 +12,7 @@ use mail_core::{Header as Fields, Memory, trimmed};
 use mbox_core::Item;
 use std::alloc::Global;
 use subject_core::base;
-use thread_core::{Entry, References};
+use thread_core::Entry;
 
 /// What these fields say about threads, in a message of this sent date and unfolded subject.
 pub(crate) fn entry_in(
@@ -34,7 +34,7 @@ pub(crate) fn entry_in(
     let base = base(alloc, subject)?;
     Ok(Entry {
         id,
-        refs: References::new(refs),
+        refs,
         sent,
         base: base.text,
         reply: base.reply,

@@ -7,7 +7,7 @@ use mbox_core::{Item, cut, device};
 use std::alloc::Global;
 use std::hash::RandomState;
 use subject_core::base;
-use thread_core::{Entry, NodeThreader, References, threads};
+use thread_core::{Entry, NodeThreader, threads};
 
 /// What a message says about threads.
 fn entry_of(alloc: Global, item: &Item<'_>) -> Result<Entry, Memory> {
@@ -15,7 +15,7 @@ fn entry_of(alloc: Global, item: &Item<'_>) -> Result<Entry, Memory> {
     let subject = base(alloc, &header.unfolded_subject(alloc)?)?;
     Ok(Entry {
         id: header.own_id(alloc)?,
-        refs: References::new(header.references(alloc)?),
+        refs: header.references(alloc)?,
         sent: header.sent(item.envelope.arrival),
         base: subject.text,
         reply: subject.reply,

@@ -10,6 +10,7 @@ pub mod LineLemmas
 pub mod MsgIdExamples
 pub mod MsgIdLemmas
 pub mod PieceLemmas
+pub mod PlaceLemmas
 pub mod QuoteLemmas
 pub mod ScanLemmas
 pub mod SentExamples

@@ -1,6 +1,5 @@
 -- The scan, piece by piece, over places of the text.
 use Rattle.std.proofs.Common.{◌≡◌, ◌≢◌, ℕ, zero, suc, ◌+◌, ◌-◌, ◌<◌, ◌≤◌, false, List, [], ◌∷◌, length, refl, arith, ap, ◌∙◌, sym, Option, Some, None, ◌++◌, take, drop, get_or, length-append, length-drop, drop-drop}
-use Rattle.std.specs.Option.{option_to_list}
 use Rattle.mail_core.specs.Comments.{closing_rest}
 use Rattle.mail_core.specs.Quotes.{after_quote}
 use Rattle.mail_core.specs.MsgIds.{Id, id_at}
@@ -110,25 +109,7 @@ ids-few zero (b ∷ bs) = go (next_piece b bs).0 (ids_from (length bs - length (
     go None ids h = omega (arith, h)
     go (Some id) ids h = let g : suc (length ids) ≤ suc (length bs) = omega (arith, h) in g
 
--- the last of one at most is the first
-pub popped : (ids items kept : List Id) (n : ℕ) (o : Option Id) → items ≡ take 1 ids → items ≡ kept ++ option_to_list o
-    → n ≡ length items → kept ≡ take (n - 1) items → o ≡ first_of ids
-popped [] items kept n o one split len left = go o (sym here ∙ split)
-  where
-    here : items ≡ []
-    here = one
-
-    go : (o : Option Id) → [] ≡ kept ++ option_to_list o → o ≡ None
-    go None e = refl
-    go (Some id) e = absurd (let bad : 0 ≡ length (kept ++ id ∷ []) = ap length e in omega (arith, bad, length-append kept (id ∷ [])))
-popped (i ∷ ids) items kept n o one split len left = go o (sym one ∙ split)
-  where
-    few : n - 1 ≡ 0
-    few = let e : length items ≡ 1 = ap length one in omega (arith, len, e)
-
-    none : kept ≡ []
-    none = left ∙ ap (λ (k : ℕ). take k items) few
-
-    go : (o : Option Id) → i ∷ [] ≡ kept ++ option_to_list o → o ≡ Some i
-    go None e = absurd (let bad : i ∷ [] ≡ [] = e ∙ ap (λ (l : List Id). l ++ []) none in cc)
-    go (Some id) e = let same : i ∷ [] ≡ id ∷ [] = e ∙ ap (λ (l : List Id). l ++ id ∷ []) none in let k : id ≡ i = cc in ap (λ (x : Id). Some x) k
+-- the one at 0 is the first
+pub first_some : (ids items : List Id) (copy id : Id) → items ≡ take 1 ids → length items ≢ 0 → ((other : Id) → id ≡ get_or items 0 other) → copy ≡ id → Some copy ≡ first_of ids
+first_some [] items copy id one len is same = absurd (len (ap length one))
+first_some (first ∷ ids) items copy id one len is same = λ i. Some ((same ∙ is id ∙ ap (λ (l : List Id). get_or l 0 id) one) i)

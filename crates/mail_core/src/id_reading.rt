@@ -1,18 +1,25 @@
 //! The msg-id at a place of a text (RFC 5322 section 3.6.4).
-ghost use Rattle.std.specs.Prelude.{◌≡◌, ◌+◌, ◌<◌, ◌≤◌, length, IfOk, IfSome, IfNone, Some, None, drop, slice_index};
+ghost use Rattle.std.specs.Prelude.{◌≡◌, ◌<◌, ◌≤◌, length, IfOk, IfSome, IfNone, None, drop, slice_index};
 ghost use Rattle.mail_core.specs.MsgIds.{id_at, quoted_id, plain_id};
+ghost use Rattle.mail_core.specs.Reading.{IsTaken};
 
 use crate::id_sides::{divide, right_end};
-use crate::msg_id::MsgId;
+use crate::msg_id_ref::MsgIdRef;
 use crate::quotes::{quote_end, unquote};
+use crate::references::References;
 use civil_time::Memory;
-use std::alloc::Global;
 
-/// The msg-id whose quoted left side begins here, behind `<"`, and the place behind it.
-fn read_quoted_id(alloc: Global, text: &[u8], from: usize) -> Result<Option<(MsgId, usize)>, Memory>
+/// Puts the msg-id whose quoted left side begins here, behind `<"`, behind those that were found; the answer is the
+/// place behind it. Another left side may stand in `side` before, and this one after.
+fn push_quoted_id(
+    found: &mut References,
+    side: &mut Vec<u8>,
+    text: &[u8],
+    from: usize,
+) -> Result<Option<usize>, Memory>
     requires { from ≤ length text.now }
-    ensures found { IfOk result (λ read. IfSome read (λ found. (from < found.1) × (found.1 ≤ length text.now) × (quoted_id (drop from text.now) ≡ Some (found.0, drop found.1 text.now)))) }
-    ensures none { IfOk result (λ read. IfNone read (quoted_id (drop from text.now) ≡ None)) }
+    ensures found { IfOk result (λ read. IfSome read (λ end. IsTaken found.old found.new (quoted_id (drop from text.now)) text.now from end)) }
+    ensures none { IfOk result (λ read. IfNone read ((quoted_id (drop from text.now) ≡ None) × (found.new ≡ found.old))) }
 {
     let Some(end) = quote_end(text, from) else {
         return Ok(None);
@@ -26,16 +33,16 @@ fn read_quoted_id(alloc: Global, text: &[u8], from: usize) -> Result<Option<(Msg
     let Some(close) = right_end(text, end + 1) else {
         return Ok(None);
     };
-    let left = unquote(alloc, &text[from..end - 1])?;
-    let right = Vec::from_slice(alloc, &text[end + 1..close])?;
-    Ok(Some((MsgId::new(left, right), close + 1)))
+    unquote(side, &text[from..end - 1])?;
+    found.push(&MsgIdRef::new(side.as_slice(), &text[end + 1..close]))?;
+    Ok(Some(close + 1))
 }
 
-/// The msg-id without quotes whose left side begins here, behind `<`, and the place behind it.
-fn read_plain_id(alloc: Global, text: &[u8], from: usize) -> Result<Option<(MsgId, usize)>, Memory>
+/// The same for the msg-id without quotes whose left side begins here, behind `<`.
+fn push_plain_id(found: &mut References, text: &[u8], from: usize) -> Result<Option<usize>, Memory>
     requires { from ≤ length text.now }
-    ensures found { IfOk result (λ read. IfSome read (λ found. (from < found.1) × (found.1 ≤ length text.now) × (plain_id (drop from text.now) ≡ Some (found.0, drop found.1 text.now)))) }
-    ensures none { IfOk result (λ read. IfNone read (plain_id (drop from text.now) ≡ None)) }
+    ensures found { IfOk result (λ read. IfSome read (λ end. IsTaken found.old found.new (plain_id (drop from text.now)) text.now from end)) }
+    ensures none { IfOk result (λ read. IfNone read ((plain_id (drop from text.now) ≡ None) × (found.new ≡ found.old))) }
 {
     let Some((at, close)) = divide(text, from) else {
         return Ok(None);
@@ -43,28 +50,28 @@ fn read_plain_id(alloc: Global, text: &[u8], from: usize) -> Result<Option<(MsgI
     if at == from {
         return Ok(None);
     }
-    let left = Vec::from_slice(alloc, &text[from..at])?;
-    let right = Vec::from_slice(alloc, &text[at + 1..close])?;
-    Ok(Some((MsgId::new(left, right), close + 1)))
+    found.push(&MsgIdRef::new(&text[from..at], &text[at + 1..close]))?;
+    Ok(Some(close + 1))
 }
 
-/// The msg-id that begins at a place of a text, and the place behind it.
-pub(crate) fn read_id(
-    alloc: Global,
+/// The same for the msg-id that begins at a place of a text.
+pub(crate) fn push_id(
+    found: &mut References,
+    side: &mut Vec<u8>,
     text: &[u8],
     from: usize,
-) -> Result<Option<(MsgId, usize)>, Memory>
+) -> Result<Option<usize>, Memory>
     requires at { from < length text.now }
     requires opens { slice_index text.now from ≡ 60 }
-    ensures found { IfOk result (λ read. IfSome read (λ found. (from < found.1) × (found.1 ≤ length text.now) × (id_at (drop from text.now) ≡ Some (found.0, drop found.1 text.now)))) }
-    ensures none { IfOk result (λ read. IfNone read (id_at (drop from text.now) ≡ None)) }
+    ensures found { IfOk result (λ read. IfSome read (λ end. IsTaken found.old found.new (id_at (drop from text.now)) text.now from end)) }
+    ensures none { IfOk result (λ read. IfNone read ((id_at (drop from text.now) ≡ None) × (found.new ≡ found.old))) }
 {
     if text.len() - from < 2 {
         return Ok(None);
     }
     if text[from + 1] == b'"' {
-        read_quoted_id(alloc, text, from + 2)
+        push_quoted_id(found, side, text, from + 2)
     } else {
-        read_plain_id(alloc, text, from + 1)
+        push_plain_id(found, text, from + 1)
     }
 }

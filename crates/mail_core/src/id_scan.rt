@@ -4,17 +4,19 @@ ghost use Rattle.mail_core.specs.MsgIds.{ids_of};
 ghost use Rattle.mail_core.specs.Headers.{first_of};
 
 use crate::comments::Comments;
-use crate::id_reading::read_id;
+use crate::id_reading::push_id;
 use crate::msg_id::MsgId;
 use crate::quotes::quote_end;
+use crate::references::References;
 use civil_time::Memory;
 use std::alloc::Global;
 
 /// The first msg-ids of an unfolded text, so many at most.
-fn scan(alloc: Global, text: &[u8], most: usize) -> Result<Vec<MsgId>, Memory>
-    ensures { IfOk result (λ found. found.items ≡ take most (ids_of text.now)) }
+fn scan(alloc: Global, text: &[u8], most: usize) -> Result<References, Memory>
+    ensures { IfOk result (λ found. found ≡ take most (ids_of text.now)) }
 {
-    let mut found = Vec::new(alloc);
+    let mut found = References::new(alloc);
+    let mut side = Vec::new(alloc);
     let mut comments = Comments::of(alloc, text);
     let mut quotes_end = true;
     let mut at = 0;
@@ -34,11 +36,8 @@ fn scan(alloc: Global, text: &[u8], most: usize) -> Result<Vec<MsgId>, Memory>
                 }
             }
         } else if byte == b'<' {
-            match read_id(alloc, text, at)? {
-                Some((id, end)) => {
-                    found.push(id)?;
-                    at = end;
-                }
+            match push_id(&mut found, &mut side, text, at)? {
+                Some(end) => at = end,
                 None => at += 1,
             }
         } else {
@@ -50,8 +49,8 @@ fn scan(alloc: Global, text: &[u8], most: usize) -> Result<Vec<MsgId>, Memory>
 
 /// The msg-ids of an unfolded text, in order: what stands in comments and in quoted strings is passed over.
 /// `Memory` where no memory is left.
-pub fn ids(alloc: Global, text: &[u8]) -> Result<Vec<MsgId>, Memory>
-    ensures { IfOk result (λ found. found.items ≡ ids_of text.now) }
+pub fn ids(alloc: Global, text: &[u8]) -> Result<References, Memory>
+    ensures { IfOk result (λ found. found ≡ ids_of text.now) }
 {
     scan(alloc, text, text.len())
 }
@@ -61,5 +60,9 @@ pub fn ids(alloc: Global, text: &[u8]) -> Result<Vec<MsgId>, Memory>
 pub fn first_id(alloc: Global, text: &[u8]) -> Result<Option<MsgId>, Memory>
     ensures { IfOk result (λ found. found ≡ first_of (ids_of text.now)) }
 {
-    Ok(scan(alloc, text, 1)?.pop())
+    let found = scan(alloc, text, 1)?;
+    if found.is_empty() {
+        return Ok(None);
+    }
+    Ok(Some(found.get(0).try_owned(alloc)?))
 }

@@ -11,6 +11,7 @@ use crate::field_reading::{Field, next_field};
 use crate::header::is_named;
 use crate::id_scan::{first_id, ids};
 use crate::msg_id::MsgId;
+use crate::references::References;
 use crate::sent_date::sent;
 use crate::unfolding::unfold;
 use civil_time::{Instant, Memory};
@@ -107,13 +108,13 @@ impl<'a> Header<'a> {
 
     /// The identities that the message refers to: all of its References field; where that has none, the first of its
     /// In-Reply-To field alone (RFC 5256 section 3). `Memory` where no memory is left.
-    pub fn references(&self, alloc: Global) -> Result<Vec<MsgId>, Memory>
-        ensures { IfOk result (λ ids. ids.items ≡ references_in self.now) }
+    pub fn references(&self, alloc: Global) -> Result<References, Memory>
+        ensures { IfOk result (λ references. references ≡ references_in self.now) }
     {
         let mut references = ids_in(alloc, self.references)?;
         if references.is_empty() {
             if let Some(id) = first_id_in(alloc, self.in_reply_to)? {
-                references.push(id)?;
+                references.push(&id.borrowed())?;
             }
         }
         Ok(references)
@@ -157,8 +158,8 @@ fn unfold_field(alloc: Global, body: Option<&[u8]>) -> Result<Vec<u8>, Memory>
 }
 
 /// The identities in a field.
-fn ids_in(alloc: Global, body: Option<&[u8]>) -> Result<Vec<MsgId>, Memory>
-    ensures { IfOk result (λ found. found.items ≡ ids_in_field (option_copied body.entry)) }
+fn ids_in(alloc: Global, body: Option<&[u8]>) -> Result<References, Memory>
+    ensures { IfOk result (λ found. found ≡ ids_in_field (option_copied body.entry)) }
 {
     let text = unfold_field(alloc, body)?;
     ids(alloc, text.as_slice())

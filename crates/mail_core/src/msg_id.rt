@@ -1,6 +1,7 @@
 //! The identity of a message.
 ghost use Rattle.std.specs.Prelude.{◌≡◌, IfOk};
 
+use crate::msg_id_ref::MsgIdRef;
 use crate::octet_string::Octets;
 use civil_time::Memory;
 use std::alloc::Global;
@@ -47,6 +48,13 @@ impl MsgId {
         ensures { result.now ≡ self.now.right }
     {
         self.right.as_slice()
+    }
+
+    /// The same identity in the bytes of this one, which takes no memory.
+    pub fn borrowed(&self) -> MsgIdRef<'_>
+        ensures { result ≡ self.now }
+    {
+        MsgIdRef::new(self.left(), self.right())
     }
 
     /// The same identity once more. `Memory` where no memory is left.

@@ -1,9 +1,8 @@
 //! Quoted strings (RFC 5322 section 3.2.4).
-ghost use Rattle.std.specs.Prelude.{◌≡◌, ◌<◌, ◌≤◌, length, IfOk, MatchOption, Some, None, false, drop};
+ghost use Rattle.std.specs.Prelude.{◌≡◌, ◌<◌, ◌≤◌, length, OnOk, MatchOption, Some, None, false, drop};
 ghost use Rattle.mail_core.specs.Quotes.{after_quote, unquoted};
 
 use civil_time::Memory;
-use std::alloc::Global;
 
 /// The place behind the quote that ends the quoted string whose text begins here.
 pub(crate) fn quote_end(text: &[u8], from: usize) -> Option<usize>
@@ -26,11 +25,11 @@ pub(crate) fn quote_end(text: &[u8], from: usize) -> Option<usize>
     None
 }
 
-/// The text between quotes without the backslashes that quote.
-pub(crate) fn unquote(alloc: Global, inside: &[u8]) -> Result<Vec<u8>, Memory>
-    ensures { IfOk result (λ value. value.items ≡ unquoted false inside.now) }
+/// Writes the text between quotes without the backslashes that quote, in place of what was there.
+pub(crate) fn unquote(value: &mut Vec<u8>, inside: &[u8]) -> Result<(), Memory>
+    ensures { OnOk result (value.new.items ≡ unquoted false inside.now) }
 {
-    let mut value = Vec::new(alloc);
+    value.clear();
     let mut quoted = false;
     for byte in inside {
         if quoted {
@@ -44,5 +43,5 @@ pub(crate) fn unquote(alloc: Global, inside: &[u8]) -> Result<Vec<u8>, Memory>
         }
         value.push(*byte)?;
     }
-    Ok(value)
+    Ok(())
 }

@@ -1,6 +1,6 @@
 //! Message identifiers of known texts.
 use crate::long::repeated;
-use mail_core::{MsgId, Octets, first_id, ids, unfold};
+use mail_core::{MsgId, Octets, References, first_id, ids, unfold};
 use std::alloc::{AllocError, Global};
 use std::hash::{DefaultHasher, Hash, Hasher};
 use std::process::Abort;
@@ -13,10 +13,14 @@ fn id(alloc: Global, left: &[u8], right: &[u8]) -> Result<MsgId, AllocError> {
 }
 
 /// Asserts that these are the ids with these left and right sides, in their order.
-pub fn assert_ids(rt: &impl Abort, found: &[MsgId], wanted: &[(&[u8], &[u8])]) {
+pub fn assert_ids(rt: &impl Abort, found: &References, wanted: &[(&[u8], &[u8])]) {
     assert_eq!(rt; found.len(), wanted.len());
-    for (id, (left, right)) in found.iter().zip(wanted) {
-        assert_eq!(rt; (id.left(), id.right()), (*left, *right));
+    assert_eq!(rt; found.is_empty(), wanted.is_empty());
+    for (at, (left, right)) in wanted.iter().enumerate() {
+        if at < found.len() {
+            let id = found.get(at);
+            assert_eq!(rt; (id.left(), id.right()), (*left, *right));
+        }
     }
 }
 
@@ -113,7 +117,7 @@ fn ids_of_long_texts_take_linear_time(rt: HostRuntime) -> Result<(), Fail> {
     Ok(())
 }
 
-fn hash_of(id: &MsgId) -> u64 {
+fn hash_of<T: Hash>(id: &T) -> u64 {
     let mut hasher = DefaultHasher::new();
     id.hash(&mut hasher);
     hasher.finish()
@@ -129,6 +133,9 @@ static SIDES: [(&[u8], &[u8], bool); 3] = [
 fn assert_equal(rt: &impl Abort, first: &MsgId, second: &MsgId, is_equal: bool) {
     assert_eq!(rt; *first == *second, is_equal);
     assert!(rt; !is_equal || hash_of(first) == hash_of(second));
+    let (first, second) = (first.borrowed(), second.borrowed());
+    assert_eq!(rt; first == second, is_equal);
+    assert!(rt; !is_equal || hash_of(&first) == hash_of(&second));
 }
 
 fn assert_sides(

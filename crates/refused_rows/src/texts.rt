@@ -53,15 +53,14 @@ pub fn sift_row(rt: &HostRuntime) -> anyhow::Result<()> {
 
 fn two_ids(alloc: Global) -> Result<bool, Memory> {
     let found = ids(alloc, b" (see <x@y>) <\"a\"@b> <c@d>")?;
-    match found.as_slice() {
-        [one, two] => {
-            Ok(
-                (one.left(), one.right()) == (b"a".as_slice(), b"b".as_slice())
-                    && (two.left(), two.right()) == (b"c".as_slice(), b"d".as_slice()),
-            )
-        }
-        _ => Ok(false),
+    if found.len() != 2 {
+        return Ok(false);
     }
+    let (one, two) = (found.get(0), found.get(1));
+    Ok(
+        (one.left(), one.right()) == (b"a".as_slice(), b"b".as_slice())
+            && (two.left(), two.right()) == (b"c".as_slice(), b"d".as_slice()),
+    )
 }
 
 /// The identifiers of a field, twice (RFC 5322, 3.6.4).
@@ -114,10 +113,10 @@ fn msg_id(alloc: Global, letter: u8) -> Result<MsgId, AllocError> {
     ))
 }
 
-fn entry(alloc: Global, id: Option<u8>, refs: &[u8], sent: Instant) -> Result<Entry, AllocError> {
-    let mut all = Vec::new(alloc);
+fn entry(alloc: Global, id: Option<u8>, refs: &[u8], sent: Instant) -> Result<Entry, Memory> {
+    let mut all = References::new(alloc);
     for letter in refs {
-        all.push(msg_id(alloc, *letter)?)?;
+        all.push(&msg_id(alloc, *letter)?.borrowed())?;
     }
     let id = match id {
         Some(letter) => Some(msg_id(alloc, letter)?),
@@ -125,7 +124,7 @@ fn entry(alloc: Global, id: Option<u8>, refs: &[u8], sent: Instant) -> Result<En
     };
     Ok(Entry {
         id,
-        refs: References::new(all),
+        refs: all,
         sent,
         base: Octets::new(Vec::new(alloc)),
         reply: false,

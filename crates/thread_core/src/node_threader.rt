@@ -74,6 +74,7 @@ impl Threader for NodeThreader {
         ensures few { steps.new ≤ steps.old + links.count }
     {
         let parents = read_parents(alloc, &links, steps)?;
+        drop(links);
         table_rows(alloc, entries, merge, parents, Some(self.state))
     }
 }

@@ -1,5 +1,5 @@
 -- Ids are numbered in one pass.
-use Rattle.std.proofs.Common.{◌≡◌, ℕ, suc, ◌+◌, ◌<◌, Bool, true, false, not, cond, ◌&&◌, ◌||◌, ◌⊎◌, inl, inr, List, [], ◌∷◌, ◌++◌, length, take, get_or, filter, is_none, Option, Some, None, refl, sym, ◌∙◌, ap, subst, arith, add-one, append_assoc, length-append}
+use Rattle.std.proofs.Common.{◌≡◌, ℕ, suc, ◌+◌, ◌<◌, ◌≤◌, Bool, true, false, not, cond, ◌&&◌, ◌||◌, ◌⊎◌, inl, inr, List, [], ◌∷◌, ◌++◌, length, take, take_all, get_or, filter, is_none, Option, Some, None, refl, sym, ◌∙◌, ap, subst, arith, add-one, append_assoc, length-append}
 use Rattle.std.specs.List.{list_any}
 use Rattle.std.specs.Option.{option_map_or}
 use Rattle.std.proofs.lemmas.List.{append-nil, take_more}
@@ -286,3 +286,15 @@ pub entry_noted : (entries : List Entry) (i : ℕ) (d : Entry) (refs : List Id) 
 entry_noted entries i d refs count get h is =
     subst (λ (rs : List Id). AreNoted entries rs count get)
     (ap (λ (rs : List Id). mentioned (take i entries) ++ rs) (is ∙ sym (append-nil (get_or entries i d).refs)) ∙ sym (flat_map-append (λ (entry : Entry). entry.refs) (take i entries) (get_or entries i d ∷ [])) ∙ ap mentioned (sym (take_more entries i d h)))
+
+-- one of some ids more
+pub noted_at : (entries : List Entry) (refs ids : List Id) (at : ℕ) (id : Id) (count : ℕ) (get : Id → Option ℕ) → at < length ids → ((other : Id) → id ≡ get_or ids at other)
+    → AreNoted entries ((refs ++ take at ids) ++ id ∷ []) count get → AreNoted entries (refs ++ take (at + 1) ids) count get
+noted_at entries refs ids at id count get lt is noted =
+    subst (λ (all : List Id). AreNoted entries all count get)
+    (append_assoc refs (take at ids) (id ∷ []) ∙ ap (λ (some : List Id). refs ++ some) ((λ i. take at ids ++ is id i ∷ []) ∙ sym (take_more ids at id lt))) noted
+
+-- all of them
+pub noted_all : (entries : List Entry) (refs ids : List Id) (at : ℕ) (count : ℕ) (get : Id → Option ℕ) → length ids ≤ at
+    → AreNoted entries (refs ++ take at ids) count get → AreNoted entries (refs ++ ids) count get
+noted_all entries refs ids at count get past noted = subst (λ (all : List Id). AreNoted entries (refs ++ all) count get) (take_all at ids past) noted

@@ -1,4 +1,4 @@
-//! The numbers of ids, by a hash map.
+//! The numbers of ids, by a hash map whose keys stand in the messages.
 
 ghost use Rattle.std.specs.HashMap.{get_by};
 ghost use Rattle.std.specs.Prelude.{◌≡◌, ◌&&◌, ◌<◌, ◌∷◌, ◌++◌, [], List, Some, if◌then◌else◌, is_none, length, map, IfOk, OnOk};
@@ -9,43 +9,41 @@ ghost use Rattle.thread_links.specs.Ids.{place_of, AreNoted};
 ghost use Rattle.thread_links.specs.Parts.{AreNumbered};
 
 use crate::entry::Entry;
-use mail_core::{Memory, MsgId};
+use mail_core::{Memory, MsgIdRef, References};
 use std::alloc::Global;
 use std::collections::HashMap;
 use std::hash::RandomState;
 
 /// The number of each id, and how many containers there are.
 #[derive(Drop)]
-pub struct Ids {
-    numbers: HashMap<MsgId, usize, RandomState>,
+pub struct Ids<'a> {
+    numbers: HashMap<MsgIdRef<'a>, usize, RandomState>,
     count: usize,
 }
 
 /// Gives an id a number unless it has one. The answer says whether it had none.
-fn add(
-    alloc: Global,
-    numbers: &mut HashMap<MsgId, usize, RandomState>,
-    id: &MsgId,
+fn add<'a>(
+    numbers: &mut HashMap<MsgIdRef<'a>, usize, RandomState>,
+    id: MsgIdRef<'a>,
     number: usize,
 ) -> Result<bool, Memory>
-    ensures added { IfOk result (λ added. added ≡ is_none (get_by (same_id id.now) numbers.old)) }
+    ensures added { IfOk result (λ added. added ≡ is_none (get_by (same_id id.entry) numbers.old)) }
     ensures numbers { OnOk result ((other : Id)
         → get_by (same_id other) numbers.new
-        ≡ (if is_none (get_by (same_id id.now) numbers.old) && same_id id.now other
+        ≡ (if is_none (get_by (same_id id.entry) numbers.old) && same_id id.entry other
         then Some number else get_by (same_id other) numbers.old)) }
 {
-    if numbers.contains_key(id) {
+    if numbers.contains_key(&id) {
         return Ok(false);
     }
-    numbers.insert(id.try_copy(alloc)?, number)?;
+    numbers.insert(id, number)?;
     Ok(true)
 }
 
 /// Gives the id of a message its place, unless a message before it has that id.
-fn add_message(
-    alloc: Global,
-    numbers: &mut HashMap<MsgId, usize, RandomState>,
-    entry: &Entry,
+fn add_message<'a>(
+    numbers: &mut HashMap<MsgIdRef<'a>, usize, RandomState>,
+    entry: &'a Entry,
     place: usize,
 ) -> Result<(), Memory>
     ensures { (before : List Entry) → length before ≡ place
@@ -56,38 +54,38 @@ fn add_message(
     match &entry.id {
         None => Ok(()),
         Some(id) => {
-            add(alloc, numbers, id, place)?;
+            add(numbers, id.borrowed(), place)?;
             Ok(())
         }
     }
 }
 
 /// The ids of messages, each with the place of the first message that has it.
-fn number_messages(
+fn number_messages<'a>(
     alloc: Global,
     state: RandomState,
-    entries: &[Entry],
-) -> Result<HashMap<MsgId, usize, RandomState>, Memory>
-    ensures { IfOk result (λ numbers. (id : Id) → get_by (same_id id) numbers ≡ place_of (owner entries.now id)) }
+    entries: &'a [Entry],
+) -> Result<HashMap<MsgIdRef<'a>, usize, RandomState>, Memory>
+    ensures { IfOk result (λ numbers. (id : Id) → get_by (same_id id) numbers ≡ place_of (owner entries.entry.now id)) }
 {
     let mut numbers = HashMap::with_hasher(alloc, state);
     for place in 0..entries.len() {
-        add_message(alloc, &mut numbers, &entries[place], place)?;
+        add_message(&mut numbers, &entries[place], place)?;
     }
     Ok(numbers)
 }
 
-impl Ids {
+impl<'a> Ids<'a> {
     /// Gives an id the next number unless it has one. More numbers than there are take more memory
     /// than there is.
-    fn note(&mut self, alloc: Global, id: &MsgId) -> Result<(), Memory>
+    fn note(&mut self, id: MsgIdRef<'a>) -> Result<(), Memory>
         ensures { (entries : List Entry) (refs : List Id)
             → AreNoted entries refs self.old.count (λ other. get_by (same_id other) self.old.numbers)
-            → OnOk result (AreNoted entries (refs ++ id.now ∷ []) self.new.count
+            → OnOk result (AreNoted entries (refs ++ id.entry ∷ []) self.new.count
             (λ other. get_by (same_id other) self.new.numbers)) }
     {
         let next = self.count.checked_add(1).ok_or(Memory)?;
-        let added = add(alloc, &mut self.numbers, id, self.count)?;
+        let added = add(&mut self.numbers, id, self.count)?;
         if added {
             self.count = next;
         }
@@ -95,21 +93,21 @@ impl Ids {
     }
 
     /// The same for each of some ids in turn.
-    fn note_all(&mut self, alloc: Global, ids: &[MsgId]) -> Result<(), Memory>
+    fn note_all(&mut self, ids: &'a References) -> Result<(), Memory>
         ensures { (entries : List Entry) (refs : List Id)
             → AreNoted entries refs self.old.count (λ other. get_by (same_id other) self.old.numbers)
-            → OnOk result (AreNoted entries (refs ++ ids.now) self.new.count
+            → OnOk result (AreNoted entries (refs ++ ids.entry.now) self.new.count
             (λ other. get_by (same_id other) self.new.numbers)) }
     {
-        for id in ids {
-            self.note(alloc, id)?;
+        for at in 0..ids.len() {
+            self.note(ids.get(at))?;
         }
         Ok(())
     }
 
     /// The numbers of the ids of messages and of their references.
-    pub fn new(alloc: Global, state: RandomState, entries: &[Entry]) -> Result<Ids, Memory>
-        ensures { IfOk result (λ ids. AreNoted entries.now (mentioned entries.now) ids.count
+    pub fn new(alloc: Global, state: RandomState, entries: &'a [Entry]) -> Result<Ids<'a>, Memory>
+        ensures { IfOk result (λ ids. AreNoted entries.entry.now (mentioned entries.entry.now) ids.count
             (λ other. get_by (same_id other) ids.numbers)) }
     {
         let mut ids = Ids {
@@ -117,7 +115,7 @@ impl Ids {
             count: entries.len(),
         };
         for entry in entries {
-            ids.note_all(alloc, entry.refs.as_slice())?;
+            ids.note_all(&entry.refs)?;
         }
         Ok(ids)
     }
@@ -130,7 +128,7 @@ impl Ids {
     }
 
     /// The number of an id that has one, else 0.
-    fn number(&self, id: &MsgId) -> usize
+    fn number(&self, id: &MsgIdRef<'a>) -> usize
         ensures { (entries : List Entry) → AreNoted entries (mentioned entries) self.now.count
             (λ other. get_by (same_id other) self.now.numbers)
             → number_of_id entries id.now < count_of entries → result ≡ number_of_id entries id.now }
@@ -142,14 +140,14 @@ impl Ids {
     }
 
     /// The numbers of references.
-    pub fn numbers(&self, alloc: Global, refs: &[MsgId]) -> Result<Vec<usize>, Memory>
+    pub fn numbers(&self, alloc: Global, refs: &'a References) -> Result<Vec<usize>, Memory>
         ensures { (entries : List Entry) → AreNoted entries (mentioned entries) self.now.count
-            (λ other. get_by (same_id other) self.now.numbers) → AreNumbered entries refs.now
-            → IfOk result (λ v. v.items ≡ map (number_of_id entries) refs.now) }
+            (λ other. get_by (same_id other) self.now.numbers) → AreNumbered entries refs.entry.now
+            → IfOk result (λ v. v.items ≡ map (number_of_id entries) refs.entry.now) }
     {
         let mut numbers = Vec::new(alloc);
-        for id in refs {
-            numbers.push(self.number(id))?;
+        for at in 0..refs.len() {
+            numbers.push(self.number(&refs.get(at)))?;
         }
         Ok(numbers)
     }

@@ -2,8 +2,9 @@
 //! step 1.
 #![tactic(auto)]
 
-pub use entry::{Entry, References};
+pub use entry::Entry;
 pub use joining::join_plain;
+pub use mail_core::References;
 pub use node_joining::join_nodes;
 pub use pairs::Pairs;
 pub use steps::Steps;

@@ -6,18 +6,18 @@ ghost use Rattle.thread_links.specs.Containers.{same_id, has_id, owner, real, du
 ghost use Rattle.thread_links.specs.Parts.{distinct_onto};
 
 use crate::entry::Entry;
-use mail_core::{Memory, MsgId};
+use mail_core::{Memory, MsgId, MsgIdRef, References};
 use std::alloc::Global;
 
 /// Whether two ids are the same, compared with case.
-fn is_same(id: &MsgId, other: &MsgId) -> bool
+fn is_same(id: &MsgIdRef<'_>, other: &MsgId) -> bool
     ensures { result ≡ same_id id.now other.now }
 {
     id.left() == other.left() && id.right() == other.right()
 }
 
 /// Whether a message has the id.
-fn is_of(entry: &Entry, id: &MsgId) -> bool
+fn is_of(entry: &Entry, id: &MsgIdRef<'_>) -> bool
     ensures { result ≡ has_id entry.now id.now }
 {
     match &entry.id {
@@ -28,7 +28,7 @@ fn is_of(entry: &Entry, id: &MsgId) -> bool
 
 /// The place of the first message that has the id.
 #[tactic(auto, using(crate::proofs::NumberLemmas::owner_more, crate::proofs::NumberLemmas::owner_end))]
-pub fn find_owner(entries: &[Entry], id: &MsgId) -> Option<usize>
+pub fn find_owner(entries: &[Entry], id: &MsgIdRef<'_>) -> Option<usize>
     ensures value { owner entries.now id.now ≡ option_map_or real result (dummy id.now) }
     ensures below { IfSome result (λ place. place < length entries.now) }
 {
@@ -45,14 +45,14 @@ pub fn find_owner(entries: &[Entry], id: &MsgId) -> Option<usize>
 fn is_unowned(entries: &[Entry], id: &MsgId) -> bool
     ensures { result ≡ is_dummy (owner entries.now id.now) }
 {
-    find_owner(entries, id).is_none()
+    find_owner(entries, &id.borrowed()).is_none()
 }
 
 /// Puts an id before the others, and drops it there.
-fn put_first(alloc: Global, ids: &mut Vec<MsgId>, id: &MsgId) -> Result<(), Memory>
+fn put_first(alloc: Global, ids: &mut Vec<MsgId>, id: &MsgIdRef<'_>) -> Result<(), Memory>
     ensures { OnOk result (ids.new.items ≡ id.now ∷ filter (λ other. not (same_id id.now other)) ids.old.items) }
 {
-    let first = id.try_copy(alloc)?;
+    let first = id.try_owned(alloc)?;
     ids.retain(|other| !is_same(id, other));
     ids.insert(0, first)?;
     Ok(())
@@ -60,7 +60,7 @@ fn put_first(alloc: Global, ids: &mut Vec<MsgId>, id: &MsgId) -> Result<(), Memo
 
 /// The place of an id in a list, or its length.
 #[tactic(auto, using(crate::proofs::NumberLemmas::index_more, crate::proofs::NumberLemmas::index_end))]
-fn find_index(ids: &[MsgId], id: &MsgId) -> usize
+fn find_index(ids: &[MsgId], id: &MsgIdRef<'_>) -> usize
     ensures value { result ≡ index_of ids.now id.now }
     ensures within { result ≤ length ids.now }
 {
@@ -74,7 +74,7 @@ fn find_index(ids: &[MsgId], id: &MsgId) -> usize
 }
 
 /// The number of the container of an id.
-pub fn find_number(entries: &[Entry], unowned: &[MsgId], id: &MsgId) -> usize
+pub fn find_number(entries: &[Entry], unowned: &[MsgId], id: &MsgIdRef<'_>) -> usize
     requires { unowned.now ≡ dummies entries.now }
     ensures { result ≡ number_of_id entries.now id.now }
 {
@@ -86,14 +86,13 @@ pub fn find_number(entries: &[Entry], unowned: &[MsgId], id: &MsgId) -> usize
 
 /// Puts ids before others, each once.
 #[tactic(auto, using(crate::proofs::NumberLemmas::onto_more))]
-fn put_all_first(alloc: Global, ids: &mut Vec<MsgId>, refs: &[MsgId]) -> Result<(), Memory>
+fn put_all_first(alloc: Global, ids: &mut Vec<MsgId>, refs: &References) -> Result<(), Memory>
     ensures { OnOk result (ids.new.items ≡ distinct_onto refs.now ids.old.items) }
 {
     let mut left = refs.len();
     while left > 0 {
         left -= 1;
-        let id = &refs[left];
-        put_first(alloc, ids, id)?;
+        put_first(alloc, ids, &refs.get(left))?;
     }
     Ok(())
 }
@@ -108,7 +107,7 @@ pub fn find_dummies(alloc: Global, entries: &[Entry]) -> Result<Vec<MsgId>, Memo
     while left > 0 {
         left -= 1;
         let entry = &entries[left];
-        put_all_first(alloc, &mut ids, entry.refs.as_slice())?;
+        put_all_first(alloc, &mut ids, &entry.refs)?;
     }
     ids.retain(|id| is_unowned(entries, id));
     Ok(ids)

@@ -7,7 +7,7 @@
 #![tactic(auto)]
 
 use anyhow::bail;
-use mail_core::{MsgId, first, ids, sent, unfold};
+use mail_core::{Header, Memory, MsgIdRef};
 use mbox_core::device::{Counted, read_all};
 use mbox_core::{Item, cut};
 use std::alloc::Global;
@@ -15,53 +15,26 @@ use std::env;
 use std::hash::RandomState;
 use std::time::Instant;
 use subject_core::base;
-use thread_core::{Entry, NodeThreader, References, Row, threads};
+use thread_core::{Entry, NodeThreader, Row, threads};
 
-/// The unfolded body of the first header field of this name, empty where there is none.
-fn field(alloc: Global, text: &[u8], name: &[u8]) -> anyhow::Result<Vec<u8>> {
-    let body = first(text, name).unwrap_or(b"");
-    let Ok(whole) = unfold(alloc, body) else {
-        bail!("no memory");
-    };
-    Ok(whole)
-}
-
-/// The ids in the first header field of this name.
-fn field_ids(alloc: Global, text: &[u8], name: &[u8]) -> anyhow::Result<Vec<MsgId>> {
-    let body = field(alloc, text, name)?;
-    let Ok(all) = ids(alloc, &body) else {
-        bail!("no memory");
-    };
-    Ok(all)
-}
-
-/// The ids of References, or the first of In-Reply-To where there are none.
-fn references(alloc: Global, text: &[u8]) -> anyhow::Result<References> {
-    let mut refs = field_ids(alloc, text, b"references")?;
-    if refs.is_empty() {
-        refs = field_ids(alloc, text, b"in-reply-to")?;
-        refs.truncate(1);
-    }
-    Ok(References::new(refs))
-}
-
-fn entry(alloc: Global, item: &Item<'_>) -> anyhow::Result<Entry> {
-    let subject = field(alloc, item.text, b"subject")?;
-    let Ok(subject) = base(alloc, &subject) else {
-        bail!("no memory");
-    };
-    let mut own = field_ids(alloc, item.text, b"message-id")?;
-    own.truncate(1);
+/// What a message says about threads.
+fn entry_of(alloc: Global, item: &Item<'_>) -> Result<Entry, Memory> {
+    let header = Header::of(item.text);
+    let subject = base(alloc, &header.unfolded_subject(alloc)?)?;
     Ok(Entry {
-        id: own.pop(),
-        refs: references(alloc, item.text)?,
-        sent: sent(
-            first(item.text, b"date").unwrap_or(b""),
-            item.envelope.arrival,
-        ),
+        id: header.own_id(alloc)?,
+        refs: header.references(alloc)?,
+        sent: header.sent(item.envelope.arrival),
         base: subject.text,
         reply: subject.reply,
     })
+}
+
+fn entry(alloc: Global, item: &Item<'_>) -> anyhow::Result<Entry> {
+    let Ok(entry) = entry_of(alloc, item) else {
+        bail!("no memory");
+    };
+    Ok(entry)
 }
 
 fn entries(alloc: Global, mbox: &[u8]) -> anyhow::Result<Vec<Entry>> {
@@ -106,7 +79,7 @@ fn push_hex(text: &mut String, bytes: &[u8]) -> anyhow::Result<()> {
     Ok(())
 }
 
-fn push_id(text: &mut String, id: &MsgId) -> anyhow::Result<()> {
+fn push_id(text: &mut String, id: &MsgIdRef<'_>) -> anyhow::Result<()> {
     push_hex(text, id.left())?;
     text.push('.')?;
     push_hex(text, id.right())
@@ -119,11 +92,11 @@ fn line(alloc: Global, entry: &Entry) -> anyhow::Result<String> {
     text.push(' ')?;
     match &entry.id {
         None => text.push('-')?,
-        Some(id) => push_id(&mut text, id)?,
+        Some(id) => push_id(&mut text, &id.borrowed())?,
     }
-    for id in entry.refs.as_slice() {
+    for at in 0..entry.refs.len() {
         text.push(' ')?;
-        push_id(&mut text, id)?;
+        push_id(&mut text, &entry.refs.get(at))?;
     }
     Ok(text)
 }

@@ -36,9 +36,9 @@ fn entry(
     base: &[u8],
     reply: bool,
 ) -> Result<Entry, Fail> {
-    let mut ids = Vec::new(alloc);
+    let mut all = References::new(alloc);
     for number in refs {
-        ids.push(msg_id(alloc, *number)?)?;
+        all.push(&msg_id(alloc, *number)?.borrowed())?;
     }
     let id = match id {
         Some(number) => Some(msg_id(alloc, number)?),
@@ -46,7 +46,7 @@ fn entry(
     };
     Ok(Entry {
         id,
-        refs: References::new(ids),
+        refs: all,
         sent: Instant::new(sent).ok_or("no instant")?,
         base: Octets::new(Vec::from_slice(alloc, base)?),
         reply,

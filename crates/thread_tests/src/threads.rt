@@ -77,9 +77,9 @@ fn msg_id(alloc: Global, letter: u8) -> Result<MsgId, Fail> {
 }
 
 fn entry(alloc: Global, mail: Mail<'_>) -> Result<Entry, Fail> {
-    let mut refs = Vec::new(alloc);
+    let mut refs = References::new(alloc);
     for letter in mail.refs {
-        refs.push(msg_id(alloc, *letter)?)?;
+        refs.push(&msg_id(alloc, *letter)?.borrowed())?;
     }
     let id = match mail.id.first() {
         Some(letter) => Some(msg_id(alloc, *letter)?),
@@ -87,7 +87,7 @@ fn entry(alloc: Global, mail: Mail<'_>) -> Result<Entry, Fail> {
     };
     Ok(Entry {
         id,
-        refs: References::new(refs),
+        refs,
         sent: Instant::new(mail.sent).ok_or("no instant")?,
         base: Octets::new(Vec::from_slice(alloc, mail.base)?),
         reply: mail.reply,

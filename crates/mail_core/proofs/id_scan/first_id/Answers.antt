@@ -1,8 +1,7 @@
-use Rattle.std.proofs.Common.{arith}
+use Rattle.std.proofs.Common.{rules}
 use Rattle.mail_core.specs.MsgIds.{ids_of}
-use Rattle.mail_core.proofs.ScanLemmas.{popped}
+use Rattle.mail_core.proofs.ScanLemmas.{first_some}
 use Rattle.mail_core.proofs.id_scan.first_id.Goals as goal
 
 pub returns : goal.returns
-returns c =
-    popped (ids_of c.args.text.now) c.in_ok-scan.field-0.items c.pop.new.self.items c.in_ok-scan.field-0.len c.pop.result c.in_ok-scan.ensures c.pop.ensures.items (omega arith) c.pop.ensures.rest
+returns c = first_some (ids_of c.args.text.now) c.in_ok-found.found c.in_ok-try_owned.field-0 c.get.result c.in_ok-found.ensures (search rules) c.get.ensures c.in_ok-try_owned.ensures

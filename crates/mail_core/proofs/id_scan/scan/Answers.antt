@@ -14,7 +14,7 @@ loop-at-preserved-in-Some c =
       place = x.1;
       few = v.few;
       comments = c.in_ok-end.ensures.same ∙ v.comments;
-      told = ap (λ (l : List Id). c.loop-at.found.items ++ l) (sym (scan_comment text c.loop-at.at c.in-Some.end c.loop-at-test.true c.if-byte-eq40.true (omega (arith, x.0)) x.1 x.2)) ∙ v.told;
+      told = ap (λ (l : List Id). c.loop-at.found ++ l) (sym (scan_comment text c.loop-at.at c.in-Some.end c.loop-at-test.true c.if-byte-eq40.true (omega (arith, x.0)) x.1 x.2)) ∙ v.told;
       open_quote = λ q. let w = v.open_quote q in (w.0, omega (arith, w.1, x.0), w.2);
     }
 
@@ -25,7 +25,7 @@ loop-at-preserved-in-None c =
       place = omega arith;
       few = v.few;
       comments = c.in_ok-end.ensures.same ∙ v.comments;
-      told = ap (λ (l : List Id). c.loop-at.found.items ++ l) (sym (scan_open c.args.text.now c.loop-at.at c.loop-at-test.true c.if-byte-eq40.true x)) ∙ v.told;
+      told = ap (λ (l : List Id). c.loop-at.found ++ l) (sym (scan_open c.args.text.now c.loop-at.at c.loop-at-test.true c.if-byte-eq40.true x)) ∙ v.told;
       open_quote = λ q. let w = v.open_quote q in (w.0, omega (arith, w.1), w.2);
     }
 
@@ -36,7 +36,7 @@ loop-at-preserved-in-Some-quote_end c =
       place = omega (arith, x.1);
       few = v.few;
       comments = v.comments;
-      told = ap (λ (l : List Id). c.loop-at.found.items ++ l) (sym (scan_quote c.args.text.now c.loop-at.at c.in-Some-quote_end.end c.loop-at-test.true c.if-byte-eq34.true (omega (arith, x.0)) x.1 x.2)) ∙ v.told;
+      told = ap (λ (l : List Id). c.loop-at.found ++ l) (sym (scan_quote c.args.text.now c.loop-at.at c.in-Some-quote_end.end c.loop-at-test.true c.if-byte-eq34.true (omega (arith, x.0)) x.1 x.2)) ∙ v.told;
       open_quote = λ q. let w = v.open_quote q in (w.0, omega (arith, w.1, x.0), w.2);
     }
 
@@ -47,7 +47,7 @@ loop-at-preserved-in-None-quote_end c =
       place = omega arith;
       few = v.few;
       comments = v.comments;
-      told = ap (λ (l : List Id). c.loop-at.found.items ++ l) (sym (scan_no_quote c.args.text.now c.loop-at.at c.loop-at-test.true c.if-byte-eq34.true x)) ∙ v.told;
+      told = ap (λ (l : List Id). c.loop-at.found ++ l) (sym (scan_no_quote c.args.text.now c.loop-at.at c.loop-at-test.true c.if-byte-eq34.true x)) ∙ v.told;
       open_quote = λ q. (c.loop-at.at + 1, omega arith, x);
     }
 
@@ -59,34 +59,35 @@ loop-at-preserved-else-quotes_end c =
       place = omega arith;
       few = v.few;
       comments = v.comments;
-      told = ap (λ (l : List Id). c.loop-at.found.items ++ l) (sym (scan_no_quote c.args.text.now c.loop-at.at c.loop-at-test.true c.if-byte-eq34.true x)) ∙ v.told;
+      told = ap (λ (l : List Id). c.loop-at.found ++ l) (sym (scan_no_quote c.args.text.now c.loop-at.at c.loop-at-test.true c.if-byte-eq34.true x)) ∙ v.told;
       open_quote = λ q. (c.loop-at.at + 1, omega arith, x);
     }
 
 pub loop-at-preserved-in-Some-2 : goal.loop-at-preserved-in-Some-2
 loop-at-preserved-in-Some-2 c =
     let v = c.loop-at.invariant in
-    let x = rw c.in-Some-2.is at c.in_ok-id.ensures.found in
-    let p = c.in_ok-push-in-Some-2.ensures.items in record {
-      place = omega (arith, x.1);
-      few = omega (arith, ap length p, length-append c.loop-at.found.items (c.in-Some-2.id ∷ []), c.if-len-most.true);
+    let x = rw c.in-Some-2.is at c.in_ok-end-2.ensures.found in record {
+      place = omega (arith, x.inside);
+      few = omega (arith, ap length x.added, length-append c.loop-at.found (x.id ∷ []), c.if-len-most.true, c.len.ensures);
       comments = v.comments;
       told =
-          ap (λ (l : List Id). l ++ ids_of (drop c.in-Some-2.end c.args.text.now)) p
-          ∙ append_assoc c.loop-at.found.items (c.in-Some-2.id ∷ []) (ids_of (drop c.in-Some-2.end c.args.text.now))
-          ∙ ap (λ (l : List Id). c.loop-at.found.items ++ l) (sym (scan_id c.args.text.now c.loop-at.at c.in-Some-2.end c.in-Some-2.id c.loop-at-test.true c.if-byte-eq60.true x.0 x.1 x.2))
+          ap (λ (l : List Id). l ++ ids_of (drop c.in-Some-2.end c.args.text.now)) x.added
+          ∙ append_assoc c.loop-at.found (x.id ∷ []) (ids_of (drop c.in-Some-2.end c.args.text.now))
+          ∙ ap (λ (l : List Id). c.loop-at.found ++ l) (sym (scan_id c.args.text.now c.loop-at.at c.in-Some-2.end x.id c.loop-at-test.true c.if-byte-eq60.true x.later x.inside x.is))
           ∙ v.told;
-      open_quote = λ q. let w = v.open_quote q in (w.0, omega (arith, w.1, x.0), w.2);
+      open_quote = λ q. let w = v.open_quote q in (w.0, omega (arith, w.1, x.later), w.2);
     }
 
 pub loop-at-preserved-in-None-2 : goal.loop-at-preserved-in-None-2
 loop-at-preserved-in-None-2 c =
     let v = c.loop-at.invariant in
-    let x = rw c.in-None-2.is at c.in_ok-id.ensures.none in record {
+    let x = rw c.in-None-2.is at c.in_ok-end-2.ensures.none in record {
       place = omega arith;
-      few = v.few;
+      few = omega (arith, ap length x.1, v.few);
       comments = v.comments;
-      told = ap (λ (l : List Id). c.loop-at.found.items ++ l) (sym (scan_no_id c.args.text.now c.loop-at.at c.loop-at-test.true c.if-byte-eq60.true x)) ∙ v.told;
+      told =
+          ap (λ (l : List Id). l ++ ids_of (drop (c.loop-at.at + 1) c.args.text.now)) x.1
+          ∙ ap (λ (l : List Id). c.loop-at.found ++ l) (sym (scan_no_id c.args.text.now c.loop-at.at c.loop-at-test.true c.if-byte-eq60.true x.0)) ∙ v.told;
       open_quote = λ q. let w = v.open_quote q in (w.0, omega (arith, w.1), w.2);
     }
 
@@ -95,7 +96,7 @@ loop-at-preserved c = let v = c.loop-at.invariant in record {
   place = omega arith;
   few = v.few;
   comments = v.comments;
-  told = ap (λ (l : List Id). c.loop-at.found.items ++ l) (sym (scan_other c.args.text.now c.loop-at.at c.loop-at-test.true c.if-byte-eq40.false c.if-byte-eq34.false c.if-byte-eq60.false)) ∙ v.told;
+  told = ap (λ (l : List Id). c.loop-at.found ++ l) (sym (scan_other c.args.text.now c.loop-at.at c.loop-at-test.true c.if-byte-eq40.false c.if-byte-eq34.false c.if-byte-eq60.false)) ∙ v.told;
   open_quote = λ q. let w = v.open_quote q in (w.0, omega (arith, w.1), w.2);
 }
 
@@ -106,11 +107,11 @@ returns c =
     elim c.loop-at-test.branch [
       | else-loop-at-test w ↦
           let past = w.loop-at-test.false in
-          let all : c.loop-at.found.items ≡ ids_of text =
-          sym (append-nil c.loop-at.found.items) ∙ ap (λ (l : List Id). c.loop-at.found.items ++ l) (sym (ids-past text c.loop-at.at past)) ∙ v.told in
+          let all : c.loop-at.found ≡ ids_of text =
+          sym (append-nil c.loop-at.found) ∙ ap (λ (l : List Id). c.loop-at.found ++ l) (sym (ids-past text c.loop-at.at past)) ∙ v.told in
           all ∙ sym (take_all c.args.most (ids_of text) (omega (arith, v.few, ap length all)))
       | then-loop-at-test+else-len-most w ↦
           let enough = w.if-len-most.false in
-          sym (take_at c.loop-at.found.items (ids_of (drop c.loop-at.at text)) c.args.most (omega (arith, v.few, enough)))
+          sym (take_at c.loop-at.found (ids_of (drop c.loop-at.at text)) c.args.most (omega (arith, v.few, enough)))
           ∙ ap (take c.args.most) v.told
     ]

@@ -6,9 +6,9 @@ use Rattle.mail_core.proofs.id_scan.scan.Given as goal
 abbrev pub invariant-loop-at : goal.invariant-loop-at
 invariant-loop-at l = record {
   place : l.at ≤ length l.text;
-  few : length l.found.items ≤ l.most;
+  few : length l.found ≤ l.most;
   comments : l.comments ≡ l.text;
-  told : l.found.items ++ ids_of (drop l.at l.text) ≡ ids_of l.text;
+  told : l.found ++ ids_of (drop l.at l.text) ≡ ids_of l.text;
   open_quote : l.quotes_end ≡ false → (p : ℕ) × (p ≤ l.at) × (after_quote false (drop p l.text) ≡ None);
 }
 

@@ -9,7 +9,7 @@ use Rattle.thread_links.proofs.ids.Ids.new.Goals as goal
 
 pub loop-entry-preserved : goal.loop-entry-preserved
 loop-entry-preserved c =
-    entry_noted c.args.entries.now c.loop-entry.entry-index c.entry-item.result c.as_slice.result.now _ _ c.loop-entry-test.true (c.as_slice.ensures ∙ ap (λ (entry : Entry). entry.refs) c.entry-item.is)
+    entry_noted c.args.entries.now c.loop-entry.entry-index c.entry-item.result c.entry-item.result.refs _ _ c.loop-entry-test.true (ap (λ (entry : Entry). entry.refs) c.entry-item.is)
     (c.in_ok-note_all.ensures c.args.entries.now (mentioned (take c.loop-entry.entry-index c.args.entries.now)) c.loop-entry.invariant)
 
 pub returns : goal.returns

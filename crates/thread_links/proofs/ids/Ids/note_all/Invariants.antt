@@ -7,6 +7,6 @@ use Rattle.thread_links.specs.Ids.{AreNoted}
 use Rattle.thread_links.proofs.ids.Ids.note_all.Given as goal
 
 -- the ids so far are noted
-abbrev pub invariant-loop-id : goal.invariant-loop-id
-invariant-loop-id l = (entries : List Entry) (refs : List Id) → AreNoted entries refs l.fn.self.count (λ other. get_by (same_id other) l.fn.self.numbers)
-    → AreNoted entries (refs ++ take l.id-index l.ids) l.self.count (λ other. get_by (same_id other) l.self.numbers)
+abbrev pub invariant-loop-at : goal.invariant-loop-at
+invariant-loop-at l = (entries : List Entry) (refs : List Id) → AreNoted entries refs l.fn.self.count (λ other. get_by (same_id other) l.fn.self.numbers)
+    → AreNoted entries (refs ++ take l.at l.ids) l.self.count (λ other. get_by (same_id other) l.self.numbers)

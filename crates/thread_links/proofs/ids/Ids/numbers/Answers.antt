@@ -1,13 +1,20 @@
-use Rattle.std.proofs.Common.{◌≡◌, ◌<◌, ◌++◌, ◌∷◌, [], get_or, sym, ap, subst, ◌∙◌}
+use Rattle.std.proofs.Common.{◌≡◌, ◌<◌, ◌++◌, ◌∷◌, [], List, length, map, get_or, sym, ap, subst, ◌∙◌, arith, take_all}
 use Rattle.mail_core.specs.MsgIds.{Id}
 use Rattle.thread_links.specs.Containers.{number_of_id, count_of}
 use Rattle.thread_links.proofs.NumberLemmas.{numbered_at}
 use Rattle.thread_links.proofs.JoinLemmas.{map_more}
 use Rattle.thread_links.proofs.ids.Ids.numbers.Goals as goal
 
-pub loop-id-preserved : goal.loop-id-preserved
-loop-id-preserved c entries noted all =
-    let low = numbered_at entries c.args.refs.now c.loop-id.id-index c.id-item.result c.loop-id-test.true all in
-    let number : c.number.result ≡ number_of_id entries (get_or c.args.refs.now c.loop-id.id-index c.id-item.result)
-    = c.number.ensures entries noted (subst (λ (v : Id). number_of_id entries v < count_of entries) (sym c.id-item.is) low) ∙ ap (number_of_id entries) c.id-item.is in
-    c.in_ok-push.ensures.items ∙ (λ i. c.loop-id.invariant entries noted all i ++ number i ∷ []) ∙ sym (map_more (number_of_id entries) c.args.refs.now c.loop-id.id-index c.id-item.result c.loop-id-test.true)
+pub loop-at-preserved : goal.loop-at-preserved
+loop-at-preserved c entries noted all =
+    let lt : c.loop-at.at < length c.args.refs.now = omega (arith, c.loop-at-test.true, c.len-at-end.ensures) in
+    let is = c.get.ensures c.get.result in
+    let low = numbered_at entries c.args.refs.now c.loop-at.at c.get.result lt all in
+    let number : c.number.result ≡ number_of_id entries (get_or c.args.refs.now c.loop-at.at c.get.result)
+    = c.number.ensures entries noted (subst (λ (v : Id). number_of_id entries v < count_of entries) (sym is) low) ∙ ap (number_of_id entries) is in
+    c.in_ok-push.ensures.items ∙ (λ i. c.loop-at.invariant entries noted all i ++ number i ∷ []) ∙ sym (map_more (number_of_id entries) c.args.refs.now c.loop-at.at c.get.result lt)
+
+pub returns : goal.returns
+returns c entries noted all =
+    c.loop-at.invariant entries noted all
+    ∙ ap (λ (ids : List Id). map (number_of_id entries) ids) (take_all c.loop-at.at c.args.refs.now (omega (arith, c.loop-at-test.false, c.len-at-end.ensures)))

@@ -7,6 +7,6 @@ use Rattle.thread_links.specs.Parts.{AreNumbered}
 use Rattle.thread_links.proofs.ids.Ids.numbers.Given as goal
 
 -- the numbers so far
-abbrev pub invariant-loop-id : goal.invariant-loop-id
-invariant-loop-id l = (entries : List Entry) → AreNoted entries (mentioned entries) l.self.count (λ other. get_by (same_id other) l.self.numbers) → AreNumbered entries l.refs
-    → l.numbers.items ≡ map (number_of_id entries) (take l.id-index l.refs)
+abbrev pub invariant-loop-at : goal.invariant-loop-at
+invariant-loop-at l = (entries : List Entry) → AreNoted entries (mentioned entries) l.self.count (λ other. get_by (same_id other) l.self.numbers) → AreNumbered entries l.refs
+    → l.numbers.items ≡ map (number_of_id entries) (take l.at l.refs)
