@@ -1,17 +1,16 @@
 -- The messages that are filed under a month or an author key, by their numbers.
-use Rattle.std.proofs.Common.{◌≡◌, inl, inr, ℕ, ℤ, Bool, true, false, cond, List, [], ◌∷◌, map, filter, codes, Option, Some, refl, sym, ap, ap₂, subst, ◌∙◌}
-use Rattle.std.specs.Prelude.{◌&&◌, bytes_eq, int_lt, find, option_map, zip, if◌then◌else◌}
+use Rattle.std.proofs.Common.{◌≡◌, inl, inr, ℕ, ℤ, Bool, true, false, cond, List, [], ◌∷◌, map, filter, codes, Option, Some, refl, sym, ap, ap₂, subst, ◌∙◌, None}
+use Rattle.std.specs.Prelude.{◌&&◌, bytes_eq, int_lt}
 use Rattle.std.specs.List.{AllByRecursion}
 use Rattle.std.specs.List.Sorted.{IsPermutation, IsStrictlySortedBy}
-use Rattle.std.specs.Ordering.{int_eq, int_cmp, is_eq, ordering_then}
+use Rattle.std.specs.Ordering.{int_cmp, is_eq, ordering_then}
 use Rattle.std.specs.declared.cmp.Ordering.{Ordering}
 use Rattle.std.specs.declared.cmp.Ordering.TheVariants.{Less, Equal, Greater}
 use Rattle.std.proofs.lemmas.Bool.{cases_Bool}
 use Rattle.std.proofs.lemmas.List.Sorted.{IsPermutation-map, IsPermutation-refl, IsPermutation-sym, IsPermutation-trans, IsPermutation-cons, IsPermutation-middle}
 use Rattle.sqlite.specs.declared.error.Error.{Error}
-use Rattle.sqlite.specs.declared.types.Value.{Value}
 use Rattle.sqlite.specs.declared.types.Value.TheVariants.{Int, Text, Blob}
-use Rattle.sqlite.specs.Order.{Row, value_cmp, bytes}
+use Rattle.sqlite.specs.Order.{Row, value_cmp}
 use Rattle.sqlite.specs.Tree.{Trees, IsTable, rowid}
 use Rattle.sqlite.specs.Term.{Term, col, op2}
 use Rattle.sqlite.specs.Ops.{is_true, binary}
@@ -32,16 +31,18 @@ use Rattle.sqlite_value.specs.Keys.{ascending}
 use Rattle.sqlite_value.proofs.OrderLemmas.{value_cmp-Int, value_cmp-Blob}
 use Rattle.std.proofs.lemmas.Map.Text.{is_eq-slice_cmp}
 use Rattle.archive_machine.specs.Records.{Message}
-use Rattle.archive_machine.specs.Filing.{Filed, filed, is_sent_before, with_filed, by_filed_date, is_filed_in_month, is_filed_by_author, in_month, by_author}
+use Rattle.archive_machine.specs.Filing.{Filed, filed, with_filed, by_filed_date, is_filed_in_month, is_filed_by_author, in_month, by_author}
 use Rattle.archive_tables.specs.Schema.{archive_schema}
-use Rattle.archive_tables.specs.Tables.{IsHeld, AreTables, Numbered, row_of, read_of, filed_cells, filed_read, archive_in}
+use Rattle.archive_tables.specs.Tables.{IsHeld, AreTables, Numbered, row_of, filed_cells, filed_read, archive_in}
 use Rattle.archive_tables.specs.Rows.{numbered_filed, message_at, place_shown, was_sent_before, with_row, rows_by_date, places_where, month_places, author_places}
-use Rattle.archive_tables.specs.Calls.{RowsRest}
+use Rattle.archive_tables.specs.Calls.{RowsRest, IsCaused}
 use Rattle.archive_tables.proofs.MessageLemmas.{filed_back, filed_are}
 use Rattle.archive_tables.proofs.OrderLemmas.{one_order}
 use Rattle.archive_tables.proofs.RunLemmas.{stays}
-use Rattle.archive_tables.proofs.SelectLemmas.{plain_query, env_of, passes, Picks, hits, asked, leaves, asked_rows, refused_rows, alone, text_is, int_is, truth_back}
+use Rattle.archive_tables.proofs.SelectLemmas.{plain_query, env_of, passes, Picks, hits, asked, leaves, refused_rows, alone, text_is, int_is, truth_back}
 use Rattle.archive_tables.proofs.WalkLemmas.{finds, each_found, kept_found, messages_at}
+use Rattle.archive_tables.proofs.CauseLemmas.{Fits, question_fails_by}
+use Rattle.sqlite_typing.specs.Types.{accepts_program}
 
 -- ---- rows in the order of the dates
 
@@ -216,6 +217,14 @@ month_plain : IsPlain (understood archive_schema month_text)
 unfolding understood everything
 month_plain = (refl, refl)
 
+month_fit : Fits month_text 2 (understood archive_schema month_text)
+unfolding understood everything
+month_fit = (refl, refl)
+
+month_typed : (list : List ℕ) (month : ℤ) → accepts_program archive_schema [] (plain_query 8 of_month number_cell by_date) (Text list ∷ Int month ∷ []) ≡ true
+unfolding everything
+month_typed list month = refl
+
 abbrev pub author_text : List ℕ
 author_text = codes "SELECT pos FROM message WHERE list = ?1 AND author = ?2 ORDER BY sent, pos"
 
@@ -229,6 +238,14 @@ author_is = (refl, refl)
 author_plain : IsPlain (understood archive_schema author_text)
 unfolding understood everything
 author_plain = (refl, refl)
+
+author_fit : Fits author_text 2 (understood archive_schema author_text)
+unfolding understood everything
+author_fit = (refl, refl)
+
+author_typed : (list : List ℕ) (key : List ℕ) → accepts_program archive_schema [] (plain_query 8 of_author number_cell by_date) (Text list ∷ Blob key ∷ []) ≡ true
+unfolding everything
+author_typed list key = refl
 
 has_month : (list : List ℕ) (month : ℤ) (n : ℤ) (f : Filed) → passes of_month (Text list ∷ Int month ∷ []) (Int n ∷ filed_cells f) ≡ is_filed_in_month list month f
 has_month list month n f = ap₂ ◌&&◌ (text_is f.0.list list) (alone _ ∙ int_is f.1.month month)
@@ -262,6 +279,9 @@ module _ (old new : State) {behind : Option Database} (k : IsHeld behind old) (l
   pub no_month : (month : ℤ) (e : Error) → FailsToQuery month_text (Text list ∷ Int month ∷ []) old new e → RowsRest behind old new
   no_month month e h = refused_rows month_text 8 of_month number_cell by_date _ month_is.0 month_plain month_is.1 (λ t. refl) (Text list ∷ Int month ∷ []) old new k e h
 
+  pub no_month_caused : (month : ℤ) (e : Error) → FailsToQuery month_text (Text list ∷ Int month ∷ []) old new e → old.step_limit ≡ None → IsCaused old new e
+  no_month_caused month e h free = question_fails_by month_text 8 of_month number_cell by_date _ month_is.0 month_plain month_is.1 (Text list ∷ Int month ∷ []) month_fit (month_typed list month) old new k free e h
+
   pub author_found : (key : List ℕ) (rows : List Row) → Shown author_text (Text list ∷ Blob key ∷ []) old new rows
       → (rows ≡ map place_shown (author_places old.now.trees list key)) × (new.now ≡ old.now) × IsHeld behind new
   author_found key rows h =
@@ -272,3 +292,6 @@ module _ (old new : State) {behind : Option Database} (k : IsHeld behind old) (l
 
   pub no_author : (key : List ℕ) (e : Error) → FailsToQuery author_text (Text list ∷ Blob key ∷ []) old new e → RowsRest behind old new
   no_author key e h = refused_rows author_text 8 of_author number_cell by_date _ author_is.0 author_plain author_is.1 (λ t. refl) (Text list ∷ Blob key ∷ []) old new k e h
+
+  pub no_author_caused : (key : List ℕ) (e : Error) → FailsToQuery author_text (Text list ∷ Blob key ∷ []) old new e → old.step_limit ≡ None → IsCaused old new e
+  no_author_caused key e h free = question_fails_by author_text 8 of_author number_cell by_date _ author_is.0 author_plain author_is.1 (Text list ∷ Blob key ∷ []) author_fit (author_typed list key) old new k free e h

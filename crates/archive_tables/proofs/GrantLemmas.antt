@@ -30,12 +30,14 @@ use Rattle.archive_tables.specs.Schema.{archive_schema, grant_table}
 use Rattle.archive_machine.specs.Questions.{is_grant}
 use Rattle.archive_tables.specs.Tables.{IsKept, Numbered, row_of, grant_cells, grant_read, archive_of, same_grant, AreApart}
 use Rattle.archive_tables.specs.Rows.{grant_shown}
-use Rattle.archive_tables.specs.Calls.{Changes, Rests}
+use Rattle.archive_tables.specs.Calls.{Changes, Rests, IsCaused}
 use Rattle.archive_tables.proofs.RunLemmas.{passed, value_is, no_action, cast_null, cast_int, kept_by, rests, execute_fails}
 use Rattle.archive_tables.proofs.RowLemmas.{put_past}
 use Rattle.archive_tables.proofs.TableLemmas.{SameBut, same_but, grants_change}
 use Rattle.archive_tables.proofs.ChangeLemmas.{apart_more, apart_mapped, apart_filtered, updated, deleted}
 use Rattle.archive_tables.proofs.SelectLemmas.{plain_query, by_number, passes, picks_of, hits, asked, leaves, asked_rests, refused_rests, any_wanted, shows, alone, text_is, int_is, text_flips, equal_words, no_row, one_row}
+use Rattle.archive_tables.proofs.CauseLemmas.{Fits, question_fails_by}
+use Rattle.sqlite_typing.specs.Types.{accepts_program}
 
 back : (n : ℤ) (g : Grant) → grant_read (Int n ∷ grant_cells g) ≡ g
 back n g = refl
@@ -281,6 +283,14 @@ has_plain : IsPlain (understood archive_schema has_text)
 unfolding understood everything
 has_plain = (refl, refl)
 
+has_fit : Fits has_text 3 (understood archive_schema has_text)
+unfolding understood everything
+has_fit = (refl, refl)
+
+has_typed : (person : List ℕ) (list : List ℕ) (rank : ℤ) → accepts_program archive_schema [] (plain_query 6 at_key rank_cell []) (Text person ∷ Text list ∷ Int rank ∷ []) ≡ true
+unfolding everything
+has_typed person list rank = refl
+
 abbrev pub both_text : List ℕ
 both_text = codes "SELECT kind, from_day, until_day FROM grant_row WHERE person = ?1 AND list = ?2 ORDER BY rowid"
 
@@ -294,6 +304,14 @@ both_is = (refl, refl)
 both_plain : IsPlain (understood archive_schema both_text)
 unfolding understood everything
 both_plain = (refl, refl)
+
+both_fit : Fits both_text 2 (understood archive_schema both_text)
+unfolding understood everything
+both_fit = (refl, refl)
+
+both_typed : (person : List ℕ) (list : List ℕ) → accepts_program archive_schema [] (plain_query 6 of_both day_cells by_number) (Text person ∷ Text list ∷ []) ≡ true
+unfolding everything
+both_typed person list = refl
 
 module _ (old new : State) (person list : List ℕ) (k : IsKept old) where
   pub of_person : (rows : List Row) → Shown both_text (Text person ∷ Text list ∷ []) old new rows
@@ -309,6 +327,9 @@ module _ (old new : State) (person list : List ℕ) (k : IsKept old) where
   pub not_of_person : (e : Error) → FailsToQuery both_text (Text person ∷ Text list ∷ []) old new e → Rests old new
   not_of_person e h = refused_rests both_text 6 of_both day_cells by_number _ both_is.0 both_plain both_is.1 (λ t. refl) (Text person ∷ Text list ∷ []) old new k e h
 
+  pub not_of_person_caused : (e : Error) → FailsToQuery both_text (Text person ∷ Text list ∷ []) old new e → old.step_limit ≡ None → IsCaused old new e
+  not_of_person_caused e h free = question_fails_by both_text 6 of_both day_cells by_number _ both_is.0 both_plain both_is.1 (Text person ∷ Text list ∷ []) both_fit (both_typed person list) old new k free e h
+
   module _ (rank : ℤ) where
     pub has : (rows : List Row) → Shown has_text (Text person ∷ Text list ∷ Int rank ∷ []) old new rows
         → (not (length rows == 0) ≡ list_any (is_grant person list rank) (archive_of old).grants) × IsTrue new.is_open × Rests old new
@@ -322,3 +343,6 @@ module _ (old new : State) (person list : List ℕ) (k : IsKept old) where
 
     pub has_not : (e : Error) → FailsToQuery has_text (Text person ∷ Text list ∷ Int rank ∷ []) old new e → Rests old new
     has_not e h = refused_rests has_text 6 at_key rank_cell [] _ has_is.0 has_plain has_is.1 (λ t. refl) (Text person ∷ Text list ∷ Int rank ∷ []) old new k e h
+
+    pub has_not_caused : (e : Error) → FailsToQuery has_text (Text person ∷ Text list ∷ Int rank ∷ []) old new e → old.step_limit ≡ None → IsCaused old new e
+    has_not_caused e h free = question_fails_by has_text 6 at_key rank_cell [] _ has_is.0 has_plain has_is.1 (Text person ∷ Text list ∷ Int rank ∷ []) has_fit (has_typed person list rank) old new k free e h

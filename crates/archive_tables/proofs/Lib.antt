@@ -21,3 +21,6 @@ pub mod ReadLemmas
 pub mod TableExamples
 pub mod WalkLemmas
 pub mod FiledLemmas
+pub mod LastLemmas
+pub mod LastExamples
+pub mod CauseLemmas

@@ -1,5 +1,5 @@
 -- The statements on `list`.
-use Rattle.std.proofs.Common.{◌≡◌, ℕ, ℤ, List, [], ◌∷◌, ◌++◌, codes, Ok, Err, Result, OnOk, OnErr, refl, sym, ap, subst, ◌∙◌, false, None, Option, inl}
+use Rattle.std.proofs.Common.{◌≡◌, ℕ, ℤ, List, [], ◌∷◌, ◌++◌, codes, Ok, Err, Result, OnOk, OnErr, refl, sym, ap, subst, ◌∙◌, false, None, Option, inl, true}
 use Rattle.std.specs.Prelude.{IsTrue, not, ◌==◌, length, bytes_eq}
 use Rattle.std.specs.List.{list_any}
 use Rattle.std.specs.Ordering.{is_eq}
@@ -27,11 +27,13 @@ use Rattle.sqlite_sql.specs.declared.ops.CompareOp.TheVariants.{Eq}
 use Rattle.sqlite_value.proofs.OrderLemmas.{value_cmp-Text}
 use Rattle.archive_tables.specs.Schema.{archive_schema, list_table}
 use Rattle.archive_tables.specs.Tables.{IsHeld, IsKept, Numbered, row_of, list_cells, list_read, archive_of}
-use Rattle.archive_tables.specs.Calls.{Changes, Rests, RestsOver, StaysOver}
+use Rattle.archive_tables.specs.Calls.{Changes, Rests, RestsOver, StaysOver, IsCaused}
 use Rattle.archive_tables.proofs.RunLemmas.{passed, value_is, no_action, cast_null, kept_by, rests, execute_fails}
 use Rattle.archive_tables.proofs.RowLemmas.{put_past}
 use Rattle.archive_tables.proofs.TableLemmas.{SameBut, same_but, lists_change}
 use Rattle.archive_tables.proofs.SelectLemmas.{plain_query, passes, asked, leaves, asked_stays, asked_rests, refused_rests, any_wanted, alone, truth_back}
+use Rattle.archive_tables.proofs.CauseLemmas.{Fits, question_fails_by}
+use Rattle.sqlite_typing.specs.Types.{accepts_program}
 
 -- ---- INSERT
 
@@ -104,6 +106,14 @@ has_plain : IsPlain (understood archive_schema has_text)
 unfolding understood everything
 has_plain = (refl, refl)
 
+has_fit : Fits has_text 1 (understood archive_schema has_text)
+unfolding understood everything
+has_fit = (refl, refl)
+
+has_typed : (name : List ℕ) → accepts_program archive_schema [] (plain_query 1 has_name name_shown []) (Text name ∷ []) ≡ true
+unfolding everything
+has_typed name = refl
+
 is_named : (name : List ℕ) (n : ℤ) (it : List ℕ) → passes has_name (Text name ∷ []) (Int n ∷ list_cells it) ≡ bytes_eq it name
 unfolding binary
 is_named name n it = alone _ ∙ truth_back _ ∙ ap is_eq (value_cmp-Text it name) ∙ is_eq-slice_cmp it name
@@ -124,3 +134,6 @@ module _ (old new : State) (name : List ℕ) {behind : Option Database} (k : IsH
 
   pub has_not : (e : Error) → FailsToQuery has_text (Text name ∷ []) old new e → RestsOver behind old new
   has_not e h = refused_rests has_text 1 has_name name_shown [] _ has_is.0 has_plain has_is.1 (λ t. refl) (Text name ∷ []) old new k e h
+
+  pub has_not_caused : (e : Error) → FailsToQuery has_text (Text name ∷ []) old new e → old.step_limit ≡ None → IsCaused old new e
+  has_not_caused e h free = question_fails_by has_text 1 has_name name_shown [] _ has_is.0 has_plain has_is.1 (Text name ∷ []) has_fit (has_typed name) old new k free e h

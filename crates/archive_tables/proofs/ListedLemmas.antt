@@ -1,6 +1,6 @@
 -- All messages by the names of their lists, by their numbers.
 use Rattle.std.proofs.Common.{◌≡◌, inl, inr, ℕ, ℤ, Bool, true, false, cond, List, [], ◌∷◌, map, filter, codes, Option, Some, None, refl, sym, ap, ap₂, subst, ◌∙◌}
-use Rattle.std.specs.Prelude.{find, option_map, slice_get, if◌then◌else◌}
+use Rattle.std.specs.Prelude.{find, option_map, slice_get}
 use Rattle.std.specs.List.{AllByRecursion}
 use Rattle.std.specs.List.Sorted.{IsPermutation, IsStrictlySortedBy}
 use Rattle.std.specs.Cmp.Lexicographic.{slice_cmp, nat_list_cmp_total}
@@ -10,7 +10,7 @@ use Rattle.std.specs.declared.cmp.Ordering.TheVariants.{Less, Equal, Greater}
 use Rattle.std.proofs.lemmas.Bool.{cases_Bool}
 use Rattle.std.proofs.lemmas.List.Sorted.{IsPermutation-map, IsPermutation-refl, IsPermutation-sym, IsPermutation-trans, IsPermutation-cons, IsPermutation-middle}
 use Rattle.sqlite.specs.declared.error.Error.{Error}
-use Rattle.sqlite.specs.declared.types.Value.TheVariants.{Int, Text}
+use Rattle.sqlite.specs.declared.types.Value.TheVariants.{Int}
 use Rattle.sqlite.specs.Order.{Row, value_cmp}
 use Rattle.sqlite.specs.Tree.{Trees, IsTable, rowid}
 use Rattle.sqlite.specs.Term.{Term, col, op2}
@@ -30,18 +30,20 @@ use Rattle.sqlite_value.specs.declared.keys.Key.{Key}
 use Rattle.sqlite_value.specs.Keys.{ascending}
 use Rattle.sqlite_value.proofs.OrderLemmas.{value_cmp-Text}
 use Rattle.archive_machine.specs.Filing.{Filed, filed}
-use Rattle.archive_machine.specs.Damage.{is_listed_before, with_listed, by_list}
+use Rattle.archive_machine.specs.Damage.{with_listed, by_list}
 use Rattle.archive_tables.specs.Schema.{archive_schema}
-use Rattle.archive_tables.specs.Tables.{IsHeld, AreTables, Numbered, row_of, read_of, filed_cells, filed_read, archive_in}
+use Rattle.archive_tables.specs.Tables.{IsHeld, AreTables, Numbered, row_of, filed_cells, filed_read, archive_in}
 use Rattle.archive_tables.specs.Rows.{numbered_filed, place_shown}
 use Rattle.archive_tables.specs.Listed.{was_listed_before, with_listed_row, rows_by_list, all_places, filed_at, filed_shown}
-use Rattle.archive_tables.specs.Calls.{RowsRest}
+use Rattle.archive_tables.specs.Calls.{RowsRest, IsCaused}
 use Rattle.archive_tables.proofs.MessageLemmas.{filed_back, filed_are}
 use Rattle.archive_tables.proofs.OrderLemmas.{one_order}
 use Rattle.archive_tables.proofs.RowLemmas.{records_are}
 use Rattle.archive_tables.proofs.RunLemmas.{stays}
 use Rattle.archive_tables.proofs.SelectLemmas.{plain_query, by_number, env_of, passes, all_pass, Picks, in_order, asked, leaves, refused_rows, alone, int_is, first_kept}
 use Rattle.archive_tables.proofs.WalkLemmas.{finds, each_found}
+use Rattle.archive_tables.proofs.CauseLemmas.{Fits, question_fails_by}
+use Rattle.sqlite_typing.specs.Types.{accepts_program}
 
 -- ---- rows in the order of the lists' names
 
@@ -103,6 +105,14 @@ places_is = (refl, refl)
 places_plain : IsPlain (understood archive_schema places_text)
 unfolding understood everything
 places_plain = (refl, refl)
+
+places_fit : Fits places_text 0 (understood archive_schema places_text)
+unfolding understood everything
+places_fit = (refl, refl)
+
+places_typed : accepts_program archive_schema [] (plain_query 8 [] number_cell list_then_number) [] ≡ true
+unfolding everything
+places_typed = refl
 
 abbrev out : Numbered Filed → Output
 out r = output query (env_of [] (row_of filed_cells r))
@@ -227,6 +237,14 @@ filed_plain : IsPlain (understood archive_schema filed_text)
 unfolding understood everything
 filed_plain = (refl, refl)
 
+filed_fit : Fits filed_text 1 (understood archive_schema filed_text)
+unfolding understood everything
+filed_fit = (refl, refl)
+
+filed_typed : (place : ℤ) → accepts_program archive_schema [] (plain_query 8 at_place cells by_number) (Int place ∷ []) ≡ true
+unfolding everything
+filed_typed place = refl
+
 module _ (place : ℤ) where
   abbrev is_at : Numbered Filed → Bool
   is_at r = int_eq r.number place
@@ -270,6 +288,9 @@ module _ (old new : State) {behind : Option Database} (k : IsHeld behind old) wh
   pub none_found : (e : Error) → FailsToQuery places_text [] old new e → RowsRest behind old new
   none_found e h = refused_rows places_text 8 [] number_cell list_then_number _ places_is.0 places_plain places_is.1 (λ t. refl) [] old new k e h
 
+  pub none_found_caused : (e : Error) → FailsToQuery places_text [] old new e → old.step_limit ≡ None → IsCaused old new e
+  none_found_caused e h free = question_fails_by places_text 8 [] number_cell list_then_number _ places_is.0 places_plain places_is.1 [] places_fit places_typed old new k free e h
+
   pub filed_found : (place : ℤ) (rows : List Row) → Shown filed_text (Int place ∷ []) old new rows
       → (slice_get rows 0 ≡ option_map filed_shown (filed_at old.now.trees place)) × (new.now ≡ old.now) × IsHeld behind new
   filed_found place rows h =
@@ -283,3 +304,6 @@ module _ (old new : State) {behind : Option Database} (k : IsHeld behind old) wh
 
   pub not_filed : (place : ℤ) (e : Error) → FailsToQuery filed_text (Int place ∷ []) old new e → RowsRest behind old new
   not_filed place e h = refused_rows filed_text 8 at_place cells by_number _ filed_is.0 filed_plain filed_is.1 (λ t. refl) (Int place ∷ []) old new k e h
+
+  pub not_filed_caused : (place : ℤ) (e : Error) → FailsToQuery filed_text (Int place ∷ []) old new e → old.step_limit ≡ None → IsCaused old new e
+  not_filed_caused place e h free = question_fails_by filed_text 8 at_place cells by_number _ filed_is.0 filed_plain filed_is.1 (Int place ∷ []) filed_fit (filed_typed place) old new k free e h

@@ -1,5 +1,5 @@
 -- The questions on `message`.
-use Rattle.std.proofs.Common.{◌≡◌, ℕ, ℤ, List, [], ◌∷◌, map, filter, codes, refl, ap₂, ◌∙◌, false, Option}
+use Rattle.std.proofs.Common.{◌≡◌, ℕ, ℤ, List, [], ◌∷◌, map, filter, codes, refl, ap₂, ◌∙◌, false, Option, true, None}
 use Rattle.std.specs.Prelude.{IsTrue, not, ◌==◌, ◌&&◌, length, bytes_eq}
 use Rattle.std.specs.List.{list_any}
 use Rattle.sqlite.specs.declared.error.Error.{Error}
@@ -20,9 +20,11 @@ use Rattle.archive_tables.specs.Schema.{archive_schema}
 use Rattle.archive_machine.specs.Questions.{is_message}
 use Rattle.archive_tables.specs.Tables.{IsHeld, filed_cells, archive_of}
 use Rattle.archive_tables.specs.Rows.{message_shown, marks_shown}
-use Rattle.archive_tables.specs.Calls.{RestsOver, StaysOver}
+use Rattle.archive_tables.specs.Calls.{RestsOver, StaysOver, IsCaused}
 use Rattle.archive_tables.proofs.MessageLemmas.{shows_messages, counts_messages, has_messages}
 use Rattle.archive_tables.proofs.SelectLemmas.{plain_query, by_number, passes, asked, leaves, asked_stays, asked_rests, refused_rests, alone, text_is}
+use Rattle.archive_tables.proofs.CauseLemmas.{Fits, question_fails_by}
+use Rattle.sqlite_typing.specs.Types.{accepts_program}
 
 abbrev pub of_list : List Term
 of_list = op2 (Compare Eq Binary) (col 1 2) (col 0 0) ∷ []
@@ -56,6 +58,14 @@ list_plain : IsPlain (understood archive_schema list_text)
 unfolding understood everything
 list_plain = (refl, refl)
 
+list_fit : Fits list_text 1 (understood archive_schema list_text)
+unfolding understood everything
+list_fit = (refl, refl)
+
+list_typed : (list : List ℕ) → accepts_program archive_schema [] (plain_query 8 of_list all_cells by_number) (Text list ∷ []) ≡ true
+unfolding everything
+list_typed list = refl
+
 -- ---- the message of a key
 
 abbrev pub one_text : List ℕ
@@ -68,6 +78,14 @@ one_is = (refl, refl)
 one_plain : IsPlain (understood archive_schema one_text)
 unfolding understood everything
 one_plain = (refl, refl)
+
+one_fit : Fits one_text 2 (understood archive_schema one_text)
+unfolding understood everything
+one_fit = (refl, refl)
+
+one_typed : (list : List ℕ) (key : List ℕ) → accepts_program archive_schema [] (plain_query 8 at_key all_cells by_number) (Text list ∷ Text key ∷ []) ≡ true
+unfolding everything
+one_typed list key = refl
 
 -- ---- its marks
 
@@ -86,6 +104,14 @@ marks_plain : IsPlain (understood archive_schema marks_text)
 unfolding understood everything
 marks_plain = (refl, refl)
 
+marks_fit : Fits marks_text 2 (understood archive_schema marks_text)
+unfolding understood everything
+marks_fit = (refl, refl)
+
+marks_typed : (list : List ℕ) (key : List ℕ) → accepts_program archive_schema [] (plain_query 8 at_key mark_cells by_number) (Text list ∷ Text key ∷ []) ≡ true
+unfolding everything
+marks_typed list key = refl
+
 -- ---- whether a key is there
 
 abbrev pub has_text : List ℕ
@@ -102,6 +128,14 @@ has_plain : IsPlain (understood archive_schema has_text)
 unfolding understood everything
 has_plain = (refl, refl)
 
+has_fit : Fits has_text 2 (understood archive_schema has_text)
+unfolding understood everything
+has_fit = (refl, refl)
+
+has_typed : (list : List ℕ) (key : List ℕ) → accepts_program archive_schema [] (plain_query 8 at_key number_cell []) (Text list ∷ Text key ∷ []) ≡ true
+unfolding everything
+has_typed list key = refl
+
 -- ---- how many a list has
 
 abbrev pub count_text : List ℕ
@@ -114,6 +148,14 @@ count_is = (refl, refl)
 count_plain : IsPlain (understood archive_schema count_text)
 unfolding understood everything
 count_plain = (refl, refl)
+
+count_fit : Fits count_text 1 (understood archive_schema count_text)
+unfolding understood everything
+count_fit = (refl, refl)
+
+count_typed : (list : List ℕ) → accepts_program archive_schema [] (plain_query 8 of_list number_cell []) (Text list ∷ []) ≡ true
+unfolding everything
+count_typed list = refl
 
 module _ (old new : State) (list : List ℕ) {behind : Option Database} (k : IsHeld behind old) where
   pub in_list : (rows : List Row) → Shown list_text (Text list ∷ []) old new rows
@@ -128,6 +170,9 @@ module _ (old new : State) (list : List ℕ) {behind : Option Database} (k : IsH
 
   pub not_in_list : (e : Error) → FailsToQuery list_text (Text list ∷ []) old new e → RestsOver behind old new
   not_in_list e h = refused_rests list_text 8 of_list all_cells by_number _ list_is.0 list_plain list_is.1 (λ t. refl) (Text list ∷ []) old new k e h
+
+  pub not_in_list_caused : (e : Error) → FailsToQuery list_text (Text list ∷ []) old new e → old.step_limit ≡ None → IsCaused old new e
+  not_in_list_caused e h free = question_fails_by list_text 8 of_list all_cells by_number _ list_is.0 list_plain list_is.1 (Text list ∷ []) list_fit (list_typed list) old new k free e h
 
   pub count : (rows : List Row) → Shown count_text (Text list ∷ []) old new rows
       → (length rows ≡ length (filter (λ m. bytes_eq m.list list) (archive_of old).messages)) × IsTrue new.is_open × RestsOver behind old new
@@ -145,6 +190,9 @@ module _ (old new : State) (list : List ℕ) {behind : Option Database} (k : IsH
   pub no_count : (e : Error) → FailsToQuery count_text (Text list ∷ []) old new e → RestsOver behind old new
   no_count e h = refused_rests count_text 8 of_list number_cell [] _ count_is.0 count_plain count_is.1 (λ t. refl) (Text list ∷ []) old new k e h
 
+  pub no_count_caused : (e : Error) → FailsToQuery count_text (Text list ∷ []) old new e → old.step_limit ≡ None → IsCaused old new e
+  no_count_caused e h free = question_fails_by count_text 8 of_list number_cell [] _ count_is.0 count_plain count_is.1 (Text list ∷ []) count_fit (count_typed list) old new k free e h
+
   module _ (key : List ℕ) where
     pub one : (rows : List Row) → Shown one_text (Text list ∷ Text key ∷ []) old new rows
         → (rows ≡ map message_shown (filter (is_message list key) (archive_of old).messages)) × IsTrue new.is_open × RestsOver behind old new
@@ -159,6 +207,9 @@ module _ (old new : State) (list : List ℕ) {behind : Option Database} (k : IsH
     pub not_one : (e : Error) → FailsToQuery one_text (Text list ∷ Text key ∷ []) old new e → RestsOver behind old new
     not_one e h = refused_rests one_text 8 at_key all_cells by_number _ one_is.0 one_plain one_is.1 (λ t. refl) (Text list ∷ Text key ∷ []) old new k e h
 
+    pub not_one_caused : (e : Error) → FailsToQuery one_text (Text list ∷ Text key ∷ []) old new e → old.step_limit ≡ None → IsCaused old new e
+    not_one_caused e h free = question_fails_by one_text 8 at_key all_cells by_number _ one_is.0 one_plain one_is.1 (Text list ∷ Text key ∷ []) one_fit (one_typed list key) old new k free e h
+
     pub marks : (rows : List Row) → Shown marks_text (Text list ∷ Text key ∷ []) old new rows
         → (rows ≡ map marks_shown (filter (is_message list key) (archive_of old).messages)) × IsTrue new.is_open × RestsOver behind old new
     marks rows h =
@@ -171,6 +222,9 @@ module _ (old new : State) (list : List ℕ) {behind : Option Database} (k : IsH
 
     pub no_marks : (e : Error) → FailsToQuery marks_text (Text list ∷ Text key ∷ []) old new e → RestsOver behind old new
     no_marks e h = refused_rests marks_text 8 at_key mark_cells by_number _ marks_is.0 marks_plain marks_is.1 (λ t. refl) (Text list ∷ Text key ∷ []) old new k e h
+
+    pub no_marks_caused : (e : Error) → FailsToQuery marks_text (Text list ∷ Text key ∷ []) old new e → old.step_limit ≡ None → IsCaused old new e
+    no_marks_caused e h free = question_fails_by marks_text 8 at_key mark_cells by_number _ marks_is.0 marks_plain marks_is.1 (Text list ∷ Text key ∷ []) marks_fit (marks_typed list key) old new k free e h
 
     pub has : (rows : List Row) → Shown has_text (Text list ∷ Text key ∷ []) old new rows
         → (not (length rows == 0) ≡ list_any (is_message list key) (archive_of old).messages) × IsTrue new.is_open × RestsOver behind old new
@@ -187,3 +241,6 @@ module _ (old new : State) (list : List ℕ) {behind : Option Database} (k : IsH
 
     pub has_not : (e : Error) → FailsToQuery has_text (Text list ∷ Text key ∷ []) old new e → RestsOver behind old new
     has_not e h = refused_rests has_text 8 at_key number_cell [] _ has_is.0 has_plain has_is.1 (λ t. refl) (Text list ∷ Text key ∷ []) old new k e h
+
+    pub has_not_caused : (e : Error) → FailsToQuery has_text (Text list ∷ Text key ∷ []) old new e → old.step_limit ≡ None → IsCaused old new e
+    has_not_caused e h free = question_fails_by has_text 8 at_key number_cell [] _ has_is.0 has_plain has_is.1 (Text list ∷ Text key ∷ []) has_fit (has_typed list key) old new k free e h

@@ -1,5 +1,5 @@
 -- The names of all lists, in the order of their bytes.
-use Rattle.std.proofs.Common.{◌≡◌, ℕ, ◌+◌, ◌<◌, List, [], ◌∷◌, map, filter, length, get_or, codes, refl, sym, ap, ap₂, subst, ◌∙◌, false, arith}
+use Rattle.std.proofs.Common.{◌≡◌, ℕ, ◌+◌, ◌<◌, List, [], ◌∷◌, map, filter, length, get_or, codes, refl, sym, ap, ap₂, subst, ◌∙◌, false, arith, true, None}
 use Rattle.std.specs.Prelude.{IsTrue}
 use Rattle.std.specs.List.{AllByRecursion}
 use Rattle.std.specs.List.Sorted.{IsPermutation, IsSorted}
@@ -27,9 +27,11 @@ use Rattle.sqlite_trees.proofs.ListLemmas.{all-permutation}
 use Rattle.archive_tables.specs.Schema.{archive_schema}
 use Rattle.archive_tables.specs.Tables.{IsKept, Numbered, row_of, read_of, list_cells, list_read, archive_of}
 use Rattle.archive_tables.specs.Rows.{name_shown}
-use Rattle.archive_tables.specs.Calls.{Rests}
+use Rattle.archive_tables.specs.Calls.{Rests, IsCaused}
 use Rattle.archive_tables.proofs.RowLemmas.{records_are}
 use Rattle.archive_tables.proofs.SelectLemmas.{plain_query, env_of, passes, all_pass, asked, leaves, asked_rests, refused_rests}
+use Rattle.archive_tables.proofs.CauseLemmas.{Fits, question_fails_by}
+use Rattle.sqlite_typing.specs.Types.{accepts_program}
 
 abbrev pub names_text : List ℕ
 names_text = codes "SELECT name FROM list ORDER BY name"
@@ -50,6 +52,14 @@ names_is = (refl, refl)
 names_plain : IsPlain (understood archive_schema names_text)
 unfolding understood everything
 names_plain = (refl, refl)
+
+names_fit : Fits names_text 0 (understood archive_schema names_text)
+unfolding understood everything
+names_fit = (refl, refl)
+
+names_typed : accepts_program archive_schema [] (plain_query 1 [] the_name by_name) [] ≡ true
+unfolding everything
+names_typed = refl
 
 -- a name, as it is sorted by and as it is shown
 abbrev both : List ℕ → Output
@@ -124,3 +134,6 @@ module _ (old new : State) (k : IsKept old) where
 
   pub names_not_found : (e : Error) → FailsToQuery names_text [] old new e → Rests old new
   names_not_found e h = refused_rests names_text 1 [] the_name by_name _ names_is.0 names_plain names_is.1 (λ t. refl) [] old new k e h
+
+  pub names_not_found_caused : (e : Error) → FailsToQuery names_text [] old new e → old.step_limit ≡ None → IsCaused old new e
+  names_not_found_caused e h free = question_fails_by names_text 1 [] the_name by_name _ names_is.0 names_plain names_is.1 [] names_fit names_typed old new k free e h

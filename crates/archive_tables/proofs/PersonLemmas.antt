@@ -1,5 +1,5 @@
 -- The statements on `person`.
-use Rattle.std.proofs.Common.{◌≡◌, ℕ, List, [], ◌∷◌, ◌++◌, map, filter, codes, Ok, Err, Result, OnOk, OnErr, refl, sym, ap, subst, ◌∙◌, false, None, inl}
+use Rattle.std.proofs.Common.{◌≡◌, ℕ, List, [], ◌∷◌, ◌++◌, map, filter, codes, Ok, Err, Result, OnOk, OnErr, refl, sym, ap, subst, ◌∙◌, false, None, inl, true}
 use Rattle.std.specs.Prelude.{IsTrue, not, ◌==◌, length, bytes_eq}
 use Rattle.std.specs.List.{list_any}
 use Rattle.sqlite.specs.declared.error.Error.{Error}
@@ -25,11 +25,13 @@ use Rattle.archive_machine.specs.Records.{Person}
 use Rattle.archive_tables.specs.Schema.{archive_schema, person_table}
 use Rattle.archive_tables.specs.Tables.{IsKept, Numbered, row_of, person_cells, person_read, archive_of}
 use Rattle.archive_tables.specs.Rows.{name_shown}
-use Rattle.archive_tables.specs.Calls.{Changes, Rests}
+use Rattle.archive_tables.specs.Calls.{Changes, Rests, IsCaused}
 use Rattle.archive_tables.proofs.RunLemmas.{passed, value_is, no_action, cast_null, kept_by, rests, execute_fails}
 use Rattle.archive_tables.proofs.RowLemmas.{put_past}
 use Rattle.archive_tables.proofs.TableLemmas.{SameBut, same_but, persons_change}
 use Rattle.archive_tables.proofs.SelectLemmas.{plain_query, by_number, asked, leaves, asked_rests, refused_rests, any_wanted, shows, alone, text_is}
+use Rattle.archive_tables.proofs.CauseLemmas.{Fits, question_fails_by}
+use Rattle.sqlite_typing.specs.Types.{accepts_program}
 
 -- ---- INSERT
 
@@ -105,6 +107,14 @@ named_plain : IsPlain (understood archive_schema named_text)
 unfolding understood everything
 named_plain = (refl, refl)
 
+named_fit : Fits named_text 1 (understood archive_schema named_text)
+unfolding understood everything
+named_fit = (refl, refl)
+
+named_typed : (word : List ℕ) → accepts_program archive_schema [] (plain_query 3 named the_name []) (Text word ∷ []) ≡ true
+unfolding everything
+named_typed word = refl
+
 -- ---- SELECT by token
 
 abbrev pub token_text : List ℕ
@@ -128,6 +138,14 @@ token_plain : IsPlain (understood archive_schema token_text)
 unfolding understood everything
 token_plain = (refl, refl)
 
+token_fit : Fits token_text 1 (understood archive_schema token_text)
+unfolding understood everything
+token_fit = (refl, refl)
+
+token_typed : (word : List ℕ) → accepts_program archive_schema [] (plain_query 3 with_token the_token []) (Text word ∷ []) ≡ true
+unfolding everything
+token_typed word = refl
+
 holder_is : (command_of (understood archive_schema holder_text) ≡ Select (record { lets = []; body = plain_query 3 with_token the_name by_number }) (codes "name" ∷ []))
     × (reads_listing archive_schema holder_text ≡ false)
 unfolding understood everything
@@ -136,6 +154,14 @@ holder_is = (refl, refl)
 holder_plain : IsPlain (understood archive_schema holder_text)
 unfolding understood everything
 holder_plain = (refl, refl)
+
+holder_fit : Fits holder_text 1 (understood archive_schema holder_text)
+unfolding understood everything
+holder_fit = (refl, refl)
+
+holder_typed : (word : List ℕ) → accepts_program archive_schema [] (plain_query 3 with_token the_name by_number) (Text word ∷ []) ≡ true
+unfolding everything
+holder_typed word = refl
 
 module _ (old new : State) (word : List ℕ) (k : IsKept old) where
   pub has_name : (rows : List Row) → Shown named_text (Text word ∷ []) old new rows
@@ -152,6 +178,9 @@ module _ (old new : State) (word : List ℕ) (k : IsKept old) where
   pub has_no_name : (e : Error) → FailsToQuery named_text (Text word ∷ []) old new e → Rests old new
   has_no_name e h = refused_rests named_text 3 named the_name [] _ named_is.0 named_plain named_is.1 (λ t. refl) (Text word ∷ []) old new k e h
 
+  pub has_no_name_caused : (e : Error) → FailsToQuery named_text (Text word ∷ []) old new e → old.step_limit ≡ None → IsCaused old new e
+  has_no_name_caused e h free = question_fails_by named_text 3 named the_name [] _ named_is.0 named_plain named_is.1 (Text word ∷ []) named_fit (named_typed word) old new k free e h
+
   pub has_token : (rows : List Row) → Shown token_text (Text word ∷ []) old new rows
       → (not (length rows == 0) ≡ list_any (λ p. bytes_eq p.token word) (archive_of old).persons) × IsTrue new.is_open × Rests old new
   has_token rows h =
@@ -166,6 +195,9 @@ module _ (old new : State) (word : List ℕ) (k : IsKept old) where
   pub has_no_token : (e : Error) → FailsToQuery token_text (Text word ∷ []) old new e → Rests old new
   has_no_token e h = refused_rests token_text 3 with_token the_token [] _ token_is.0 token_plain token_is.1 (λ t. refl) (Text word ∷ []) old new k e h
 
+  pub has_no_token_caused : (e : Error) → FailsToQuery token_text (Text word ∷ []) old new e → old.step_limit ≡ None → IsCaused old new e
+  has_no_token_caused e h free = question_fails_by token_text 3 with_token the_token [] _ token_is.0 token_plain token_is.1 (Text word ∷ []) token_fit (token_typed word) old new k free e h
+
   pub holders : (rows : List Row) → Shown holder_text (Text word ∷ []) old new rows
       → (rows ≡ map (λ (p : Person). name_shown p.name) (filter (λ p. bytes_eq p.token word) (archive_of old).persons)) × IsTrue new.is_open × Rests old new
   holders rows h =
@@ -179,3 +211,6 @@ module _ (old new : State) (word : List ℕ) (k : IsKept old) where
 
   pub no_holders : (e : Error) → FailsToQuery holder_text (Text word ∷ []) old new e → Rests old new
   no_holders e h = refused_rests holder_text 3 with_token the_name by_number _ holder_is.0 holder_plain holder_is.1 (λ t. refl) (Text word ∷ []) old new k e h
+
+  pub no_holders_caused : (e : Error) → FailsToQuery holder_text (Text word ∷ []) old new e → old.step_limit ≡ None → IsCaused old new e
+  no_holders_caused e h free = question_fails_by holder_text 3 with_token the_name by_number _ holder_is.0 holder_plain holder_is.1 (Text word ∷ []) holder_fit (holder_typed word) old new k free e h

@@ -1,5 +1,5 @@
 -- The question on `version`.
-use Rattle.std.proofs.Common.{◌≡◌, ℕ, List, [], ◌∷◌, codes, refl, sym, subst, ◌∙◌, false, ◌⊎◌, inl, inr}
+use Rattle.std.proofs.Common.{◌≡◌, ℕ, List, [], ◌∷◌, codes, refl, sym, subst, ◌∙◌, false, ◌⊎◌, inl, inr, true, None}
 use Rattle.std.specs.Prelude.{IsTrue}
 use Rattle.std.specs.List.Sorted.{IsPermutation}
 use Rattle.sqlite.specs.declared.error.Error.{Error}
@@ -16,9 +16,11 @@ use Rattle.archive_tables.specs.Tables.{IsKept, IsOfArchive, version_rows}
 use Rattle.archive_tables.specs.Rows.{versions_shown}
 use Rattle.archive_tables.specs.Making.{IsBackTo}
 use Rattle.archive_tables.specs.declared.texts.schema.TheConstants.{VERSION}
-use Rattle.archive_tables.specs.Calls.{Rests}
+use Rattle.archive_tables.specs.Calls.{Rests, IsCaused}
 use Rattle.archive_tables.proofs.RunLemmas.{query_fails, query_leaves}
 use Rattle.archive_tables.proofs.SelectLemmas.{plain_query, by_number, Picks, in_order, picks_all, picked, asked, leaves, asked_rests, refused_rests}
+use Rattle.archive_tables.proofs.CauseLemmas.{Fits, question_fails_by}
+use Rattle.sqlite_typing.specs.Types.{accepts_program}
 
 abbrev pub number_text : List ℕ
 number_text = codes "SELECT number FROM version ORDER BY rowid"
@@ -33,6 +35,14 @@ number_is = (refl, refl)
 number_plain : IsPlain (understood archive_schema number_text)
 unfolding understood everything
 number_plain = (refl, refl)
+
+number_fit : Fits number_text 0 (understood archive_schema number_text)
+unfolding understood everything
+number_fit = (refl, refl)
+
+number_typed : accepts_program archive_schema [] (plain_query 0 [] number_cell by_number) [] ≡ true
+unfolding everything
+number_typed = refl
 
 only_version : (rows picked : List Row) → rows ≡ version_rows VERSION → Picks (plain_query 0 [] number_cell by_number) [] rows picked → picked ≡ (Int VERSION ∷ []) ∷ []
 only_version rows picked are it = in_order 0 [] number_cell [] (version_rows VERSION) picked (tt, tt) (subst (λ l. Picks (plain_query 0 [] number_cell by_number) [] l picked) are it)
@@ -69,3 +79,6 @@ module _ (old new : State) (k : IsKept old) where
 
   pub version_not_found : (e : Error) → FailsToQuery number_text [] old new e → Rests old new
   version_not_found e h = refused_rests number_text 0 [] number_cell by_number _ number_is.0 number_plain number_is.1 (λ t. refl) [] old new k e h
+
+  pub version_not_found_caused : (e : Error) → FailsToQuery number_text [] old new e → old.step_limit ≡ None → IsCaused old new e
+  version_not_found_caused e h free = question_fails_by number_text 0 [] number_cell by_number _ number_is.0 number_plain number_is.1 [] number_fit number_typed old new k free e h

@@ -1,5 +1,5 @@
 -- A list's messages by their numbers.
-use Rattle.std.proofs.Common.{◌≡◌, ℕ, ℤ, Bool, true, false, cond, List, [], ◌∷◌, map, filter, codes, arith, Option, Some, refl, sym, ap, ap₂, subst, ◌∙◌}
+use Rattle.std.proofs.Common.{◌≡◌, ℕ, ℤ, Bool, true, false, cond, List, [], ◌∷◌, map, filter, codes, arith, Option, Some, refl, sym, ap, ap₂, subst, ◌∙◌, None}
 use Rattle.std.specs.Prelude.{bytes_eq, find, option_map}
 use Rattle.std.specs.List.{AllByRecursion}
 use Rattle.std.specs.Ordering.{int_eq, int_cmp, is_eq}
@@ -28,11 +28,13 @@ use Rattle.archive_machine.specs.Questions.{messages_in}
 use Rattle.archive_tables.specs.Schema.{archive_schema}
 use Rattle.archive_tables.specs.Tables.{IsHeld, AreTables, Numbered, row_of, filed_cells, filed_read, archive_in}
 use Rattle.archive_tables.specs.Rows.{message_shown, numbered_filed, places_in, message_at, place_shown}
-use Rattle.archive_tables.specs.Calls.{RowsRest}
+use Rattle.archive_tables.specs.Calls.{RowsRest, IsCaused}
 use Rattle.archive_tables.proofs.MessageLemmas.{filed_back, wanted_messages}
 use Rattle.archive_tables.proofs.MailboxLemmas.{of_list, has_list}
 use Rattle.archive_tables.proofs.RunLemmas.{stays}
 use Rattle.archive_tables.proofs.SelectLemmas.{plain_query, by_number, env_of, passes, hits, in_order, asked, leaves, asked_rows, refused_rows, alone, int_is, tie_is}
+use Rattle.archive_tables.proofs.CauseLemmas.{Fits, question_fails_by}
+use Rattle.sqlite_typing.specs.Types.{accepts_program}
 
 -- ---- the numbers of a list's messages
 
@@ -49,6 +51,14 @@ places_is = (refl, refl)
 places_plain : IsPlain (understood archive_schema places_text)
 unfolding understood everything
 places_plain = (refl, refl)
+
+places_fit : Fits places_text 1 (understood archive_schema places_text)
+unfolding understood everything
+places_fit = (refl, refl)
+
+places_typed : (list : List ℕ) → accepts_program archive_schema [] (plain_query 8 of_list number_cell by_number) (Text list ∷ []) ≡ true
+unfolding everything
+places_typed list = refl
 
 abbrev place_of : Numbered Filed → Row
 place_of r = place_shown r.number
@@ -74,6 +84,14 @@ at_is = (refl, refl)
 at_plain : IsPlain (understood archive_schema at_text)
 unfolding understood everything
 at_plain = (refl, refl)
+
+at_fit : Fits at_text 1 (understood archive_schema at_text)
+unfolding understood everything
+at_fit = (refl, refl)
+
+at_typed : (place : ℤ) → accepts_program archive_schema [] (plain_query 8 at_place all_cells by_number) (Int place ∷ []) ≡ true
+unfolding everything
+at_typed place = refl
 
 module _ (place : ℤ) where
   abbrev pub is_at : Numbered Filed → Bool
@@ -175,6 +193,9 @@ module _ (old new : State) {behind : Option Database} (k : IsHeld behind old) wh
   pub no_places : (list : List ℕ) (e : Error) → FailsToQuery places_text (Text list ∷ []) old new e → RowsRest behind old new
   no_places list e h = refused_rows places_text 8 of_list number_cell by_number _ places_is.0 places_plain places_is.1 (λ t. refl) (Text list ∷ []) old new k e h
 
+  pub no_places_caused : (list : List ℕ) (e : Error) → FailsToQuery places_text (Text list ∷ []) old new e → old.step_limit ≡ None → IsCaused old new e
+  no_places_caused list e h free = question_fails_by places_text 8 of_list number_cell by_number _ places_is.0 places_plain places_is.1 (Text list ∷ []) places_fit (places_typed list) old new k free e h
+
   pub at_found : (place : ℤ) (rows : List Row) → Shown at_text (Int place ∷ []) old new rows
       → (rows ≡ map (λ (r : Numbered Filed). message_shown r.it.0) (filter (is_at place) (numbered_filed old.now.trees))) × (new.now ≡ old.now) × IsHeld behind new
   at_found place rows h =
@@ -190,6 +211,9 @@ module _ (old new : State) {behind : Option Database} (k : IsHeld behind old) wh
 
   pub none_at : (place : ℤ) (e : Error) → FailsToQuery at_text (Int place ∷ []) old new e → RowsRest behind old new
   none_at place e h = refused_rows at_text 8 at_place all_cells by_number _ at_is.0 at_plain at_is.1 (λ t. refl) (Int place ∷ []) old new k e h
+
+  pub none_at_caused : (place : ℤ) (e : Error) → FailsToQuery at_text (Int place ∷ []) old new e → old.step_limit ≡ None → IsCaused old new e
+  none_at_caused place e h free = question_fails_by at_text 8 at_place all_cells by_number _ at_is.0 at_plain at_is.1 (Int place ∷ []) at_fit (at_typed place) old new k free e h
 
   pub at_rests : (place : ℤ) (rows : List Row) → Shown at_text (Int place ∷ []) old new rows → RowsRest behind old new
   at_rests place rows h = asked_rows at_text 8 at_place all_cells by_number _ at_is.0 at_plain at_is.1 (λ t. refl) (Int place ∷ []) old new k rows h

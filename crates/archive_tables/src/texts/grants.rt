@@ -4,7 +4,8 @@ ghost use Rattle.std.specs.Prelude.{◌≡◌, ◌++◌, ◌∷◌, [], ◌&&◌
 ghost use Rattle.std.specs.List.{list_any};
 ghost use Rattle.archive_machine.specs.Questions.{is_grant};
 ghost use Rattle.archive_tables.specs.Rows.{grant_shown};
-ghost use Rattle.archive_tables.specs.Calls.{Writes, WritesWhen, Refuses, Finds, Leaves, IsUp, WasClean};
+ghost use Rattle.sqlite.specs.Held.{state};
+ghost use Rattle.archive_tables.specs.Calls.{Writes, WritesWhen, Refuses, Finds, Leaves, IsUp, WasClean, Lasts, AnswersOpen, FailsByFault};
 
 use sqlite::{Alter, Connection, Error, Row, params};
 
@@ -21,6 +22,8 @@ pub fn add_grant<S: Alter>(
         (λ a. record a { grants = a.grants ++ record { person = person.now; list = list.now; rank = rank; from_day = from_day; until_day = until_day } ∷ [] }) }
     ensures refused { Refuses S.Store conn.old conn.new result }
     ensures clean { WasClean S.Store conn.old conn.new }
+    ensures lasts { Lasts (state S.Store conn.old) (state S.Store conn.new) }
+    ensures was_open { AnswersOpen S.Store conn.old conn.new result }
 {
     conn.execute(
         "INSERT INTO grant_row (person, list, kind, from_day, until_day) VALUES (?1, ?2, ?3, ?4, ?5)",
@@ -39,6 +42,9 @@ pub fn has_grant<S: Alter>(
     ensures same { Leaves S.Store conn.old conn.new }
     ensures up { IsUp S.Store conn.old conn.new result }
     ensures clean { WasClean S.Store conn.old conn.new }
+    ensures lasts { Lasts (state S.Store conn.old) (state S.Store conn.new) }
+    ensures was_open { AnswersOpen S.Store conn.old conn.new result }
+    ensures caused { FailsByFault S.Store conn.old conn.new result }
 {
     let rows = conn.query_all(
         "SELECT kind FROM grant_row WHERE person = ?1 AND list = ?2 AND kind = ?3",
@@ -61,6 +67,8 @@ pub fn change_grant<S: Alter>(
     }) }
     ensures refused { Refuses S.Store conn.old conn.new result }
     ensures clean { WasClean S.Store conn.old conn.new }
+    ensures lasts { Lasts (state S.Store conn.old) (state S.Store conn.new) }
+    ensures was_open { AnswersOpen S.Store conn.old conn.new result }
 {
     conn.execute(
         "UPDATE grant_row SET from_day = ?4, until_day = ?5 WHERE person = ?1 AND list = ?2 AND kind = ?3",
@@ -78,6 +86,8 @@ pub fn remove_grant<S: Alter>(
     ensures removed { Writes S.Store conn.old conn.new result (λ a. record a { grants = filter (λ g. not (is_grant person.now list.now rank g)) a.grants }) }
     ensures refused { Refuses S.Store conn.old conn.new result }
     ensures clean { WasClean S.Store conn.old conn.new }
+    ensures lasts { Lasts (state S.Store conn.old) (state S.Store conn.new) }
+    ensures was_open { AnswersOpen S.Store conn.old conn.new result }
 {
     conn.execute(
         "DELETE FROM grant_row WHERE person = ?1 AND list = ?2 AND kind = ?3",
@@ -96,6 +106,9 @@ pub fn grants_of<S: Alter>(
     ensures same { Leaves S.Store conn.old conn.new }
     ensures up { IsUp S.Store conn.old conn.new result }
     ensures clean { WasClean S.Store conn.old conn.new }
+    ensures lasts { Lasts (state S.Store conn.old) (state S.Store conn.new) }
+    ensures was_open { AnswersOpen S.Store conn.old conn.new result }
+    ensures caused { FailsByFault S.Store conn.old conn.new result }
 {
     conn.query_all(
         "SELECT kind, from_day, until_day FROM grant_row WHERE person = ?1 AND list = ?2 ORDER BY rowid",

@@ -5,7 +5,8 @@ ghost use Rattle.std.specs.List.{list_any};
 ghost use Rattle.std.specs.Ordering.{nat_cmp};
 ghost use Rattle.std.specs.Cmp.Lexicographic.{slice_cmp};
 ghost use Rattle.archive_tables.specs.Rows.{name_shown};
-ghost use Rattle.archive_tables.specs.Calls.{Writes, AsksOver, Refuses, Finds, Leaves, IsUp, WasClean};
+ghost use Rattle.sqlite.specs.Held.{state};
+ghost use Rattle.archive_tables.specs.Calls.{Writes, AsksOver, Refuses, Finds, Leaves, IsUp, WasClean, Lasts, AnswersOpen, FailsByFault};
 
 use sqlite::{Alter, Connection, Error, Row, params};
 
@@ -14,6 +15,8 @@ pub fn add_list<S: Alter>(conn: &mut Connection<S>, name: &str) -> Result<usize,
     ensures added { Writes S.Store conn.old conn.new result (λ a. record a { lists = a.lists ++ name.now ∷ [] }) }
     ensures refused { Refuses S.Store conn.old conn.new result }
     ensures clean { WasClean S.Store conn.old conn.new }
+    ensures lasts { Lasts (state S.Store conn.old) (state S.Store conn.new) }
+    ensures was_open { AnswersOpen S.Store conn.old conn.new result }
 {
     conn.execute("INSERT INTO list (name) VALUES (?1)", params![name])
 }
@@ -25,6 +28,9 @@ pub fn has_list<S: Alter>(conn: &mut Connection<S>, name: &str) -> Result<bool, 
     ensures same { Leaves S.Store conn.old conn.new }
     ensures up { IsUp S.Store conn.old conn.new result }
     ensures clean { WasClean S.Store conn.old conn.new }
+    ensures lasts { Lasts (state S.Store conn.old) (state S.Store conn.new) }
+    ensures was_open { AnswersOpen S.Store conn.old conn.new result }
+    ensures caused { FailsByFault S.Store conn.old conn.new result }
 {
     let rows = conn.query_all("SELECT name FROM list WHERE name = ?1", params![name])?;
     Ok(!rows.is_empty())
@@ -37,6 +43,9 @@ pub fn list_names<S: Alter>(conn: &mut Connection<S>) -> Result<Vec<Row>, Error>
     ensures same { Leaves S.Store conn.old conn.new }
     ensures up { IsUp S.Store conn.old conn.new result }
     ensures clean { WasClean S.Store conn.old conn.new }
+    ensures lasts { Lasts (state S.Store conn.old) (state S.Store conn.new) }
+    ensures was_open { AnswersOpen S.Store conn.old conn.new result }
+    ensures caused { FailsByFault S.Store conn.old conn.new result }
 {
     conn.query_all("SELECT name FROM list ORDER BY name", &[])
 }

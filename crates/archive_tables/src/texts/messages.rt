@@ -1,13 +1,14 @@
 //! The table `message`.
 
-ghost use Rattle.std.specs.Prelude.{◌≡◌, ◌<◌, ◌++◌, ◌∷◌, [], false, Some, None, bytes_eq, filter, find, length, map, option_map, if◌then◌else◌, IfOk, MatchOption};
+ghost use Rattle.std.specs.Prelude.{◌≡◌, ◌<◌, ◌++◌, ◌∷◌, [], false, Some, None, bytes_eq, filter, find, length, map, option_map, if◌then◌else◌, IfOk, MatchOption, IsUtf8};
 ghost use Rattle.std.specs.List.{list_any};
+ghost use Rattle.std.specs.Option.{IsSomeAnd};
 ghost use Rattle.archive_machine.specs.Questions.{is_message};
 ghost use Rattle.sqlite.specs.Held.{state};
 ghost use Rattle.sqlite.specs.State.{HasCleanDisk};
 ghost use Rattle.archive_tables.specs.Tables.{IsKept, reaches_number};
 ghost use Rattle.archive_tables.specs.Rows.{new_message, message_shown, message_in, marks_of, places_in, month_places, author_places, message_at, place_shown};
-ghost use Rattle.archive_tables.specs.Calls.{Writes, WritesWhen, WritesOver, AsksOver, AsksRows, Refuses, Finds, Leaves, IsUp, WasClean};
+ghost use Rattle.archive_tables.specs.Calls.{Writes, WritesWhen, WritesOver, AsksOver, AsksRows, Refuses, Finds, Leaves, IsUp, WasClean, Lasts, AnswersOpen, FailsByFault, FailsByFaultOr};
 
 use crate::rows::{MarksRow, MessageRow, read_marks, read_message};
 use sqlite::{Alter, Connection, Error, Row, params};
@@ -37,6 +38,8 @@ pub fn add_message<S: Alter>(
           filings = a.filings ++ record { sent = sent; month = month; author = author.now } ∷ [];
         }) }
     ensures clean { WasClean S.Store conn.old conn.new }
+    ensures lasts { Lasts (state S.Store conn.old) (state S.Store conn.new) }
+    ensures was_open { AnswersOpen S.Store conn.old conn.new result }
 {
     conn.execute(
         "INSERT INTO message (list, key, sender, arrival, text, withdrawn, embargo, sent, month, author) VALUES (?1, ?2, ?3, ?4, ?5, 0, NULL, ?6, ?7, ?8)",
@@ -51,6 +54,9 @@ pub fn has_message<S: Alter>(conn: &mut Connection<S>, list: &str, key: &str) ->
     ensures same { Leaves S.Store conn.old conn.new }
     ensures up { IsUp S.Store conn.old conn.new result }
     ensures clean { WasClean S.Store conn.old conn.new }
+    ensures lasts { Lasts (state S.Store conn.old) (state S.Store conn.new) }
+    ensures was_open { AnswersOpen S.Store conn.old conn.new result }
+    ensures caused { FailsByFault S.Store conn.old conn.new result }
 {
     let rows = conn.query_all(
         "SELECT pos FROM message WHERE list = ?1 AND key = ?2",
@@ -69,6 +75,9 @@ pub fn message<S: Alter>(
     ensures same { Leaves S.Store conn.old conn.new }
     ensures up { IsUp S.Store conn.old conn.new result }
     ensures clean { WasClean S.Store conn.old conn.new }
+    ensures lasts { Lasts (state S.Store conn.old) (state S.Store conn.new) }
+    ensures was_open { AnswersOpen S.Store conn.old conn.new result }
+    ensures caused { FailsByFault S.Store conn.old conn.new result }
 {
     let rows = conn.query_all(
         "SELECT key, sender, arrival, text, withdrawn, embargo FROM message WHERE list = ?1 AND key = ?2 ORDER BY pos",
@@ -90,6 +99,8 @@ pub fn marks<S: Alter>(
     ensures same { Leaves S.Store conn.old conn.new }
     ensures up { IsUp S.Store conn.old conn.new result }
     ensures clean { WasClean S.Store conn.old conn.new }
+    ensures lasts { Lasts (state S.Store conn.old) (state S.Store conn.new) }
+    ensures was_open { AnswersOpen S.Store conn.old conn.new result }
 {
     let rows = conn.query_all(
         "SELECT withdrawn, embargo FROM message WHERE list = ?1 AND key = ?2 ORDER BY pos",
@@ -107,6 +118,9 @@ pub fn messages<S: Alter>(conn: &mut Connection<S>, list: &str) -> Result<Vec<Ro
     ensures same { Leaves S.Store conn.old conn.new }
     ensures up { IsUp S.Store conn.old conn.new result }
     ensures clean { WasClean S.Store conn.old conn.new }
+    ensures lasts { Lasts (state S.Store conn.old) (state S.Store conn.new) }
+    ensures was_open { AnswersOpen S.Store conn.old conn.new result }
+    ensures caused { FailsByFault S.Store conn.old conn.new result }
 {
     conn.query_all(
         "SELECT key, sender, arrival, text, withdrawn, embargo FROM message WHERE list = ?1 ORDER BY pos",
@@ -118,6 +132,9 @@ pub fn messages<S: Alter>(conn: &mut Connection<S>, list: &str) -> Result<Vec<Ro
 pub fn places<S: Alter>(conn: &mut Connection<S>, list: &str) -> Result<Vec<Row>, Error>
     ensures held { AsksRows S.Store conn.old conn.new result (λ trees rows. rows.items ≡ map place_shown (places_in trees list.now)) }
     ensures clean { WasClean S.Store conn.old conn.new }
+    ensures lasts { Lasts (state S.Store conn.old) (state S.Store conn.new) }
+    ensures was_open { AnswersOpen S.Store conn.old conn.new result }
+    ensures caused { FailsByFault S.Store conn.old conn.new result }
 {
     conn.query_all(
         "SELECT pos FROM message WHERE list = ?1 ORDER BY pos",
@@ -134,6 +151,9 @@ pub fn month_places<S: Alter>(
 ) -> Result<Vec<Row>, Error>
     ensures held { AsksRows S.Store conn.old conn.new result (λ trees rows. rows.items ≡ map place_shown (month_places trees list.now month)) }
     ensures clean { WasClean S.Store conn.old conn.new }
+    ensures lasts { Lasts (state S.Store conn.old) (state S.Store conn.new) }
+    ensures was_open { AnswersOpen S.Store conn.old conn.new result }
+    ensures caused { FailsByFault S.Store conn.old conn.new result }
 {
     conn.query_all(
         "SELECT pos FROM message WHERE list = ?1 AND month = ?2 ORDER BY sent, pos",
@@ -149,6 +169,9 @@ pub fn author_places<S: Alter>(
 ) -> Result<Vec<Row>, Error>
     ensures held { AsksRows S.Store conn.old conn.new result (λ trees rows. rows.items ≡ map place_shown (author_places trees list.now key.now)) }
     ensures clean { WasClean S.Store conn.old conn.new }
+    ensures lasts { Lasts (state S.Store conn.old) (state S.Store conn.new) }
+    ensures was_open { AnswersOpen S.Store conn.old conn.new result }
+    ensures caused { FailsByFault S.Store conn.old conn.new result }
 {
     conn.query_all(
         "SELECT pos FROM message WHERE list = ?1 AND author = ?2 ORDER BY sent, pos",
@@ -164,6 +187,10 @@ pub fn message_at<S: Alter>(
     ensures held { AsksRows S.Store conn.old conn.new result (λ trees found. MatchOption found (message_at trees place ≡ None)
         (λ row. (m : _) × (message_at trees place ≡ Some m) × (message_in m.list row ≡ m))) }
     ensures clean { WasClean S.Store conn.old conn.new }
+    ensures lasts { Lasts (state S.Store conn.old) (state S.Store conn.new) }
+    ensures was_open { AnswersOpen S.Store conn.old conn.new result }
+    ensures caused { FailsByFaultOr S.Store conn.old conn.new result
+        (IsSomeAnd (message_at (state S.Store conn.old).now.trees place) (λ m. ¬ IsUtf8 m.key)) }
 {
     let rows = conn.query_all(
         "SELECT key, sender, arrival, text, withdrawn, embargo FROM message WHERE pos = ?1 ORDER BY pos",
@@ -182,6 +209,9 @@ pub fn count_messages<S: Alter>(conn: &mut Connection<S>, list: &str) -> Result<
     ensures same { Leaves S.Store conn.old conn.new }
     ensures up { IsUp S.Store conn.old conn.new result }
     ensures clean { WasClean S.Store conn.old conn.new }
+    ensures lasts { Lasts (state S.Store conn.old) (state S.Store conn.new) }
+    ensures was_open { AnswersOpen S.Store conn.old conn.new result }
+    ensures caused { FailsByFault S.Store conn.old conn.new result }
 {
     let rows = conn.query_all("SELECT pos FROM message WHERE list = ?1", params![list])?;
     Ok(rows.len())
@@ -196,6 +226,8 @@ pub fn reaches<S: Alter>(conn: &mut Connection<S>, limit: u32) -> Result<bool, E
     ensures same { Leaves S.Store conn.old conn.new }
     ensures up { IsUp S.Store conn.old conn.new result }
     ensures clean { WasClean S.Store conn.old conn.new }
+    ensures lasts { Lasts (state S.Store conn.old) (state S.Store conn.new) }
+    ensures was_open { AnswersOpen S.Store conn.old conn.new result }
 {
     let rows = conn.query_all(
         "SELECT pos FROM message WHERE pos >= ?1 LIMIT 1",
@@ -215,6 +247,8 @@ pub fn set_withdrawn<S: Alter>(
         (λ a. record a { messages = map (λ m. if is_message list.now key.now m then record m { withdrawn = by } else m) a.messages }) }
     ensures refused { Refuses S.Store conn.old conn.new result }
     ensures clean { WasClean S.Store conn.old conn.new }
+    ensures lasts { Lasts (state S.Store conn.old) (state S.Store conn.new) }
+    ensures was_open { AnswersOpen S.Store conn.old conn.new result }
 {
     conn.execute(
         "UPDATE message SET withdrawn = ?3 WHERE list = ?1 AND key = ?2",
@@ -233,6 +267,8 @@ pub fn set_embargo<S: Alter>(
         (λ a. record a { messages = map (λ m. if is_message list.now key.now m then record m { embargo = Some until } else m) a.messages }) }
     ensures refused { Refuses S.Store conn.old conn.new result }
     ensures clean { WasClean S.Store conn.old conn.new }
+    ensures lasts { Lasts (state S.Store conn.old) (state S.Store conn.new) }
+    ensures was_open { AnswersOpen S.Store conn.old conn.new result }
 {
     conn.execute(
         "UPDATE message SET embargo = ?3 WHERE list = ?1 AND key = ?2",
@@ -250,6 +286,8 @@ pub fn clear_embargo<S: Alter>(
         (λ a. record a { messages = map (λ m. if is_message list.now key.now m then record m { embargo = None } else m) a.messages }) }
     ensures refused { Refuses S.Store conn.old conn.new result }
     ensures clean { WasClean S.Store conn.old conn.new }
+    ensures lasts { Lasts (state S.Store conn.old) (state S.Store conn.new) }
+    ensures was_open { AnswersOpen S.Store conn.old conn.new result }
 {
     conn.execute(
         "UPDATE message SET embargo = NULL WHERE list = ?1 AND key = ?2",

@@ -1,8 +1,11 @@
 //! The table `person`.
 
-ghost use Rattle.std.specs.Prelude.{◌≡◌, ◌++◌, ◌∷◌, [], bytes_eq, find, option_map, string_bytes};
+ghost use Rattle.std.specs.Prelude.{◌≡◌, ◌++◌, ◌∷◌, [], bytes_eq, find, option_map, string_bytes, IsUtf8};
 ghost use Rattle.std.specs.List.{list_any};
-ghost use Rattle.archive_tables.specs.Calls.{Writes, Refuses, Finds, Leaves, IsUp, WasClean};
+ghost use Rattle.std.specs.Option.{IsSomeAnd};
+ghost use Rattle.sqlite.specs.Held.{state};
+ghost use Rattle.archive_tables.specs.Tables.{archive_of};
+ghost use Rattle.archive_tables.specs.Calls.{Writes, Refuses, Finds, Leaves, IsUp, WasClean, Lasts, AnswersOpen, FailsByFault, FailsByFaultOr};
 
 use crate::rows::read_name;
 use sqlite::{Alter, Connection, Error, params};
@@ -16,6 +19,8 @@ pub fn add_person<S: Alter>(
     ensures added { Writes S.Store conn.old conn.new result (λ a. record a { persons = a.persons ++ record { name = name.now; token = token.now } ∷ [] }) }
     ensures refused { Refuses S.Store conn.old conn.new result }
     ensures clean { WasClean S.Store conn.old conn.new }
+    ensures lasts { Lasts (state S.Store conn.old) (state S.Store conn.new) }
+    ensures was_open { AnswersOpen S.Store conn.old conn.new result }
 {
     conn.execute(
         "INSERT INTO person (name, token) VALUES (?1, ?2)",
@@ -29,6 +34,9 @@ pub fn has_person<S: Alter>(conn: &mut Connection<S>, name: &str) -> Result<bool
     ensures same { Leaves S.Store conn.old conn.new }
     ensures up { IsUp S.Store conn.old conn.new result }
     ensures clean { WasClean S.Store conn.old conn.new }
+    ensures lasts { Lasts (state S.Store conn.old) (state S.Store conn.new) }
+    ensures was_open { AnswersOpen S.Store conn.old conn.new result }
+    ensures caused { FailsByFault S.Store conn.old conn.new result }
 {
     let rows = conn.query_all("SELECT name FROM person WHERE name = ?1", params![name])?;
     Ok(!rows.is_empty())
@@ -40,6 +48,9 @@ pub fn has_token<S: Alter>(conn: &mut Connection<S>, token: &str) -> Result<bool
     ensures same { Leaves S.Store conn.old conn.new }
     ensures up { IsUp S.Store conn.old conn.new result }
     ensures clean { WasClean S.Store conn.old conn.new }
+    ensures lasts { Lasts (state S.Store conn.old) (state S.Store conn.new) }
+    ensures was_open { AnswersOpen S.Store conn.old conn.new result }
+    ensures caused { FailsByFault S.Store conn.old conn.new result }
 {
     let rows = conn.query_all("SELECT token FROM person WHERE token = ?1", params![token])?;
     Ok(!rows.is_empty())
@@ -55,6 +66,10 @@ pub fn person_of_token<S: Alter>(
     ensures same { Leaves S.Store conn.old conn.new }
     ensures up { IsUp S.Store conn.old conn.new result }
     ensures clean { WasClean S.Store conn.old conn.new }
+    ensures lasts { Lasts (state S.Store conn.old) (state S.Store conn.new) }
+    ensures was_open { AnswersOpen S.Store conn.old conn.new result }
+    ensures caused { FailsByFaultOr S.Store conn.old conn.new result
+        (IsSomeAnd (find (λ p. bytes_eq p.token token.now) (archive_of (state S.Store conn.old)).persons) (λ p. ¬ IsUtf8 p.name)) }
 {
     let rows = conn.query_all(
         "SELECT name FROM person WHERE token = ?1 ORDER BY rowid",

@@ -8,7 +8,7 @@ ghost use Rattle.archive_tables.specs.Schema.{no_schema, with_version, with_list
 ghost use Rattle.archive_tables.specs.Tables.{IsHeld, IsKept, IsOfArchive, archive_of};
 ghost use Rattle.archive_tables.specs.Rows.{versions_shown};
 ghost use Rattle.archive_tables.specs.Making.{IsMaking, IsMade, Stops, IsBackTo, IsStopped, empty_archive};
-ghost use Rattle.archive_tables.specs.Calls.{StaysOver, RestsOver, Rests, IsBackAt, IsHeldOrBack, Finds, Leaves, IsUp, WasClean};
+ghost use Rattle.archive_tables.specs.Calls.{StaysOver, RestsOver, Rests, IsBackAt, IsHeldOrBack, Finds, Leaves, IsUp, WasClean, Lasts, AnswersOpen, FailsByFault};
 
 use sqlite::{Alter, Connection, Error, Row, params};
 
@@ -24,6 +24,8 @@ pub fn begin<S: Alter>(conn: &mut Connection<S>) -> Result<usize, Error>
         (λ _. Rests (state S.Store conn.old) (state S.Store conn.new)) }
     ensures stopped { Stops S.Store conn.old conn.new result }
     ensures clean { WasClean S.Store conn.old conn.new }
+    ensures lasts { Lasts (state S.Store conn.old) (state S.Store conn.new) }
+    ensures was_open { AnswersOpen S.Store conn.old conn.new result }
 {
     conn.execute("BEGIN", &[])
 }
@@ -33,6 +35,8 @@ pub fn create_version<S: Alter>(conn: &mut Connection<S>) -> Result<usize, Error
     ensures made { HasCleanDisk (state S.Store conn.new) → (before : _) → IsMaking (state S.Store conn.old) no_schema before → OnOk result (IsMaking (state S.Store conn.new) with_version before) }
     ensures stopped { Stops S.Store conn.old conn.new result }
     ensures clean { WasClean S.Store conn.old conn.new }
+    ensures lasts { Lasts (state S.Store conn.old) (state S.Store conn.new) }
+    ensures was_open { AnswersOpen S.Store conn.old conn.new result }
 {
     conn.execute("CREATE TABLE version (number INTEGER NOT NULL) STRICT", &[])
 }
@@ -42,6 +46,8 @@ pub fn create_list<S: Alter>(conn: &mut Connection<S>) -> Result<usize, Error>
     ensures made { HasCleanDisk (state S.Store conn.new) → (before : _) → IsMaking (state S.Store conn.old) with_version before → OnOk result (IsMaking (state S.Store conn.new) with_list before) }
     ensures stopped { Stops S.Store conn.old conn.new result }
     ensures clean { WasClean S.Store conn.old conn.new }
+    ensures lasts { Lasts (state S.Store conn.old) (state S.Store conn.new) }
+    ensures was_open { AnswersOpen S.Store conn.old conn.new result }
 {
     conn.execute(
         "CREATE TABLE list (name TEXT NOT NULL PRIMARY KEY) STRICT",
@@ -54,6 +60,8 @@ pub fn create_person<S: Alter>(conn: &mut Connection<S>) -> Result<usize, Error>
     ensures made { HasCleanDisk (state S.Store conn.new) → (before : _) → IsMaking (state S.Store conn.old) with_list before → OnOk result (IsMaking (state S.Store conn.new) with_person before) }
     ensures stopped { Stops S.Store conn.old conn.new result }
     ensures clean { WasClean S.Store conn.old conn.new }
+    ensures lasts { Lasts (state S.Store conn.old) (state S.Store conn.new) }
+    ensures was_open { AnswersOpen S.Store conn.old conn.new result }
 {
     conn.execute(
         "CREATE TABLE person (name TEXT NOT NULL PRIMARY KEY, token TEXT NOT NULL UNIQUE) STRICT",
@@ -66,6 +74,8 @@ pub fn create_grant<S: Alter>(conn: &mut Connection<S>) -> Result<usize, Error>
     ensures made { HasCleanDisk (state S.Store conn.new) → (before : _) → IsMaking (state S.Store conn.old) with_person before → OnOk result (IsMaking (state S.Store conn.new) with_grant before) }
     ensures stopped { Stops S.Store conn.old conn.new result }
     ensures clean { WasClean S.Store conn.old conn.new }
+    ensures lasts { Lasts (state S.Store conn.old) (state S.Store conn.new) }
+    ensures was_open { AnswersOpen S.Store conn.old conn.new result }
 {
     conn.execute(
         "CREATE TABLE grant_row (person TEXT NOT NULL REFERENCES person (name), list TEXT NOT NULL REFERENCES list (name), kind INTEGER NOT NULL CHECK (kind BETWEEN 1 AND 3), from_day INTEGER NOT NULL CHECK (from_day BETWEEN -25567 AND 2932531), until_day INTEGER NOT NULL CHECK (until_day BETWEEN -25567 AND 2932531), PRIMARY KEY (person, list, kind), CHECK (from_day <= until_day)) STRICT",
@@ -78,6 +88,8 @@ pub fn create_message<S: Alter>(conn: &mut Connection<S>) -> Result<usize, Error
     ensures made { HasCleanDisk (state S.Store conn.new) → (before : _) → IsMaking (state S.Store conn.old) with_grant before → OnOk result (IsMaking (state S.Store conn.new) with_message before) }
     ensures stopped { Stops S.Store conn.old conn.new result }
     ensures clean { WasClean S.Store conn.old conn.new }
+    ensures lasts { Lasts (state S.Store conn.old) (state S.Store conn.new) }
+    ensures was_open { AnswersOpen S.Store conn.old conn.new result }
 {
     conn.execute(
         "CREATE TABLE message (pos INTEGER PRIMARY KEY AUTOINCREMENT, list TEXT NOT NULL REFERENCES list (name), key TEXT NOT NULL, sender BLOB NOT NULL, arrival INTEGER NOT NULL, text BLOB NOT NULL, withdrawn INTEGER NOT NULL CHECK (withdrawn BETWEEN 0 AND 2), embargo INTEGER CHECK (embargo BETWEEN -25567 AND 2932531), sent INTEGER NOT NULL, month INTEGER NOT NULL, author BLOB NOT NULL, UNIQUE (list, key)) STRICT",
@@ -90,6 +102,8 @@ pub fn create_month_index<S: Alter>(conn: &mut Connection<S>) -> Result<usize, E
     ensures made { HasCleanDisk (state S.Store conn.new) → (before : _) → IsMaking (state S.Store conn.old) with_message before → OnOk result (IsMaking (state S.Store conn.new) with_month_index before) }
     ensures stopped { Stops S.Store conn.old conn.new result }
     ensures clean { WasClean S.Store conn.old conn.new }
+    ensures lasts { Lasts (state S.Store conn.old) (state S.Store conn.new) }
+    ensures was_open { AnswersOpen S.Store conn.old conn.new result }
 {
     conn.execute(
         "CREATE INDEX message_by_month ON message (list, month, sent, pos)",
@@ -102,6 +116,8 @@ pub fn create_author_index<S: Alter>(conn: &mut Connection<S>) -> Result<usize, 
     ensures made { HasCleanDisk (state S.Store conn.new) → (before : _) → IsMaking (state S.Store conn.old) with_month_index before → OnOk result (IsMaking (state S.Store conn.new) archive_schema before) }
     ensures stopped { Stops S.Store conn.old conn.new result }
     ensures clean { WasClean S.Store conn.old conn.new }
+    ensures lasts { Lasts (state S.Store conn.old) (state S.Store conn.new) }
+    ensures was_open { AnswersOpen S.Store conn.old conn.new result }
 {
     conn.execute(
         "CREATE INDEX message_by_author ON message (list, author, sent, pos)",
@@ -114,6 +130,8 @@ pub fn add_version<S: Alter>(conn: &mut Connection<S>) -> Result<usize, Error>
     ensures made { HasCleanDisk (state S.Store conn.new) → (before : _) → IsMaking (state S.Store conn.old) archive_schema before → OnOk result (IsMade (state S.Store conn.new) before) }
     ensures stopped { Stops S.Store conn.old conn.new result }
     ensures clean { WasClean S.Store conn.old conn.new }
+    ensures lasts { Lasts (state S.Store conn.old) (state S.Store conn.new) }
+    ensures was_open { AnswersOpen S.Store conn.old conn.new result }
 {
     conn.execute("INSERT INTO version (number) VALUES (?1)", params![VERSION])
 }
@@ -127,6 +145,8 @@ pub fn commit<S: Alter>(conn: &mut Connection<S>) -> Result<usize, Error>
         (λ _. RestsOver (Some db) (state S.Store conn.old) (state S.Store conn.new)) }
     ensures stopped { Stops S.Store conn.old conn.new result }
     ensures clean { WasClean S.Store conn.old conn.new }
+    ensures lasts { Lasts (state S.Store conn.old) (state S.Store conn.new) }
+    ensures was_open { AnswersOpen S.Store conn.old conn.new result }
 {
     conn.execute("COMMIT", &[])
 }
@@ -141,6 +161,7 @@ pub fn rollback<S: Alter>(conn: &mut Connection<S>) -> Result<usize, Error>
     ensures back { HasCleanDisk (state S.Store conn.new) → (before : _) → IsStopped (state S.Store conn.old) before → IsBackTo (state S.Store conn.new) before }
     ensures stopped { Stops S.Store conn.old conn.new result }
     ensures clean { WasClean S.Store conn.old conn.new }
+    ensures lasts { Lasts (state S.Store conn.old) (state S.Store conn.new) }
 {
     conn.execute("ROLLBACK", &[])
 }
@@ -154,6 +175,9 @@ pub fn versions<S: Alter>(conn: &mut Connection<S>) -> Result<Vec<Row>, Error>
     ensures same { Leaves S.Store conn.old conn.new }
     ensures up { IsUp S.Store conn.old conn.new result }
     ensures clean { WasClean S.Store conn.old conn.new }
+    ensures lasts { Lasts (state S.Store conn.old) (state S.Store conn.new) }
+    ensures was_open { AnswersOpen S.Store conn.old conn.new result }
+    ensures caused { FailsByFault S.Store conn.old conn.new result }
 {
     conn.query_all("SELECT number FROM version ORDER BY rowid", &[])
 }

@@ -5,6 +5,7 @@ use Rattle.archive_tables.specs.Rows.{marks_shown, marks_of}
 use Rattle.archive_tables.proofs.SelectLemmas.{first_found, none_found}
 use Rattle.sqlite.specs.Held.{state}
 use Rattle.archive_tables.proofs.MailboxLemmas.{marks, no_marks}
+use Rattle.archive_tables.proofs.LastLemmas.{query_lasts, shown_open}
 use Rattle.archive_tables.proofs.texts.messages.marks.Goals as goal
 
 pub returns-in_err-rows-clause-same : goal.returns-in_err-rows-clause-same
@@ -43,3 +44,21 @@ returns-clause-same g c clean k =
 pub returns-clause-up : goal.returns-clause-up
 returns-clause-up g c clean k =
     (marks (state g.S.Store c.args.conn.now) (state g.S.Store c.query_all.new.self) c.args.list.now k c.args.key.now c.in_ok-rows.rows.items (rw (c.params-to_sql.ensures, c.params-to_sql-2.ensures) at (c.in_ok-rows.ensures.ok clean))).1
+
+pub returns-in_err-rows-clause-lasts : goal.returns-in_err-rows-clause-lasts
+returns-in_err-rows-clause-lasts g c = query_lasts (state g.S.Store c.args.conn.now) (state g.S.Store c.query_all.new.self) _ _ _ c.query_all.result c.query_all.ensures.survives c.query_all.ensures.ok c.query_all.ensures.err
+
+pub returns-in_err-read_marks-in-Some-clause-lasts : goal.returns-in_err-read_marks-in-Some-clause-lasts
+returns-in_err-read_marks-in-Some-clause-lasts g c = query_lasts (state g.S.Store c.args.conn.now) (state g.S.Store c.query_all.new.self) _ _ _ c.query_all.result c.query_all.ensures.survives c.query_all.ensures.ok c.query_all.ensures.err
+
+pub returns-in-Some-clause-lasts : goal.returns-in-Some-clause-lasts
+returns-in-Some-clause-lasts g c = query_lasts (state g.S.Store c.args.conn.now) (state g.S.Store c.query_all.new.self) _ _ _ c.query_all.result c.query_all.ensures.survives c.query_all.ensures.ok c.query_all.ensures.err
+
+pub returns-clause-lasts : goal.returns-clause-lasts
+returns-clause-lasts g c = query_lasts (state g.S.Store c.args.conn.now) (state g.S.Store c.query_all.new.self) _ _ _ c.query_all.result c.query_all.ensures.survives c.query_all.ensures.ok c.query_all.ensures.err
+
+pub returns-in-Some-clause-was_open : goal.returns-in-Some-clause-was_open
+returns-in-Some-clause-was_open g c clean = shown_open (state g.S.Store c.args.conn.now) (state g.S.Store c.query_all.new.self) _ _ c.in_ok-rows.rows.items (c.in_ok-rows.ensures.ok clean)
+
+pub returns-clause-was_open : goal.returns-clause-was_open
+returns-clause-was_open g c clean = shown_open (state g.S.Store c.args.conn.now) (state g.S.Store c.query_all.new.self) _ _ c.in_ok-rows.rows.items (c.in_ok-rows.ensures.ok clean)

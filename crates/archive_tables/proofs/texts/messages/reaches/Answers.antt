@@ -3,6 +3,7 @@ use Rattle.std.specs.Prelude.{◌≡◌, not, ◌==◌, length}
 use Rattle.std.specs.Vec.{vec_len}
 use Rattle.sqlite.specs.Held.{state}
 use Rattle.archive_tables.proofs.ReachLemmas.{reached, reached_number, not_reached}
+use Rattle.archive_tables.proofs.LastLemmas.{query_lasts, shown_open}
 use Rattle.archive_tables.proofs.texts.messages.reaches.Goals as goal
 
 empty_is : (n : ℕ) → not (n == 0) ≡ false → n ≡ 0
@@ -31,3 +32,12 @@ returns-in_err-rows-clause-same g c clean k =
 pub returns-clause-up : goal.returns-clause-up
 returns-clause-up g c clean k =
     (reached (state g.S.Store c.args.conn.now) (state g.S.Store c.query_all.new.self) c.args.limit k c.in_ok-rows.rows.items (rw c.params-to_sql.ensures at (c.in_ok-rows.ensures.ok clean))).1
+
+pub returns-in_err-rows-clause-lasts : goal.returns-in_err-rows-clause-lasts
+returns-in_err-rows-clause-lasts g c = query_lasts (state g.S.Store c.args.conn.now) (state g.S.Store c.query_all.new.self) _ _ _ c.query_all.result c.query_all.ensures.survives c.query_all.ensures.ok c.query_all.ensures.err
+
+pub returns-clause-lasts : goal.returns-clause-lasts
+returns-clause-lasts g c = query_lasts (state g.S.Store c.args.conn.now) (state g.S.Store c.query_all.new.self) _ _ _ c.query_all.result c.query_all.ensures.survives c.query_all.ensures.ok c.query_all.ensures.err
+
+pub returns-clause-was_open : goal.returns-clause-was_open
+returns-clause-was_open g c clean = shown_open (state g.S.Store c.args.conn.now) (state g.S.Store c.query_all.new.self) _ _ c.in_ok-rows.rows.items (c.in_ok-rows.ensures.ok clean)

@@ -8,6 +8,9 @@ use Rattle.archive_tables.specs.Making.{IsMade, empty_archive}
 use Rattle.archive_tables.proofs.RunLemmas.{execute_fails}
 use Rattle.archive_tables.proofs.MakeLemmas.{commits, commit_text}
 use Rattle.archive_tables.proofs.HeldLemmas.{commits_over}
+use Rattle.sqlite_tied.specs.Compute.{everything}
+use Rattle.sqlite_resolve.specs.Compile.{first}
+use Rattle.archive_tables.proofs.LastLemmas.{IsOurText, execute_lasts, execute_open}
 use Rattle.archive_tables.proofs.texts.schema.commit.Goals as goal
 
 done : (old new : State) (before : Database) → IsMade old before → (r : Result ℕ Error) → Executes commit_text [] old new r → OnOk r (IsKept new × (archive_of new ≡ empty_archive))
@@ -26,3 +29,13 @@ returns-clause-stopped g c clean = stops (state g.S.Store c.args.conn.now) (stat
 
 pub returns-clause-held : goal.returns-clause-held
 returns-clause-held g c clean db k = commits_over db (state g.S.Store c.args.conn.now) (state g.S.Store c.execute.new.self) c.execute.result k (c.execute.ensures.runs clean)
+
+ours : IsOurText (first commit_text)
+unfolding first everything
+ours = tt
+
+pub returns-clause-lasts : goal.returns-clause-lasts
+returns-clause-lasts g c = execute_lasts (state g.S.Store c.args.conn.now) (state g.S.Store c.execute.new.self) _ _ _ c.execute.result c.execute.ensures.survives c.execute.ensures.runs
+
+pub returns-clause-was_open : goal.returns-clause-was_open
+returns-clause-was_open g c clean = execute_open (state g.S.Store c.args.conn.now) (state g.S.Store c.execute.new.self) _ _ c.execute.result ours (c.execute.ensures.runs clean)

@@ -6,6 +6,7 @@ use Rattle.sqlite.specs.State.{State, Executes, IsUnchanged, IsRolledBack}
 use Rattle.archive_tables.proofs.RunLemmas.{execute_fails}
 use Rattle.archive_tables.proofs.MakeLemmas.{undoes, rollback_text}
 use Rattle.archive_tables.proofs.HeldLemmas.{leaves_over, goes_back_to}
+use Rattle.archive_tables.proofs.LastLemmas.{execute_lasts}
 use Rattle.archive_tables.proofs.texts.schema.rollback.Goals as goal
 
 done : (old new : State) → (r : Result ℕ Error) → Executes rollback_text [] old new r → OnOk r (IsTrue new.is_open → IsTrue old.is_open × (new.now ≡ old.committed) × (new.committed ≡ old.committed) × (new.in_transaction ≡ false))
@@ -27,3 +28,6 @@ returns-clause-left g c clean db k up = leaves_over db (state g.S.Store c.args.c
 
 pub returns-clause-back : goal.returns-clause-back
 returns-clause-back g c clean before k = goes_back_to before (state g.S.Store c.args.conn.now) (state g.S.Store c.execute.new.self) c.execute.result k (c.execute.ensures.runs clean)
+
+pub returns-clause-lasts : goal.returns-clause-lasts
+returns-clause-lasts g c = execute_lasts (state g.S.Store c.args.conn.now) (state g.S.Store c.execute.new.self) _ _ _ c.execute.result c.execute.ensures.survives c.execute.ensures.runs

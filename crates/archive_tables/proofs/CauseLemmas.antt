@@ -1,0 +1,91 @@
+-- Why a question is not answered.
+use Rattle.std.proofs.Common.{◌≡◌, ◌⊎◌, inl, inr, ℕ, List, [], length, Ok, Err, Result, sym, ap, subst, subst₂, ◌∙◌, true, false, Some, None, Option, append-nil, arith}
+use Rattle.std.specs.Prelude.{IsTrue, IsSome, IsUtf8, IfErr, IsErrAnd}
+use Rattle.std.specs.Option.{IsSomeAnd}
+use Rattle.sqlite.specs.declared.error.Error.{Error}
+use Rattle.sqlite_trees.specs.declared.error.StoreError.TheVariants.{OutOfMemory, Io, Corrupt, Full, Broken, Unstorable}
+use Rattle.sqlite_resolve.specs.declared.compiled.Compiled.{Compiled}
+use Rattle.sqlite_resolve.specs.declared.error.CompileError.{CompileError}
+use Rattle.sqlite_typing.specs.Types.{accepts_program}
+use Rattle.sqlite.specs.Order.{Row}
+use Rattle.sqlite.specs.Term.{Term}
+use Rattle.sqlite_value.specs.declared.keys.Key.{Key}
+use Rattle.sqlite.specs.Command.TheVariants.{Select}
+use Rattle.sqlite.specs.Effect.{Database, RefusesQuery, RefusesToRead}
+use Rattle.sqlite.specs.Listing.{understood, reads_listing, IsSourceOf}
+use Rattle.sqlite.specs.State.{State, Fails, IsNotRun, IsNoStatement, FailsToQuery}
+use Rattle.sqlite.proofs.Callers.{IsPlain, command_of}
+use Rattle.archive_tables.specs.Schema.{archive_schema}
+use Rattle.archive_tables.specs.Tables.{IsHeld}
+use Rattle.archive_tables.specs.Rows.{IsTextFault}
+use Rattle.archive_tables.specs.Calls.{IsCaused}
+use Rattle.archive_tables.proofs.SelectLemmas.{plain_query}
+
+-- one statement, with so many parameters
+abbrev pub Fits : List ℕ → ℕ → Result Compiled CompileError → Type 0
+Fits sql n (Ok c) = (c.tail ≡ length sql) × (length c.names ≡ n)
+Fits sql n (Err e) = ⊥
+
+pub no_statement : (s : State) (sql : List ℕ) (params : Row) (e : Error) → Fits sql (length params) (understood s.now.schema sql) → IsPlain (understood s.now.schema sql)
+    → IsNoStatement s sql params e → ⊥
+no_statement s sql params e fits plain (inl bad) = subst (Fits sql (length params)) bad.1 fits
+no_statement s sql params e fits plain (inr it) =
+    let c = subst (Fits sql (length params)) it.1 fits in
+    let p = subst IsPlain it.1 plain in
+    elim it.2 [
+      | inl many ↦ many.0 (omega (arith, c.0))
+      | inr other ↦ elim other [ inl few ↦ few.0 (sym c.1) | inr timed ↦ timed.0 p.1 ]
+    ]
+
+pub fails_by : (old new : State) (e : Error) → IsTrue old.is_open → Fails old new ⊥ e → IsCaused old new e
+fails_by old new e up (OutOfMemory, is, why, back, tells) = inl is
+fails_by old new e up (Io, is, why, back, tells) = inr why
+fails_by old new e up (Corrupt, is, why, back, tells) = inr why
+fails_by old new e up (Full, is, why, back, tells) = inr why
+fails_by old new e up (Broken, is, why, back, tells) = absurd (let bad = sym up ∙ why in cc)
+fails_by old new e up (Unstorable, is, why, back, tells) = absurd why
+
+module _ (sql : List ℕ) (t : ℕ) (terms shown : List Term) (order : List (Term × Key)) (names : List (List ℕ))
+    (is : command_of (understood archive_schema sql) ≡ Select (record { lets = []; body = plain_query t terms shown order }) names) (plain : IsPlain (understood archive_schema sql))
+    (unlisted : reads_listing archive_schema sql ≡ false) (params : Row) (fits : Fits sql (length params) (understood archive_schema sql))
+    (typed : accepts_program archive_schema [] (plain_query t terms shown order) params ≡ true)
+    (old new : State) {behind : Option Database} (k : IsHeld behind old) (free : old.step_limit ≡ None) where
+  never_refused : (e : Error) → RefusesQuery old.step_limit old.now (record { lets = []; body = plain_query t terms shown order }) params e → ⊥
+  never_refused e (inl mistyped) =
+      absurd (let bad = sym typed ∙ subst (λ s. accepts_program s [] (plain_query t terms shown order) params ≡ false) k.schema mistyped.1 in cc)
+  never_refused e (inr (inl (code, inl grouped))) = grouped
+  never_refused e (inr (inl (code, inr (i, row, low, at, none)))) = none
+  never_refused e (inr (inr (code, some))) = absurd (let bad = subst IsSome free some in cc)
+
+  pub question_fails_by : (e : Error) → FailsToQuery sql params old new e → IsCaused old new e
+  unfolding FailsToQuery IsNotRun
+  question_fails_by e (inl (inl refused)) = absurd (no_statement old sql params e
+      (subst (λ s. Fits sql (length params) (understood s sql)) (sym k.schema) fits) (subst (λ s. IsPlain (understood s sql)) (sym k.schema) plain) refused.0)
+  question_fails_by e (inl (inr failed)) = fails_by old new e k.is_open failed
+  question_fails_by e (inr ran) =
+      let known = sym ran.1.is ∙ ap (λ s. understood s sql) k.schema in
+      let bare = subst IsPlain (sym known) plain in
+      let it = rw (bare.0, bare.1, append-nil params) at ran.2 in
+      let db : it.0 ≡ old.now = subst (λ b. IsSourceOf b old.now it.0) (ap (λ s. reads_listing s sql) k.schema ∙ unlisted) it.1 in
+      absurd (never_refused e (subst₂ (λ c d. RefusesToRead old.step_limit c d params e) (ap command_of known ∙ is) db it.2))
+
+-- ---- a result whose error has a cause
+
+pub each_error : {A E : Type 0} (r : Result A E) (P Q : E → Type 0) → ((e : E) → P e → Q e) → IfErr r P → IfErr r Q
+each_error (Ok a) P Q why it = tt
+each_error (Err e) P Q why it = why e it
+
+-- the exit of a `?`
+pub carried : {A E : Type 0} (r : Result A E) (e : E) (Q : E → Type 0) → IsErrAnd r (λ f. f ≡ e) → Q e → IfErr r Q
+carried (Ok a) e Q is it = tt
+carried (Err f) e Q is it = subst Q (sym is) it
+
+-- what a row that shows a text says of its fault
+pub read_fails_by : {X : Type 0} (old new : State) (text : X → List ℕ) (found : Option X) (x : X) (e : Error) → found ≡ Some x → IsTextFault (text x) e
+    → IsCaused old new e ⊎ IsSomeAnd found (λ x. ¬ IsUtf8 (text x))
+read_fails_by old new text found x e is (inl none) = inl (inl none)
+read_fails_by old new text found x e is (inr bad) = inr (subst (λ o. IsSomeAnd o (λ x. ¬ IsUtf8 (text x))) (sym is) bad.0)
+
+pub good_text_fails_by : (old new : State) (text : List ℕ) (e : Error) → IsUtf8 text → IsTextFault text e → IsCaused old new e
+good_text_fails_by old new text e good (inl none) = inl none
+good_text_fails_by old new text e good (inr bad) = absurd (bad.0 good)
