@@ -1,6 +1,6 @@
 -- The highest rank of some grants, read row by row.
 use Rattle.std.proofs.Common.{◌≡◌, ℕ, zero, suc, ◌≤◌, ◌-◌, length, take, drop, get_or, arith, ℤ, true, false, ◌&&◌, Bool, List, [], ◌∷◌, Result, Ok, Err, refl, sym, ap, ◌∙◌}
-use Rattle.std.specs.Prelude.{IfOk, int_le, map}
+use Rattle.std.specs.Prelude.{IfOk, IfErr, int_le, map}
 use Rattle.std.specs.Int.{int_max}
 use Rattle.sqlite.specs.Order.{Row}
 use Rattle.archive_machine.specs.Records.{Grant}
@@ -61,3 +61,18 @@ first_and_rest (x ∷ xs) row some is =
 pub if_ok : {A E : Type 0} (r : Result A E) (P Q : A → Type 0) → ((a : A) → P a → Q a) → IfOk r P → IfOk r Q
 if_ok (Ok a) P Q f p = f a p
 if_ok (Err e) P Q f p = tt
+
+pub if_err : {A E : Type 0} (r : Result A E) (P Q : E → Type 0) → ((e : E) → P e → Q e) → IfErr r P → IfErr r Q
+if_err (Ok a) P Q f p = tt
+if_err (Err e) P Q f p = f e p
+
+-- what is so of the first row that shows a grant, or of the others
+pub fault_first : {X : Type 0} (rows : List Row) (row : Row) (rest : List Row) → rows ≡ row ∷ rest → ((g : Grant) → row ≡ grant_shown g → X)
+    → (shown : List Grant) → rows ≡ map grant_shown shown → X
+fault_first rows row rest e first [] is = absurd (none_is row rest (sym e ∙ is))
+fault_first rows row rest e first (g ∷ gs) is = first g (head_is row (grant_shown g) rest (map grant_shown gs) (sym e ∙ is))
+
+pub fault_later : {X : Type 0} (rows : List Row) (row : Row) (rest : List Row) → rows ≡ row ∷ rest → ((gs : List Grant) → rest ≡ map grant_shown gs → X)
+    → (shown : List Grant) → rows ≡ map grant_shown shown → X
+fault_later rows row rest e later [] is = absurd (none_is row rest (sym e ∙ is))
+fault_later rows row rest e later (g ∷ gs) is = later gs (tail_is row (grant_shown g) rest (map grant_shown gs) (sym e ∙ is))

@@ -1,10 +1,15 @@
 -- Rows that are read one after the other.
-use Rattle.std.proofs.Common.{◌≡◌, ℕ, ◌+◌, ◌<◌, ◌≤◌, List, [], ◌∷◌, ◌++◌, length, get_or, drop, map, refl, ap, sym, subst, ◌∙◌}
-use Rattle.std.specs.Prelude.{⊤}
+use Rattle.std.proofs.Common.{◌≡◌, ℕ, zero, suc, arith, ◌+◌, ◌<◌, ◌≤◌, List, [], ◌∷◌, ◌++◌, length, get_or, drop, map, refl, ap, sym, subst, ◌∙◌, inl, inr, Result, Ok, Err}
+use Rattle.std.specs.Prelude.{⊤, IsUtf8, IfErr, IsErrAnd}
 use Rattle.std.specs.List.{All}
 use Rattle.std.proofs.lemmas.List.{drop_more, drop_all}
 use Rattle.std.proofs.lemmas.List.Elements.{All-nil, All-cons, All-head, All-tail}
 use Rattle.sqlite.specs.Order.{Row}
+use Rattle.sqlite.specs.declared.error.Error.{Error}
+use Rattle.archive_tables.specs.Rows.{no_memory, IsTextFault}
+use Rattle.archive_database.specs.Faults.{fault_of}
+use Rattle.archive_database.specs.declared.faults.Fault.{Fault}
+use Rattle.archive_database.specs.declared.faults.Fault.TheVariants as fault
 
 -- These records were read and these rows are left, and together they are all records that the rows show. P holds of each
 -- that is left.
@@ -62,3 +67,28 @@ read_every shows P read rows i all h past = read_all shows P read all (subst (λ
 pub each_is : {A : Type 0} (xs : List A) → All (λ _. ⊤) xs
 each_is [] = All-nil (λ _. ⊤)
 each_is (x ∷ xs) = All-cons (λ _. ⊤) x xs tt (each_is xs)
+
+-- the row of this number shows one of the records
+pub shown_at : {A : Type 0} (shows : A → Row) (P : A → Type 0) (xs : List A) (rows : List Row) (i : ℕ) (d : Row) → rows ≡ map shows xs → i < length rows
+    → (x : A) × (get_or rows i d ≡ shows x) × (All P xs → P x)
+shown_at shows P xs [] i d is within = absurd (omega (arith, within))
+shown_at shows P [] (r ∷ rows) i d is within = absurd cc
+shown_at shows P (x ∷ xs) (r ∷ rows) zero d is within = (x, (cc), λ all. All-head P x xs all)
+shown_at shows P (x ∷ xs) (r ∷ rows) (suc i) d is within =
+    let it = shown_at shows P xs rows i d (cc) (omega (arith, within)) in
+    (it.0, it.1, λ all. it.2 (All-tail P x xs all))
+
+-- ---- the exit of a `?`
+
+pub unread_by : {A : Type 0} (r : Result A Fault) (e : Error) (X : Type 0) → IsErrAnd r (λ f. f ≡ fault_of e) → (fault_of e ≡ fault.Database → X) → IfErr r (λ f. f ≡ fault.Database → X)
+unread_by (Ok a) e X is why = tt
+unread_by (Err f) e X is why = λ it. why (sym is ∙ it)
+
+pub wanted : {A P : Type 0} (r : Result A Fault) (e : Error) (X : P → Type 0) → IsErrAnd r (λ f. f ≡ fault_of e) → ((p : P) → X p → e ≡ no_memory) → IfErr r (λ f. (p : P) → X p → f ≡ fault.Memory)
+wanted (Ok a) e X is why = tt
+wanted (Err f) e X is why = λ p x. is ∙ ap fault_of (why p x)
+
+-- a text that is UTF-8 is read
+pub no_good_text : (text : List ℕ) (e : Error) → IsUtf8 text → IsTextFault text e → fault_of e ≡ fault.Database → ⊥
+no_good_text text e good (inl none) it = absurd (let bad : fault.Memory ≡ fault.Database = sym (ap fault_of none) ∙ it in cc)
+no_good_text text e good (inr bad) it = bad.0 good

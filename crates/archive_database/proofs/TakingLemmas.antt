@@ -1,5 +1,5 @@
 -- A list that is not full.
-use Rattle.std.proofs.Common.{◌≡◌, ◌≤◌, ◌<◌, ℕ, suc, length, arith, List, [], ◌∷◌, Bool, true, false, cond}
+use Rattle.std.proofs.Common.{◌≡◌, ◌≤◌, ◌<◌, ℕ, suc, length, arith, List, [], ◌∷◌, Bool, true, false, cond, Result, Ok, Err, IfOk, OnOk}
 use Rattle.std.specs.Prelude.{nat_le, filter}
 use Rattle.std.proofs.lemmas.Bool.Decides.{nat_tests}
 
@@ -13,3 +13,7 @@ fewer p (x ∷ xs) = keeps_some (p x) x (filter p xs) (length xs) (fewer p xs)
 
 pub not_full : {X : Type 0} (p : X → Bool) (xs : List X) (limit : ℕ) → length xs < limit → false ≡ nat_le limit (length (filter p xs))
 not_full p xs limit h = let few = fewer p xs in grind (arith, nat_tests, h, few)
+
+pub open_unless : {E : Type 0} (P : Type 0) (r : Result Bool E) → OnOk r P → IfOk r (λ may_be. may_be ≡ false → P)
+open_unless P (Ok may_be) p = λ _. p
+open_unless P (Err e) p = tt

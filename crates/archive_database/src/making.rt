@@ -1,11 +1,12 @@
 //! The tables, made in an empty database or found in another.
-ghost use Rattle.std.specs.Prelude.{◌≡◌, ◌↔◌, OnOk, OnErr, IsTrue};
+ghost use Rattle.std.specs.Prelude.{◌≡◌, ◌↔◌, None, OnOk, OnErr, IfErr, IsTrue};
+ghost use Rattle.sqlite_disk.specs.Disk.{MoreFaults};
 ghost use Rattle.sqlite.specs.Held.{state};
 ghost use Rattle.sqlite.specs.State.{HasCleanDisk};
 ghost use Rattle.archive_tables.specs.Schema.{no_schema, with_person, with_message};
 ghost use Rattle.archive_tables.specs.Tables.{IsKept, IsOfArchive, IsOfVersion, archive_of};
 ghost use Rattle.archive_tables.specs.declared.texts.schema.TheConstants.{VERSION};
-ghost use Rattle.archive_tables.specs.Calls.{Leaves, WasClean};
+ghost use Rattle.archive_tables.specs.Calls.{Leaves, WasClean, Lasts, AnswersOpen};
 ghost use Rattle.archive_tables.specs.Making.{IsMaking, IsMade, IsUndone, IsIdle, IsBackTo, IsStopped, empty_archive};
 ghost use Rattle.archive_database.specs.Adopting.{HasAsManyObjects};
 
@@ -36,6 +37,10 @@ pub fn find_version<S: Alter>(conn: &mut Connection<S>) -> Result<(), Fault>
     ensures version { HasCleanDisk (state S.Store conn.new) → IsOfArchive (state S.Store conn.old) → OnOk result (IsOfVersion VERSION (state S.Store conn.old).now.trees) }
     ensures back { HasCleanDisk (state S.Store conn.new) → IsOfArchive (state S.Store conn.old) → IsBackTo (state S.Store conn.new) (state S.Store conn.old).now }
     ensures clean { WasClean S.Store conn.old conn.new }
+    ensures lasts { Lasts (state S.Store conn.old) (state S.Store conn.new) }
+    ensures was_open { AnswersOpen S.Store conn.old conn.new result }
+    ensures caused { HasCleanDisk (state S.Store conn.new) → IsKept (state S.Store conn.old) → (state S.Store conn.old).step_limit ≡ None
+        → IfErr result (λ fault. fault ≡ Fault.Database → MoreFaults (state S.Store conn.old).faults (state S.Store conn.new).faults) }
 {
     let rows = texts::schema::versions(conn)?;
     let [row] = rows.as_slice() else {
@@ -57,6 +62,8 @@ pub fn make_tables<S: Alter>(conn: &mut Connection<S>) -> Result<(), Fault>
     ensures back { HasCleanDisk (state S.Store conn.new) → (state S.Store conn.old).now.schema ≡ no_schema → IsIdle (state S.Store conn.old)
         → OnErr result (IsBackTo (state S.Store conn.new) (state S.Store conn.old).now) }
     ensures clean { WasClean S.Store conn.old conn.new }
+    ensures lasts { Lasts (state S.Store conn.old) (state S.Store conn.new) }
+    ensures was_open { AnswersOpen S.Store conn.old conn.new result }
 {
     texts::schema::begin(conn)?;
     if let Err(error) = fill(conn) {
@@ -75,6 +82,7 @@ fn fill<S: Alter>(conn: &mut Connection<S>) -> Result<(), Error>
     ensures stopped { HasCleanDisk (state S.Store conn.new) → (before : _) → IsMaking (state S.Store conn.old) no_schema before
         → OnErr result (IsStopped (state S.Store conn.new) before) }
     ensures clean { WasClean S.Store conn.old conn.new }
+    ensures lasts { Lasts (state S.Store conn.old) (state S.Store conn.new) }
 {
     make_first(conn)?;
     make_last(conn)?;
@@ -91,6 +99,7 @@ fn make_first<S: Alter>(conn: &mut Connection<S>) -> Result<(), Error>
     ensures stopped { HasCleanDisk (state S.Store conn.new) → (before : _) → IsMaking (state S.Store conn.old) no_schema before
         → OnErr result (IsStopped (state S.Store conn.new) before) }
     ensures clean { WasClean S.Store conn.old conn.new }
+    ensures lasts { Lasts (state S.Store conn.old) (state S.Store conn.new) }
 {
     texts::schema::create_version(conn)?;
     texts::schema::create_list(conn)?;
@@ -106,6 +115,7 @@ fn make_last<S: Alter>(conn: &mut Connection<S>) -> Result<(), Error>
     ensures stopped { HasCleanDisk (state S.Store conn.new) → (before : _) → IsMaking (state S.Store conn.old) with_person before
         → OnErr result (IsStopped (state S.Store conn.new) before) }
     ensures clean { WasClean S.Store conn.old conn.new }
+    ensures lasts { Lasts (state S.Store conn.old) (state S.Store conn.new) }
 {
     texts::schema::create_grant(conn)?;
     texts::schema::create_message(conn)?;
@@ -121,6 +131,7 @@ fn make_indexes<S: Alter>(conn: &mut Connection<S>) -> Result<(), Error>
     ensures stopped { HasCleanDisk (state S.Store conn.new) → (before : _) → IsMaking (state S.Store conn.old) with_message before
         → OnErr result (IsStopped (state S.Store conn.new) before) }
     ensures clean { WasClean S.Store conn.old conn.new }
+    ensures lasts { Lasts (state S.Store conn.old) (state S.Store conn.new) }
 {
     texts::schema::create_month_index(conn)?;
     texts::schema::create_author_index(conn)?;

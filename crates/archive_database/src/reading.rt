@@ -1,5 +1,6 @@
 //! Rows that are read: names, numbers and messages.
-ghost use Rattle.std.specs.Prelude.{◌≡◌, ◌≢◌, ℕ, ℤ, List, map, string_bytes, None, false, IfOk, IfErr, IfSome, IfNone};
+ghost use Rattle.std.specs.Prelude.{◌≡◌, ◌≢◌, ℕ, ℤ, List, map, string_bytes, IsUtf8, None, false, IfOk, IfErr, IfSome, IfNone};
+ghost use Rattle.std.specs.List.{All};
 ghost use Rattle.civil_time.specs.Calendar.{is_day};
 ghost use Rattle.archive_machine.specs.Messages.{remembered, number_of};
 ghost use Rattle.archive_tables.specs.Rows.{name_shown, place_shown, message_in};
@@ -17,6 +18,7 @@ use std::alloc::Global;
 /// The names that rows show.
 pub fn read_names(alloc: Global, rows: &[Row]) -> Result<Vec<String>, Fault>
     ensures read { IfOk result (λ found. (names : List (List ℕ)) → rows.now ≡ map name_shown names → map string_bytes found.items ≡ names) }
+    ensures unread { IfErr result (λ fault. fault ≡ Fault.Database → (names : List (List ℕ)) → rows.now ≡ map name_shown names → ¬ All IsUtf8 names) }
 {
     let mut found = Vec::with_capacity(alloc, rows.len())?;
     for row in rows.iter() {
@@ -29,6 +31,7 @@ pub fn read_names(alloc: Global, rows: &[Row]) -> Result<Vec<String>, Fault>
 /// The numbers that rows show.
 pub fn read_places(alloc: Global, rows: &[Row]) -> Result<Vec<i64>, Fault>
     ensures read { IfOk result (λ found. (places : List ℤ) → rows.now ≡ map place_shown places → found.items ≡ places) }
+    ensures unread { IfErr result (λ fault. (places : List ℤ) → rows.now ≡ map place_shown places → fault ≡ Fault.Memory) }
 {
     let mut found = Vec::with_capacity(alloc, rows.len())?;
     for row in rows.iter() {

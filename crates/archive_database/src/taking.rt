@@ -1,9 +1,11 @@
 //! A message that is taken in.
-ghost use Rattle.std.specs.Prelude.{◌≡◌, ◌<◌, false, nat_lt, nat_le, length, IfOk, MatchOption};
+ghost use Rattle.std.specs.Prelude.{◌≡◌, ◌<◌, false, nat_lt, nat_le, length, IfOk, IsTrue, MatchOption};
+ghost use Rattle.sqlite.specs.Held.{state};
+ghost use Rattle.sqlite.specs.State.{HasCleanDisk};
 ghost use Rattle.mbox_core.specs.Division.{whole};
 ghost use Rattle.archive_machine.specs.Machine.{longest_text};
 ghost use Rattle.archive_machine.specs.Questions.{messages_in};
-ghost use Rattle.archive_tables.specs.Calls.{Finds, Leaves, IsUp, WasClean};
+ghost use Rattle.archive_tables.specs.Calls.{Finds, Leaves, IsUp, WasClean, Lasts, AnswersOpen};
 ghost use Rattle.archive_database.specs.Taking.{TakesIn, TakesInOver};
 
 use crate::faults::Fault;
@@ -35,6 +37,8 @@ pub fn is_full<S: Alter>(conn: &mut Connection<S>, list: &str, limit: u32) -> Re
     ensures same { Leaves S.Store conn.old conn.new }
     ensures up { IsUp S.Store conn.old conn.new result }
     ensures clean { WasClean S.Store conn.old conn.new }
+    ensures lasts { Lasts (state S.Store conn.old) (state S.Store conn.new) }
+    ensures was_open { AnswersOpen S.Store conn.old conn.new result }
 {
     if !may_be_full(conn, limit)? {
         return Ok(false);
@@ -49,6 +53,8 @@ fn may_be_full<S: Alter>(conn: &mut Connection<S>, limit: u32) -> Result<bool, E
     ensures same { Leaves S.Store conn.old conn.new }
     ensures up { IsUp S.Store conn.old conn.new result }
     ensures clean { WasClean S.Store conn.old conn.new }
+    ensures lasts { Lasts (state S.Store conn.old) (state S.Store conn.new) }
+    ensures was_open { HasCleanDisk (state S.Store conn.new) → IfOk result (λ may_be. may_be ≡ false → IsTrue (state S.Store conn.old).is_open) }
 {
     if limit == 0 {
         return Ok(true);
@@ -67,6 +73,8 @@ pub fn take_in<S: Alter>(
     ensures taken { TakesIn S.Store conn.old conn.new result list.now key.now item.now }
     ensures held { TakesInOver S.Store conn.old conn.new result list.now key.now item.now }
     ensures clean { WasClean S.Store conn.old conn.new }
+    ensures lasts { Lasts (state S.Store conn.old) (state S.Store conn.new) }
+    ensures was_open { AnswersOpen S.Store conn.old conn.new result }
 {
     if let Some(text) = with_line_end(alloc, item)? {
         return write_down(conn, alloc, list, key, item, &text);
@@ -86,6 +94,8 @@ fn write_down<S: Alter>(
     ensures taken { text.now ≡ whole item.now.text → TakesIn S.Store conn.old conn.new result list.now key.now item.now }
     ensures held { text.now ≡ whole item.now.text → TakesInOver S.Store conn.old conn.new result list.now key.now item.now }
     ensures clean { WasClean S.Store conn.old conn.new }
+    ensures lasts { Lasts (state S.Store conn.old) (state S.Store conn.new) }
+    ensures was_open { AnswersOpen S.Store conn.old conn.new result }
 {
     let sender = sender_of(alloc, item)?;
     let filing = file(alloc, text, item.envelope.arrival)?;

@@ -1,4 +1,4 @@
-use Rattle.std.proofs.Common.{rules, ◌≡◌, inl, inr, sym, ap₂, subst, ◌∙◌, Option, Some, None, true, false, List, ℕ, ℤ}
+use Rattle.std.proofs.Common.{rules, ◌≡◌, inl, inr, sym, ap₂, subst, ◌∙◌, Option, Some, None, true, List, ℕ, ℤ}
 use Rattle.std.specs.Prelude.{IfSome}
 use Rattle.std.proofs.lemmas.Bool.{cases_Bool}
 use Rattle.civil_time.specs.Calendar.{is_instant, instant_at}

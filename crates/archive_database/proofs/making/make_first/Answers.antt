@@ -1,5 +1,6 @@
 use Rattle.sqlite.specs.Held.{state}
 use Rattle.archive_database.proofs.MakingLemmas.{undone_by, stopped_by, on_err}
+use Rattle.archive_tables.proofs.LastLemmas.{lasts_then}
 use Rattle.archive_database.proofs.making.make_first.Goals as goal
 
 pub returns-clause-made : goal.returns-clause-made
@@ -23,3 +24,9 @@ returns-in_err-create_person-clause-stopped g c = λ clean before making.
     let made = c.in_ok-create_list.ensures.made clean_2 before (c.in_ok-create_version.ensures.made clean_1 before making) in
     on_err c.from_residual-in_err-create_person.result _
     (stopped_by (state g.S.Store c.create_list.new.conn) (state g.S.Store c.create_person.new.conn) before made.behind made.within (c.in_err-create_person.ensures.stopped clean))
+
+pub returns-in_err-create_person-clause-lasts : goal.returns-in_err-create_person-clause-lasts
+returns-in_err-create_person-clause-lasts g c = lasts_then _ _ _ (lasts_then _ _ _ c.create_version.ensures.lasts c.create_list.ensures.lasts) c.create_person.ensures.lasts
+
+pub returns-clause-lasts : goal.returns-clause-lasts
+returns-clause-lasts g c = lasts_then _ _ _ (lasts_then _ _ _ c.create_version.ensures.lasts c.create_list.ensures.lasts) c.create_person.ensures.lasts

@@ -4,8 +4,8 @@ use Rattle.std.proofs.lemmas.Int.{to_z-of_z}
 use Rattle.archive_database.proofs.RankLemmas.{when_it_holds}
 use Rattle.archive_database.proofs.ranks.rank_with.Goals as goal
 
-pub returns-then-holds : goal.returns-then-holds
-returns-then-holds c = λ g is.
+pub returns-then-holds-clause-found : goal.returns-then-holds-clause-found
+returns-then-holds-clause-found c = λ g is.
     let r = c.in_ok-grant.grant in
     to_z-of_z w64 c.higher_rank.result (record { sfits = c.higher_rank.type_inv }) ∙ c.higher_rank.ensures
     ∙ when_it_holds c.args.day c.args.above.now r g (c.in_ok-grant.ensures.read g is)

@@ -16,3 +16,9 @@ returns-clause-found g c = λ clean kept.
     let before = c.in_ok-count.ensures.clean clean in
     let rested = c.in_ok-may_be_full.ensures.same before kept (c.in_ok-may_be_full.ensures.up before kept) in
     ap (nat_le c.args.limit) (c.in_ok-count.ensures.found clean rested.0 ∙ ap (λ a. length (messages_in a c.args.list.now)) rested.1)
+
+pub returns-then-not-branch-clause-was_open : goal.returns-then-not-branch-clause-was_open
+returns-then-not-branch-clause-was_open g c = λ clean. c.in_ok-may_be_full.ensures.was_open clean c.if-not-branch.true
+
+pub returns-clause-was_open : goal.returns-clause-was_open
+returns-clause-was_open g c = λ clean. c.may_be_full.ensures.lasts.stays_shut (c.count_messages.ensures.clean clean) (c.in_ok-count.ensures.was_open clean)
