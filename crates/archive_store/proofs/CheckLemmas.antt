@@ -1,26 +1,25 @@
 -- Messages that are looked at one after the other.
-use Rattle.std.proofs.Common.{◌≡◌, ℕ, ℤ, ◌+◌, ◌<◌, ◌≤◌, List, [], ◌∷◌, ◌++◌, length, get_or, drop, map, refl, ap, sym, subst, ◌∙◌, Option, Some, None, Result, Ok, Err}
-use Rattle.std.specs.Prelude.{⊤}
+use Rattle.std.proofs.Common.{◌≡◌, ℕ, ℤ, ◌+◌, ◌<◌, ◌≤◌, List, [], ◌∷◌, ◌++◌, length, get_or, drop, map, refl, ap, sym, subst, ◌∙◌, Option, Some, Result, Ok, Err}
+use Rattle.std.specs.Prelude.{⊤, IfErr}
 use Rattle.std.specs.Result.{IsErrAnd}
 use Rattle.std.specs.List.{All}
 use Rattle.std.proofs.lemmas.List.{drop_more, drop_all}
 use Rattle.std.proofs.lemmas.List.Elements.{All-nil, All-push}
-use Rattle.archive_machine.specs.Records.{Archive}
 use Rattle.archive_machine.specs.Filing.{Filed, filed}
 use Rattle.archive_machine.specs.Damage.{IsSoundFiled, IsWhole, IsFirstDamaged, by_list}
 use Rattle.archive_machine.proofs.ListedLemmas.{whole_in_order}
 use Rattle.sqlite.specs.Effect.{Database}
-use Rattle.sqlite.specs.Tree.{Trees}
 use Rattle.sqlite.specs.Store.{Ghosts}
 use Rattle.archive_tables.specs.Tables.{archive_in}
 use Rattle.archive_tables.specs.Listed.{all_places, filed_at}
 use Rattle.archive_tables.proofs.ListedLemmas.{walked_all}
-use Rattle.archive_store.specs.Told.{HoldsTables, IsOpen, HasReturned, archive_in as now_holds}
-use Rattle.archive_store.specs.Walking.{now_in, rows_of}
+use Rattle.archive_store.specs.Told.{HoldsTables, IsOpen, HasReturned, Lasts, archive_in as now_holds}
+use Rattle.archive_store.specs.Walking.{rows_of}
 use Rattle.archive_store.specs.Checking.{Checks, RowsStay}
 use Rattle.archive_store.specs.declared.checking.CheckStop.{CheckStop}
 use Rattle.archive_store.specs.declared.checking.CheckStop.TheVariants.{Failed}
 use Rattle.archive_store.specs.declared.faults.StoreFault.{StoreFault}
+use Rattle.archive_store.specs.declared.faults.StoreFault.TheVariants as faults
 use Rattle.archive_store.specs.declared.store.Store.{Store}
 
 -- the next number is that of the next message
@@ -120,6 +119,15 @@ module _ {S : Type 0} (g : Ghosts S) where
   -- ---- in the words for the layers above
 
   pub fails_to_check : (old new : Store S) (result : Result ⊤ CheckStop) (fault : StoreFault) → IsErrAnd result (λ stop. stop ≡ Failed fault)
-      → (HasReturned g new → HasReturned g old) → (HasReturned g new → HoldsTables g old → IsOpen g new → RowsStay g old new) → Checks g old new result
-  fails_to_check old new (Ok u) fault is had stays = absurd is
-  fails_to_check old new (Err stop) fault is had stays = rw is ((had, (λ returned held up. let it = stays returned held up in (it.1, same_archive old new it))))
+      → Lasts g old new → (HasReturned g new → HoldsTables g old → IsOpen g new → RowsStay g old new) → Checks g old new result
+  fails_to_check old new (Ok u) fault is lasts stays = absurd is
+  fails_to_check old new (Err stop) fault is lasts stays = rw is ((lasts, (λ returned held up. let it = stays returned held up in (it.1, same_archive old new it))))
+
+-- the exit of a `?`
+pub check_failed : (result : Result ⊤ CheckStop) (fault : StoreFault) (X : Type 0) → IsErrAnd result (λ stop. stop ≡ Failed fault) → (fault ≡ faults.Store → X)
+    → IfErr result (λ stop. stop ≡ Failed faults.Store → X)
+check_failed (Ok u) fault X is why = tt
+check_failed (Err stop) fault X is why = λ it. why (same_fault fault (sym is ∙ it))
+  where
+    same_fault : (f : StoreFault) → Failed f ≡ Failed faults.Store → f ≡ faults.Store
+    same_fault f e = cc

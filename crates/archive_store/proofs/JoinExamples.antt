@@ -7,7 +7,6 @@ use Rattle.archive_machine.specs.Commands.{Refusal, Reply}
 use Rattle.archive_machine.specs.Questions.{messages_in}
 use Rattle.archive_machine.specs.Machine.{Outcome, added_within, message_limit}
 use Rattle.archive_machine.specs.Sound.{IsFiledRight}
-use Rattle.archive_tables.specs.Calls.{WasClean}
 use Rattle.archive_store.specs.Held.{held_of}
 use Rattle.archive_store.specs.declared.store.Store.{Store}
 use Rattle.archive_store.specs.declared.faults.StoreFault.{StoreFault}
@@ -15,7 +14,7 @@ use Rattle.archive_store.specs.Replies.{refusal, Answers, Does}
 use Rattle.archive_store.specs.declared.words.Added.{Added}
 use Rattle.archive_store.specs.Words.{added_reply}
 use Rattle.archive_store.specs.Batches.{AddsCounted}
-use Rattle.archive_store.specs.Told.{archive_in, HasReturned, IsReady, Goes, GoesIfOpen}
+use Rattle.archive_store.specs.Told.{archive_in, HasReturned, IsReady, Lasts, Goes, GoesIfOpen}
 use Rattle.archive_store.proofs.Joins.{asked, ask_failed, stepped, goes_on, goes_on_if_open, goes_as, goes_as_if_open, ready_with}
 use Rattle.archive_store.proofs.RightLemmas.{add_right}
 
@@ -24,7 +23,7 @@ NotRefused = ◌≡◌ {A = Option Refusal} None None
 
 module _ {S : Type 0} (g : Ghosts S) (old mid new : Store S) {A B : Type 0} (first : Result A StoreFault) (second : Result B StoreFault)
     (SaysFirst : Archive → A → Type 0) (SaysSecond : Archive → B → Type 0)
-    (was_first : WasClean g (held_of old) (held_of mid)) (was_second : WasClean g (held_of mid) (held_of new))
+    (lasts_first : Lasts g old mid) (lasts_second : Lasts g mid new)
     (asks_second : Answers g (held_of mid) (held_of new) second (λ _. None) SaysSecond) where
   -- two questions that are answered
   two_questions : (a : A) (b : B) → first ≡ Ok a → second ≡ Ok b → Answers g (held_of old) (held_of mid) first (λ _. None) SaysFirst
@@ -33,7 +32,7 @@ module _ {S : Type 0} (g : Ghosts S) (old mid new : Store S) {A B : Type 0} (fir
       goes_as g old new (λ x z. (y : Archive) × ((y ≡ x) × NotRefused × SaysFirst x a) × ((z ≡ y) × NotRefused × SaysSecond y b)) (λ x z. (z ≡ x) × SaysFirst x a × SaysSecond x b)
       (λ x z h. (h.2.0 ∙ h.1.0, h.1.2, subst (λ y. SaysSecond y b) h.1.0 h.2.2))
       (goes_on g old mid new (λ x y. (y ≡ x) × NotRefused × SaysFirst x a) (λ y z. (z ≡ y) × NotRefused × SaysSecond y b)
-      (asked g old mid was_first first a (λ _. None) SaysFirst is_a asks_first) (asked g mid new was_second second b (λ _. None) SaysSecond is_b asks_second))
+      (asked g old mid lasts_first first a (λ _. None) SaysFirst is_a asks_first) (asked g mid new lasts_second second b (λ _. None) SaysSecond is_b asks_second))
 
   -- a command, and then a question that is answered from what it made
   command_and_question : (step : Archive → Outcome) (said : Option Reply) (reply : Reply) (b : B) → ((x : Archive) → IsFiledRight x → IsFiledRight (step x).0)
@@ -42,7 +41,7 @@ module _ {S : Type 0} (g : Ghosts S) (old mid new : Store S) {A B : Type 0} (fir
       goes_as g old new (λ x z. (y : Archive) × ((y, reply) ≡ step x) × ((z ≡ y) × NotRefused × SaysSecond y b)) (λ x z. (z ≡ (step x).0) × SaysSecond (step x).0 b)
       (λ x z h. let made = ap (λ (o : Outcome). o.0) h.1 in (h.2.0 ∙ made, subst (λ y. SaysSecond y b) made h.2.2))
       (goes_on g old mid new (λ x y. (y, reply) ≡ step x) (λ y z. (z ≡ y) × NotRefused × SaysSecond y b)
-      (stepped g old mid was_first step said reply keeps is_said does) (asked g mid new was_second second b (λ _. None) SaysSecond is_b asks_second))
+      (stepped g old mid lasts_first step said reply keeps is_said does) (asked g mid new lasts_second second b (λ _. None) SaysSecond is_b asks_second))
 
   -- a question that is answered, and one in which memory or the database was at fault
   question_and_fault : (a : A) (fault : StoreFault) → first ≡ Ok a → second ≡ Err fault → refusal fault ≡ None → Answers g (held_of old) (held_of mid) first (λ _. None) SaysFirst
@@ -50,17 +49,17 @@ module _ {S : Type 0} (g : Ghosts S) (old mid new : Store S) {A B : Type 0} (fir
   question_and_fault a fault is_a is_fault told asks_first =
       goes_as_if_open g old new (λ x z. (y : Archive) × ((y ≡ x) × NotRefused × SaysFirst x a) × (z ≡ y)) (λ x z. z ≡ x) (λ x z h. h.2 ∙ h.1.0)
       (goes_on_if_open g old mid new (λ x y. (y ≡ x) × NotRefused × SaysFirst x a) (λ y z. z ≡ y)
-      (asked g old mid was_first first a (λ _. None) SaysFirst is_a asks_first) (ask_failed g mid new was_second second fault (λ _. None) SaysSecond is_fault told asks_second))
+      (asked g old mid lasts_first first a (λ _. None) SaysFirst is_a asks_first) (ask_failed g mid new lasts_second second fault (λ _. None) SaysSecond is_fault told asks_second))
 
 -- two messages to a list that was counted once: the first call says to the second how many it holds
 two_counted_messages : {S : Type 0} (g : Ghosts S) (old mid new : Store S) (list : List ℕ) (one two : Item) (before between after : ℕ) (first second : Result Added StoreFault) (a b : Added)
-    → WasClean g (held_of mid) (held_of new) → first ≡ Ok a → second ≡ Ok b
+    → Lasts g mid new → first ≡ Ok a → second ≡ Ok b
     → AddsCounted g (held_of old) (held_of mid) first list one before between → AddsCounted g (held_of mid) (held_of new) second list two between after
     → HasReturned g new → IsReady g old → length (messages_in (archive_in g old) list) ≡ before
     → IsReady g new × ((archive_in g new, added_reply b) ≡ added_within message_limit (added_within message_limit (archive_in g old) list one).0 list two)
     × (length (messages_in (archive_in g new) list) ≡ after)
-two_counted_messages g old mid new list one two before between after first second a b was is_a is_b adds_first adds_second returned ready holds =
-    let start = (rw is_a at adds_first) (was returned) ready.held holds in
+two_counted_messages g old mid new list one two before between after first second a b lasts is_a is_b adds_first adds_second returned ready holds =
+    let start = (rw is_a at adds_first) (lasts.returned returned) ready.held holds in
     let next = (rw is_b at adds_second) returned start.0.0 (start.1 start.0.0.is_open) in
     let once = (added_within message_limit (archive_in g old) list one).0 in
     let is : (archive_in g new, added_reply b) ≡ added_within message_limit once list two =

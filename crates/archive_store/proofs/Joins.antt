@@ -6,12 +6,12 @@ use Rattle.archive_machine.specs.Records.{Archive}
 use Rattle.archive_machine.specs.Commands.{Refusal, Reply}
 use Rattle.archive_machine.specs.Machine.{Outcome}
 use Rattle.archive_machine.specs.Sound.{IsFiledRight}
-use Rattle.archive_tables.specs.Calls.{WasClean}
+use Rattle.archive_tables.proofs.LastLemmas.{lasts_then, lasts_same}
 use Rattle.archive_store.specs.Held.{held_of}
 use Rattle.archive_store.specs.declared.store.Store.{Store}
 use Rattle.archive_store.specs.declared.faults.StoreFault.{StoreFault}
 use Rattle.archive_store.specs.Replies.{refusal, Answers, Does}
-use Rattle.archive_store.specs.Told.{HoldsTables, IsReady, archive_in, GoesIn, GoesInIfOpen, CallsIn, AsksIn, Goes, GoesIfOpen, Calls, Asks}
+use Rattle.archive_store.specs.Told.{HoldsTables, IsReady, Lasts, archive_in, GoesIn, GoesInIfOpen, CallsIn, AsksIn, Goes, GoesIfOpen, Calls, Asks}
 
 module _ {S : Type 0} (g : Ghosts S) where
   -- ---- from any columns to right ones
@@ -68,13 +68,13 @@ module _ {S : Type 0} (g : Ghosts S) where
 
   -- ---- what a call of the store says
 
-  module _ (old new : Store S) (was : WasClean g (held_of old) (held_of new)) where
+  module _ (old new : Store S) (lasts : Lasts g old new) where
     -- a question that is answered, whatever is filed
     pub asked_in : {A : Type 0} (result : Result A StoreFault) (answer : A) (refuses : Archive → Option Refusal) (Says : Archive → A → Type 0)
         → result ≡ Ok answer → Answers g (held_of old) (held_of new) result refuses Says
         → GoesIn g (HoldsTables g) old new (λ a b. (b ≡ a) × (refuses a ≡ None) × Says a answer)
     asked_in result answer refuses Says is clause = (
-      was,
+      lasts,
       λ returned held.
           let it = (rw is at clause) returned held in
           (it.0.0, (it.0.1, it.1, it.2)),
@@ -85,7 +85,7 @@ module _ {S : Type 0} (g : Ghosts S) where
         → result ≡ Err fault → refusal fault ≡ Some why → Answers g (held_of old) (held_of new) result refuses Says
         → GoesIn g (HoldsTables g) old new (λ a b. (b ≡ a) × (refuses a ≡ Some why))
     ask_refused_in result fault why refuses Says is told clause = (
-      was,
+      lasts,
       λ returned held.
           let it = (rw (is, told) at clause) returned held in
           (it.0.0, (it.0.1, it.1)),
@@ -95,7 +95,7 @@ module _ {S : Type 0} (g : Ghosts S) where
     pub ask_failed_in : {A : Type 0} (result : Result A StoreFault) (fault : StoreFault) (refuses : Archive → Option Refusal) (Says : Archive → A → Type 0)
         → result ≡ Err fault → refusal fault ≡ None → Answers g (held_of old) (held_of new) result refuses Says
         → GoesInIfOpen g (HoldsTables g) old new (λ a b. b ≡ a)
-    ask_failed_in result fault refuses Says is told clause = (was, λ returned held up. ((rw (is, told) at clause) returned held) up)
+    ask_failed_in result fault refuses Says is told clause = (lasts, λ returned held up. ((rw (is, told) at clause) returned held) up)
 
     -- the same of a store that is ready
     pub asked : {A : Type 0} (result : Result A StoreFault) (answer : A) (refuses : Archive → Option Refusal) (Says : Archive → A → Type 0)
@@ -119,24 +119,24 @@ module _ {S : Type 0} (g : Ghosts S) where
     pub stepped : (step : Archive → Outcome) (said : Option Reply) (reply : Reply) → ((a : Archive) → IsFiledRight a → IsFiledRight (step a).0) → said ≡ Some reply
         → Does g (held_of old) (held_of new) step said → Goes g old new (λ a b. (b, reply) ≡ step a)
     stepped step said reply keeps is clause =
-        right_too old new (λ a b. (b, reply) ≡ step a) (λ a b it right. subst IsFiledRight (sym (ap (λ (o : Outcome). o.0) it)) (keeps a right)) (was, (rw is at clause))
+        right_too old new (λ a b. (b, reply) ≡ step a) (λ a b it right. subst IsFiledRight (sym (ap (λ (o : Outcome). o.0) it)) (keeps a right)) (lasts, (rw is at clause))
 
     -- one in which memory or the database was at fault
     pub step_failed : (step : Archive → Outcome) (said : Option Reply) → said ≡ None → Does g (held_of old) (held_of new) step said → GoesIfOpen g old new (λ a b. b ≡ a)
-    step_failed step said is clause = sound_too_if_open old new (λ a b. b ≡ a) (λ a b it. it) (was, (rw is at clause))
+    step_failed step said is clause = sound_too_if_open old new (λ a b. b ≡ a) (λ a b it. it) (lasts, (rw is at clause))
 
   -- ---- one call after the other, under a premise
 
   module _ (Premise : Store S → Type 0) where
     pub stays_there_in : (store : Store S) → GoesIn g Premise store store (λ a b. b ≡ a)
-    stays_there_in store = ((λ returned. returned), (λ returned held. (held, refl)))
+    stays_there_in store = (lasts_same _, (λ returned held. (held, refl)))
 
     pub goes_on_in : (old mid new : Store S) (R Q : Archive → Archive → Type 0) → GoesIn g Premise old mid R → GoesIn g Premise mid new Q
         → GoesIn g Premise old new (λ a c. (b : Archive) × R a b × Q b c)
     goes_on_in old mid new R Q first second = (
-      (λ returned. first.0 (second.0 returned)),
+      lasts_then _ _ _ first.0 second.0,
       (λ returned held.
-          let one = first.1 (second.0 returned) held in
+          let one = first.1 (second.0.returned returned) held in
           let two = second.1 returned one.0 in
           (two.0, (archive_in g mid, one.1, two.1))),
     )
@@ -144,9 +144,9 @@ module _ {S : Type 0} (g : Ghosts S) where
     pub goes_on_in_if_open : (old mid new : Store S) (R Q : Archive → Archive → Type 0) → GoesIn g Premise old mid R → GoesInIfOpen g Premise mid new Q
         → GoesInIfOpen g Premise old new (λ a c. (b : Archive) × R a b × Q b c)
     goes_on_in_if_open old mid new R Q first second = (
-      (λ returned. first.0 (second.0 returned)),
+      lasts_then _ _ _ first.0 second.0,
       (λ returned held up.
-          let one = first.1 (second.0 returned) held in
+          let one = first.1 (second.0.returned returned) held in
           let two = second.1 returned one.0 up in
           (two.0, (archive_in g mid, one.1, two.1))),
     )

@@ -11,3 +11,5 @@ mod JoinExamples
 pub mod ReopenLemmas
 pub mod WalkingLemmas
 pub mod CheckLemmas
+pub mod FollowLemmas
+pub mod CauseLemmas

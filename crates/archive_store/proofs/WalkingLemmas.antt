@@ -1,9 +1,10 @@
 -- Walks over the messages of a list.
-use Rattle.std.proofs.Common.{◌≡◌, ℕ, ℤ, ◌+◌, ◌<◌, ◌≤◌, true, List, [], ◌∷◌, ◌++◌, length, get_or, drop, map, bytes_eq, refl, ap, sym, subst, append_assoc, ◌∙◌, Option, Some, None, Result, Ok, Err, IfErr, inl, inr}
+use Rattle.std.proofs.Common.{◌≡◌, ℕ, ℤ, ◌+◌, ◌<◌, ◌≤◌, true, List, [], ◌∷◌, ◌++◌, length, get_or, drop, map, bytes_eq, refl, ap, sym, subst, append_assoc, ◌∙◌, Option, Some, None, Result, Ok, Err, IfErr, ◌⊎◌, inl, inr}
 use Rattle.std.specs.Prelude.{IsErrAnd, slice_get, Vec, ◌&&◌, Bool, false, filter}
 use Rattle.std.specs.declared.alloc.Global.{Global}
-use Rattle.std.proofs.lemmas.Option.{slice_get_cases}
-use Rattle.std.specs.List.{AllByRecursion}
+use Rattle.std.proofs.lemmas.Option.{slice_get_cases, slice_get_within, get_or_from_slice_get}
+use Rattle.std.specs.List.{All, AllByRecursion}
+use Rattle.std.specs.Option.{IsSomeAnd}
 use Rattle.std.specs.Ordering.{int_eq}
 use Rattle.std.proofs.lemmas.Bool.{cases_Bool}
 use Rattle.std.proofs.lemmas.List.{drop_more, drop_all, map-append}
@@ -16,12 +17,15 @@ use Rattle.archive_machine.specs.declared.messages.Message.{Message as Given}
 use Rattle.sqlite.specs.Effect.{Database}
 use Rattle.sqlite.specs.Tree.{Trees}
 use Rattle.sqlite.specs.Store.{Ghosts}
+use Rattle.sqlite.specs.Held.{state}
+use Rattle.archive_database.specs.Messages.{IsReadable}
 use Rattle.archive_tables.specs.Rows.{message_at}
 use Rattle.archive_tables.specs.Tables.{AreTables, archive_in}
 use Rattle.archive_store.specs.Replies.{refusal, Answers}
 use Rattle.archive_store.specs.Held.{held_of}
-use Rattle.archive_store.specs.Told.{HoldsTables, IsOpen, HasReturned, HadReturned, GoesInIfOpen, archive_in as now_holds}
-use Rattle.archive_store.specs.Walking.{Walk, WalksOver, BeginsOver, IsNotBegun, GivesAll, now_in, rows_of}
+use Rattle.archive_store.specs.Told.{HoldsTables, IsOpen, HasReturned, HadReturned, HasFailed, Lasts, CausedOr, GoesInIfOpen, archive_in as now_holds}
+use Rattle.archive_store.proofs.CauseLemmas.{more_since}
+use Rattle.archive_store.specs.Walking.{Walk, WalksOver, BeginsOver, IsNotBegun, GivesAll, StopsAll, now_in, rows_of}
 use Rattle.archive_store.specs.declared.store.Store.{Store}
 use Rattle.archive_store.specs.declared.faults.StoreFault.{StoreFault}
 
@@ -144,11 +148,11 @@ module _ {S : Type 0} (g : Ghosts S) where
 
   pub begins_walk : (old mid : Store S) (list : List ℕ) (which : Trees → List ℤ) (all : Archive → List Message)
       → ((trees : Trees) → AreTables trees → map (message_at trees) (which trees) ≡ map Some (all (archive_in trees))) → ((a : Archive) → AreOfList list (all a))
-      → (walk : Walk S) → walk.store.now ≡ mid → walk.at ≡ 0 → HadReturned g old mid
+      → (walk : Walk S) → walk.store.now ≡ mid → walk.at ≡ 0 → Lasts g old mid
       → (HasReturned g mid → HoldsTables g old → (list_refusal (now_holds g old) list ≡ None) × HoldsTables g mid × (now_holds g mid ≡ now_holds g old) × (walk.places.items ≡ which (rows_of g mid)))
       → BeginsOver g old list all walk
-  begins_walk old mid list which all shown of_list walk store at was found = (
-    (λ returned. was (subst (HasReturned g) store returned)),
+  begins_walk old mid list which all shown of_list walk store at lasts found = (
+    subst (λ s. Lasts g old s) (sym store) lasts,
     (λ returned held.
         let it = found (subst (HasReturned g) store returned) held in (
           it.0,
@@ -221,3 +225,28 @@ rows_answer g old last walk new list all (Err fault) is begun was gives none = �
     let b = begun.1 (was returned') held in
     let rest = gives returned' list (all (now_holds g old)) (now_holds g old) [] b.1 in
     rw none (λ up. let w = rest (subst (IsOpen g) is up) in (subst (HoldsTables g) (sym is) w.0, ap (now_holds g) is ∙ w.1))
+
+-- ---- what E15 means
+
+-- the number that a walk comes to is that of a message
+pub unread_next : {S : Type 0} (g : Ghosts S) (list : List ℕ) (all : List Message) (a : Archive) (given : List Message) (walk : Walk S) (place : ℤ) → WalksOver g list all a given walk
+    → slice_get walk.places.items walk.at ≡ Some place → (X : Type 0) → X ⊎ (¬ IsSomeAnd (message_at (rows_of g walk.store.now) place) IsReadable)
+    → X ⊎ ((next : Message) × (rest : List Message) × (given ++ next ∷ rest ≡ all) × (¬ IsReadable next))
+unread_next g list all a given walk place w some X (inl failed) = inl failed
+unread_next g list all a given walk place w some X (inr bad) =
+    let n = next_is (message_at (rows_of g walk.store.now)) walk.places.items walk.at place w.left w.ahead (slice_get_within walk.places.items walk.at place some) in
+    let here : message_at (rows_of g walk.store.now) place ≡ Some n.0 =
+    ap (message_at (rows_of g walk.store.now)) (sym (get_or_from_slice_get walk.places.items walk.at place place some)) ∙ n.3 in
+    inr (n.0, n.1, ap (λ l. given ++ l) (sym n.2) ∙ w.joined, λ good. bad (subst (λ o. IsSomeAnd o IsReadable) (sym here) good))
+
+pub rows_caused : {S : Type 0} (g : Ghosts S) (old last : Store S) (walk new : Walk S) (list : List ℕ) (all : Archive → List Message) (r : Result (Vec Given Global) StoreFault) → last ≡ new.store.now
+    → BeginsOver g old list all walk → HadReturned g walk.store.now new.store.now → StopsAll g walk new r → CausedOr g old last r (λ a. ¬ All IsReadable (all a))
+rows_caused g old last walk new list all (Ok found) is begun was stops = λ returned held free. tt
+rows_caused g old last walk new list all (Err fault) is begun was stops = λ returned held free it.
+    let returned' = subst (HasReturned g) is returned in
+    let b = begun.1 (was returned') held in
+    let why = stops returned' list (all (now_holds g old)) (now_holds g old) [] b.1 (begun.0.limit ∙ free) it in
+    elim why [
+      | inl more ↦ inl (subst (HasFailed g old) (sym is) (more_since (state g (held_of old)) (state g (held_of walk.store.now)) (state g (held_of new.store.now)) begun.0 more))
+      | inr bad ↦ inr bad
+    ]

@@ -1,9 +1,12 @@
 //! Many messages to one list, in transactions of many messages.
-ghost use Rattle.std.specs.Prelude.{◌≡◌, ◌≤◌, ◌<◌, ◌+◌, ◌⊎◌, ℕ, IfOk, IfErr, length, take, None};
+ghost use Rattle.std.specs.Prelude.{◌≡◌, [], ◌∷◌, ◌≤◌, ◌<◌, ◌+◌, ◌⊎◌, ℕ, IfOk, IfErr, IfSome, length, take, None};
 ghost use Rattle.mbox_core.specs.Division.{Item};
-ghost use Rattle.archive_tables.specs.Calls.{WasClean};
+ghost use Rattle.sqlite.specs.Held.{state};
+ghost use Rattle.archive_tables.specs.Calls.{WasClean, Lasts, AnswersOpen};
 ghost use Rattle.archive_store.specs.Held.{held_of};
-ghost use Rattle.archive_store.specs.Replies.{refusal};
+ghost use Rattle.archive_store.specs.Told.{Lasts as StoreLasts};
+ghost use Rattle.archive_store.specs.Replies.{refusal, FailsByDisk, RefusedFor, IsOneOf};
+ghost use Rattle.archive_machine.specs.Commands.{no_list, list_full};
 ghost use Rattle.archive_store.specs.Batches.{AddsOne, AddsSome, AddsBatch, AddsAll, Counts, told_in, text_bytes};
 
 use crate::faults::StoreFault;
@@ -59,6 +62,9 @@ impl<S: Alter> Store<S> {
         ensures total { IfOk result (λ report. told_in report ≡ length items.entry.now) }
         ensures bound { IfErr result (λ stop. stop.done ≤ length items.entry.now) }
         ensures clean { WasClean S.Store (held_of self.old) (held_of self.new) }
+        ensures lasts { StoreLasts S.Store self.old self.new }
+        ensures was_open { AnswersOpen S.Store (held_of self.old) (held_of self.new) result }
+        ensures kind { IfErr result (λ stop. IfSome (refusal stop.fault) (λ why. IsOneOf why (no_list ∷ list_full ∷ []))) }
     {
         let mut done = 0;
         let mut count = match count_list(&mut self.conn, list) {
@@ -144,6 +150,7 @@ fn add_batch<S: Alter>(
     ensures step { AddsBatch S.Store conn.old conn.new result list.now items.now from to count.old report.entry.now count.new report.exit.now }
     ensures told { IfOk result (λ at. told_in report.exit.now ≡ at) }
     ensures clean { WasClean S.Store conn.old conn.new }
+    ensures lasts { Lasts (state S.Store conn.old) (state S.Store conn.new) }
     ensures from { IfOk result (λ at. from ≤ at) }
     ensures to { IfOk result (λ at. at ≤ to) }
     ensures fault { IfErr result (λ fault. refusal fault ≡ None) }
@@ -181,6 +188,7 @@ fn add_some<S: Alter>(
     ensures step { AddsSome S.Store conn.old conn.new result list.now items.now from to count.old report.entry.now count.new report.exit.now }
     ensures told { IfOk result (λ at. told_in report.exit.now ≡ at) }
     ensures clean { WasClean S.Store conn.old conn.new }
+    ensures lasts { Lasts (state S.Store conn.old) (state S.Store conn.new) }
     ensures from { IfOk result (λ at. from ≤ at) }
     ensures to { IfOk result (λ at. at ≤ to) }
     ensures fault { IfErr result (λ fault. refusal fault ≡ None) }
@@ -206,6 +214,10 @@ pub(crate) fn count_list<S: Alter>(
 ) -> Result<usize, StoreFault>
     ensures counted { Counts S.Store conn.old conn.new result list.now }
     ensures clean { WasClean S.Store conn.old conn.new }
+    ensures lasts { Lasts (state S.Store conn.old) (state S.Store conn.new) }
+    ensures was_open { AnswersOpen S.Store conn.old conn.new result }
+    ensures caused { FailsByDisk S.Store conn.old conn.new result }
+    ensures kind { RefusedFor result (no_list ∷ []) }
 {
     if !texts::lists::has_list(conn, list)? {
         return Err(StoreFault::NoList);
@@ -225,6 +237,7 @@ pub(crate) fn add_counted<S: Alter>(
     ensures step { AddsOne S.Store conn.old conn.new result list.now item.now count.old count.new }
     ensures uncounted { IfErr result (λ _. count.new ≡ count.old) }
     ensures clean { WasClean S.Store conn.old conn.new }
+    ensures lasts { Lasts (state S.Store conn.old) (state S.Store conn.new) }
     ensures fault { IfErr result (λ fault. refusal fault ≡ None) }
 {
     if is_too_large(item) {

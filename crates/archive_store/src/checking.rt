@@ -1,8 +1,10 @@
 //! Whether a store is whole.
 ghost use Rattle.std.specs.Prelude.{◌≡◌, None, IfErr};
+ghost use Rattle.archive_tables.specs.Calls.{AnswersOpen};
+ghost use Rattle.archive_store.specs.Held.{held_of};
 ghost use Rattle.archive_store.specs.Replies.{refusal};
-ghost use Rattle.archive_store.specs.Told.{HadReturned};
-ghost use Rattle.archive_store.specs.Checking.{FindsAllPlaces, LooksAt};
+ghost use Rattle.archive_store.specs.Told.{HadReturned, Lasts, Caused};
+ghost use Rattle.archive_store.specs.Checking.{FindsAllPlaces, LooksAt, StopsLooking};
 ghost use Rattle.archive_store.specs.declared.checking.CheckStop.TheVariants.{Failed};
 
 use crate::faults::StoreFault;
@@ -38,12 +40,18 @@ impl<S: Alter> Store<S> {
     ghost use Rattle.archive_store.specs.Replies.{refusal};
     ghost use Rattle.archive_store.specs.Checking.{Checks};
     ghost use Rattle.archive_store.specs.declared.checking.CheckStop.TheVariants.{Failed};
+    ghost use Rattle.archive_tables.specs.Calls.{AnswersOpen};
+    ghost use Rattle.archive_store.specs.Held.{held_of};
+    ghost use Rattle.archive_store.specs.Told.{HoldsTables, HasReturned, HasNoLimit, HasFailed};
 
     /// Looks at every message: whether its sender, arrival and text make a complete message, its key is that of the text, and it is
     /// filed by what the text says. E16 where one is not so. It holds the numbers of all messages, and one text at a time.
     pub fn check(&mut self, alloc: Global) -> Result<(), CheckStop>
         ensures checked { Checks S.Store self.old self.new result }
         ensures fault { IfErr result (λ stop. (fault : StoreFault) → stop ≡ Failed fault → refusal fault ≡ None) }
+        ensures was_open { AnswersOpen S.Store (held_of self.old) (held_of self.new) result }
+        ensures caused { HasReturned S.Store self.new → HoldsTables S.Store self.old → HasNoLimit S.Store self.old
+            → IfErr result (λ stop. stop ≡ Failed StoreFault.Store → HasFailed S.Store self.old self.new) }
     {
         let places = find_all_places(self, alloc)?;
         for place in places.iter() {
@@ -60,6 +68,9 @@ fn find_all_places<S: Alter>(store: &mut Store<S>, alloc: Global) -> Result<Vec<
     ensures found { FindsAllPlaces S.Store store.old store.new result }
     ensures fault { IfErr result (λ fault. refusal fault ≡ None) }
     ensures clean { HadReturned S.Store store.old store.new }
+    ensures lasts { Lasts S.Store store.old store.new }
+    ensures was_open { AnswersOpen S.Store (held_of store.old) (held_of store.new) result }
+    ensures caused { Caused S.Store store.old store.new result }
 {
     let shown = texts::checking::all_places(&mut store.conn)?;
     Ok(read_places(alloc, &shown)?)
@@ -74,6 +85,8 @@ fn damage_at<S: Alter>(
     ensures looked { LooksAt S.Store store.old store.new place result }
     ensures fault { IfErr result (λ fault. refusal fault ≡ None) }
     ensures clean { HadReturned S.Store store.old store.new }
+    ensures lasts { Lasts S.Store store.old store.new }
+    ensures caused { StopsLooking S.Store store.old store.new place result }
 {
     let rows = texts::checking::filed_at(&mut store.conn, place)?;
     let Some(row) = rows.first() else {

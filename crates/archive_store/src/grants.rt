@@ -8,10 +8,13 @@ use sqlite::Alter;
 
 impl<S: Alter> Store<S> {
     ghost use Rattle.archive_machine.specs.Machine.{granted, revoked};
-    ghost use Rattle.archive_tables.specs.Calls.{WasClean};
+    ghost use Rattle.archive_tables.specs.Calls.{WasClean, AnswersOpen};
     ghost use Rattle.archive_store.specs.Held.{held_of};
+    ghost use Rattle.archive_store.specs.Told.{Lasts};
     ghost use Rattle.archive_store.specs.Words.{rank_of};
-    ghost use Rattle.archive_store.specs.Replies.{Does, says_done, says_whether};
+    ghost use Rattle.archive_machine.specs.Commands.{no_person, no_list, bad_days};
+    ghost use Rattle.archive_store.specs.Replies.{Does, says_done, says_whether, RefusedFor};
+    ghost use Rattle.std.specs.Prelude.{[], ◌∷◌};
 
     /// Grants a kind from one day to another, both within; a grant of that kind is replaced. E6 where there is no such
     /// person, E4 where there is no such list, E11 where the last day comes before the first.
@@ -26,6 +29,9 @@ impl<S: Alter> Store<S> {
         ensures step { Does S.Store (held_of self.old) (held_of self.new)
             (λ a. granted a (record { person = person.now; list = list.now; rank = rank_of kind; from_day = from; until_day = until })) (says_done result) }
         ensures clean { WasClean S.Store (held_of self.old) (held_of self.new) }
+        ensures lasts { Lasts S.Store self.old self.new }
+        ensures was_open { AnswersOpen S.Store (held_of self.old) (held_of self.new) result }
+        ensures kind { RefusedFor result (no_person ∷ no_list ∷ bad_days ∷ []) }
     {
         if !texts::persons::has_person(&mut self.conn, person)? {
             return Err(StoreFault::NoPerson);
@@ -52,6 +58,9 @@ impl<S: Alter> Store<S> {
     pub fn revoke(&mut self, person: &str, list: &str, kind: Kind) -> Result<bool, StoreFault>
         ensures step { Does S.Store (held_of self.old) (held_of self.new) (λ a. revoked a person.now list.now (rank_of kind)) (says_whether result) }
         ensures clean { WasClean S.Store (held_of self.old) (held_of self.new) }
+        ensures lasts { Lasts S.Store self.old self.new }
+        ensures was_open { AnswersOpen S.Store (held_of self.old) (held_of self.new) result }
+        ensures kind { RefusedFor result (no_person ∷ no_list ∷ []) }
     {
         if !texts::persons::has_person(&mut self.conn, person)? {
             return Err(StoreFault::NoPerson);

@@ -7,8 +7,14 @@ ghost use Rattle.sqlite.specs.State.{IsLive};
 ghost use Rattle.sqlite.specs.Files.{over_files, file_state, Finds, IsOpened};
 ghost use Rattle.sqlite.specs.Closing.{IsCopied};
 ghost use Rattle.archive_machine.specs.Records.{Archive};
-ghost use Rattle.archive_store.specs.Told.{HoldsArchive};
+ghost use Rattle.std.specs.Prelude.{◌⊎◌};
+ghost use Rattle.sqlite.specs.Steps.{over_memory};
+ghost use Rattle.sqlite_trees.specs.declared.memory.MemStore.{MemStore};
+ghost use Rattle.sqlite_disk.specs.Disk.{MoreFaults};
+ghost use Rattle.archive_store.specs.Told.{HoldsArchive, Lasts, IsOpen, HasReturned, faults_of};
+ghost use Rattle.archive_store.specs.declared.store.Store.{Store};
 
+use sqlite::Alter;
 use sqlite_disk::Disk;
 
 /// A file that is closed and opened again holds the same archive: where a connection held one and was closed to files whose
@@ -17,4 +23,14 @@ use sqlite_disk::Disk;
 pub fn a_file_opened_again_holds_the_same_archive<D: Disk>()
     ensures { (old new : Held (FileStore D D.Disk)) (files : Files D) (archive : Archive) → HoldsArchive over_files old archive → IsLive (file_state old)
         → (AreClean D.Disk files.log files.db → IsCopied old files) → Finds files new → IsOpened new → HoldsArchive over_files new archive }
+{}
+
+/// In memory nothing shuts a store that is open, whatever a call answers: so each call is followed by the next.
+pub fn in_memory_an_open_store_stays_open()
+    ensures { (old new : Store MemStore) → Lasts over_memory old new → IsOpen over_memory old → IsOpen over_memory new }
+{}
+
+/// Over a disk too, unless the disk failed or refused once more in that call.
+pub fn an_open_store_stays_open_unless_its_disk_fails<S: Alter>()
+    ensures { (old new : Store S) → Lasts S.Store old new → HasReturned S.Store new → IsOpen S.Store old → IsOpen S.Store new ⊎ MoreFaults (faults_of S.Store old) (faults_of S.Store new) }
 {}

@@ -1,8 +1,11 @@
 //! Adding a message, under a limit of messages that a list may hold.
+ghost use Rattle.std.specs.Prelude.{[], ◌∷◌};
 ghost use Rattle.archive_machine.specs.Machine.{added_within};
-ghost use Rattle.archive_tables.specs.Calls.{WasClean};
+ghost use Rattle.archive_tables.specs.Calls.{WasClean, AnswersOpen};
 ghost use Rattle.archive_store.specs.Held.{held_of};
-ghost use Rattle.archive_store.specs.Replies.{Does, says_added};
+ghost use Rattle.archive_store.specs.Told.{Lasts};
+ghost use Rattle.archive_machine.specs.Commands.{no_list, too_large, list_full};
+ghost use Rattle.archive_store.specs.Replies.{Does, says_added, RefusedFor};
 
 use crate::faults::StoreFault;
 use crate::store::Store;
@@ -27,6 +30,9 @@ pub fn add_limited<S: Alter>(
 ) -> Result<Added, StoreFault>
     ensures step { Does S.Store (held_of store.old) (held_of store.new) (λ a. added_within limit a list.now item.now) (says_added result) }
     ensures clean { WasClean S.Store (held_of store.old) (held_of store.new) }
+    ensures lasts { Lasts S.Store store.old store.new }
+    ensures was_open { AnswersOpen S.Store (held_of store.old) (held_of store.new) result }
+    ensures kind { RefusedFor result (no_list ∷ too_large ∷ list_full ∷ []) }
 {
     if !texts::lists::has_list(&mut store.conn, list)? {
         return Err(StoreFault::NoList);

@@ -16,12 +16,14 @@ use sqlite::Alter;
 use std::alloc::Global;
 
 impl<S: Alter> Store<S> {
-    ghost use Rattle.std.specs.Prelude.{pos, Some, None};
+    ghost use Rattle.std.specs.Prelude.{[], ◌∷◌, pos, Some, None};
     ghost use Rattle.archive_machine.specs.Machine.{message_limit, added_within, withdrawal, restored, held_back, lifted};
-    ghost use Rattle.archive_tables.specs.Calls.{WasClean};
+    ghost use Rattle.archive_tables.specs.Calls.{WasClean, AnswersOpen};
     ghost use Rattle.archive_store.specs.Held.{held_of};
+    ghost use Rattle.archive_store.specs.Told.{Lasts};
     ghost use Rattle.archive_store.specs.Words.{party_of};
-    ghost use Rattle.archive_store.specs.Replies.{Does, says_added, says_done, says_whether};
+    ghost use Rattle.archive_machine.specs.Commands.{no_list, no_message, already_withdrawn, not_withdrawn, too_large, list_full};
+    ghost use Rattle.archive_store.specs.Replies.{Does, says_added, says_done, says_whether, RefusedFor};
     ghost use Rattle.archive_store.specs.Batches.{AddsCounted};
 
     /// Adds a message. A message whose key the list holds is known, and nothing changes: the first sender and arrival
@@ -31,6 +33,9 @@ impl<S: Alter> Store<S> {
     pub fn add(&mut self, alloc: Global, list: &str, item: &Item<'_>) -> Result<Added, StoreFault>
         ensures step { Does S.Store (held_of self.old) (held_of self.new) (λ a. added_within message_limit a list.now item.now) (says_added result) }
         ensures clean { WasClean S.Store (held_of self.old) (held_of self.new) }
+        ensures lasts { Lasts S.Store self.old self.new }
+        ensures was_open { AnswersOpen S.Store (held_of self.old) (held_of self.new) result }
+        ensures kind { RefusedFor result (no_list ∷ too_large ∷ list_full ∷ []) }
     {
         add_limited(self, alloc, list, item, MESSAGES)
     }
@@ -47,6 +52,9 @@ impl<S: Alter> Store<S> {
     ) -> Result<Added, StoreFault>
         ensures step { AddsCounted S.Store (held_of self.old) (held_of self.new) result list.now item.now count.old count.new }
         ensures clean { WasClean S.Store (held_of self.old) (held_of self.new) }
+        ensures lasts { Lasts S.Store self.old self.new }
+        ensures was_open { AnswersOpen S.Store (held_of self.old) (held_of self.new) result }
+        ensures kind { RefusedFor result (no_list ∷ too_large ∷ list_full ∷ []) }
     {
         if !texts::lists::has_list(&mut self.conn, list)? {
             return Err(StoreFault::NoList);
@@ -64,6 +72,9 @@ impl<S: Alter> Store<S> {
     pub fn withdraw(&mut self, list: &str, key: &Key, by: Party) -> Result<(), StoreFault>
         ensures step { Does S.Store (held_of self.old) (held_of self.new) (λ a. withdrawal a list.now key.now (party_of by)) (says_done result) }
         ensures clean { WasClean S.Store (held_of self.old) (held_of self.new) }
+        ensures lasts { Lasts S.Store self.old self.new }
+        ensures was_open { AnswersOpen S.Store (held_of self.old) (held_of self.new) result }
+        ensures kind { RefusedFor result (no_list ∷ no_message ∷ already_withdrawn ∷ []) }
     {
         if !texts::lists::has_list(&mut self.conn, list)? {
             return Err(StoreFault::NoList);
@@ -84,6 +95,9 @@ impl<S: Alter> Store<S> {
     pub fn restore(&mut self, list: &str, key: &Key) -> Result<(), StoreFault>
         ensures step { Does S.Store (held_of self.old) (held_of self.new) (λ a. restored a list.now key.now) (says_done result) }
         ensures clean { WasClean S.Store (held_of self.old) (held_of self.new) }
+        ensures lasts { Lasts S.Store self.old self.new }
+        ensures was_open { AnswersOpen S.Store (held_of self.old) (held_of self.new) result }
+        ensures kind { RefusedFor result (no_list ∷ no_message ∷ not_withdrawn ∷ []) }
     {
         if !texts::lists::has_list(&mut self.conn, list)? {
             return Err(StoreFault::NoList);
@@ -104,6 +118,9 @@ impl<S: Alter> Store<S> {
     pub fn embargo(&mut self, list: &str, key: &Key, until: Day) -> Result<(), StoreFault>
         ensures step { Does S.Store (held_of self.old) (held_of self.new) (λ a. held_back a list.now key.now until) (says_done result) }
         ensures clean { WasClean S.Store (held_of self.old) (held_of self.new) }
+        ensures lasts { Lasts S.Store self.old self.new }
+        ensures was_open { AnswersOpen S.Store (held_of self.old) (held_of self.new) result }
+        ensures kind { RefusedFor result (no_list ∷ no_message ∷ []) }
     {
         if !texts::lists::has_list(&mut self.conn, list)? {
             return Err(StoreFault::NoList);
@@ -121,6 +138,9 @@ impl<S: Alter> Store<S> {
     pub fn lift(&mut self, list: &str, key: &Key) -> Result<bool, StoreFault>
         ensures step { Does S.Store (held_of self.old) (held_of self.new) (λ a. lifted a list.now key.now) (says_whether result) }
         ensures clean { WasClean S.Store (held_of self.old) (held_of self.new) }
+        ensures lasts { Lasts S.Store self.old self.new }
+        ensures was_open { AnswersOpen S.Store (held_of self.old) (held_of self.new) result }
+        ensures kind { RefusedFor result (no_list ∷ no_message ∷ []) }
     {
         if !texts::lists::has_list(&mut self.conn, list)? {
             return Err(StoreFault::NoList);

@@ -10,14 +10,20 @@ use sqlite::Alter;
 
 impl<S: Alter> Store<S> {
     ghost use Rattle.archive_machine.specs.Machine.{list_added, person_added};
-    ghost use Rattle.archive_tables.specs.Calls.{WasClean};
+    ghost use Rattle.archive_tables.specs.Calls.{WasClean, AnswersOpen};
     ghost use Rattle.archive_store.specs.Held.{held_of};
-    ghost use Rattle.archive_store.specs.Replies.{Does, says_done};
+    ghost use Rattle.archive_store.specs.Told.{Lasts};
+    ghost use Rattle.archive_machine.specs.Commands.{bad_name, bad_text, list_exists, person_exists, token_taken};
+    ghost use Rattle.archive_store.specs.Replies.{Does, says_done, RefusedFor};
+    ghost use Rattle.std.specs.Prelude.{[], ◌∷◌};
 
     /// Adds a list. E1 where the name is none, E3 where the list is there.
     pub fn list_add(&mut self, name: &str) -> Result<(), StoreFault>
         ensures step { Does S.Store (held_of self.old) (held_of self.new) (λ a. list_added a name.now) (says_done result) }
         ensures clean { WasClean S.Store (held_of self.old) (held_of self.new) }
+        ensures lasts { Lasts S.Store self.old self.new }
+        ensures was_open { AnswersOpen S.Store (held_of self.old) (held_of self.new) result }
+        ensures kind { RefusedFor result (bad_name ∷ list_exists ∷ []) }
     {
         if !is_name(name) {
             return Err(StoreFault::BadName);
@@ -34,6 +40,9 @@ impl<S: Alter> Store<S> {
     pub fn person_add(&mut self, name: &str, token: &str) -> Result<(), StoreFault>
         ensures step { Does S.Store (held_of self.old) (held_of self.new) (λ a. person_added a name.now token.now) (says_done result) }
         ensures clean { WasClean S.Store (held_of self.old) (held_of self.new) }
+        ensures lasts { Lasts S.Store self.old self.new }
+        ensures was_open { AnswersOpen S.Store (held_of self.old) (held_of self.new) result }
+        ensures kind { RefusedFor result (bad_name ∷ bad_text ∷ person_exists ∷ token_taken ∷ []) }
     {
         if !is_name(name) {
             return Err(StoreFault::BadName);

@@ -12,11 +12,14 @@ use policy_core::Standing;
 use sqlite::Alter;
 
 impl<S: Alter> Store<S> {
-    ghost use Rattle.std.specs.Prelude.{◌≡◌, None, option_map, string_bytes};
+    ghost use Rattle.std.specs.Prelude.{◌≡◌, ◌≢◌, [], ◌∷◌, None, option_map, string_bytes, IsUtf8};
+    ghost use Rattle.std.specs.Option.{IsSomeAnd};
     ghost use Rattle.archive_machine.specs.Questions.{person_of_token, standing_of, standing_refusal};
-    ghost use Rattle.archive_tables.specs.Calls.{WasClean};
+    ghost use Rattle.archive_tables.specs.Calls.{WasClean, AnswersOpen};
     ghost use Rattle.archive_store.specs.Held.{held_of};
-    ghost use Rattle.archive_store.specs.Replies.{Answers};
+    ghost use Rattle.archive_store.specs.Told.{Lasts, CausedOr};
+    ghost use Rattle.archive_store.specs.Replies.{Answers, RefusedFor};
+    ghost use Rattle.archive_machine.specs.Commands.{no_list, no_person};
     ghost use Rattle.archive_store.specs.Words.{standing_rank};
 
     /// The name of the person who has this token, if somebody has it.
@@ -24,6 +27,10 @@ impl<S: Alter> Store<S> {
         ensures answer { Answers S.Store (held_of self.old) (held_of self.new) result (λ _. None)
             (λ a name. option_map string_bytes name ≡ person_of_token a token.now) }
         ensures clean { WasClean S.Store (held_of self.old) (held_of self.new) }
+        ensures lasts { Lasts S.Store self.old self.new }
+        ensures was_open { AnswersOpen S.Store (held_of self.old) (held_of self.new) result }
+        ensures caused { CausedOr S.Store self.old self.new result (λ a. IsSomeAnd (person_of_token a token.now) (λ name. ¬ IsUtf8 name)) }
+        ensures kind { RefusedFor result [] }
     {
         Ok(texts::persons::person_of_token(&mut self.conn, token)?)
     }
@@ -34,6 +41,11 @@ impl<S: Alter> Store<S> {
         ensures answer { Answers S.Store (held_of self.old) (held_of self.new) result (λ a. standing_refusal a person.now list.now)
             (λ a standing. standing_rank standing ≡ standing_of a person.now list.now day) }
         ensures clean { WasClean S.Store (held_of self.old) (held_of self.new) }
+        ensures lasts { Lasts S.Store self.old self.new }
+        ensures was_open { AnswersOpen S.Store (held_of self.old) (held_of self.new) result }
+        ensures caused { CausedOr S.Store self.old self.new result
+            (λ a. (standing : Standing) → standing_rank standing ≢ standing_of a person.now list.now day) }
+        ensures kind { RefusedFor result (no_person ∷ no_list ∷ []) }
     {
         if !texts::persons::has_person(&mut self.conn, person)? {
             return Err(StoreFault::NoPerson);

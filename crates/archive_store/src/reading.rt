@@ -9,17 +9,26 @@ use sqlite::Alter;
 use std::alloc::Global;
 
 impl<S: Alter> Store<S> {
-    ghost use Rattle.std.specs.Prelude.{◌≡◌, None, length, map, option_map, string_bytes};
+    ghost use Rattle.std.specs.Prelude.{◌≡◌, [], ◌∷◌, None, length, map, option_map, string_bytes, IsUtf8};
+    ghost use Rattle.std.specs.List.{All};
+    ghost use Rattle.std.specs.Option.{IsSomeAnd};
     ghost use Rattle.archive_machine.specs.Questions.{has_list, list_names, list_refusal, message_of, messages_in};
-    ghost use Rattle.archive_tables.specs.Calls.{WasClean};
+    ghost use Rattle.archive_tables.specs.Calls.{WasClean, AnswersOpen};
     ghost use Rattle.archive_store.specs.Held.{held_of};
-    ghost use Rattle.archive_store.specs.Replies.{Answers};
+    ghost use Rattle.archive_store.specs.Told.{WasOpen, Lasts, Caused, CausedOr};
+    ghost use Rattle.archive_database.specs.Messages.{IsReadable};
+    ghost use Rattle.archive_store.specs.Replies.{refusal, Answers, RefusedFor};
+    ghost use Rattle.archive_machine.specs.Commands.{no_list};
     ghost use Rattle.archive_machine.specs.Messages.{remembered};
 
     /// Whether there is a list of this name.
     pub fn has_list(&mut self, name: &str) -> Result<bool, StoreFault>
         ensures answer { Answers S.Store (held_of self.old) (held_of self.new) result (λ _. None) (λ a found. found ≡ has_list a name.now) }
         ensures clean { WasClean S.Store (held_of self.old) (held_of self.new) }
+        ensures lasts { Lasts S.Store self.old self.new }
+        ensures was_open { WasOpen S.Store self.old self.new refusal result }
+        ensures caused { Caused S.Store self.old self.new result }
+        ensures kind { RefusedFor result [] }
     {
         Ok(texts::lists::has_list(&mut self.conn, name)?)
     }
@@ -29,6 +38,10 @@ impl<S: Alter> Store<S> {
         ensures answer { Answers S.Store (held_of self.old) (held_of self.new) result (λ _. None)
             (λ a names. map string_bytes names.items ≡ list_names a) }
         ensures clean { WasClean S.Store (held_of self.old) (held_of self.new) }
+        ensures lasts { Lasts S.Store self.old self.new }
+        ensures was_open { AnswersOpen S.Store (held_of self.old) (held_of self.new) result }
+        ensures caused { CausedOr S.Store self.old self.new result (λ a. ¬ All IsUtf8 a.lists) }
+        ensures kind { RefusedFor result [] }
     {
         let shown = texts::lists::list_names(&mut self.conn)?;
         Ok(read_names(alloc, &shown)?)
@@ -39,6 +52,10 @@ impl<S: Alter> Store<S> {
         ensures answer { Answers S.Store (held_of self.old) (held_of self.new) result (λ a. list_refusal a list.now)
             (λ a count. count ≡ length (messages_in a list.now)) }
         ensures clean { WasClean S.Store (held_of self.old) (held_of self.new) }
+        ensures lasts { Lasts S.Store self.old self.new }
+        ensures was_open { AnswersOpen S.Store (held_of self.old) (held_of self.new) result }
+        ensures caused { Caused S.Store self.old self.new result }
+        ensures kind { RefusedFor result (no_list ∷ []) }
     {
         count_list(&mut self.conn, list)
     }
@@ -48,6 +65,10 @@ impl<S: Alter> Store<S> {
         ensures answer { Answers S.Store (held_of self.old) (held_of self.new) result (λ a. list_refusal a list.now)
             (λ a found. option_map (remembered list.now) found ≡ message_of a list.now key.now) }
         ensures clean { WasClean S.Store (held_of self.old) (held_of self.new) }
+        ensures lasts { Lasts S.Store self.old self.new }
+        ensures was_open { WasOpen S.Store self.old self.new refusal result }
+        ensures caused { CausedOr S.Store self.old self.new result (λ a. IsSomeAnd (message_of a list.now key.now) (λ m. ¬ IsReadable m)) }
+        ensures kind { RefusedFor result (no_list ∷ []) }
     {
         if !texts::lists::has_list(&mut self.conn, list)? {
             return Err(StoreFault::NoList);

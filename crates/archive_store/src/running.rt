@@ -1,8 +1,10 @@
 //! Commands one after the other.
 ghost use Rattle.std.specs.Prelude.{◌≡◌, ◌≤◌, true, length, map, is_some, IfOk, IfErr, Err, None};
 ghost use Rattle.archive_machine.specs.Machine.{added_within, message_limit, step};
-ghost use Rattle.archive_tables.specs.Calls.{WasClean};
+ghost use Rattle.sqlite.specs.Held.{state};
+ghost use Rattle.archive_tables.specs.Calls.{WasClean, Lasts};
 ghost use Rattle.archive_store.specs.Held.{held_of};
+ghost use Rattle.archive_store.specs.Told.{Lasts as StoreLasts};
 ghost use Rattle.archive_store.specs.Replies.{Does, refusal, says_done, says_whether, says_added};
 ghost use Rattle.archive_store.specs.Running.{command_of, answer_of, carried, CountsOn, DoesCounted, FindsCount, IsCountedOn, Runs};
 
@@ -145,6 +147,7 @@ fn find_count<S: Alter>(
 ) -> Result<Option<usize>, StoreFault>
     ensures found { FindsCount S.Store conn.old conn.new counted.entry list.now result }
     ensures clean { WasClean S.Store conn.old conn.new }
+    ensures lasts { Lasts (state S.Store conn.old) (state S.Store conn.new) }
 {
     match counted {
         Some(known) if known.list == list => return Ok(Some(known.count)),
@@ -171,6 +174,7 @@ impl<S: Alter> Store<S> {
         ensures step { DoesCounted S.Store (held_of self.old) (held_of self.new) counted.old (λ a. added_within message_limit a list.now item.now) (says_added result) }
         ensures counted { IsCountedOn S.Store (held_of self.old) (held_of self.new) counted.old counted.new (says_added result) }
         ensures clean { WasClean S.Store (held_of self.old) (held_of self.new) }
+        ensures lasts { StoreLasts S.Store self.old self.new }
     {
         let known = match find_count(&mut self.conn, list, *counted) {
             Ok(known) => known,
@@ -200,6 +204,7 @@ impl<S: Alter> Store<S> {
         ensures step { DoesCounted S.Store (held_of self.old) (held_of self.new) counted.old (λ a. step a (command_of command.now)) (carried result) }
         ensures counted { CountsOn S.Store (held_of self.old) (held_of self.new) command.now counted.old counted.new (carried result) }
         ensures clean { WasClean S.Store (held_of self.old) (held_of self.new) }
+        ensures lasts { StoreLasts S.Store self.old self.new }
         ensures told { IfOk result (λ outcome. is_some (answer_of outcome) ≡ true) }
         ensures stop { IfErr result (λ fault. refusal fault ≡ None) }
     {
@@ -228,6 +233,7 @@ impl<S: Alter> Store<S> {
         ensures step { Runs S.Store (held_of self.old) (held_of self.new) (map command_of commands.entry.now) result }
         ensures bound { IfErr result (λ stop. stop.done ≤ length commands.entry.now) }
         ensures clean { WasClean S.Store (held_of self.old) (held_of self.new) }
+        ensures lasts { StoreLasts S.Store self.old self.new }
         ensures stop { IfErr result (λ stop. refusal stop.fault ≡ None) }
     {
         let Ok(mut outcomes) = Vec::with_capacity(alloc, commands.len()) else {

@@ -1,13 +1,15 @@
 //! Walks over the messages of a list.
-ghost use Rattle.std.specs.Prelude.{◌≡◌, ◌+◌, ◌∷◌, [], ◌++◌, map, slice_get, pos, None, IfOk, IfErr, MatchResult, MatchOption};
+ghost use Rattle.std.specs.Prelude.{◌≡◌, ◌+◌, ◌∷◌, [], ◌++◌, map, slice_get, pos, None, IfOk, IfErr, OnOk, MatchResult, MatchOption};
 ghost use Rattle.archive_machine.specs.Messages.{remembered};
 ghost use Rattle.archive_machine.specs.Questions.{list_refusal, messages_in};
 ghost use Rattle.archive_tables.specs.Calls.{WasClean};
 ghost use Rattle.archive_tables.specs.Rows.{places_in, month_places, author_places};
 ghost use Rattle.archive_store.specs.Held.{held_of};
-ghost use Rattle.archive_store.specs.Replies.{refusal};
-ghost use Rattle.archive_store.specs.Told.{HadReturned};
-ghost use Rattle.archive_store.specs.Walking.{GivesNext, GivesAll, ShowsMessage, FindsPlaces, IsNotBegun, left_of};
+ghost use Rattle.archive_machine.specs.Commands.{no_list};
+ghost use Rattle.archive_store.specs.Replies.{refusal, RefusedFor};
+ghost use Rattle.archive_store.specs.Told.{HadReturned, HasReturned, IsOpen, Lasts, Caused, CausedOr};
+ghost use Rattle.archive_database.specs.Messages.{IsReadable};
+ghost use Rattle.archive_store.specs.Walking.{GivesNext, GivesAll, StopsNext, StopsAll, ShowsMessage, StopsShowing, FindsPlaces, IsNotBegun, left_of};
 
 use crate::faults::StoreFault;
 use crate::store::Store;
@@ -45,14 +47,21 @@ impl<S: Alter> Store<S> {
     ghost use Rattle.archive_store.specs.contracts.store.Store.{the_row};
     ghost use Rattle.archive_store.specs.Replies.{Answers};
     ghost use Rattle.std.specs.Prelude.{pos};
+    ghost use Rattle.std.specs.List.{All};
+    ghost use Rattle.archive_database.specs.Messages.{IsReadable};
+    ghost use Rattle.archive_store.specs.Told.{CausedOr};
     ghost use Rattle.archive_machine.specs.Filing.{in_month, by_author};
-    ghost use Rattle.archive_store.specs.Walking.{Begins, BeginsOver, IsNotBegun};
+    ghost use Rattle.archive_store.specs.Walking.{Begins, BeginsOver, DoesNotBegin};
 
     /// The messages of a list in mailbox order. E4 where there is no such list.
     pub fn rows(&mut self, alloc: Global, list: &str) -> Result<Vec<Message>, StoreFault>
         ensures answer { Answers S.Store (held_of self.old) (held_of self.new) result (λ a. list_refusal a list.now)
             (λ a found. map (remembered list.now) found.items ≡ messages_in a list.now) }
         ensures clean { WasClean S.Store (held_of self.old) (held_of self.new) }
+        ensures lasts { Lasts S.Store self.old self.new }
+        ensures was_open { HasReturned S.Store self.new → OnOk result (IsOpen S.Store self.old) }
+        ensures caused { CausedOr S.Store self.old self.new result (λ a. ¬ All IsReadable (messages_in a list.now)) }
+        ensures kind { RefusedFor result (no_list ∷ []) }
     {
         let mut walk = self.each_row(alloc, list)?;
         read_rows(alloc, &mut walk)
@@ -60,9 +69,11 @@ impl<S: Alter> Store<S> {
 
     /// Begins a walk over the messages of a list, in mailbox order. E4 where there is no such list.
     pub fn each_row(&mut self, alloc: Global, list: &str) -> Result<EachRow<'_, S>, StoreFault>
-        ensures* refused { sem 𝓛 (RestsIfErr (the_row S.row S.Store) self.entry (λ walk. walk.store.ghost_name) result (IsNotBegun S.Store self.old list.now result)) }
+        ensures* refused { sem 𝓛 (RestsIfErr (the_row S.row S.Store) self.entry (λ walk. walk.store.ghost_name) result (DoesNotBegin S.Store self.old list.now result)) }
         ensures same_reference { IfOk result (λ walk. walk.store.ghost_name ≡ self.entry.ghost_name) }
         ensures begun { IfOk result (λ walk. Begins S.Store self.old list.now walk) }
+        ensures was_open { IfOk result (λ walk. HasReturned S.Store walk.store.now → IsOpen S.Store self.old) }
+        ensures kind { RefusedFor result (no_list ∷ []) }
     {
         let places = find_places(self, alloc, list)?;
         Ok(EachRow::new(self, places))
@@ -79,6 +90,10 @@ impl<S: Alter> Store<S> {
         ensures answer { Answers S.Store (held_of self.old) (held_of self.new) result (λ a. list_refusal a list.now)
             (λ a found. map (remembered list.now) found.items ≡ in_month a list.now (pos month)) }
         ensures clean { WasClean S.Store (held_of self.old) (held_of self.new) }
+        ensures lasts { Lasts S.Store self.old self.new }
+        ensures was_open { HasReturned S.Store self.new → OnOk result (IsOpen S.Store self.old) }
+        ensures caused { CausedOr S.Store self.old self.new result (λ a. ¬ All IsReadable (in_month a list.now (pos month))) }
+        ensures kind { RefusedFor result (no_list ∷ []) }
     {
         let mut walk = self.each_in_month(alloc, list, month)?;
         read_rows(alloc, &mut walk)
@@ -94,6 +109,10 @@ impl<S: Alter> Store<S> {
         ensures answer { Answers S.Store (held_of self.old) (held_of self.new) result (λ a. list_refusal a list.now)
             (λ a found. map (remembered list.now) found.items ≡ by_author a list.now key.now) }
         ensures clean { WasClean S.Store (held_of self.old) (held_of self.new) }
+        ensures lasts { Lasts S.Store self.old self.new }
+        ensures was_open { HasReturned S.Store self.new → OnOk result (IsOpen S.Store self.old) }
+        ensures caused { CausedOr S.Store self.old self.new result (λ a. ¬ All IsReadable (by_author a list.now key.now)) }
+        ensures kind { RefusedFor result (no_list ∷ []) }
     {
         let mut walk = self.each_by_author(alloc, list, key)?;
         read_rows(alloc, &mut walk)
@@ -106,9 +125,11 @@ impl<S: Alter> Store<S> {
         list: &str,
         month: Month,
     ) -> Result<EachRow<'_, S>, StoreFault>
-        ensures* refused { sem 𝓛 (RestsIfErr (the_row S.row S.Store) self.entry (λ walk. walk.store.ghost_name) result (IsNotBegun S.Store self.old list.now result)) }
+        ensures* refused { sem 𝓛 (RestsIfErr (the_row S.row S.Store) self.entry (λ walk. walk.store.ghost_name) result (DoesNotBegin S.Store self.old list.now result)) }
         ensures same_reference { IfOk result (λ walk. walk.store.ghost_name ≡ self.entry.ghost_name) }
         ensures begun { IfOk result (λ walk. BeginsOver S.Store self.old list.now (λ a. in_month a list.now (pos month)) walk) }
+        ensures was_open { IfOk result (λ walk. HasReturned S.Store walk.store.now → IsOpen S.Store self.old) }
+        ensures kind { RefusedFor result (no_list ∷ []) }
     {
         let places = find_month_places(self, alloc, list, month)?;
         Ok(EachRow::new(self, places))
@@ -121,9 +142,11 @@ impl<S: Alter> Store<S> {
         list: &str,
         key: &[u8],
     ) -> Result<EachRow<'_, S>, StoreFault>
-        ensures* refused { sem 𝓛 (RestsIfErr (the_row S.row S.Store) self.entry (λ walk. walk.store.ghost_name) result (IsNotBegun S.Store self.old list.now result)) }
+        ensures* refused { sem 𝓛 (RestsIfErr (the_row S.row S.Store) self.entry (λ walk. walk.store.ghost_name) result (DoesNotBegin S.Store self.old list.now result)) }
         ensures same_reference { IfOk result (λ walk. walk.store.ghost_name ≡ self.entry.ghost_name) }
         ensures begun { IfOk result (λ walk. BeginsOver S.Store self.old list.now (λ a. by_author a list.now key.now) walk) }
+        ensures was_open { IfOk result (λ walk. HasReturned S.Store walk.store.now → IsOpen S.Store self.old) }
+        ensures kind { RefusedFor result (no_list ∷ []) }
     {
         let places = find_author_places(self, alloc, list, key)?;
         Ok(EachRow::new(self, places))
@@ -159,6 +182,8 @@ impl<'a, S: Alter> EachRow<'a, S> {
             (λ _. left_of self.new ≡ left_of self.old) }
         ensures fault { IfErr result (λ fault. refusal fault ≡ None) }
         ensures clean { HadReturned S.Store self.old.store.now self.new.store.now }
+        ensures lasts { Lasts S.Store self.old.store.now self.new.store.now }
+        ensures caused { StopsNext S.Store self.old self.new result }
     {
         let Some(place) = place_at(&self.places, self.at) else {
             return Ok(None);
@@ -175,6 +200,8 @@ fn read_rows<S: Alter>(alloc: Global, walk: &mut EachRow<'_, S>) -> Result<Vec<M
     ensures given { GivesAll S.Store walk.old walk.new result }
     ensures fault { IfErr result (λ fault. refusal fault ≡ None) }
     ensures clean { HadReturned S.Store walk.old.store.now walk.new.store.now }
+    ensures lasts { Lasts S.Store walk.old.store.now walk.new.store.now }
+    ensures caused { StopsAll S.Store walk.old walk.new result }
 {
     let mut found = Vec::with_capacity(alloc, walk.left())?;
     while let Some(message) = walk.next()? {
@@ -192,6 +219,10 @@ fn find_places<S: Alter>(
     ensures refused { IsNotBegun S.Store store.old list.now result store.new }
     ensures found { FindsPlaces S.Store store.old store.new list.now (λ trees. places_in trees list.now) result }
     ensures clean { HadReturned S.Store store.old store.new }
+    ensures lasts { Lasts S.Store store.old store.new }
+    ensures was_open { HasReturned S.Store store.new → OnOk result (IsOpen S.Store store.old) }
+    ensures caused { Caused S.Store store.old store.new result }
+    ensures kind { RefusedFor result (no_list ∷ []) }
 {
     if !texts::lists::has_list(&mut store.conn, list)? {
         return Err(StoreFault::NoList);
@@ -210,6 +241,10 @@ fn find_month_places<S: Alter>(
     ensures refused { IsNotBegun S.Store store.old list.now result store.new }
     ensures found { FindsPlaces S.Store store.old store.new list.now (λ trees. month_places trees list.now (pos month)) result }
     ensures clean { HadReturned S.Store store.old store.new }
+    ensures lasts { Lasts S.Store store.old store.new }
+    ensures was_open { HasReturned S.Store store.new → OnOk result (IsOpen S.Store store.old) }
+    ensures caused { Caused S.Store store.old store.new result }
+    ensures kind { RefusedFor result (no_list ∷ []) }
 {
     if !texts::lists::has_list(&mut store.conn, list)? {
         return Err(StoreFault::NoList);
@@ -229,6 +264,10 @@ fn find_author_places<S: Alter>(
     ensures refused { IsNotBegun S.Store store.old list.now result store.new }
     ensures found { FindsPlaces S.Store store.old store.new list.now (λ trees. author_places trees list.now key.now) result }
     ensures clean { HadReturned S.Store store.old store.new }
+    ensures lasts { Lasts S.Store store.old store.new }
+    ensures was_open { HasReturned S.Store store.new → OnOk result (IsOpen S.Store store.old) }
+    ensures caused { Caused S.Store store.old store.new result }
+    ensures kind { RefusedFor result (no_list ∷ []) }
 {
     if !texts::lists::has_list(&mut store.conn, list)? {
         return Err(StoreFault::NoList);
@@ -248,6 +287,8 @@ fn message_at<S: Alter>(store: &mut Store<S>, place: i64) -> Result<Message, Sto
     ensures shown { ShowsMessage S.Store store.old store.new place result }
     ensures fault { IfErr result (λ fault. refusal fault ≡ None) }
     ensures clean { HadReturned S.Store store.old store.new }
+    ensures lasts { Lasts S.Store store.old store.new }
+    ensures caused { StopsShowing S.Store store.old store.new place result }
 {
     match texts::messages::message_at(&mut store.conn, place)? {
         Some(row) => Ok(read_or_fail(row)?),

@@ -1,6 +1,7 @@
 use Rattle.std.proofs.Common.{take, ◌∙◌, Some, None}
 use Rattle.sqlite.specs.Held.{state}
 use Rattle.archive_store.proofs.BatchLemmas.{held_or_back, stays_taken}
+use Rattle.archive_tables.proofs.LastLemmas.{lasts_then}
 use Rattle.archive_store.proofs.batches.add_batch.Goals as goal
 
 pub returns-in-Ok-commit-clause-step : goal.returns-in-Ok-commit-clause-step
@@ -37,3 +38,12 @@ returns-in-Err-clause-step g c = λ clean a t up.
     let there = stays_taken None (Some first.now) first (state g.S.Store c.begin.new.conn) a c.args.list.now (take c.args.from c.args.items.now) c.args.count.now c.args.report.now t begun in
     let back = c.rollback-undone-in-Err.ensures.left clean first.now (c.in-Err.ensures.step clean_2 first.now a there) up in
     (back.0, back.1 ∙ t.archive_is)
+
+pub returns-in-Ok-commit-clause-lasts : goal.returns-in-Ok-commit-clause-lasts
+returns-in-Ok-commit-clause-lasts g c = lasts_then _ _ _ (lasts_then _ _ _ c.begin.ensures.lasts c.add_some.ensures.lasts) c.commit.ensures.lasts
+
+pub returns-in-Err-commit-clause-lasts : goal.returns-in-Err-commit-clause-lasts
+returns-in-Err-commit-clause-lasts g c = lasts_then _ _ _ (lasts_then _ _ _ (lasts_then _ _ _ c.begin.ensures.lasts c.add_some.ensures.lasts) c.commit.ensures.lasts) c.rollback-undone.ensures.lasts
+
+pub returns-in-Err-clause-lasts : goal.returns-in-Err-clause-lasts
+returns-in-Err-clause-lasts g c = lasts_then _ _ _ (lasts_then _ _ _ c.begin.ensures.lasts c.add_some.ensures.lasts) c.rollback-undone-in-Err.ensures.lasts

@@ -6,6 +6,7 @@ use Rattle.archive_tables.proofs.RunLemmas.{on_fault}
 use Rattle.archive_store.specs.Batches.{told_in, tally_of}
 use Rattle.archive_store.proofs.BatchLemmas.{one_taken, none_taken, held_or_back, told_new, told_known, told_too_large}
 use Rattle.archive_store.proofs.batches.add_some.Goals.{in-New, in-Known, in-TooLarge}
+use Rattle.archive_tables.proofs.LastLemmas.{lasts_then, lasts_same}
 use Rattle.archive_store.proofs.batches.add_some.Goals as goal
 
 pub returns-in-Full-clause-step : goal.returns-in-Full-clause-step
@@ -44,4 +45,17 @@ loop-at-preserved g c = (
         | in-Known w ↦ more already_known c.match-branch-2.report (rw w.in-Known.is at adds) (ap tally_of w.report-is ∙ told_known c.loop-at.report replies so_far.told)
         | in-TooLarge w ↦ more (refused too_large) c.match-branch-2.report (rw w.in-TooLarge.is at adds) (ap tally_of w.report-is ∙ told_too_large c.loop-at.report replies so_far.told)
       ]),
+  lasts_then _ _ _ c.loop-at.invariant.5 c.add_counted.ensures.lasts,
 )
+
+pub loop-at-init : goal.loop-at-init
+loop-at-init g c = (omega arith, omega (arith, c.requires.order), c.requires.told, (λ clean. clean), (λ clean db a from. from), lasts_same _)
+
+pub returns-in-Full-clause-lasts : goal.returns-in-Full-clause-lasts
+returns-in-Full-clause-lasts g c = lasts_then _ _ _ c.loop-at.invariant.5 c.add_counted.ensures.lasts
+
+pub returns-in_err-add_counted-clause-lasts : goal.returns-in_err-add_counted-clause-lasts
+returns-in_err-add_counted-clause-lasts g c = lasts_then _ _ _ c.loop-at.invariant.5 c.add_counted.ensures.lasts
+
+pub returns-clause-lasts : goal.returns-clause-lasts
+returns-clause-lasts g c = c.loop-at.invariant.5

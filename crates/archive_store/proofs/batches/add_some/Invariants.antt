@@ -4,6 +4,7 @@ use Rattle.sqlite.specs.Held.{state}
 use Rattle.sqlite.specs.State.{HasCleanDisk}
 use Rattle.archive_machine.specs.Records.{Archive}
 use Rattle.archive_store.specs.Batches.{HasTaken, told_in}
+use Rattle.archive_tables.specs.Calls.{Lasts}
 use Rattle.archive_store.proofs.batches.add_some.Given as goal
 
 abbrev pub invariant-loop-at : goal.invariant-loop-at
@@ -12,7 +13,7 @@ invariant-loop-at g l =
     let now = state g.S.Store l.conn in
     (l.from ≤ l.at) × (l.at ≤ l.to) × (told_in l.report ≡ l.at) × (HasCleanDisk now → HasCleanDisk first)
     × (HasCleanDisk now → (db : Database) (a : Archive) → HasTaken (Some db) first a l.list (take l.from l.items) l.fn.count l.fn.report
-    → HasTaken (Some db) now a l.list (take l.at l.items) l.count l.report)
+    → HasTaken (Some db) now a l.list (take l.at l.items) l.count l.report) × Lasts first now
 
 abbrev pub decreases-loop-at : goal.decreases-loop-at
 decreases-loop-at g l = l.to - l.at

@@ -6,6 +6,7 @@ use Rattle.archive_machine.specs.Questions.{has_list, is_message, messages_in}
 use Rattle.archive_machine.specs.Machine.{added_within, with_keyed}
 use Rattle.archive_store.proofs.StepLemmas.{begins, asks, answers, writes_when}
 use Rattle.archive_store.proofs.StepEquations.{add_known, add_full, add_new}
+use Rattle.archive_tables.proofs.LastLemmas.{lasts_then}
 use Rattle.archive_store.proofs.limits.add_limited.Goals as goal
 
 pub returns-then-branch-clause-step : goal.returns-then-branch-clause-step
@@ -56,3 +57,15 @@ returns-clause-step g c =
     three c.in_ok-take_in.ensures.clean c.in_ok-take_in.ensures.taken
     (λ a h. subst (λ k. list_any (is_message list k) a.messages ≡ false) c.as_str.ensures (sym h.0.1))
     (add_new c.args.limit list k key c.args.item.now c.as_str.ensures c.of-key.ensures c.if-is_too_large.ensures)
+
+pub returns-in_err-is_full-clause-lasts : goal.returns-in_err-is_full-clause-lasts
+returns-in_err-is_full-clause-lasts g c = lasts_then _ _ _ (lasts_then _ _ _ c.has_list.ensures.lasts c.has_message.ensures.lasts) c.is_full.ensures.lasts
+
+pub returns-then-branch-2-clause-lasts : goal.returns-then-branch-2-clause-lasts
+returns-then-branch-2-clause-lasts g c = lasts_then _ _ _ (lasts_then _ _ _ c.has_list.ensures.lasts c.has_message.ensures.lasts) c.is_full.ensures.lasts
+
+pub returns-in_err-take_in-clause-lasts : goal.returns-in_err-take_in-clause-lasts
+returns-in_err-take_in-clause-lasts g c = lasts_then _ _ _ (lasts_then _ _ _ (lasts_then _ _ _ c.has_list.ensures.lasts c.has_message.ensures.lasts) c.is_full.ensures.lasts) c.take_in.ensures.lasts
+
+pub returns-clause-lasts : goal.returns-clause-lasts
+returns-clause-lasts g c = lasts_then _ _ _ (lasts_then _ _ _ (lasts_then _ _ _ c.has_list.ensures.lasts c.has_message.ensures.lasts) c.is_full.ensures.lasts) c.take_in.ensures.lasts

@@ -3,6 +3,9 @@ use Rattle.archive_machine.specs.Messages.{remembered}
 use Rattle.archive_tables.proofs.RunLemmas.{on_fault}
 use Rattle.archive_store.specs.Walking.{WalksOver}
 use Rattle.archive_store.proofs.WalkingLemmas.{given_more}
+use Rattle.archive_tables.proofs.LastLemmas.{lasts_then}
+use Rattle.archive_store.proofs.CauseLemmas.{passed_on, stops_later}
+use Rattle.sqlite.specs.Held.{state}
 use Rattle.archive_store.proofs.walking.read_rows.Goals as goal
 
 pub returns-in_err-message-clause-given : goal.returns-in_err-message-clause-given
@@ -20,6 +23,7 @@ loop-found-preserved g c = (
       let more = rw c.in-Some.is at (c.in_ok-message.ensures.given returned list all a _ so_far) in
       subst (λ so. WalksOver g.S.Store list all a so c.next.new.self)
       (given_more (remembered list) given c.loop-found.found.items c.push.new.self.items c.in-Some.message c.in_ok-push.ensures.items) more),
+  lasts_then _ _ _ c.loop-found.invariant.3 c.next.ensures.lasts,
 )
 
 pub returns-in_err-push-clause-given : goal.returns-in_err-push-clause-given
@@ -32,3 +36,19 @@ pub returns-clause-given : goal.returns-clause-given
 returns-clause-given g c = λ returned list all a given w.
     let so_far = c.loop-found.invariant.2 (c.next.ensures.clean returned) list all a given w in
     rw c.in_default.is at (c.in_ok-message.ensures.given returned list all a _ so_far)
+
+pub returns-in_err-message-clause-lasts : goal.returns-in_err-message-clause-lasts
+returns-in_err-message-clause-lasts g c = lasts_then _ _ _ c.loop-found.invariant.3 c.next.ensures.lasts
+
+pub returns-in_err-push-clause-lasts : goal.returns-in_err-push-clause-lasts
+returns-in_err-push-clause-lasts g c = lasts_then _ _ _ c.loop-found.invariant.3 c.next.ensures.lasts
+
+pub returns-clause-lasts : goal.returns-clause-lasts
+returns-clause-lasts g c = lasts_then _ _ _ c.loop-found.invariant.3 c.next.ensures.lasts
+
+pub returns-in_err-message-clause-caused : goal.returns-in_err-message-clause-caused
+returns-in_err-message-clause-caused g c = λ returned list all a given w free.
+    let so_far = c.loop-found.invariant.2 (c.next.ensures.clean returned) list all a given w in
+    passed_on c.from_residual-in_err-message.result c.in_err-message.field-0.0 _ c.from_residual-in_err-message.ensures.1
+    (λ it. stops_later (state g.S.Store c.args.walk.now.store.now.conn) (state g.S.Store c.loop-found.walk.store.now.conn) (state g.S.Store c.next.new.self.store.now.conn) _ all c.loop-found.invariant.3
+    (c.in_err-message.ensures.caused returned list all a _ so_far (c.loop-found.invariant.3.limit ∙ free) it))

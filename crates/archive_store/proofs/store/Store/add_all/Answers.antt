@@ -3,6 +3,7 @@ use Rattle.sqlite.specs.Held.{state}
 use Rattle.archive_tables.specs.Tables.{archive_of}
 use Rattle.archive_store.specs.Replies.{refusal}
 use Rattle.archive_store.proofs.BatchLemmas.{none_added, first_taken}
+use Rattle.archive_tables.proofs.LastLemmas.{lasts_then}
 use Rattle.archive_store.proofs.store.Store.add_all.Goals as goal
 
 pub returns-in-Err-clause-step : goal.returns-in-Err-clause-step
@@ -17,4 +18,30 @@ loop-done-init g c = (
   (λ clean kept.
       let counted = c.in-Ok.ensures.counted clean kept in
       first_taken None (state g.S.Store c.count_list.new.conn) (archive_of (state g.S.Store c.args.self.now.conn)) c.args.list.now c.args.items.now c.in-Ok.count counted.0.0 counted.0.1 counted.1),
+  c.count_list.ensures.lasts,
+  c.in-Ok.ensures.was_open,
 )
+
+pub loop-done-preserved : goal.loop-done-preserved
+loop-done-preserved g c = (
+  omega (arith, c.in-Ok-add_batch.ensures.to, c.batch_end-to.ensures.within),
+  c.in-Ok-add_batch.ensures.told,
+  (λ clean. c.loop-done.invariant.2 (c.add_batch.ensures.clean clean)),
+  (λ clean kept.
+      let so_far = c.loop-done.invariant.3 (c.add_batch.ensures.clean clean) kept in
+      (c.in-Ok-add_batch.ensures.step clean (archive_of (state g.S.Store c.args.self.now.conn)) so_far).0),
+  lasts_then _ _ _ c.loop-done.invariant.4 c.add_batch.ensures.lasts,
+  (λ clean. c.loop-done.invariant.5 (c.add_batch.ensures.clean clean)),
+)
+
+pub returns-then-at-to-clause-lasts : goal.returns-then-at-to-clause-lasts
+returns-then-at-to-clause-lasts g c = lasts_then _ _ _ c.loop-done.invariant.4 c.add_batch.ensures.lasts
+
+pub returns-in-Err-add_batch-clause-lasts : goal.returns-in-Err-add_batch-clause-lasts
+returns-in-Err-add_batch-clause-lasts g c = lasts_then _ _ _ c.loop-done.invariant.4 c.add_batch.ensures.lasts
+
+pub returns-clause-lasts : goal.returns-clause-lasts
+returns-clause-lasts g c = c.loop-done.invariant.4
+
+pub returns-clause-was_open : goal.returns-clause-was_open
+returns-clause-was_open g c = c.loop-done.invariant.5

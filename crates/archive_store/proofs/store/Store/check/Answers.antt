@@ -1,5 +1,8 @@
 use Rattle.std.proofs.Common.{rules, ◌≡◌, ◌∙◌, pos, get_or, arith, to_z, of_z, w64}
-use Rattle.archive_store.proofs.CheckLemmas.{looks_first, looks_next, looked_all, same_archive, both_stay, fails_to_check}
+use Rattle.archive_store.proofs.CheckLemmas.{looks_first, looks_next, looked_all, same_archive, both_stay, fails_to_check, check_failed}
+use Rattle.archive_tables.proofs.LastLemmas.{lasts_then}
+use Rattle.sqlite.specs.Held.{state}
+use Rattle.archive_store.proofs.CauseLemmas.{more_since}
 use Rattle.archive_store.proofs.store.Store.check.Goals as goal
 
 pub loop-place-init : goal.loop-place-init
@@ -8,6 +11,8 @@ loop-place-init g c = (
   (λ returned held.
       let found = c.in_ok-places.ensures.found returned held in
       looks_first g.S.Store c.args.self.now c.find_all_places.new.store c.deref-place-items.result.now held (c.deref-place-items.ensures.value ∙ found.0) found.1),
+  c.in_ok-places.ensures.lasts,
+  c.in_ok-places.ensures.was_open,
 )
 
 pub loop-place-preserved : goal.loop-place-preserved
@@ -20,6 +25,8 @@ loop-place-preserved g c =
           let next = looks_next g.S.Store c.args.self.now now c.deref-place-items.result.now c.loop-place.place-index (to_z w64 (of_z w64 (get_or c.deref-place-items.result.now c.loop-place.place-index (pos 0)))) (pos 0) so_far (omega (arith, c.loop-place-test.true)) it in
           let looked = rw c.in_default.is at (c.in_ok-list.ensures.looked returned so_far.stays.1 next.it next.found) in
           next.goes_on c.damage_at.new.store looked.0 looked.1),
+      lasts_then _ _ _ c.loop-place.invariant.2 c.damage_at.ensures.lasts,
+      (λ returned. c.loop-place.invariant.3 (c.damage_at.ensures.clean returned)),
     )
 
 pub returns-in_err-list-clause-checked : goal.returns-in_err-list-clause-checked
@@ -27,7 +34,7 @@ returns-in_err-list-clause-checked g c =
     let it : to_z w64 (of_z w64 (get_or c.deref-place-items.result.now c.loop-place.place-index (pos 0))) ≡ get_or c.deref-place-items.result.now c.loop-place.place-index (pos 0) = search rules in
     let now = c.loop-place.self in
     fails_to_check g.S.Store c.args.self.now c.damage_at.new.store c.from_residual-in_err-list.result _ c.from_residual-in_err-list.ensures.1
-    (λ returned. c.loop-place.invariant.0 (c.damage_at.ensures.clean returned))
+    (lasts_then _ _ _ c.loop-place.invariant.2 c.damage_at.ensures.lasts)
     (λ returned held up.
     let so_far = c.loop-place.invariant.1 (c.damage_at.ensures.clean returned) held in
     let next = looks_next g.S.Store c.args.self.now now c.deref-place-items.result.now c.loop-place.place-index (to_z w64 (of_z w64 (get_or c.deref-place-items.result.now c.loop-place.place-index (pos 0)))) (pos 0) so_far (omega (arith, c.loop-place-test.true)) it in
@@ -37,7 +44,7 @@ pub returns-in-Some-clause-checked : goal.returns-in-Some-clause-checked
 returns-in-Some-clause-checked g c =
     let it : to_z w64 (of_z w64 (get_or c.deref-place-items.result.now c.loop-place.place-index (pos 0))) ≡ get_or c.deref-place-items.result.now c.loop-place.place-index (pos 0) = search rules in
     let now = c.loop-place.self in (
-      (λ returned. c.loop-place.invariant.0 (c.damage_at.ensures.clean returned)),
+      lasts_then _ _ _ c.loop-place.invariant.2 c.damage_at.ensures.lasts,
       (λ returned held.
           let so_far = c.loop-place.invariant.1 (c.damage_at.ensures.clean returned) held in
           let next = looks_next g.S.Store c.args.self.now now c.deref-place-items.result.now c.loop-place.place-index (to_z w64 (of_z w64 (get_or c.deref-place-items.result.now c.loop-place.place-index (pos 0)))) (pos 0) so_far (omega (arith, c.loop-place-test.true)) it in
@@ -48,10 +55,24 @@ returns-in-Some-clause-checked g c =
 
 pub returns-clause-checked : goal.returns-clause-checked
 returns-clause-checked g c = (
-  c.loop-place.invariant.0,
+  c.loop-place.invariant.2,
   (λ returned held.
       let so_far = c.loop-place.invariant.1 returned held in (
         so_far.stays.1,
         (same_archive g.S.Store c.args.self.now c.loop-place.self so_far.stays, looked_all g.S.Store c.args.self.now c.loop-place.self c.deref-place-items.result.now c.loop-place.place-index so_far (search rules)),
       )),
 )
+
+pub returns-in_err-places-clause-caused : goal.returns-in_err-places-clause-caused
+returns-in_err-places-clause-caused g c = λ returned held free.
+    check_failed c.from_residual.result c.in_err-places.field-0.0 _ c.from_residual.ensures.1 (c.in_err-places.ensures.caused returned held free)
+
+pub returns-in_err-list-clause-caused : goal.returns-in_err-list-clause-caused
+returns-in_err-list-clause-caused g c = λ returned held free.
+    let it : to_z w64 (of_z w64 (get_or c.deref-place-items.result.now c.loop-place.place-index (pos 0))) ≡ get_or c.deref-place-items.result.now c.loop-place.place-index (pos 0) = search rules in
+    let now = c.loop-place.self in
+    let so_far = c.loop-place.invariant.1 (c.damage_at.ensures.clean returned) held in
+    let next = looks_next g.S.Store c.args.self.now now c.deref-place-items.result.now c.loop-place.place-index (to_z w64 (of_z w64 (get_or c.deref-place-items.result.now c.loop-place.place-index (pos 0)))) (pos 0) so_far (omega (arith, c.loop-place-test.true)) it in
+    check_failed c.from_residual-in_err-list.result c.in_err-list.field-0.0 _ c.from_residual-in_err-list.ensures.1
+    (λ is. more_since (state g.S.Store c.args.self.now.conn) (state g.S.Store now.conn) (state g.S.Store c.damage_at.new.store.conn) c.loop-place.invariant.2
+    (c.in_err-list.ensures.caused returned so_far.stays.1 (c.loop-place.invariant.2.limit ∙ free) next.it next.found is))

@@ -8,6 +8,7 @@ use Rattle.archive_machine.specs.Machine.{held_back}
 use Rattle.std.specs.List.{list_any}
 use Rattle.archive_store.proofs.StepLemmas.{begins, asks, answers, writes}
 use Rattle.archive_store.proofs.StepEquations.{embargo_no_message, embargo_done}
+use Rattle.archive_tables.proofs.LastLemmas.{lasts_then}
 use Rattle.archive_store.proofs.store.Store.embargo.Goals as goal
 
 pub returns-then-not-branch-2-clause-step : goal.returns-then-not-branch-2-clause-step
@@ -40,3 +41,9 @@ returns-clause-step g c =
     (λ a. record a { messages = map (λ m. if is_message list k2 m then record m { embargo = Some (to_z w64 (of_z w64 c.day_number-day.result)) } else m) a.messages })
     two c.in_ok-set_embargo.ensures.clean c.in_ok-set_embargo.ensures.changed
     (embargo_done list key k k2 c.args.until (to_z w64 (of_z w64 c.day_number-day.result)) c.as_str.ensures c.as_str-2.ensures (to_z-of_z w64 c.day_number-day.result (record { sfits = c.day_number-day.type_inv }) ∙ c.day_number-day.ensures))
+
+pub returns-in_err-set_embargo-clause-lasts : goal.returns-in_err-set_embargo-clause-lasts
+returns-in_err-set_embargo-clause-lasts g c = lasts_then _ _ _ (lasts_then _ _ _ c.has_list.ensures.lasts c.has_message.ensures.lasts) c.set_embargo.ensures.lasts
+
+pub returns-clause-lasts : goal.returns-clause-lasts
+returns-clause-lasts g c = lasts_then _ _ _ (lasts_then _ _ _ c.has_list.ensures.lasts c.has_message.ensures.lasts) c.set_embargo.ensures.lasts

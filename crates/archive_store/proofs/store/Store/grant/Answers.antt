@@ -8,6 +8,7 @@ use Rattle.archive_machine.specs.Machine.{granted}
 use Rattle.archive_store.specs.Words.{rank_of}
 use Rattle.archive_store.proofs.StepLemmas.{begins, asks, answers, writes, writes_when}
 use Rattle.archive_store.proofs.StepEquations.{is_lt-int_cmp, grant_no_list, grant_bad_days, grant_again, grant_new}
+use Rattle.archive_tables.proofs.LastLemmas.{lasts_then}
 use Rattle.archive_store.proofs.store.Store.grant.Goals as goal
 
 pub returns-then-not-branch-2-clause-step : goal.returns-then-not-branch-2-clause-step
@@ -75,3 +76,18 @@ returns-in_ok-add_grant-clause-step g c =
     (grant_new person list (rank_of c.args.kind) c.args.from c.args.until (to_z w64 (of_z w64 c.rank-rank.result)) (to_z w64 (of_z w64 c.day_number-first.result)) (to_z w64 (of_z w64 c.day_number-last.result))
     (to_z-of_z w64 c.rank-rank.result (record { sfits = c.rank-rank.type_inv }) ∙ c.rank-rank.ensures) (to_z-of_z w64 c.day_number-first.result (record { sfits = c.day_number-first.type_inv }) ∙ c.day_number-first.ensures) (to_z-of_z w64 c.day_number-last.result (record { sfits = c.day_number-last.type_inv }) ∙ c.day_number-last.ensures)
     (sym (is_lt-int_cmp c.args.until c.args.from) ∙ sym c.if-lt.ensures))
+
+pub returns-in_err-has_grant-clause-lasts : goal.returns-in_err-has_grant-clause-lasts
+returns-in_err-has_grant-clause-lasts g c = lasts_then _ _ _ (lasts_then _ _ _ c.has_person.ensures.lasts c.has_list.ensures.lasts) c.has_grant.ensures.lasts
+
+pub returns-in_err-change_grant-clause-lasts : goal.returns-in_err-change_grant-clause-lasts
+returns-in_err-change_grant-clause-lasts g c = lasts_then _ _ _ (lasts_then _ _ _ (lasts_then _ _ _ c.has_person.ensures.lasts c.has_list.ensures.lasts) c.has_grant.ensures.lasts) c.change_grant.ensures.lasts
+
+pub returns-in_ok-change_grant-clause-lasts : goal.returns-in_ok-change_grant-clause-lasts
+returns-in_ok-change_grant-clause-lasts g c = lasts_then _ _ _ (lasts_then _ _ _ (lasts_then _ _ _ c.has_person.ensures.lasts c.has_list.ensures.lasts) c.has_grant.ensures.lasts) c.change_grant.ensures.lasts
+
+pub returns-in_err-add_grant-clause-lasts : goal.returns-in_err-add_grant-clause-lasts
+returns-in_err-add_grant-clause-lasts g c = lasts_then _ _ _ (lasts_then _ _ _ (lasts_then _ _ _ c.has_person.ensures.lasts c.has_list.ensures.lasts) c.has_grant.ensures.lasts) c.add_grant.ensures.lasts
+
+pub returns-in_ok-add_grant-clause-lasts : goal.returns-in_ok-add_grant-clause-lasts
+returns-in_ok-add_grant-clause-lasts g c = lasts_then _ _ _ (lasts_then _ _ _ (lasts_then _ _ _ c.has_person.ensures.lasts c.has_list.ensures.lasts) c.has_grant.ensures.lasts) c.add_grant.ensures.lasts

@@ -5,6 +5,7 @@ use Rattle.archive_machine.specs.Questions.{has_person, has_token}
 use Rattle.archive_machine.specs.Machine.{person_added}
 use Rattle.archive_store.proofs.StepLemmas.{begins, asks, answers, writes}
 use Rattle.archive_store.proofs.StepEquations.{person_token_taken, person_done}
+use Rattle.archive_tables.proofs.LastLemmas.{lasts_then}
 use Rattle.archive_store.proofs.store.Store.person_add.Goals as goal
 
 pub returns-then-branch-2-clause-step : goal.returns-then-branch-2-clause-step
@@ -34,3 +35,9 @@ returns-clause-step g c =
     (λ a. record a { persons = a.persons ++ record { name = name; token = token } ∷ [] })
     two c.in_ok-add_person.ensures.clean c.in_ok-add_person.ensures.added
     (person_done name token (sym c.is_name.ensures ∙ c.if-not-is_name.false) (sym c.is_token.ensures ∙ c.if-not-is_token.false))
+
+pub returns-in_err-add_person-clause-lasts : goal.returns-in_err-add_person-clause-lasts
+returns-in_err-add_person-clause-lasts g c = lasts_then _ _ _ (lasts_then _ _ _ c.has_person.ensures.lasts c.has_token.ensures.lasts) c.add_person.ensures.lasts
+
+pub returns-clause-lasts : goal.returns-clause-lasts
+returns-clause-lasts g c = lasts_then _ _ _ (lasts_then _ _ _ c.has_person.ensures.lasts c.has_token.ensures.lasts) c.add_person.ensures.lasts

@@ -6,6 +6,7 @@ use Rattle.archive_machine.specs.Machine.{restored}
 use Rattle.archive_tables.specs.Rows.{marks_of}
 use Rattle.archive_store.proofs.StepLemmas.{begins, asks, writes}
 use Rattle.archive_store.proofs.StepEquations.{restore_done}
+use Rattle.archive_tables.proofs.LastLemmas.{lasts_then}
 use Rattle.archive_store.proofs.store.Store.restore.Goals as goal
 
 pub returns-clause-step : goal.returns-clause-step
@@ -25,3 +26,9 @@ returns-clause-step g c =
     (λ a. record a { messages = map (λ m. if is_message list k2 m then record m { withdrawn = pos 0 } else m) a.messages })
     two c.in_ok-set_withdrawn.ensures.clean c.in_ok-set_withdrawn.ensures.changed
     (restore_done list key k k2 r c.as_str.ensures c.as_str-2.ensures c.if-not-is_withdrawn.ensures)
+
+pub returns-in_err-set_withdrawn-clause-lasts : goal.returns-in_err-set_withdrawn-clause-lasts
+returns-in_err-set_withdrawn-clause-lasts g c = lasts_then _ _ _ (lasts_then _ _ _ c.has_list.ensures.lasts c.marks.ensures.lasts) c.set_withdrawn.ensures.lasts
+
+pub returns-clause-lasts : goal.returns-clause-lasts
+returns-clause-lasts g c = lasts_then _ _ _ (lasts_then _ _ _ c.has_list.ensures.lasts c.marks.ensures.lasts) c.set_withdrawn.ensures.lasts

@@ -8,6 +8,7 @@ use Rattle.archive_machine.specs.Machine.{revoked}
 use Rattle.archive_store.specs.Words.{rank_of}
 use Rattle.archive_store.proofs.StepLemmas.{begins, asks, answers, writes}
 use Rattle.archive_store.proofs.StepEquations.{revoke_no_list, revoke_done}
+use Rattle.archive_tables.proofs.LastLemmas.{lasts_then}
 use Rattle.archive_store.proofs.store.Store.revoke.Goals as goal
 
 pub returns-then-not-branch-2-clause-step : goal.returns-then-not-branch-2-clause-step
@@ -41,3 +42,12 @@ returns-clause-step g c =
     (λ a. record a { grants = filter (λ g. not (is_grant person list (to_z w64 (of_z w64 c.rank-rank.result)) g)) a.grants })
     three c.in_ok-remove_grant.ensures.clean c.in_ok-remove_grant.ensures.removed
     (revoke_done person list (rank_of c.args.kind) (to_z w64 (of_z w64 c.rank-rank.result)) had (to_z-of_z w64 c.rank-rank.result (record { sfits = c.rank-rank.type_inv }) ∙ c.rank-rank.ensures))
+
+pub returns-in_err-was_there-clause-lasts : goal.returns-in_err-was_there-clause-lasts
+returns-in_err-was_there-clause-lasts g c = lasts_then _ _ _ (lasts_then _ _ _ c.has_person.ensures.lasts c.has_list.ensures.lasts) c.has_grant.ensures.lasts
+
+pub returns-in_err-remove_grant-clause-lasts : goal.returns-in_err-remove_grant-clause-lasts
+returns-in_err-remove_grant-clause-lasts g c = lasts_then _ _ _ (lasts_then _ _ _ (lasts_then _ _ _ c.has_person.ensures.lasts c.has_list.ensures.lasts) c.has_grant.ensures.lasts) c.remove_grant.ensures.lasts
+
+pub returns-clause-lasts : goal.returns-clause-lasts
+returns-clause-lasts g c = lasts_then _ _ _ (lasts_then _ _ _ (lasts_then _ _ _ c.has_person.ensures.lasts c.has_list.ensures.lasts) c.has_grant.ensures.lasts) c.remove_grant.ensures.lasts

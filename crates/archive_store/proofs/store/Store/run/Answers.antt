@@ -6,6 +6,7 @@ use Rattle.archive_tables.specs.Tables.{archive_of}
 use Rattle.archive_store.specs.Running.{command_of, answer_of, RanAll}
 use Rattle.archive_store.proofs.RunLemmas.{run_nothing, ran_none, ran_next, ran_stop, first_commands}
 use Rattle.archive_store.proofs.CountLemmas.{count_after}
+use Rattle.archive_tables.proofs.LastLemmas.{lasts_then, lasts_same}
 use Rattle.archive_store.proofs.store.Store.run.Goals as goal
 
 pub returns-in_default-clause-step : goal.returns-in_default-clause-step
@@ -17,6 +18,7 @@ loop-command-init g c =
       ap length c.in-Ok.ensures.items,
       (λ clean. clean),
       (λ clean kept. (subst (λ outcomes. RanAll first (run (archive_of first) []) first outcomes) (sym c.in-Ok.ensures.items) (ran_none first kept), tt)),
+      lasts_same _,
     )
 
 pub returns-in-Err-clause-clean : goal.returns-in-Err-clause-clean
@@ -58,6 +60,7 @@ loop-command-preserved g c =
             count_after g.S.Store c.loop-command.self.conn c.carry_out.new.self.conn c.command-item.result c.loop-command.counted c.carry_out.new.counted
                 (answer_of o) clean ran.0.0 c.in-Ok-carry_out.ensures.told steps c.in-Ok-carry_out.ensures.counted ran.1,
           )),
+      lasts_then _ _ _ c.loop-command.invariant.3 c.carry_out.ensures.lasts,
     )
 
 pub returns-in-Err-push-clause-step : goal.returns-in-Err-push-clause-step
@@ -81,3 +84,12 @@ pub returns-in-Err-push-clause-bound : goal.returns-in-Err-push-clause-bound
 returns-in-Err-push-clause-bound g c =
     let len : vec_len c.loop-command.outcomes ≡ length c.loop-command.outcomes.items = search rules in
     omega (arith, c.len-done.ensures, len, c.loop-command.invariant.0, c.loop-command-test.true)
+
+pub returns-in-Err-clause-lasts : goal.returns-in-Err-clause-lasts
+returns-in-Err-clause-lasts g c = lasts_then _ _ _ c.loop-command.invariant.3 c.carry_out.ensures.lasts
+
+pub returns-in-Err-push-clause-lasts : goal.returns-in-Err-push-clause-lasts
+returns-in-Err-push-clause-lasts g c = lasts_then _ _ _ c.loop-command.invariant.3 c.carry_out.ensures.lasts
+
+pub returns-clause-lasts : goal.returns-clause-lasts
+returns-clause-lasts g c = c.loop-command.invariant.3

@@ -4,6 +4,7 @@ use Rattle.sqlite.specs.State.{HasCleanDisk}
 use Rattle.archive_machine.specs.Runs.{run}
 use Rattle.archive_tables.specs.Tables.{IsKept, archive_of}
 use Rattle.archive_store.specs.Running.{command_of, IsRightCount, RanAll}
+use Rattle.archive_tables.specs.Calls.{Lasts}
 use Rattle.archive_store.proofs.store.Store.run.Given as goal
 
 abbrev pub invariant-loop-command : goal.invariant-loop-command
@@ -13,3 +14,4 @@ invariant-loop-command g l =
     (length l.outcomes.items ≡ l.command-index) × (HasCleanDisk now → HasCleanDisk first)
     × (HasCleanDisk now → IsKept first
     → RanAll first (run (archive_of first) (map command_of (take l.command-index l.commands))) now l.outcomes.items × IsRightCount l.counted (archive_of now))
+    × Lasts first now

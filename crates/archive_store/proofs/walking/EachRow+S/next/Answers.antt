@@ -4,7 +4,8 @@ use Rattle.std.proofs.lemmas.Int.{to_z-of_z}
 use Rattle.std.proofs.lemmas.Option.{get_or_from_slice_get, slice_get_within}
 use Rattle.archive_tables.specs.Rows.{message_at}
 use Rattle.archive_store.specs.Walking.{rows_of}
-use Rattle.archive_store.proofs.WalkingLemmas.{all_given, further, past_end}
+use Rattle.archive_store.proofs.WalkingLemmas.{all_given, further, past_end, unread_next}
+use Rattle.archive_store.proofs.CauseLemmas.{passed_on}
 use Rattle.archive_store.proofs.walking.EachRow+S.next.Goals as goal
 
 pub returns-in_default-clause-given : goal.returns-in_default-clause-given
@@ -45,3 +46,13 @@ returns-clause-left g c =
     let some : slice_get walk.places.items walk.at ≡ Some c.in-Some.place = ap (λ l. slice_get l walk.at) (sym c.deref.ensures.value) ∙ sym c.place_at.ensures ∙ c.in-Some.is in
     let within = slice_get_within walk.places.items walk.at c.in-Some.place some in
     omega (arith, within)
+
+pub returns-in_err-message-clause-caused : goal.returns-in_err-message-clause-caused
+returns-in_err-message-clause-caused g c = λ returned list all a given w free.
+    let walk = c.args.self.now in
+    let place = c.in-Some.place in
+    let fits = rw c.in-Some.is at c.place_at.type_inv in
+    let itself = to_z-of_z w64 place (record { sfits = assumption fits }) in
+    let some : slice_get walk.places.items walk.at ≡ Some place = ap (λ l. slice_get l walk.at) (sym c.deref.ensures.value) ∙ sym c.place_at.ensures ∙ c.in-Some.is in
+    passed_on c.from_residual.result c.in_err-message.field-0.0 _ c.from_residual.ensures.1
+    (λ it. unread_next g.S.Store list all a given walk place w some _ (rw itself at (c.in_err-message.ensures.caused returned w.held free it)))
