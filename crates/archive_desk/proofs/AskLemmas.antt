@@ -12,9 +12,10 @@ use Rattle.archive_machine.specs.Commands.{Refusal as Declined}
 use Rattle.archive_machine.specs.Questions.{has_list, has_person, list_refusal, message_of, messages_in, standing_of}
 use Rattle.archive_machine.specs.Messages.{remembered}
 use Rattle.archive_machine.specs.declared.messages.Message.{Message}
-use Rattle.archive_store.specs.Replies.{refusal}
+use Rattle.archive_store.specs.Replies.{refusal, Answers}
+use Rattle.archive_store.specs.Held.{held_of}
 use Rattle.archive_store.specs.Words.{standing_rank}
-use Rattle.archive_store.specs.Told.{HoldsTables, GoesIn, GoesInIfOpen, AsksIn}
+use Rattle.archive_store.specs.Told.{HoldsTables, Lasts, GoesIn, GoesInIfOpen, AsksIn}
 use Rattle.archive_store.specs.declared.store.Store.{Store}
 use Rattle.archive_store.specs.declared.faults.StoreFault.{StoreFault}
 use Rattle.archive_store.specs.declared.faults.StoreFault.TheVariants.{BadName, BadText, ListExists, NoList, PersonExists, NoPerson, TokenTaken, NoMessage, AlreadyWithdrawn, NotWithdrawn, BadDays, ListFull, TooLarge, Memory, Store as Failed}
@@ -23,7 +24,7 @@ use Rattle.archive_results.specs.Access.{Ask, ReaderMarks, Refusal, no_list, no_
 use Rattle.archive_results.specs.Access.{Asked, asked_on, asked_of}
 use Rattle.archive_desk.specs.Asking.{standing_reason}
 use Rattle.archive_desk.specs.declared.faults.DeskFault.{DeskFault}
-use Rattle.archive_desk.proofs.CallLemmas.{calls_after}
+use Rattle.archive_desk.proofs.CallLemmas.{calls_after, store_asked}
 use Rattle.archive_desk.specs.Faults.{Reason, refused, reason, reason_by, desk_fault, ask_reason, IsAskFault}
 
 -- ---- what the store refuses
@@ -85,6 +86,26 @@ module _ {S : Type 0} (g : Ghosts S) (old new : Store S) {A : Type 0} (refuses :
       by_reason (Some why) same =
           goes_in_as g (HoldsTables g) old new (λ a b. (b ≡ a) × (refuses a ≡ Some why)) (λ a b. (b ≡ a) × (option_map reason_by (refuses a) ≡ Some (reason_by why)))
           (λ a b h. (h.0, ap (option_map reason_by) h.1)) same
+
+  -- one that the store does not answer
+  pub store_declines : {B : Type 0} (fault : StoreFault) (SaysBelow : Archive → B → Type 0) → Lasts g old new
+      → Answers g (held_of old) (held_of new) {A = B} (Err fault) refuses SaysBelow
+      → AsksIn g (HoldsTables g) old new {A = A} reason (Err (desk_fault fault)) (λ a. option_map reason_by (refuses a)) Says
+  store_declines {B = B} fault SaysBelow lasts it = desk_declined fault (store_asked g {A = B} old new (Err fault) refuses SaysBelow lasts it)
+
+  -- one that is never refused
+  pub never_declined : (fault : StoreFault)
+      → MatchOption (refusal fault) (GoesInIfOpen g (HoldsTables g) old new (λ a b. b ≡ a)) (λ why. GoesIn g (HoldsTables g) old new (λ a b. (b ≡ a) × (◌≡◌ {A = Option Declined} None (Some why))))
+      → MatchOption (refusal fault) (GoesInIfOpen g (HoldsTables g) old new (λ a b. b ≡ a)) (λ why. GoesIn g (HoldsTables g) old new (λ a b. (b ≡ a) × (refuses a ≡ Some why)))
+  never_declined fault it = by_reason (refusal fault) it
+    where
+      by_reason : (r : Option Declined)
+          → MatchOption r (GoesInIfOpen g (HoldsTables g) old new (λ a b. b ≡ a)) (λ why. GoesIn g (HoldsTables g) old new (λ a b. (b ≡ a) × (◌≡◌ {A = Option Declined} None (Some why))))
+          → MatchOption r (GoesInIfOpen g (HoldsTables g) old new (λ a b. b ≡ a)) (λ why. GoesIn g (HoldsTables g) old new (λ a b. (b ≡ a) × (refuses a ≡ Some why)))
+      by_reason None same = same
+      by_reason (Some why) same =
+          goes_in_as g (HoldsTables g) old new (λ a b. (b ≡ a) × (◌≡◌ {A = Option Declined} None (Some why))) (λ a b. (b ≡ a) × (refuses a ≡ Some why))
+          (λ a b h. let none = h.1 in absurd (cc)) same
 
 -- ---- the list, and then the reader
 

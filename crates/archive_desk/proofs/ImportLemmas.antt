@@ -10,14 +10,13 @@ use Rattle.archive_machine.specs.Questions.{has_list, list_refusal}
 use Rattle.sqlite.specs.Held.{state}
 use Rattle.sqlite.specs.State.{HasCleanDisk}
 use Rattle.archive_machine.specs.Runs.{taken}
-use Rattle.archive_tables.specs.Calls.{WasClean}
 use Rattle.archive_tables.specs.Tables.{IsKept, archive_of}
 use Rattle.archive_store.specs.Batches.{AddsAll, IsAfter, IsRefusedAt, tally_of as store_tally}
 use Rattle.archive_store.specs.Held.{held_of}
 use Rattle.archive_store.specs.Replies.{refusal}
 use Rattle.archive_store.specs.declared.batches.AddStop.{AddStop}
 use Rattle.archive_store.specs.declared.batches.Report.{Report as Counts}
-use Rattle.archive_store.specs.Told.{HoldsTables, IsReady, archive_in, GoesIn, GoesInIfOpen, Goes, GoesIfOpen, Calls}
+use Rattle.archive_store.specs.Told.{Lasts, HoldsTables, IsReady, archive_in, GoesIn, GoesInIfOpen, Goes, GoesIfOpen, Calls}
 use Rattle.archive_store.specs.declared.store.Store.{Store}
 use Rattle.archive_store.specs.declared.faults.StoreFault.{StoreFault}
 use Rattle.archive_store.proofs.Joins.{goes_as, goes_as_if_open, ready_with, sound_too, sound_too_if_open}
@@ -91,12 +90,12 @@ module _ {S : Type 0} (g : Ghosts S) (old new : Store S) (list text : List ℕ) 
 
 -- ---- its messages are added, one after the other
 
-module _ {S : Type 0} (g : Ghosts S) (old new : Store S) (list : List ℕ) (items : List Item) (was : WasClean g (held_of old) (held_of new)) where
+module _ {S : Type 0} (g : Ghosts S) (old new : Store S) (list : List ℕ) (items : List Item) (lasts : Lasts g old new) where
   -- all of them
   pub added_all : (counts : Counts) (report : Report) → tally_of report ≡ store_tally counts → AddsAll g (held_of old) (held_of new) (Ok counts) list items
       → Goes g old new (λ a b. HasAdded list items a b report)
   added_all counts report same adds = (
-    was,
+    lasts,
     λ returned ready.
         let it = adds returned ready.held in
         let a = archive_in g old in (
@@ -123,13 +122,13 @@ module _ {S : Type 0} (g : Ghosts S) (old new : Store S) (list : List ℕ) (item
             (GoesIfOpen g old new (λ a b. IsBrokenAdd list items a b stop.done (Stored stop.fault)))
             (λ why. Goes g old new (λ a b. IsRefusedAdd list items a b why.0 why.1))
         by_reason None it = (
-          was,
+          lasts,
           λ returned ready up.
               let here = it returned ready.held up in
               (ready_with g new (taken (archive_in g old) list first).archive here.0 here.1 (taken_right (archive_in g old) list first ready.filed_right), (bound, here.1)),
         )
         by_reason (Some why) it = (
-          was,
+          lasts,
           λ returned ready.
               let here = it returned ready.held in (
                 ready_with g new (taken (archive_in g old) list first).archive here.0 here.1 (taken_right (archive_in g old) list first ready.filed_right),

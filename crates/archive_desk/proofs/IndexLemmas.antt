@@ -1,27 +1,29 @@
 -- The headers of a view, and the lines of its messages, as a walk lists them.
-use Rattle.std.proofs.Common.{◌≡◌, sym, ap, ◌∙◌, subst, Bool, true, false, cond, List, [], ◌∷◌, ◌++◌, filter, map, Some, None, Ok, Err}
-use Rattle.std.specs.Prelude.{⊤, MatchOption, Vec}
+use Rattle.std.proofs.Common.{◌≡◌, refl, Result, sym, ap, ◌∙◌, subst, Bool, true, false, cond, List, [], ◌∷◌, ◌++◌, filter, map, Some, None, Ok, Err}
+use Rattle.std.specs.Prelude.{⊤, IfErr, MatchOption, Vec, option_map}
 use Rattle.std.specs.declared.alloc.Global.{Global}
 use Rattle.std.proofs.lemmas.List.{append-nil, map-append}
 use Rattle.std.proofs.lemmas.List.Elements.{filter-append}
 use Rattle.sqlite.specs.Store.{Ghosts}
+use Rattle.archive_tables.proofs.LastLemmas.{lasts_then}
 use Rattle.archive_machine.specs.Records.{Archive, Message as Remembered}
 use Rattle.archive_machine.specs.Messages.{remembered}
 use Rattle.archive_machine.specs.Questions.{list_refusal}
 use Rattle.archive_machine.specs.declared.messages.Message.{Message}
 use Rattle.archive_store.specs.Replies.{refusal}
-use Rattle.archive_store.specs.Told.{AsksIn, GoesIn, GoesInIfOpen, HadReturned, HasReturned, HoldsTables, IsOpen, archive_in}
+use Rattle.archive_store.specs.Told.{AsksIn, GoesIn, GoesInIfOpen, Lasts, HasReturned, HoldsTables, IsOpen, WasOpen, archive_in}
 use Rattle.archive_store.specs.Walking.{BeginsOver, Walk, WalksOver}
 use Rattle.archive_store.specs.declared.store.Store.{Store}
 use Rattle.archive_results.specs.Access.{Ask, ReaderMarks, is_shown, reader_marks}
 use Rattle.archive_results.specs.Shown.{Line, line_of, shown_of}
-use Rattle.archive_desk.specs.Faults.{ask_reason, desk_fault, reason}
+use Rattle.archive_desk.specs.Faults.{ask_reason, declined, desk_fault, reason}
 use Rattle.archive_desk.specs.Listing.{lines_shown}
-use Rattle.archive_desk.specs.Walking.{ListsRows}
+use Rattle.archive_desk.specs.Walking.{IsUnlisted, ListsRows}
 use Rattle.archive_desk.specs.declared.faults.DeskFault.{DeskFault}
+use Rattle.archive_desk.specs.declared.faults.DeskFault.TheVariants.{NoList, NoPerson, NotInView, Store as Stored, Memory, Write}
 use Rattle.archive_store.specs.declared.faults.StoreFault.{StoreFault}
 use Rattle.archive_desk.proofs.AskLemmas.{list_declined}
-use Rattle.archive_desk.proofs.CallLemmas.{calls_after}
+use Rattle.archive_desk.proofs.CallLemmas.{calls_after, was_open_by}
 
 -- ---- what is made of messages
 
@@ -128,17 +130,20 @@ module _ {X : Type 0} (made : List Remembered → List X) {S : Type 0} (g : Ghos
 
   module _ (last : Store S) (walk new : Walk S) (reader : ReaderMarks) (is : last ≡ new.store.now)
       (found : GoesIn g (HoldsTables g) old mid (λ a b. (b ≡ a) × (ask_reason a ask ≡ None) × (reader ≡ reader_marks a ask)))
-      (begun : BeginsOver g mid ask.list which walk) (was : HadReturned g walk.store.now new.store.now) where
+      (begun : BeginsOver g mid ask.list which walk) (lasts : Lasts g walk.store.now new.store.now) where
+    through : Lasts g old last
+    through = subst (Lasts g old) (sym is) (lasts_then _ _ _ (lasts_then _ _ _ found.0 begun.0) lasts)
+
     at_walk : HasReturned g last → HasReturned g walk.store.now
-    at_walk returned = was (subst (HasReturned g) is returned)
+    at_walk returned = lasts.returned (subst (HasReturned g) is returned)
 
     at_start : HasReturned g last → HasReturned g mid
-    at_start returned = begun.0 (at_walk returned)
+    at_start returned = begun.0.returned (at_walk returned)
 
     pub walk_listed : (all_found : Vec X Global) → ListsRows g walk new ask reader made (Ok all_found)
         → AsksIn g (HoldsTables g) old last reason (Ok all_found) (λ a. ask_reason a ask) Held
     walk_listed all_found lists = (
-      (λ returned. found.0 (at_start returned)),
+      through,
       (λ returned held.
           let first = found.1 (at_start returned) held in
           let walks = begun.1 (at_walk returned) first.0 in
@@ -156,7 +161,7 @@ module _ {X : Type 0} (made : List Remembered → List X) {S : Type 0} (g : Ghos
     pub walk_unlisted : (fault : DeskFault) → reason fault ≡ None → ListsRows g walk new ask reader made (Err fault)
         → AsksIn g (HoldsTables g) old last reason (Err fault) (λ a. ask_reason a ask) Held
     walk_unlisted fault none lists = rw none (
-      (λ returned. found.0 (at_start returned)),
+      through,
       (λ returned held up.
           let first = found.1 (at_start returned) held in
           let walks = begun.1 (at_walk returned) first.0 in
@@ -164,3 +169,21 @@ module _ {X : Type 0} (made : List Remembered → List X) {S : Type 0} (g : Ghos
           let there = it (subst (IsOpen g) is up) in
           (subst (HoldsTables g) (sym is) there.0, ap (archive_in g) is ∙ there.1 ∙ first.1.0)),
     )
+
+    unlisted : (fault : DeskFault) → IsUnlisted fault → reason fault ≡ None
+    unlisted NoList is = absurd is
+    unlisted NoPerson is = absurd is
+    unlisted NotInView is = absurd is
+    unlisted (Stored fault) is = ap (option_map declined) is
+    unlisted Memory is = refl
+    unlisted Write is = absurd is
+
+    -- however it ends
+    pub walk_ended : (result : Result (Vec X Global) DeskFault) → IfErr result (λ fault. IsUnlisted fault) → ListsRows g walk new ask reader made result
+        → AsksIn g (HoldsTables g) old last reason result (λ a. ask_reason a ask) Held
+    walk_ended (Ok all_found) is lists = walk_listed all_found lists
+    walk_ended (Err fault) is lists = walk_unlisted fault (unlisted fault is) lists
+
+    -- the store was open, since the reader was found
+    pub walk_open : (HasReturned g mid → IsOpen g old) → (result : Result (Vec X Global) DeskFault) → WasOpen g old last reason result
+    walk_open up result = was_open_by g old last reason result (λ returned. up (at_start returned))

@@ -1,14 +1,15 @@
 -- What an export says that walks the list.
-use Rattle.std.proofs.Common.{◌≡◌, refl, sym, ap, ◌∙◌, subst, ℕ, min, List, [], ◌++◌, length, Some, None, Ok, Err, arith}
-use Rattle.std.specs.Prelude.{⊤, MatchOption}
+use Rattle.std.proofs.Common.{◌≡◌, refl, Result, sym, ap, ◌∙◌, subst, ℕ, min, List, [], ◌++◌, length, Some, None, Ok, Err, arith}
+use Rattle.std.specs.Prelude.{⊤, IfErr, MatchOption}
 use Rattle.std.proofs.lemmas.List.{append-nil}
 use Rattle.sqlite.specs.Store.{Ghosts}
 use Rattle.mbox_core.specs.Written.{IsCutShort}
+use Rattle.archive_tables.proofs.LastLemmas.{lasts_then}
 use Rattle.archive_machine.specs.Records.{Archive}
 use Rattle.archive_machine.specs.Questions.{list_refusal, messages_in}
 use Rattle.archive_machine.specs.Sound.{IsFiledRight}
 use Rattle.archive_store.specs.Replies.{refusal}
-use Rattle.archive_store.specs.Told.{GoesIn, GoesInIfOpen, Calls, HasReturned, HadReturned, HoldsTables, IsReady, IsOpen, archive_in}
+use Rattle.archive_store.specs.Told.{GoesIn, GoesInIfOpen, Calls, HasReturned, Lasts, HoldsTables, IsReady, IsOpen, archive_in}
 use Rattle.archive_store.specs.Walking.{Walk, Begins}
 use Rattle.archive_store.specs.declared.store.Store.{Store}
 use Rattle.archive_store.specs.declared.faults.StoreFault.{StoreFault}
@@ -16,6 +17,7 @@ use Rattle.archive_results.specs.Access.{Ask, ReaderMarks, reader_marks}
 use Rattle.archive_desk.specs.Exporting.{Exports, ExportsPart, HasBegun, IsExportRefused, IsExportStop, exported, shown_text, stop_reason}
 use Rattle.archive_desk.specs.Faults.{ask_reason, desk_fault, reason, IsAskFault}
 use Rattle.archive_desk.specs.Walking.{IsWalkStop, StandsOn, WritesWalk}
+use Rattle.archive_desk.specs.declared.exporting.ExportStop.{ExportStop}
 use Rattle.archive_desk.specs.declared.faults.DeskFault.{DeskFault}
 use Rattle.archive_desk.specs.declared.faults.DeskFault.TheVariants.{NoList, NoPerson, NotInView, Store as Stored, Memory, Write}
 use Rattle.archive_store.proofs.Joins.{ready_with}
@@ -49,7 +51,7 @@ module _ {S : Type 0} (g : Ghosts S) (old mid : Store S) (ask : Ask) (First : Ar
 module _ {S : Type 0} (g : Ghosts S) (old mid last : Store S) (walk new : Walk S) (ask : Ask) (reader : ReaderMarks) (head before after : List ℕ)
     (is : last ≡ new.store.now)
     (found : GoesIn g (HoldsTables g) old mid (λ a b. (b ≡ a) × (ask_reason a ask ≡ None) × (reader ≡ reader_marks a ask)))
-    (begun : Begins g mid ask.list walk) (was : HadReturned g walk.store.now new.store.now) where
+    (begun : Begins g mid ask.list walk) (lasts : Lasts g walk.store.now new.store.now) where
   abbrev text : Archive → List ℕ
   text a = head ++ exported a ask
 
@@ -60,11 +62,14 @@ module _ {S : Type 0} (g : Ghosts S) (old mid last : Store S) (walk new : Walk S
   texts : (a b : Archive) → b ≡ a → reader ≡ reader_marks a ask → seen b ≡ text a
   texts a b same ranked = ap seen same ∙ ap (λ s. head ++ shown_text ask s (messages_in a ask.list)) ranked
 
+  through : Lasts g old last
+  through = subst (Lasts g old) (sym is) (lasts_then _ _ _ (lasts_then _ _ _ found.0 begun.0) lasts)
+
   at_walk : HasReturned g last → HasReturned g walk.store.now
-  at_walk returned = was (subst (HasReturned g) is returned)
+  at_walk returned = lasts.returned (subst (HasReturned g) is returned)
 
   at_start : HasReturned g last → HasReturned g mid
-  at_start returned = begun.0 (at_walk returned)
+  at_start returned = begun.0.returned (at_walk returned)
 
   -- the store was ready, and nothing of the archive changed
   ready_last : StandsOn g (archive_in g mid) new → archive_in g mid ≡ archive_in g old → IsFiledRight (archive_in g old) → IsReady g last
@@ -74,7 +79,7 @@ module _ {S : Type 0} (g : Ghosts S) (old mid last : Store S) (walk new : Walk S
   pub walk_exported : (count : ℕ) → WritesWalk g walk new ask reader head before after (Ok count)
       → Exports g old last (Ok count) ask before after (λ a. head ++ exported a ask)
   walk_exported count writes = (
-    (λ returned. found.0 (at_start returned)),
+    through,
     (λ returned ready.
         let first = found.1 (at_start returned) ready.held in
         let walks = begun.1 (at_walk returned) first.0 in
@@ -109,7 +114,7 @@ module _ {S : Type 0} (g : Ghosts S) (old mid last : Store S) (walk new : Walk S
     walk_unexported NotInView why writes = absurd why
     walk_unexported Memory why writes = absurd why
     walk_unexported Write why writes = (
-      (λ returned. found.0 (at_start returned)),
+      through,
       (λ returned ready.
           let first = found.1 (at_start returned) ready.held in
           let walks = begun.1 (at_walk returned) first.0 in
@@ -119,7 +124,7 @@ module _ {S : Type 0} (g : Ghosts S) (old mid last : Store S) (walk new : Walk S
           )),
     )
     walk_unexported (Stored fault) why writes = rw why.0 (
-      (λ returned. found.0 (at_start returned)),
+      through,
       (λ returned ready up.
           let first = found.1 (at_start returned) ready.held in
           let walks = begun.1 (at_walk returned) first.0 in
@@ -139,6 +144,17 @@ module _ {S : Type 0} (g : Ghosts S) (old mid last : Store S) (walk new : Walk S
     walk_cause Memory why = absurd why
     walk_cause Write why = why
     walk_cause (Stored fault) why = (why.1, why.2)
+
+  -- however it ends
+  pub walk_ended : (failed fails : ℕ) (result : Result ℕ ExportStop) → IfErr result (λ stop. IsWalkStop before after failed fails stop.written stop.fault)
+      → WritesWalk g walk new ask reader head before after result → Exports g old last result ask before after (λ a. head ++ exported a ask)
+  walk_ended failed fails (Ok count) why writes = walk_exported count writes
+  walk_ended failed fails (Err stop) why writes = walk_unexported stop.written failed fails stop.fault why writes
+
+  pub walk_parts : (failed fails : ℕ) (result : Result ℕ ExportStop) → WritesWalk g walk new ask reader head before after result
+      → IfErr result (λ stop. ExportsPart g old last before after stop.written (λ a. head ++ exported a ask))
+  walk_parts failed fails (Ok count) writes = tt
+  walk_parts failed fails (Err stop) writes = walk_part stop.written failed fails stop.fault writes
 
 -- where nothing was written yet
 pub unwalked : {S : Type 0} (g : Ghosts S) (old last : Store S) (told : List ℕ) (text : Archive → List ℕ) → ExportsPart g old last told told 0 text

@@ -2,8 +2,8 @@
 ghost use Rattle.std.specs.Prelude.{◌≡◌, ◌∷◌, [], ◌<◌, ◌^◌, ◌-◌, ◌++◌, min, length, OnOk, IfOk, IfErr, OnErr};
 ghost use Rattle.mbox_core.specs.Written.{IsCutShort};
 ghost use Rattle.archive_machine.specs.Messages.{remembered};
-ghost use Rattle.archive_store.specs.Told.{HadReturned};
-ghost use Rattle.archive_desk.specs.Exporting.{Exports, ExportsPart, HasBegun, IsExportStop, exported, shown_text};
+ghost use Rattle.archive_store.specs.Told.{HasReturned, IsOpen, Lasts, WasOpen};
+ghost use Rattle.archive_desk.specs.Exporting.{Exports, ExportsPart, HasBegun, IsExportStop, exported, shown_text, stop_reason};
 ghost use Rattle.archive_desk.specs.Walking.{CountsMore, IsRowsStop, IsWalkStop, WritesRows, WritesWalk};
 
 use crate::faults::DeskFault;
@@ -35,6 +35,8 @@ pub fn export<S: Alter, W: Sink>(
         (λ a. exported a ask.now) }
     ensures part { IfErr result (λ stop. ExportsPart S.Store store.old store.new (W.told out.old) (W.told out.new)
         stop.written (λ a. exported a ask.now)) }
+    ensures was_open { WasOpen S.Store store.old store.new stop_reason result }
+    ensures out_open { IfErr result (λ stop. 0 < stop.written → HasReturned S.Store store.new → IsOpen S.Store store.old) }
     ensures begun { IfErr result (λ stop. HasBegun S.Store store.old store.new ask.now stop.written) }
     ensures quiet { OnOk result (W.failures out.new ≡ W.failures out.old) }
     ensures cause { IfErr result (λ stop. IsExportStop (W.told out.old) (W.told out.new)
@@ -56,6 +58,8 @@ pub fn export_after<S: Alter, W: Sink>(
         (λ a. head.now ++ exported a ask.now) }
     ensures part { IfErr result (λ stop. ExportsPart S.Store store.old store.new (W.told out.old) (W.told out.new)
         stop.written (λ a. head.now ++ exported a ask.now)) }
+    ensures was_open { WasOpen S.Store store.old store.new stop_reason result }
+    ensures out_open { IfErr result (λ stop. 0 < stop.written → HasReturned S.Store store.new → IsOpen S.Store store.old) }
     ensures begun { IfErr result (λ stop. HasBegun S.Store store.old store.new ask.now stop.written) }
     ensures quiet { OnOk result (W.failures out.new ≡ W.failures out.old) }
     ensures cause { IfErr result (λ stop. IsExportStop (W.told out.old) (W.told out.new)
@@ -83,7 +87,7 @@ fn write_walk<S: Alter, W: Sink>(
     out: &mut W,
 ) -> Result<u64, ExportStop>
     ensures same_reference { walk.new.store.ghost_name ≡ walk.old.store.ghost_name }
-    ensures clean { HadReturned S.Store walk.old.store.now walk.new.store.now }
+    ensures lasts { Lasts S.Store walk.old.store.now walk.new.store.now }
     ensures written { WritesWalk S.Store walk.old walk.new ask.now reader.now head.now (W.told out.old) (W.told out.new) result }
     ensures quiet { OnOk result (W.failures out.new ≡ W.failures out.old) }
     ensures cause { IfErr result (λ stop. IsWalkStop (W.told out.old) (W.told out.new)
@@ -115,7 +119,7 @@ fn write_rows<S: Alter, W: Sink>(
 ) -> Result<(), DeskFault>
     requires { count.old < 2 ^ 64 }
     ensures same_reference { walk.new.store.ghost_name ≡ walk.old.store.ghost_name }
-    ensures clean { HadReturned S.Store walk.old.store.now walk.new.store.now }
+    ensures lasts { Lasts S.Store walk.old.store.now walk.new.store.now }
     ensures written { WritesRows S.Store walk.old walk.new ask.now reader.now (W.told out.old) (W.told out.new) count.old count.new result }
     ensures quiet { OnOk result (W.failures out.new ≡ W.failures out.old) }
     ensures cause { IfErr result (λ fault. IsRowsStop (W.told out.old) (W.told out.new)

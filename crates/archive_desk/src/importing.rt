@@ -4,7 +4,7 @@ ghost use Rattle.mbox_core.specs.Division.{Divides};
 ghost use Rattle.archive_machine.specs.Questions.{has_list, list_refusal};
 ghost use Rattle.archive_store.specs.Replies.{refusal};
 ghost use Rattle.archive_store.specs.Batches.{tally_of as store_tally};
-ghost use Rattle.archive_store.specs.Told.{AsksIn, Calls, HoldsTables};
+ghost use Rattle.archive_store.specs.Told.{AsksIn, Calls, HoldsTables, WasOpen};
 ghost use Rattle.archive_desk.specs.Importing.{HasAdded, IsBrokenAdd, IsBrokenImport, IsCutStop};
 ghost use Rattle.archive_desk.specs.Importing.{IsImported, IsRefusedAdd, IsRefusedImport, stop_reason, tally_of};
 ghost use Rattle.archive_desk.specs.declared.importing.ImportFault.TheVariants.{Store as Stored};
@@ -84,6 +84,7 @@ pub fn import<S: Alter>(
 pub(crate) fn find_list<S: Alter>(store: &mut Store<S>, list: &str) -> Result<(), StoreFault>
     ensures found { AsksIn S.Store (HoldsTables S.Store) store.old store.new refusal result (λ a. list_refusal a list.now)
         (λ a _. has_list a list.now ≡ true) }
+    ensures was_open { WasOpen S.Store store.old store.new refusal result }
 {
     match store.has_list(list) {
         Ok(true) => Ok(()),

@@ -4,7 +4,7 @@ ghost use Rattle.archive_machine.specs.Messages.{remembered};
 ghost use Rattle.archive_results.specs.Access.{is_shown, reader_marks, view_of};
 ghost use Rattle.archive_results.specs.Filed.{filed_author_lines, filed_month_lines};
 ghost use Rattle.archive_results.specs.Index.{IsIndexOf, header_of};
-ghost use Rattle.archive_store.specs.Told.{AsksIn, HadReturned, HoldsTables};
+ghost use Rattle.archive_store.specs.Told.{AsksIn, HoldsTables, Lasts, WasOpen};
 ghost use Rattle.archive_desk.specs.Faults.{IsAskFault, ask_reason, reason};
 ghost use Rattle.archive_desk.specs.Listing.{lines_shown};
 ghost use Rattle.archive_desk.specs.Walking.{IsUnlisted, ListsRows};
@@ -27,6 +27,7 @@ pub(crate) fn read_headers<S: Alter>(
 ) -> Result<Vec<Header>, DeskFault>
     ensures held { AsksIn S.Store (HoldsTables S.Store) store.old store.new reason result (λ a. ask_reason a ask.now)
         (λ a headers. IsIndexOf (view_of a ask.now) headers.items) }
+    ensures was_open { WasOpen S.Store store.old store.new reason result }
     ensures fault { IfErr result (λ fault. IsAskFault fault) }
 {
     let reader = match find_reader(store, ask) {
@@ -49,6 +50,7 @@ pub(crate) fn read_month<S: Alter>(
 ) -> Result<Vec<Line>, DeskFault>
     ensures held { AsksIn S.Store (HoldsTables S.Store) store.old store.new reason result (λ a. ask_reason a ask.now)
         (λ a lines. lines.items ≡ filed_month_lines a ask.now (pos month)) }
+    ensures was_open { WasOpen S.Store store.old store.new reason result }
     ensures fault { IfErr result (λ fault. IsAskFault fault) }
 {
     let reader = match find_reader(store, ask) {
@@ -70,6 +72,7 @@ pub(crate) fn read_author<S: Alter>(
 ) -> Result<Vec<Line>, DeskFault>
     ensures held { AsksIn S.Store (HoldsTables S.Store) store.old store.new reason result (λ a. ask_reason a ask.now)
         (λ a lines. lines.items ≡ filed_author_lines a ask.now key.now) }
+    ensures was_open { WasOpen S.Store store.old store.new reason result }
     ensures fault { IfErr result (λ fault. IsAskFault fault) }
 {
     let reader = match find_reader(store, ask) {
@@ -90,7 +93,7 @@ fn walk_headers<S: Alter>(
     walk: &mut EachRow<'_, S>,
 ) -> Result<Vec<Header>, DeskFault>
     ensures same_reference { walk.new.store.ghost_name ≡ walk.old.store.ghost_name }
-    ensures clean { HadReturned S.Store walk.old.store.now walk.new.store.now }
+    ensures lasts { Lasts S.Store walk.old.store.now walk.new.store.now }
     ensures listed { ListsRows S.Store walk.old walk.new ask.now reader.now (map header_of) result }
     ensures fault { IfErr result (λ fault. IsUnlisted fault) }
 {
@@ -112,7 +115,7 @@ fn walk_lines<S: Alter>(
     walk: &mut EachRow<'_, S>,
 ) -> Result<Vec<Line>, DeskFault>
     ensures same_reference { walk.new.store.ghost_name ≡ walk.old.store.ghost_name }
-    ensures clean { HadReturned S.Store walk.old.store.now walk.new.store.now }
+    ensures lasts { Lasts S.Store walk.old.store.now walk.new.store.now }
     ensures listed { ListsRows S.Store walk.old walk.new ask.now reader.now lines_shown result }
     ensures fault { IfErr result (λ fault. IsUnlisted fault) }
 {

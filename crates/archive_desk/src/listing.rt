@@ -4,7 +4,7 @@ ghost use Rattle.archive_results.specs.Access.{view_of};
 ghost use Rattle.archive_results.specs.Filed.{filed_author_lines, filed_month_lines};
 ghost use Rattle.archive_results.specs.Results.{author_lines, month_lines, tree_lines, thread_lines};
 ghost use Rattle.archive_results.specs.Shown.{shown_of};
-ghost use Rattle.archive_store.specs.Told.{Asks, AsksIn, HoldsTables};
+ghost use Rattle.archive_store.specs.Told.{Asks, AsksIn, HoldsTables, WasOpen};
 ghost use Rattle.archive_desk.specs.Faults.{IsAskFault, ask_reason, reason};
 ghost use Rattle.archive_desk.specs.Listing.{IsThreadFault, thread_reason};
 
@@ -30,6 +30,7 @@ pub fn month<S: Alter>(
         (λ a lines. lines.items ≡ month_lines month (map shown_of (view_of a ask.now))) }
     ensures filed { AsksIn S.Store (HoldsTables S.Store) store.old store.new reason result (λ a. ask_reason a ask.now)
         (λ a lines. lines.items ≡ filed_month_lines a ask.now (pos month)) }
+    ensures was_open { WasOpen S.Store store.old store.new reason result }
     ensures fault { IfErr result (λ fault. IsAskFault fault) }
 {
     read_month(store, alloc, ask, month)
@@ -48,6 +49,7 @@ pub fn author<S: Alter>(
         (λ a lines. lines.items ≡ author_lines key.now (map shown_of (view_of a ask.now))) }
     ensures filed { AsksIn S.Store (HoldsTables S.Store) store.old store.new reason result (λ a. ask_reason a ask.now)
         (λ a lines. lines.items ≡ filed_author_lines a ask.now key.now) }
+    ensures was_open { WasOpen S.Store store.old store.new reason result }
     ensures fault { IfErr result (λ fault. IsAskFault fault) }
 {
     read_author(store, alloc, ask, key)
@@ -63,6 +65,7 @@ pub fn threads<T: Threader, S: Alter>(
 ) -> Result<Vec<TreeLine>, DeskFault>
     ensures listed { Asks S.Store store.old store.new reason result (λ a. ask_reason a ask.now)
         (λ a rows. rows.items ≡ tree_lines (map shown_of (view_of a ask.now))) }
+    ensures was_open { WasOpen S.Store store.old store.new reason result }
     ensures fault { IfErr result (λ fault. IsAskFault fault) }
 {
     let headers = match read_headers(store, alloc, ask) {
@@ -87,6 +90,7 @@ pub fn thread<T: Threader, S: Alter>(
 ) -> Result<Vec<TreeLine>, DeskFault>
     ensures listed { Asks S.Store store.old store.new reason result (λ a. thread_reason a ask.now key.now)
         (λ a rows. thread_lines key.now (map shown_of (view_of a ask.now)) ≡ Some rows.items) }
+    ensures was_open { WasOpen S.Store store.old store.new reason result }
     ensures fault { IfErr result (λ fault. IsThreadFault fault) }
 {
     let headers = match read_headers(store, alloc, ask) {

@@ -3,7 +3,7 @@ ghost use Rattle.std.specs.Prelude.{◌≡◌, IfErr, option_map};
 ghost use Rattle.archive_machine.specs.Questions.{message_of};
 ghost use Rattle.archive_machine.specs.Messages.{remembered};
 ghost use Rattle.archive_results.specs.Access.{asked_of, asked_on, reader_marks, told};
-ghost use Rattle.archive_store.specs.Told.{Asks, AsksIn, HoldsTables};
+ghost use Rattle.archive_store.specs.Told.{Asks, AsksIn, HoldsTables, WasOpen};
 ghost use Rattle.archive_desk.specs.Asking.{standing_reason};
 ghost use Rattle.archive_desk.specs.Faults.{IsAskFault, ask_reason, list_reason, reason};
 
@@ -25,6 +25,7 @@ pub fn message<'p, S: Alter>(
 ) -> Result<Asked<'p>, DeskFault>
     ensures asked { Asks S.Store store.old store.new reason result (λ a. ask_reason a ask.entry.now)
         (λ a answer. told answer ≡ asked_of a ask.entry.now key.now) }
+    ensures was_open { WasOpen S.Store store.old store.new reason result }
     ensures fault { IfErr result (λ fault. IsAskFault fault) }
 {
     match find_row(store, ask, key) {
@@ -41,6 +42,7 @@ fn find_row<S: Alter>(
 ) -> Result<Option<Message>, DeskFault>
     ensures held { AsksIn S.Store (HoldsTables S.Store) store.old store.new reason result (λ a. list_reason a ask.now)
         (λ a found. option_map (remembered ask.now.list) found ≡ message_of a ask.now.list key.now) }
+    ensures was_open { WasOpen S.Store store.old store.new reason result }
     ensures fault { IfErr result (λ fault. IsAskFault fault) }
 {
     Ok(store.row(ask.list, key)?)

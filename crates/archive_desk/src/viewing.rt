@@ -3,7 +3,7 @@ ghost use Rattle.std.specs.Prelude.{◌≡◌, map, filter, IfErr};
 ghost use Rattle.archive_machine.specs.Questions.{messages_in};
 ghost use Rattle.archive_machine.specs.Messages.{remembered};
 ghost use Rattle.archive_results.specs.Access.{is_shown, reader_marks, view_of};
-ghost use Rattle.archive_store.specs.Told.{Asks, AsksIn, HoldsTables};
+ghost use Rattle.archive_store.specs.Told.{Asks, AsksIn, HoldsTables, WasOpen};
 ghost use Rattle.archive_desk.specs.Asking.{standing_reason};
 ghost use Rattle.archive_desk.specs.Faults.{IsAskFault, ask_reason, list_reason, reason};
 
@@ -59,6 +59,7 @@ pub(crate) fn find_reader<S: Alter>(
 ) -> Result<ReaderMarks, DeskFault>
     ensures found { AsksIn S.Store (HoldsTables S.Store) store.old store.new reason result (λ a. ask_reason a ask.now)
         (λ a reader. reader ≡ reader_marks a ask.now) }
+    ensures was_open { WasOpen S.Store store.old store.new reason result }
     ensures fault { IfErr result (λ fault. IsAskFault fault) }
 {
     match find_list(store, ask.list) {

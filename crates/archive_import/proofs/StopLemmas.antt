@@ -12,11 +12,11 @@ use Rattle.archive_machine.specs.Questions.{has_list}
 use Rattle.archive_machine.specs.Runs.{taken}
 use Rattle.archive_machine.specs.Sound.{IsFiledRight}
 use Rattle.archive_tables.specs.Tables.{IsKept, archive_of}
-use Rattle.archive_tables.specs.Calls.{WasClean}
 use Rattle.archive_store.specs.Batches.{AddsAll, IsAfter, IsRefusedAt, tally_of}
+use Rattle.archive_tables.proofs.LastLemmas.{lasts_same}
 use Rattle.archive_store.specs.Held.{held_of}
 use Rattle.archive_store.specs.Replies.{refusal}
-use Rattle.archive_store.specs.Told.{HoldsTables, IsReady, archive_in, Goes, GoesIfOpen, Calls}
+use Rattle.archive_store.specs.Told.{Lasts, HoldsTables, IsReady, archive_in, Goes, GoesIfOpen, Calls}
 use Rattle.archive_store.specs.declared.store.Store.{Store}
 use Rattle.archive_store.specs.declared.faults.StoreFault.TheVariants.{Memory as NoMemory}
 use Rattle.archive_store.specs.declared.batches.AddStop.{AddStop}
@@ -122,10 +122,10 @@ abbrev pub BreaksAmid : (list : List ℕ) → (i : IntakeState) → Archive → 
 BreaksAmid list i b c stop = (a : Archive) (items : List Item) → IsUnderWay list a b items i → IsBrokenAdd list items a c stop.done stop.fault
 
 module _ {S : Type 0} (g : Ghosts S) (old new : Store S) (list : List ℕ) (i : IntakeState) where
-  pub held_added : (j : IntakeState) (counts : Counts) → WasClean g (held_of old) (held_of new) → AddsAll g (held_of old) (held_of new) (Ok counts) list i.held
+  pub held_added : (j : IntakeState) (counts : Counts) → Lasts g old new → AddsAll g (held_of old) (held_of new) (Ok counts) list i.held
       → j.held ≡ [] → j.done ≡ i.done + length i.held → is_more i.report (tally_of counts) j.report → Goes g old new (Keeps list i j)
-  held_added j counts was adds none done more = (
-    was,
+  held_added j counts lasts adds none done more = (
+    lasts,
     λ returned ready.
         let it = adds returned ready.held in (
           ready_with g new (taken (archive_in g old) list i.held).archive it.0 it.1 (taken_right (archive_in g old) list i.held ready.filed_right),
@@ -133,10 +133,10 @@ module _ {S : Type 0} (g : Ghosts S) (old new : Store S) (list : List ℕ) (i : 
         ),
   )
 
-  pub add_stopped : (stop : AddStop) (at : ImportStop) → at ≡ record { done = i.done + stop.done; fault = Stored stop.fault } → WasClean g (held_of old) (held_of new)
+  pub add_stopped : (stop : AddStop) (at : ImportStop) → at ≡ record { done = i.done + stop.done; fault = Stored stop.fault } → Lasts g old new
       → AddsAll g (held_of old) (held_of new) (Err stop) list i.held → stop.done ≤ length i.held
       → Calls g old new {A = Unit {0}} halt_reason (Err at) Nothing (HaltsAmid list i) (BreaksAmid list i)
-  add_stopped stop at is was adds low = subst (λ s. Calls g old new {A = Unit {0}} halt_reason (Err s) Nothing (HaltsAmid list i) (BreaksAmid list i)) (sym is) (by_reason (refusal stop.fault) adds)
+  add_stopped stop at is lasts adds low = subst (λ s. Calls g old new {A = Unit {0}} halt_reason (Err s) Nothing (HaltsAmid list i) (BreaksAmid list i)) (sym is) (by_reason (refusal stop.fault) adds)
     where
       some_right : HoldsTables g new → archive_in g new ≡ (taken (archive_in g old) list (take stop.done i.held)).archive → IsFiledRight (archive_in g old) → IsReady g new
       some_right held same right =
@@ -148,13 +148,13 @@ module _ {S : Type 0} (g : Ghosts S) (old new : Store S) (list : List ℕ) (i : 
           → MatchOption (option_map (λ (halt : Halt). (i.done + stop.done, halt)) (option_map halt_by r))
           (GoesIfOpen g old new (λ b c. BreaksAmid list i b c (record { done = i.done + stop.done; fault = Stored stop.fault }))) (λ why. Goes g old new (λ b c. HaltsAmid list i b c why))
       by_reason None it = (
-        was,
+        lasts,
         λ returned ready up.
             let after = it returned ready.held up in
             (some_right after.0 after.1 ready.filed_right, (λ a items w. some_added list a _ items i w _ stop.done low after.1)),
       )
       by_reason (Some why) it = (
-        was,
+        lasts,
         λ returned ready.
             let after = it returned ready.held in
             (some_right after.0 after.1 ready.filed_right, (λ a items w. halted_by list a _ _ items i stop.done why w low after.1 after.2)),
@@ -164,7 +164,7 @@ module _ {S : Type 0} (g : Ghosts S) (old new : Store S) (list : List ℕ) (i : 
 pub held_stopped : {S : Type 0} (g : Ghosts S) (store : Store S) (list : List ℕ) (i : IntakeState) (at : ImportStop) → at ≡ record { done = i.done; fault = Stored NoMemory }
     → Calls g store store {A = Unit {0}} halt_reason (Err at) Nothing (HaltsAmid list i) (BreaksAmid list i)
 held_stopped g store list i at is = subst (λ s. Calls g store store {A = Unit {0}} halt_reason (Err s) Nothing (HaltsAmid list i) (BreaksAmid list i)) (sym is)
-    ((λ returned. returned), (λ returned ready up. (ready, (λ a items w. first_done list a _ items i w))))
+    (lasts_same _, (λ returned ready up. (ready, (λ a items w. first_done list a _ items i w))))
 
 -- ---- a message more is held
 

@@ -5,11 +5,10 @@ ghost use Rattle.mbox_stream.specs.Cutter.{IsCutter};
 ghost use Rattle.mbox_stream.specs.declared.cutter.Standing.TheVariants.{Open};
 ghost use Rattle.archive_machine.specs.Records.{Archive};
 ghost use Rattle.archive_machine.specs.Questions.{has_list, list_refusal};
-ghost use Rattle.archive_tables.specs.Calls.{WasClean};
 ghost use Rattle.archive_store.specs.Batches.{AddsAll, told_in};
 ghost use Rattle.archive_store.specs.Held.{held_of};
 ghost use Rattle.archive_store.specs.Replies.{refusal};
-ghost use Rattle.archive_store.specs.Told.{AsksIn, Calls, HoldsTables};
+ghost use Rattle.archive_store.specs.Told.{AsksIn, Calls, HoldsTables, Lasts};
 ghost use Rattle.archive_desk.specs.Importing.{HasAdded, IsBrokenAdd};
 ghost use Rattle.archive_import.specs.Streaming.{Imports, halt_reason, HasFailed, FailedBy, IsHalted, IsBroken, IsReadIn};
 ghost use Rattle.archive_import.specs.Intake.{IsUnderWay, IsHaltedAdd, IsUnread, IsOfStore};
@@ -250,7 +249,7 @@ fn add_owned<S: Alter>(
     ensures step { AddsAll S.Store (held_of store.old) (held_of store.new) result list.now items.now }
     ensures total { IfOk result (λ report. told_in report ≡ length items.now) }
     ensures bound { IfErr result (λ stop. stop.done ≤ length items.now) }
-    ensures clean { WasClean S.Store (held_of store.old) (held_of store.new) }
+    ensures lasts { Lasts S.Store store.old store.new }
 {
     match lend_items(alloc, items) {
         Ok(lent) => store.add_all(alloc, list, &lent),

@@ -13,8 +13,8 @@ use Rattle.archive_machine.specs.Machine.{Outcome, step, refuse}
 use Rattle.archive_machine.specs.Sound.{IsFiledRight}
 use Rattle.sqlite.specs.Held.{state}
 use Rattle.archive_tables.specs.Tables.{archive_of}
-use Rattle.archive_tables.specs.Calls.{WasClean}
 use Rattle.archive_store.specs.Held.{held_of}
+use Rattle.archive_store.specs.Told.{Lasts}
 use Rattle.archive_store.specs.Replies.{refusal, Does, says_done, says_whether}
 use Rattle.archive_store.specs.declared.store.Store.{Store}
 use Rattle.archive_store.specs.declared.faults.StoreFault.{StoreFault}
@@ -97,7 +97,7 @@ stepped_right (lift list key) a right = keyed_right key (machine.lift list key) 
 
 -- ---- a step of the store
 
-module _ {S : Type 0} (g : Ghosts S) (old new : Store S) (command : TableCommand) (was : WasClean g (held_of old) (held_of new)) where
+module _ {S : Type 0} (g : Ghosts S) (old new : Store S) (command : TableCommand) (lasts : Lasts g old new) where
   abbrev DoesReply : Option Reply → Type 0
   DoesReply reply = Does g (held_of old) (held_of new) (λ a. stepped a command) reply
 
@@ -105,7 +105,7 @@ module _ {S : Type 0} (g : Ghosts S) (old new : Store S) (command : TableCommand
   carries_not : (fault : StoreFault) (r : Option machine.Refusal) → refusal fault ≡ r → DoesReply (option_map refused r) → Carries g old new command (Err fault)
   carries_not fault None is does =
       calls_failed g old new refusal fault (λ a b answer. (b ≡ (stepped a command).0) × (answer_to command (stepped a command).1 ≡ Some answer))
-      (λ a b why. (b ≡ a) × ((stepped a command).1 ≡ refused why)) (λ a b _. b ≡ a) is (step_failed g old new was (λ a. stepped a command) None refl does)
+      (λ a b why. (b ≡ a) × ((stepped a command).1 ≡ refused why)) (λ a b _. b ≡ a) is (step_failed g old new lasts (λ a. stepped a command) None refl does)
   carries_not fault (Some why) is does =
       calls_refused g old new refusal fault (λ a b answer. (b ≡ (stepped a command).0) × (answer_to command (stepped a command).1 ≡ Some answer))
       (λ a b r. (b ≡ a) × ((stepped a command).1 ≡ refused r)) (λ a b _. b ≡ a) why is
@@ -113,13 +113,13 @@ module _ {S : Type 0} (g : Ghosts S) (old new : Store S) (command : TableCommand
       (λ a b h.
       let told = sym (ap (λ (o : Outcome). o.1) h) in
       (ap (λ (o : Outcome). o.0) h ∙ refusal_stays a command why told, told))
-      (store_stepped g old new was (λ a. stepped a command) (Some (refused why)) (refused why) (stepped_right command) refl does))
+      (store_stepped g old new lasts (λ a. stepped a command) (Some (refused why)) (refused why) (stepped_right command) refl does))
 
   carries_answer : (answer : Answer) (reply : Reply) → answer_to command reply ≡ Some answer → DoesReply (Some reply) → Carries g old new command (Ok answer)
   carries_answer answer reply named does =
       goes_as g old new (λ a b. (b, reply) ≡ stepped a command) (λ a b. (b ≡ (stepped a command).0) × (answer_to command (stepped a command).1 ≡ Some answer))
       (λ a b h. (ap (λ (o : Outcome). o.0) h, ap (answer_to command) (sym (ap (λ (o : Outcome). o.1) h)) ∙ named))
-      (store_stepped g old new was (λ a. stepped a command) (Some reply) reply (stepped_right command) refl does)
+      (store_stepped g old new lasts (λ a. stepped a command) (Some reply) reply (stepped_right command) refl does)
 
   pub carries_done : (answer : Answer) (result : Result (Unit {0}) StoreFault) → answer_to command done ≡ Some answer → DoesReply (says_done result)
       → Carries g old new command (done_by answer result)

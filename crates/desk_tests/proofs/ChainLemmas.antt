@@ -4,7 +4,7 @@ use Rattle.std.specs.Prelude.{MatchOption, option_map}
 use Rattle.sqlite.specs.Store.{Ghosts}
 use Rattle.mbox_core.specs.Written.{IsCutShort}
 use Rattle.archive_machine.specs.Records.{Archive}
-use Rattle.archive_store.specs.Told.{Goes, GoesIfOpen, HadReturned, HasReturned, IsReady, archive_in}
+use Rattle.archive_store.specs.Told.{Goes, GoesIfOpen, HasReturned, IsReady, Lasts, archive_in}
 use Rattle.archive_store.specs.declared.store.Store.{Store}
 use Rattle.archive_store.proofs.Joins.{goes_as, goes_as_if_open, goes_on, goes_on_if_open}
 use Rattle.archive_results.specs.Access.{Ask, view_of}
@@ -93,20 +93,20 @@ module _ {S : Type 0} (g : Ghosts S) (ask : Ask) (text : List ℕ) where
 
 -- ---- what was written of the export that stopped
 
--- whatever the fault, a disk that has returned what was written had done so before
-pub had_returned : {S R : Type 0} (g : Ghosts S) (old new : Store S) (Stops : Archive → Archive → Type 0) (Refuses : Archive → Archive → R → Type 0)
-    (r : Option R) → MatchOption r (GoesIfOpen g old new Stops) (λ why. Goes g old new (λ a b. Refuses a b why)) → HadReturned g old new
-had_returned g old new Stops Refuses None it = it.0
-had_returned g old new Stops Refuses (Some why) it = it.0
+-- whatever the fault, the store lasts
+pub lasts_on : {S R : Type 0} (g : Ghosts S) (old new : Store S) (Stops : Archive → Archive → Type 0) (Refuses : Archive → Archive → R → Type 0)
+    (r : Option R) → MatchOption r (GoesIfOpen g old new Stops) (λ why. Goes g old new (λ a b. Refuses a b why)) → Lasts g old new
+lasts_on g old new Stops Refuses None it = it.0
+lasts_on g old new Stops Refuses (Some why) it = it.0
 
 -- it is of the archive that was left before
 pub part_of : {S : Type 0} (g : Ghosts S) (ask : Ask) (text : List ℕ) (old asked new : Store S) → Goes g old asked (HasImported ask text)
-    → HadReturned g asked new → (before after : List ℕ) (count : ℕ)
+    → Lasts g asked new → (before after : List ℕ) (count : ℕ)
     → (HasReturned g new → IsReady g asked → length after < 2 ^ 64 → IsCutShort before after (exported (archive_in g asked) ask) count)
     → HasReturned g new → IsReady g old → length after < 2 ^ 64
     → (b : Archive) × HasImported ask text (archive_in g old) b × IsCutShort before after (exported b ask) count
-part_of g ask text old asked new left was before after count part = λ returned ready fits.
-    let it = left.1 (was returned) ready in
+part_of g ask text old asked new left lasts before after count part = λ returned ready fits.
+    let it = left.1 (lasts.returned returned) ready in
     (archive_in g asked, it.1, part returned it.0 fits)
 
 -- ---- all three are told

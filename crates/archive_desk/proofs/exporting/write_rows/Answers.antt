@@ -1,5 +1,6 @@
 use Rattle.std.proofs.Common.{◌≡◌, Err, rules, refl, sym, ap, subst, ◌∙◌}
 use Rattle.std.specs.Prelude.{option_map}
+use Rattle.archive_tables.proofs.LastLemmas.{lasts_then, lasts_same}
 use Rattle.archive_desk.specs.Faults.{desk_fault, reason_by}
 use Rattle.archive_desk.specs.Walking.{WritesRows}
 use Rattle.archive_desk.proofs.AskLemmas.{reasoned}
@@ -8,16 +9,16 @@ use Rattle.archive_desk.proofs.exporting.write_rows.Goals as goal
 
 pub loop-message-init : goal.loop-message-init
 loop-message-init g c =
-    (refl, (λ returned. returned), refl, rows_none g.S.Store c.args.ask.now c.args.reader.now c.args.walk.now (g.W.Sink.told c.args.out.now) c.args.count.now c.requires)
+    (refl, lasts_same _, refl, rows_none g.S.Store c.args.ask.now c.args.reader.now c.args.walk.now (g.W.Sink.told c.args.out.now) c.args.count.now c.requires)
 
 pub loop-message-preserved : goal.loop-message-preserved
 loop-message-preserved g c =
     let so_far = c.loop-message.invariant in (
       c.next.ensures.same_reference ∙ so_far.0,
-      (λ returned. so_far.1 (c.next.ensures.clean returned)),
+      lasts_then _ _ _ so_far.1 c.next.ensures.lasts,
       c.in-Ok.ensures.quiet ∙ so_far.2,
       rows_more g.S.Store c.args.ask.now c.args.reader.now c.args.walk.now c.loop-message.walk c.next.new.self (g.W.Sink.told c.args.out.now)
-          (g.W.Sink.told c.loop-message.out) c.args.count.now c.loop-message.count so_far.3 c.next.ensures.clean c.in-Some.message
+          (g.W.Sink.told c.loop-message.out) c.args.count.now c.loop-message.count so_far.3 c.next.ensures.lasts.returned c.in-Some.message
           (λ returned all a given w. rw c.in-Some.is at (c.in_ok-message.ensures.given returned c.args.ask.now.list all a given w))
           (g.W.Sink.told c.write_shown.new.out) c.in-Ok.more c.saturating_add.result c.in-Ok.ensures.ok c.in-Ok.ensures.count c.saturating_add.ensures,
     )
@@ -25,7 +26,7 @@ loop-message-preserved g c =
 pub returns-in-Err-clause-written : goal.returns-in-Err-clause-written
 returns-in-Err-clause-written g c =
     rows_unwritten g.S.Store c.args.ask.now c.args.reader.now c.args.walk.now c.loop-message.walk c.next.new.self (g.W.Sink.told c.args.out.now)
-    (g.W.Sink.told c.loop-message.out) c.args.count.now c.loop-message.count c.loop-message.invariant.3 c.next.ensures.clean c.in-Some.message
+    (g.W.Sink.told c.loop-message.out) c.args.count.now c.loop-message.count c.loop-message.invariant.3 c.next.ensures.lasts.returned c.in-Some.message
     (λ returned all a given w. rw c.in-Some.is at (c.in_ok-message.ensures.given returned c.args.ask.now.list all a given w))
     (g.W.Sink.told c.write_shown.new.out) c.in-Err.fault.written c.saturating_add-in-Err.result c.in-Err.ensures.fault c.saturating_add-in-Err.ensures
 
@@ -36,12 +37,21 @@ returns-in_err-message-clause-written g c =
     subst (λ r. WritesRows g.S.Store c.args.walk.now c.next.new.self c.args.ask.now c.args.reader.now (g.W.Sink.told c.args.out.now)
     (g.W.Sink.told c.loop-message.out) c.args.count.now c.loop-message.count r) (sym is)
     (rows_unread g.S.Store c.args.ask.now c.args.reader.now c.args.walk.now c.loop-message.walk c.next.new.self (g.W.Sink.told c.args.out.now)
-    (g.W.Sink.told c.loop-message.out) c.args.count.now c.loop-message.count c.loop-message.invariant.3 c.next.ensures.clean (desk_fault fault)
+    (g.W.Sink.told c.loop-message.out) c.args.count.now c.loop-message.count c.loop-message.invariant.3 c.next.ensures.lasts.returned (desk_fault fault)
     (reasoned fault ∙ ap (option_map reason_by) c.in_err-message.ensures.fault)
     (λ returned all a given w. c.in_err-message.ensures.given returned c.args.ask.now.list all a given w))
 
 pub returns-clause-written : goal.returns-clause-written
 returns-clause-written g c =
     rows_all g.S.Store c.args.ask.now c.args.reader.now c.args.walk.now c.loop-message.walk c.next.new.self (g.W.Sink.told c.args.out.now)
-    (g.W.Sink.told c.loop-message.out) c.args.count.now c.loop-message.count c.loop-message.invariant.3 c.next.ensures.clean
+    (g.W.Sink.told c.loop-message.out) c.args.count.now c.loop-message.count c.loop-message.invariant.3 c.next.ensures.lasts.returned
     (λ returned all a given w. rw c.in_default.is at (c.in_ok-message.ensures.given returned c.args.ask.now.list all a given w))
+
+pub returns-in-Err-clause-lasts : goal.returns-in-Err-clause-lasts
+returns-in-Err-clause-lasts g c = lasts_then _ _ _ c.loop-message.invariant.1 c.next.ensures.lasts
+
+pub returns-in_err-message-clause-lasts : goal.returns-in_err-message-clause-lasts
+returns-in_err-message-clause-lasts g c = lasts_then _ _ _ c.loop-message.invariant.1 c.next.ensures.lasts
+
+pub returns-clause-lasts : goal.returns-clause-lasts
+returns-clause-lasts g c = lasts_then _ _ _ c.loop-message.invariant.1 c.next.ensures.lasts

@@ -1,5 +1,5 @@
 use Rattle.std.proofs.Common.{◌≡◌}
-use Rattle.archive_store.specs.Told.{HasReturned}
+use Rattle.archive_store.specs.Told.{Lasts}
 use Rattle.archive_store.specs.Walking.{left_of}
 use Rattle.archive_desk.proofs.WalkLemmas.{RowsSoFar}
 use Rattle.archive_desk.proofs.exporting.write_rows.Given as goal
@@ -7,7 +7,7 @@ use Rattle.archive_desk.proofs.exporting.write_rows.Given as goal
 abbrev pub invariant-loop-message : goal.invariant-loop-message
 invariant-loop-message g l =
     (l.walk.store.ghost_name ≡ l.fn.walk.store.ghost_name)
-    × (HasReturned g.S.Store l.walk.store.now → HasReturned g.S.Store l.fn.walk.store.now)
+    × Lasts g.S.Store l.fn.walk.store.now l.walk.store.now
     × (g.W.Sink.failures l.out ≡ g.W.Sink.failures l.fn.out)
     × RowsSoFar g.S.Store l.ask l.reader l.fn.walk l.walk (g.W.Sink.told l.fn.out) (g.W.Sink.told l.out) l.fn.count l.count
 

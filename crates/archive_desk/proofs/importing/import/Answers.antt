@@ -1,6 +1,6 @@
 use Rattle.std.proofs.Common.{sym, subst}
 use Rattle.mbox_core.specs.Division.{Divides}
-use Rattle.archive_desk.proofs.ImportLemmas.{import_after, not_cut}
+use Rattle.archive_desk.proofs.ImportLemmas.{import_after, list_not_found, not_cut}
 use Rattle.archive_desk.proofs.importing.import.Goals as goal
 
 pub returns-in-Ok : goal.returns-in-Ok
@@ -13,4 +13,9 @@ returns-in-Ok g c = record {
 pub returns-in-Err-cut_items : goal.returns-in-Err-cut_items
 returns-in-Err-cut_items g c = record {
   imports = not_cut g.S.Store c.args.store.now c.find_list.new.store c.args.list.now c.args.mbox.now c.in-Err-cut_items.fault c.in-Err-cut_items.ensures.fault c.in_default.ensures.found;
+}
+
+pub returns-in-Err : goal.returns-in-Err
+returns-in-Err g c = record {
+  imports = list_not_found g.S.Store c.args.store.now c.find_list.new.store c.args.list.now c.args.mbox.now c.in-Err.fault c.in-Err.ensures.found;
 }

@@ -7,8 +7,10 @@ use Rattle.archive_results.specs.Access.{is_shown, reader_marks}
 use Rattle.archive_results.specs.Index.{Header, IsIndexOf, header_of}
 use Rattle.archive_store.specs.Replies.{refusal}
 use Rattle.archive_store.specs.Told.{HoldsTables, GoesIn, GoesInIfOpen, AsksIn}
+use Rattle.archive_store.specs.Walking.{BeginsOver}
 use Rattle.archive_desk.specs.Faults.{ask_reason, reason}
-use Rattle.archive_desk.proofs.IndexLemmas.{not_listed}
+use Rattle.archive_desk.proofs.IndexLemmas.{not_listed, walk_ended, walk_open}
+use Rattle.archive_desk.proofs.CallLemmas.{open_still, unbegun_lasts, was_open_by}
 use Rattle.archive_desk.proofs.index.read_headers.Goals as goal
 
 pub returns-in-Err-each_row-clause-held : goal.returns-in-Err-each_row-clause-held
@@ -23,7 +25,34 @@ returns-in-Err-each_row-clause-held g c =
     let refused =
     subst (λ l. MatchOption (refusal fault) (GoesInIfOpen g.S.Store (HoldsTables g.S.Store) mid last (λ a b. b ≡ a))
     (λ why. GoesIn g.S.Store (HoldsTables g.S.Store) mid last (λ a b. (b ≡ a) × (list_refusal a l ≡ Some why)))) is
-    (rw c.in-Err-each_row.is at c.each_row.follows.holds-at-none) in
+    (rw c.in-Err-each_row.is at c.each_row.follows.holds-at-none).0 in
     subst (λ f. AsksIn g.S.Store (HoldsTables g.S.Store) old last reason (Err f) (λ a. ask_reason a ask)
     (λ a (headers : Vec Header Global). IsIndexOf (filter (is_shown ask (reader_marks a ask)) (which a)) headers.items)) (sym c.from.ensures)
     (not_listed (map header_of) g.S.Store old mid ask which (λ a. c.in-Ok.reader ≡ reader_marks a ask) c.in-Ok.ensures.found last fault refused)
+
+pub returns-in-Err-each_row-clause-was_open : goal.returns-in-Err-each_row-clause-was_open
+returns-in-Err-each_row-clause-was_open g c =
+    let last = c.each_row.follows.lender-at-none in
+    let fault = c.in-Err-each_row.fault in
+    was_open_by g.S.Store c.args.store.now last {A = Unit {0}} reason (Err c.from.result)
+    (open_still g.S.Store c.args.store.now c.find_reader.new.store last c.in-Ok.ensures.was_open
+    (unbegun_lasts g.S.Store c.find_reader.new.store last fault (λ a why. list_refusal a c.ask.inside.list.now ≡ Some why)
+    (rw c.in-Err-each_row.is at c.each_row.follows.holds-at-none).0))
+
+pub returns-in-Ok-each_row-clause-held : goal.returns-in-Ok-each_row-clause-held
+returns-in-Ok-each_row-clause-held g c =
+    let list : c.ask.inside.list.now ≡ c.args.ask.now.list = search rules in
+    let is : c.store-1.given.0 ≡ c.walk_headers.new.walk.store.now = search rules in
+    walk_ended (map header_of) g.S.Store c.args.store.now c.find_reader.new.store c.args.ask.now (λ a. messages_in a c.args.ask.now.list)
+    c.store-1.given.0 c.in-Ok-each_row.walk c.walk_headers.new.walk c.in-Ok.reader is
+    c.in-Ok.ensures.found (subst (λ l. BeginsOver g.S.Store c.find_reader.new.store l (λ a. messages_in a l) c.in-Ok-each_row.walk) list c.in-Ok-each_row.ensures.begun)
+    c.walk_headers.ensures.lasts c.walk_headers.result c.walk_headers.ensures.fault c.walk_headers.ensures.listed
+
+pub returns-in-Ok-each_row-clause-was_open : goal.returns-in-Ok-each_row-clause-was_open
+returns-in-Ok-each_row-clause-was_open g c =
+    let list : c.ask.inside.list.now ≡ c.args.ask.now.list = search rules in
+    let is : c.store-1.given.0 ≡ c.walk_headers.new.walk.store.now = search rules in
+    walk_open (map header_of) g.S.Store c.args.store.now c.find_reader.new.store c.args.ask.now (λ a. messages_in a c.args.ask.now.list)
+    c.store-1.given.0 c.in-Ok-each_row.walk c.walk_headers.new.walk c.in-Ok.reader is
+    c.in-Ok.ensures.found (subst (λ l. BeginsOver g.S.Store c.find_reader.new.store l (λ a. messages_in a l) c.in-Ok-each_row.walk) list c.in-Ok-each_row.ensures.begun)
+    c.walk_headers.ensures.lasts c.in-Ok.ensures.was_open c.walk_headers.result

@@ -9,9 +9,11 @@ use Rattle.archive_results.specs.Filed.{filed_month_lines}
 use Rattle.archive_results.specs.Shown.{Line}
 use Rattle.archive_store.specs.Replies.{refusal}
 use Rattle.archive_store.specs.Told.{HoldsTables, GoesIn, GoesInIfOpen, AsksIn}
+use Rattle.archive_store.specs.Walking.{BeginsOver}
 use Rattle.archive_desk.specs.Faults.{ask_reason, reason}
 use Rattle.archive_desk.specs.Listing.{lines_shown}
-use Rattle.archive_desk.proofs.IndexLemmas.{not_listed}
+use Rattle.archive_desk.proofs.IndexLemmas.{not_listed, walk_ended, walk_open}
+use Rattle.archive_desk.proofs.CallLemmas.{open_still, unbegun_lasts, was_open_by}
 use Rattle.archive_desk.proofs.index.read_month.Goals as goal
 
 pub returns-in-Err-each_in_month-clause-held : goal.returns-in-Err-each_in_month-clause-held
@@ -26,7 +28,34 @@ returns-in-Err-each_in_month-clause-held g c =
     let refused =
     subst (λ l. MatchOption (refusal fault) (GoesInIfOpen g.S.Store (HoldsTables g.S.Store) mid last (λ a b. b ≡ a))
     (λ why. GoesIn g.S.Store (HoldsTables g.S.Store) mid last (λ a b. (b ≡ a) × (list_refusal a l ≡ Some why)))) is
-    (rw c.in-Err-each_in_month.is at c.each_in_month.follows.holds-at-none) in
+    (rw c.in-Err-each_in_month.is at c.each_in_month.follows.holds-at-none).0 in
     subst (λ f. AsksIn g.S.Store (HoldsTables g.S.Store) old last reason (Err f) (λ a. ask_reason a ask)
     (λ a (lines : Vec Line Global). lines.items ≡ filed_month_lines a ask (pos c.args.month))) (sym c.from.ensures)
     (not_listed lines_shown g.S.Store old mid ask which (λ a. c.in-Ok.reader ≡ reader_marks a ask) c.in-Ok.ensures.found last fault refused)
+
+pub returns-in-Err-each_in_month-clause-was_open : goal.returns-in-Err-each_in_month-clause-was_open
+returns-in-Err-each_in_month-clause-was_open g c =
+    let last = c.each_in_month.follows.lender-at-none in
+    let fault = c.in-Err-each_in_month.fault in
+    was_open_by g.S.Store c.args.store.now last {A = Unit {0}} reason (Err c.from.result)
+    (open_still g.S.Store c.args.store.now c.find_reader.new.store last c.in-Ok.ensures.was_open
+    (unbegun_lasts g.S.Store c.find_reader.new.store last fault (λ a why. list_refusal a c.ask.inside.list.now ≡ Some why)
+    (rw c.in-Err-each_in_month.is at c.each_in_month.follows.holds-at-none).0))
+
+pub returns-in-Ok-each_in_month-clause-held : goal.returns-in-Ok-each_in_month-clause-held
+returns-in-Ok-each_in_month-clause-held g c =
+    let list : c.ask.inside.list.now ≡ c.args.ask.now.list = search rules in
+    let is : c.store-1.given.0 ≡ c.walk_lines.new.walk.store.now = search rules in
+    walk_ended lines_shown g.S.Store c.args.store.now c.find_reader.new.store c.args.ask.now (λ a. in_month a c.args.ask.now.list (pos c.args.month))
+    c.store-1.given.0 c.in-Ok-each_in_month.walk c.walk_lines.new.walk c.in-Ok.reader is
+    c.in-Ok.ensures.found (subst (λ l. BeginsOver g.S.Store c.find_reader.new.store l (λ a. in_month a l (pos c.args.month)) c.in-Ok-each_in_month.walk) list c.in-Ok-each_in_month.ensures.begun)
+    c.walk_lines.ensures.lasts c.walk_lines.result c.walk_lines.ensures.fault c.walk_lines.ensures.listed
+
+pub returns-in-Ok-each_in_month-clause-was_open : goal.returns-in-Ok-each_in_month-clause-was_open
+returns-in-Ok-each_in_month-clause-was_open g c =
+    let list : c.ask.inside.list.now ≡ c.args.ask.now.list = search rules in
+    let is : c.store-1.given.0 ≡ c.walk_lines.new.walk.store.now = search rules in
+    walk_open lines_shown g.S.Store c.args.store.now c.find_reader.new.store c.args.ask.now (λ a. in_month a c.args.ask.now.list (pos c.args.month))
+    c.store-1.given.0 c.in-Ok-each_in_month.walk c.walk_lines.new.walk c.in-Ok.reader is
+    c.in-Ok.ensures.found (subst (λ l. BeginsOver g.S.Store c.find_reader.new.store l (λ a. in_month a l (pos c.args.month)) c.in-Ok-each_in_month.walk) list c.in-Ok-each_in_month.ensures.begun)
+    c.walk_lines.ensures.lasts c.in-Ok.ensures.was_open c.walk_lines.result

@@ -1,6 +1,7 @@
 use Rattle.std.proofs.Common.{◌≡◌, Err, map, rules, refl, sym, ap, subst, ◌∙◌}
 use Rattle.std.specs.Prelude.{option_map}
 use Rattle.archive_results.specs.Index.{header_of}
+use Rattle.archive_tables.proofs.LastLemmas.{lasts_then, lasts_same}
 use Rattle.archive_desk.specs.Faults.{desk_fault, reason_by}
 use Rattle.archive_desk.specs.Walking.{ListsRows}
 use Rattle.archive_desk.specs.declared.faults.DeskFault.TheVariants.{Memory}
@@ -12,16 +13,16 @@ pub loop-headers-preserved : goal.loop-headers-preserved
 loop-headers-preserved g c =
     let so_far = c.loop-headers.invariant in (
       c.next.ensures.same_reference ∙ so_far.0,
-      (λ returned. so_far.1 (c.next.ensures.clean returned)),
+      lasts_then _ _ _ so_far.1 c.next.ensures.lasts,
       listed_more (map header_of) (each_apart header_of) c.args.ask.now c.args.reader.now g.S.Store c.args.walk.now c.loop-headers.walk c.next.new.self c.loop-headers.headers.items so_far.2
-          c.next.ensures.clean c.in-Some.message c.push_header.new.headers.items
+          c.next.ensures.lasts.returned c.in-Some.message c.push_header.new.headers.items
           (λ returned all a given w. rw c.in-Some.is at (c.in_ok-message.ensures.given returned c.args.ask.now.list all a given w)) c.in-Ok.ensures,
     )
 
 pub returns-in-Err-clause-listed : goal.returns-in-Err-clause-listed
 returns-in-Err-clause-listed g c =
     listed_no_more (map header_of) (each_apart header_of) c.args.ask.now c.args.reader.now g.S.Store c.args.walk.now c.loop-headers.walk c.next.new.self c.loop-headers.headers.items
-    c.loop-headers.invariant.2 c.next.ensures.clean c.in-Some.message Memory refl
+    c.loop-headers.invariant.2 c.next.ensures.lasts.returned c.in-Some.message Memory refl
     (λ returned all a given w. rw c.in-Some.is at (c.in_ok-message.ensures.given returned c.args.ask.now.list all a given w))
 
 pub returns-in_err-message-clause-listed : goal.returns-in_err-message-clause-listed
@@ -30,11 +31,20 @@ returns-in_err-message-clause-listed g c =
     let is : c.from_residual.result ≡ Err (desk_fault fault) = search rules in
     subst (λ r. ListsRows g.S.Store c.args.walk.now c.next.new.self c.args.ask.now c.args.reader.now (map header_of) r) (sym is)
     (listed_unread (map header_of) (each_apart header_of) c.args.ask.now c.args.reader.now g.S.Store c.args.walk.now c.loop-headers.walk c.next.new.self c.loop-headers.headers.items
-    c.loop-headers.invariant.2 c.next.ensures.clean (desk_fault fault) (reasoned fault ∙ ap (option_map reason_by) c.in_err-message.ensures.fault)
+    c.loop-headers.invariant.2 c.next.ensures.lasts.returned (desk_fault fault) (reasoned fault ∙ ap (option_map reason_by) c.in_err-message.ensures.fault)
     (λ returned all a given w. c.in_err-message.ensures.given returned c.args.ask.now.list all a given w))
 
 pub returns-clause-listed : goal.returns-clause-listed
 returns-clause-listed g c =
     listed_all (map header_of) (each_apart header_of) c.args.ask.now c.args.reader.now g.S.Store c.args.walk.now c.loop-headers.walk c.next.new.self c.loop-headers.headers.items
-    c.loop-headers.invariant.2 c.next.ensures.clean c.loop-headers.headers refl
+    c.loop-headers.invariant.2 c.next.ensures.lasts.returned c.loop-headers.headers refl
     (λ returned all a given w. rw c.in_default.is at (c.in_ok-message.ensures.given returned c.args.ask.now.list all a given w))
+
+pub returns-in-Err-clause-lasts : goal.returns-in-Err-clause-lasts
+returns-in-Err-clause-lasts g c = lasts_then _ _ _ c.loop-headers.invariant.1 c.next.ensures.lasts
+
+pub returns-in_err-message-clause-lasts : goal.returns-in_err-message-clause-lasts
+returns-in_err-message-clause-lasts g c = lasts_then _ _ _ c.loop-headers.invariant.1 c.next.ensures.lasts
+
+pub returns-clause-lasts : goal.returns-clause-lasts
+returns-clause-lasts g c = lasts_then _ _ _ c.loop-headers.invariant.1 c.next.ensures.lasts

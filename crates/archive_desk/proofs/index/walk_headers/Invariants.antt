@@ -1,6 +1,6 @@
 use Rattle.std.proofs.Common.{◌≡◌, map}
 use Rattle.archive_results.specs.Index.{header_of}
-use Rattle.archive_store.specs.Told.{HasReturned}
+use Rattle.archive_store.specs.Told.{Lasts}
 use Rattle.archive_store.specs.Walking.{left_of}
 use Rattle.archive_desk.proofs.IndexLemmas.{ListedSoFar, each_apart}
 use Rattle.archive_desk.proofs.index.walk_headers.Given as goal
@@ -8,7 +8,7 @@ use Rattle.archive_desk.proofs.index.walk_headers.Given as goal
 abbrev pub invariant-loop-headers : goal.invariant-loop-headers
 invariant-loop-headers g l =
     (l.walk.store.ghost_name ≡ l.fn.walk.store.ghost_name)
-    × (HasReturned g.S.Store l.walk.store.now → HasReturned g.S.Store l.fn.walk.store.now)
+    × Lasts g.S.Store l.fn.walk.store.now l.walk.store.now
     × ListedSoFar (map header_of) (each_apart header_of) l.ask l.reader g.S.Store l.fn.walk l.walk l.headers.items
 
 abbrev pub decreases-loop-headers : goal.decreases-loop-headers

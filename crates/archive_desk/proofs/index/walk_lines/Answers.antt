@@ -1,5 +1,6 @@
 use Rattle.std.proofs.Common.{◌≡◌, Err, rules, refl, sym, ap, subst, ◌∙◌}
 use Rattle.std.specs.Prelude.{option_map}
+use Rattle.archive_tables.proofs.LastLemmas.{lasts_then, lasts_same}
 use Rattle.archive_desk.specs.Faults.{desk_fault, reason_by}
 use Rattle.archive_desk.specs.Listing.{lines_shown}
 use Rattle.archive_desk.specs.Walking.{ListsRows}
@@ -12,16 +13,16 @@ pub loop-lines-preserved : goal.loop-lines-preserved
 loop-lines-preserved g c =
     let so_far = c.loop-lines.invariant in (
       c.next.ensures.same_reference ∙ so_far.0,
-      (λ returned. so_far.1 (c.next.ensures.clean returned)),
+      lasts_then _ _ _ so_far.1 c.next.ensures.lasts,
       listed_more lines_shown lines_apart c.args.ask.now c.args.reader.now g.S.Store c.args.walk.now c.loop-lines.walk c.next.new.self c.loop-lines.lines.items so_far.2
-          c.next.ensures.clean c.in-Some.message c.push_line.new.lines.items
+          c.next.ensures.lasts.returned c.in-Some.message c.push_line.new.lines.items
           (λ returned all a given w. rw c.in-Some.is at (c.in_ok-message.ensures.given returned c.args.ask.now.list all a given w)) c.in-Ok.ensures,
     )
 
 pub returns-in-Err-clause-listed : goal.returns-in-Err-clause-listed
 returns-in-Err-clause-listed g c =
     listed_no_more lines_shown lines_apart c.args.ask.now c.args.reader.now g.S.Store c.args.walk.now c.loop-lines.walk c.next.new.self c.loop-lines.lines.items
-    c.loop-lines.invariant.2 c.next.ensures.clean c.in-Some.message Memory refl
+    c.loop-lines.invariant.2 c.next.ensures.lasts.returned c.in-Some.message Memory refl
     (λ returned all a given w. rw c.in-Some.is at (c.in_ok-message.ensures.given returned c.args.ask.now.list all a given w))
 
 pub returns-in_err-message-clause-listed : goal.returns-in_err-message-clause-listed
@@ -30,11 +31,20 @@ returns-in_err-message-clause-listed g c =
     let is : c.from_residual.result ≡ Err (desk_fault fault) = search rules in
     subst (λ r. ListsRows g.S.Store c.args.walk.now c.next.new.self c.args.ask.now c.args.reader.now lines_shown r) (sym is)
     (listed_unread lines_shown lines_apart c.args.ask.now c.args.reader.now g.S.Store c.args.walk.now c.loop-lines.walk c.next.new.self c.loop-lines.lines.items
-    c.loop-lines.invariant.2 c.next.ensures.clean (desk_fault fault) (reasoned fault ∙ ap (option_map reason_by) c.in_err-message.ensures.fault)
+    c.loop-lines.invariant.2 c.next.ensures.lasts.returned (desk_fault fault) (reasoned fault ∙ ap (option_map reason_by) c.in_err-message.ensures.fault)
     (λ returned all a given w. c.in_err-message.ensures.given returned c.args.ask.now.list all a given w))
 
 pub returns-clause-listed : goal.returns-clause-listed
 returns-clause-listed g c =
     listed_all lines_shown lines_apart c.args.ask.now c.args.reader.now g.S.Store c.args.walk.now c.loop-lines.walk c.next.new.self c.loop-lines.lines.items
-    c.loop-lines.invariant.2 c.next.ensures.clean c.loop-lines.lines refl
+    c.loop-lines.invariant.2 c.next.ensures.lasts.returned c.loop-lines.lines refl
     (λ returned all a given w. rw c.in_default.is at (c.in_ok-message.ensures.given returned c.args.ask.now.list all a given w))
+
+pub returns-in-Err-clause-lasts : goal.returns-in-Err-clause-lasts
+returns-in-Err-clause-lasts g c = lasts_then _ _ _ c.loop-lines.invariant.1 c.next.ensures.lasts
+
+pub returns-in_err-message-clause-lasts : goal.returns-in_err-message-clause-lasts
+returns-in_err-message-clause-lasts g c = lasts_then _ _ _ c.loop-lines.invariant.1 c.next.ensures.lasts
+
+pub returns-clause-lasts : goal.returns-clause-lasts
+returns-clause-lasts g c = lasts_then _ _ _ c.loop-lines.invariant.1 c.next.ensures.lasts

@@ -1,5 +1,5 @@
 use Rattle.std.proofs.Common.{◌≡◌}
-use Rattle.archive_store.specs.Told.{HasReturned}
+use Rattle.archive_store.specs.Told.{Lasts}
 use Rattle.archive_store.specs.Walking.{left_of}
 use Rattle.archive_desk.specs.Listing.{lines_shown}
 use Rattle.archive_desk.proofs.IndexLemmas.{ListedSoFar, lines_apart}
@@ -8,7 +8,7 @@ use Rattle.archive_desk.proofs.index.walk_lines.Given as goal
 abbrev pub invariant-loop-lines : goal.invariant-loop-lines
 invariant-loop-lines g l =
     (l.walk.store.ghost_name ≡ l.fn.walk.store.ghost_name)
-    × (HasReturned g.S.Store l.walk.store.now → HasReturned g.S.Store l.fn.walk.store.now)
+    × Lasts g.S.Store l.fn.walk.store.now l.walk.store.now
     × ListedSoFar lines_shown lines_apart l.ask l.reader g.S.Store l.fn.walk l.walk l.lines.items
 
 abbrev pub decreases-loop-lines : goal.decreases-loop-lines

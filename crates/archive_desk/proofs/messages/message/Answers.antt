@@ -2,11 +2,13 @@ use Rattle.std.proofs.Common.{◌≡◌}
 use Rattle.std.specs.Prelude.{option_map}
 use Rattle.archive_machine.specs.Messages.{remembered}
 use Rattle.archive_machine.specs.Questions.{message_of}
-use Rattle.archive_results.specs.Access.{asked_of, told}
+use Rattle.archive_results.specs.Access.{asked_of, asked_on, reader_marks, told}
 use Rattle.archive_store.proofs.Joins.{asks_too}
+use Rattle.archive_desk.specs.Asking.{standing_reason}
 use Rattle.archive_desk.specs.Faults.{ask_reason, reason}
 use Rattle.archive_desk.proofs.AskLemmas.{answer_after, list_refused}
-use Rattle.archive_desk.proofs.CallLemmas.{unanswered_too}
+use Rattle.archive_desk.proofs.CallLemmas.{asks_last, open_still, unanswered_too, was_open_by}
+use Rattle.archive_store.specs.Told.{HoldsTables}
 use Rattle.archive_desk.proofs.messages.message.Goals as goal
 
 pub returns-in-Ok-clause-asked : goal.returns-in-Ok-clause-asked
@@ -26,3 +28,10 @@ returns-in-Err-clause-asked g c =
     unanswered_too g.S.Store old new reason (λ a. ask_reason a ask) c.in-Err.fault
     (list_refused g.S.Store ask old new c.in-Err.fault
     (λ a found. option_map (remembered ask.list) found ≡ message_of a ask.list c.args.key.now) (λ a answer. told answer ≡ asked_of a ask c.args.key.now) c.in-Err.ensures.held)
+
+pub returns-in-Ok-clause-was_open : goal.returns-in-Ok-clause-was_open
+returns-in-Ok-clause-was_open g c =
+    was_open_by g.S.Store c.args.store.now c.answer_on.new.store reason c.answer_on.result
+    (open_still g.S.Store c.args.store.now c.find_row.new.store c.answer_on.new.store c.in-Ok.ensures.was_open
+    (asks_last g.S.Store (HoldsTables g.S.Store) c.find_row.new.store c.answer_on.new.store reason (λ a. standing_reason a c.args.ask.now)
+    (λ a answer. told answer ≡ asked_on c.args.ask.now (reader_marks a c.args.ask.now) (option_map (remembered c.args.ask.now.list) c.in-Ok.held)) c.answer_on.result c.answer_on.ensures.asked))

@@ -16,7 +16,7 @@ returns-in-ListAdd g c =
     record {
       carried = subst (λ m. Carries g.S.Store old new (command_of m) c.says.result) (sym c.in-ListAdd.is)
           (subst (λ r. Carries g.S.Store old new words r) (sym c.says.ensures)
-          (carries_done g.S.Store old new words c.list_add.ensures.clean Added c.list_add.result refl c.list_add.ensures.step));
+          (carries_done g.S.Store old new words c.list_add.ensures.lasts Added c.list_add.result refl c.list_add.ensures.step));
     }
 
 pub returns-in-PersonAdd : goal.returns-in-PersonAdd
@@ -27,7 +27,7 @@ returns-in-PersonAdd g c =
     record {
       carried = subst (λ m. Carries g.S.Store old new (command_of m) c.says-in-PersonAdd.result) (sym c.in-PersonAdd.is)
           (subst (λ r. Carries g.S.Store old new words r) (sym c.says-in-PersonAdd.ensures)
-          (carries_done g.S.Store old new words c.person_add.ensures.clean Added c.person_add.result refl c.person_add.ensures.step));
+          (carries_done g.S.Store old new words c.person_add.ensures.lasts Added c.person_add.result refl c.person_add.ensures.step));
     }
 
 pub returns-in-Grant : goal.returns-in-Grant
@@ -39,7 +39,7 @@ returns-in-Grant g c =
     record {
       carried = subst (λ m. Carries g.S.Store old new (command_of m) c.says-in-Grant.result) (sym arm.is)
           (subst (λ r. Carries g.S.Store old new words r) (sym c.says-in-Grant.ensures)
-          (carries_done g.S.Store old new words c.grant.ensures.clean Granted c.grant.result refl
+          (carries_done g.S.Store old new words c.grant.ensures.lasts Granted c.grant.result refl
           (subst (λ rank. Does g.S.Store (held_of old) (held_of new)
           (λ a. granted a (record { person = arm.person.now; list = arm.list.now; rank = rank; from_day = arm.from; until_day = arm.until })) (says_done c.grant.result))
           c.kind_of.ensures c.grant.ensures.step)));
@@ -54,7 +54,7 @@ returns-in-Revoke g c =
     record {
       carried = subst (λ m. Carries g.S.Store old new (command_of m) c.whether.result) (sym arm.is)
           (subst (λ r. Carries g.S.Store old new words r) (sym c.whether.ensures)
-          (carries_whether g.S.Store old new words c.revoke.ensures.clean Revoked NoGrant c.revoke.result refl refl
+          (carries_whether g.S.Store old new words c.revoke.ensures.lasts Revoked NoGrant c.revoke.result refl refl
           (subst (λ rank. Does g.S.Store (held_of old) (held_of new) (λ a. revoked a arm.person.now arm.list.now rank) (says_whether c.revoke.result))
           c.kind_of-in-Revoke.ensures c.revoke.ensures.step)));
     }

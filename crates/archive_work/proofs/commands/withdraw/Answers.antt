@@ -21,7 +21,7 @@ returns-in-Some g c =
     (subst (λ p. Does g.S.Store (held_of old) (held_of new) (λ a. withdrawal a c.args.list.now c.in-Some.key p) (says_done c.withdraw.result)) c.party_by.ensures c.withdraw.ensures.step) in
     record {
       carried = subst (λ r. Carries g.S.Store old new (withdraw c.args.list.now key c.args.by) r) (sym c.says.ensures)
-          (carries_done g.S.Store old new (withdraw c.args.list.now key c.args.by) c.withdraw.ensures.clean Withdrawn c.withdraw.result refl
+          (carries_done g.S.Store old new (withdraw c.args.list.now key c.args.by) c.withdraw.ensures.lasts Withdrawn c.withdraw.result refl
           (subst (λ k. Does g.S.Store (held_of old) (held_of new) (λ a. stepped a (withdraw c.args.list.now k c.args.by)) (says_done c.withdraw.result)) c.in-Some.ensures.some does));
     }
 

@@ -5,7 +5,7 @@ use Rattle.archive_results.specs.Shown.{shown_of}
 use Rattle.archive_desk.specs.Exporting.{IsExportRefused, exported, stop_reason as export_reason}
 use Rattle.archive_desk.specs.Faults.{ask_reason, reason}
 use Rattle.archive_desk.specs.Importing.{IsBrokenImport, stop_reason as import_reason}
-use Rattle.desk_tests.proofs.ChainLemmas.{into_list, import_stops, month_stops, export_stops, left, had_returned, part_of, all_told}
+use Rattle.desk_tests.proofs.ChainLemmas.{into_list, import_stops, month_stops, export_stops, left, lasts_on, part_of, all_told}
 use Rattle.desk_tests.proofs.chain.import_and_ask.Goals as goal
 
 pub returns-in-Err-clause-chain : goal.returns-in-Err-clause-chain
@@ -59,7 +59,7 @@ returns-in-Err-export-clause-part g c =
     part_of g.S.Store ask text c.args.store.now c.month.new.store c.export.new.store
     (left g.S.Store ask text c.args.store.now c.import.new.store c.in-Ok.report imported
     c.month.new.store (λ b. c.in-Ok-month.lines.items ≡ month_lines c.args.asked (map shown_of (view_of b ask))) c.in-Ok-month.ensures.listed)
-    (had_returned g.S.Store c.month.new.store c.export.new.store (λ b c. c ≡ b)
+    (lasts_on g.S.Store c.month.new.store c.export.new.store (λ b c. c ≡ b)
     (λ x y why. (y ≡ x) × IsExportRefused (ask_reason x ask) before after (exported x ask) why.0 why.1)
     (export_reason c.in-Err-export.stop) c.in-Err-export.ensures.exported)
     before after c.in-Err-export.stop.written c.in-Err-export.ensures.part

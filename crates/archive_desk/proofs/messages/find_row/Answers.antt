@@ -1,0 +1,23 @@
+use Rattle.std.proofs.Common.{◌≡◌, Err, Option, option_map, rules, sym, subst}
+use Rattle.archive_machine.specs.Messages.{remembered}
+use Rattle.archive_machine.specs.Questions.{list_refusal, message_of}
+use Rattle.archive_machine.specs.declared.messages.Message.{Message}
+use Rattle.archive_store.specs.Held.{held_of}
+use Rattle.archive_store.specs.Replies.{Answers}
+use Rattle.archive_store.specs.Told.{AsksIn, HoldsTables}
+use Rattle.archive_desk.specs.Faults.{desk_fault, list_reason, reason}
+use Rattle.archive_desk.proofs.AskLemmas.{store_declines}
+use Rattle.archive_desk.proofs.messages.find_row.Goals as goal
+
+pub returns-in_err-row-clause-held : goal.returns-in_err-row-clause-held
+returns-in_err-row-clause-held g c =
+    let ask = c.args.ask.now in
+    let old = c.args.store.now in
+    let new = c.row.new.self in
+    let fault = c.in_err-row.field-0.0 in
+    let Says : _ = λ a (found : Option Message). option_map (remembered ask.list) found ≡ message_of a ask.list c.args.key.now in
+    let list : c.ask.inside.list.now ≡ ask.list = search rules in
+    let is : c.from_residual.result ≡ Err (desk_fault fault) = search rules in
+    subst (λ r. AsksIn g.S.Store (HoldsTables g.S.Store) old new reason r (λ a. list_reason a ask) Says) (sym is)
+    (store_declines g.S.Store old new (λ a. list_refusal a ask.list) Says fault Says c.in_err-row.ensures.lasts
+    (subst (λ l. Answers g.S.Store (held_of old) (held_of new) {A = Option Message} (Err fault) (λ a. list_refusal a l) Says) list c.in_err-row.ensures.answer))

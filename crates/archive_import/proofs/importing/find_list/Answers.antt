@@ -1,0 +1,11 @@
+use Rattle.std.proofs.Common.{◌≡◌, Err, None}
+use Rattle.archive_machine.specs.Questions.{has_list, list_refusal}
+use Rattle.archive_desk.proofs.AskLemmas.{never_declined}
+use Rattle.archive_desk.proofs.CallLemmas.{store_asked}
+use Rattle.archive_import.proofs.importing.find_list.Goals as goal
+
+pub returns-in-Err : goal.returns-in-Err
+returns-in-Err g c = record {
+  found = never_declined g.S.Store c.args.store.now c.has_list.new.self (λ a. list_refusal a c.args.list.now) (λ a found. found ≡ has_list a c.args.list.now) c.in-Err.fault
+      (store_asked g.S.Store c.args.store.now c.has_list.new.self (Err c.in-Err.fault) (λ _. None) (λ a found. found ≡ has_list a c.args.list.now) c.in-Err.ensures.lasts c.in-Err.ensures.answer);
+}
