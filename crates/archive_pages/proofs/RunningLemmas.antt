@@ -1,30 +1,31 @@
 -- A request after a run of commands, and after another request.
-use Rattle.std.proofs.Common.{◌≡◌, ◌++◌, ◌⊎◌, inl, inr, ℕ, ℤ, List, Result, Ok, Err, refl, subst}
-use Rattle.std.specs.Prelude.{◌≢◌, IfOk}
+use Rattle.std.proofs.Common.{◌≡◌, ◌++◌, ◌⊎◌, inl, inr, ℕ, ℤ, List, Result, Ok, Err, refl, sym, ◌∙◌, subst}
+use Rattle.std.proofs.lemmas.Bool.{cases_Bool}
 use Rattle.sqlite_disk.specs.declared.Disk.{Ghosts as DiskGhosts}
 use Rattle.sqlite_disk.specs.declared.Files.{Files}
 use Rattle.sqlite_wal.specs.Reads.{AreClean}
 use Rattle.sqlite_store.specs.declared.store.FileStore.{FileStore}
 use Rattle.sqlite.specs.Store.{Ghosts}
-use Rattle.sqlite.specs.Held.{Held}
+use Rattle.sqlite.specs.Held.{Held, state}
 use Rattle.sqlite.specs.State.{IsLive}
 use Rattle.sqlite.specs.Files.{over_files, file_state, Finds, IsOpened}
 use Rattle.sqlite.specs.Closing.{IsCopied}
 use Rattle.httparse.specs.Grammar.{RequestHead, HasNoRequest}
 use Rattle.policy_core.specs.Rules.{Rule}
 use Rattle.archive_machine.specs.Records.{Archive}
-use Rattle.archive_store.specs.Told.{HoldsArchive, IsReady, archive_in, HasReturned, Goes}
+use Rattle.archive_store.specs.Told.{HoldsArchive, IsOpen, IsReady, IsShut, archive_in, HasReturned, Goes}
+use Rattle.archive_store.specs.Held.{held_of}
 use Rattle.archive_store.specs.declared.store.Store.{Store}
 use Rattle.archive_store.proofs.Joins.{ready_with}
 use Rattle.archive_pages.specs.Replies.{Sends, Breaks, Is, IsBroken, unavailable}
 use Rattle.archive_pages.specs.Answers.{reply_of}
-use Rattle.archive_pages.specs.Serving.{Serves, Stays}
+use Rattle.archive_pages.specs.Serving.{Sent, Serves, Stays}
 use Rattle.archive_pages.specs.Answered.{IsAnswered, Reads, ByOutcome}
 use Rattle.archive_pages.specs.Running.{IsAnsweredFrom, AnswersFrom}
 use Rattle.archive_pages.specs.Reopened.{AnswersReopened}
 use Rattle.archive_pages.specs.declared.faults.ServeFault.{ServeFault}
 use Rattle.archive_pages.specs.declared.faults.ServeFault.TheVariants.{Read, Write, Broken}
-use Rattle.archive_pages.proofs.ServingLemmas.{sends_as, broken_as, breaks_as, ok_as}
+use Rattle.archive_pages.proofs.ServingLemmas.{sends_as, broken_as, breaks_as}
 
 by_outcome : (result : Result ℕ ServeFault) {A B X Y : Type 0} → (A → B) → (X → Y) → ByOutcome result A X → ByOutcome result B Y
 by_outcome (Ok status) answered unread it = answered it
@@ -40,16 +41,16 @@ reads told_before told_after ends_before ends_after P Q weaker (given, told, inr
 module _ {S : Type 0} (g : Ghosts S) (mid new : Store S) (archive : Archive) (returned : HasReturned g new)
     (ran : HasReturned g mid → IsReady g mid × (archive_in g mid ≡ archive)) (rules : List Rule) (day : ℤ) where
   module _ (before after : List ℕ) (result : Result ℕ ServeFault) where
-    sent_from : (h : RequestHead) → Serves g mid new (λ a reply. reply ≡ reply_of a rules day h) before after result
+    sent_from : (h : RequestHead) → Sent g mid new (λ a reply. reply ≡ reply_of a rules day h) before after result
         → Sends (Is (reply_of archive rules day h)) before after result ⊎ IsBroken result (Breaks (λ reply. reply ≡ reply_of archive rules day h) before after)
     sent_from h (inl goes) =
-        let it = ran (goes.0 returned) in
+        let it = ran (goes.0.returned returned) in
         inl (sends_as (λ reply. reply ≡ reply_of (archive_in g mid) rules day h) (Is (reply_of archive rules day h)) before after result
         (λ reply is. inl (subst (λ a. reply ≡ reply_of a rules day h) it.1 is)) (goes.1 returned it.0).1.1)
     sent_from h (inr (inl (goes, sent))) =
         inl (sends_as (λ reply. reply ≡ unavailable) (Is (reply_of archive rules day h)) before after result (λ reply is. inr is) sent)
     sent_from h (inr (inr (goes, broken))) =
-        let it = ran (goes.0 returned) in
+        let it = ran (goes.0.returned returned) in
         inr (broken_as result (λ n. HasReturned g new → IsReady g mid → Breaks (λ reply. reply ≡ reply_of (archive_in g mid) rules day h) before after n)
         (Breaks (λ reply. reply ≡ reply_of archive rules day h) before after)
         (λ n breaks. breaks_as (λ reply. reply ≡ reply_of (archive_in g mid) rules day h) (λ reply. reply ≡ reply_of archive rules day h) before after n
@@ -58,7 +59,7 @@ module _ {S : Type 0} (g : Ghosts S) (mid new : Store S) (archive : Archive) (re
     answered_from : (given all : List ℕ) → IsAnswered g mid new rules day given all before after result
         → IsAnsweredFrom archive rules day given all before after result
     answered_from given all it = record {
-      head = λ h begins. sent_from h (it.head h begins);
+      head = λ h begins. sent_from h (it.head h begins).sent;
       direct = it.direct;
       none = λ no. (it.none no).1;
       many = it.many;
@@ -77,18 +78,61 @@ module _ {S : Type 0} (g : Ghosts S) (mid new : Store S) (archive : Archive) (re
       (λ given all. IsAnsweredFrom archive rules day given all before after result) (answered_from before after result))
       (λ (given, told, none, silent, goes). (given, told, none, silent))
 
+-- ---- out of a store that is shut
+
+module _ {S : Type 0} (g : Ghosts S) (mid new : Store S) (archive : Archive) (returned : HasReturned g new) (shut : IsShut g mid) (rules : List Rule) (day : ℤ)
+    (before after : List ℕ) (result : Result ℕ ServeFault) where
+  shut_sent : (h : RequestHead) → Serves g mid new (λ a reply. reply ≡ reply_of a rules day h) before after result
+      → Sends (Is (reply_of archive rules day h)) before after result ⊎ IsBroken result (Breaks (λ reply. reply ≡ reply_of archive rules day h) before after)
+  shut_sent h serves = inl (sends_as (λ r. (r ≡ unavailable) ⊎ ((a : Archive) → r ≡ reply_of a rules day h)) (Is (reply_of archive rules day h)) before after result
+      (λ r it. elim it [ inl none ↦ inr none | inr every ↦ inl (every archive) ]) (serves.shut returned shut))
+
+  shut_answered : (given all : List ℕ) → IsAnswered g mid new rules day given all before after result
+      → IsAnsweredFrom archive rules day given all before after result
+  shut_answered given all it = record {
+    head = λ h begins. shut_sent h (it.head h begins);
+    direct = it.direct;
+    none = λ no. (it.none no).1;
+    many = it.many;
+    long = it.long;
+    few = it.few;
+  }
+
+  -- of any archive
+  pub answers_shut : (told_before told_after : List ℕ) (ends_before ends_after : ℕ)
+      → ByOutcome result (Reads told_before told_after ends_before ends_after (λ given all. IsAnswered g mid new rules day given all before after result))
+      ((given : List ℕ) × (told_after ≡ told_before ++ given) × HasNoRequest given × (after ≡ before) × Goes g mid new (λ a b. b ≡ a))
+      → AnswersFrom archive rules day told_before told_after ends_before ends_after before after result
+  answers_shut told_before told_after ends_before ends_after =
+      by_outcome result
+      (reads told_before told_after ends_before ends_after (λ given all. IsAnswered g mid new rules day given all before after result)
+      (λ given all. IsAnsweredFrom archive rules day given all before after result) shut_answered)
+      (λ (given, told, none, silent, goes). (given, told, none, silent))
+
+-- ---- a store that was left as it was, or is shut
+
+module _ {S : Type 0} (g : Ghosts S) (mid new : Store S) (archive : Archive) (returned : HasReturned g new)
+    (left : IsOpen g mid → IsReady g mid × (archive_in g mid ≡ archive)) (rules : List Rule) (day : ℤ) (result : Result ℕ ServeFault)
+    (told_before told_after : List ℕ) (ends_before ends_after : ℕ) (before after : List ℕ)
+    (said : ByOutcome result (Reads told_before told_after ends_before ends_after (λ given all. IsAnswered g mid new rules day given all before after result))
+    ((given : List ℕ) × (told_after ≡ told_before ++ given) × HasNoRequest given × (after ≡ before) × Goes g mid new (λ a b. b ≡ a))) where
+  pub answers_left : AnswersFrom archive rules day told_before told_after ends_before ends_after before after result
+  answers_left = elim (cases_Bool (state g (held_of mid)).is_open) [
+    | inl up ↦ answers_from g mid new archive returned (λ was. left up) rules day result told_before told_after ends_before ends_after before after said
+    | inr down ↦ answers_shut g mid new archive returned (λ up. let it = sym up ∙ down in absurd (cc)) rules day before after result told_before told_after ends_before ends_after said
+  ]
+
 -- ---- two requests
 
 module _ {S : Type 0} (g : Ghosts S) (old mid new : Store S) (first : Result ℕ ServeFault) (left : Stays g old mid first) (rules : List Rule) (day : ℤ)
     (result : Result ℕ ServeFault) (told_before told_after : List ℕ) (ends_before ends_after : ℕ) (before after : List ℕ) where
-  -- of a store that remembers what it remembered before the first of them
-  pub answers_second : HasReturned g new → IsReady g old
+  -- of a store that remembers what it remembered before the first of them, or is shut
+  pub answers_second : HasReturned g mid → HasReturned g new → IsReady g old
       → ByOutcome result (Reads told_before told_after ends_before ends_after (λ given all. IsAnswered g mid new rules day given all before after result))
       ((given : List ℕ) × (told_after ≡ told_before ++ given) × HasNoRequest given × (after ≡ before) × Goes g mid new (λ a b. b ≡ a))
-      → IfOk first (λ status. status ≢ 503 → AnswersFrom (archive_in g old) rules day told_before told_after ends_before ends_after before after result)
-  answers_second returned ready said = ok_as first (λ status goes other.
-      answers_from g mid new (archive_in g old) returned (λ was. let it = (goes other).1 was ready in (it.0, it.1)) rules day result
-      told_before told_after ends_before ends_after before after said) left.ready
+      → AnswersFrom (archive_in g old) rules day told_before told_after ends_before ends_after before after result
+  answers_second was returned ready said = answers_left g mid new (archive_in g old) returned (λ up. left.same.1 was ready up) rules day result
+      told_before told_after ends_before ends_after before after said
 
 pub answers_first : {S : Type 0} (g : Ghosts S) (old mid : Store S) → HasReturned g mid → IsReady g old → (rules : List Rule) (day : ℤ)
     (result : Result ℕ ServeFault) (told_before told_after : List ℕ) (ends_before ends_after : ℕ) (before after : List ℕ)

@@ -1,8 +1,7 @@
 //! Two requests, one after the other.
-ghost use Rattle.std.specs.Prelude.{◌≡◌, ◌≢◌, IfOk};
-ghost use Rattle.archive_store.specs.Told.{IsReady, archive_in, HasReturned};
+ghost use Rattle.std.specs.Prelude.{◌≡◌};
+ghost use Rattle.archive_store.specs.Told.{GoesIfOpen, IsReady, archive_in, HasReturned};
 ghost use Rattle.archive_pages.specs.Running.{AnswersFrom};
-ghost use Rattle.archive_pages.specs.Serving.{Stays};
 
 use crate::answering::answer;
 use crate::faults::ServeFault;
@@ -16,8 +15,7 @@ use std::alloc::Global;
 use thread_core::Threader;
 
 /// Answers two requests one after the other, each as `answer` does. Both replies are of the archive
-/// that the store remembered before; the second is so where the first was not 503 and went out
-/// whole.
+/// that the store remembered before, or 503, whatever the first was.
 pub fn answer_two<T: Threader, S: Alter, R: Source, W: Sink>(
     store: &mut Store<S>,
     alloc: Global,
@@ -38,13 +36,11 @@ pub fn answer_two<T: Threader, S: Alter, R: Source, W: Sink>(
         (R.ends first_input.old) (R.ends first_input.new)
         (W.told first_output.old) (W.told first_output.new) result.0 }
     ensures second { HasReturned S.Store store.new → IsReady S.Store store.old
-        → IfOk result.0 (λ status. status ≢ 503
         → AnswersFrom (archive_in S.Store store.old) policy.now day
         (R.told second_input.old) (R.told second_input.new)
         (R.ends second_input.old) (R.ends second_input.new)
-        (W.told second_output.old) (W.told second_output.new) result.1) }
-    ensures stays { IfOk result.0 (λ status. status ≢ 503
-        → Stays S.Store store.old store.new result.1) }
+        (W.told second_output.old) (W.told second_output.new) result.1 }
+    ensures stays { GoesIfOpen S.Store store.old store.new (λ a b. b ≡ a) }
 {
     let first = answer(
         store,

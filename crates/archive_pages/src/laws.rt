@@ -1,15 +1,20 @@
 //! Laws of the replies: each contract is a law over the definitions of `specs/` alone, and no call
 //! does anything.
-ghost use Rattle.std.specs.Prelude.{ℤ, List};
+ghost use Rattle.std.specs.Prelude.{◌≡◌, ℕ, ℤ, List, Result};
 ghost use Rattle.httparse.specs.Grammar.{RequestHead};
 ghost use Rattle.sqlite_disk.specs.declared.Files.{Files};
 ghost use Rattle.sqlite_store.specs.declared.store.FileStore.{FileStore};
+ghost use Rattle.sqlite_trees.specs.declared.memory.MemStore.{MemStore};
 ghost use Rattle.sqlite.specs.Held.{Held};
+ghost use Rattle.sqlite.specs.Steps.{over_memory};
 ghost use Rattle.policy_core.specs.Rules.{Rule};
 ghost use Rattle.archive_machine.specs.Records.{Archive};
 ghost use Rattle.archive_store.specs.declared.store.Store.{Store};
+ghost use Rattle.archive_store.specs.Told.{Goes};
+ghost use Rattle.archive_pages.specs.declared.faults.ServeFault.{ServeFault};
 ghost use Rattle.archive_pages.specs.Laws.{EqualViews, ServesWhatIsAllowed, DeniesWhatIsDenied, ShowsWhatIsAllowed};
 ghost use Rattle.archive_pages.specs.Reopened.{AnswersReopened};
+ghost use Rattle.archive_pages.specs.Serving.{Stays};
 
 use archive_store::laws::a_file_opened_again_holds_the_same_archive;
 use sqlite_disk::Disk;
@@ -55,3 +60,10 @@ pub fn a_file_opened_again_is_answered_alike<D: Disk>()
 {
     a_file_opened_again_holds_the_same_archive::<D>();
 }
+
+/// In memory each request is followed by the next, whatever was answered, 503 too: the store is
+/// ready for it, and remembers the same archive.
+pub fn in_memory_each_request_is_followed_by_the_next()
+    ensures { (old new : Store MemStore) (result : Result ℕ ServeFault) → Stays over_memory old new result
+        → Goes over_memory old new (λ a b. b ≡ a) }
+{}

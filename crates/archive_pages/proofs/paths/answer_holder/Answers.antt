@@ -16,7 +16,7 @@ returns-in-Ok-Some-clause-sent g c =
     (λ a reply. reply ≡ path_reply a c.args.policy.now c.args.day c.args.path.now (Some c.as_str.result.now))
     (λ a reply. reply ≡ option_map_or (path_reply a c.args.policy.now c.args.day c.args.path.now)
     (option_map (λ (x : List ℕ). Some x) (person_of_token a c.args.token.now)) unauthorized)
-    c.in-Ok-Some.ensures
+    c.in-Ok-Some.ensures.0
     (λ a r it is. subst (λ o. r ≡ option_map_or (path_reply a c.args.policy.now c.args.day c.args.path.now) (option_map (λ (x : List ℕ). Some x) o) unauthorized)
     (named ∙ it) is)
-    c.answer_path.ensures.sent
+    c.in-Ok-Some.ensures.1 c.answer_path.ensures.sent

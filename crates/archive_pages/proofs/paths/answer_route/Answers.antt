@@ -1,8 +1,9 @@
 use Rattle.std.proofs.Common.{◌≡◌, subst}
-use Rattle.archive_html.specs.Pages.{threads_page}
-use Rattle.archive_results.specs.Results.{tree_lines}
+use Rattle.percent_encoding.specs.Percent.{percent_decode}
+use Rattle.archive_html.specs.Pages.{author_page, threads_page}
+use Rattle.archive_results.specs.Results.{author_lines, export_text, tree_lines}
 use Rattle.archive_results.specs.Access.{Ask}
-use Rattle.archive_pages.specs.Replies.{page_reply}
+use Rattle.archive_pages.specs.Replies.{mbox_reply, page_reply}
 use Rattle.archive_pages.specs.Answers.{keyed_reply, listed_reply, month_reply, shown_view, thread_reply}
 use Rattle.archive_pages.specs.Serving.{Serves}
 use Rattle.archive_pages.proofs.paths.answer_route.Goals as goal
@@ -38,3 +39,22 @@ returns-in-Thread-clause-sent g c = rw c.in-Thread.is (
     (λ a reply. reply ≡ listed_reply a q.list (thread_reply q.list c.in-Thread.key.now (shown_view a q)))
     (g.W.Sink.told c.args.output.now) (g.W.Sink.told c.answer_thread.new.output) c.answer_thread.result)
     c.ask_of-ask-in-Thread.ensures c.answer_thread.ensures.sent)
+
+pub returns-in-Lists-clause-sent : goal.returns-in-Lists-clause-sent
+returns-in-Lists-clause-sent g c = rw c.in-Lists.is c.answer_lists.ensures.sent
+
+pub returns-in-Author-clause-sent : goal.returns-in-Author-clause-sent
+returns-in-Author-clause-sent g c = rw c.in-Author.is (
+    subst
+    (λ (q : Ask). Serves g.S.Store c.args.store.now c.answer_escaped_author.new.store
+    (λ a reply. let key = percent_decode c.in-Author.author.now in reply ≡ listed_reply a q.list (page_reply (author_page q.list key (author_lines key (shown_view a q)))))
+    (g.W.Sink.told c.args.output.now) (g.W.Sink.told c.answer_escaped_author.new.output) c.answer_escaped_author.result)
+    c.ask_of-ask-in-Author.ensures c.answer_escaped_author.ensures.sent)
+
+pub returns-in-Mbox-clause-sent : goal.returns-in-Mbox-clause-sent
+returns-in-Mbox-clause-sent g c = rw c.in-Mbox.is (
+    subst
+    (λ (q : Ask). Serves g.S.Store c.args.store.now c.answer_mbox.new.store
+    (λ a reply. reply ≡ listed_reply a q.list (mbox_reply (export_text (shown_view a q))))
+    (g.W.Sink.told c.args.output.now) (g.W.Sink.told c.answer_mbox.new.output) c.answer_mbox.result)
+    c.ask_of-ask-in-Mbox.ensures c.answer_mbox.ensures.sent)

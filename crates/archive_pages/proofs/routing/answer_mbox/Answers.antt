@@ -1,22 +1,22 @@
 use Rattle.std.proofs.Common.{arith}
-use Rattle.archive_desk.specs.declared.faults.DeskFault.TheVariants.{NoPerson, Store as Stored, Memory}
-use Rattle.archive_pages.proofs.DeskLemmas.{cause_at, exported_whole, exported_part, exported_none, exported_broken, none_out}
+use Rattle.archive_desk.specs.declared.faults.DeskFault.TheVariants.{NoList, NoPerson, NotInView, Store as Stored, Memory}
+use Rattle.archive_pages.proofs.DeskLemmas.{cause_at, exported_whole, exported_part, exported_none, exported_broken, exported_unlisted, none_out}
 use Rattle.archive_pages.proofs.routing.answer_mbox.Goals as goal
 
 pub returns-in-Ok-clause-sent : goal.returns-in-Ok-clause-sent
 returns-in-Ok-clause-sent g c =
     exported_whole g.S.Store c.args.store.now c.export_after.new.store c.args.ask.now (g.W.Sink.told c.args.output.now) (g.W.Sink.told c.export_after.new.out) _
-    c.in-Ok.ensures.exported
+    c.in-Ok.ensures.exported c.in-Ok.ensures.was_open
 
 pub returns-in-Write-clause-sent : goal.returns-in-Write-clause-sent
 returns-in-Write-clause-sent g c =
     exported_part g.S.Store c.args.store.now c.export_after.new.store c.args.ask.now (g.W.Sink.told c.args.output.now) (g.W.Sink.told c.export_after.new.out)
-    c.in-Err.stop.written (rw c.in-Write.is at c.in-Err.ensures.exported)
+    c.in-Err.stop.written (rw c.in-Write.is at c.in-Err.ensures.exported) (rw c.in-Write.is at c.in-Err.ensures.was_open)
 
 pub returns-in-Store-clause-sent : goal.returns-in-Store-clause-sent
 returns-in-Store-clause-sent g c =
     exported_broken g.S.Store c.args.store.now c.export_after.new.store c.args.ask.now (g.W.Sink.told c.args.output.now) (g.W.Sink.told c.export_after.new.out)
-    c.in-Err.stop c.in-Err.ensures.exported c.in-Err.ensures.part c.in-Err.ensures.begun (omega (arith, c.if-written-gt0.true))
+    c.in-Err.stop c.in-Err.ensures.exported c.in-Err.ensures.part c.in-Err.ensures.begun (omega (arith, c.if-written-gt0.true)) (c.in-Err.ensures.out_open (omega (arith, c.if-written-gt0.true)))
 
 pub returns-in-Store-2-clause-sent : goal.returns-in-Store-2-clause-sent
 returns-in-Store-2-clause-sent g c =
@@ -49,3 +49,23 @@ returns-in-Memory-clause-sent g c =
     (cause_at before middle (g.W.Sink.failures c.args.output.now) (g.W.Sink.failures c.export_after.new.out) c.in-Err.stop.written c.in-Err.stop.fault Memory
     c.in-Memory.is c.in-Err.ensures.cause).1
     c.write_failure-in-Memory.ensures.sent
+
+pub returns-in-NoList-clause-sent : goal.returns-in-NoList-clause-sent
+returns-in-NoList-clause-sent g c =
+    let before = g.W.Sink.told c.args.output.now in
+    let middle = g.W.Sink.told c.export_after.new.out in
+    exported_unlisted g.S.Store c.args.store.now c.export_after.new.store c.args.ask.now before (g.W.Sink.told c.write_failure-in-NoList.new.output) middle
+    c.write_failure-in-NoList.result (rw c.in-NoList.is at c.in-Err.ensures.exported) (rw c.in-NoList.is at c.in-Err.ensures.was_open)
+    (cause_at before middle (g.W.Sink.failures c.args.output.now) (g.W.Sink.failures c.export_after.new.out) c.in-Err.stop.written c.in-Err.stop.fault NoList
+    c.in-NoList.is c.in-Err.ensures.cause).1
+    c.write_failure-in-NoList.ensures.sent
+
+pub returns-in-NotInView-clause-sent : goal.returns-in-NotInView-clause-sent
+returns-in-NotInView-clause-sent g c =
+    let before = g.W.Sink.told c.args.output.now in
+    let middle = g.W.Sink.told c.export_after.new.out in
+    exported_none g.S.Store c.args.store.now c.export_after.new.store c.args.ask.now before (g.W.Sink.told c.write_failure-in-NotInView.new.output) c.in-Err.stop middle
+    c.write_failure-in-NotInView.result c.in-Err.ensures.exported
+    (cause_at before middle (g.W.Sink.failures c.args.output.now) (g.W.Sink.failures c.export_after.new.out) c.in-Err.stop.written c.in-Err.stop.fault NotInView
+    c.in-NotInView.is c.in-Err.ensures.cause).1
+    c.write_failure-in-NotInView.ensures.sent
