@@ -6,8 +6,8 @@ ghost use Rattle.archive_serve.specs.Runs.{AreOfOneArchive};
 use archive_listen::Listener;
 use sqlite::Alter;
 
-/// Connections whose replies went out whole, and none of which was 503, were all answered out of the archive that the store
-/// remembered before the first of them, and it remembers the same.
+/// All connections of a run were answered out of the archive that the store remembered before the first of them, or by 503,
+/// whatever was at fault; and it remembers the same, if it is still open.
 pub fn replies_are_of_one_archive<S: Alter, L: Listener>()
     ensures { (rules : List Rule) (day : ℤ) → AreOfOneArchive S.Store rules day L.accepts L.closes }
 {}
