@@ -1,5 +1,6 @@
--- Calls over a file, one after the other, from what each of them says.
-use Rattle.std.proofs.Common.{◌≡◌, refl, ◌∙◌, subst, Option, Some, None, Result}
+-- Calls over files, one after the other, from what each of them says.
+use Rattle.std.proofs.Common.{◌≡◌, refl, sym, ◌∙◌, subst, Option, Some, None, Result, Ok, Err}
+use Rattle.std.specs.Prelude.{MatchOption}
 use Rattle.sqlite_disk.specs.declared.Disk.{Ghosts as DiskGhosts}
 use Rattle.sqlite_disk.specs.declared.Files.{Files}
 use Rattle.sqlite_wal.specs.Reads.{AreClean}
@@ -12,38 +13,89 @@ use Rattle.sqlite.specs.Closing.{IsCopied}
 use Rattle.archive_machine.specs.Records.{Archive}
 use Rattle.archive_tables.specs.Tables.{IsKept, archive_of}
 use Rattle.archive_store.specs.Held.{held_of}
-use Rattle.archive_store.specs.Told.{HoldsArchive, HasReturned, IsReady, archive_in, Goes, Asks}
+use Rattle.archive_store.specs.Told.{HoldsArchive, HasReturned, IsReady, archive_in, Goes, GoesIfOpen, Asks}
 use Rattle.archive_store.specs.declared.store.Store.{Store}
 use Rattle.archive_store.proofs.Joins.{ready_with}
 use Rattle.archive_desk.proofs.CallLemmas.{calls_after}
-use Rattle.example_reopened.specs.Reopening.{WasReopened}
+use Rattle.example_reopened.specs.Reopening.{TakesOver, LeadsTo, LeadsToIfOpen, WasReopened, Continues, ContinuesIfOpen, RemembersTheSame, AsksAgain}
 
--- ---- closed, opened and taken over
+-- the law of `archive_store`: a file that is closed and opened again holds the same archive
+abbrev AreAlike : {D : Type 0} → DiskGhosts D → Type 0
+AreAlike {D} g = (closed opened : Held (FileStore D g)) (files : Files D) (archive : Archive) → HoldsArchive over_files closed archive → IsLive (file_state closed)
+    → (AreClean g files.log files.db → IsCopied closed files) → Finds files opened → IsOpened opened → HoldsArchive over_files opened archive
 
-module _ {D : Type 0} {g : DiskGhosts D} (store again : Store (FileStore D g)) where
-  pub was_reopened : (opened : Held (FileStore D g)) (files : Files D) → IsLive (file_state (held_of store))
-      → (AreClean g files.log files.db → IsCopied (held_of store) files) → (HasCleanDisk (file_state opened) → Finds files opened)
-      → (HasCleanDisk (file_state opened) → IsOpened opened) → (HasReturned over_files again → HasCleanDisk (file_state opened))
-      → (HasReturned over_files again → IsKept (file_state opened)
-      → IsKept (file_state (held_of again)) × (archive_of (file_state (held_of again)) ≡ archive_of (file_state opened)))
-      → WasReopened store again
-  was_reopened opened files live copied found opens clean kept returned = (
+module _ {D : Type 0} {g : DiskGhosts D} where
+  -- ---- opened and taken over
+
+  pub takes_over : (files : Files D) (store : Store (FileStore D g)) (opened : Held (FileStore D g)) → (HasCleanDisk (file_state opened) → Finds files opened)
+      → (HasCleanDisk (file_state opened) → IsOpened opened) → (HasReturned over_files store → HasCleanDisk (file_state opened))
+      → (HasReturned over_files store → IsKept (file_state opened)
+      → IsKept (file_state (held_of store)) × (archive_of (file_state (held_of store)) ≡ archive_of (file_state opened)))
+      → TakesOver files store
+  takes_over files store opened found opens clean kept returned = (
     opened,
-    files,
-    record {
-      live = live;
-      copied = copied;
-      found = found (clean returned);
-      opens = opens (clean returned);
-      adopted = λ archive holds now. let it = kept now holds.0 in (it.0, it.1 ∙ holds.1);
-    },
+    found (clean returned),
+    opens (clean returned),
+    λ archive holds. let it = kept returned holds.0 in (it.0, it.1 ∙ holds.1),
   )
 
+  -- so it remembers what the files held
+  pub leads_to : AreAlike g → (files : Files D) (store : Store (FileStore D g)) → TakesOver files store → LeadsTo files store (λ a b. b ≡ a)
+  leads_to law files store takes returned archive (closed, holds, live, copied) =
+      let (opened, found, opens, adopted) = takes returned in
+      let it = law closed opened files archive holds live copied found opens in
+      let is = adopted archive it in
+      (ready_with over_files store archive is.0 is.1 it.2, is.1)
+
+  module _ (files : Files D) (mid new : Store (FileStore D g)) where
+    -- after a call
+    pub leads_on : (R : Archive → Archive → Type 0) → LeadsTo files mid (λ a b. b ≡ a) → Goes over_files mid new R → LeadsTo files new R
+    leads_on R before goes returned archive held =
+        let here = before (goes.0.returned returned) archive held in
+        let there = goes.1 returned here.0 in
+        (there.0, subst (λ a. R a (archive_in over_files new)) here.1 there.1)
+
+    pub leads_on_if_open : (R : Archive → Archive → Type 0) → LeadsTo files mid (λ a b. b ≡ a) → GoesIfOpen over_files mid new R → LeadsToIfOpen files new R
+    leads_on_if_open R before goes returned archive held up =
+        let here = before (goes.0.returned returned) archive held in
+        let there = goes.1 returned here.0 up in
+        (there.0, subst (λ a. R a (archive_in over_files new)) here.1 there.1)
+
+    -- and after a close
+    pub leads_again : (R : Archive → Archive → Type 0) → LeadsTo files mid R → RemembersTheSame mid new → LeadsTo files new R
+    leads_again R before same returned archive held =
+        let here = before (same.0 returned) archive held in
+        let there = same.1 returned here.0 in
+        (there.0, subst (λ b. R archive b) (sym there.1) here.1)
+
+    -- and after a request
+    pub leads_still : (R : Archive → Archive → Type 0) → LeadsTo files mid R → GoesIfOpen over_files mid new (λ a b. b ≡ a) → LeadsToIfOpen files new R
+    leads_still R before goes returned archive held up =
+        let here = before (goes.0.returned returned) archive held in
+        let there = goes.1 returned here.0 up in
+        (there.0, subst (λ b. R archive b) (sym there.1) here.1)
+
+-- ---- closed and opened again
+
+module _ {D : Type 0} {g : DiskGhosts D} (store again : Store (FileStore D g)) where
+  pub was_reopened : (files : Files D) → IsLive (file_state (held_of store)) → (AreClean g files.log files.db → IsCopied (held_of store) files)
+      → TakesOver files again → WasReopened store again
+  was_reopened files live copied takes returned =
+      let (opened, found, opens, adopted) = takes returned in (
+        opened,
+        files,
+        record {
+          live = live;
+          copied = copied;
+          found = found;
+          opens = opens;
+          adopted = λ archive holds now. adopted archive holds;
+        },
+      )
+
   -- so it remembers the same archive
-  pub goes_again : ((closed opened : Held (FileStore D g)) (files : Files D) (archive : Archive) → HoldsArchive over_files closed archive → IsLive (file_state closed)
-      → (AreClean g files.log files.db → IsCopied closed files) → Finds files opened → IsOpened opened → HoldsArchive over_files opened archive)
-      → WasReopened store again → Goes over_files store again (λ a b. b ≡ a)
-  goes_again law was = (
+  pub remembers : AreAlike g → WasReopened store again → RemembersTheSame store again
+  remembers law was = (
     λ returned. let it = (was returned).2 in (it.copied it.found.honest).was_clean,
     λ returned ready.
         let it = (was returned).2 in
@@ -55,17 +107,36 @@ module _ {D : Type 0} {g : DiskGhosts D} (store again : Store (FileStore D g)) w
 
 -- ---- asked
 
--- a question behind calls that left the archive
-pub asks_after : {S : Type 0} (g : Ghosts S) (old mid new : Store S) {A F R : Type 0} (reason : F → Option R) (refuses : Archive → Option R)
-    (Says : Archive → A → Type 0) (result : Result A F) → Goes g old mid (λ a b. b ≡ a) → Asks g mid new reason result refuses Says
-    → Asks g old new reason result refuses Says
-asks_after g old mid new reason refuses Says result before asks =
-    calls_after g (IsReady g) old mid new reason (λ a b. b ≡ a)
-    (λ a b answer. (b ≡ a) × (refuses a ≡ None) × Says a answer) (λ a b answer. (b ≡ a) × (refuses a ≡ None) × Says a answer)
-    (λ a b why. (b ≡ a) × (refuses a ≡ Some why)) (λ a b why. (b ≡ a) × (refuses a ≡ Some why)) (λ a b _. b ≡ a) (λ a b _. b ≡ a)
-    (λ a b c answer is it. (it.0 ∙ is, subst (λ x. refuses x ≡ None) is it.1, subst (λ x. Says x answer) is it.2))
-    (λ a b c why is it. (it.0 ∙ is, subst (λ x. refuses x ≡ Some why) is it.1))
-    (λ a b c fault is it. it ∙ is) result before asks
+module _ {D : Type 0} {g : DiskGhosts D} (old mid new : Store (FileStore D g)) (same : RemembersTheSame old mid) where
+  goes_again : (R : Archive → Archive → Type 0) → Goes over_files mid new R → Continues old new R
+  goes_again R goes = (
+    λ returned. same.0 (goes.0.returned returned),
+    λ returned ready.
+        let here = same.1 (goes.0.returned returned) ready in
+        let there = goes.1 returned here.0 in
+        (there.0, subst (λ a. R a (archive_in over_files new)) here.1 there.1),
+  )
+
+  goes_again_if_open : (R : Archive → Archive → Type 0) → GoesIfOpen over_files mid new R → ContinuesIfOpen old new R
+  goes_again_if_open R goes = (
+    λ returned. same.0 (goes.0.returned returned),
+    λ returned ready up.
+        let here = same.1 (goes.0.returned returned) ready in
+        let there = goes.1 returned here.0 up in
+        (there.0, subst (λ a. R a (archive_in over_files new)) here.1 there.1),
+  )
+
+  -- a question to a store that was closed and opened again
+  pub asks_again : {A F R : Type 0} (reason : F → Option R) (refuses : Archive → Option R) (Says : Archive → A → Type 0) (result : Result A F)
+      → Asks over_files mid new reason result refuses Says → AsksAgain old new reason result refuses Says
+  asks_again reason refuses Says (Ok answer) goes = goes_again (λ a b. (b ≡ a) × (refuses a ≡ None) × Says a answer) goes
+  asks_again {R = R} reason refuses Says (Err fault) goes = by_reason (reason fault) goes
+    where
+      by_reason : (r : Option R)
+          → MatchOption r (GoesIfOpen over_files mid new (λ a b. b ≡ a)) (λ why. Goes over_files mid new (λ a b. (b ≡ a) × (refuses a ≡ Some why)))
+          → MatchOption r (ContinuesIfOpen old new (λ a b. b ≡ a)) (λ why. Continues old new (λ a b. (b ≡ a) × (refuses a ≡ Some why)))
+      by_reason None goes = goes_again_if_open (λ a b. b ≡ a) goes
+      by_reason (Some why) goes = goes_again (λ a b. (b ≡ a) × (refuses a ≡ Some why)) goes
 
 -- a question behind another one that was answered, and is refused for the same reason
 pub both_asked : {S : Type 0} (g : Ghosts S) (old mid new : Store S) {A F R : Type 0} (reason : F → Option R) (refuses : Archive → Option R)

@@ -1,10 +1,9 @@
 //! Two questions of a reader, and the same of a store that was closed and opened again.
 ghost use Rattle.std.specs.Prelude.{◌≡◌, None, IfOk, IfErr};
-ghost use Rattle.sqlite.specs.Files.{over_files};
 ghost use Rattle.archive_store.specs.Replies.{refusal};
 ghost use Rattle.archive_store.specs.Told.{Asks};
 ghost use Rattle.archive_desk.specs.Faults.{IsAskFault, ask_reason, reason};
-ghost use Rattle.example_reopened.specs.Reopening.{ShowsBoth};
+ghost use Rattle.example_reopened.specs.Reopening.{AsksAgain, ShowsBoth};
 
 use crate::reopening::reopen;
 use archive_desk::{DeskFault, month, threads};
@@ -59,7 +58,7 @@ pub fn reopen_and_ask<D: Disk + Drop, T: Threader>(
     asked: Month,
     threader: &T,
 ) -> Result<(Store<FileStore<D>>, Result<Shown, DeskFault>), StoreFault>
-    ensures answered { IfOk result (λ told. Asks over_files store told.0 reason told.1 (λ a. ask_reason a ask.now)
+    ensures answered { IfOk result (λ told. AsksAgain store told.0 reason told.1 (λ a. ask_reason a ask.now)
         (λ a shown. ShowsBoth a ask.now asked shown.month.items shown.threads.items)) }
     ensures why { IfOk result (λ told. IfErr told.1 (λ fault. IsAskFault fault)) }
     ensures fault { IfErr result (λ fault. refusal fault ≡ None) }

@@ -6,8 +6,8 @@ ghost use Rattle.sqlite.specs.Files.{over_files, file_state, Finds, IsOpened};
 ghost use Rattle.sqlite.specs.State.{HasCleanDisk, IsLive};
 ghost use Rattle.archive_store.specs.Held.{held_of};
 ghost use Rattle.archive_store.specs.Replies.{refusal};
-ghost use Rattle.archive_store.specs.Told.{Goes};
-ghost use Rattle.example_reopened.specs.Reopening.{WasReopened};
+ghost use Rattle.archive_store.specs.Told.{HasNoLimit};
+ghost use Rattle.example_reopened.specs.Reopening.{RemembersTheSame, TakesOver, WasReopened};
 
 use archive_store::laws::a_file_opened_again_holds_the_same_archive;
 use archive_store::{AdoptStop, Store, StoreFault};
@@ -49,6 +49,33 @@ fn connect<D: Disk + Drop>(
     }
 }
 
+/// Opens files, and takes the connection over. E14 or E15 where they cannot be opened.
+pub(crate) fn open<D: Disk + Drop>(
+    alloc: Global,
+    files: Files<D>,
+    options: Options,
+) -> Result<Store<FileStore<D>>, StoreFault>
+    requires log { IsTrue (D.Disk.is_usable files.log) }
+    requires db { IsTrue (D.Disk.is_usable files.db) }
+    ensures opened { IfOk result (λ store. TakesOver files store) }
+    ensures unlimited { IfOk result (λ store. HasNoLimit over_files store) }
+    ensures fault { IfErr result (λ fault. refusal fault ≡ None) }
+{
+    let connection = match connect(alloc, files, options) {
+        Ok(connection) => connection,
+        Err(fault) => return Err(fault),
+    };
+    match Store::adopt(connection) {
+        Ok(store) => Ok(store),
+        Err(
+            AdoptStop {
+                connection: _connection,
+                fault,
+            },
+        ) => Err(fault),
+    }
+}
+
 /// Closes a store, opens its files again and takes the connection over: the store that this gives remembers the same archive.
 /// E14 or E15 where the store cannot be closed or its files cannot be opened.
 pub fn reopen<D: Disk + Drop>(
@@ -57,25 +84,13 @@ pub fn reopen<D: Disk + Drop>(
     options: Options,
 ) -> Result<Store<FileStore<D>>, StoreFault>
     ensures reopened { IfOk result (λ again. WasReopened store again) }
-    ensures same { IfOk result (λ again. Goes over_files store again (λ a b. b ≡ a)) }
+    ensures same { IfOk result (λ again. RemembersTheSame store again) }
+    ensures unlimited { IfOk result (λ again. HasNoLimit over_files again) }
     ensures fault { IfErr result (λ fault. refusal fault ≡ None) }
 {
     a_file_opened_again_holds_the_same_archive::<D>();
-    let files = match close(store) {
-        Ok(files) => files,
-        Err(fault) => return Err(fault),
-    };
-    let connection = match connect(alloc, files, options) {
-        Ok(connection) => connection,
-        Err(fault) => return Err(fault),
-    };
-    match Store::adopt(connection) {
-        Ok(again) => Ok(again),
-        Err(
-            AdoptStop {
-                connection: _connection,
-                fault,
-            },
-        ) => Err(fault),
+    match close(store) {
+        Ok(files) => open(alloc, files, options),
+        Err(fault) => Err(fault),
     }
 }
