@@ -5,8 +5,8 @@
 
 Imports a list of --mails messages, each with --ids identifiers in its References field (4 MB with the defaults), and asks a
 server for `/`, the month, the author and the threads, each of a server of its own. It prints the most memory that each server
-held, beside what it held for `/`. A month and an author have to take at most 150 MB more than `/`; threads keep what a message
-refers to, and their line says how much. The last line is 'N passed, M failed'; status 1 where one failed.
+held, beside what it held for `/`. A month and an author have to take at most 150 MB more than `/`; threads, which keep what a message
+refers to, at most 400 MB more. The last line is 'N passed, M failed'; status 1 where one failed.
 Build the program first: ./archive --version.
 """
 import argparse, pathlib, re, sys, tempfile
@@ -15,7 +15,7 @@ from serving import ROOT, Server, archive, get, heard
 
 DAY = "2003-03-20"
 POLICY = '[[rule]]\nname = "all"\neffect = "allow"\n'
-PAGES = {"/": None, "/l/ids/month/2003-03": 150, "/l/ids/by/a@example.org": 150, "/l/ids/threads": None}
+PAGES = {"/": None, "/l/ids/month/2003-03": 150, "/l/ids/by/a@example.org": 150, "/l/ids/threads": 400}
 
 
 def mail(place, ids):
