@@ -24,7 +24,8 @@ fn push_entry(text: &mut Vec<u8>, entry: &Entry) -> Result<(), Memory> {
         text.extend_from_slice(id.left())?;
         text.push(b' ')?;
     }
-    for id in entry.refs.as_slice() {
+    for at in 0..entry.refs.len() {
+        let id = entry.refs.get(at);
         text.push(b'<')?;
         text.extend_from_slice(id.left())?;
         text.extend_from_slice(b"> ")?;
