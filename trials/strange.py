@@ -218,7 +218,6 @@ def words(program, folder, tally, _times):
         ["list-add", "--db", "a" * 5000, "x"], ["list-add", "--db", db, "x\n"], ["list-add"] + ["x"] * 20_000, ["--" + "a" * 100_000],
         ["sift", "--day", "9" * 100_000], ["sift", "--min-age", "9" * 1000], ["sift", "--min-age", "-1"], ["sift", "--day", "0000-00-00"],
         ["person-add", "--db", db, "bob", "=" * 16], ["person-add", "--db", db, "bob", "a" * 100_000],
-        ["person-address", "--db", db, "anna", "a" * 100_000], ["person-address", "--db", db, "anna", "\x7f"], ["merge", "--db", db, "soc", "y" * 100_000],
         ["get", "--db", db, "--policy", policy, "soc", "é" * 64], ["import", "--db", db, "soc", "-"], ["import", "--db", db, "soc", ""], ["help"] * 100,
         ["serve", "--db", db, "--policy", policy, "--port", "1", "--count", "0"], ["serve", "--db", db, "--policy", policy, "--port", "99999", "--count", "0"],
         [""], ["sift", "sift"], ["--db", db, "list-add", "x"],

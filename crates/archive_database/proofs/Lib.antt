@@ -2,4 +2,3 @@ pub mod MakingLemmas
 pub mod RankLemmas
 pub mod ReadingLemmas
 pub mod TakingLemmas
-mod HeldLemmas

@@ -1,7 +1,6 @@
 -- The lines of messages, and why a thread is not shown.
 use Rattle.std.specs.Prelude.{ℕ, List, map, Option, Some, None}
 use Rattle.archive_machine.specs.Records.{Archive, Message as Remembered}
-use Rattle.archive_machine.specs.Questions.{merge_of}
 use Rattle.archive_results.specs.Access.{Ask, view_of}
 use Rattle.archive_results.specs.Results.{lines_of, thread_lines}
 use Rattle.archive_results.specs.Shown.{Line, shown_of}
@@ -28,7 +27,6 @@ abbrev pub or_then : Option Reason → Option Reason → Option Reason
 or_then None next = next
 or_then (Some why) next = Some why
 
--- why a thread is not shown: what is asked is refused, or the view, threaded as the list is, does not hold the message
+-- why a thread is not shown: what is asked is refused, or the view does not hold the message
 abbrev pub thread_reason : Archive → Ask → (key : List ℕ) → Option Reason
-thread_reason archive ask key =
-    or_then (ask_reason archive ask) (without_thread (thread_lines (merge_of archive ask.list) key (map shown_of (view_of archive ask))))
+thread_reason archive ask key = or_then (ask_reason archive ask) (without_thread (thread_lines key (map shown_of (view_of archive ask))))

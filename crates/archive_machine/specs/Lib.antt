@@ -1,6 +1,5 @@
 pub mod Records
 pub mod Tokens
-pub mod Addresses
 pub mod Keys
 pub mod Commands
 pub mod Questions

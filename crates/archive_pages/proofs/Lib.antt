@@ -2,7 +2,6 @@ pub mod ReplyExamples
 mod HeadLemmas
 mod LawLemmas
 mod AccessLaws
-mod PromiseLaws
 pub mod ServingLemmas
 mod HeadReading
 mod DeskLemmas

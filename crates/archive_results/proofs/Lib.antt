@@ -7,5 +7,3 @@ pub mod ShownExamples
 pub mod SlotLemmas
 pub mod SortLemmas
 pub mod FiledLemmas
-pub mod OwnLemmas
-pub mod PromiseLemmas

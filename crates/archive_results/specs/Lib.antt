@@ -4,4 +4,3 @@ pub mod Results
 pub mod Index
 pub mod Slots
 pub mod Filed
-pub mod Promise

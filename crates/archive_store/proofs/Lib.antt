@@ -13,4 +13,3 @@ pub mod WalkingLemmas
 pub mod CheckLemmas
 pub mod FollowLemmas
 pub mod CauseLemmas
-mod PutLemmas

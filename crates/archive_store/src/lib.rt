@@ -11,7 +11,6 @@ mod keys;
 pub mod laws;
 pub mod limits;
 mod messages;
-mod options;
 mod persons;
 mod questions;
 mod reading;

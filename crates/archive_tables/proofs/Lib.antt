@@ -24,7 +24,3 @@ pub mod FiledLemmas
 pub mod LastLemmas
 pub mod LastExamples
 pub mod CauseLemmas
-pub mod ApartLemmas
-pub mod OptionLemmas
-pub mod AddressLemmas
-pub mod MoveLemmas

@@ -68,6 +68,5 @@ pub(crate) fn is_rule_key(key: &str) -> bool
             | "age_min"
             | "from"
             | "until"
-            | "own"
     )
 }

@@ -91,16 +91,10 @@ fn asked(
     let noting = fresh_noting(alloc);
     match place {
         None => {
-            tree_lines(alloc, &noting, view(alloc, standing)?, true)?;
+            tree_lines(alloc, &noting, view(alloc, standing)?)?;
         }
         Some(at) => {
-            thread_lines(
-                alloc,
-                &noting,
-                view(alloc, standing)?,
-                true,
-                &key(alloc, at)?,
-            )?;
+            thread_lines(alloc, &noting, view(alloc, standing)?, &key(alloc, at)?)?;
         }
     }
     Ok((

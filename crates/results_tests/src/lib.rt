@@ -1,11 +1,7 @@
-//! What is shown of a small list: to the public, to a moderator, and to who wrote it; and its threads, gathered by subject or not.
+//! What is shown of a small list to the public and to a moderator.
 #![tactic(auto)]
 
 #[cfg(test)]
 mod asking;
-#[cfg(test)]
-mod gathering;
-#[cfg(test)]
-mod own;
 #[cfg(test)]
 mod views;

@@ -1,5 +1,5 @@
 //! The worked cases for any store, and the stores over memory that are told them.
-use crate::{commands, migrating, questions};
+use crate::{commands, questions};
 use archive_store::Store;
 use sqlite::Alter;
 use std::alloc::Global;
@@ -27,12 +27,6 @@ pub enum Case {
     AddThree,
     /// How many of the three lists are there.
     CountThree,
-    /// What a file of version 1 held, told to a store over it.
-    OfFirst,
-    /// What a file of version 2 held, told to a store over it.
-    OfSecond,
-    /// Nothing.
-    Nothing,
 }
 
 /// The cases of an empty store.
@@ -61,9 +55,6 @@ pub fn tell<S: Alter>(
         Case::Filled => questions::is_as_filled(rt, alloc, store)?,
         Case::AddThree => return Ok(commands::add_three(alloc, store)),
         Case::CountThree => return questions::count_three(rt, alloc, store),
-        Case::OfFirst => migrating::is_brought_over(rt, alloc, store, false)?,
-        Case::OfSecond => migrating::is_brought_over(rt, alloc, store, true)?,
-        Case::Nothing => {}
     }
     Ok(1)
 }

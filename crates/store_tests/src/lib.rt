@@ -19,8 +19,6 @@ mod filing;
 #[cfg(test)]
 mod keys;
 #[cfg(test)]
-mod migrating;
-#[cfg(test)]
 mod questions;
 #[cfg(test)]
 mod stops;

@@ -17,7 +17,7 @@ fn copied(alloc: Global, disk: &Memory) -> Result<Memory, Fail> {
 }
 
 /// Files that hold the same bytes, and stop after so many calls of the log and of the database file.
-pub fn fused(
+fn fused(
     alloc: Global,
     files: &Files<Memory>,
     log_calls: u64,
@@ -30,7 +30,7 @@ pub fn fused(
 }
 
 /// What disks that stopped hold.
-pub fn left(alloc: Global, files: &Files<Fuse<Memory>>) -> Result<Files<Memory>, Fail> {
+fn left(alloc: Global, files: &Files<Fuse<Memory>>) -> Result<Files<Memory>, Fail> {
     Ok(Files {
         log: copied(alloc, files.log.inner())?,
         db: copied(alloc, files.db.inner())?,

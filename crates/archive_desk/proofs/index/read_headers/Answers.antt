@@ -8,7 +8,6 @@ use Rattle.archive_results.specs.Index.{Header, IsIndexOf, header_of}
 use Rattle.archive_store.specs.Replies.{refusal}
 use Rattle.archive_store.specs.Told.{HoldsTables, GoesIn, GoesInIfOpen, AsksIn}
 use Rattle.archive_store.specs.Walking.{BeginsOver}
-use Rattle.archive_desk.specs.Asking.{IsEnough}
 use Rattle.archive_desk.specs.Faults.{ask_reason, reason}
 use Rattle.archive_desk.proofs.IndexLemmas.{not_listed, walk_ended, walk_open}
 use Rattle.archive_desk.proofs.CallLemmas.{open_still, unbegun_lasts, was_open_by}
@@ -29,7 +28,7 @@ returns-in-Err-each_row-clause-held g c =
     (rw c.in-Err-each_row.is at c.each_row.follows.holds-at-none).0 in
     subst (λ f. AsksIn g.S.Store (HoldsTables g.S.Store) old last reason (Err f) (λ a. ask_reason a ask)
     (λ a (headers : Vec Header Global). IsIndexOf (filter (is_shown ask (reader_marks a ask)) (which a)) headers.items)) (sym c.from.ensures)
-    (not_listed (map header_of) g.S.Store old mid ask which (λ a. IsEnough a ask c.in-Ok.reader) c.in-Ok.ensures.found last fault refused)
+    (not_listed (map header_of) g.S.Store old mid ask which (λ a. c.in-Ok.reader ≡ reader_marks a ask) c.in-Ok.ensures.found last fault refused)
 
 pub returns-in-Err-each_row-clause-was_open : goal.returns-in-Err-each_row-clause-was_open
 returns-in-Err-each_row-clause-was_open g c =
