@@ -201,3 +201,13 @@ module _ {S : Type 0} (g : Ghosts S) where
         let here = second.1 returned there.0 up in
         (here.0, here.1 ∙ there.1),
   )
+
+  -- the same, behind a reply after which the store is ready
+  pub stays_after : (old mid new : Store S) (result : Result ℕ ServeFault) → Goes g old mid (λ a b. b ≡ a) → Stays g mid new result → Stays g old new result
+  stays_after old mid new result first second = record {
+    same = goes_as_if_open g old new (λ a c. (b : Archive) × (b ≡ a) × (c ≡ b)) (λ a c. c ≡ a) (λ a c (b, h, k). k ∙ h)
+        (goes_on_if_open g old mid new (λ a b. b ≡ a) (λ b c. c ≡ b) first second.same);
+    ready = ok_as result (λ status then other.
+        goes_as g old new (λ a c. (b : Archive) × (b ≡ a) × (c ≡ b)) (λ a c. c ≡ a) (λ a c (b, h, k). k ∙ h)
+        (goes_on g old mid new (λ a b. b ≡ a) (λ b c. c ≡ b) first (then other))) second.ready;
+  }

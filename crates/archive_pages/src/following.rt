@@ -1,7 +1,8 @@
 //! Two requests, one after the other.
-ghost use Rattle.std.specs.Prelude.{◌≡◌};
+ghost use Rattle.std.specs.Prelude.{◌≡◌, ◌≢◌, IfOk};
 ghost use Rattle.archive_store.specs.Told.{GoesIfOpen, IsReady, archive_in, HasReturned};
 ghost use Rattle.archive_pages.specs.Running.{AnswersFrom};
+ghost use Rattle.archive_pages.specs.Serving.{Stays};
 
 use crate::answering::answer;
 use crate::faults::ServeFault;
@@ -41,6 +42,8 @@ pub fn answer_two<T: Threader, S: Alter, R: Source, W: Sink>(
         (R.ends second_input.old) (R.ends second_input.new)
         (W.told second_output.old) (W.told second_output.new) result.1 }
     ensures stays { GoesIfOpen S.Store store.old store.new (λ a b. b ≡ a) }
+    ensures ready { IfOk result.0 (λ status. status ≢ 503
+        → Stays S.Store store.old store.new result.1) }
 {
     let first = answer(
         store,

@@ -1,5 +1,5 @@
 use Rattle.archive_pages.proofs.RunningLemmas.{answers_first, answers_second}
-use Rattle.archive_pages.proofs.ServingLemmas.{same_after}
+use Rattle.archive_pages.proofs.ServingLemmas.{ok_as, same_after, stays_after}
 use Rattle.archive_pages.proofs.following.answer_two.Goals as goal
 
 pub returns-clause-first : goal.returns-clause-first
@@ -17,3 +17,8 @@ returns-clause-second g c = λ returned ready.
 
 pub returns-clause-stays : goal.returns-clause-stays
 returns-clause-stays g c = same_after g.S.Store c.args.store.now c.answer-first.new.store c.answer-second.new.store c.answer-first.ensures.stays.same c.answer-second.ensures.stays.same
+
+pub returns-clause-ready : goal.returns-clause-ready
+returns-clause-ready g c = ok_as c.answer-first.result (λ status goes other.
+    stays_after g.S.Store c.args.store.now c.answer-first.new.store c.answer-second.new.store c.answer-second.result (goes other) c.answer-second.ensures.stays)
+    c.answer-first.ensures.stays.ready
