@@ -1,18 +1,30 @@
 -- Which databases are taken over.
-use Rattle.std.specs.Prelude.{◌≡◌, ◌⊎◌, length}
+use Rattle.std.specs.Prelude.{◌≡◌, ◌⊎◌, ◌≤◌, ◌<◌, ℕ, length}
 use Rattle.sqlite.specs.Schema.{Schema}
-use Rattle.archive_tables.specs.Schema.{no_schema, archive_schema}
+use Rattle.archive_tables.specs.Schema.{no_schema, schema_of}
+use Rattle.archive_tables.specs.Tables.{IsKnown, newest_number}
 
--- as many tables, indexes and views as an archive has
-pub record HasAsManyObjects (schema : Schema) : Type 0 where
-  pub tables : length schema.tables ≡ length archive_schema.tables
-  pub indexes : length schema.indexes ≡ length archive_schema.indexes
-  pub views : length schema.views ≡ length archive_schema.views
+-- so many tables and indexes, and no view
+pub record HasObjects (tables indexes : ℕ) (schema : Schema) : Type 0 where
+  pub tables_are : length schema.tables ≡ tables
+  pub indexes_are : length schema.indexes ≡ indexes
+  pub views_are : length schema.views ≡ 0
 
--- an empty database, or one with as many objects as an archive has
+-- as many tables, indexes and views as an archive of this version has
+pub record HasAsManyObjects (number : ℕ) (schema : Schema) : Type 0 where
+  pub tables : length schema.tables ≡ length (schema_of number).tables
+  pub indexes : length schema.indexes ≡ length (schema_of number).indexes
+  pub views : length schema.views ≡ length (schema_of number).views
+
+-- an empty database, or one with as many objects as an archive of some version has
 abbrev pub MayBeTaken : Schema → Type 0
-MayBeTaken schema = (schema ≡ no_schema) ⊎ HasAsManyObjects schema
+MayBeTaken schema = (schema ≡ no_schema) ⊎ ((number : ℕ) × IsKnown number × HasAsManyObjects number schema)
 
--- a database that adopting understands: an empty one, or one of the archive's tables, whatever their rows are
+-- a database that adopting understands: an empty one, or one of the tables of a version, whatever their rows are
 abbrev pub IsUnderstood : Schema → Type 0
-IsUnderstood schema = (schema ≡ no_schema) ⊎ (schema ≡ archive_schema)
+IsUnderstood schema = (schema ≡ no_schema) ⊎ ((number : ℕ) × IsKnown number × (schema ≡ schema_of number))
+
+-- a version before the newest
+pub record IsOlder (number : ℕ) : Type 0 where
+  pub least : 1 ≤ number
+  pub most : number < newest_number

@@ -11,7 +11,7 @@ use Rattle.archive_results.specs.Shown.{shown_of}
 use Rattle.archive_desk.specs.Faults.{Reason, refused, not_in_view, not_written, declined, reason, ask_reason}
 use Rattle.archive_desk.specs.declared.exporting.ExportStop.{ExportStop}
 use Rattle.archive_desk.specs.declared.faults.DeskFault.{DeskFault}
-use Rattle.archive_desk.specs.declared.faults.DeskFault.TheVariants.{Store as Stored, Write}
+use Rattle.archive_desk.specs.declared.faults.DeskFault.TheVariants.{Store as Stored, Memory, Write}
 
 -- the text of an export
 abbrev pub exported : Archive → Ask → List ℕ
@@ -45,11 +45,12 @@ Exports g old new result ask before after text = Calls g old new stop_reason res
 abbrev pub HasWritten : (before after : List ℕ) → ℕ → Type 0
 HasWritten before after count = (part : List ℕ) × (after ≡ before ++ part) × (count ≡ min (length part) (2 ^ 64 - 1))
 
--- The writer failed. Else it did not: where the store failed, so many bytes were written, and where what is asked is refused,
--- none.
+-- The writer failed. Else it did not: where the store failed or memory was wanting, so many bytes were written, and where what is
+-- asked is refused, none.
 abbrev pub IsExportStop : List ℕ → List ℕ → ℕ → ℕ → ℕ → DeskFault → Type 0
 IsExportStop before after failed fails count Write = failed < fails
 IsExportStop before after failed fails count (Stored fault) = (fails ≡ failed) × HasWritten before after count
+IsExportStop before after failed fails count Memory = (fails ≡ failed) × HasWritten before after count
 IsExportStop before after failed fails count other = (count ≡ 0) × (after ≡ before) × (fails ≡ failed)
 
 -- Whatever the fault, and whether the connection is still open: exactly the first bytes of the text of what the store

@@ -1,5 +1,5 @@
 -- Why a question is not answered.
-use Rattle.std.specs.Prelude.{Option, Some, None, option_map}
+use Rattle.std.specs.Prelude.{◌≡◌, Option, Some, None, option_map}
 use Rattle.archive_machine.specs.Records.{Archive}
 use Rattle.archive_machine.specs.Commands.{Refusal as Declined, no_list as unknown_list, no_person as unknown_person}
 use Rattle.archive_machine.specs.Questions.{list_refusal}
@@ -33,10 +33,11 @@ reason (Store fault) = option_map declined (refusal fault)
 reason Memory = None
 reason Write = Some not_written
 
--- a fault of a question: G1, G2, G4 or G5
+-- a fault of a question: G1, G2 or G5, or G4 where memory or the database was at fault
 abbrev pub IsAskFault : DeskFault → Type 0
 IsAskFault NotInView = ⊥
 IsAskFault Write = ⊥
+IsAskFault (Store fault) = refusal fault ≡ None
 IsAskFault other = Unit {0}
 
 -- the fault of the desk where the store answers this

@@ -1,20 +1,23 @@
 -- The lines of messages, and why a thread is not shown.
-use Rattle.std.specs.Prelude.{ℕ, List, map, Option, Some, None}
+use Rattle.std.specs.Prelude.{◌≡◌, ℕ, List, map, Option, Some, None}
 use Rattle.archive_machine.specs.Records.{Archive, Message as Remembered}
+use Rattle.archive_machine.specs.Questions.{merge_of}
+use Rattle.archive_store.specs.Replies.{refusal}
 use Rattle.archive_results.specs.Access.{Ask, view_of}
 use Rattle.archive_results.specs.Results.{lines_of, thread_lines}
 use Rattle.archive_results.specs.Shown.{Line, shown_of}
 use Rattle.archive_desk.specs.Faults.{Reason, not_in_view, ask_reason}
 use Rattle.archive_desk.specs.declared.faults.DeskFault.{DeskFault}
-use Rattle.archive_desk.specs.declared.faults.DeskFault.TheVariants.{Write}
+use Rattle.archive_desk.specs.declared.faults.DeskFault.TheVariants.{Store as Stored, Write}
 
 -- the line of each message
 abbrev pub lines_shown : List Remembered → List Line
 lines_shown messages = lines_of (map shown_of messages)
 
--- a fault of a question on a thread: G1 to G5
+-- a fault of a question on a thread: G1, G2, G3 or G5, or G4 where memory or the database was at fault
 abbrev pub IsThreadFault : DeskFault → Type 0
 IsThreadFault Write = ⊥
+IsThreadFault (Stored fault) = refusal fault ≡ None
 IsThreadFault other = Unit {0}
 
 -- G3 where there is no thread
@@ -27,6 +30,7 @@ abbrev pub or_then : Option Reason → Option Reason → Option Reason
 or_then None next = next
 or_then (Some why) next = Some why
 
--- why a thread is not shown: what is asked is refused, or the view does not hold the message
+-- why a thread is not shown: what is asked is refused, or the view, threaded as the list is, does not hold the message
 abbrev pub thread_reason : Archive → Ask → (key : List ℕ) → Option Reason
-thread_reason archive ask key = or_then (ask_reason archive ask) (without_thread (thread_lines key (map shown_of (view_of archive ask))))
+thread_reason archive ask key =
+    or_then (ask_reason archive ask) (without_thread (thread_lines (merge_of archive ask.list) key (map shown_of (view_of archive ask))))

@@ -19,16 +19,24 @@ abbrev pub CountsMore : (before after : List ℕ) → (counted counts : ℕ) →
 CountsMore before after counted counts =
     (part : List ℕ) × (after ≡ before ++ part) × (counts ≡ min (counted + length part) (2 ^ 64 - 1))
 
--- the writer failed; or the store did, and so many bytes more were written
+-- a message was not written: the writer failed; or memory was wanting, and nothing was written
+abbrev pub IsShownStop : List ℕ → List ℕ → ℕ → ℕ → ℕ → DeskFault → Type 0
+IsShownStop before after failed fails count Write = failed < fails
+IsShownStop before after failed fails count Memory = (count ≡ 0) × (after ≡ before) × (fails ≡ failed)
+IsShownStop before after failed fails count other = ⊥
+
+-- the writer failed; or the store did or memory was wanting, and so many bytes more were written
 abbrev pub IsRowsStop : List ℕ → List ℕ → ℕ → ℕ → ℕ → ℕ → DeskFault → Type 0
 IsRowsStop before after failed fails counted counts Write = failed < fails
 IsRowsStop before after failed fails counted counts (Stored fault) =
     (refusal fault ≡ None) × (fails ≡ failed) × CountsMore before after counted counts
+IsRowsStop before after failed fails counted counts Memory = (fails ≡ failed) × CountsMore before after counted counts
 IsRowsStop before after failed fails counted counts other = ⊥
 
 abbrev pub IsWalkStop : List ℕ → List ℕ → ℕ → ℕ → ℕ → DeskFault → Type 0
 IsWalkStop before after failed fails count Write = failed < fails
 IsWalkStop before after failed fails count (Stored fault) = (refusal fault ≡ None) × (fails ≡ failed) × HasWritten before after count
+IsWalkStop before after failed fails count Memory = (fails ≡ failed) × HasWritten before after count
 IsWalkStop before after failed fails count other = ⊥
 
 -- memory was wanting, or the database was at fault

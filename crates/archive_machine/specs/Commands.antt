@@ -2,7 +2,7 @@
 use Rattle.std.specs.Prelude.{ℕ, ℤ, List, Bool}
 use Rattle.mbox_core.specs.Division.{Item}
 
--- The nine commands. Persons, lists and messages are given by name, name and key; a rank is 1 to 3 as a grant's, a party
+-- The eleven commands. Persons, lists and messages are given by name, name and key; a rank is 1 to 3 as a grant's, a party
 -- is 1 for the author and 2 for the board.
 pub data Command : Type 0 where
   list_add : (name : List ℕ) → Command
@@ -14,6 +14,8 @@ pub data Command : Type 0 where
   restore : (list key : List ℕ) → Command
   embargo : (list key : List ℕ) (until_day : ℤ) → Command
   lift : (list key : List ℕ) → Command
+  merge_set : (list : List ℕ) (merge : Bool) → Command
+  address_set : (person address : List ℕ) → Command
 
 -- E1 to E13
 pub data Refusal : Type 0 where

@@ -1,5 +1,6 @@
 pub mod Records
 pub mod Tokens
+pub mod Addresses
 pub mod Keys
 pub mod Commands
 pub mod Questions

@@ -1,14 +1,15 @@
 -- What each command does to the archive, and what it answers. Of several refusals the first counts, in the order of the
 -- cases; a refusal leaves the archive as it was.
-use Rattle.std.specs.Prelude.{ℕ, ℤ, pos, int_lt, nat_lt, nat_le, List, [], ◌∷◌, ◌++◌, length, map, filter, not, if◌then◌else◌, Option, Some, None}
+use Rattle.std.specs.Prelude.{ℕ, ℤ, pos, Bool, true, int_lt, nat_lt, nat_le, List, [], ◌∷◌, ◌++◌, length, map, filter, not, if◌then◌else◌, Option, Some, None}
 use Rattle.policy_core.specs.Names.{is_name}
 use Rattle.mbox_core.specs.Division.{Item, whole}
-use Rattle.archive_machine.specs.Records.{Grant, Message, Archive}
-use Rattle.archive_machine.specs.Commands.{Command, list_add, person_add, grant, revoke, add, withdraw, restore, embargo, lift, Refusal, bad_name, bad_text, list_exists, no_list, person_exists, no_person, token_taken, no_message, already_withdrawn, not_withdrawn, bad_days, list_full, too_large, Reply, done, was_there, taken_in, already_known, refused}
+use Rattle.archive_machine.specs.Records.{Grant, Message, ListOption, Address, Archive}
+use Rattle.archive_machine.specs.Commands.{Command, list_add, person_add, grant, revoke, add, withdraw, restore, embargo, lift, merge_set, address_set, Refusal, bad_name, bad_text, list_exists, no_list, person_exists, no_person, token_taken, no_message, already_withdrawn, not_withdrawn, bad_days, list_full, too_large, Reply, done, was_there, taken_in, already_known, refused}
 use Rattle.archive_machine.specs.Tokens.{is_token}
+use Rattle.archive_machine.specs.Addresses.{is_address, kept_address}
 use Rattle.archive_machine.specs.Keys.{item_key}
 use Rattle.archive_machine.specs.Filing.{item_filing}
-use Rattle.archive_machine.specs.Questions.{has_list, has_person, has_token, is_grant, has_grant, messages_in, is_message, message_of, has_message, is_withdrawn, is_embargoed}
+use Rattle.archive_machine.specs.Questions.{has_list, has_person, has_token, is_grant, has_grant, is_option_of, is_address_of, has_address, messages_in, is_message, message_of, has_message, is_withdrawn, is_embargoed}
 
 -- the archive afterwards, and the answer
 abbrev pub Outcome : Type 0
@@ -19,11 +20,15 @@ refuse archive refusal = (archive, refused refusal)
 
 -- ---- lists and persons
 
+-- the option with which a list comes
+abbrev pub merging : List ℕ → ListOption
+merging list = record { list = list; merge = true }
+
 abbrev pub list_added : Archive → List ℕ → Outcome
 list_added archive name =
     if not (is_name name) then refuse archive bad_name
     else if has_list archive name then refuse archive list_exists
-    else (record archive { lists = archive.lists ++ name ∷ [] }, done)
+    else (record archive { lists = archive.lists ++ name ∷ []; options = archive.options ++ merging name ∷ [] }, done)
 
 abbrev pub person_added : Archive → List ℕ → List ℕ → Outcome
 person_added archive name token =
@@ -32,6 +37,30 @@ person_added archive name token =
     else if has_person archive name then refuse archive person_exists
     else if has_token archive token then refuse archive token_taken
     else (record archive { persons = archive.persons ++ record { name = name; token = token } ∷ [] }, done)
+
+-- the option of this list says this
+abbrev pub with_merge : List ℕ → Bool → ListOption → ListOption
+with_merge list merge o = if is_option_of list o then record o { merge = merge } else o
+
+abbrev pub merge_chosen : Archive → List ℕ → Bool → Outcome
+merge_chosen archive list merge =
+    if not (has_list archive list) then refuse archive no_list
+    else (record archive { options = map (with_merge list merge) archive.options }, done)
+
+-- the person's address is this
+abbrev pub readdressed : Address → Address → Address
+readdressed a old = if is_address_of a.person old then record old { address = a.address } else old
+
+-- the addresses with this one, which replaces that of its person
+abbrev pub with_address : Archive → Address → List Address
+with_address archive a =
+    if has_address archive a.person then map (readdressed a) archive.addresses else archive.addresses ++ a ∷ []
+
+abbrev pub address_given : Archive → List ℕ → List ℕ → Outcome
+address_given archive person address =
+    if not (has_person archive person) then refuse archive no_person
+    else if not (is_address address) then refuse archive bad_text
+    else (record archive { addresses = with_address archive (record { person = person; address = kept_address address }) }, done)
 
 -- ---- grants
 
@@ -91,7 +120,7 @@ with_message archive list item = with_keyed archive list (item_key item) item
 
 -- bytes of the longest whole text that is taken in
 abbrev pub longest_text : ℕ
-longest_text = 4194304
+longest_text = 16_777_216
 
 -- A whole text that is longer is refused. A message whose key the list holds is known, and nothing changes.
 -- A list that holds as many messages as the limit takes no more.
@@ -158,3 +187,5 @@ step archive (withdraw list key party) = withdrawal archive list key party
 step archive (restore list key) = restored archive list key
 step archive (embargo list key until_day) = held_back archive list key until_day
 step archive (lift list key) = lifted archive list key
+step archive (merge_set list merge) = merge_chosen archive list merge
+step archive (address_set person address) = address_given archive person address

@@ -1,10 +1,11 @@
 -- What is asked of the archive.
-use Rattle.std.specs.Prelude.{if◌then◌else◌, ℕ, ℤ, pos, int_le, List, [], ◌∷◌, map, filter, find, bytes_eq, Bool, false, not, ◌&&◌, Option, Some, None, is_some, option_map, IsSorted, IsPermutation}
+use Rattle.std.specs.Prelude.{if◌then◌else◌, ℕ, ℤ, pos, int_le, List, [], ◌∷◌, map, filter, find, bytes_eq, Bool, true, false, not, ◌&&◌, Option, Some, None, is_some, option_map, IsSorted, IsPermutation}
 use Rattle.std.specs.List.{list_any}
 use Rattle.std.specs.Int.{int_max}
+use Rattle.std.specs.Option.{option_map_or}
 use Rattle.std.specs.Ordering.{int_eq, is_lt, nat_cmp}
 use Rattle.std.specs.Cmp.Lexicographic.{slice_cmp}
-use Rattle.archive_machine.specs.Records.{Grant, Message, Archive}
+use Rattle.archive_machine.specs.Records.{Grant, Message, ListOption, Address, Archive}
 use Rattle.archive_machine.specs.Commands.{Refusal, no_list, no_person}
 
 -- ---- lists and persons
@@ -39,6 +40,29 @@ has_token archive token = list_any (λ p. bytes_eq p.token token) archive.person
 -- the name of the person who has this token
 abbrev pub person_of_token : Archive → List ℕ → Option (List ℕ)
 person_of_token archive token = option_map (λ p. p.name) (find (λ p. bytes_eq p.token token) archive.persons)
+
+-- ---- what is told of lists and persons
+
+abbrev pub is_option_of : List ℕ → ListOption → Bool
+is_option_of list o = bytes_eq o.list list
+
+-- whether the threads of a list are gathered by subject
+abbrev pub merge_of : Archive → List ℕ → Bool
+merge_of archive list = option_map_or (λ (o : ListOption). o.merge) (find (is_option_of list) archive.options) true
+
+abbrev pub is_address_of : List ℕ → Address → Bool
+is_address_of person a = bytes_eq a.person person
+
+abbrev pub has_address : Archive → List ℕ → Bool
+has_address archive person = list_any (is_address_of person) archive.addresses
+
+-- the address of a person, who may have none
+abbrev pub address_of : Archive → List ℕ → Option (List ℕ)
+address_of archive person = option_map (λ (a : Address). a.address) (find (is_address_of person) archive.addresses)
+
+-- why a question on a person is not answered
+abbrev pub person_refusal : Archive → List ℕ → Option Refusal
+person_refusal archive person = if not (has_person archive person) then Some no_person else None
 
 -- ---- grants
 

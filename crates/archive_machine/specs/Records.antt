@@ -1,5 +1,5 @@
 -- What the archive remembers: lists of records, each in the order in which they came.
-use Rattle.std.specs.Prelude.{ℕ, ℤ, List, Option}
+use Rattle.std.specs.Prelude.{ℕ, ℤ, Bool, List, Option}
 
 -- a person, and the token by which a request shows who asks (RFC 6750)
 pub record Person : Type 0 where
@@ -33,10 +33,23 @@ pub record Filing : Type 0 where
   pub month : ℤ
   pub author : List ℕ
 
--- the filings are those of the messages, in the same order
+-- how the threads of a list are made: whether those of one subject are gathered (RFC 5256, THREAD=REFERENCES, step 5)
+pub record ListOption : Type 0 where
+  pub list : List ℕ
+  pub merge : Bool
+
+-- the address of a person, in ASCII lower case
+pub record Address : Type 0 where
+  pub person : List ℕ
+  pub address : List ℕ
+
+-- The filings are those of the messages, in the same order. Each list has one option, which comes with it; a person has an
+-- address where one was given.
 pub record Archive : Type 0 where
   pub lists : List (List ℕ)
   pub persons : List Person
   pub grants : List Grant
   pub messages : List Message
   pub filings : List Filing
+  pub options : List ListOption
+  pub addresses : List Address

@@ -4,9 +4,10 @@ use Rattle.std.specs.List.{All, AllPairs}
 use Rattle.policy_core.specs.Names.{is_name}
 use Rattle.mbox_core.specs.Division.{Item, is_whole}
 use Rattle.mbox_core.specs.Written.{IsItem}
-use Rattle.archive_machine.specs.Records.{Grant, Message, Archive}
+use Rattle.archive_machine.specs.Records.{Grant, Message, ListOption, Address, Archive}
 use Rattle.archive_machine.specs.Commands.{Command, add}
 use Rattle.archive_machine.specs.Tokens.{is_token}
+use Rattle.archive_machine.specs.Addresses.{is_address}
 use Rattle.archive_machine.specs.Keys.{key_of}
 use Rattle.archive_machine.specs.Filing.{message_filing}
 
@@ -45,17 +46,23 @@ grant_name g = (g.person, g.list, g.rank)
 abbrev pub message_name : Message → List ℕ × List ℕ
 message_name m = (m.list, m.key)
 
--- No two lists have one name, no two persons one name or one token, no two grants one person, list and rank, and no two
--- messages one list and key.
+-- No two lists have one name, no two persons one name or one token, no two grants one person, list and rank, no two
+-- messages one list and key, and no two addresses one person.
 pub record HasNamesApart (archive : Archive) : Type 0 where
   pub lists : AreApart (λ list. list) archive.lists
   pub persons : AreApart (λ person. person.name) archive.persons
   pub tokens : AreApart (λ person. person.token) archive.persons
   pub grants : AreApart grant_name archive.grants
   pub messages : AreApart message_name archive.messages
+  pub addresses : AreApart (λ (a : Address). a.person) archive.addresses
 
--- lists and persons have names, and persons have tokens
+-- Each list has one option, and there is no other.
+abbrev pub HasOptionEach : Archive → Type 0
+HasOptionEach archive = map (λ (o : ListOption). o.list) archive.options ≡ archive.lists
+
+-- lists and persons have names, persons have tokens, and addresses are such
 pub record HasNamesAndTokens (archive : Archive) : Type 0 where
   pub lists : All (λ list. is_name list ≡ true) archive.lists
   pub persons : All (λ person. is_name person.name ≡ true) archive.persons
   pub tokens : All (λ person. is_token person.token ≡ true) archive.persons
+  pub addresses : All (λ (a : Address). is_address a.address ≡ true) archive.addresses

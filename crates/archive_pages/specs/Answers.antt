@@ -1,12 +1,12 @@
 -- The reply to a request, as a function of the archive, the policy, the day and the head (RFC 9110, RFC 9112; RFC 6750, section
 -- 3; profile: the routes and the order of the checks).
-use Rattle.std.specs.Prelude.{ℕ, ℤ, List, map, Option, Some, None, option_map, if◌then◌else◌}
+use Rattle.std.specs.Prelude.{ℕ, ℤ, Bool, List, map, Option, Some, None, option_map, if◌then◌else◌}
 use Rattle.std.specs.Option.{option_map_or}
 use Rattle.httparse.specs.Grammar.{RequestHead}
 use Rattle.civil_time.specs.Calendar.{month_of_text}
 use Rattle.policy_core.specs.Rules.{Rule}
 use Rattle.archive_machine.specs.Records.{Archive}
-use Rattle.archive_machine.specs.Questions.{has_list, list_names, person_of_token}
+use Rattle.archive_machine.specs.Questions.{has_list, list_names, merge_of, person_of_token}
 use Rattle.archive_machine.specs.Keys.{is_key}
 use Rattle.archive_results.specs.Access.{Ask, Asked, served, denied_by, absent, asked_of, view_of}
 use Rattle.archive_results.specs.Shown.{Shown, shown_of}
@@ -44,32 +44,37 @@ keyed_reply archive ask key = if is_key key then asked_reply (asked_of archive a
 abbrev pub month_reply : (list text : List ℕ) → List Shown → Reply
 month_reply list text view = option_map_or (λ m. page_reply (month_page list m (month_lines m view))) (month_of_text text) not_found
 
-abbrev pub thread_reply : (list key : List ℕ) → List Shown → Reply
-thread_reply list key view =
-    option_map_or (λ rows. page_reply (thread_page list rows)) (if is_key key then thread_lines key view else None) not_found
+abbrev pub thread_reply : (merge : Bool) (list key : List ℕ) → List Shown → Reply
+thread_reply merge list key view =
+    option_map_or (λ rows. page_reply (thread_page list rows)) (if is_key key then thread_lines merge key view else None) not_found
 
--- of every other route on a list: a function of what the reader is shown, alone
-abbrev pub view_reply : Route → List Shown → Reply
-view_reply lists view = not_found
-view_reply (message list key) view = not_found
-view_reply (month list text) view = month_reply list text view
-view_reply (threads list) view = page_reply (threads_page list (tree_lines view))
-view_reply (thread list key) view = thread_reply list key view
-view_reply (author list key) view = page_reply (author_page list key (author_lines key view))
-view_reply (mbox list) view = mbox_reply (export_text view)
+-- of every other route on a list: a function of what the reader is shown and of the list's way of threading, alone
+abbrev pub view_reply : (merge : Bool) → Route → List Shown → Reply
+view_reply merge lists view = not_found
+view_reply merge (message list key) view = not_found
+view_reply merge (month list text) view = month_reply list text view
+view_reply merge (threads list) view = page_reply (threads_page list (tree_lines merge view))
+view_reply merge (thread list key) view = thread_reply merge list key view
+view_reply merge (author list key) view = page_reply (author_page list key (author_lines key view))
+view_reply merge (mbox list) view = mbox_reply (export_text view)
 
 -- where the list is there
 abbrev pub listed_reply : Archive → (list : List ℕ) → Reply → Reply
 listed_reply archive list reply = if has_list archive list then reply else not_found
 
+-- of a route on this list, where it is there
+abbrev pub list_reply : Archive → (ask_of : List ℕ → Ask) → (list : List ℕ) → Route → Reply
+list_reply archive ask_of list route =
+    listed_reply archive list (view_reply (merge_of archive list) route (shown_view archive (ask_of list)))
+
 abbrev pub route_reply : Archive → (ask_of : List ℕ → Ask) → Route → Reply
 route_reply archive ask_of lists = page_reply (lists_page (list_names archive))
 route_reply archive ask_of (message list key) = listed_reply archive list (keyed_reply archive (ask_of list) key)
-route_reply archive ask_of (month list text) = listed_reply archive list (view_reply (month list text) (shown_view archive (ask_of list)))
-route_reply archive ask_of (threads list) = listed_reply archive list (view_reply (threads list) (shown_view archive (ask_of list)))
-route_reply archive ask_of (thread list key) = listed_reply archive list (view_reply (thread list key) (shown_view archive (ask_of list)))
-route_reply archive ask_of (author list key) = listed_reply archive list (view_reply (author list key) (shown_view archive (ask_of list)))
-route_reply archive ask_of (mbox list) = listed_reply archive list (view_reply (mbox list) (shown_view archive (ask_of list)))
+route_reply archive ask_of (month list text) = list_reply archive ask_of list (month list text)
+route_reply archive ask_of (threads list) = list_reply archive ask_of list (threads list)
+route_reply archive ask_of (thread list key) = list_reply archive ask_of list (thread list key)
+route_reply archive ask_of (author list key) = list_reply archive ask_of list (author list key)
+route_reply archive ask_of (mbox list) = list_reply archive ask_of list (mbox list)
 
 -- ---- the checks, in their order
 

@@ -1,14 +1,20 @@
 -- What the replies are, in words of the policy and of the results.
-use Rattle.std.specs.Prelude.{◌≡◌, ◌↔◌, ◌⊎◌, ℕ, ℤ, Bool, true, false, List, ◌∷◌, ◌++◌, codes, Option, Some, None, is_some}
+use Rattle.std.specs.Prelude.{◌≡◌, ◌≢◌, ◌↔◌, ◌⊎◌, ℕ, ℤ, Bool, true, false, List, ◌∷◌, ◌++◌, codes, Option, Some, None, is_some}
 use Rattle.std.specs.List.{AllByRecursion}
 use Rattle.httparse.specs.Grammar.{RequestHead}
 use Rattle.civil_time.specs.Calendar.{month_of_text}
 use Rattle.policy_core.specs.Facts.{Facts}
 use Rattle.policy_core.specs.Rules.{Rule, fits}
+use Rattle.policy_core.specs.declared.access.Withdrawn.{Withdrawn}
+use Rattle.policy_core.specs.declared.access.Withdrawn.TheVariants.{No}
 use Rattle.archive_machine.specs.Records.{Archive, Message}
-use Rattle.archive_machine.specs.Questions.{has_list, list_names, message_of}
+use Rattle.archive_machine.specs.Commands.{withdraw, done}
+use Rattle.archive_machine.specs.Machine.{step}
+use Rattle.archive_machine.specs.Messages.{number_of}
+use Rattle.archive_machine.specs.Questions.{has_list, list_names, merge_of, message_of}
 use Rattle.archive_machine.specs.Keys.{is_key}
 use Rattle.archive_results.specs.Access.{Ask, facts_of, marks_of, reader_marks, is_shown}
+use Rattle.archive_results.specs.Promise.{without, IsOfAnother, DeniesWithdrawn}
 use Rattle.archive_results.specs.Results.{TreeLine, month_lines, author_lines, tree_lines, thread_lines, export_text}
 use Rattle.archive_html.specs.Pages.{month_page, author_page, threads_page, thread_page}
 use Rattle.archive_requests.specs.Requests.{asks, request_of}
@@ -37,7 +43,7 @@ pub record AsksForMessage (archive : Archive) (head : RequestHead) (reader : Opt
 
 -- the facts of a message, on which the rules decide
 abbrev pub facts_on : Archive → Ask → Message → Facts
-facts_on archive ask m = facts_of ask (reader_marks archive ask) (marks_of m)
+facts_on archive ask m = facts_of ask (reader_marks archive ask) (marks_of (reader_marks archive ask).address m)
 
 -- no rule fits
 abbrev pub NoneFits : List Rule → Facts → Type 0
@@ -99,9 +105,9 @@ pub record ShowsWhatIsAllowed (archive : Archive) (rules : List Rule) (day : ℤ
   pub of_author : (reader : Option (List ℕ)) (list key : List ℕ) → AsksFor archive head reader (author list key) → has_list archive list ≡ true
       → reply_of archive rules day head ≡ page_reply (author_page list key (author_lines key (shown_view archive (asking rules day reader list))))
   pub of_threads : (reader : Option (List ℕ)) (list : List ℕ) → AsksFor archive head reader (threads list) → has_list archive list ≡ true
-      → reply_of archive rules day head ≡ page_reply (threads_page list (tree_lines (shown_view archive (asking rules day reader list))))
+      → reply_of archive rules day head ≡ page_reply (threads_page list (tree_lines (merge_of archive list) (shown_view archive (asking rules day reader list))))
   pub of_thread : (reader : Option (List ℕ)) (list key : List ℕ) (rows : List TreeLine) → AsksFor archive head reader (thread list key)
-      → has_list archive list ≡ true → is_key key ≡ true → thread_lines key (shown_view archive (asking rules day reader list)) ≡ Some rows
+      → has_list archive list ≡ true → is_key key ≡ true → thread_lines (merge_of archive list) key (shown_view archive (asking rules day reader list)) ≡ Some rows
       → reply_of archive rules day head ≡ page_reply (thread_page list rows)
   pub of_mbox : (reader : Option (List ℕ)) (list : List ℕ) → AsksFor archive head reader (mbox list) → has_list archive list ≡ true
       → reply_of archive rules day head ≡ mbox_reply (export_text (shown_view archive (asking rules day reader list)))
@@ -128,11 +134,13 @@ is_of_message (thread list key) = false
 is_of_message (author list key) = false
 is_of_message (mbox list) = false
 
--- Two archives with the same list names, asked for one path by one token, which is a person's in both or in neither. What the two
--- readers are shown of the list that the path names is equal in key, sender, arrival and whole text.
+-- Two archives with the same list names, asked for one path by one token, which is a person's in both or in neither. The list that
+-- the path names is threaded alike in both, and what the two readers are shown of it is equal in key, sender, arrival and whole
+-- text.
 pub record LookAlike (rules : List Rule) (day : ℤ) (token : Option (List ℕ)) (path : List ℕ) (a b : Archive) : Type 0 where
   pub names : list_names a ≡ list_names b
   pub known : is_some (reader_of a token) ≡ is_some (reader_of b token)
+  pub merges : (route : Route) (list : List ℕ) → route_of path ≡ Some route → list_of route ≡ Some list → merge_of a list ≡ merge_of b list
   pub views : (route : Route) (list : List ℕ) (x y : Option (List ℕ)) → route_of path ≡ Some route → list_of route ≡ Some list
       → reader_of a token ≡ Some x → reader_of b token ≡ Some y
       → shown_view a (asking rules day x list) ≡ shown_view b (asking rules day y list)
@@ -143,3 +151,23 @@ EqualViews = (rules : List Rule) (day : ℤ) (head : RequestHead) (a b : Archive
     → ((token : Option (List ℕ)) (path : List ℕ) → request_of head ≡ asks token path → LookAlike rules day token path a b
     × ((route : Route) → route_of path ≡ Some route → is_of_message route ≡ false))
     → reply_of a rules day head ≡ reply_of b rules day head
+
+-- ---- what an author is promised
+
+-- no message is asked for by its key
+abbrev pub AsksForNoMessage : RequestHead → Type 0
+AsksForNoMessage head = (token : Option (List ℕ)) (path : List ℕ) (route : Route) → request_of head ≡ asks token path → route_of path ≡ Some route
+    → is_of_message route ≡ false
+
+-- Whoever asks did not write the message, and to them the policy denies what is withdrawn on the list that they ask for.
+abbrev pub IsAskedByOthers : Archive → List Rule → (day : ℤ) → RequestHead → (list key : List ℕ) → Type 0
+IsAskedByOthers archive rules day head list key = (reader : Option (List ℕ)) (route : Route) (asked : List ℕ) → AsksFor archive head reader route
+    → list_of route ≡ Some asked
+    → IsOfAnother archive (asking rules day reader asked) list key
+    × DeniesWithdrawn (asking rules day reader asked) (reader_marks archive (asking rules day reader asked))
+
+-- Once the message is withdrawn, by its author or the board, the reply to such a request is that of the archive in which it never came.
+abbrev pub IsAsIfItNeverCame : Type 0
+IsAsIfItNeverCame = (archive : Archive) (rules : List Rule) (day : ℤ) (head : RequestHead) (list key : List ℕ) (by : Withdrawn) → by ≢ No
+    → (step archive (withdraw list key (number_of by))).1 ≡ done → AsksForNoMessage head → IsAskedByOthers archive rules day head list key
+    → reply_of (step archive (withdraw list key (number_of by))).0 rules day head ≡ reply_of (without archive list key) rules day head

@@ -1,18 +1,19 @@
 -- Who may read which message: the view of a reader is the messages of a list that the policy allows. (profile: the archive's
 -- own rules of access)
-use Rattle.std.specs.Prelude.{ℕ, ℤ, pos, List, Bool, true, false, not, filter, Option, Some, None, if◌then◌else◌}
+use Rattle.std.specs.Prelude.{◌≡◌, ℕ, ℤ, pos, List, Bool, true, false, not, ◌&&◌, filter, bytes_eq, Option, Some, None, is_some, if◌then◌else◌}
 use Rattle.std.specs.Ordering.{int_eq}
-use Rattle.std.specs.Option.{option_map_or}
+use Rattle.std.specs.Option.{option_map_or, option_and_then}
 use Rattle.civil_time.specs.Calendar.{day_of_instant}
+use Rattle.mail_core.specs.Author.{author_of}
 use Rattle.policy_core.specs.declared.access.Standing.{Standing}
 use Rattle.policy_core.specs.declared.access.Standing.TheVariants.{Public, Member, Subscriber, Moderator}
 use Rattle.policy_core.specs.declared.access.Withdrawn.{Withdrawn}
 use Rattle.policy_core.specs.declared.access.Withdrawn.TheVariants.{No, Author, Board}
 use Rattle.policy_core.specs.Facts.{Facts}
-use Rattle.policy_core.specs.Rules.{Rule}
+use Rattle.policy_core.specs.Rules.{Rule, asks_own}
 use Rattle.policy_core.specs.Verdict.{Ruling, allowed, denied, verdict_of}
 use Rattle.archive_machine.specs.Records.{Message, Archive}
-use Rattle.archive_machine.specs.Questions.{has_list, has_person, standing_of, messages_in, message_of}
+use Rattle.archive_machine.specs.Questions.{has_list, has_person, address_of, standing_of, messages_in, message_of}
 use Rattle.archive_results.specs.declared.asking.Reader.{Reader}
 use Rattle.archive_results.specs.declared.asking.Reader.TheVariants.{Nobody, Person}
 use Rattle.archive_results.specs.declared.asking.Asked.{Asked as Told}
@@ -48,21 +49,34 @@ withdrawal_numbered number = if int_eq number (pos 2) then Board else if int_eq 
 abbrev pub reader_standing : Archive → Ask → Standing
 reader_standing archive ask = option_map_or (λ person. standing_ranked (standing_of archive person ask.list ask.day)) ask.reader Public
 
--- What a policy asks of a reader: the standing on the list and the day.
+-- What a policy asks of a reader: the standing on the list and the day, and the address of a person who has one.
 pub record ReaderMarks : Type 0 where
   pub standing : Standing
+  pub address : Option (List ℕ)
 
 abbrev pub reader_marks : Archive → Ask → ReaderMarks
-reader_marks archive ask = record { standing = reader_standing archive ask }
+reader_marks archive ask =
+    record { standing = reader_standing archive ask; address = option_and_then (address_of archive) ask.reader }
 
--- What a policy asks of a message: when it came, who withdrew it, and the day up to which it is held back.
+-- A message is the own one of a reader with this address: it is the message's author key. Who has no address has no own message.
+abbrev pub own_of : (address : Option (List ℕ)) → Message → Bool
+own_of address m = option_map_or (λ a. bytes_eq a (author_of m.text)) address false
+
+-- What a policy asks of a message: when it came, who withdrew it, the day up to which it is held back, and whether it is the
+-- reader's own.
 pub record Marks : Type 0 where
   pub arrival : ℤ
   pub withdrawn : Withdrawn
   pub embargo_until : Option ℤ
+  pub own : Bool
 
-unfoldable pub marks_of : Message → Marks
-marks_of m = record { arrival = m.arrival; withdrawn = withdrawal_numbered m.withdrawn; embargo_until = m.embargo }
+unfoldable pub marks_of : (address : Option (List ℕ)) → Message → Marks
+marks_of address m = record {
+  arrival = m.arrival;
+  withdrawn = withdrawal_numbered m.withdrawn;
+  embargo_until = m.embargo;
+  own = own_of address m;
+}
 
 abbrev pub facts_of : Ask → ReaderMarks → Marks → Facts
 facts_of ask reader marks = record {
@@ -72,6 +86,7 @@ facts_of ask reader marks = record {
   arrival_day = day_of_instant marks.arrival;
   withdrawn = marks.withdrawn;
   embargo_until = marks.embargo_until;
+  own = marks.own;
 }
 
 -- what the policy says of a message of these marks to a reader of these
@@ -86,7 +101,19 @@ abbrev pub allows : Ask → ReaderMarks → Marks → Bool
 allows ask reader marks = is_allowance (ruling_on ask reader marks)
 
 abbrev pub is_shown : Ask → ReaderMarks → Message → Bool
-is_shown ask reader m = allows ask reader (marks_of m)
+is_shown ask reader m = allows ask reader (marks_of reader.address m)
+
+-- who wrote a message matters: a rule asks whether it is the reader's own, and the reader has an address
+abbrev pub asks_author : Ask → ReaderMarks → Bool
+asks_author ask reader = asks_own ask.rules && is_some reader.address
+
+-- ---- own messages, in words
+
+-- A message is the reader's own: the reader is a person, and this person's address is the message's author key.
+pub record IsOwn (archive : Archive) (ask : Ask) (m : Message) : Type 0 where
+  pub person : List ℕ
+  pub reader : ask.reader ≡ Some person
+  pub address : address_of archive person ≡ Some (author_of m.text)
 
 -- ---- the view, and one message
 
@@ -106,7 +133,7 @@ asked_by m (denied rule) = denied_by rule
 
 -- of the message that the list holds, if it does
 abbrev pub asked_on : Ask → ReaderMarks → Option Message → Asked
-asked_on ask reader held = option_map_or (λ m. asked_by m (ruling_on ask reader (marks_of m))) held absent
+asked_on ask reader held = option_map_or (λ m. asked_by m (ruling_on ask reader (marks_of reader.address m))) held absent
 
 abbrev pub asked_of : Archive → Ask → (key : List ℕ) → Asked
 asked_of archive ask key = asked_on ask (reader_marks archive ask) (message_of archive ask.list key)

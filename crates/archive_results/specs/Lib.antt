@@ -4,3 +4,4 @@ pub mod Results
 pub mod Index
 pub mod Slots
 pub mod Filed
+pub mod Promise

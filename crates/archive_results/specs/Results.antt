@@ -1,5 +1,5 @@
 -- What is shown of a view. Each is a function of the view alone, so that nothing of a message that is not in it can show.
-use Rattle.std.specs.Prelude.{ℕ, ◌-◌, ◌==◌, int_lt, Bool, true, List, [], ◌∷◌, map, filter, take, drop, position, slice_get, bytes_eq, Option, option_map, if◌then◌else◌}
+use Rattle.std.specs.Prelude.{ℕ, ◌-◌, ◌==◌, int_lt, Bool, List, [], ◌∷◌, map, filter, take, drop, position, slice_get, bytes_eq, Option, option_map, if◌then◌else◌}
 use Rattle.std.specs.List.{list_any}
 use Rattle.std.specs.Option.{option_and_then}
 use Rattle.civil_time.specs.Calendar.{month_of_instant}
@@ -50,13 +50,13 @@ pub record TreeLine : Type 0 where
 abbrev pub tree_line : List Line → Row → TreeLine
 tree_line lines row = record { depth = row.depth; line = option_and_then (slice_get lines) row.place }
 
--- profile: gathered by subject
-abbrev pub rows_of : List Shown → List Row
-rows_of view = threads_of (map (λ s. entry_of s.item) view) true
+-- the rows of the threads; `merge` says whether those of one subject are gathered, which is the list's own choice
+abbrev pub rows_of : (merge : Bool) → List Shown → List Row
+rows_of merge view = threads_of (map (λ s. entry_of s.item) view) merge
 
--- all threads (RFC 5256, section 3, THREAD=REFERENCES)
-abbrev pub tree_lines : List Shown → List TreeLine
-tree_lines view = map (tree_line (lines_of view)) (rows_of view)
+-- all threads (RFC 5256, section 3, THREAD=REFERENCES; without step 5 where they are not gathered)
+abbrev pub tree_lines : (merge : Bool) → List Shown → List TreeLine
+tree_lines merge view = map (tree_line (lines_of view)) (rows_of merge view)
 
 -- the elements of a range: from its first, up to the one before its end
 abbrev pub within : {X : Type 0} → ℕ × ℕ → List X → List X
@@ -70,9 +70,9 @@ abbrev pub holds : (key : List ℕ) → List Shown → Bool
 holds key view = list_any (λ s. bytes_eq s.key key) view
 
 -- The rows of the top thread that holds a message; none where the view does not hold it.
-abbrev pub thread_lines : (key : List ℕ) → List Shown → Option (List TreeLine)
-thread_lines key view = option_map (λ range. map (tree_line (lines_of view)) (within range (rows_of view)))
-    (option_and_then (top_thread_of (rows_of view)) (place_of key (lines_of view)))
+abbrev pub thread_lines : (merge : Bool) (key : List ℕ) → List Shown → Option (List TreeLine)
+thread_lines merge key view = option_map (λ range. map (tree_line (lines_of view)) (within range (rows_of merge view)))
+    (option_and_then (top_thread_of (rows_of merge view)) (place_of key (lines_of view)))
 
 -- ---- mbox (RFC 4155)
 

@@ -22,7 +22,7 @@ pub record Asked : Type 0 where
   pub day : ℤ
   pub min_age : Option ℕ
 
--- a message of an mbox is not withdrawn and has no embargo
+-- a message of an mbox is not withdrawn and has no embargo, and is nobody's own
 abbrev pub facts_of : Asked → Item → Facts
 facts_of asked item = record {
   list = asked.list;
@@ -31,6 +31,7 @@ facts_of asked item = record {
   arrival_day = day_of_instant item.envelope.arrival;
   withdrawn = No;
   embargo_until = None;
+  own = false;
 }
 
 abbrev pub is_old_enough : Option ℕ → Facts → Bool

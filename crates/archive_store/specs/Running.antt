@@ -5,7 +5,7 @@ use Rattle.sqlite.specs.Store.{Ghosts}
 use Rattle.sqlite.specs.Held.{Held, state}
 use Rattle.sqlite.specs.State.{State, HasCleanDisk}
 use Rattle.archive_machine.specs.Records.{Archive}
-use Rattle.archive_machine.specs.Commands.{Command as Told, list_add, person_add, grant, revoke, add, withdraw, restore, embargo, lift, Reply, done, was_there, no_list, refused}
+use Rattle.archive_machine.specs.Commands.{Command as Told, list_add, person_add, grant, revoke, add, withdraw, restore, embargo, lift, merge_set, address_set, Reply, done, was_there, no_list, refused}
 use Rattle.archive_machine.specs.Questions.{has_list, messages_in}
 use Rattle.archive_machine.specs.Machine.{Outcome as Made}
 use Rattle.archive_machine.specs.Runs.{Run, run}
@@ -15,7 +15,7 @@ use Rattle.archive_store.specs.Words.{rank_of, party_of, added_reply}
 use Rattle.archive_store.specs.Replies.{refusal, Steps}
 use Rattle.archive_store.specs.declared.faults.StoreFault.{StoreFault}
 use Rattle.archive_store.specs.declared.running.Command.{Command}
-use Rattle.archive_store.specs.declared.running.Command.TheVariants.{ListAdd, PersonAdd, Grant, Revoke, Add, Withdraw, Restore, Embargo, Lift}
+use Rattle.archive_store.specs.declared.running.Command.TheVariants.{ListAdd, PersonAdd, Grant, Revoke, Add, Withdraw, Restore, Embargo, Lift, MergeSet, AddressSet}
 use Rattle.archive_store.specs.declared.running.Outcome.{Outcome}
 use Rattle.archive_store.specs.declared.running.Outcome.TheVariants.{Done, WasThere, Added, Refused}
 use Rattle.archive_store.specs.declared.running.RunStop.{RunStop}
@@ -31,6 +31,8 @@ command_of (Withdraw list key by) = withdraw list.now key.now (party_of by)
 command_of (Restore list key) = restore list.now key.now
 command_of (Embargo list key until) = embargo list.now key.now until
 command_of (Lift list key) = lift list.now key.now
+command_of (MergeSet list merge) = merge_set list.now merge
+command_of (AddressSet person address) = address_set person.now address.now
 
 -- the machine's answer that an outcome stands for
 abbrev pub answer_of : Outcome → Option Reply

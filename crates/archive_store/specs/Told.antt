@@ -1,6 +1,5 @@
 -- The words in which the layers above speak of a store: they name neither its tables nor its database.
-use Rattle.std.specs.Prelude.{◌≡◌, ℕ, ⊤, IsTrue, Option, None, Some, Result, MatchResult, MatchOption}
-use Rattle.std.specs.Prelude.{◌≡◌, ◌⊎◌, ℕ, IsTrue, Option, None, Some, Result, IfErr, MatchResult, MatchOption}
+use Rattle.std.specs.Prelude.{◌≡◌, ◌⊎◌, ℕ, ⊤, IsTrue, Option, None, Some, Result, IfErr, MatchResult, MatchOption}
 use Rattle.sqlite_disk.specs.Disk.{MoreFaults}
 use Rattle.sqlite.specs.Store.{Ghosts}
 use Rattle.sqlite.specs.Held.{Held, state}

@@ -1,5 +1,5 @@
 -- How the tables are made: all within one transaction, so that all of them are there or none.
-use Rattle.std.specs.Prelude.{◌≡◌, ◌⊎◌, true, false, [], IsTrue, Result, OnErr}
+use Rattle.std.specs.Prelude.{◌≡◌, ◌⊎◌, ℕ, ℤ, true, false, [], IsTrue, Result, OnErr}
 use Rattle.std.specs.List.{AllByRecursion}
 use Rattle.sqlite.specs.declared.error.Error.{Error}
 use Rattle.sqlite.specs.Effect.{Database}
@@ -10,10 +10,11 @@ use Rattle.sqlite.specs.Store.{Ghosts}
 use Rattle.sqlite.specs.Table.{Table}
 use Rattle.archive_machine.specs.Records.{Archive}
 use Rattle.archive_tables.specs.Schema.{archive_schema}
-use Rattle.archive_tables.specs.Tables.{AreTables, archive_of}
+use Rattle.archive_tables.specs.Tables.{AreTablesWith, newest_number, archive_by}
+use Rattle.archive_tables.specs.declared.texts.schema.TheConstants.{VERSION}
 
 abbrev pub empty_archive : Archive
-empty_archive = record { lists = []; persons = []; grants = []; messages = []; filings = [] }
+empty_archive = record { lists = []; persons = []; grants = []; messages = []; filings = []; options = []; addresses = [] }
 
 -- the tables of this schema are there, without rows, in a transaction that goes back to this database
 pub record IsMaking (s : State) (schema : Schema) (before : Database) : Type 0 where
@@ -23,14 +24,25 @@ pub record IsMaking (s : State) (schema : Schema) (before : Database) : Type 0 w
   pub schema_is : s.now.schema ≡ schema
   pub empty : AllByRecursion (λ (t : Table). s.now.trees t.tree ≡ []) schema.tables
 
--- all is there but the commit
-pub record IsMade (s : State) (before : Database) : Type 0 where
+-- a transaction that goes back to this database, over this schema, whatever the rows are
+pub record IsWithin (s : State) (before : Database) (schema : Schema) : Type 0 where
+  pub within : s.in_transaction ≡ true
+  pub behind : s.committed ≡ before
+  pub schema_is : s.now.schema ≡ schema
+
+-- In a transaction that goes back to this database: tables of a version under this schema, which remember this archive, while
+-- `version` says this number.
+pub record IsMoving (s : State) (before : Database) (schema : Schema) (said : ℤ) (number : ℕ) (archive : Archive) : Type 0 where
   pub is_open : IsTrue s.is_open
   pub within : s.in_transaction ≡ true
   pub behind : s.committed ≡ before
-  pub schema_is : s.now.schema ≡ archive_schema
-  pub tables : AreTables s.now.trees
-  pub nothing : archive_of s ≡ empty_archive
+  pub schema_is : s.now.schema ≡ schema
+  pub tables : AreTablesWith said number s.now.trees
+  pub remembers : archive_by number s.now.trees ≡ archive
+
+-- all is there but the commit
+abbrev pub IsMade : State → Database → Archive → Type 0
+IsMade s before archive = IsMoving s before archive_schema VERSION newest_number archive
 
 -- a statement that fails changes nothing, or goes back to the last commit
 abbrev pub Stops : {S A : Type 0} → Ghosts S → Held S → Held S → Result A Error → Type 0

@@ -7,9 +7,9 @@ use Rattle.sqlite.specs.Tree.{Trees}
 use Rattle.sqlite.specs.declared.error.Error.{Error}
 use Rattle.sqlite.specs.declared.error.Error.TheVariants.{SqliteFailure, Utf8Error}
 use Rattle.sqlite.specs.declared.error.ErrorCode.TheVariants.{OutOfMemory}
-use Rattle.archive_machine.specs.Records.{Grant, Message}
+use Rattle.archive_machine.specs.Records.{Grant, Message, ListOption}
 use Rattle.archive_machine.specs.Filing.{Filed, is_filed_in_month, is_filed_by_author, is_sent_before}
-use Rattle.archive_tables.specs.Tables.{or_null, Numbered, read_of, filed_read}
+use Rattle.archive_tables.specs.Tables.{or_null, merge_number, Numbered, read_of, filed_read}
 use Rattle.archive_tables.specs.declared.rows.MessageRow.{MessageRow}
 use Rattle.archive_tables.specs.declared.rows.MarksRow.{MarksRow}
 use Rattle.archive_tables.specs.declared.rows.GrantRow.{GrantRow}
@@ -46,6 +46,10 @@ marks_shown m = Int m.withdrawn ∷ or_null m.embargo ∷ []
 
 abbrev pub marks_of : Message → MarksRow
 marks_of m = record { withdrawn = m.withdrawn; embargo = m.embargo }
+
+-- what is said of the threads of a list
+abbrev pub merge_shown : ListOption → Row
+merge_shown o = Int (merge_number o.merge) ∷ []
 
 -- a grant without its person and list
 abbrev pub grant_shown : Grant → Row

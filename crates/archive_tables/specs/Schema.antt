@@ -1,5 +1,5 @@
 -- The tables of the archive, as SQL texts and as the schema that these texts make.
-use Rattle.std.specs.Prelude.{true, false, ℕ, ℤ, pos, negsuc, List, [], ◌∷◌, Some, None, codes}
+use Rattle.std.specs.Prelude.{true, false, ℕ, ℤ, pos, negsuc, List, [], ◌∷◌, Some, None, codes, ◌==◌, if◌then◌else◌}
 use Rattle.sqlite.specs.declared.types.Value.TheVariants.{Null, Int}
 use Rattle.sqlite.specs.Collation.TheVariants.{Binary}
 use Rattle.sqlite.specs.Kind.{Kind}
@@ -38,6 +38,12 @@ create_month_index = codes "CREATE INDEX message_by_month ON message (list, mont
 
 abbrev pub create_author_index : List ℕ
 create_author_index = codes "CREATE INDEX message_by_author ON message (list, author, sent, pos)"
+
+abbrev pub create_option : List ℕ
+create_option = codes "CREATE TABLE list_option (list TEXT NOT NULL PRIMARY KEY REFERENCES list (name), merge INTEGER NOT NULL CHECK (merge BETWEEN 0 AND 1)) STRICT"
+
+abbrev pub create_address : List ℕ
+create_address = codes "CREATE TABLE address (person TEXT NOT NULL PRIMARY KEY REFERENCES person (name), address TEXT NOT NULL) STRICT"
 
 -- ---- what they define: a tree for the rows of each table, and one for each key that is no rowid
 
@@ -141,11 +147,31 @@ month_index = index_of (codes "message_by_month") (2 ∷ 10 ∷ 9 ∷ 0 ∷ [])
 abbrev pub author_index : Index
 author_index = index_of (codes "message_by_author") (2 ∷ 11 ∷ 9 ∷ 0 ∷ [])
 
+abbrev pub option_table : Table
+option_table = record (table (codes "list_option") 13 (needed (codes "list") Text ∷ needed (codes "merge") Integer ∷ [])) {
+  primary = 1 ∷ [];
+  uniques = (1 ∷ []) ∷ [];
+  orders = plain ∷ [];
+  checks = is_within (pos 0) (pos 1) 2 ∷ [];
+  references = names_row_of (codes "list") 1 ∷ [];
+}
+
+abbrev pub address_table : Table
+address_table = record (table (codes "address") 15 (needed (codes "person") Text ∷ needed (codes "address") Text ∷ [])) {
+  primary = 1 ∷ [];
+  uniques = (1 ∷ []) ∷ [];
+  orders = plain ∷ [];
+  references = names_row_of (codes "person") 1 ∷ [];
+}
+
+-- ---- the schema of each version: a table more behind those of the one before, so that a file that is brought over has the schema
+-- of one that is new
+
 abbrev pub no_schema : Schema
 no_schema = record { tables = []; indexes = []; views = [] }
 
-abbrev pub archive_schema : Schema
-archive_schema = record {
+abbrev pub schema_1 : Schema
+schema_1 = record {
   tables = version_table ∷ list_table ∷ person_table ∷ grant_table ∷ message_table ∷ sequence_table ∷ [];
   indexes =
       key_of (codes "sqlite_autoindex_list_1") 2 1 (1 ∷ []) ∷ key_of (codes "sqlite_autoindex_person_1") 4 3 (1 ∷ [])
@@ -154,7 +180,21 @@ archive_schema = record {
   views = [];
 }
 
--- ---- what is there after each of the texts
+abbrev pub schema_2 : Schema
+schema_2 = created schema_1 option_table
+
+abbrev pub schema_3 : Schema
+schema_3 = created schema_2 address_table
+
+-- that of the tables that this program makes
+abbrev pub archive_schema : Schema
+archive_schema = schema_3
+
+-- by the number of a version, 1 to 3
+abbrev pub schema_of : (number : ℕ) → Schema
+schema_of number = if number == 1 then schema_1 else if number == 2 then schema_2 else schema_3
+
+-- ---- what is there after each of the texts, up to the last of version 1
 
 abbrev pub with_version : Schema
 with_version = created no_schema version_table

@@ -1,7 +1,8 @@
 -- What the tables hold: each as a list of records, in the order of the rows' numbers. An update keeps a row's number, so this is
 -- the order in which the records came.
-use Rattle.std.specs.Prelude.{◌≡◌, ⊤, ℕ, ℤ, pos, int_le, Bool, true, false, IsTrue, List, [], ◌∷◌, map, Option, Some, None}
+use Rattle.std.specs.Prelude.{◌≡◌, ◌≤◌, ⊤, ℕ, ℤ, pos, int_le, nat_le, Bool, true, false, IsTrue, List, [], ◌∷◌, map, Option, Some, None, if◌then◌else◌}
 use Rattle.std.specs.List.{AllByRecursion, list_any}
+use Rattle.std.specs.Ordering.{int_eq}
 use Rattle.std.specs.declared.cmp.Ordering.TheVariants.{Less}
 use Rattle.sqlite.specs.declared.types.Value.{Value}
 use Rattle.sqlite.specs.declared.types.Value.TheVariants.{Null, Int, Text, Blob}
@@ -11,11 +12,11 @@ use Rattle.sqlite.specs.Edit.{id_in}
 use Rattle.sqlite.specs.Effect.{Database}
 use Rattle.sqlite.specs.Schema.{Schema}
 use Rattle.sqlite.specs.State.{State}
-use Rattle.archive_machine.specs.Records.{Person, Grant, Message, Filing, Archive}
+use Rattle.archive_machine.specs.Records.{Person, Grant, Message, Filing, ListOption, Address, Archive}
 use Rattle.archive_machine.specs.Filing.{Filed}
-use Rattle.archive_machine.specs.Questions.{is_grant, is_message}
-use Rattle.archive_tables.specs.Schema.{archive_schema}
-use Rattle.archive_tables.specs.declared.texts.schema.TheConstants.{VERSION}
+use Rattle.archive_machine.specs.Questions.{is_grant, is_message, is_option_of, is_address_of}
+use Rattle.archive_machine.specs.Machine.{merging}
+use Rattle.archive_tables.specs.Schema.{schema_of}
 
 -- ---- the columns of a record, and the record of a row; a row begins with its number
 
@@ -62,6 +63,22 @@ message_read row = record {
   withdrawn = id_in (column row 7);
   embargo = if_int (column row 8);
 }
+
+-- 1 where the threads of the list are gathered by subject
+abbrev pub merge_number : Bool → ℤ
+merge_number merge = if merge then pos 1 else pos 0
+
+abbrev pub option_cells : ListOption → Row
+option_cells o = Text o.list ∷ Int (merge_number o.merge) ∷ []
+
+abbrev pub option_read : Row → ListOption
+option_read row = record { list = bytes (column row 1); merge = int_eq (id_in (column row 2)) (pos 1) }
+
+abbrev pub address_cells : Address → Row
+address_cells a = Text a.person ∷ Text a.address ∷ []
+
+abbrev pub address_read : Row → Address
+address_read row = record { person = bytes (column row 1); address = bytes (column row 2) }
 
 -- ---- what is filed of a message
 
@@ -114,6 +131,12 @@ same_grant a b = is_grant a.person a.list a.rank b
 abbrev pub same_message : Message → Message → Bool
 same_message a b = is_message a.list a.key b
 
+abbrev pub same_option : ListOption → ListOption → Bool
+same_option a b = is_option_of a.list b
+
+abbrev pub same_address : Address → Address → Bool
+same_address a b = is_address_of a.person b
+
 -- ---- the database
 
 -- the row of a version's number
@@ -124,9 +147,26 @@ version_rows number = (Int (pos 1) ∷ Int number ∷ []) ∷ []
 abbrev pub IsOfVersion : ℤ → Trees → Type 0
 IsOfVersion number trees = (row : Row) × (trees 0 ≡ row ∷ []) × (column row 1 ≡ Int number)
 
--- the version is of this number, each table holds rows of its records, and no two grants or messages have the same key
-pub record AreTablesOf (number : ℤ) (trees : Trees) : Type 0 where
-  pub version : trees 0 ≡ version_rows number
+-- how many versions there are: 1 is the first, 2 brought `list_option`, and 3 `address`
+abbrev pub newest_number : ℕ
+newest_number = 3
+
+pub record IsKnown (number : ℕ) : Type 0 where
+  pub least : 1 ≤ number
+  pub most : number ≤ newest_number
+
+abbrev pub Where : Bool → Type 0 → Type 0
+Where true It = It
+Where false It = ⊤
+
+-- what a version brought holds of its tables, and of those of each later one
+abbrev pub Since : (first number : ℕ) → Type 0 → Type 0
+Since first number It = Where (nat_le first number) It
+
+-- The tables of a version, of which `version` says this number: each holds rows of its records, and no two grants, messages, options
+-- or addresses have the same key.
+pub record AreTablesWith (said : ℤ) (number : ℕ) (trees : Trees) : Type 0 where
+  pub version : trees 0 ≡ version_rows said
   pub lists : Holds list_cells list_read (trees 1)
   pub persons : Holds person_cells person_read (trees 3)
   pub grants : Holds grant_cells grant_read (trees 6)
@@ -134,19 +174,33 @@ pub record AreTablesOf (number : ℤ) (trees : Trees) : Type 0 where
   pub grants_apart : AreApart same_grant (map grant_read (trees 6))
   pub messages_apart : AreApart same_message (map message_read (trees 8))
   pub positive : ArePositive (trees 8)
+  pub options : Since 2 number (Holds option_cells option_read (trees 13))
+  pub options_apart : Since 2 number (AreApart same_option (map option_read (trees 13)))
+  pub addresses : Since 3 number (Holds address_cells address_read (trees 15))
+  pub addresses_apart : Since 3 number (AreApart same_address (map address_read (trees 15)))
+
+-- their number is that of the version
+abbrev pub AreTablesOf : ℕ → Trees → Type 0
+AreTablesOf number = AreTablesWith (pos number) number
 
 abbrev pub AreTables : Trees → Type 0
-AreTables = AreTablesOf VERSION
+AreTables = AreTablesOf newest_number
 
--- what a database remembers
-abbrev pub archive_in : Trees → Archive
-archive_in trees = record {
+-- What a database of a version remembers: before version 2 the threads of each list are gathered by subject, and before version 3
+-- nobody has an address.
+abbrev pub archive_by : (number : ℕ) → Trees → Archive
+archive_by number trees = record {
   lists = map list_read (trees 1);
   persons = map person_read (trees 3);
   grants = map grant_read (trees 6);
   messages = map message_read (trees 8);
   filings = map filing_read (trees 8);
+  options = if nat_le 2 number then map option_read (trees 13) else map merging (map list_read (trees 1));
+  addresses = if nat_le 3 number then map address_read (trees 15) else [];
 }
+
+abbrev pub archive_in : Trees → Archive
+archive_in = archive_by newest_number
 
 abbrev pub archive_of : State → Archive
 archive_of s = archive_in s.now.trees
@@ -159,9 +213,12 @@ pub record Form : Type 1 where
   pub IsOf : Trees → Type 0
   pub remembered : Trees → Archive
 
+abbrev pub form_of : (number : ℕ) → Form
+form_of number = record { schema = schema_of number; IsOf = AreTablesOf number; remembered = archive_by number }
+
 -- those that this program makes
 abbrev pub newest : Form
-newest = record { schema = archive_schema; IsOf = AreTables; remembered = archive_in }
+newest = form_of newest_number
 
 -- ---- outside a transaction (`None`), or within one that goes back to a database
 

@@ -51,8 +51,14 @@ grant_of_app name = with_word (with_word (with_word (table_app name) (codes "per
 unfoldable pub list_add_app : App
 list_add_app = with_word (table_app (codes "list-add")) (codes "name")
 
+unfoldable pub merge_app : App
+merge_app = with_word (with_word (table_app (codes "merge")) (codes "list")) (codes "merge")
+
 unfoldable pub person_add_app : App
 person_add_app = with_word (with_word (table_app (codes "person-add")) (codes "name")) (codes "token")
+
+unfoldable pub person_address_app : App
+person_address_app = with_word (with_word (table_app (codes "person-address")) (codes "person")) (codes "address")
 
 unfoldable pub grant_app : App
 grant_app = with_word (with_word (grant_of_app (codes "grant")) (codes "from")) (codes "until")
@@ -106,11 +112,15 @@ versioned app = record app { top = record app.top { has_version = true; no_binar
 unfoldable pub bare_app : App
 bare_app = versioned (new_app (codes "archive"))
 
--- `sift`, and the commands on lists and persons
+-- `sift`, and the commands on lists
+unfoldable pub list_app : App
+list_app = with_subcommand (with_subcommand (with_subcommand bare_app sift_app.top) list_add_app.top) merge_app.top
+
+-- those, and the commands on persons
 unfoldable pub person_app : App
 person_app =
-    with_subcommand (with_subcommand (with_subcommand (with_subcommand (with_subcommand bare_app sift_app.top)
-    list_add_app.top) person_add_app.top) grant_app.top) revoke_app.top
+    with_subcommand (with_subcommand (with_subcommand (with_subcommand list_app person_add_app.top)
+    person_address_app.top) grant_app.top) revoke_app.top
 
 -- those, and the commands on messages
 unfoldable pub mail_app : App
@@ -128,7 +138,9 @@ unfoldable pub app_named : Text → App
 app_named name =
     if bytes_eq name (codes "sift") then sift_app
     else if bytes_eq name (codes "list-add") then list_add_app
+    else if bytes_eq name (codes "merge") then merge_app
     else if bytes_eq name (codes "person-add") then person_add_app
+    else if bytes_eq name (codes "person-address") then person_address_app
     else if bytes_eq name (codes "grant") then grant_app
     else if bytes_eq name (codes "revoke") then revoke_app
     else if bytes_eq name (codes "import") then import_app

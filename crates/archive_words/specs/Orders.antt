@@ -1,5 +1,5 @@
 -- What the words of a command line order, with each value read.
-use Rattle.std.specs.Prelude.{◌≡◌, ◌≢◌, ◌⊎◌, ⊤, ℕ, Bool, ◌&&◌, nat_le, List, [], ◌∷◌, false, codes, Option, Some, None, if◌then◌else◌, option_map, ℤ}
+use Rattle.std.specs.Prelude.{◌≡◌, ◌≢◌, ◌⊎◌, ⊤, ℕ, Bool, ◌&&◌, nat_le, List, [], ◌∷◌, true, false, codes, Option, Some, None, if◌then◌else◌, option_map, ℤ}
 use Rattle.std.specs.List.{list_all}
 use Rattle.std.specs.Char.{is_ascii_digit}
 use Rattle.std.specs.Str.{bytes_eq}
@@ -19,7 +19,7 @@ use Rattle.archive_words.specs.declared.orders.Order.{Order}
 use Rattle.archive_words.specs.declared.orders.Order.TheVariants.{Sift, Table, Import, Get, Export, Check, Serve}
 use Rattle.archive_words.specs.declared.orders.OrderStop.{OrderStop}
 use Rattle.archive_words.specs.declared.orders.OrderStop.TheVariants.{Help, Words, Memory}
-use Rattle.archive_words.specs.Values.{AskValues, TableValues, TableCommand, list_add, person_add, grant, revoke, withdraw, restore, embargo, lift}
+use Rattle.archive_words.specs.Values.{AskValues, TableValues, TableCommand, list_add, merge, person_add, person_address, grant, revoke, withdraw, restore, embargo, lift}
 use Rattle.archive_words.specs.Program.{archive_app}
 
 -- ---- values
@@ -57,6 +57,12 @@ abbrev pub party_named : List ℕ → Option WithdrawnBy
 party_named word =
     if bytes_eq word (codes "author") then Some Author
     else if bytes_eq word (codes "board") then Some Board
+    else None
+
+abbrev pub yes_or_no : List ℕ → Option Bool
+yes_or_no word =
+    if bytes_eq word (codes "yes") then Some true
+    else if bytes_eq word (codes "no") then Some false
     else None
 
 -- a value that need not be given: nothing, or what its reader makes of the text
@@ -106,10 +112,20 @@ sift_of rows = sift_with
 abbrev pub list_add_of : List Row → Option TableCommand
 list_add_of rows = on (first_of (codes "name") rows) (λ name. Some (list_add name))
 
+abbrev pub merge_of : List Row → Option TableCommand
+merge_of rows =
+    on (first_of (codes "list") rows) (λ list.
+    on (read_in yes_or_no (codes "merge") rows) (λ merged. Some (merge list merged)))
+
 abbrev pub person_add_of : List Row → Option TableCommand
 person_add_of rows =
     on (first_of (codes "name") rows) (λ name.
     on (first_of (codes "token") rows) (λ token. Some (person_add name token)))
+
+abbrev pub person_address_of : List Row → Option TableCommand
+person_address_of rows =
+    on (first_of (codes "person") rows) (λ person.
+    on (first_of (codes "address") rows) (λ address. Some (person_address person address)))
 
 abbrev pub grant_of : List Row → Option TableCommand
 grant_of rows =
@@ -145,7 +161,9 @@ lift_of rows = message_of rows (λ list key. Some (lift list key))
 abbrev pub command_named : Text → List Row → Option TableCommand
 command_named name rows =
     if bytes_eq name (codes "list-add") then list_add_of rows
+    else if bytes_eq name (codes "merge") then merge_of rows
     else if bytes_eq name (codes "person-add") then person_add_of rows
+    else if bytes_eq name (codes "person-address") then person_address_of rows
     else if bytes_eq name (codes "grant") then grant_of rows
     else if bytes_eq name (codes "revoke") then revoke_of rows
     else if bytes_eq name (codes "withdraw") then withdraw_of rows

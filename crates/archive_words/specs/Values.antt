@@ -1,10 +1,10 @@
 -- The values of an order.
-use Rattle.std.specs.Prelude.{ℕ, ℤ, List, Option}
+use Rattle.std.specs.Prelude.{ℕ, ℤ, List, Bool, Option}
 use Rattle.policy_core.specs.declared.access.Standing.{Standing}
 use Rattle.archive_words.specs.declared.commands.GrantKind.{GrantKind}
 use Rattle.archive_words.specs.declared.commands.WithdrawnBy.{WithdrawnBy}
 use Rattle.archive_words.specs.declared.commands.TableCommand.{TableCommand as Words}
-use Rattle.archive_words.specs.declared.commands.TableCommand.TheVariants.{ListAdd, PersonAdd, Grant, Revoke, Withdraw, Restore, Embargo, Lift}
+use Rattle.archive_words.specs.declared.commands.TableCommand.TheVariants.{ListAdd, Merge, PersonAdd, PersonAddress, Grant, Revoke, Withdraw, Restore, Embargo, Lift}
 
 -- The values of `sift`'s options: days are day numbers from 1970-01-01, the policy is the name of its file.
 pub record SiftValues : Type 0 where
@@ -14,11 +14,13 @@ pub record SiftValues : Type 0 where
   pub list : List ℕ
   pub standing : Standing
 
--- A command on the tables of a database. Persons, lists, tokens and keys are texts as they were given; days are day
--- numbers from 1970-01-01.
+-- A command on the tables of a database. Persons, lists, tokens, addresses and keys are texts as they were given; days are
+-- day numbers from 1970-01-01.
 pub data TableCommand : Type 0 where
   list_add : (name : List ℕ) → TableCommand
+  merge : (list : List ℕ) (merged : Bool) → TableCommand
   person_add : (name token : List ℕ) → TableCommand
+  person_address : (person address : List ℕ) → TableCommand
   grant : (person list : List ℕ) (kind : GrantKind) (from until : ℤ) → TableCommand
   revoke : (person list : List ℕ) (kind : GrantKind) → TableCommand
   withdraw : (list key : List ℕ) (by : WithdrawnBy) → TableCommand
@@ -29,7 +31,9 @@ pub data TableCommand : Type 0 where
 -- what borrowed words command
 abbrev pub command_of : Words → TableCommand
 command_of (ListAdd name) = list_add name.now
+command_of (Merge list merged) = merge list.now merged
 command_of (PersonAdd name token) = person_add name.now token.now
+command_of (PersonAddress person address) = person_address person.now address.now
 command_of (Grant person list kind from until) = grant person.now list.now kind from until
 command_of (Revoke person list kind) = revoke person.now list.now kind
 command_of (Withdraw list key by) = withdraw list.now key.now by

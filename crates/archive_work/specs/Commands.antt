@@ -4,13 +4,13 @@ use Rattle.archive_machine.specs.Records.{Archive}
 use Rattle.archive_machine.specs.Commands as machine
 use Rattle.archive_machine.specs.Keys.{is_key}
 use Rattle.archive_machine.specs.Machine.{Outcome, refuse, step}
-use Rattle.archive_words.specs.Values.{TableCommand, list_add, person_add, grant, revoke, withdraw, restore, embargo, lift}
+use Rattle.archive_words.specs.Values.{TableCommand, list_add, merge, person_add, person_address, grant, revoke, withdraw, restore, embargo, lift}
 use Rattle.archive_words.specs.declared.commands.GrantKind.{GrantKind}
 use Rattle.archive_words.specs.declared.commands.GrantKind.TheVariants.{Member, Subscriber, Moderator}
 use Rattle.archive_words.specs.declared.commands.WithdrawnBy.{WithdrawnBy}
 use Rattle.archive_words.specs.declared.commands.WithdrawnBy.TheVariants.{Author, Board}
 use Rattle.archive_work.specs.declared.commands.Answer.{Answer}
-use Rattle.archive_work.specs.declared.commands.Answer.TheVariants.{Added, Granted, Revoked, NoGrant, Withdrawn, Restored, Embargoed, Lifted, NoEmbargo}
+use Rattle.archive_work.specs.declared.commands.Answer.TheVariants.{Added, Merging, AddressSet, Granted, Revoked, NoGrant, Withdrawn, Restored, Embargoed, Lifted, NoEmbargo}
 
 -- ---- the numbers of words
 
@@ -32,7 +32,9 @@ keyed archive key command = if is_key key then step archive command else refuse 
 -- what a command of the words does to the archive, and what it answers
 abbrev pub stepped : Archive → TableCommand → Outcome
 stepped archive (list_add name) = step archive (machine.list_add name)
+stepped archive (merge list merged) = step archive (machine.merge_set list merged)
 stepped archive (person_add name token) = step archive (machine.person_add name token)
+stepped archive (person_address person address) = step archive (machine.address_set person address)
 stepped archive (grant person list kind from until) = step archive (machine.grant person list (rank_named kind) from until)
 stepped archive (revoke person list kind) = step archive (machine.revoke person list (rank_named kind))
 stepped archive (withdraw list key by) = keyed archive key (machine.withdraw list key (party_named by))
@@ -45,7 +47,9 @@ stepped archive (lift list key) = keyed archive key (machine.lift list key)
 -- the word for the machine's answer; none for a refusal
 abbrev pub answer_to : TableCommand → machine.Reply → Option Answer
 answer_to (list_add name) machine.done = Some Added
+answer_to (merge list merged) machine.done = Some (Merging merged)
 answer_to (person_add name token) machine.done = Some Added
+answer_to (person_address person address) machine.done = Some AddressSet
 answer_to (grant person list kind from until) machine.done = Some Granted
 answer_to (revoke person list kind) (machine.was_there true) = Some Revoked
 answer_to (revoke person list kind) (machine.was_there false) = Some NoGrant
@@ -59,6 +63,9 @@ answer_to _ _ = None
 -- the line on which it is told
 abbrev pub answer_line : Answer → List ℕ
 answer_line Added = codes "added\n"
+answer_line (Merging true) = codes "merge on\n"
+answer_line (Merging false) = codes "merge off\n"
+answer_line AddressSet = codes "address set\n"
 answer_line Granted = codes "granted\n"
 answer_line Revoked = codes "revoked\n"
 answer_line NoGrant = codes "no grant\n"

@@ -9,6 +9,7 @@ use Rattle.sqlite.specs.State.{IsLive}
 use Rattle.sqlite.specs.Closing.{IsCopied}
 use Rattle.sqlite.specs.Files.{over_files, file_state, Finds, IsOpened}
 use Rattle.archive_machine.specs.Records.{Archive}
+use Rattle.archive_machine.specs.Questions.{merge_of}
 use Rattle.archive_store.specs.Held.{held_of}
 use Rattle.archive_store.specs.Told.{HoldsArchive, HoldsTables, HasReturned, IsOpen, IsReady, archive_in}
 use Rattle.archive_store.specs.declared.store.Store.{Store}
@@ -73,7 +74,8 @@ module _ {D : Type 0} {g : Ghosts D} where
         (λ answer. Continues (λ a b. (b ≡ a) × (refuses a ≡ None) × Says a answer))
         (λ fault. MatchOption (reason fault) (ContinuesIfOpen (λ a b. b ≡ a)) (λ why. Continues (λ a b. (b ≡ a) × (refuses a ≡ Some why))))
 
--- these lines are those of the month in what the reader may see of this archive, and these rows are its threads
+-- These lines are those of the month in what the reader may see of this archive, and these rows are its threads, gathered by
+-- subject where the list has it so.
 abbrev pub ShowsBoth : Archive → Ask → (month : ℕ) → List Line → List TreeLine → Type 0
 ShowsBoth archive ask month lines rows =
-    (lines ≡ month_lines month (map shown_of (view_of archive ask))) × (rows ≡ tree_lines (map shown_of (view_of archive ask)))
+    (lines ≡ month_lines month (map shown_of (view_of archive ask))) × (rows ≡ tree_lines (merge_of archive ask.list) (map shown_of (view_of archive ask)))

@@ -13,6 +13,8 @@ pub record Facts : Type 0 where
   pub arrival_day : ℤ
   pub withdrawn : Withdrawn
   pub embargo_until : Option ℤ
+  -- the message is the reader's own: the reader is a person with an address, and that is the message's author key
+  pub own : Bool
 
 -- the embargo is on up to the day before its until day
 abbrev pub is_before_until : ℤ → Option ℤ → Bool

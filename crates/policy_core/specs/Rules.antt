@@ -1,5 +1,5 @@
 -- The rules of a policy, and where one fits.
-use Rattle.std.specs.Prelude.{ℕ, ℤ, pos, List, codes, Bool, true, false, ◌&&◌, int_le, Option, Some, None, bytes_eq}
+use Rattle.std.specs.Prelude.{ℕ, ℤ, pos, List, codes, Bool, true, false, ◌&&◌, int_le, Option, Some, None, is_some, bytes_eq}
 use Rattle.std.specs.List.{list_any}
 use Rattle.policy_core.specs.declared.access.Standing.{Standing}
 use Rattle.policy_core.specs.declared.access.Withdrawn.{Withdrawn}
@@ -16,6 +16,7 @@ pub record Rule : Type 0 where
   pub age_min : Option ℕ
   pub from : Option ℤ
   pub until : Option ℤ
+  pub own : Option Bool
 
 -- a condition holds where the rule does not state it, or where what it states holds
 abbrev pub holds : {A : Type 0} → Option A → (A → Bool) → Bool
@@ -39,6 +40,7 @@ fits_message r f =
     holds r.withdrawn (list_any (λ withdrawal. same_withdrawal withdrawal f.withdrawn))
     && holds r.embargo (λ on. same_bool on (is_embargoed f))
     && holds r.age_min (λ least. int_le (pos least) (age f))
+    && holds r.own (λ own. same_bool own f.own)
 
 -- the conditions on the reading day
 abbrev pub fits_day : Rule → Facts → Bool
@@ -47,6 +49,10 @@ fits_day r f = holds r.from (λ first. int_le first f.day) && holds r.until (λ 
 -- all conditions that the rule states hold
 abbrev pub fits : Rule → Facts → Bool
 fits r f = fits_reader r f && fits_message r f && fits_day r f
+
+-- a rule of these asks whether a message is the reader's own, or whether it is not
+abbrev pub asks_own : List Rule → Bool
+asks_own rules = list_any (λ r. is_some r.own) rules
 
 -- the one rule of the policy that lets everybody read everything
 abbrev pub open_rule : Rule
@@ -60,4 +66,5 @@ open_rule = record {
   age_min = None;
   from = None;
   until = None;
+  own = None;
 }

@@ -39,6 +39,7 @@ pub record Fits (r : Rule) (f : Facts) : Type 0 where
   pub age : ForSome r.age_min (λ least. pos least ≤ℤ age f)
   pub from : ForSome r.from (λ first. first ≤ℤ f.day)
   pub until : ForSome r.until (λ last. f.day ≤ℤ last)
+  pub own : ForSome r.own (λ own. own ≡ f.own)
 
 -- A rule decides: it fits, and no rule before it does.
 pub record IsDecidedBy (rules : List Rule) (f : Facts) (r : Rule) : Type 0 where

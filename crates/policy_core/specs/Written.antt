@@ -61,6 +61,7 @@ is_rule_key key =
     bytes_eq key (codes "name") || bytes_eq key (codes "effect") || bytes_eq key (codes "lists")
     || bytes_eq key (codes "standings") || bytes_eq key (codes "withdrawn") || bytes_eq key (codes "embargo")
     || bytes_eq key (codes "age_min") || bytes_eq key (codes "from") || bytes_eq key (codes "until")
+    || bytes_eq key (codes "own")
 
 -- ---- refusals: each with what brings it about, in the order in which they are tested
 
@@ -123,8 +124,8 @@ texts_refusal n test given = first_of (
     ∷ refuse (BadValue n) (fails (are_some test) given)
     ∷ [])
 
-unfoldable pub embargo_refusal : ℕ → Option Data → Option PolicyFault
-embargo_refusal n given = refuse (WrongType n) (fails (λ d. is_some (as_bool d)) given)
+unfoldable pub flag_refusal : ℕ → Option Data → Option PolicyFault
+flag_refusal n given = refuse (WrongType n) (fails (λ d. is_some (as_bool d)) given)
 
 -- whole days, from 0 to the longest age
 abbrev pub is_age : ℤ → Bool
@@ -159,10 +160,11 @@ rule_refusal n earlier rule = first_of (
     ∷ texts_refusal n is_name (get_member (codes "lists") rule)
     ∷ texts_refusal n (λ word. is_some (standing_named word)) (get_member (codes "standings") rule)
     ∷ texts_refusal n (λ word. is_some (withdrawal_named word)) (get_member (codes "withdrawn") rule)
-    ∷ embargo_refusal n (get_member (codes "embargo") rule)
+    ∷ flag_refusal n (get_member (codes "embargo") rule)
     ∷ age_refusal n (get_member (codes "age_min") rule)
     ∷ day_refusal n (get_member (codes "from") rule)
     ∷ day_refusal n (get_member (codes "until") rule)
+    ∷ flag_refusal n (get_member (codes "own") rule)
     ∷ refuse (BadValue n) (is_after (day_in (get_member (codes "from") rule)) (day_in (get_member (codes "until") rule)))
     ∷ [])
 
@@ -187,6 +189,7 @@ rule_of rule = record {
   age_min = option_map unsigned_abs (option_and_then as_integer (get_member (codes "age_min") rule));
   from = day_in (get_member (codes "from") rule);
   until = day_in (get_member (codes "until") rule);
+  own = option_and_then as_bool (get_member (codes "own") rule);
 }
 
 -- ---- the policy
