@@ -10,7 +10,7 @@ use Rattle.std.proofs.lemmas.Bool.{false≢true}
 use Rattle.policy_core.specs.Rules.{Rule}
 use Rattle.civil_time.specs.Calendar.{day_of_text}
 use Rattle.policy_core.specs.Names.{is_name}
-use Rattle.policy_core.specs.Written.{refuse, first_of, fails, some_that, is_text, is_table, is_array_of, are_some, is_age, is_after, is_rule_key, keys_of, day_in, effect_named, standing_named, withdrawal_named, rule_values, tables_of, name_refusal, effect_refusal, texts_refusal, embargo_refusal, age_refusal, day_refusal, rule_refusal, rules_refusal, text_at, tree_refusal, unless_refused, policy_in, written_policy}
+use Rattle.policy_core.specs.Written.{refuse, first_of, fails, some_that, is_text, is_table, is_array_of, are_some, is_age, is_after, is_rule_key, keys_of, day_in, effect_named, standing_named, withdrawal_named, rule_values, tables_of, name_refusal, effect_refusal, texts_refusal, flag_refusal, age_refusal, day_refusal, rule_refusal, rules_refusal, text_at, tree_refusal, unless_refused, policy_in, written_policy}
 
 -- nothing, or the refusal of a tree
 is_tree_fault : Option PolicyFault → Bool
@@ -93,9 +93,9 @@ texts-fault n test given =
     first (refuse (WrongType n) (fails (is_array_of is_text) given) ∷ refuse (BadValue n) (fails (are_some test) given) ∷ [])
     (both _ _ (typed n _) (both _ _ (valued n _) refl))
 
-embargo-fault : (n : ℕ) (given : Option Data) → is_tree_fault (embargo_refusal n given) ≡ true
-unfolding embargo_refusal
-embargo-fault n given = typed n (fails (λ d. is_some (as_bool d)) given)
+flag-fault : (n : ℕ) (given : Option Data) → is_tree_fault (flag_refusal n given) ≡ true
+unfolding flag_refusal
+flag-fault n given = typed n (fails (λ d. is_some (as_bool d)) given)
 
 age-fault : (n : ℕ) (given : Option Data) → is_tree_fault (age_refusal n given) ≡ true
 unfolding age_refusal
@@ -125,10 +125,11 @@ rule-fault n earlier rule =
     ∷ texts_refusal n is_name (get_member (codes "lists") rule)
     ∷ texts_refusal n (λ word. is_some (standing_named word)) (get_member (codes "standings") rule)
     ∷ texts_refusal n (λ word. is_some (withdrawal_named word)) (get_member (codes "withdrawn") rule)
-    ∷ embargo_refusal n (get_member (codes "embargo") rule)
+    ∷ flag_refusal n (get_member (codes "embargo") rule)
     ∷ age_refusal n (get_member (codes "age_min") rule)
     ∷ day_refusal n (get_member (codes "from") rule)
     ∷ day_refusal n (get_member (codes "until") rule)
+    ∷ flag_refusal n (get_member (codes "own") rule)
     ∷ refuse (BadValue n) (is_after (day_in (get_member (codes "from") rule)) (day_in (get_member (codes "until") rule)))
     ∷ [])
     (both _ _ (unknown n _)
@@ -137,11 +138,12 @@ rule-fault n earlier rule =
     (both _ _ (texts-fault n is_name (get_member (codes "lists") rule))
     (both _ _ (texts-fault n (λ word. is_some (standing_named word)) (get_member (codes "standings") rule))
     (both _ _ (texts-fault n (λ word. is_some (withdrawal_named word)) (get_member (codes "withdrawn") rule))
-    (both _ _ (embargo-fault n (get_member (codes "embargo") rule))
+    (both _ _ (flag-fault n (get_member (codes "embargo") rule))
     (both _ _ (age-fault n (get_member (codes "age_min") rule))
     (both _ _ (day-fault n (get_member (codes "from") rule))
     (both _ _ (day-fault n (get_member (codes "until") rule))
-    (both _ _ (valued n _) refl)))))))))))
+    (both _ _ (flag-fault n (get_member (codes "own") rule))
+    (both _ _ (valued n _) refl))))))))))))
 
 rules-fault : (n : ℕ) (earlier : List (List ℕ)) (rules : List Members) → is_tree_fault (rules_refusal n earlier rules) ≡ true
 unfolding rules_refusal

@@ -1,6 +1,6 @@
 -- The test of a rule and what it says in words.
-use Rattle.std.proofs.Common.{◌≡◌, ◌∙◌, ℕ, ℤ, pos, Bool, true, false, ◌&&◌, T, List, [], ◌∷◌, ◌++◌, Option, Some, None, refl, sym, subst, arith}
-use Rattle.std.specs.Prelude.{codes, bytes_eq, Contains, int_le, ◌≤ℤ◌}
+use Rattle.std.proofs.Common.{◌≡◌, ◌∙◌, ℕ, ℤ, pos, Bool, true, false, cond, ◌&&◌, ◌||◌, T, List, [], ◌∷◌, ◌++◌, Option, Some, None, refl, sym, ap, subst, arith}
+use Rattle.std.specs.Prelude.{codes, filter, is_some, bytes_eq, Contains, int_le, ◌≤ℤ◌}
 use Rattle.std.specs.List.{list_any, slice_index_or, AllByRecursion}
 use Rattle.std.specs.Option.{ForSome}
 use Rattle.std.specs.Int.Signed.{le_z_yes}
@@ -12,8 +12,8 @@ use Rattle.policy_core.specs.declared.access.Standing.TheVariants.{Public, Membe
 use Rattle.policy_core.specs.declared.access.Withdrawn.{Withdrawn}
 use Rattle.policy_core.specs.declared.access.Withdrawn.TheVariants.{No, Author, Board}
 use Rattle.policy_core.specs.Facts.{Facts, is_embargoed, age, same_standing, same_withdrawal}
-use Rattle.policy_core.specs.Rules.{Rule, open_rule, holds, same_bool, fits}
-use Rattle.policy_core.specs.Verdict.{Fits, IsDecidedBy, allowed, denied, ruling_by, verdict_of}
+use Rattle.policy_core.specs.Rules.{Rule, open_rule, asks_own, holds, same_bool, fits}
+use Rattle.policy_core.specs.Verdict.{Fits, IsDecidedBy, allowed, denied, ruling_by, ruling_of_head, verdict_of}
 
 -- ---- one condition
 
@@ -109,16 +109,18 @@ Fits-from_fits r f h =
     let front = and_parts _ _ parts.0 in
     let reader = and_parts _ _ front.0 in
     let message = and_parts _ _ front.1 in
-    let state = and_parts _ _ message.0 in
+    let timed = and_parts _ _ message.0 in
+    let state = and_parts _ _ timed.0 in
     let day = and_parts _ _ parts.1 in
     record {
       list = ForSome-from_holds _ _ (λ names. Contains-from_any bytes_eq bytes_eq-is f.list names) r.lists reader.0;
       standing = ForSome-from_holds _ _ (λ standings. Contains-from_any same_standing same_standing-is f.standing standings) r.standings reader.1;
       withdrawal = ForSome-from_holds _ _ (λ withdrawals. Contains-from_any same_withdrawal same_withdrawal-is f.withdrawn withdrawals) r.withdrawn state.0;
       embargo = ForSome-from_holds _ _ (λ on. same_bool-is on (is_embargoed f)) r.embargo state.1;
-      age = ForSome-from_holds _ _ (λ least. le-from_int_le (pos least) (age f)) r.age_min message.1;
+      age = ForSome-from_holds _ _ (λ least. le-from_int_le (pos least) (age f)) r.age_min timed.1;
       from = ForSome-from_holds _ _ (λ first. le-from_int_le first f.day) r.from day.0;
       until = ForSome-from_holds _ _ (λ last. le-from_int_le f.day last) r.until day.1;
+      own = ForSome-from_holds _ _ (λ own. same_bool-is own f.own) r.own message.1;
     }
 
 both : (a b : Bool) → a ≡ true → b ≡ true → (a && b) ≡ true
@@ -133,9 +135,11 @@ fits-from_Fits r f h =
     (holds-from_ForSome _ _ (λ standings. any-from_Contains same_standing same_standing-itself f.standing standings) r.standings h.standing))
     (both _ _
     (both _ _
+    (both _ _
     (holds-from_ForSome _ _ (λ withdrawals. any-from_Contains same_withdrawal same_withdrawal-itself f.withdrawn withdrawals) r.withdrawn h.withdrawal)
     (holds-from_ForSome _ _ (λ on. same_bool-itself on (is_embargoed f)) r.embargo h.embargo))
-    (holds-from_ForSome _ _ (λ least. int_le-from_le (pos least) (age f)) r.age_min h.age)))
+    (holds-from_ForSome _ _ (λ least. int_le-from_le (pos least) (age f)) r.age_min h.age))
+    (holds-from_ForSome _ _ (λ own. same_bool-itself own f.own) r.own h.own)))
     (both _ _
     (holds-from_ForSome _ _ (λ first. int_le-from_le first f.day) r.from h.from)
     (holds-from_ForSome _ _ (λ last. int_le-from_le f.day last) r.until h.until))
@@ -143,6 +147,31 @@ fits-from_Fits r f h =
 misfit : (r : Rule) (f : Facts) → ¬ Fits r f → (b : Bool) → fits r f ≡ b → fits r f ≡ false
 misfit r f none true is = absurd (none (Fits-from_fits r f is))
 misfit r f none false is = is
+
+-- ---- whether a message is the reader's own
+
+unasked_fit : (r : Rule) (f : Facts) (own : Bool) → is_some r.own ≡ false → fits r (record f { own = own }) ≡ fits r f
+unasked_fit r f own none = by_stated r.own refl
+  where
+    by_stated : (o : Option Bool) → r.own ≡ o → fits r (record f { own = own }) ≡ fits r f
+    by_stated None is = rw is refl
+    by_stated (Some b) is = absurd (let bad : true ≡ false = sym (ap is_some is) ∙ none in cc)
+
+pub unasked : (rules : List Rule) (f : Facts) (own : Bool) → asks_own rules ≡ false → verdict_of rules (record f { own = own }) ≡ verdict_of rules f
+unasked rules f own none = ap ruling_of_head (alike rules none)
+  where
+    or_false : (a b : Bool) → (a || b) ≡ false → (a ≡ false) × (b ≡ false)
+    or_false false b is = (refl, is)
+    or_false true b is = absurd (cc)
+
+    alike : (rules : List Rule) → asks_own rules ≡ false → filter (λ r. fits r (record f { own = own })) rules ≡ filter (λ r. fits r f) rules
+    alike [] is = refl
+    alike (r ∷ rules) is =
+        let both = or_false (is_some r.own) (asks_own rules) is in
+        rw (unasked_fit r f own both.0) (ap (λ (rest : List Rule). cond (fits r f) (r ∷ rest) rest) (alike rules both.1))
+
+pub unasked_by : (rules : List Rule) (result : Bool) → result ≡ asks_own rules → result ≡ false → (f : Facts) (own : Bool) → verdict_of rules (record f { own = own }) ≡ verdict_of rules f
+unasked_by rules result value none = λ f own. unasked rules f own (sym value ∙ none)
 
 -- ---- which rule decides
 

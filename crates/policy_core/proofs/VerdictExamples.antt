@@ -3,7 +3,7 @@ use Rattle.std.proofs.Common.{◌≡◌, ℕ, pos, negsuc, List, [], ◌∷◌, 
 use Rattle.policy_core.specs.declared.access.Standing.TheVariants.{Public, Member, Subscriber, Moderator}
 use Rattle.policy_core.specs.declared.access.Withdrawn.TheVariants.{No, Author, Board}
 use Rattle.policy_core.specs.Facts.{Facts, is_embargoed, age}
-use Rattle.policy_core.specs.Rules.{Rule, fits, open_rule}
+use Rattle.policy_core.specs.Rules.{Rule, fits, asks_own, open_rule}
 use Rattle.policy_core.specs.Verdict.{allowed, denied, verdict_of}
 
 -- a message of the list `soc` that arrived on 2003-03-04, asked for by the public on 2003-03-20
@@ -15,6 +15,7 @@ asked = record {
   arrival_day = pos 12115;
   withdrawn = No;
   embargo_until = None;
+  own = false;
 }
 
 -- a rule of this name that denies, without conditions
@@ -105,3 +106,32 @@ for_other_lists = refl
 
 for_others : fits (record all_rule { standings = Some (Member ∷ Subscriber ∷ Moderator ∷ []) }) asked ≡ false
 for_others = refl
+
+-- ---- own messages
+
+abbrev mine_rule : Rule
+mine_rule = record open_rule { name = codes "mine"; own = Some true }
+
+-- a message that the board withdrew: its author sees it by a first rule, nobody else does
+abbrev withdrawn_asked : Facts
+withdrawn_asked = record asked { withdrawn = Board }
+
+its_author : verdict_of (mine_rule ∷ withdrawn_rule ∷ all_rule ∷ []) (record withdrawn_asked { own = true }) ≡ allowed (codes "mine")
+its_author = refl
+
+another : verdict_of (mine_rule ∷ withdrawn_rule ∷ all_rule ∷ []) withdrawn_asked ≡ denied (codes "withdrawn")
+another = refl
+
+-- a rule for what is not the reader's own
+not_own : fits (record all_rule { own = Some false }) asked ≡ true
+not_own = refl
+
+not_of_its_author : fits (record all_rule { own = Some false }) (record asked { own = true }) ≡ false
+not_of_its_author = refl
+
+-- a rule for what is not the reader's own asks too
+asked_by_either : (asks_own (all_rule ∷ mine_rule ∷ []) ≡ true) × (asks_own (record all_rule { own = Some false } ∷ []) ≡ true)
+asked_by_either = (refl, refl)
+
+asked_by_none : asks_own (withdrawn_rule ∷ all_rule ∷ []) ≡ false
+asked_by_none = refl

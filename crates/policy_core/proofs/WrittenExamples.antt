@@ -7,13 +7,13 @@ use Rattle.policy_core.specs.declared.access.Withdrawn.TheVariants.{Author, Boar
 use Rattle.policy_core.specs.declared.faults.PolicyFault.TheVariants.{NotToml, UnknownKey, WrongType, BadName, DuplicateName, BadValue, TooManyRules}
 use Rattle.policy_core.specs.Names.{is_name}
 use Rattle.policy_core.specs.Rules.{open_rule}
-use Rattle.policy_core.specs.Written.{name_refusal, effect_refusal, texts_refusal, embargo_refusal, age_refusal, day_refusal, rule_refusal, rule_of, rules_refusal, tree_refusal, policy_of, written_policy}
+use Rattle.policy_core.specs.Written.{name_refusal, effect_refusal, texts_refusal, flag_refusal, age_refusal, day_refusal, rule_refusal, rule_of, rules_refusal, tree_refusal, policy_of, written_policy}
 use Rattle.std.specs.Prelude.{⊤}
 use Rattle.civil_time.specs.Calendar.{days_before_year, days_of_months}
 
 -- what computes a policy of a tree
 unfoldable on_trees : ⊤
-unfolding name_refusal effect_refusal texts_refusal embargo_refusal age_refusal day_refusal rule_refusal rule_of rules_refusal tree_refusal
+unfolding name_refusal effect_refusal texts_refusal flag_refusal age_refusal day_refusal rule_refusal rule_of rules_refusal tree_refusal
 on_trees = tt
 
 -- the tree of one rule with these keys
@@ -113,6 +113,19 @@ text_too_old = refl
 text_backwards : written_policy (codes "[[rule]]\nname = 'a'\neffect = 'deny'\nfrom = '2003-03-05'\nuntil = '2003-03-04'") ≡ Err (BadValue 1)
 unfolding toml_on_literals on_trees days_before_year days_of_months
 text_backwards = refl
+
+text_own : written_policy (codes "[[rule]]\nname = 'a'\neffect = 'allow'\nown = true") ≡ Ok (record open_rule { name = codes "a"; own = Some true } ∷ [])
+unfolding toml_on_literals on_trees
+text_own = refl
+
+-- `own` is no number, and is looked at before the two days together
+text_own_number : written_policy (codes "[[rule]]\nname = 'a'\neffect = 'allow'\nown = 1") ≡ Err (WrongType 1)
+unfolding toml_on_literals on_trees
+text_own_number = refl
+
+text_own_before_days : written_policy (codes "[[rule]]\nname = 'a'\neffect = 'deny'\nfrom = '2003-03-05'\nuntil = '2003-03-04'\nown = 1") ≡ Err (WrongType 1)
+unfolding toml_on_literals on_trees days_before_year days_of_months
+text_own_before_days = refl
 
 -- ---- many rules
 

@@ -70,6 +70,9 @@ pub struct Facts<'a> {
     pub withdrawn: Withdrawn,
     /// The day on which the message's embargo ends, if it has one: it is on before this day.
     pub embargo_until: Option<Day>,
+    /// Whether the message is the reader's own: the reader is a person with an address, and that is
+    /// the message's author key.
+    pub own: bool,
 }
 
 impl<'a> Model for Facts<'a> {
@@ -77,7 +80,7 @@ impl<'a> Model for Facts<'a> {
 
     ghost Value = { Asked };
 
-    ghost view = { λ f. record { list = f.list.now; standing = f.standing; day = f.day; arrival_day = f.arrival_day; withdrawn = f.withdrawn; embargo_until = f.embargo_until } };
+    ghost view = { λ f. record { list = f.list.now; standing = f.standing; day = f.day; arrival_day = f.arrival_day; withdrawn = f.withdrawn; embargo_until = f.embargo_until; own = f.own } };
 }
 
 impl<'a> Facts<'a> {

@@ -5,7 +5,7 @@ ghost use Rattle.toml.specs.Data.{get_member, as_str, as_integer, as_bool};
 ghost use Rattle.toml.specs.View.{view, table_view};
 ghost use Rattle.policy_core.specs.Names.{is_name};
 ghost use Rattle.policy_core.specs.Reading.{Reads, ReadsInMemory, IsTextArray, texts, names_of};
-ghost use Rattle.policy_core.specs.Written.{allows_at, is_rule_key, keys_of, texts_in, text_at, day_in, refuse, is_text, name_refusal, effect_refusal, texts_refusal, embargo_refusal, age_refusal, day_refusal, rule_refusal, rule_of};
+ghost use Rattle.policy_core.specs.Written.{allows_at, is_rule_key, keys_of, texts_in, text_at, day_in, refuse, is_text, name_refusal, effect_refusal, texts_refusal, flag_refusal, age_refusal, day_refusal, rule_refusal, rule_of};
 
 use crate::access::MOST_DAYS;
 use crate::faults::PolicyFault;
@@ -35,10 +35,11 @@ pub(crate) fn read_rule(
     let lists = read_lists(alloc, number, keys)?;
     let standings = read_words(alloc, number, keys, "standings")?;
     let withdrawn = read_words(alloc, number, keys, "withdrawn")?;
-    let embargo = read_embargo(number, keys)?;
+    let embargo = read_flag(number, keys, "embargo")?;
     let age_min = read_age(number, keys)?;
     let from = read_day(number, keys, "from")?;
     let until = read_day(number, keys, "until")?;
+    let own = read_flag(number, keys, "own")?;
     let rule = Rule {
         name,
         allows,
@@ -49,6 +50,7 @@ pub(crate) fn read_rule(
         age_min,
         from,
         until,
+        own,
     };
     if rule.ends_before_it_begins() {
         return Err(PolicyFault::BadValue(number));
@@ -230,12 +232,12 @@ fn words_among<W: Word>(
     Ok(words)
 }
 
-fn read_embargo(number: usize, keys: &Table) -> Result<Option<bool>, PolicyFault>
+fn read_flag(number: usize, keys: &Table, key: &str) -> Result<Option<bool>, PolicyFault>
     ensures { Reads result
-        (embargo_refusal number (get_member (codes "embargo") (table_view keys.now)))
-        (λ on. on ≡ option_and_then as_bool (get_member (codes "embargo") (table_view keys.now))) }
+        (flag_refusal number (get_member key.now (table_view keys.now)))
+        (λ on. on ≡ option_and_then as_bool (get_member key.now (table_view keys.now))) }
 {
-    let Some(value) = at(keys, "embargo") else {
+    let Some(value) = at(keys, key) else {
         return Ok(None);
     };
     match value.as_bool() {

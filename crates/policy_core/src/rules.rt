@@ -1,9 +1,9 @@
 //! Policies and their verdicts.
-ghost use Rattle.std.specs.Prelude.{◌≡◌, ◌≢◌, ◌∷◌, [], ◌&&◌, pos, int_le, bytes_eq, codes, Ok, Err, None, IfOk, IfErr, IsErr};
+ghost use Rattle.std.specs.Prelude.{◌≡◌, ◌≢◌, ◌∷◌, [], ◌&&◌, pos, int_le, bytes_eq, codes, Bool, false, Ok, Err, None, is_some, IfOk, IfErr, IsErr};
 ghost use Rattle.std.specs.List.{list_any, AllByRecursion};
 ghost use Rattle.toml.specs.Parse.{parse_document};
-ghost use Rattle.policy_core.specs.Facts.{is_embargoed, age, same_standing, same_withdrawal};
-ghost use Rattle.policy_core.specs.Rules.{Rule as Stated, open_rule, fits, fits_reader, fits_message, holds, same_bool};
+ghost use Rattle.policy_core.specs.Facts.{Facts as Question, is_embargoed, age, same_standing, same_withdrawal};
+ghost use Rattle.policy_core.specs.Rules.{Rule as Stated, open_rule, asks_own, fits, fits_reader, fits_message, holds, same_bool};
 ghost use Rattle.policy_core.specs.Written.{written_policy, is_after};
 ghost use Rattle.policy_core.specs.Verdict.{Fits, IsDecidedBy, denied, ruling, ruling_by, verdict_of};
 
@@ -26,6 +26,7 @@ pub(crate) struct Rule {
     pub(crate) age_min: Option<u16>,
     pub(crate) from: Option<Day>,
     pub(crate) until: Option<Day>,
+    pub(crate) own: Option<bool>,
 }
 
 impl Model for Rule {
@@ -34,7 +35,7 @@ impl Model for Rule {
 
     ghost Value = { Stated };
 
-    ghost view = { λ r. record { name = string_bytes r.name; allows = r.allows; lists = option_map (λ v. map string_bytes v.items) r.lists; standings = option_map (λ v. v.items) r.standings; withdrawn = option_map (λ v. v.items) r.withdrawn; embargo = r.embargo; age_min = r.age_min; from = r.from; until = r.until } };
+    ghost view = { λ r. record { name = string_bytes r.name; allows = r.allows; lists = option_map (λ v. map string_bytes v.items) r.lists; standings = option_map (λ v. v.items) r.standings; withdrawn = option_map (λ v. v.items) r.withdrawn; embargo = r.embargo; age_min = r.age_min; from = r.from; until = r.until; own = r.own } };
 }
 
 /// The rules of a policy.
@@ -99,6 +100,19 @@ impl Policy {
             },
         }
     }
+
+    /// Whether a rule asks if a message is the reader's own. Where none does, the verdict is the same for a message that is
+    /// and for one that is not.
+    pub fn asks_own(&self) -> bool
+        ensures value { result ≡ asks_own self.now }
+        ensures alike { result ≡ false → (facts : Question) (own : Bool)
+            → verdict_of self.now (record facts { own = own }) ≡ verdict_of self.now facts }
+    {
+        match &self.rules {
+            Rules::Open => false,
+            Rules::Written(rules) => rules.iter().any(|rule| rule.own.is_some()),
+        }
+    }
 }
 
 impl Rule {
@@ -134,7 +148,10 @@ impl Rule {
     fn fits_message(&self, facts: &Facts) -> bool
         ensures { result ≡ fits_message self.now facts.now }
     {
-        self.fits_withdrawal(facts.withdrawn) && self.fits_embargo(facts) && self.fits_age(facts)
+        self.fits_withdrawal(facts.withdrawn)
+            && self.fits_embargo(facts)
+            && self.fits_age(facts)
+            && self.fits_own(facts.own)
     }
 
     fn fits_day(&self, day: Day) -> bool
@@ -184,6 +201,15 @@ impl Rule {
     {
         match self.age_min {
             Some(least) => i64::from(least) <= facts.age(),
+            None => true,
+        }
+    }
+
+    fn fits_own(&self, own: bool) -> bool
+        ensures { result ≡ holds self.now.own (λ stated. same_bool stated own) }
+    {
+        match self.own {
+            Some(stated) => stated == own,
             None => true,
         }
     }

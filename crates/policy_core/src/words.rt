@@ -68,5 +68,6 @@ pub(crate) fn is_rule_key(key: &str) -> bool
             | "age_min"
             | "from"
             | "until"
+            | "own"
     )
 }

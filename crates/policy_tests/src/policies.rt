@@ -28,6 +28,7 @@ fn asked(rt: &impl Abort) -> Facts<'static> {
         arrival_day: day(rt, "2003-03-04"),
         withdrawn: Withdrawn::No,
         embargo_until: None,
+        own: false,
     }
 }
 
@@ -149,6 +150,8 @@ fn lines_of_a_rule_that_are_refused(rt: HostRuntime) -> Result<(), AllocError> {
         ("age_min = \"1\"", PolicyFault::WrongType(1)),
         ("from = 2003-03-04", PolicyFault::WrongType(1)),
         ("until = 20030304", PolicyFault::WrongType(1)),
+        ("own = 1", PolicyFault::WrongType(1)),
+        ("own = \"true\"", PolicyFault::WrongType(1)),
         ("lists = [\"Soc\"]", PolicyFault::BadValue(1)),
         ("lists = []", PolicyFault::BadValue(1)),
         ("standings = [\"nobody\"]", PolicyFault::BadValue(1)),
@@ -164,6 +167,10 @@ fn lines_of_a_rule_that_are_refused(rt: HostRuntime) -> Result<(), AllocError> {
         (
             "from = \"2003-03-05\"\nuntil = \"2003-03-04\"",
             PolicyFault::BadValue(1),
+        ),
+        (
+            "from = \"2003-03-05\"\nuntil = \"2003-03-04\"\nown = 1",
+            PolicyFault::WrongType(1),
         ),
     ] {
         let text = with_line(rt.alloc(), line)?;
@@ -184,6 +191,8 @@ fn values_at_their_bounds_are_taken(rt: HostRuntime) -> Result<(), AllocError> {
         "from = \"1900-01-01\"",
         "until = \"9998-12-31\"",
         "from = \"2003-03-04\"\nuntil = \"2003-03-04\"",
+        "own = true",
+        "own = false",
     ] {
         let text = with_line(rt.alloc(), line)?;
         assert!(rt; refusal(rt.alloc(), text.as_str()).is_none(), "{line}");
@@ -320,6 +329,43 @@ fn a_rule_is_on_from_its_first_to_its_last_day(rt: HostRuntime) {
         ..asked(&rt)
     };
     assert!(rt; policy.verdict(&elsewhere) == Verdict::Denied("default"));
+}
+
+#[test]
+fn a_withdrawn_message_is_allowed_to_its_author(rt: HostRuntime) {
+    let mut text = String::from_str(
+        rt.alloc(),
+        "[[rule]]\nname = \"mine\"\neffect = \"allow\"\nown = true\n",
+    )
+    .ok()
+    .expect(&rt, "a text");
+    text.push_str(EXAMPLE).ok().expect(&rt, "a text");
+    let policy = policy(&rt, rt.alloc(), text.as_str());
+    for (own, want) in [
+        (true, Verdict::Allowed("mine")),
+        (false, Verdict::Denied("withdrawn")),
+    ] {
+        let facts = Facts {
+            withdrawn: Withdrawn::Board,
+            own,
+            ..asked(&rt)
+        };
+        assert!(rt; policy.verdict(&facts) == want, "{own}");
+    }
+}
+
+#[test]
+fn a_rule_for_what_is_not_own_does_not_fit_what_is(rt: HostRuntime) -> Result<(), AllocError> {
+    let text = with_line(rt.alloc(), "own = false")?;
+    let policy = policy(&rt, rt.alloc(), text.as_str());
+    for (own, want) in [
+        (false, Verdict::Allowed("a")),
+        (true, Verdict::Denied("default")),
+    ] {
+        let facts = Facts { own, ..asked(&rt) };
+        assert!(rt; policy.verdict(&facts) == want, "{own}");
+    }
+    Ok(())
 }
 
 #[test]

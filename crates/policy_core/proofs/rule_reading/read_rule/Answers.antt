@@ -61,14 +61,20 @@ returns-in_err-until c =
     let p = err_from_is_err_and c.from_residual-in_err-until.result c.from_residual-in_err-until.ensures.1 in
     rw (p.1, p.2) (λ memory. rw (← c.if-not-has_rule_keys.ensures, c.in_ok-name.ensures.0, c.in_ok-allows.ensures.0, c.in_ok-lists.ensures.0, c.in_ok-standings.ensures.0, c.in_ok-withdrawn.ensures.0, c.in_ok-embargo.ensures.0, c.in_ok-age_min.ensures.0, c.in_ok-from.ensures.0, c.in_err-until.ensures) refl)
 
+pub returns-in_err-own : goal.returns-in_err-own
+unfolding rule_refusal
+returns-in_err-own c =
+    let p = err_from_is_err_and c.from_residual-in_err-own.result c.from_residual-in_err-own.ensures.1 in
+    rw (p.1, p.2) (λ memory. rw (← c.if-not-has_rule_keys.ensures, c.in_ok-name.ensures.0, c.in_ok-allows.ensures.0, c.in_ok-lists.ensures.0, c.in_ok-standings.ensures.0, c.in_ok-withdrawn.ensures.0, c.in_ok-embargo.ensures.0, c.in_ok-age_min.ensures.0, c.in_ok-from.ensures.0, c.in_ok-until.ensures.0, c.in_err-own.ensures) refl)
+
 pub returns-then-ends_before_it_begins : goal.returns-then-ends_before_it_begins
 unfolding rule_refusal
 returns-then-ends_before_it_begins c = λ _.
-    rw (← c.if-not-has_rule_keys.ensures, c.in_ok-name.ensures.0, c.in_ok-allows.ensures.0, c.in_ok-lists.ensures.0, c.in_ok-standings.ensures.0, c.in_ok-withdrawn.ensures.0, c.in_ok-embargo.ensures.0, c.in_ok-age_min.ensures.0, c.in_ok-from.ensures.0, c.in_ok-until.ensures.0, ← c.in_ok-from.ensures.1, ← c.in_ok-until.ensures.1, ← c.if-ends_before_it_begins.ensures) refl
+    rw (← c.if-not-has_rule_keys.ensures, c.in_ok-name.ensures.0, c.in_ok-allows.ensures.0, c.in_ok-lists.ensures.0, c.in_ok-standings.ensures.0, c.in_ok-withdrawn.ensures.0, c.in_ok-embargo.ensures.0, c.in_ok-age_min.ensures.0, c.in_ok-from.ensures.0, c.in_ok-until.ensures.0, c.in_ok-own.ensures.0, ← c.in_ok-from.ensures.1, ← c.in_ok-until.ensures.1, ← c.if-ends_before_it_begins.ensures) refl
 
 pub returns : goal.returns
 unfolding rule_refusal rule_of
 returns c = (
-  rw (← c.if-not-has_rule_keys.ensures, c.in_ok-name.ensures.0, c.in_ok-allows.ensures.0, c.in_ok-lists.ensures.0, c.in_ok-standings.ensures.0, c.in_ok-withdrawn.ensures.0, c.in_ok-embargo.ensures.0, c.in_ok-age_min.ensures.0, c.in_ok-from.ensures.0, c.in_ok-until.ensures.0, ← c.in_ok-from.ensures.1, ← c.in_ok-until.ensures.1, ← c.if-ends_before_it_begins.ensures) refl,
-  rw (c.in_ok-name.ensures.1, c.in_ok-allows.ensures.1, c.in_ok-lists.ensures.1, c.in_ok-standings.ensures.1, c.in_ok-withdrawn.ensures.1, c.in_ok-embargo.ensures.1, c.in_ok-age_min.ensures.1, c.in_ok-from.ensures.1, c.in_ok-until.ensures.1) refl,
+  rw (← c.if-not-has_rule_keys.ensures, c.in_ok-name.ensures.0, c.in_ok-allows.ensures.0, c.in_ok-lists.ensures.0, c.in_ok-standings.ensures.0, c.in_ok-withdrawn.ensures.0, c.in_ok-embargo.ensures.0, c.in_ok-age_min.ensures.0, c.in_ok-from.ensures.0, c.in_ok-until.ensures.0, c.in_ok-own.ensures.0, ← c.in_ok-from.ensures.1, ← c.in_ok-until.ensures.1, ← c.if-ends_before_it_begins.ensures) refl,
+  rw (c.in_ok-name.ensures.1, c.in_ok-allows.ensures.1, c.in_ok-lists.ensures.1, c.in_ok-standings.ensures.1, c.in_ok-withdrawn.ensures.1, c.in_ok-embargo.ensures.1, c.in_ok-age_min.ensures.1, c.in_ok-from.ensures.1, c.in_ok-until.ensures.1, c.in_ok-own.ensures.1) refl,
 )
