@@ -56,6 +56,8 @@ of_two : IsFirstDamaged (record {
   grants = [];
   messages = message (codes "soc") (codes "1") (codes "hello") ∷ message (codes "a") (codes "2") (codes "hello") ∷ [];
   filings = record { sent = pos 0; month = pos 0; author = [] } ∷ record { sent = pos 0; month = pos 0; author = [] } ∷ [];
+  options = [];
+  addresses = [];
 }) (codes "a") (codes "2")
 of_two = record {
   before = [];

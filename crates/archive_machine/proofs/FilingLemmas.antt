@@ -35,6 +35,8 @@ files_right = record {
       ap (λ fs. fs ++ item_filing item ∷ []) right ∙ sym (map-append message_filing a.messages (new_message list item ∷ []));
   withdrawals = λ a list key party. change_files_right a list key (withdrawn_by party) (λ m. refl);
   embargoes = λ a list key until. change_files_right a list key (embargoed until) (λ m. refl);
+  merges = λ a list merge right. right;
+  addresses = λ a person address told right. right;
 }
 
 -- ---- questions

@@ -36,6 +36,8 @@ with_one = record {
   grants = [];
   messages = new_message (codes "soc") (item (codes "a@b") (codes "one")) ∷ [];
   filings = item_filing (item (codes "a@b") (codes "one")) ∷ [];
+  options = [];
+  addresses = [];
 }
 
 -- the answer to a message, and the archive afterwards

@@ -1,12 +1,12 @@
 -- Worked examples of commands. Day 12053 is 2003-01-01, and day 12143 is 2003-04-01.
 use Rattle.std.proofs.Common.{◌≡◌, ℕ, ℤ, pos, List, [], ◌∷◌, Some, None, true, false, refl, codes}
 use Rattle.archive_machine.specs.Records.{Message, Archive}
-use Rattle.archive_machine.specs.Commands.{Command, list_add, person_add, grant, revoke, withdraw, restore, embargo, lift, bad_name, bad_text, list_exists, no_list, person_exists, no_person, token_taken, no_message, already_withdrawn, not_withdrawn, bad_days, Reply, done, was_there, refused}
-use Rattle.archive_machine.specs.Questions.{standing_of, person_of_token}
+use Rattle.archive_machine.specs.Commands.{Command, list_add, person_add, grant, revoke, withdraw, restore, embargo, lift, merge_set, address_set, bad_name, bad_text, list_exists, no_list, person_exists, no_person, token_taken, no_message, already_withdrawn, not_withdrawn, bad_days, Reply, done, was_there, refused}
+use Rattle.archive_machine.specs.Questions.{standing_of, person_of_token, merge_of, address_of, person_refusal}
 use Rattle.archive_machine.specs.Runs.{run}
 
 abbrev empty : Archive
-empty = record { lists = []; persons = []; grants = []; messages = []; filings = [] }
+empty = record { lists = []; persons = []; grants = []; messages = []; filings = []; options = []; addresses = [] }
 
 -- the answers of some commands to an archive, and the archive afterwards
 abbrev replies : Archive → List Command → List Reply
@@ -28,6 +28,33 @@ lists_in_order_of_coming = refl
 a_capital : replies empty (list_add (codes "Soc") ∷ []) ≡ refused bad_name ∷ []
 unfolding run
 a_capital = refl
+
+-- a list comes with merge on; what is chosen stays until it is chosen anew
+merged_at_first : merge_of (after empty (list_add (codes "soc") ∷ [])) (codes "soc") ≡ true
+unfolding run
+merged_at_first = refl
+
+merged_no_more : merge_of (after empty (list_add (codes "soc") ∷ list_add (codes "a") ∷ merge_set (codes "soc") false ∷ [])) (codes "soc") ≡ false
+unfolding run
+merged_no_more = refl
+
+another_stays_merged : merge_of (after empty (list_add (codes "soc") ∷ list_add (codes "a") ∷ merge_set (codes "soc") false ∷ [])) (codes "a") ≡ true
+unfolding run
+another_stays_merged = refl
+
+merged_again : merge_of (after empty (list_add (codes "soc") ∷ merge_set (codes "soc") false ∷ merge_set (codes "soc") true ∷ [])) (codes "soc") ≡ true
+unfolding run
+merged_again = refl
+
+no_list_to_merge : replies empty (list_add (codes "soc") ∷ merge_set (codes "xyz") false ∷ merge_set (codes "soc") false ∷ [])
+    ≡ done ∷ refused no_list ∷ done ∷ []
+unfolding run
+no_list_to_merge = refl
+
+-- a list that is there already is not merged anew
+a_list_twice_stays_unmerged : merge_of (after empty (list_add (codes "soc") ∷ merge_set (codes "soc") false ∷ list_add (codes "soc") ∷ [])) (codes "soc") ≡ false
+unfolding run
+a_list_twice_stays_unmerged = refl
 
 -- ---- persons
 
@@ -56,6 +83,31 @@ second_token = refl
 
 nobodys_token : person_of_token with_two (codes "0123456789abcdef=") ≡ None
 nobodys_token = refl
+
+-- ---- addresses
+
+-- the person is looked for first; an address has 1 byte at least, and no space
+addresses : replies with_two (
+    address_set (codes "eve") [] ∷ address_set (codes "anna") [] ∷ address_set (codes "anna") (codes "a b") ∷ address_set (codes "anna") (codes "Anna@Example.org") ∷ [])
+    ≡ refused no_person ∷ refused bad_text ∷ refused bad_text ∷ done ∷ []
+unfolding run
+addresses = refl
+
+kept_in_lower_case : address_of (after with_two (address_set (codes "anna") (codes "Anna@Example.org") ∷ [])) (codes "anna") ≡ Some (codes "anna@example.org")
+unfolding run
+kept_in_lower_case = refl
+
+of_one_who_has_none : address_of (after with_two (address_set (codes "anna") (codes "Anna@Example.org") ∷ [])) (codes "bob") ≡ None
+unfolding run
+of_one_who_has_none = refl
+
+replaced : (after with_two (address_set (codes "anna") (codes "a@b") ∷ address_set (codes "bob") (codes "a@b") ∷ address_set (codes "anna") (codes "c@d") ∷ [])).addresses
+    ≡ record { person = codes "anna"; address = codes "c@d" } ∷ record { person = codes "bob"; address = codes "a@b" } ∷ []
+unfolding run
+replaced = refl
+
+nobody_asked_for : person_refusal with_two (codes "eve") ≡ Some no_person
+nobody_asked_for = refl
 
 -- ---- grants and standings
 

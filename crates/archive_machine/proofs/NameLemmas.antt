@@ -6,11 +6,11 @@ use Rattle.std.proofs.lemmas.List.Elements.{All-nil, All-cons, All-map, All-weak
 use Rattle.std.proofs.lemmas.List.Quantifiers.{all_pairs_push}
 use Rattle.std.proofs.lemmas.Bool.Decides.{Decides-int_eq}
 use Rattle.std.proofs.lemmas.Slice.Eq.{bytes_eq-Decides}
-use Rattle.archive_machine.specs.Records.{Person, Grant, Message, Filing, Archive}
+use Rattle.archive_machine.specs.Records.{Person, Grant, Message, Filing, ListOption, Address, Archive}
 use Rattle.archive_machine.specs.Keys.{item_key}
-use Rattle.archive_machine.specs.Questions.{has_list, has_person, has_token, is_grant, has_grant, is_message}
-use Rattle.archive_machine.specs.Machine.{with_days_of, with_grant, new_message, changed, with_change, withdrawn_by, embargoed}
-use Rattle.archive_machine.specs.Sound.{AreApart, grant_name, message_name, HasNamesApart}
+use Rattle.archive_machine.specs.Questions.{has_list, has_person, has_token, is_grant, has_grant, is_option_of, is_address_of, has_address, is_message}
+use Rattle.archive_machine.specs.Machine.{merging, with_merge, readdressed, with_address, with_days_of, with_grant, new_message, changed, with_change, withdrawn_by, embargoed}
+use Rattle.archive_machine.specs.Sound.{AreApart, grant_name, message_name, HasNamesApart, HasOptionEach}
 use Rattle.archive_machine.proofs.RunLemmas.{EachChangeKeeps}
 
 -- ---- pairs of a list, by its first element
@@ -95,23 +95,25 @@ none_found test (x ∷ xs) none = cases (test x) none (none_found test xs)
 
 -- ---- commands
 
--- one list of the four changes
+-- one of the lists changes
 with_grants : (a : Archive) (grants : List Grant) → HasNamesApart a → AreApart grant_name grants → HasNamesApart (record a { grants = grants })
 with_grants a grants apart new =
-    record { lists = apart.lists; persons = apart.persons; tokens = apart.tokens; grants = new; messages = apart.messages }
+    record { lists = apart.lists; persons = apart.persons; tokens = apart.tokens; grants = new; messages = apart.messages; addresses = apart.addresses }
 
 with_messages : (a : Archive) (messages : List Message) (filings : List Filing) → HasNamesApart a → AreApart message_name messages
     → HasNamesApart (record a { messages = messages; filings = filings })
 with_messages a messages filings apart new =
-    record { lists = apart.lists; persons = apart.persons; tokens = apart.tokens; grants = apart.grants; messages = new }
+    record { lists = apart.lists; persons = apart.persons; tokens = apart.tokens; grants = apart.grants; messages = new; addresses = apart.addresses }
 
-with_list : (a : Archive) (name : List ℕ) → has_list a name ≡ false → HasNamesApart a → HasNamesApart (record a { lists = a.lists ++ name ∷ [] })
+with_list : (a : Archive) (name : List ℕ) → has_list a name ≡ false → HasNamesApart a
+    → HasNamesApart (record a { lists = a.lists ++ name ∷ []; options = a.options ++ merging name ∷ [] })
 with_list a name new apart = record {
   lists = apart_push (λ list. list) name (λ known. bytes_eq known name) (λ known. same_bytes known name) a.lists new apart.lists;
   persons = apart.persons;
   tokens = apart.tokens;
   grants = apart.grants;
   messages = apart.messages;
+  addresses = apart.addresses;
 }
 
 with_person : (a : Archive) (p : Person) → has_person a p.name ≡ false → has_token a p.token ≡ false → HasNamesApart a
@@ -122,7 +124,32 @@ with_person a p new free apart = record {
   tokens = apart_push (λ (p : Person). p.token) p (λ known. bytes_eq known.token p.token) (λ known. same_bytes known.token p.token) a.persons free apart.tokens;
   grants = apart.grants;
   messages = apart.messages;
+  addresses = apart.addresses;
 }
+
+with_options : (a : Archive) (options : List ListOption) → HasNamesApart a → HasNamesApart (record a { options = options })
+with_options a options apart =
+    record { lists = apart.lists; persons = apart.persons; tokens = apart.tokens; grants = apart.grants; messages = apart.messages; addresses = apart.addresses }
+
+with_addresses : (a : Archive) (addresses : List Address) → HasNamesApart a → AreApart (λ (x : Address). x.person) addresses
+    → HasNamesApart (record a { addresses = addresses })
+with_addresses a addresses apart new =
+    record { lists = apart.lists; persons = apart.persons; tokens = apart.tokens; grants = apart.grants; messages = apart.messages; addresses = new }
+
+person_stays : (a old : Address) → (readdressed a old).person ≡ old.person
+person_stays a old = cases (is_address_of a.person old)
+  where
+    cases : (b : Bool) → (if b then record old { address = a.address } else old).person ≡ old.person
+    cases true = refl
+    cases false = refl
+
+addresses_apart : (a : Archive) (x : Address) → AreApart (λ (y : Address). y.person) a.addresses → AreApart (λ (y : Address). y.person) (with_address a x)
+addresses_apart a x apart = cases (has_address a x.person) refl
+  where
+    cases : (b : Bool) → has_address a x.person ≡ b → AreApart (λ (y : Address). y.person) (if b then map (readdressed x) a.addresses else a.addresses ++ x ∷ [])
+    cases true had = apart_map (λ (y : Address). y.person) (readdressed x) (person_stays x) a.addresses apart
+    cases false new =
+        apart_push (λ (y : Address). y.person) x (is_address_of x.person) (λ known. same_bytes known.person x.person) a.addresses new apart
 
 days_keep_name : (g old : Grant) → grant_name (with_days_of g old) ≡ grant_name old
 days_keep_name g old = cases (is_grant g.person g.list g.rank old)
@@ -162,4 +189,41 @@ names = record {
       (none_found (is_message list (item_key item)) a.messages new) apart.messages);
   withdrawals = λ a list key party. changes_apart a list key (withdrawn_by party) (λ m. refl);
   embargoes = λ a list key until. changes_apart a list key (embargoed until) (λ m. refl);
+  merges = λ a list merge. with_options a _;
+  addresses = λ a person address told apart. with_addresses a _ apart (addresses_apart a _ apart.addresses);
+}
+
+-- ---- each list has its option
+
+abbrev of_list : ListOption → List ℕ
+of_list o = o.list
+
+list_stays : (list : List ℕ) (merge : Bool) (o : ListOption) → (with_merge list merge o).list ≡ o.list
+list_stays list merge o = cases (is_option_of list o)
+  where
+    cases : (b : Bool) → (if b then record o { merge = merge } else o).list ≡ o.list
+    cases true = refl
+    cases false = refl
+
+lists_stay : (list : List ℕ) (merge : Bool) (os : List ListOption) → map of_list (map (with_merge list merge) os) ≡ map of_list os
+lists_stay list merge [] = refl
+lists_stay list merge (o ∷ os) =
+    ap (λ (n : List ℕ). n ∷ map of_list (map (with_merge list merge) os)) (list_stays list merge o)
+    ∙ ap (λ (ns : List (List ℕ)). o.list ∷ ns) (lists_stay list merge os)
+
+one_more : (os : List ListOption) (o : ListOption) → map of_list (os ++ o ∷ []) ≡ map of_list os ++ o.list ∷ []
+one_more [] o = refl
+one_more (x ∷ os) o = ap (λ (ns : List (List ℕ)). x.list ∷ ns) (one_more os o)
+
+pub options : EachChangeKeeps HasOptionEach (λ _. ⊤)
+options = record {
+  lists = λ a name named new each. one_more a.options (merging name) ∙ ap (λ (ns : List (List ℕ)). ns ++ name ∷ []) each;
+  persons = λ a p named told new free each. each;
+  grants = λ a g each. each;
+  revokes = λ a person list rank each. each;
+  messages = λ a list item _ new each. each;
+  withdrawals = λ a list key party each. each;
+  embargoes = λ a list key until each. each;
+  merges = λ a list merge each. lists_stay list merge a.options ∙ each;
+  addresses = λ a person address told each. each;
 }

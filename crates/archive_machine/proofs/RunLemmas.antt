@@ -1,21 +1,23 @@
 -- What every change keeps, each command keeps, and so do commands one after the other.
 use Rattle.std.proofs.Common.{◌≡◌, ℕ, ℤ, Bool, true, false, refl, ap, List, [], ◌∷◌, ◌++◌, length, pos, Option, Some, None, if◌then◌else◌}
-use Rattle.std.specs.Prelude.{not, filter, int_lt, nat_lt, nat_le}
+use Rattle.std.specs.Prelude.{not, map, filter, int_lt, nat_lt, nat_le}
 use Rattle.std.specs.List.{All}
 use Rattle.std.proofs.lemmas.List.Elements.{All-head, All-tail}
 use Rattle.policy_core.specs.Names.{is_name}
 use Rattle.mbox_core.specs.Division.{Item, whole}
-use Rattle.archive_machine.specs.Records.{Person, Grant, Archive}
-use Rattle.archive_machine.specs.Commands.{Command, list_add, person_add, grant, revoke, add, withdraw, restore, embargo, lift, Reply}
+use Rattle.archive_machine.specs.Records.{Person, Grant, Address, Archive}
+use Rattle.archive_machine.specs.Commands.{Command, list_add, person_add, grant, revoke, add, withdraw, restore, embargo, lift, merge_set, address_set, Reply}
 use Rattle.archive_machine.specs.Keys.{item_key}
 use Rattle.archive_machine.specs.Tokens.{is_token}
+use Rattle.archive_machine.specs.Addresses.{is_address, kept_address}
 use Rattle.archive_machine.specs.Questions.{has_list, has_person, has_token, is_grant, has_message, message_of, messages_in, is_withdrawn}
-use Rattle.archive_machine.specs.Machine.{Outcome, with_grant, with_message, longest_text, message_limit, with_change, withdrawn_by, embargoed, step}
+use Rattle.archive_machine.specs.Machine.{Outcome, merging, with_merge, with_address, with_grant, with_message, longest_text, message_limit, with_change, withdrawn_by, embargoed, step}
 use Rattle.archive_machine.specs.Runs.{run}
 
 -- each change that a command can make keeps P, where Q holds of the command
 pub record EachChangeKeeps (P : Archive → Type 0) (Q : Command → Type 0) : Type 0 where
-  pub lists : (a : Archive) (name : List ℕ) → is_name name ≡ true → has_list a name ≡ false → P a → P (record a { lists = a.lists ++ name ∷ [] })
+  pub lists : (a : Archive) (name : List ℕ) → is_name name ≡ true → has_list a name ≡ false → P a
+      → P (record a { lists = a.lists ++ name ∷ []; options = a.options ++ merging name ∷ [] })
   pub persons : (a : Archive) (p : Person) → is_name p.name ≡ true → is_token p.token ≡ true → has_person a p.name ≡ false → has_token a p.token ≡ false → P a
       → P (record a { persons = a.persons ++ p ∷ [] })
   pub grants : (a : Archive) (g : Grant) → P a → P (record a { grants = with_grant a g })
@@ -25,6 +27,9 @@ pub record EachChangeKeeps (P : Archive → Type 0) (Q : Command → Type 0) : T
       → P (with_message a list item)
   pub withdrawals : (a : Archive) (list key : List ℕ) (party : ℤ) → P a → P (with_change a list key (withdrawn_by party))
   pub embargoes : (a : Archive) (list key : List ℕ) (until : Option ℤ) → P a → P (with_change a list key (embargoed until))
+  pub merges : (a : Archive) (list : List ℕ) (merge : Bool) → P a → P (record a { options = map (with_merge list merge) a.options })
+  pub addresses : (a : Archive) (person address : List ℕ) → is_address address ≡ true → P a
+      → P (record a { addresses = with_address a (record { person = person; address = kept_address address }) })
 
 is_so : (b : Bool) → not b ≡ false → b ≡ true
 is_so true h = refl
@@ -64,6 +69,10 @@ module _ (P : Archive → Type 0) (Q : Command → Type 0) (kept : EachChangeKee
       kept.embargoes a list key (Some until_day) p))
   kept_by_steps a (lift list key) q p =
       unless a p (not (has_list a list)) _ _ (λ _. unless a p (not (has_message a list key)) _ _ (λ _. kept.embargoes a list key None p))
+  kept_by_steps a (merge_set list merge) q p = unless a p (not (has_list a list)) _ _ (λ _. kept.merges a list merge p)
+  kept_by_steps a (address_set person address) q p =
+      unless a p (not (has_person a person)) _ _ (λ _. unless a p (not (is_address address)) _ _ (λ told.
+      kept.addresses a person address (is_so (is_address address) told) p))
 
   pub kept_by_runs : (a : Archive) (commands : List Command) → All Q commands → P a → P (run a commands).archive
   unfolding run

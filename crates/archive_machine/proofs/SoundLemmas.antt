@@ -52,4 +52,6 @@ soundness laws = record {
   messages = λ a list item is new sound. All-push IsSoundMessage a.messages (new_message list item) sound (new_is_sound laws list item is);
   withdrawals = λ a list key party. changes_are_sound a list key (withdrawn_by party) (withdrawal_is_sound party);
   embargoes = λ a list key until. changes_are_sound a list key (embargoed until) (embargo_is_sound until);
+  merges = λ a list merge sound. sound;
+  addresses = λ a person address told sound. sound;
 }

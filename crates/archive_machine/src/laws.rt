@@ -8,7 +8,7 @@ ghost use Rattle.archive_machine.specs.Firsts.{accepted, keys_in};
 ghost use Rattle.archive_machine.specs.Machine.{step, message_limit, new_message};
 ghost use Rattle.archive_machine.specs.Runs.{run, taken};
 ghost use Rattle.archive_machine.specs.Questions.{AreListNames, list_names, has_list, messages_in};
-ghost use Rattle.archive_machine.specs.Sound.{AddsItem, IsSound, IsFiledRight, HasNamesApart, HasNamesAndTokens};
+ghost use Rattle.archive_machine.specs.Sound.{AddsItem, IsSound, IsFiledRight, HasNamesApart, HasNamesAndTokens, HasOptionEach};
 ghost use Rattle.archive_machine.specs.Damage.{IsWhole, IsFirstDamaged};
 
 use mbox_core::laws::{whole_is_whole, whole_items_are_items};
@@ -50,18 +50,24 @@ pub fn commands_follow_one_another()
     ensures replies { (a : Archive) (xs ys : List Command) → (run a (xs ++ ys)).replies ≡ (run a xs).replies ++ (run (run a xs).archive ys).replies }
 {}
 
-/// Where no two lists, persons, tokens, grants or messages have one name, the same holds after a command, and after any
-/// number of them.
+/// Where no two lists, persons, tokens, grants, messages or addresses have one name, the same holds after a command, and after
+/// any number of them.
 pub fn names_stay_apart()
     ensures step { (a : Archive) (command : Command) → HasNamesApart a → HasNamesApart (step a command).0 }
     ensures run { (a : Archive) (commands : List Command) → HasNamesApart a → HasNamesApart (run a commands).archive }
 {}
 
-/// Where lists and persons have names and persons have tokens, the same holds after a command, and after any number of
-/// them.
+/// Where lists and persons have names, persons have tokens and addresses are such, the same holds after a command, and after
+/// any number of them.
 pub fn names_and_tokens_are_such()
     ensures step { (a : Archive) (command : Command) → HasNamesAndTokens a → HasNamesAndTokens (step a command).0 }
     ensures run { (a : Archive) (commands : List Command) → HasNamesAndTokens a → HasNamesAndTokens (run a commands).archive }
+{}
+
+/// Where each list has one option, and there is no other, the same holds after a command, and after any number of them.
+pub fn each_list_has_its_option()
+    ensures step { (a : Archive) (command : Command) → HasOptionEach a → HasOptionEach (step a command).0 }
+    ensures run { (a : Archive) (commands : List Command) → HasOptionEach a → HasOptionEach (run a commands).archive }
 {}
 
 /// The names of all lists are these names and in the order of their bytes, and no other order of them is.

@@ -1,12 +1,14 @@
-//! The archive as a machine: what each command does to it and what it answers (`specs/`), and the texts in which it is
-//! told. It knows no tables.
+//! The archive as a machine: what each command does to it and what it answers (`specs/`); and keys, tokens, addresses and
+//! messages as code. It knows no tables.
 #![tactic(auto)]
 
+mod addresses;
 mod keys;
 pub mod laws;
 mod messages;
 mod tokens;
 
+pub use addresses::{is_address, kept_address};
 pub use keys::Key;
 pub use messages::Message;
 pub use tokens::is_token;
