@@ -3,8 +3,10 @@ use Rattle.std.proofs.Common.{◌≡◌, ℕ, ℤ, pos, List, [], ◌∷◌, map
 use Rattle.policy_core.specs.declared.access.Standing.TheVariants.{Public, Member, Moderator}
 use Rattle.policy_core.specs.declared.access.Withdrawn.TheVariants.{No, Author, Board}
 use Rattle.policy_core.specs.Rules.{Rule, open_rule}
+use Rattle.mail_core.specs.Fields.{fields_of, header_blocks, unfolded}
+use Rattle.mail_core.specs.Lines.{lines, is_empty_line, content}
 use Rattle.archive_machine.specs.Records.{Message, Archive}
-use Rattle.archive_results.specs.Access.{Ask, view_of, reader_standing, marks_of, facts_of, ruling_on, asked_of, served, denied_by, absent, ask_refusal, no_list, no_person}
+use Rattle.archive_results.specs.Access.{Ask, view_of, reader_standing, own_of, marks_of, facts_of, ruling_on, asked_of, served, denied_by, absent, ask_refusal, no_list, no_person}
 
 -- arrived on 2003-03-04, and withdrawn by its author
 abbrev first : Message
@@ -36,6 +38,8 @@ archive = record {
       ∷ record { person = codes "sue"; list = codes "other"; rank = pos 3; from_day = pos 12000; until_day = pos 20000 } ∷ [];
   messages = first ∷ elsewhere ∷ second ∷ [];
   filings = [];
+  options = [];
+  addresses = [];
 }
 
 abbrev withdrawn_rule : Rule
@@ -72,12 +76,12 @@ nobody_is_the_public : reader_standing archive (by rules None (pos 12131)) ≡ P
 nobody_is_the_public = refl
 
 -- ---- facts: the reading day is that of the question, and the arrival day that of the message
-the_facts : facts_of (by rules None (pos 12131)) (record { standing = Public }) (marks_of second)
-    ≡ record { list = codes "soc"; standing = Public; day = pos 12131; arrival_day = pos 12115; withdrawn = No; embargo_until = Some (pos 12143) }
+the_facts : facts_of (by rules None (pos 12131)) (record { standing = Public; address = None }) (marks_of None second)
+    ≡ record { list = codes "soc"; standing = Public; day = pos 12131; arrival_day = pos 12115; withdrawn = No; embargo_until = Some (pos 12143); own = false }
 unfolding marks_of
 the_facts = refl
 
-withdrawn_by_the_board : (marks_of (record first { withdrawn = pos 2 })).withdrawn ≡ Board
+withdrawn_by_the_board : (marks_of None (record first { withdrawn = pos 2 })).withdrawn ≡ Board
 unfolding marks_of
 withdrawn_by_the_board = refl
 
@@ -118,6 +122,66 @@ before_it_came = refl
 on_the_day_it_came : keys_seen (by (record all_rule { age_min = Some 0 } ∷ []) None (pos 12115)) ≡ codes "k1" ∷ codes "k2" ∷ []
 unfolding marks_of ruling_on
 on_the_day_it_came = refl
+
+-- ---- own messages
+
+-- a message of anna's, which the board withdrew
+abbrev annas : Message
+annas = record first { text = codes "From: Anna <ANNA@example.org>\n\nOne.\n"; withdrawn = pos 2 }
+
+-- a message without an author
+abbrev nobodys : Message
+nobodys = record second { text = codes "Two.\n" }
+
+-- anna has an address, as it is kept, and so has eve; bob has none
+abbrev with_annas : Archive
+with_annas = record archive {
+  persons = record { name = codes "anna"; token = codes "0123456789abcdef" } ∷ record { name = codes "bob"; token = codes "0123456789abcdeF" }
+      ∷ record { name = codes "eve"; token = codes "0123456789abcdEF" } ∷ [];
+  messages = annas ∷ nobodys ∷ [];
+  addresses = record { person = codes "eve"; address = codes "eve@example.org" } ∷ record { person = codes "anna"; address = codes "anna@example.org" } ∷ [];
+}
+
+abbrev mine_rule : Rule
+mine_rule = record open_rule { name = codes "mine"; own = Some true }
+
+abbrev own_rules : List Rule
+own_rules = mine_rule ∷ withdrawn_rule ∷ all_rule ∷ []
+
+its_author : asked_of with_annas (by own_rules (Some (codes "anna")) (pos 12131)) (codes "k1") ≡ served annas.text
+unfolding marks_of ruling_on lines is_empty_line content fields_of header_blocks unfolded
+its_author = refl
+
+one_without_an_address : asked_of with_annas (by own_rules (Some (codes "bob")) (pos 12131)) (codes "k1") ≡ denied_by (codes "withdrawn")
+unfolding marks_of ruling_on
+one_without_an_address = refl
+
+one_of_another_address : asked_of with_annas (by own_rules (Some (codes "eve")) (pos 12131)) (codes "k1") ≡ denied_by (codes "withdrawn")
+unfolding marks_of ruling_on lines is_empty_line content fields_of header_blocks unfolded
+one_of_another_address = refl
+
+nobody_at_all : asked_of with_annas (by own_rules None (pos 12131)) (codes "k1") ≡ denied_by (codes "withdrawn")
+unfolding marks_of ruling_on
+nobody_at_all = refl
+
+-- no reader's address is the empty author key
+of_no_author : own_of (Some (codes "anna@example.org")) nobodys ≡ false
+unfolding lines is_empty_line content fields_of header_blocks unfolded
+of_no_author = refl
+
+-- the author sees it among the others, as it was
+in_its_authors_view : map (λ m. m.key) (view_of with_annas (by own_rules (Some (codes "anna")) (pos 12131))) ≡ codes "k1" ∷ codes "k2" ∷ []
+unfolding marks_of ruling_on lines is_empty_line content fields_of header_blocks unfolded
+in_its_authors_view = refl
+
+not_in_anothers : map (λ m. m.key) (view_of with_annas (by own_rules (Some (codes "bob")) (pos 12131))) ≡ codes "k2" ∷ []
+unfolding marks_of ruling_on
+not_in_anothers = refl
+
+-- a rule that stands before it still denies
+after_a_denial : asked_of with_annas (by (withdrawn_rule ∷ own_rules) (Some (codes "anna")) (pos 12131)) (codes "k1") ≡ denied_by (codes "withdrawn")
+unfolding marks_of ruling_on lines is_empty_line content fields_of header_blocks unfolded
+after_a_denial = refl
 
 -- ---- one message
 

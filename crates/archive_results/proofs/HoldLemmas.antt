@@ -58,30 +58,30 @@ same_length : (view : List Shown) → length (lines_of view) ≡ length (map (λ
 same_length [] = refl
 same_length (s ∷ view) = ap suc (same_length view)
 
-abbrev thread_at : List Shown → Option ℕ → Option (List TreeLine)
-thread_at view place = option_map (λ range. map (tree_line (lines_of view)) (within range (rows_of view))) (option_and_then (top_thread_of (rows_of view)) place)
+abbrev thread_at : Bool → List Shown → Option ℕ → Option (List TreeLine)
+thread_at merge view place = option_map (λ range. map (tree_line (lines_of view)) (within range (rows_of merge view))) (option_and_then (top_thread_of (rows_of merge view)) place)
 
-abbrev thread_from : List Shown → (place : ℕ) → Option ℕ → Option (List TreeLine)
-thread_from view place row =
-    option_map (λ range. map (tree_line (lines_of view)) (within range (rows_of view))) (option_map (λ at. (last_top (rows_of view) at, next_top (rows_of view) at)) row)
+abbrev thread_from : Bool → List Shown → (place : ℕ) → Option ℕ → Option (List TreeLine)
+thread_from merge view place row =
+    option_map (λ range. map (tree_line (lines_of view)) (within range (rows_of merge view))) (option_map (λ at. (last_top (rows_of merge view) at, next_top (rows_of merge view) at)) row)
 
-module _ (each : (entries : List Entry) (merge : Bool) → HasEachPlaceOnce (length entries) (threads_of entries merge)) (key : List ℕ) (view : List Shown) where
-  not_held : holds key view ≡ false → thread_lines key view ≡ None
-  not_held e = ap (thread_at view) (position_none (λ l. bytes_eq l.key key) (lines_of view) (sym (line_held key view) ∙ e))
+module _ (each : (entries : List Entry) (merge : Bool) → HasEachPlaceOnce (length entries) (threads_of entries merge)) (merge : Bool) (key : List ℕ) (view : List Shown) where
+  not_held : holds key view ≡ false → thread_lines merge key view ≡ None
+  not_held e = ap (thread_at merge view) (position_none (λ l. bytes_eq l.key key) (lines_of view) (sym (line_held key view) ∙ e))
 
-  held : holds key view ≡ true → is_none (thread_lines key view) ≡ false
+  held : holds key view ≡ true → is_none (thread_lines merge key view) ≡ false
   held e =
       let passes : list_any (λ l. bytes_eq l.key key) (lines_of view) ≡ true = sym (line_held key view) ∙ e in
       let at : ℕ = position_or_len (λ l. bytes_eq l.key key) (lines_of view) in
       let below : at < length (lines_of view) = position_within (λ l. bytes_eq l.key key) (lines_of view) passes in
       let low : at < length (map (λ s. entry_of s.item) view) = omega (arith, below, same_length view) in
-      let there : list_any (is_row_of at) (rows_of view) ≡ true = row_there at (rows_of view) ((each (map (λ s. entry_of s.item) view) true).once at low) in
-      ap (λ (o : Option ℕ). is_none (thread_at view o)) (position_some (λ l. bytes_eq l.key key) (lines_of view) passes)
-      ∙ ap (λ (o : Option ℕ). is_none (thread_from view at o)) (position_some (is_row_of at) (rows_of view) there)
+      let there : list_any (is_row_of at) (rows_of merge view) ≡ true = row_there at (rows_of merge view) ((each (map (λ s. entry_of s.item) view) merge).once at low) in
+      ap (λ (o : Option ℕ). is_none (thread_at merge view o)) (position_some (λ l. bytes_eq l.key key) (lines_of view) passes)
+      ∙ ap (λ (o : Option ℕ). is_none (thread_from merge view at o)) (position_some (is_row_of at) (rows_of merge view) there)
 
-  pub thread_missing : (thread_lines key view ≡ None) ↔ (holds key view ≡ false)
+  pub thread_missing : (thread_lines merge key view ≡ None) ↔ (holds key view ≡ false)
   thread_missing = (by_test (holds key view) held, not_held)
     where
-      by_test : (t : Bool) → (t ≡ true → is_none (thread_lines key view) ≡ false) → thread_lines key view ≡ None → t ≡ false
+      by_test : (t : Bool) → (t ≡ true → is_none (thread_lines merge key view) ≡ false) → thread_lines merge key view ≡ None → t ≡ false
       by_test false h e = refl
       by_test true h e = absurd (let bad : true ≡ false = sym (ap is_none e) ∙ h refl in cc)

@@ -1,5 +1,5 @@
 -- What the headers of a view give is what the view gives.
-use Rattle.std.proofs.Common.{◌≡◌, ℕ, true, List, [], ◌∷◌, map, Option, Some, None, option_map, Result, Ok, Err, refl, ap, ◌∙◌}
+use Rattle.std.proofs.Common.{◌≡◌, ℕ, Bool, List, [], ◌∷◌, map, Option, Some, None, option_map, Result, Ok, Err, refl, ap, ◌∙◌}
 use Rattle.std.specs.Option.{option_and_then}
 use Rattle.std.specs.Prelude.{IfOk, Vec}
 use Rattle.std.specs.declared.alloc.Global.{Global}
@@ -29,36 +29,36 @@ pub lines_are_ok : {E : Type 0} (view : List Message) (headers : List Header) (r
 lines_are_ok view headers (Ok lines) e h = lines_are view headers lines.items e h
 lines_are_ok view headers (Err fault) e h = tt
 
-pub rows_are : (view : List Message) (headers : List Header) (entries : List Entry) (rows : List Row) → IsIndexOf view headers → entries ≡ entries_in headers → rows ≡ threads_of entries true → rows ≡ rows_of (map shown_of view)
-rows_are view headers entries rows e h r = r ∙ ap (λ (es : List Entry). threads_of es true) (h ∙ ap entries_in e ∙ entries_of_view view)
+pub rows_are : (merge : Bool) (view : List Message) (headers : List Header) (entries : List Entry) (rows : List Row) → IsIndexOf view headers → entries ≡ entries_in headers → rows ≡ threads_of entries merge → rows ≡ rows_of merge (map shown_of view)
+rows_are merge view headers entries rows e h r = r ∙ ap (λ (es : List Entry). threads_of es merge) (h ∙ ap entries_in e ∙ entries_of_view view)
 
 -- ---- threads
 
-pub trees_are : (view : List Message) (lines : List Line) (rows : List Row) (shown : List TreeLine) → lines ≡ lines_of (map shown_of view) → rows ≡ rows_of (map shown_of view) → shown ≡ map (tree_line lines) rows
-    → shown ≡ tree_lines (map shown_of view)
-trees_are view lines rows shown l r s = s ∙ ap (map (tree_line lines)) r ∙ ap (λ (ls : List Line). map (tree_line ls) (rows_of (map shown_of view))) l
+pub trees_are : (merge : Bool) (view : List Message) (lines : List Line) (rows : List Row) (shown : List TreeLine) → lines ≡ lines_of (map shown_of view) → rows ≡ rows_of merge (map shown_of view) → shown ≡ map (tree_line lines) rows
+    → shown ≡ tree_lines merge (map shown_of view)
+trees_are merge view lines rows shown l r s = s ∙ ap (map (tree_line lines)) r ∙ ap (λ (ls : List Line). map (tree_line ls) (rows_of merge (map shown_of view))) l
 
 abbrev thread_from : List ℕ → List Line → List Row → Option (List TreeLine)
 thread_from key lines rows = option_map (λ range. map (tree_line lines) (within range rows)) (option_and_then (top_thread_of rows) (place_of key lines))
 
-thread_by_parts : (key : List ℕ) (view : List Message) (lines : List Line) (rows : List Row) → lines ≡ lines_of (map shown_of view) → rows ≡ rows_of (map shown_of view)
-    → thread_from key lines rows ≡ thread_lines key (map shown_of view)
-thread_by_parts key view lines rows l r = ap (λ (ls : List Line). thread_from key ls rows) l ∙ ap (thread_from key (lines_of (map shown_of view))) r
+thread_by_parts : (merge : Bool) (key : List ℕ) (view : List Message) (lines : List Line) (rows : List Row) → lines ≡ lines_of (map shown_of view) → rows ≡ rows_of merge (map shown_of view)
+    → thread_from key lines rows ≡ thread_lines merge key (map shown_of view)
+thread_by_parts merge key view lines rows l r = ap (λ (ls : List Line). thread_from key ls rows) l ∙ ap (thread_from key (lines_of (map shown_of view))) r
 
-pub no_place : (key : List ℕ) (view : List Message) (lines : List Line) → lines ≡ lines_of (map shown_of view) → None ≡ place_of key lines → None ≡ thread_lines key (map shown_of view)
-no_place key view lines l p =
-    ap (λ (place : Option ℕ). option_map (λ range. map (tree_line lines) (within range (rows_of (map shown_of view)))) (option_and_then (top_thread_of (rows_of (map shown_of view))) place)) p
-    ∙ thread_by_parts key view lines (rows_of (map shown_of view)) l refl
+pub no_place : (merge : Bool) (key : List ℕ) (view : List Message) (lines : List Line) → lines ≡ lines_of (map shown_of view) → None ≡ place_of key lines → None ≡ thread_lines merge key (map shown_of view)
+no_place merge key view lines l p =
+    ap (λ (place : Option ℕ). option_map (λ range. map (tree_line lines) (within range (rows_of merge (map shown_of view)))) (option_and_then (top_thread_of (rows_of merge (map shown_of view))) place)) p
+    ∙ thread_by_parts merge key view lines (rows_of merge (map shown_of view)) l refl
 
-pub no_thread : (key : List ℕ) (view : List Message) (lines : List Line) (rows : List Row) (place : ℕ) → lines ≡ lines_of (map shown_of view) → rows ≡ rows_of (map shown_of view)
-    → Some place ≡ place_of key lines → None ≡ top_thread_of rows place → None ≡ thread_lines key (map shown_of view)
-no_thread key view lines rows place l r p t =
+pub no_thread : (merge : Bool) (key : List ℕ) (view : List Message) (lines : List Line) (rows : List Row) (place : ℕ) → lines ≡ lines_of (map shown_of view) → rows ≡ rows_of merge (map shown_of view)
+    → Some place ≡ place_of key lines → None ≡ top_thread_of rows place → None ≡ thread_lines merge key (map shown_of view)
+no_thread merge key view lines rows place l r p t =
     ap (option_map (λ range. map (tree_line lines) (within range rows))) (t ∙ ap (option_and_then (top_thread_of rows)) p)
-    ∙ thread_by_parts key view lines rows l r
+    ∙ thread_by_parts merge key view lines rows l r
 
-pub one_thread : (key : List ℕ) (view : List Message) (lines : List Line) (rows part : List Row) (place : ℕ) (range : ℕ × ℕ) (shown : List TreeLine) → lines ≡ lines_of (map shown_of view) → rows ≡ rows_of (map shown_of view)
-    → Some place ≡ place_of key lines → Some range ≡ top_thread_of rows place → part ≡ within range rows → shown ≡ map (tree_line lines) part → Some shown ≡ thread_lines key (map shown_of view)
-one_thread key view lines rows part place range shown l r p t w s =
+pub one_thread : (merge : Bool) (key : List ℕ) (view : List Message) (lines : List Line) (rows part : List Row) (place : ℕ) (range : ℕ × ℕ) (shown : List TreeLine) → lines ≡ lines_of (map shown_of view) → rows ≡ rows_of merge (map shown_of view)
+    → Some place ≡ place_of key lines → Some range ≡ top_thread_of rows place → part ≡ within range rows → shown ≡ map (tree_line lines) part → Some shown ≡ thread_lines merge key (map shown_of view)
+one_thread merge key view lines rows part place range shown l r p t w s =
     ap (λ (ts : List TreeLine). Some ts) (s ∙ ap (map (tree_line lines)) w)
     ∙ ap (option_map (λ range. map (tree_line lines) (within range rows))) (t ∙ ap (option_and_then (top_thread_of rows)) p)
-    ∙ thread_by_parts key view lines rows l r
+    ∙ thread_by_parts merge key view lines rows l r

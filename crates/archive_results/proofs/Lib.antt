@@ -7,3 +7,5 @@ pub mod ShownExamples
 pub mod SlotLemmas
 pub mod SortLemmas
 pub mod FiledLemmas
+pub mod OwnLemmas
+pub mod PromiseLemmas

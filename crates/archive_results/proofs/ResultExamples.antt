@@ -81,35 +81,40 @@ in_order = refl
 
 -- ---- threads
 
-a_thread : tree (tree_lines (hello ∷ re_hello ∷ [])) ≡ (0, Some (codes "k1")) ∷ (1, Some (codes "k2")) ∷ []
+a_thread : tree (tree_lines true (hello ∷ re_hello ∷ [])) ≡ (0, Some (codes "k1")) ∷ (1, Some (codes "k2")) ∷ []
 unfolding lines is_empty_line content fields_of header_blocks unfolded tokens_of tokens_from token_at kind_of date_at ids_from rest_within spaced next_of without_trailer after after_closing without_leader after_leader after_refwd without_blob without_pair after_spaces without_front
 a_thread = refl
 
-no_threads : tree_lines [] ≡ []
+-- a reply of the same subject that names no message stands for itself where threads are not gathered
+not_gathered : tree (tree_lines false (hello ∷ re_hello ∷ [])) ≡ (0, Some (codes "k1")) ∷ (0, Some (codes "k2")) ∷ []
+unfolding lines is_empty_line content fields_of header_blocks unfolded tokens_of tokens_from token_at kind_of date_at ids_from rest_within spaced next_of without_trailer after after_closing without_leader after_leader after_refwd without_blob without_pair after_spaces without_front
+not_gathered = refl
+
+no_threads : tree_lines true [] ≡ []
 no_threads = refl
 
 abbrev reply_to_missing : List ℕ → ℤ → Shown
 reply_to_missing key arrival = message key arrival (codes "In-Reply-To: <p@q>\n\n")
 
 -- one reply to a message that is missing or withheld, and two
-one_reply : tree (tree_lines (reply_to_missing (codes "a") (pos 5) ∷ [])) ≡ (0, Some (codes "a")) ∷ []
+one_reply : tree (tree_lines true (reply_to_missing (codes "a") (pos 5) ∷ [])) ≡ (0, Some (codes "a")) ∷ []
 unfolding lines is_empty_line content fields_of header_blocks unfolded tokens_of tokens_from token_at kind_of date_at ids_from next_piece id_at sides_of right_from is_left is_right closing_rest comment_mark after_quote quote_mark unquoted rest_within spaced next_of without_trailer after after_closing without_leader after_leader after_refwd without_blob without_pair after_spaces without_front
 one_reply = refl
 
-two_replies : tree (tree_lines (reply_to_missing (codes "a") (pos 5) ∷ reply_to_missing (codes "b") (pos 4) ∷ [])) ≡ (0, None) ∷ (1, Some (codes "b")) ∷ (1, Some (codes "a")) ∷ []
+two_replies : tree (tree_lines true (reply_to_missing (codes "a") (pos 5) ∷ reply_to_missing (codes "b") (pos 4) ∷ [])) ≡ (0, None) ∷ (1, Some (codes "b")) ∷ (1, Some (codes "a")) ∷ []
 unfolding lines is_empty_line content fields_of header_blocks unfolded tokens_of tokens_from token_at kind_of date_at ids_from next_piece id_at sides_of right_from is_left is_right closing_rest comment_mark after_quote quote_mark unquoted rest_within spaced next_of without_trailer after after_closing without_leader after_leader after_refwd without_blob without_pair after_spaces without_front
 two_replies = refl
 
 -- the thread of a message is that of its top alone
-of_the_reply : option_map tree (thread_lines (codes "k2") (message (codes "k4") (pos 5) [] ∷ hello ∷ re_hello ∷ [])) ≡ Some ((0, Some (codes "k1")) ∷ (1, Some (codes "k2")) ∷ [])
+of_the_reply : option_map tree (thread_lines true (codes "k2") (message (codes "k4") (pos 5) [] ∷ hello ∷ re_hello ∷ [])) ≡ Some ((0, Some (codes "k1")) ∷ (1, Some (codes "k2")) ∷ [])
 unfolding lines is_empty_line content fields_of header_blocks unfolded tokens_of tokens_from token_at kind_of date_at ids_from rest_within spaced next_of without_trailer after after_closing without_leader after_leader after_refwd without_blob without_pair after_spaces without_front
 of_the_reply = refl
 
-of_the_other : option_map tree (thread_lines (codes "k4") (message (codes "k4") (pos 5) [] ∷ hello ∷ re_hello ∷ [])) ≡ Some ((0, Some (codes "k4")) ∷ [])
+of_the_other : option_map tree (thread_lines true (codes "k4") (message (codes "k4") (pos 5) [] ∷ hello ∷ re_hello ∷ [])) ≡ Some ((0, Some (codes "k4")) ∷ [])
 unfolding lines is_empty_line content fields_of header_blocks unfolded tokens_of tokens_from token_at kind_of date_at ids_from rest_within spaced next_of without_trailer after after_closing without_leader after_leader after_refwd without_blob without_pair after_spaces without_front
 of_the_other = refl
 
-of_a_key_that_is_not_there : thread_lines (codes "k9") (hello ∷ []) ≡ None
+of_a_key_that_is_not_there : thread_lines true (codes "k9") (hello ∷ []) ≡ None
 unfolding lines is_empty_line content fields_of header_blocks unfolded tokens_of tokens_from token_at kind_of date_at ids_from rest_within spaced next_of without_trailer after after_closing without_leader after_leader after_refwd without_blob without_pair after_spaces without_front
 of_a_key_that_is_not_there = refl
 

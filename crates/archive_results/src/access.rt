@@ -1,37 +1,42 @@
 //! What a policy says of a message.
-ghost use Rattle.std.specs.Prelude.{◌≡◌, ℕ, List, IfOk, option_map};
+ghost use Rattle.std.specs.Prelude.{◌≡◌, ℕ, List, Bool, None, false, IfOk, IsOk, option_map, string_bytes};
 ghost use Rattle.policy_core.specs.Verdict.{ruling};
 ghost use Rattle.archive_machine.specs.Messages.{remembered};
-ghost use Rattle.archive_results.specs.Access.{marks_of, ruling_on, allows, is_shown, asked_on, told};
+ghost use Rattle.archive_results.specs.Access.{own_of, marks_of, ruling_on, is_shown, asks_author, asked_on, told};
 
 use crate::asking::{Ask, Asked};
 use archive_machine::Message;
 use civil_time::{Day, Instant};
-use mail_core::Memory;
+use mail_core::{Memory, author_key};
 use policy_core::{Facts, Standing, Verdict, Withdrawn};
 use std::alloc::Global;
 use std::marker::Model;
 
-/// What a policy asks of a reader: the standing on the list and the day.
+/// What a policy asks of a reader: the standing on the list and the day, and the address of a person who has one.
 #[derive(Drop)]
 pub struct ReaderMarks {
     pub standing: Standing,
+    /// In ASCII lower case. `None` for nobody in particular, and for a person without one.
+    pub address: Option<String>,
 }
 
 impl Model for ReaderMarks {
+    ghost use Rattle.std.specs.Prelude.{option_map, string_bytes};
     ghost use Rattle.archive_results.specs.Access.{ReaderMarks as Reading};
 
     ghost Value = { Reading };
 
-    ghost view = { λ r. record { standing = r.standing } };
+    ghost view = { λ r. record { standing = r.standing; address = option_map string_bytes r.address } };
 }
 
-/// What a policy asks of a message: when it came, who withdrew it, and the day up to which it is held back.
+/// What a policy asks of a message: when it came, who withdrew it, the day up to which it is held back, and whether it is the
+/// reader's own.
 #[derive(Clone, Copy)]
 pub struct Marks {
     pub arrival: Instant,
     pub withdrawn: Withdrawn,
     pub embargo_until: Option<Day>,
+    pub own: bool,
 }
 
 impl Model for Marks {
@@ -39,21 +44,44 @@ impl Model for Marks {
 
     ghost Value = { Facts };
 
-    ghost view = { λ m. record { arrival = m.arrival; withdrawn = m.withdrawn; embargo_until = m.embargo_until } };
+    ghost view = { λ m. record { arrival = m.arrival; withdrawn = m.withdrawn; embargo_until = m.embargo_until; own = m.own } };
 
-    ghost inverse = { λ m. record { arrival = m.arrival; withdrawn = m.withdrawn; embargo_until = m.embargo_until } };
+    ghost inverse = { λ m. record { arrival = m.arrival; withdrawn = m.withdrawn; embargo_until = m.embargo_until; own = m.own } };
 }
 
-/// What a policy asks of a message.
+/// Whether a message is the own one of a reader with this address. It takes memory only where there is one.
+fn is_own(alloc: Global, address: &Option<String>, message: &Message) -> Result<bool, Memory>
+    ensures own { (list : List ℕ) → IfOk result (λ own. own ≡ own_of (option_map string_bytes address.now) (remembered list message.now)) }
+    ensures free { address.now ≡ None → IsOk result }
+{
+    let Some(address) = address else {
+        return Ok(false);
+    };
+    let key = author_key(alloc, message.item.as_item().text)?;
+    Ok(address.as_bytes() == key.as_slice())
+}
+
+/// The marks of a message that is the reader's own or is not.
 #[tactic(auto, unfolding(crate::specs::Access::marks_of))]
-pub fn marks_of(message: &Message) -> Marks
-    ensures { (list : List ℕ) → result ≡ marks_of (remembered list message.now) }
+fn marks_with(own: bool, message: &Message) -> Marks
+    ensures { (list : List ℕ) → result ≡ record (marks_of None (remembered list message.now)) { own = own } }
 {
     Marks {
         arrival: message.item.as_item().envelope.arrival,
         withdrawn: message.withdrawn,
         embargo_until: message.embargo_until,
+        own,
     }
+}
+
+/// What a policy asks of a message, where the reader has this address. `Memory` where no memory is left for the author key,
+/// which is made only where there is an address.
+pub fn marks_of(alloc: Global, address: &Option<String>, message: &Message) -> Result<Marks, Memory>
+    ensures marks { (list : List ℕ) → IfOk result (λ marks. marks ≡ marks_of (option_map string_bytes address.now) (remembered list message.now)) }
+    ensures free { address.now ≡ None → IsOk result }
+{
+    let own = is_own(alloc, address, message)?;
+    Ok(marks_with(own, message))
 }
 
 /// What the policy says of a message of these marks to a reader of these.
@@ -68,29 +96,49 @@ fn verdict<'a>(ask: &Ask<'a>, reader: &ReaderMarks, marks: Marks) -> Verdict<'a>
         arrival_day: marks.arrival.day(),
         withdrawn: marks.withdrawn,
         embargo_until: marks.embargo_until,
+        own: marks.own,
     };
     ask.policy.verdict(&facts)
 }
 
-/// Whether the policy allows a message of these marks to a reader of these. It takes no memory.
-pub fn allows(ask: &Ask<'_>, reader: &ReaderMarks, marks: Marks) -> bool
-    ensures { result ≡ allows ask.now reader.now marks }
+/// What the policy says of a message to a reader of these marks. No From field is read where no rule asks whether the message is
+/// the reader's own, and none where the reader has no address.
+fn judge<'a>(
+    alloc: Global,
+    ask: &Ask<'a>,
+    reader: &ReaderMarks,
+    message: &Message,
+) -> Result<Verdict<'a>, Memory>
+    ensures said { (list : List ℕ) → IfOk result (λ verdict.
+        ruling verdict ≡ ruling_on ask.now reader.now (marks_of reader.now.address (remembered list message.now))) }
+    ensures free { asks_author ask.now reader.now ≡ false → IsOk result }
 {
-    match verdict(ask, reader, marks) {
-        Verdict::Allowed(_) => true,
-        Verdict::Denied(_) => false,
+    if !ask.policy.asks_own() {
+        return Ok(verdict(ask, reader, marks_with(false, message)));
+    }
+    let marks = marks_of(alloc, &reader.address, message)?;
+    Ok(verdict(ask, reader, marks))
+}
+
+/// Whether the policy allows a message to a reader of these marks. `Memory` where no memory is left for the author key, which is
+/// made only where a rule asks whether the message is the reader's own and the reader has an address.
+pub fn is_shown(
+    alloc: Global,
+    ask: &Ask<'_>,
+    reader: &ReaderMarks,
+    message: &Message,
+) -> Result<bool, Memory>
+    ensures shown { (list : List ℕ) → IfOk result (λ shown. shown ≡ is_shown ask.now reader.now (remembered list message.now)) }
+    ensures free { asks_author ask.now reader.now ≡ false → IsOk result }
+{
+    match judge(alloc, ask, reader, message)? {
+        Verdict::Allowed(_) => Ok(true),
+        Verdict::Denied(_) => Ok(false),
     }
 }
 
-/// Whether the policy allows a message to a reader of these marks. It takes no memory.
-pub fn is_shown(ask: &Ask<'_>, reader: &ReaderMarks, message: &Message) -> bool
-    ensures { (list : List ℕ) → result ≡ is_shown ask.now reader.now (remembered list message.now) }
-{
-    allows(ask, reader, marks_of(message))
-}
-
 /// What a reader of these marks gets who asks for a message that the list holds, or for one that it does not hold. `Memory`
-/// where no memory is left for its text.
+/// where no memory is left for its text, or for its author key.
 pub fn asked<'a>(
     alloc: Global,
     ask: &Ask<'a>,
@@ -103,7 +151,7 @@ pub fn asked<'a>(
     let Some(message) = held else {
         return Ok(Asked::Absent);
     };
-    match verdict(ask, reader, marks_of(message)) {
+    match judge(alloc, ask, reader, message)? {
         Verdict::Allowed(_) => Ok(Asked::Served(message.item.as_item().text.to_vec(alloc)?)),
         Verdict::Denied(rule) => Ok(Asked::Denied(rule)),
     }

@@ -103,18 +103,19 @@ fn within<'a>(rows: &'a [Row], first: usize, end: usize) -> &'a [Row]
 }
 
 /// All threads of a view whose headers these are: a row for each message, and one for a message that is missing and has two
-/// replies or more, in preorder. `Memory` where no memory is left.
+/// replies or more, in preorder. Those of one subject are gathered where `merge` is true. `Memory` where no memory is left.
 pub fn tree_lines<T: Threader>(
     alloc: Global,
     threader: &T,
     headers: Vec<Header>,
+    merge: bool,
 ) -> Result<Vec<TreeLine>, Memory>
     ensures { OfEachView headers.items (λ view.
-        IfOk result (λ rows. rows.items ≡ tree_lines (map shown_of view))) }
+        IfOk result (λ rows. rows.items ≡ tree_lines merge (map shown_of view))) }
 {
     each_place_stands_in_one_row();
     let mut parts = split(alloc, headers)?;
-    let rows = threads(alloc, threader, &parts.entries, true)?;
+    let rows = threads(alloc, threader, &parts.entries, merge)?;
     let shown = lines_at(alloc, &mut parts.slots, &rows)?;
     Ok(shown)
 }
@@ -125,20 +126,21 @@ pub fn thread_lines<T: Threader>(
     alloc: Global,
     threader: &T,
     headers: Vec<Header>,
+    merge: bool,
     key: &Key,
 ) -> Result<Option<Vec<TreeLine>>, Memory>
     ensures { OfEachView headers.items (λ view. IfOk result (λ found.
-        option_map (λ rows. rows.items) found ≡ thread_lines key.now (map shown_of view))) }
+        option_map (λ rows. rows.items) found ≡ thread_lines merge key.now (map shown_of view))) }
 {
     each_place_stands_in_one_row();
     let Some(place) = place_of(&headers, key) else {
         return Ok(None);
     };
     let mut parts = split(alloc, headers)?;
-    let rows = threads(alloc, threader, &parts.entries, true)?;
-    let Some((first, end)) = thread_of(&rows, place) else {
+    let all = threads(alloc, threader, &parts.entries, merge)?;
+    let Some((first, end)) = thread_of(&all, place) else {
         return Ok(None);
     };
-    let shown = lines_at(alloc, &mut parts.slots, within(&rows, first, end))?;
+    let shown = lines_at(alloc, &mut parts.slots, within(&all, first, end))?;
     Ok(Some(shown))
 }

@@ -91,10 +91,16 @@ fn asked(
     let noting = fresh_noting(alloc);
     match place {
         None => {
-            tree_lines(alloc, &noting, view(alloc, standing)?)?;
+            tree_lines(alloc, &noting, view(alloc, standing)?, true)?;
         }
         Some(at) => {
-            thread_lines(alloc, &noting, view(alloc, standing)?, &key(alloc, at)?)?;
+            thread_lines(
+                alloc,
+                &noting,
+                view(alloc, standing)?,
+                true,
+                &key(alloc, at)?,
+            )?;
         }
     }
     Ok((

@@ -1,7 +1,11 @@
-//! What is shown of a small list to the public and to a moderator.
+//! What is shown of a small list: to the public, to a moderator, and to who wrote it; and its threads, gathered by subject or not.
 #![tactic(auto)]
 
 #[cfg(test)]
 mod asking;
+#[cfg(test)]
+mod gathering;
+#[cfg(test)]
+mod own;
 #[cfg(test)]
 mod views;

@@ -51,7 +51,7 @@ Subject: Tea
 
 ";
 
-fn ask<'a>(policy: &'a Policy) -> Result<Ask<'a>, Fail> {
+pub fn ask<'a>(policy: &'a Policy) -> Result<Ask<'a>, Fail> {
     Ok(Ask {
         policy,
         reader: Reader::Nobody,
@@ -60,7 +60,7 @@ fn ask<'a>(policy: &'a Policy) -> Result<Ask<'a>, Fail> {
     })
 }
 
-fn message(alloc: Global, item: &Item<'_>, withdrawn: Withdrawn) -> Result<Message, Fail> {
+pub fn message(alloc: Global, item: &Item<'_>, withdrawn: Withdrawn) -> Result<Message, Fail> {
     Ok(Message {
         key: Key::of(item),
         item: OwnedItem::of(alloc, item)?,
@@ -80,14 +80,22 @@ fn messages(alloc: Global) -> Result<Vec<Message>, Fail> {
     Ok(found)
 }
 
+/// A reader of this standing, without an address.
+fn nobody(standing: Standing) -> ReaderMarks {
+    ReaderMarks {
+        standing,
+        address: None,
+    }
+}
+
 /// The headers of what a reader of this standing may read.
 pub fn view(alloc: Global, standing: Standing) -> Result<Vec<Header>, Fail> {
     let policy = Policy::read(alloc, POLICY)?;
     let ask = ask(&policy)?;
-    let reader = ReaderMarks { standing };
+    let reader = nobody(standing);
     let mut found = Vec::new(alloc);
     for message in messages(alloc)? {
-        if is_shown(&ask, &reader, &message) {
+        if is_shown(alloc, &ask, &reader, &message)? {
             found.push(header_of(alloc, &message)?)?;
         }
     }
@@ -105,7 +113,11 @@ fn subjects(alloc: Global, lines: &[Line]) -> Result<Vec<u8>, Fail> {
 }
 
 fn push_row(text: &mut Vec<u8>, row: &TreeLine) -> Result<(), Fail> {
-    text.push(if row.depth == 0 { b'0' } else { b'1' })?;
+    text.push(match row.depth {
+        0 => b'0',
+        1 => b'1',
+        _ => b'2',
+    })?;
     match &row.line {
         Some(line) => text.extend_from_slice(line.subject.as_slice())?,
         None => text.push(b'-')?,
@@ -114,7 +126,7 @@ fn push_row(text: &mut Vec<u8>, row: &TreeLine) -> Result<(), Fail> {
 }
 
 /// Depth and subject of each row, `-` for a message that is missing.
-fn outline(alloc: Global, rows: &[TreeLine]) -> Result<Vec<u8>, Fail> {
+pub fn outline(alloc: Global, rows: &[TreeLine]) -> Result<Vec<u8>, Fail> {
     let mut text = Vec::new(alloc);
     for row in rows {
         push_row(&mut text, row)?;
@@ -128,7 +140,7 @@ fn list(alloc: Global, standing: Standing) -> Result<Vec<u8>, Fail> {
 }
 
 fn tree(alloc: Global, standing: Standing) -> Result<Vec<u8>, Fail> {
-    let rows = tree_lines(alloc, &PlainThreader, view(alloc, standing)?)?;
+    let rows = tree_lines(alloc, &PlainThreader, view(alloc, standing)?, true)?;
     outline(alloc, &rows)
 }
 
@@ -143,7 +155,7 @@ pub fn key(alloc: Global, place: usize) -> Result<Key, Fail> {
 
 fn thread(alloc: Global, standing: Standing, place: usize) -> Result<Vec<u8>, Fail> {
     let key = key(alloc, place)?;
-    match thread_lines(alloc, &PlainThreader, view(alloc, standing)?, &key)? {
+    match thread_lines(alloc, &PlainThreader, view(alloc, standing)?, true, &key)? {
         Some(rows) => outline(alloc, &rows),
         None => Ok(b"none".to_vec(alloc)?),
     }
@@ -202,9 +214,9 @@ fn first(alloc: Global, standing: Standing) -> Result<(Vec<u8>, bool), Fail> {
     let item = cut(MBOX)?.next().ok_or("no message")?;
     let held = Some(message(alloc, &item, Withdrawn::Board)?);
     let ask = ask(&policy)?;
-    let reader = ReaderMarks { standing };
+    let reader = nobody(standing);
     let shown = match &held {
-        Some(message) => is_shown(&ask, &reader, message),
+        Some(message) => is_shown(alloc, &ask, &reader, message)?,
         None => false,
     };
     match asked(alloc, &ask, &reader, &held)? {

@@ -1,0 +1,186 @@
+-- What is withheld leaves no trace in a view, and so neither does what is withdrawn, for those to whom the policy denies it.
+use Rattle.std.proofs.Common.{◌≡◌, ◌≢◌, ◌∙◌, ℕ, ℤ, Bool, true, false, not, cond, nat_lt, nat_le, List, [], ◌∷◌, ◌++◌, length, map, filter, Some, is_some, refl, sym, ap, if◌then◌else◌, arith}
+use Rattle.std.specs.Prelude.{bytes_eq, find, slice_index_or, zip}
+use Rattle.std.specs.List.{All}
+use Rattle.std.proofs.lemmas.List.Elements.{All-head, All-tail}
+use Rattle.std.proofs.lemmas.Slice.Eq.{bytes_eq-Decides}
+use Rattle.mbox_core.specs.Division.{Item, whole}
+use Rattle.policy_core.specs.declared.access.Withdrawn.{Withdrawn}
+use Rattle.policy_core.specs.declared.access.Withdrawn.TheVariants.{No, Author, Board}
+use Rattle.archive_machine.specs.Records.{Message, Filing, Archive}
+use Rattle.archive_machine.specs.Commands.{add, withdraw, no_list, no_message, already_withdrawn, list_full, too_large, done, taken_in, already_known, refused}
+use Rattle.archive_machine.specs.Filing.{Filed, item_filing}
+use Rattle.archive_machine.specs.Keys.{item_key}
+use Rattle.archive_machine.specs.Machine.{step, refuse, changed, with_change, withdrawn_by, keyed_message, with_message, longest_text, message_limit}
+use Rattle.archive_machine.specs.Messages.{number_of}
+use Rattle.archive_machine.specs.Questions.{has_list, has_message, message_of, messages_in, is_message, is_withdrawn}
+use Rattle.archive_results.specs.Access.{Ask, ReaderMarks, marks_of, own_of, withdrawal_numbered, reader_marks, is_shown, view_of}
+use Rattle.archive_results.specs.Promise.{without, beside, IsWithheld, IsOfAnother, DeniesWithdrawn}
+
+-- ---- the view of some messages, by what is shown of each
+
+module _ (ask : Ask) (reader : ReaderMarks) (list key : List ℕ) where
+  abbrev kept : Message → Bool
+  kept m = bytes_eq m.list ask.list
+
+  abbrev seen : List Message → List Message
+  seen messages = filter (is_shown ask reader) (filter kept messages)
+
+  abbrev gone : List Message → List Message
+  gone messages = filter (λ m. not (is_message list key m)) messages
+
+  unseen : (m : Message) (messages : List Message) → is_shown ask reader m ≡ false → seen (m ∷ messages) ≡ seen messages
+  unseen m messages hidden = by_list (kept m)
+    where
+      by_list : (b : Bool) → filter (is_shown ask reader) (cond b (m ∷ filter kept messages) (filter kept messages)) ≡ seen messages
+      by_list true = rw hidden refl
+      by_list false = refl
+
+  same_seen : (m : Message) (xs ys : List Message) → seen xs ≡ seen ys → seen (m ∷ xs) ≡ seen (m ∷ ys)
+  same_seen m xs ys same = by_list (kept m)
+    where
+      by_list : (b : Bool) → filter (is_shown ask reader) (cond b (m ∷ filter kept xs) (filter kept xs)) ≡ filter (is_shown ask reader) (cond b (m ∷ filter kept ys) (filter kept ys))
+      by_list true = ap (λ (rest : List Message). cond (is_shown ask reader m) (m ∷ rest) rest) same
+      by_list false = same
+
+  -- each message as it is or, where it is of this key, as it becomes, of which nothing is seen
+  module _ (becomes : Message → Message) where
+    abbrev Hidden : Message → Type 0
+    Hidden m = is_message list key m ≡ true → is_shown ask reader (becomes m) ≡ false
+
+    gone_more : (m : Message) (messages : List Message) (b : Bool) → is_message list key m ≡ b → Hidden m → seen (map (changed list key becomes) messages) ≡ seen (gone messages)
+        → seen ((if b then becomes m else m) ∷ map (changed list key becomes) messages) ≡ seen (cond (not b) (m ∷ gone messages) (gone messages))
+    gone_more m messages true is hidden later = unseen (becomes m) (map (changed list key becomes) messages) (hidden is) ∙ later
+    gone_more m messages false is hidden later = same_seen m (map (changed list key becomes) messages) (gone messages) later
+
+    pub as_gone : (messages : List Message) → All Hidden messages → seen (map (changed list key becomes) messages) ≡ seen (gone messages)
+    as_gone [] hidden = refl
+    as_gone (m ∷ messages) hidden =
+        gone_more m messages (is_message list key m) refl (All-head Hidden m messages hidden) (as_gone messages (All-tail Hidden m messages hidden))
+
+  unchanged : (messages : List Message) → map (changed list key (λ m. m)) messages ≡ messages
+  unchanged [] = refl
+  unchanged (m ∷ messages) = ap (λ (n : Message). n ∷ map (changed list key (λ x. x)) messages) (by_key (is_message list key m)) ∙ ap (λ (ms : List Message). m ∷ ms) (unchanged messages)
+    where
+      by_key : (b : Bool) → (if b then m else m) ≡ m
+      by_key true = refl
+      by_key false = refl
+
+pub leaves_no_trace : (a : Archive) (ask : Ask) (list key : List ℕ) → IsWithheld a ask list key → view_of a ask ≡ view_of (without a list key) ask
+leaves_no_trace a ask list key hidden =
+    let reader : ReaderMarks = reader_marks a ask in
+    ap (seen ask reader list key) (sym (unchanged ask reader list key a.messages)) ∙ as_gone ask reader list key (λ m. m) a.messages hidden
+
+-- ---- a withdrawal
+
+-- what one that is done leaves
+withdrawn_left : (a : Archive) (list key : List ℕ) (party : ℤ) → (step a (withdraw list key party)).1 ≡ done → (step a (withdraw list key party)).0 ≡ with_change a list key (withdrawn_by party)
+withdrawn_left a list key party = by_tests (has_list a list) (has_message a list key) (is_withdrawn (message_of a list key))
+  where
+    left : Archive
+    left = with_change a list key (withdrawn_by party)
+
+    by_tests : (l m w : Bool)
+        → (if not l then refuse a no_list else if not m then refuse a no_message else if w then refuse a already_withdrawn else (left, done)).1 ≡ done
+        → (if not l then refuse a no_list else if not m then refuse a no_message else if w then refuse a already_withdrawn else (left, done)).0 ≡ left
+    by_tests false m w e = absurd (let bad : refused no_list ≡ done = e in cc)
+    by_tests true false w e = absurd (let bad : refused no_message ≡ done = e in cc)
+    by_tests true true true e = absurd (let bad : refused already_withdrawn ≡ done = e in cc)
+    by_tests true true false e = refl
+
+pub all_else_alike : (a : Archive) (list key : List ℕ) (party : ℤ) → beside (step a (withdraw list key party)).0 ≡ beside (without a list key)
+all_else_alike a list key party = by_tests (has_list a list) (has_message a list key) (is_withdrawn (message_of a list key))
+  where
+    left : Archive
+    left = with_change a list key (withdrawn_by party)
+
+    by_tests : (l m w : Bool)
+        → beside (if not l then refuse a no_list else if not m then refuse a no_message else if w then refuse a already_withdrawn else (left, done)).0 ≡ beside a
+    by_tests false m w = refl
+    by_tests true false w = refl
+    by_tests true true true = refl
+    by_tests true true false = refl
+
+-- the marks of a message that was withdrawn
+numbered : (by : Withdrawn) → withdrawal_numbered (number_of by) ≡ by
+numbered No = refl
+numbered Author = refl
+numbered Board = refl
+
+hidden_by : (ask : Ask) (reader : ReaderMarks) (by : Withdrawn) (m : Message) → by ≢ No → DeniesWithdrawn ask reader → own_of reader.address m ≡ false
+    → is_shown ask reader (withdrawn_by (number_of by) m) ≡ false
+unfolding marks_of
+hidden_by ask reader by m some denies other =
+    denies (marks_of reader.address (withdrawn_by (number_of by) m)) (λ e. some (sym (numbered by) ∙ e)) other
+
+pub as_if_it_never_came : (a : Archive) (ask : Ask) (list key : List ℕ) (by : Withdrawn) → by ≢ No → (step a (withdraw list key (number_of by))).1 ≡ done
+    → IsOfAnother a ask list key → DeniesWithdrawn ask (reader_marks a ask) → view_of (step a (withdraw list key (number_of by))).0 ask ≡ view_of (without a list key) ask
+as_if_it_never_came a ask list key by some is others denies =
+    let reader : ReaderMarks = reader_marks a ask in
+    ap (λ (archive : Archive). view_of archive ask) (withdrawn_left a list key (number_of by) is)
+    ∙ as_gone ask reader list key (withdrawn_by (number_of by)) a.messages
+    (λ k d within of_key. hidden_by ask reader by (slice_index_or a.messages k d) some denies (others k d within of_key))
+
+-- ---- the message that came last
+
+none_there : (list key : List ℕ) (m : Message) (messages : List Message) → is_some (find (is_message list key) (m ∷ messages)) ≡ false
+    → (is_message list key m ≡ false) × (is_some (find (is_message list key) messages) ≡ false)
+none_there list key m messages none = by_test (is_message list key m) none
+  where
+    by_test : (b : Bool) → is_some (cond b (Some m) (find (is_message list key) messages)) ≡ false → (b ≡ false) × (is_some (find (is_message list key) messages) ≡ false)
+    by_test true e = absurd (cc)
+    by_test false e = (refl, e)
+
+module _ (list key : List ℕ) (new : Message) (filing : Filing) (is : is_message list key new ≡ true) where
+  messages_left : (messages : List Message) → is_some (find (is_message list key) messages) ≡ false
+      → filter (λ m. not (is_message list key m)) (messages ++ new ∷ []) ≡ messages
+  messages_left [] none = rw is refl
+  messages_left (m ∷ messages) none =
+      let first = none_there list key m messages none in
+      rw first.0 (ap (λ (rest : List Message). m ∷ rest) (messages_left messages first.1))
+
+  filings_left : (messages : List Message) (filings : List Filing) → length filings ≡ length messages → is_some (find (is_message list key) messages) ≡ false
+      → map (λ (f : Filed). f.1) (filter (λ (f : Filed). not (is_message list key f.0)) (zip (messages ++ new ∷ []) (filings ++ filing ∷ []))) ≡ filings
+  filings_left [] [] same none = rw is refl
+  filings_left [] (f ∷ filings) same none = absurd (omega (arith, same))
+  filings_left (m ∷ messages) [] same none = absurd (omega (arith, same))
+  filings_left (m ∷ messages) (f ∷ filings) same none =
+      let first = none_there list key m messages none in
+      rw first.0 (ap (λ (rest : List Filing). f ∷ rest) (filings_left messages filings (omega (arith, same)) first.1))
+
+-- what taking one in leaves
+taken_left : (a : Archive) (list : List ℕ) (item : Item) → (step a (add list item)).1 ≡ taken_in
+    → (has_message a list (item_key item) ≡ false) × ((step a (add list item)).0 ≡ with_message a list item)
+taken_left a list item =
+    by_tests (has_list a list) (nat_lt longest_text (length (whole item.text))) (has_message a list (item_key item)) (nat_le message_limit (length (messages_in a list)))
+  where
+    left : Archive
+    left = with_message a list item
+
+    by_tests : (l b m f : Bool)
+        → (if not l then refuse a no_list else if b then refuse a too_large else if m then (a, already_known) else if f then refuse a list_full else (left, taken_in)).1 ≡ taken_in
+        → (m ≡ false) × ((if not l then refuse a no_list else if b then refuse a too_large else if m then (a, already_known) else if f then refuse a list_full else (left, taken_in)).0 ≡ left)
+    by_tests false b m f e = absurd (let bad : refused no_list ≡ taken_in = e in cc)
+    by_tests true true m f e = absurd (let bad : refused too_large ≡ taken_in = e in cc)
+    by_tests true false true f e = absurd (let bad : already_known ≡ taken_in = e in cc)
+    by_tests true false false true e = absurd (let bad : refused list_full ≡ taken_in = e in cc)
+    by_tests true false false false e = (refl, refl)
+
+itself : (a : List ℕ) → bytes_eq a a ≡ true
+itself a = (bytes_eq-Decides a a).1 refl
+
+keyed : (list key : List ℕ) (item : Item) → is_message list key (keyed_message list key item) ≡ true
+keyed list key item = rw (itself list) (itself key)
+
+pub before_it_came : (a : Archive) (list : List ℕ) (item : Item) → length a.filings ≡ length a.messages → (step a (add list item)).1 ≡ taken_in
+    → without (step a (add list item)).0 list (item_key item) ≡ a
+before_it_came a list item same is =
+    let taken = taken_left a list item is in
+    let key : List ℕ = item_key item in
+    ap (λ (archive : Archive). without archive list key) taken.1
+    ∙ ap (λ (messages : List Message). record a {
+      messages = messages;
+      filings = map (λ (f : Filed). f.1) (filter (λ (f : Filed). not (is_message list key f.0)) (zip (a.messages ++ keyed_message list key item ∷ []) (a.filings ++ item_filing item ∷ [])));
+    }) (messages_left list key (keyed_message list key item) (item_filing item) (keyed list key item) a.messages taken.0)
+    ∙ ap (λ (filings : List Filing). record a { filings = filings })
+    (filings_left list key (keyed_message list key item) (item_filing item) (keyed list key item) a.messages a.filings same taken.0)

@@ -1,0 +1,15 @@
+use Rattle.archive_machine.specs.Messages.{number_of}
+use Rattle.archive_results.proofs.PromiseLemmas as lemmas
+use Rattle.archive_results.proofs.laws.what_is_withheld_might_never_have_come.Goals as goal
+
+pub returns-clause-beside : goal.returns-clause-beside
+returns-clause-beside c = λ a list key by. lemmas.all_else_alike a list key (number_of by)
+
+pub returns-clause-never : goal.returns-clause-never
+returns-clause-never c = lemmas.before_it_came
+
+pub returns-clause-withheld : goal.returns-clause-withheld
+returns-clause-withheld c = lemmas.leaves_no_trace
+
+pub returns-clause-withdrawn : goal.returns-clause-withdrawn
+returns-clause-withdrawn c = lemmas.as_if_it_never_came
