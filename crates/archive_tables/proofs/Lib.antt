@@ -24,3 +24,7 @@ pub mod FiledLemmas
 pub mod LastLemmas
 pub mod LastExamples
 pub mod CauseLemmas
+pub mod ApartLemmas
+pub mod OptionLemmas
+pub mod AddressLemmas
+pub mod MoveLemmas

@@ -1,6 +1,6 @@
 -- The statements on `list`.
 use Rattle.std.proofs.Common.{◌≡◌, ℕ, ℤ, List, [], ◌∷◌, ◌++◌, codes, Ok, Err, Result, OnOk, OnErr, refl, sym, ap, subst, ◌∙◌, false, None, Option, inl, true}
-use Rattle.std.specs.Prelude.{IsTrue, not, ◌==◌, length, bytes_eq}
+use Rattle.std.specs.Prelude.{IsTrue, not, ◌==◌, length, bytes_eq, MatchResult}
 use Rattle.std.specs.List.{list_any}
 use Rattle.std.specs.Ordering.{is_eq}
 use Rattle.std.proofs.lemmas.Map.Text.{is_eq-slice_cmp}
@@ -27,7 +27,7 @@ use Rattle.sqlite_sql.specs.declared.ops.CompareOp.TheVariants.{Eq}
 use Rattle.sqlite_value.proofs.OrderLemmas.{value_cmp-Text}
 use Rattle.archive_tables.specs.Schema.{archive_schema, list_table}
 use Rattle.archive_tables.specs.Tables.{IsHeld, IsKept, Numbered, row_of, list_cells, list_read, archive_of}
-use Rattle.archive_tables.specs.Calls.{Changes, Rests, RestsOver, StaysOver, IsCaused}
+use Rattle.archive_tables.specs.Calls.{Changes, ChangesOver, Rests, RestsOver, StaysOver, IsCaused}
 use Rattle.archive_tables.proofs.RunLemmas.{passed, value_is, no_action, cast_null, kept_by, rests, execute_fails}
 use Rattle.archive_tables.proofs.RowLemmas.{put_past}
 use Rattle.archive_tables.proofs.TableLemmas.{SameBut, same_but, lists_change}
@@ -58,8 +58,8 @@ puts : (db : Trees) (name : List ℕ) (given : List Row) → given ≡ (Null ∷
     → edited db (edit_of db list_table [] Chosen 0 given) ≡ put_row (row_of list_cells (fresh db name)) (db 1)
 puts db name given from = rw (from, cast_null)
 
-adds : (old new : State) (name : List ℕ) (count : ℕ) → IsKept old → Executes add_text (Text name ∷ []) old new (Ok count)
-    → Changes old new (λ a. record a { lists = a.lists ++ name ∷ [] })
+adds : {behind : Option Database} (old new : State) (name : List ℕ) (count : ℕ) → IsHeld behind old → Executes add_text (Text name ∷ []) old new (Ok count)
+    → ChangesOver behind old new (λ a. record a { lists = a.lists ++ name ∷ [] })
 adds old new name count k h =
     let params = Text name ∷ [] in
     let db = old.now.trees in
@@ -85,6 +85,11 @@ pub tries_to_add : (old new : State) (name : List ℕ) (r : Result ℕ Error) �
     → OnOk r (Changes old new (λ a. record a { lists = a.lists ++ name ∷ [] })) × OnErr r (Rests old new)
 tries_to_add old new name (Ok count) k h = (adds old new name count k h, tt)
 tries_to_add old new name (Err e) k h = (tt, rests old new k (execute_fails old new add_text (Text name ∷ []) e h))
+
+pub tries_over : (behind : Option Database) (old new : State) (name : List ℕ) (r : Result ℕ Error) → IsHeld behind old → Executes add_text (Text name ∷ []) old new r
+    → MatchResult r (λ _. ChangesOver behind old new (λ a. record a { lists = a.lists ++ name ∷ [] })) (λ _. RestsOver behind old new)
+tries_over behind old new name (Ok count) k h = adds old new name count k h
+tries_over behind old new name (Err e) k h = rests old new k (execute_fails old new add_text (Text name ∷ []) e h)
 
 -- ---- SELECT by name
 

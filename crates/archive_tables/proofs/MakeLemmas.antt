@@ -22,20 +22,21 @@ use Rattle.sqlite.specs.Effect.{Database}
 use Rattle.sqlite.specs.State.{State, Writes, Executes, mode_of}
 use Rattle.sqlite.proofs.Callers.{IsPlain, command_of, statement_of, runs_as, one_step}
 use Rattle.sqlite_tied.specs.Compute.{everything}
-use Rattle.archive_tables.specs.Schema.{no_schema, with_version, with_list, with_person, with_grant, with_message, with_month_index, archive_schema, create_version, create_list, create_person, create_grant, create_message, create_month_index, create_author_index, version_table, list_table, person_table, grant_table, message_table, sequence_table, month_index, author_index}
+use Rattle.archive_tables.specs.Schema.{no_schema, with_version, with_list, with_person, with_grant, with_message, with_month_index, schema_1, schema_2, archive_schema, create_version, create_list, create_person, create_grant, create_message, create_month_index, create_author_index, create_option, create_address, version_table, list_table, person_table, grant_table, message_table, sequence_table, option_table, address_table, month_index, author_index}
+use Rattle.archive_machine.specs.Records.{Archive}
 use Rattle.archive_tables.specs.Tables.{AreTables, IsKept, archive_in, archive_of, version_rows}
 use Rattle.archive_tables.specs.Making.{IsMaking, IsMade, empty_archive}
 use Rattle.archive_tables.specs.declared.texts.schema.TheConstants.{VERSION}
-use Rattle.archive_tables.proofs.SchemaLemmas.{unplaced, version_is, list_is, person_is, grant_is, message_is, sequence_is, month_index_is, author_index_is}
+use Rattle.archive_tables.proofs.SchemaLemmas.{unplaced, version_is, list_is, person_is, grant_is, message_is, sequence_is, option_is, address_is, month_index_is, author_index_is}
 use Rattle.archive_tables.proofs.RunLemmas.{passed, value_is, no_action, cast_null, cast_int}
 use Rattle.archive_tables.proofs.TableLemmas.{SameBut, same_but}
 
 -- ---- one table more
 
-record Makes (s : Schema) (table : Table) (old new : Database) : Type 0 where
-  schema : new.schema ≡ created s table
-  empty : new.trees (next_tree s) ≡ []
-  others : KeepsRows s.tables old.trees new.trees
+pub record Makes (s : Schema) (table : Table) (old new : Database) : Type 0 where
+  pub schema : new.schema ≡ created s table
+  pub empty : new.trees (next_tree s) ≡ []
+  pub others : KeepsRows s.tables old.trees new.trees
 
 one_made : (s : Schema) (sql : List ℕ) (table : Table) (old new : Database) → old.schema ≡ s → table_defined_by sql ≡ Ok table → MakesTable sql old (Ok new) → Makes s table old new
 one_made s sql table old new has defined it =
@@ -57,12 +58,21 @@ still_empty : (s : Schema) (table : Table) (old new : Database) → Makes s tabl
 still_empty s table old new made empty = all_empty old.trees new.trees s.tables (record table { tree = next_tree s }) made.others empty made.empty
 
 module _ (s : Schema) (sql : List ℕ) (table : Table) (is : command_of (understood s sql) ≡ CreateTable) (whole : statement_of sql (understood s sql) ≡ sql) (plain : IsPlain (understood s sql))
-    (defined : table_defined_by sql ≡ Ok table) (old new : State) (before : Database) (k : IsMaking old s before) (count : ℕ) (h : Executes sql [] old new (Ok count)) where
-  ran : Writes old new None CreateTable sql [] count
-  ran = subst (λ t. Writes old new None CreateTable t [] count) whole (runs_as sql [] old new s k.schema_is CreateTable is plain count h)
+    (defined : table_defined_by sql ≡ Ok table) (old new : State) (has : old.now.schema ≡ s) (count : ℕ) (h : Executes sql [] old new (Ok count)) where
+  pub ran : Writes old new None CreateTable sql [] count
+  ran = subst (λ t. Writes old new None CreateTable t [] count) whole (runs_as sql [] old new s has CreateTable is plain count h)
 
-  goes_on : (next : Schema) → new.now.schema ≡ next → AreEmpty new.now.trees next.tables → IsMaking new next before
-  goes_on next schema empty = record {
+  pub table_made : lacks_sequence (created s table) ≡ false → Makes s table old.now new.now
+  table_made none =
+      let all = passed ran.changed in
+      let first = passed all.1 in
+      let made = one_made s sql table old.now first.0 has defined first.1 in
+      let lacks : lacks_sequence first.0.schema ≡ false = ap lacks_sequence made.schema ∙ none in
+      let now : new.now ≡ first.0 = ap (λ (p : Tally × Database). p.1) (value_is all.2) ∙ value_is (rw lacks at first.2) in
+      subst (Makes s table old.now) (sym now) made
+
+  goes_on : (before : Database) → IsMaking old s before → (next : Schema) → new.now.schema ≡ next → AreEmpty new.now.trees next.tables → IsMaking new next before
+  goes_on before k next schema empty = record {
     is_open = ran.shown.is_open;
     within = ran.shown.mode ∙ k.within;
     behind = ran.shown.committed_is ∙ rw k.within k.behind;
@@ -70,26 +80,22 @@ module _ (s : Schema) (sql : List ℕ) (table : Table) (is : command_of (underst
     empty = empty;
   }
 
-  pub makes : lacks_sequence (created s table) ≡ false → IsMaking new (created s table) before
-  makes none =
-      let all = passed ran.changed in
-      let first = passed all.1 in
-      let made = one_made s sql table old.now first.0 k.schema_is defined first.1 in
-      let lacks : lacks_sequence first.0.schema ≡ false = ap lacks_sequence made.schema ∙ none in
-      let now : new.now ≡ first.0 = ap (λ (p : Tally × Database). p.1) (value_is all.2) ∙ value_is (rw lacks at first.2) in
-      let here = subst (Makes s table old.now) (sym now) made in
-      goes_on (created s table) here.schema (still_empty s table old.now new.now here k.empty)
+  pub makes : (before : Database) → IsMaking old s before → lacks_sequence (created s table) ≡ false → IsMaking new (created s table) before
+  makes before k none =
+      let here = table_made none in
+      goes_on before k (created s table) here.schema (still_empty s table old.now new.now here k.empty)
 
   -- the first table with AUTOINCREMENT brings the table of the counts along
-  pub makes_both : lacks_sequence (created s table) ≡ true → (counts : Table) → table_defined_by sequence_text ≡ Ok counts → IsMaking new (created (created s table) counts) before
-  makes_both some counts counts_is =
+  pub makes_both : (before : Database) → IsMaking old s before → lacks_sequence (created s table) ≡ true → (counts : Table) → table_defined_by sequence_text ≡ Ok counts
+      → IsMaking new (created (created s table) counts) before
+  makes_both before k some counts counts_is =
       let all = passed ran.changed in
       let first = passed all.1 in
-      let made = one_made s sql table old.now first.0 k.schema_is defined first.1 in
+      let made = one_made s sql table old.now first.0 has defined first.1 in
       let lacks : lacks_sequence first.0.schema ≡ true = ap lacks_sequence made.schema ∙ some in
       let second = one_made (created s table) sequence_text counts first.0 all.0 made.schema counts_is (rw lacks at first.2) in
       let here = subst (Makes (created s table) counts first.0) (sym (ap (λ (p : Tally × Database). p.1) (value_is all.2))) second in
-      goes_on (created (created s table) counts) here.schema
+      goes_on before k (created (created s table) counts) here.schema
       (still_empty (created s table) counts first.0 new.now here (still_empty s table old.now first.0 made k.empty))
 
 -- ---- one index more: the rows of all tables stay
@@ -132,7 +138,7 @@ module _ (s : Schema) (sql : List ℕ) (at : ℕ) (table : Table) (index : Index
         empty = subst (λ (d : Database). AreEmpty d.trees s.tables) (sym now) (same_empty old.now.trees done.0.trees s.tables made.rows k.empty);
       }
 
--- ---- the seven texts, each over what the ones before it made
+-- ---- the nine texts, each over what the ones before it made
 
 version_text_is : (command_of (understood no_schema create_version) ≡ CreateTable) × (statement_of create_version (understood no_schema create_version) ≡ create_version)
 unfolding understood everything
@@ -217,38 +223,70 @@ author_index_plain : IsPlain (understood with_month_index create_author_index)
 unfolding understood everything
 author_index_plain = (refl, refl)
 
-author_indexed : indexed with_month_index message_table author_index ≡ archive_schema
+author_indexed : indexed with_month_index message_table author_index ≡ schema_1
 unfolding everything
 author_indexed = refl
+
+pub option_text_is : (command_of (understood schema_1 create_option) ≡ CreateTable) × (statement_of create_option (understood schema_1 create_option) ≡ create_option)
+unfolding understood everything
+option_text_is = (refl, refl)
+
+pub option_plain : IsPlain (understood schema_1 create_option)
+unfolding understood everything
+option_plain = (refl, refl)
+
+pub option_alone : (lacks_sequence (created schema_1 (unplaced option_table)) ≡ false) × (created schema_1 (unplaced option_table) ≡ schema_2)
+unfolding everything
+option_alone = (refl, refl)
+
+pub address_text_is : (command_of (understood schema_2 create_address) ≡ CreateTable) × (statement_of create_address (understood schema_2 create_address) ≡ create_address)
+unfolding understood everything
+address_text_is = (refl, refl)
+
+pub address_plain : IsPlain (understood schema_2 create_address)
+unfolding understood everything
+address_plain = (refl, refl)
+
+pub address_alone : (lacks_sequence (created schema_2 (unplaced address_table)) ≡ false) × (created schema_2 (unplaced address_table) ≡ archive_schema)
+unfolding everything
+address_alone = (refl, refl)
 
 module _ (old new : State) (before : Database) (count : ℕ) where
   pub makes_version : IsMaking old no_schema before → Executes create_version [] old new (Ok count) → IsMaking new with_version before
   makes_version k h = subst (λ s. IsMaking new s before) version_alone.1
-      (makes no_schema create_version (unplaced version_table) version_text_is.0 version_text_is.1 version_plain version_is old new before k count h version_alone.0)
+      (makes no_schema create_version (unplaced version_table) version_text_is.0 version_text_is.1 version_plain version_is old new k.schema_is count h before k version_alone.0)
 
   pub makes_list : IsMaking old with_version before → Executes create_list [] old new (Ok count) → IsMaking new with_list before
   makes_list k h = subst (λ s. IsMaking new s before) list_alone.1
-      (makes with_version create_list (unplaced list_table) list_text_is.0 list_text_is.1 list_plain list_is old new before k count h list_alone.0)
+      (makes with_version create_list (unplaced list_table) list_text_is.0 list_text_is.1 list_plain list_is old new k.schema_is count h before k list_alone.0)
 
   pub makes_person : IsMaking old with_list before → Executes create_person [] old new (Ok count) → IsMaking new with_person before
   makes_person k h = subst (λ s. IsMaking new s before) person_alone.1
-      (makes with_list create_person (unplaced person_table) person_text_is.0 person_text_is.1 person_plain person_is old new before k count h person_alone.0)
+      (makes with_list create_person (unplaced person_table) person_text_is.0 person_text_is.1 person_plain person_is old new k.schema_is count h before k person_alone.0)
 
   pub makes_grant : IsMaking old with_person before → Executes create_grant [] old new (Ok count) → IsMaking new with_grant before
   makes_grant k h = subst (λ s. IsMaking new s before) grant_alone.1
-      (makes with_person create_grant (unplaced grant_table) grant_text_is.0 grant_text_is.1 grant_plain grant_is old new before k count h grant_alone.0)
+      (makes with_person create_grant (unplaced grant_table) grant_text_is.0 grant_text_is.1 grant_plain grant_is old new k.schema_is count h before k grant_alone.0)
 
   pub makes_message : IsMaking old with_grant before → Executes create_message [] old new (Ok count) → IsMaking new with_message before
   makes_message k h = subst (λ s. IsMaking new s before) message_brings.1
-      (makes_both with_grant create_message (unplaced message_table) message_text_is.0 message_text_is.1 message_plain message_is old new before k count h message_brings.0
+      (makes_both with_grant create_message (unplaced message_table) message_text_is.0 message_text_is.1 message_plain message_is old new k.schema_is count h before k message_brings.0
       (unplaced sequence_table) sequence_is)
 
   pub makes_month_index : IsMaking old with_message before → Executes create_month_index [] old new (Ok count) → IsMaking new with_month_index before
   makes_month_index k h = makes_index with_message create_month_index 4 message_table month_index refl month_index_text_is.0 month_index_text_is.1 month_index_plain month_index_is old new before k count h
 
-  pub makes_author_index : IsMaking old with_month_index before → Executes create_author_index [] old new (Ok count) → IsMaking new archive_schema before
+  pub makes_author_index : IsMaking old with_month_index before → Executes create_author_index [] old new (Ok count) → IsMaking new schema_1 before
   makes_author_index k h = subst (λ s. IsMaking new s before) author_indexed
       (makes_index with_month_index create_author_index 4 message_table author_index refl author_index_text_is.0 author_index_text_is.1 author_index_plain author_index_is old new before k count h)
+
+  pub makes_option : IsMaking old schema_1 before → Executes create_option [] old new (Ok count) → IsMaking new schema_2 before
+  makes_option k h = subst (λ s. IsMaking new s before) option_alone.1
+      (makes schema_1 create_option (unplaced option_table) option_text_is.0 option_text_is.1 option_plain option_is old new k.schema_is count h before k option_alone.0)
+
+  pub makes_address : IsMaking old schema_2 before → Executes create_address [] old new (Ok count) → IsMaking new archive_schema before
+  makes_address k h = subst (λ s. IsMaking new s before) address_alone.1
+      (makes schema_2 create_address (unplaced address_table) address_text_is.0 address_text_is.1 address_plain address_is old new k.schema_is count h before k address_alone.0)
 
 -- ---- the transaction
 
@@ -285,8 +323,9 @@ pub commit_plain : IsPlain (understood archive_schema commit_text)
 unfolding understood everything
 commit_plain = (refl, refl)
 
-pub commits : (old new : State) (before : Database) (count : ℕ) → IsMade old before → Executes commit_text [] old new (Ok count) → IsKept new × (archive_of new ≡ empty_archive)
-commits old new before count k h =
+pub commits : (old new : State) (before : Database) (archive : Archive) (count : ℕ) → IsMade old before archive → Executes commit_text [] old new (Ok count)
+    → IsKept new × (archive_of new ≡ archive)
+commits old new before archive count k h =
     let ran = runs_as commit_text [] old new archive_schema k.schema_is Commit commit_is commit_plain count h in (
       record {
         is_open = ran.1.is_open;
@@ -296,7 +335,7 @@ commits old new before count k h =
         tables = subst (λ (d : Database). AreTables d.trees) (sym ran.1.now_is) k.tables;
         whole = tt;
       },
-      ap (λ (d : Database). archive_in d.trees) ran.1.now_is ∙ k.nothing,
+      ap (λ (d : Database). archive_in d.trees) ran.1.now_is ∙ k.remembers,
     )
 
 abbrev pub rollback_text : List ℕ
@@ -336,9 +375,9 @@ add_plain = (refl, refl)
 puts : (db : Trees) (given : List Row) → db 0 ≡ [] → given ≡ (Null ∷ Int VERSION ∷ []) ∷ [] → edited db (edit_of db version_table [] Chosen 0 given) ≡ version_rows VERSION
 puts db given none from = rw (from, none, cast_null, cast_int VERSION)
 
-nothing_in : (trees : Trees) → trees 0 ≡ version_rows VERSION → trees 1 ≡ [] → trees 3 ≡ [] → trees 6 ≡ [] → trees 8 ≡ []
+nothing_in : (trees : Trees) → trees 0 ≡ version_rows VERSION → trees 1 ≡ [] → trees 3 ≡ [] → trees 6 ≡ [] → trees 8 ≡ [] → trees 13 ≡ [] → trees 15 ≡ []
     → AreTables trees × (archive_in trees ≡ empty_archive)
-nothing_in trees version lists persons grants messages = (
+nothing_in trees version lists persons grants messages options addresses = (
   record {
     version = version;
     lists = rw lists (record { coded = refl; rise = tt });
@@ -348,11 +387,15 @@ nothing_in trees version lists persons grants messages = (
     grants_apart = rw grants tt;
     messages_apart = rw messages tt;
     positive = rw messages tt;
+    options = rw options (record { coded = refl; rise = tt });
+    options_apart = rw options tt;
+    addresses = rw addresses (record { coded = refl; rise = tt });
+    addresses_apart = rw addresses tt;
   },
-  rw (lists, persons, grants, messages),
+  rw (lists, persons, grants, messages, options, addresses),
 )
 
-pub makes_whole : (old new : State) (before : Database) (count : ℕ) → IsMaking old archive_schema before → Executes version_text (Int VERSION ∷ []) old new (Ok count) → IsMade new before
+pub makes_whole : (old new : State) (before : Database) (count : ℕ) → IsMaking old archive_schema before → Executes version_text (Int VERSION ∷ []) old new (Ok count) → IsMade new before empty_archive
 makes_whole old new before count k h =
     let db = old.now.trees in
     let command = Insert 0 (Values version_cells 2) in
@@ -370,12 +413,13 @@ makes_whole old new before count k h =
     let same = subst (SameBut 0 db) (sym trees) (same_but 0 db written.0 applied.tables) in
     let it = nothing_in new.now.trees (ap (λ (t : Trees). t 0) trees ∙ applied.rows ∙ puts db given.0 k.empty.0 given.1.1)
     (same.lists (λ e. omega (arith, e)) ∙ k.empty.1.0) (same.persons (λ e. omega (arith, e)) ∙ k.empty.1.1.0)
-    (same.grants (λ e. omega (arith, e)) ∙ k.empty.1.1.1.0) (same.messages (λ e. omega (arith, e)) ∙ k.empty.1.1.1.1.0) in
+    (same.grants (λ e. omega (arith, e)) ∙ k.empty.1.1.1.0) (same.messages (λ e. omega (arith, e)) ∙ k.empty.1.1.1.1.0)
+    (same.options (λ e. omega (arith, e)) ∙ k.empty.1.1.1.1.1.1.0) (same.addresses (λ e. omega (arith, e)) ∙ k.empty.1.1.1.1.1.1.1.0) in
     record {
       is_open = w.shown.is_open;
       within = w.shown.mode ∙ k.within;
       behind = w.shown.committed_is ∙ rw k.within k.behind;
       schema_is = ap (λ (d : Database). d.schema) now;
       tables = it.0;
-      nothing = it.1;
+      remembers = it.1;
     }

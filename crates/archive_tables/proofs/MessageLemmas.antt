@@ -123,7 +123,15 @@ counts : (limit : Option ℕ) (params : Row) (mid next : Trees) (counter : Optio
 unfolding everything
 counts limit params mid next counter top h = elim (cases_Bool (is_lt (int_cmp (count_of counter) top))) [
   | inl more ↦ counted counter (rw more at h)
-  | inr enough ↦ subst (SameBut 10 mid) (value_is (sym (rw enough at h))) (record { version = λ _. refl; lists = λ _. refl; persons = λ _. refl; grants = λ _. refl; messages = λ _. refl })
+  | inr enough ↦ subst (SameBut 10 mid) (value_is (sym (rw enough at h))) (record {
+    version = λ _. refl;
+    lists = λ _. refl;
+    persons = λ _. refl;
+    grants = λ _. refl;
+    messages = λ _. refl;
+    options = λ _. refl;
+    addresses = λ _. refl;
+  })
 ]
   where
     written : (edit : Edit) → edit.table ≡ sequence_table → Action.Writes archive_schema Enforced mid edit (Ok next) → SameBut 10 mid next
@@ -162,6 +170,8 @@ module _ (list key sender : List ℕ) (arrival : ℤ) (text : List ℕ) (filing 
     persons = λ e. last.persons (λ f. omega (arith, f)) ∙ first.persons e;
     grants = λ e. last.grants (λ f. omega (arith, f)) ∙ first.grants e;
     messages = λ e. last.messages (λ f. omega (arith, f)) ∙ first.messages e;
+    options = λ e. last.options (λ f. omega (arith, f)) ∙ first.options e;
+    addresses = λ e. last.addresses (λ f. omega (arith, f)) ∙ first.addresses e;
   }
 
   adds : {behind : Option Database} (old new_state : State) (count : ℕ) → IsHeld behind old → list_any (is_message list key) (archive_of old).messages ≡ false → Executes add_text params_of old new_state (Ok count)

@@ -4,7 +4,7 @@ use Rattle.sqlite.specs.Compile.{table_defined_by, index_defined_by}
 use Rattle.sqlite.specs.Does.{sequence_text}
 use Rattle.sqlite.specs.Table.{Table}
 use Rattle.sqlite_tied.specs.Compute.{everything}
-use Rattle.archive_tables.specs.Schema.{create_version, create_list, create_person, create_grant, create_message, create_month_index, create_author_index, version_table, list_table, person_table, grant_table, message_table, sequence_table, month_index, author_index}
+use Rattle.archive_tables.specs.Schema.{create_version, create_list, create_person, create_grant, create_message, create_month_index, create_author_index, create_option, create_address, version_table, list_table, person_table, grant_table, message_table, sequence_table, option_table, address_table, month_index, author_index}
 
 -- as a text defines it, a table has no place yet
 abbrev pub unplaced : Table → Table
@@ -33,6 +33,14 @@ message_is = refl
 pub sequence_is : table_defined_by sequence_text ≡ Ok (unplaced sequence_table)
 unfolding everything
 sequence_is = refl
+
+pub option_is : table_defined_by create_option ≡ Ok (unplaced option_table)
+unfolding everything
+option_is = refl
+
+pub address_is : table_defined_by create_address ≡ Ok (unplaced address_table)
+unfolding everything
+address_is = refl
 
 pub month_index_is : index_defined_by message_table create_month_index ≡ Ok month_index
 unfolding everything

@@ -8,7 +8,8 @@ use Rattle.sqlite.specs.Tree.{Trees}
 use Rattle.archive_machine.specs.Records.{Message, Grant, Filing}
 use Rattle.archive_tables.specs.Schema.{archive_schema}
 use Rattle.archive_machine.specs.Questions.{is_message, is_grant}
-use Rattle.archive_tables.specs.Tables.{row_of, read_of, filed_cells, filed_read, grant_cells, grant_read, same_message, AreApart, archive_in, version_rows, IsOfVersion}
+use Rattle.archive_machine.specs.Machine.{merging}
+use Rattle.archive_tables.specs.Tables.{row_of, read_of, filed_cells, filed_read, grant_cells, grant_read, same_message, AreApart, archive_in, archive_by, option_cells, address_cells, version_rows, IsOfVersion}
 use Rattle.archive_tables.specs.declared.texts.schema.TheConstants.{VERSION}
 use Rattle.archive_tables.specs.Rows.{message_shown, marks_shown, marks_of, new_message, versions_shown}
 
@@ -70,12 +71,27 @@ two_lists t =
     if t == 0 then version_rows VERSION
     else (if t == 1 then (Int (pos 1) ∷ Text (codes "soc") ∷ []) ∷ (Int (pos 2) ∷ Text (codes "news") ∷ []) ∷ [] else [])
 
-its_archive : archive_in two_lists ≡ record { lists = codes "soc" ∷ codes "news" ∷ []; persons = []; grants = []; messages = []; filings = [] }
+its_archive : archive_in two_lists ≡ record { lists = codes "soc" ∷ codes "news" ∷ []; persons = []; grants = []; messages = []; filings = []; options = []; addresses = [] }
 its_archive = refl
 
-its_version : IsOfVersion VERSION two_lists × (versions_shown two_lists ≡ (Int (pos 1) ∷ []) ∷ [])
+its_version : IsOfVersion VERSION two_lists × (versions_shown two_lists ≡ (Int (pos 3) ∷ []) ∷ [])
 its_version = ((_, refl, refl), refl)
 
-six_tables : map (λ (t : Table). t.name) archive_schema.tables
-    ≡ codes "version" ∷ codes "list" ∷ codes "person" ∷ codes "grant_row" ∷ codes "message" ∷ codes "sqlite_sequence" ∷ []
-six_tables = refl
+-- in the tables of version 1 each list is merged, and nobody has an address
+in_version_1 : archive_by 1 two_lists ≡ record (archive_in two_lists) { options = merging (codes "soc") ∷ merging (codes "news") ∷ [] }
+in_version_1 = refl
+
+eight_tables : map (λ (t : Table). t.name) archive_schema.tables
+    ≡ codes "version" ∷ codes "list" ∷ codes "person" ∷ codes "grant_row" ∷ codes "message" ∷ codes "sqlite_sequence" ∷ codes "list_option" ∷ codes "address" ∷ []
+eight_tables = refl
+
+-- a file that is brought over has the trees of one that is new
+their_trees : map (λ (t : Table). t.tree) archive_schema.tables ≡ 0 ∷ 1 ∷ 3 ∷ 6 ∷ 8 ∷ 10 ∷ 13 ∷ 15 ∷ []
+their_trees = refl
+
+an_option_is_its_row : row_of option_cells (record { number = pos 1; it = record { list = codes "soc"; merge = false } }) ≡ Int (pos 1) ∷ Text (codes "soc") ∷ Int (pos 0) ∷ []
+an_option_is_its_row = refl
+
+an_address_is_its_row : row_of address_cells (record { number = pos 1; it = record { person = codes "anna"; address = codes "anna@example.org" } })
+    ≡ Int (pos 1) ∷ Text (codes "anna") ∷ Text (codes "anna@example.org") ∷ []
+an_address_is_its_row = refl

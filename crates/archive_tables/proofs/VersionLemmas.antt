@@ -1,24 +1,26 @@
 -- The question on `version`.
-use Rattle.std.proofs.Common.{◌≡◌, ℕ, List, [], ◌∷◌, codes, refl, sym, subst, ◌∙◌, false, ◌⊎◌, inl, inr, true, None}
+use Rattle.std.proofs.Common.{◌≡◌, ℕ, zero, suc, arith, List, [], ◌∷◌, codes, refl, sym, subst, ◌∙◌, false, ◌⊎◌, inl, inr, true, None}
 use Rattle.std.specs.Prelude.{IsTrue}
 use Rattle.std.specs.List.Sorted.{IsPermutation}
 use Rattle.sqlite.specs.declared.error.Error.{Error}
-use Rattle.sqlite.specs.declared.types.Value.TheVariants.{Int}
+use Rattle.sqlite.specs.declared.types.Value.TheVariants.{Null, Int}
 use Rattle.sqlite.specs.Order.{Row}
 use Rattle.sqlite.specs.Term.{Term, col}
+use Rattle.sqlite.specs.Schema.{Schema}
+use Rattle.sqlite.specs.Program.{overlay}
 use Rattle.sqlite.specs.Command.TheVariants.{Select}
 use Rattle.sqlite.specs.Listing.{understood, reads_listing}
 use Rattle.sqlite.specs.State.{State, Shown, FailsToQuery, IsUnchanged, IsRolledBack}
-use Rattle.sqlite.proofs.Callers.{IsPlain, command_of}
+use Rattle.sqlite.proofs.Callers.{IsPlain, command_of, reads_as}
 use Rattle.sqlite_tied.specs.Compute.{everything}
-use Rattle.archive_tables.specs.Schema.{archive_schema}
-use Rattle.archive_tables.specs.Tables.{IsKept, IsOfArchive, version_rows}
+use Rattle.archive_tables.specs.Schema.{schema_1, schema_2, archive_schema, schema_of}
+use Rattle.archive_tables.specs.Tables.{IsKept, IsKnown, HasForm, form_of, version_rows}
 use Rattle.archive_tables.specs.Rows.{versions_shown}
 use Rattle.archive_tables.specs.Making.{IsBackTo}
 use Rattle.archive_tables.specs.declared.texts.schema.TheConstants.{VERSION}
 use Rattle.archive_tables.specs.Calls.{Rests, IsCaused}
 use Rattle.archive_tables.proofs.RunLemmas.{query_fails, query_leaves}
-use Rattle.archive_tables.proofs.SelectLemmas.{plain_query, by_number, Picks, in_order, picks_all, picked, asked, leaves, asked_rests, refused_rests}
+use Rattle.archive_tables.proofs.SelectLemmas.{plain_query, by_number, Picks, in_order, picks_of, picks_all, asked, leaves, asked_rests, refused_rests}
 use Rattle.archive_tables.proofs.CauseLemmas.{Fits, question_fails_by}
 use Rattle.sqlite_typing.specs.Types.{accepts_program}
 
@@ -47,26 +49,60 @@ number_typed = refl
 only_version : (rows picked : List Row) → rows ≡ version_rows VERSION → Picks (plain_query 0 [] number_cell by_number) [] rows picked → picked ≡ (Int VERSION ∷ []) ∷ []
 only_version rows picked are it = in_order 0 [] number_cell [] (version_rows VERSION) picked (tt, tt) (subst (λ l. Picks (plain_query 0 [] number_cell by_number) [] l picked) are it)
 
--- whatever the rows are, their numbers are shown
-pub numbers_found : (old new : State) → IsOfArchive old → (rows : List Row) → Shown number_text [] old new rows → IsPermutation (versions_shown old.now.trees) rows
-numbers_found old new o rows h =
-    picks_all (plain_query 0 [] number_cell by_number) [] (old.now.trees 0) rows refl
-    (picked number_text 0 [] number_cell by_number _ number_is.0 number_plain number_is.1 (λ t. refl) [] old new o.schema rows h)
+-- ---- the tables of each version
 
--- and whatever it answers, it changes nothing
-module _ (old new : State) (o : IsOfArchive old) where
+record IsRead (s : Schema) : Type 0 where
+  is : command_of (understood s number_text) ≡ Select (record { lets = []; body = plain_query 0 [] number_cell by_number }) (codes "number" ∷ [])
+  unlisted : reads_listing s number_text ≡ false
+  plain : IsPlain (understood s number_text)
+
+read_1 : IsRead schema_1
+unfolding understood everything
+read_1 = record { is = refl; unlisted = refl; plain = (refl, refl) }
+
+read_2 : IsRead schema_2
+unfolding understood everything
+read_2 = record { is = refl; unlisted = refl; plain = (refl, refl) }
+
+read_3 : IsRead archive_schema
+read_3 = record { is = number_is.0; unlisted = number_is.1; plain = number_plain }
+
+reads_each : (number : ℕ) → IsKnown number → IsRead (schema_of number)
+reads_each zero known = absurd (omega (arith, known.least))
+reads_each (suc zero) known = read_1
+reads_each (suc (suc zero)) known = read_2
+reads_each (suc (suc (suc zero))) known = read_3
+reads_each (suc (suc (suc (suc n)))) known = absurd (omega (arith, known.most))
+
+module _ (old new : State) (number : ℕ) (known : IsKnown number) (o : HasForm (form_of number) old) where
+  reads : IsRead (schema_of number)
+  reads = reads_each number known
+
+  -- whatever the rows are, their numbers are shown
+  pub numbers_found : (rows : List Row) → Shown number_text [] old new rows → IsPermutation (versions_shown old.now.trees) rows
+  numbers_found rows h =
+      let read = reads_as number_text [] old new (schema_of number) o.schema _ reads.is reads.plain reads.unlisted rows h in
+      picks_all (plain_query 0 [] number_cell by_number) [] (old.now.trees 0) rows refl
+      (picks_of 0 [] number_cell by_number (overlay old.now.trees []) [] rows (read.answer Null))
+
+  -- and whatever it answers, it changes nothing
   as_it_was : IsUnchanged old new ⊎ IsRolledBack old new → IsBackTo new old.now
   as_it_was (inl same) up = (same.0.now_is, same.0.committed_is ∙ o.settled, same.0.mode ∙ o.autocommit)
   as_it_was (inr undone) up = ((undone.undone up).0 ∙ o.settled, (undone.undone up).1 ∙ o.settled, undone.autocommit)
 
   is_plain : IsPlain (understood old.now.schema number_text)
-  is_plain = subst (λ s. IsPlain (understood s number_text)) (sym o.schema) number_plain
+  is_plain = subst (λ s. IsPlain (understood s number_text)) (sym o.schema) reads.plain
 
   pub numbers_leave : (rows : List Row) → Shown number_text [] old new rows → IsBackTo new old.now
   numbers_leave rows h = as_it_was (inl (query_leaves old new number_text [] rows is_plain h))
 
   pub no_numbers_leave : (e : Error) → FailsToQuery number_text [] old new e → IsBackTo new old.now
   no_numbers_leave e h = as_it_was (query_fails old new number_text [] e is_plain h)
+
+  pub numbers_open : (rows : List Row) → Shown number_text [] old new rows → IsTrue new.is_open
+  numbers_open rows h = (query_leaves old new number_text [] rows is_plain h).0.is_open
+
+-- ---- tables of the newest
 
 module _ (old new : State) (k : IsKept old) where
   pub version_found : (rows : List Row) → Shown number_text [] old new rows → (rows ≡ (Int VERSION ∷ []) ∷ []) × IsTrue new.is_open × Rests old new

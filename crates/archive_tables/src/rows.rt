@@ -1,8 +1,8 @@
 //! Rows as values.
 
 ghost use Rattle.std.specs.Prelude.{◌≡◌, ◌∷◌, string_bytes, IfOk, IfErr};
-ghost use Rattle.archive_machine.specs.Records.{Grant, Message};
-ghost use Rattle.archive_tables.specs.Rows.{name_shown, place_shown, message_shown, message_in, marks_shown, marks_of, grant_shown, grant_in, no_memory, IsTextFault};
+ghost use Rattle.archive_machine.specs.Records.{Grant, Message, ListOption};
+ghost use Rattle.archive_tables.specs.Rows.{name_shown, place_shown, message_shown, message_in, marks_shown, marks_of, merge_shown, grant_shown, grant_in, no_memory, IsTextFault};
 
 use sqlite::{Error, Row};
 
@@ -74,6 +74,15 @@ pub fn read_marks(row: &Row) -> Result<MarksRow, Error>
         withdrawn: row.get(0)?,
         embargo: row.get(1)?,
     })
+}
+
+/// What is said of the threads of a list, in a row that shows it: whether they are gathered by subject.
+pub fn read_merge(row: &Row) -> Result<bool, Error>
+    ensures read { IfOk result (λ merge. (o : ListOption) → row.now ≡ merge_shown o → merge ≡ o.merge) }
+    ensures fault { IfErr result (λ e. (o : ListOption) → row.now ≡ merge_shown o → e ≡ no_memory) }
+{
+    let number: i64 = row.get(0)?;
+    Ok(number == 1)
 }
 
 /// The grant in a row that shows one.

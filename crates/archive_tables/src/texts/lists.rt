@@ -1,12 +1,12 @@
 //! The table `list`.
 
-ghost use Rattle.std.specs.Prelude.{◌≡◌, ◌++◌, ◌∷◌, [], bytes_eq, map, IsPermutation, IsSorted};
+ghost use Rattle.std.specs.Prelude.{◌≡◌, ⊤, ◌++◌, ◌∷◌, [], bytes_eq, map, IsPermutation, IsSorted};
 ghost use Rattle.std.specs.List.{list_any};
 ghost use Rattle.std.specs.Ordering.{nat_cmp};
 ghost use Rattle.std.specs.Cmp.Lexicographic.{slice_cmp};
 ghost use Rattle.archive_tables.specs.Rows.{name_shown};
 ghost use Rattle.sqlite.specs.Held.{state};
-ghost use Rattle.archive_tables.specs.Calls.{Writes, AsksOver, Refuses, Finds, Leaves, IsUp, WasClean, Lasts, AnswersOpen, FailsByFault};
+ghost use Rattle.archive_tables.specs.Calls.{Writes, WritesOver, AsksOver, Refuses, Finds, Leaves, IsUp, WasClean, Lasts, AnswersOpen, FailsByFault};
 
 use sqlite::{Alter, Connection, Error, Row, params};
 
@@ -14,6 +14,7 @@ use sqlite::{Alter, Connection, Error, Row, params};
 pub fn add_list<S: Alter>(conn: &mut Connection<S>, name: &str) -> Result<usize, Error>
     ensures added { Writes S.Store conn.old conn.new result (λ a. record a { lists = a.lists ++ name.now ∷ [] }) }
     ensures refused { Refuses S.Store conn.old conn.new result }
+    ensures held { WritesOver S.Store conn.old conn.new result (λ _. ⊤) (λ a. record a { lists = a.lists ++ name.now ∷ [] }) }
     ensures clean { WasClean S.Store conn.old conn.new }
     ensures lasts { Lasts (state S.Store conn.old) (state S.Store conn.new) }
     ensures was_open { AnswersOpen S.Store conn.old conn.new result }

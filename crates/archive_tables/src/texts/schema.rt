@@ -1,19 +1,20 @@
 //! The schema: the tables are made in one transaction, in this order.
 
-ghost use Rattle.std.specs.Prelude.{◌≡◌, ◌∷◌, [], false, Some, None, OnOk, IfOk, MatchResult, IsTrue, IsPermutation};
+ghost use Rattle.std.specs.Prelude.{◌≡◌, pos, ◌∷◌, [], false, Some, None, OnOk, IfOk, MatchResult, IsTrue, IsPermutation};
 ghost use Rattle.sqlite.specs.declared.types.Value.TheVariants.{Int};
 ghost use Rattle.sqlite.specs.State.{HasCleanDisk};
 ghost use Rattle.sqlite.specs.Held.{state};
-ghost use Rattle.archive_tables.specs.Schema.{no_schema, with_version, with_list, with_person, with_grant, with_message, with_month_index, archive_schema};
-ghost use Rattle.archive_tables.specs.Tables.{IsHeld, IsKept, IsOfArchive, archive_of};
+ghost use Rattle.archive_tables.specs.Schema.{no_schema, with_version, with_list, with_person, with_grant, with_message, with_month_index, schema_1, schema_2, archive_schema, schema_of};
+ghost use Rattle.archive_tables.specs.Tables.{IsHeld, IsHeldAs, IsKept, IsKnown, HasForm, form_of, newest_number, archive_by, archive_of};
+ghost use Rattle.archive_machine.specs.Records.{Archive};
 ghost use Rattle.archive_tables.specs.Rows.{versions_shown};
-ghost use Rattle.archive_tables.specs.Making.{IsMaking, IsMade, Stops, IsBackTo, IsStopped, empty_archive};
+ghost use Rattle.archive_tables.specs.Making.{IsMaking, IsWithin, IsMoving, IsMade, Stops, IsBackTo, IsStopped, empty_archive};
 ghost use Rattle.archive_tables.specs.Calls.{StaysOver, RestsOver, Rests, IsBackAt, IsHeldOrBack, Finds, Leaves, IsUp, WasClean, Lasts, AnswersOpen, FailsByFault};
 
 use sqlite::{Alter, Connection, Error, Row, params};
 
 /// The number of these tables, which `version` holds.
-pub const VERSION: i64 = 1;
+pub const VERSION: i64 = 3;
 
 /// Begins the transaction.
 pub fn begin<S: Alter>(conn: &mut Connection<S>) -> Result<usize, Error>
@@ -22,6 +23,10 @@ pub fn begin<S: Alter>(conn: &mut Connection<S>) -> Result<usize, Error>
     ensures held { HasCleanDisk (state S.Store conn.new) → IsKept (state S.Store conn.old) → MatchResult result
         (λ _. StaysOver (Some (state S.Store conn.old).now) (state S.Store conn.old) (state S.Store conn.new))
         (λ _. Rests (state S.Store conn.old) (state S.Store conn.new)) }
+    ensures moving { HasCleanDisk (state S.Store conn.new) → (number : _) → IsHeldAs (form_of number) None (state S.Store conn.old) → OnOk result
+        (IsMoving (state S.Store conn.new) (state S.Store conn.old).now (schema_of number) (pos number) number (archive_by number (state S.Store conn.old).now.trees)) }
+    ensures within { HasCleanDisk (state S.Store conn.new) → OnOk result
+        (IsWithin (state S.Store conn.new) (state S.Store conn.old).committed (state S.Store conn.old).now.schema) }
     ensures stopped { Stops S.Store conn.old conn.new result }
     ensures clean { WasClean S.Store conn.old conn.new }
     ensures lasts { Lasts (state S.Store conn.old) (state S.Store conn.new) }
@@ -113,7 +118,7 @@ pub fn create_month_index<S: Alter>(conn: &mut Connection<S>) -> Result<usize, E
 
 /// Makes the index of `message` by author key.
 pub fn create_author_index<S: Alter>(conn: &mut Connection<S>) -> Result<usize, Error>
-    ensures made { HasCleanDisk (state S.Store conn.new) → (before : _) → IsMaking (state S.Store conn.old) with_month_index before → OnOk result (IsMaking (state S.Store conn.new) archive_schema before) }
+    ensures made { HasCleanDisk (state S.Store conn.new) → (before : _) → IsMaking (state S.Store conn.old) with_month_index before → OnOk result (IsMaking (state S.Store conn.new) schema_1 before) }
     ensures stopped { Stops S.Store conn.old conn.new result }
     ensures clean { WasClean S.Store conn.old conn.new }
     ensures lasts { Lasts (state S.Store conn.old) (state S.Store conn.new) }
@@ -125,9 +130,43 @@ pub fn create_author_index<S: Alter>(conn: &mut Connection<S>) -> Result<usize, 
     )
 }
 
+/// Makes the table `list_option`: the first of version 2.
+pub fn create_option<S: Alter>(conn: &mut Connection<S>) -> Result<usize, Error>
+    ensures made { HasCleanDisk (state S.Store conn.new) → (before : _) → IsMaking (state S.Store conn.old) schema_1 before → OnOk result (IsMaking (state S.Store conn.new) schema_2 before) }
+    ensures moved { HasCleanDisk (state S.Store conn.new) → (before : _) (said : _) (archive : Archive) → IsMoving (state S.Store conn.old) before schema_1 said 1 archive
+        → OnOk result (IsMoving (state S.Store conn.new) before schema_2 said 1 archive × ((state S.Store conn.new).now.trees 13 ≡ [])) }
+    ensures within { HasCleanDisk (state S.Store conn.new) → (before : _) → IsWithin (state S.Store conn.old) before schema_1 → OnOk result (IsWithin (state S.Store conn.new) before schema_2) }
+    ensures stopped { Stops S.Store conn.old conn.new result }
+    ensures clean { WasClean S.Store conn.old conn.new }
+    ensures lasts { Lasts (state S.Store conn.old) (state S.Store conn.new) }
+    ensures was_open { AnswersOpen S.Store conn.old conn.new result }
+{
+    conn.execute(
+        "CREATE TABLE list_option (list TEXT NOT NULL PRIMARY KEY REFERENCES list (name), merge INTEGER NOT NULL CHECK (merge BETWEEN 0 AND 1)) STRICT",
+        &[],
+    )
+}
+
+/// Makes the table `address`: the first of version 3.
+pub fn create_address<S: Alter>(conn: &mut Connection<S>) -> Result<usize, Error>
+    ensures made { HasCleanDisk (state S.Store conn.new) → (before : _) → IsMaking (state S.Store conn.old) schema_2 before → OnOk result (IsMaking (state S.Store conn.new) archive_schema before) }
+    ensures moved { HasCleanDisk (state S.Store conn.new) → (before : _) (said : _) (archive : Archive) → IsMoving (state S.Store conn.old) before schema_2 said 2 archive
+        → OnOk result (IsMoving (state S.Store conn.new) before archive_schema said newest_number archive) }
+    ensures within { HasCleanDisk (state S.Store conn.new) → (before : _) → IsWithin (state S.Store conn.old) before schema_2 → OnOk result (IsWithin (state S.Store conn.new) before archive_schema) }
+    ensures stopped { Stops S.Store conn.old conn.new result }
+    ensures clean { WasClean S.Store conn.old conn.new }
+    ensures lasts { Lasts (state S.Store conn.old) (state S.Store conn.new) }
+    ensures was_open { AnswersOpen S.Store conn.old conn.new result }
+{
+    conn.execute(
+        "CREATE TABLE address (person TEXT NOT NULL PRIMARY KEY REFERENCES person (name), address TEXT NOT NULL) STRICT",
+        &[],
+    )
+}
+
 /// Writes the version down.
 pub fn add_version<S: Alter>(conn: &mut Connection<S>) -> Result<usize, Error>
-    ensures made { HasCleanDisk (state S.Store conn.new) → (before : _) → IsMaking (state S.Store conn.old) archive_schema before → OnOk result (IsMade (state S.Store conn.new) before) }
+    ensures made { HasCleanDisk (state S.Store conn.new) → (before : _) → IsMaking (state S.Store conn.old) archive_schema before → OnOk result (IsMade (state S.Store conn.new) before empty_archive) }
     ensures stopped { Stops S.Store conn.old conn.new result }
     ensures clean { WasClean S.Store conn.old conn.new }
     ensures lasts { Lasts (state S.Store conn.old) (state S.Store conn.new) }
@@ -136,10 +175,23 @@ pub fn add_version<S: Alter>(conn: &mut Connection<S>) -> Result<usize, Error>
     conn.execute("INSERT INTO version (number) VALUES (?1)", params![VERSION])
 }
 
+/// Writes the version down in the place of an older one.
+pub fn set_version<S: Alter>(conn: &mut Connection<S>) -> Result<usize, Error>
+    ensures moved { HasCleanDisk (state S.Store conn.new) → (before : _) (said : _) (archive : Archive)
+        → IsMoving (state S.Store conn.old) before archive_schema said newest_number archive → OnOk result (IsMade (state S.Store conn.new) before archive) }
+    ensures within { HasCleanDisk (state S.Store conn.new) → (before : _) → IsWithin (state S.Store conn.old) before archive_schema → OnOk result (IsWithin (state S.Store conn.new) before archive_schema) }
+    ensures stopped { Stops S.Store conn.old conn.new result }
+    ensures clean { WasClean S.Store conn.old conn.new }
+    ensures lasts { Lasts (state S.Store conn.old) (state S.Store conn.new) }
+    ensures was_open { AnswersOpen S.Store conn.old conn.new result }
+{
+    conn.execute("UPDATE version SET number = ?1", params![VERSION])
+}
+
 /// Commits the transaction.
 pub fn commit<S: Alter>(conn: &mut Connection<S>) -> Result<usize, Error>
-    ensures kept { HasCleanDisk (state S.Store conn.new) → (before : _) → IsMade (state S.Store conn.old) before →
-        OnOk result (IsKept (state S.Store conn.new) × (archive_of (state S.Store conn.new) ≡ empty_archive)) }
+    ensures kept { HasCleanDisk (state S.Store conn.new) → (before : _) (archive : Archive) → IsMade (state S.Store conn.old) before archive →
+        OnOk result (IsKept (state S.Store conn.new) × (archive_of (state S.Store conn.new) ≡ archive)) }
     ensures held { HasCleanDisk (state S.Store conn.new) → (db : _) → IsHeld (Some db) (state S.Store conn.old) → MatchResult result
         (λ _. StaysOver None (state S.Store conn.old) (state S.Store conn.new))
         (λ _. RestsOver (Some db) (state S.Store conn.old) (state S.Store conn.new)) }
@@ -166,12 +218,15 @@ pub fn rollback<S: Alter>(conn: &mut Connection<S>) -> Result<usize, Error>
     conn.execute("ROLLBACK", &[])
 }
 
-/// The rows of `version`: in an archive that is kept one, of the number of these tables.
+/// The rows of `version`: in an archive that is kept one, of the number of these tables. It reads the tables of each version.
 pub fn versions<S: Alter>(conn: &mut Connection<S>) -> Result<Vec<Row>, Error>
     ensures found { Finds S.Store conn.old conn.new result (λ _ rows. rows.items ≡ (Int VERSION ∷ []) ∷ []) }
-    ensures numbers { HasCleanDisk (state S.Store conn.new) → IsOfArchive (state S.Store conn.old) →
+    ensures numbers { HasCleanDisk (state S.Store conn.new) → (number : _) → IsKnown number → HasForm (form_of number) (state S.Store conn.old) →
         IfOk result (λ rows. IsPermutation (versions_shown (state S.Store conn.old).now.trees) rows.items) }
-    ensures left { HasCleanDisk (state S.Store conn.new) → IsOfArchive (state S.Store conn.old) → IsBackTo (state S.Store conn.new) (state S.Store conn.old).now }
+    ensures left { HasCleanDisk (state S.Store conn.new) → (number : _) → IsKnown number → HasForm (form_of number) (state S.Store conn.old)
+        → IsBackTo (state S.Store conn.new) (state S.Store conn.old).now }
+    ensures stays_open { HasCleanDisk (state S.Store conn.new) → (number : _) → IsKnown number → HasForm (form_of number) (state S.Store conn.old)
+        → OnOk result (IsTrue (state S.Store conn.new).is_open) }
     ensures same { Leaves S.Store conn.old conn.new }
     ensures up { IsUp S.Store conn.old conn.new result }
     ensures clean { WasClean S.Store conn.old conn.new }

@@ -1,5 +1,5 @@
 use Rattle.sqlite.specs.Held.{state}
-use Rattle.archive_tables.proofs.ListLemmas.{tries_to_add, add_text}
+use Rattle.archive_tables.proofs.ListLemmas.{tries_to_add, tries_over, add_text}
 use Rattle.sqlite_tied.specs.Compute.{everything}
 use Rattle.sqlite_resolve.specs.Compile.{first}
 use Rattle.archive_tables.proofs.LastLemmas.{IsOurText, execute_lasts, execute_open}
@@ -12,6 +12,10 @@ returns-clause-added g c clean k =
 pub returns-clause-refused : goal.returns-clause-refused
 returns-clause-refused g c clean k =
     (tries_to_add (state g.S.Store c.args.conn.now) (state g.S.Store c.execute.new.self) c.args.name.now c.execute.result k (rw c.params-to_sql.ensures at (c.execute.ensures.runs clean))).1
+
+pub returns-clause-held : goal.returns-clause-held
+returns-clause-held g c clean behind k any =
+    tries_over behind (state g.S.Store c.args.conn.now) (state g.S.Store c.execute.new.self) c.args.name.now c.execute.result k (rw c.params-to_sql.ensures at (c.execute.ensures.runs clean))
 
 ours : IsOurText (first add_text)
 unfolding first everything

@@ -5,7 +5,7 @@ use Rattle.sqlite.specs.Effect.{Database}
 use Rattle.sqlite.specs.Held.{state}
 use Rattle.sqlite.specs.State.{State, Executes, IsUnchanged, IsRolledBack}
 use Rattle.archive_tables.specs.Schema.{archive_schema}
-use Rattle.archive_tables.specs.Making.{IsMaking, IsMade}
+use Rattle.archive_tables.specs.Making.{IsMaking, IsMade, empty_archive}
 use Rattle.archive_tables.specs.declared.texts.schema.TheConstants.{VERSION}
 use Rattle.archive_tables.proofs.RunLemmas.{execute_fails}
 use Rattle.archive_tables.proofs.MakeLemmas.{makes_whole, version_text}
@@ -14,7 +14,7 @@ use Rattle.sqlite_resolve.specs.Compile.{first}
 use Rattle.archive_tables.proofs.LastLemmas.{IsOurText, execute_lasts, execute_open}
 use Rattle.archive_tables.proofs.texts.schema.add_version.Goals as goal
 
-done : (old new : State) (before : Database) → IsMaking old archive_schema before → (r : Result ℕ Error) → Executes version_text (Int VERSION ∷ []) old new r → OnOk r (IsMade new before)
+done : (old new : State) (before : Database) → IsMaking old archive_schema before → (r : Result ℕ Error) → Executes version_text (Int VERSION ∷ []) old new r → OnOk r (IsMade new before empty_archive)
 done old new before k (Ok count) h = makes_whole old new before count k h
 done old new before k (Err e) h = tt
 

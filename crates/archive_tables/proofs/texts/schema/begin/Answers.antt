@@ -1,12 +1,14 @@
-use Rattle.std.proofs.Common.{◌≡◌, ◌⊎◌, ℕ, [], Ok, Err, Result, OnOk, OnErr}
+use Rattle.std.proofs.Common.{◌≡◌, ◌⊎◌, ℕ, pos, None, [], Ok, Err, Result, OnOk, OnErr}
 use Rattle.sqlite.specs.declared.error.Error.{Error}
 use Rattle.sqlite.specs.Held.{state}
 use Rattle.sqlite.specs.State.{State, Executes, IsUnchanged, IsRolledBack}
-use Rattle.archive_tables.specs.Schema.{no_schema}
-use Rattle.archive_tables.specs.Making.{IsMaking}
+use Rattle.archive_tables.specs.Schema.{no_schema, schema_of}
+use Rattle.archive_tables.specs.Tables.{IsHeldAs, form_of, archive_by}
+use Rattle.archive_tables.specs.Making.{IsMaking, IsWithin, IsMoving}
 use Rattle.archive_tables.proofs.RunLemmas.{execute_fails}
 use Rattle.archive_tables.proofs.MakeLemmas.{begins, begin_text}
 use Rattle.archive_tables.proofs.HeldLemmas.{begins_over}
+use Rattle.archive_tables.proofs.MoveLemmas.{begins_moving, begins_within}
 use Rattle.sqlite_tied.specs.Compute.{everything}
 use Rattle.sqlite_resolve.specs.Compile.{first}
 use Rattle.archive_tables.proofs.LastLemmas.{IsOurText, execute_lasts, execute_open}
@@ -19,6 +21,21 @@ done old new has (Err e) h = tt
 stops : (old new : State) (r : Result ℕ Error) → Executes begin_text [] old new r → OnErr r (IsUnchanged old new ⊎ IsRolledBack old new)
 stops old new (Ok count) h = tt
 stops old new (Err e) h = execute_fails old new begin_text [] e h
+
+moves : (old new : State) (number : ℕ) → IsHeldAs (form_of number) None old → (r : Result ℕ Error) → Executes begin_text [] old new r
+    → OnOk r (IsMoving new old.now (schema_of number) (pos number) number (archive_by number old.now.trees))
+moves old new number k (Ok count) h = begins_moving old new number count k h
+moves old new number k (Err e) h = tt
+
+pub returns-clause-moving : goal.returns-clause-moving
+returns-clause-moving g c clean number k = moves (state g.S.Store c.args.conn.now) (state g.S.Store c.execute.new.self) number k c.execute.result (c.execute.ensures.runs clean)
+
+stays : (old new : State) (r : Result ℕ Error) → Executes begin_text [] old new r → OnOk r (IsWithin new old.committed old.now.schema)
+stays old new (Ok count) h = begins_within old new count h
+stays old new (Err e) h = tt
+
+pub returns-clause-within : goal.returns-clause-within
+returns-clause-within g c clean = stays (state g.S.Store c.args.conn.now) (state g.S.Store c.execute.new.self) c.execute.result (c.execute.ensures.runs clean)
 
 pub returns-clause-begun : goal.returns-clause-begun
 returns-clause-begun g c clean has = done (state g.S.Store c.args.conn.now) (state g.S.Store c.execute.new.self) has c.execute.result (c.execute.ensures.runs clean)

@@ -4,7 +4,8 @@ use Rattle.sqlite.specs.Effect.{Database}
 use Rattle.sqlite.specs.Held.{state}
 use Rattle.sqlite.specs.State.{State, Executes, IsUnchanged, IsRolledBack}
 use Rattle.archive_tables.specs.Tables.{IsKept, archive_of}
-use Rattle.archive_tables.specs.Making.{IsMade, empty_archive}
+use Rattle.archive_tables.specs.Making.{IsMade}
+use Rattle.archive_machine.specs.Records.{Archive}
 use Rattle.archive_tables.proofs.RunLemmas.{execute_fails}
 use Rattle.archive_tables.proofs.MakeLemmas.{commits, commit_text}
 use Rattle.archive_tables.proofs.HeldLemmas.{commits_over}
@@ -13,16 +14,16 @@ use Rattle.sqlite_resolve.specs.Compile.{first}
 use Rattle.archive_tables.proofs.LastLemmas.{IsOurText, execute_lasts, execute_open}
 use Rattle.archive_tables.proofs.texts.schema.commit.Goals as goal
 
-done : (old new : State) (before : Database) → IsMade old before → (r : Result ℕ Error) → Executes commit_text [] old new r → OnOk r (IsKept new × (archive_of new ≡ empty_archive))
-done old new before k (Ok count) h = commits old new before count k h
-done old new before k (Err e) h = tt
+done : (old new : State) (before : Database) (archive : Archive) → IsMade old before archive → (r : Result ℕ Error) → Executes commit_text [] old new r → OnOk r (IsKept new × (archive_of new ≡ archive))
+done old new before archive k (Ok count) h = commits old new before archive count k h
+done old new before archive k (Err e) h = tt
 
 stops : (old new : State) (r : Result ℕ Error) → Executes commit_text [] old new r → OnErr r (IsUnchanged old new ⊎ IsRolledBack old new)
 stops old new (Ok count) h = tt
 stops old new (Err e) h = execute_fails old new commit_text [] e h
 
 pub returns-clause-kept : goal.returns-clause-kept
-returns-clause-kept g c clean before k = done (state g.S.Store c.args.conn.now) (state g.S.Store c.execute.new.self) before k c.execute.result (c.execute.ensures.runs clean)
+returns-clause-kept g c clean before archive k = done (state g.S.Store c.args.conn.now) (state g.S.Store c.execute.new.self) before archive k c.execute.result (c.execute.ensures.runs clean)
 
 pub returns-clause-stopped : goal.returns-clause-stopped
 returns-clause-stopped g c clean = stops (state g.S.Store c.args.conn.now) (state g.S.Store c.execute.new.self) c.execute.result (c.execute.ensures.runs clean)

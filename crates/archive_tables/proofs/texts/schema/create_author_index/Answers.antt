@@ -3,7 +3,7 @@ use Rattle.sqlite.specs.declared.error.Error.{Error}
 use Rattle.sqlite.specs.Effect.{Database}
 use Rattle.sqlite.specs.Held.{state}
 use Rattle.sqlite.specs.State.{State, Executes, IsUnchanged, IsRolledBack}
-use Rattle.archive_tables.specs.Schema.{with_month_index, archive_schema, create_author_index}
+use Rattle.archive_tables.specs.Schema.{with_month_index, schema_1, create_author_index}
 use Rattle.archive_tables.specs.Making.{IsMaking}
 use Rattle.archive_tables.proofs.RunLemmas.{execute_fails}
 use Rattle.archive_tables.proofs.MakeLemmas.{makes_author_index}
@@ -12,7 +12,7 @@ use Rattle.sqlite_resolve.specs.Compile.{first}
 use Rattle.archive_tables.proofs.LastLemmas.{IsOurText, execute_lasts, execute_open}
 use Rattle.archive_tables.proofs.texts.schema.create_author_index.Goals as goal
 
-done : (old new : State) (before : Database) → IsMaking old with_month_index before → (r : Result ℕ Error) → Executes create_author_index [] old new r → OnOk r (IsMaking new archive_schema before)
+done : (old new : State) (before : Database) → IsMaking old with_month_index before → (r : Result ℕ Error) → Executes create_author_index [] old new r → OnOk r (IsMaking new schema_1 before)
 done old new before k (Ok count) h = makes_author_index old new before count k h
 done old new before k (Err e) h = tt
 

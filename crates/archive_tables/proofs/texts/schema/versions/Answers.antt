@@ -1,4 +1,4 @@
-use Rattle.std.proofs.Common.{◌≡◌, [], ◌∷◌, Ok, Err, Result, IfOk, IfErr, OnOk, None}
+use Rattle.std.proofs.Common.{◌≡◌, ℕ, [], ◌∷◌, Ok, Err, Result, IfOk, IfErr, OnOk, None}
 use Rattle.std.specs.Prelude.{IsTrue, Vec}
 use Rattle.std.specs.List.Sorted.{IsPermutation}
 use Rattle.std.specs.declared.alloc.Global.{Global}
@@ -7,12 +7,12 @@ use Rattle.sqlite.specs.declared.types.Value.TheVariants.{Int}
 use Rattle.sqlite.specs.Order.{Row}
 use Rattle.sqlite.specs.Held.{state}
 use Rattle.sqlite.specs.State.{State, Shown, FailsToQuery}
-use Rattle.archive_tables.specs.Tables.{IsKept, IsOfArchive}
+use Rattle.archive_tables.specs.Tables.{IsKept, IsKnown, HasForm, form_of}
 use Rattle.archive_tables.specs.Rows.{versions_shown}
 use Rattle.archive_tables.specs.Making.{IsBackTo}
 use Rattle.archive_tables.specs.declared.texts.schema.TheConstants.{VERSION}
 use Rattle.archive_tables.specs.Calls.{Rests, IsCaused}
-use Rattle.archive_tables.proofs.VersionLemmas.{number_text, numbers_found, numbers_leave, no_numbers_leave, version_found, version_not_found, version_not_found_caused}
+use Rattle.archive_tables.proofs.VersionLemmas.{number_text, numbers_found, numbers_leave, no_numbers_leave, numbers_open, version_found, version_not_found, version_not_found_caused}
 use Rattle.archive_tables.proofs.LastLemmas.{query_lasts, query_open}
 use Rattle.archive_tables.proofs.texts.schema.versions.Goals as goal
 
@@ -22,24 +22,30 @@ asked : (old new : State) (r : Result (Vec Row Global) Error) → IsKept old →
 asked old new (Ok rows) k ok err = version_found old new k rows.items ok
 asked old new (Err e) k ok err = (tt, tt, version_not_found old new k e err)
 
-numbered : (old new : State) (r : Result (Vec Row Global) Error) → IsOfArchive old → IfOk r (λ rows. Shown number_text [] old new rows.items)
-    → IfOk r (λ rows. IsPermutation (versions_shown old.now.trees) rows.items)
-numbered old new (Ok rows) o ok = numbers_found old new o rows.items ok
-numbered old new (Err e) o ok = tt
+module _ (old new : State) (number : ℕ) (known : IsKnown number) (o : HasForm (form_of number) old) where
+  numbered : (r : Result (Vec Row Global) Error) → IfOk r (λ rows. Shown number_text [] old new rows.items) → IfOk r (λ rows. IsPermutation (versions_shown old.now.trees) rows.items)
+  numbered (Ok rows) ok = numbers_found old new number known o rows.items ok
+  numbered (Err e) ok = tt
 
-leaves : (old new : State) (r : Result (Vec Row Global) Error) → IsOfArchive old → IfOk r (λ rows. Shown number_text [] old new rows.items)
-    → IfErr r (FailsToQuery number_text [] old new) → IsBackTo new old.now
-leaves old new (Ok rows) o ok err = numbers_leave old new o rows.items ok
-leaves old new (Err e) o ok err = no_numbers_leave old new o e err
+  leaves : (r : Result (Vec Row Global) Error) → IfOk r (λ rows. Shown number_text [] old new rows.items) → IfErr r (FailsToQuery number_text [] old new) → IsBackTo new old.now
+  leaves (Ok rows) ok err = numbers_leave old new number known o rows.items ok
+  leaves (Err e) ok err = no_numbers_leave old new number known o e err
+
+  opened : (r : Result (Vec Row Global) Error) → IfOk r (λ rows. Shown number_text [] old new rows.items) → OnOk r (IsTrue new.is_open)
+  opened (Ok rows) ok = numbers_open old new number known o rows.items ok
+  opened (Err e) ok = tt
 
 pub returns-clause-left : goal.returns-clause-left
-returns-clause-left g c clean o =
-    leaves (state g.S.Store c.args.conn.now) (state g.S.Store c.query_all.new.self) c.query_all.result o (c.query_all.ensures.ok clean)
-    (c.query_all.ensures.err clean)
+returns-clause-left g c clean number known o =
+    leaves (state g.S.Store c.args.conn.now) (state g.S.Store c.query_all.new.self) number known o c.query_all.result (c.query_all.ensures.ok clean) (c.query_all.ensures.err clean)
 
 pub returns-clause-numbers : goal.returns-clause-numbers
-returns-clause-numbers g c clean o =
-    numbered (state g.S.Store c.args.conn.now) (state g.S.Store c.query_all.new.self) c.query_all.result o (c.query_all.ensures.ok clean)
+returns-clause-numbers g c clean number known o =
+    numbered (state g.S.Store c.args.conn.now) (state g.S.Store c.query_all.new.self) number known o c.query_all.result (c.query_all.ensures.ok clean)
+
+pub returns-clause-stays_open : goal.returns-clause-stays_open
+returns-clause-stays_open g c clean number known o =
+    opened (state g.S.Store c.args.conn.now) (state g.S.Store c.query_all.new.self) number known o c.query_all.result (c.query_all.ensures.ok clean)
 
 pub returns-clause-found : goal.returns-clause-found
 returns-clause-found g c clean k =

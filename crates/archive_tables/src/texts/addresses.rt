@@ -1,0 +1,93 @@
+//! The table `address`.
+
+ghost use Rattle.std.specs.Prelude.{◌≡◌, ◌++◌, ◌∷◌, [], map, find, option_map, string_bytes, IsUtf8};
+ghost use Rattle.std.specs.List.{list_any};
+ghost use Rattle.std.specs.Option.{IsSomeAnd};
+ghost use Rattle.sqlite.specs.Held.{state};
+ghost use Rattle.archive_machine.specs.Questions.{is_address_of};
+ghost use Rattle.archive_machine.specs.Machine.{readdressed};
+ghost use Rattle.archive_tables.specs.Tables.{archive_of};
+ghost use Rattle.archive_tables.specs.Calls.{Writes, Refuses, Finds, Leaves, IsUp, WasClean, Lasts, AnswersOpen, FailsByFault, FailsByFaultOr};
+
+use crate::rows::read_name;
+use sqlite::{Alter, Connection, Error, params};
+
+/// Adds the address of a person after the others.
+pub fn add_address<S: Alter>(
+    conn: &mut Connection<S>,
+    person: &str,
+    address: &str,
+) -> Result<usize, Error>
+    ensures added { Writes S.Store conn.old conn.new result (λ a. record a { addresses = a.addresses ++ record { person = person.now; address = address.now } ∷ [] }) }
+    ensures refused { Refuses S.Store conn.old conn.new result }
+    ensures clean { WasClean S.Store conn.old conn.new }
+    ensures lasts { Lasts (state S.Store conn.old) (state S.Store conn.new) }
+    ensures was_open { AnswersOpen S.Store conn.old conn.new result }
+{
+    conn.execute(
+        "INSERT INTO address (person, address) VALUES (?1, ?2)",
+        params![person, address],
+    )
+}
+
+/// Whether the person has an address.
+pub fn has_address<S: Alter>(conn: &mut Connection<S>, person: &str) -> Result<bool, Error>
+    ensures found { Finds S.Store conn.old conn.new result (λ a found. found ≡ list_any (is_address_of person.now) a.addresses) }
+    ensures same { Leaves S.Store conn.old conn.new }
+    ensures up { IsUp S.Store conn.old conn.new result }
+    ensures clean { WasClean S.Store conn.old conn.new }
+    ensures lasts { Lasts (state S.Store conn.old) (state S.Store conn.new) }
+    ensures was_open { AnswersOpen S.Store conn.old conn.new result }
+    ensures caused { FailsByFault S.Store conn.old conn.new result }
+{
+    let rows = conn.query_all(
+        "SELECT person FROM address WHERE person = ?1",
+        params![person],
+    )?;
+    Ok(!rows.is_empty())
+}
+
+/// Gives the person another address.
+pub fn change_address<S: Alter>(
+    conn: &mut Connection<S>,
+    person: &str,
+    address: &str,
+) -> Result<usize, Error>
+    ensures changed { Writes S.Store conn.old conn.new result (λ a. record a {
+      addresses = map (readdressed (record { person = person.now; address = address.now })) a.addresses;
+    }) }
+    ensures refused { Refuses S.Store conn.old conn.new result }
+    ensures clean { WasClean S.Store conn.old conn.new }
+    ensures lasts { Lasts (state S.Store conn.old) (state S.Store conn.new) }
+    ensures was_open { AnswersOpen S.Store conn.old conn.new result }
+{
+    conn.execute(
+        "UPDATE address SET address = ?2 WHERE person = ?1",
+        params![person, address],
+    )
+}
+
+/// The address of the person, who may have none.
+pub fn find_address<S: Alter>(
+    conn: &mut Connection<S>,
+    person: &str,
+) -> Result<Option<String>, Error>
+    ensures found { Finds S.Store conn.old conn.new result (λ a found.
+        option_map string_bytes found ≡ option_map (λ x. x.address) (find (is_address_of person.now) a.addresses)) }
+    ensures same { Leaves S.Store conn.old conn.new }
+    ensures up { IsUp S.Store conn.old conn.new result }
+    ensures clean { WasClean S.Store conn.old conn.new }
+    ensures lasts { Lasts (state S.Store conn.old) (state S.Store conn.new) }
+    ensures was_open { AnswersOpen S.Store conn.old conn.new result }
+    ensures caused { FailsByFaultOr S.Store conn.old conn.new result
+        (IsSomeAnd (find (is_address_of person.now) (archive_of (state S.Store conn.old)).addresses) (λ x. ¬ IsUtf8 x.address)) }
+{
+    let rows = conn.query_all(
+        "SELECT address FROM address WHERE person = ?1 ORDER BY rowid",
+        params![person],
+    )?;
+    match rows.first() {
+        Some(row) => Ok(Some(read_name(row)?)),
+        None => Ok(None),
+    }
+}
