@@ -2,3 +2,4 @@ pub mod MakingLemmas
 pub mod RankLemmas
 pub mod ReadingLemmas
 pub mod TakingLemmas
+mod HeldLemmas

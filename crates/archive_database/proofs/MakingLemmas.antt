@@ -1,5 +1,5 @@
 -- What a database holds that is taken over, or is left.
-use Rattle.std.proofs.Common.{◌≡◌, true, ◌<◌, ◌≤◌, List, [], ◌∷◌, length, get_or, map, refl, ap, sym, ◌∙◌, subst, arith, ◌⊎◌, inl, inr, Result, Ok, Err, OnErr}
+use Rattle.std.proofs.Common.{◌≡◌, ℤ, true, ◌<◌, ◌≤◌, List, [], ◌∷◌, length, get_or, map, refl, ap, sym, ◌∙◌, subst, arith, ◌⊎◌, inl, inr, Result, Ok, Err, OnErr}
 use Rattle.std.specs.List.Sorted.{IsPermutation}
 use Rattle.sqlite.specs.declared.types.Value.TheVariants.{Int}
 use Rattle.sqlite.specs.Order.{Row, column}
@@ -11,13 +11,12 @@ use Rattle.std.proofs.lemmas.List.Sorted.{IsPermutation-sym}
 use Rattle.archive_tables.specs.Tables.{IsOfVersion}
 use Rattle.archive_tables.specs.Making.{IsUndone, IsIdle, IsBackTo, IsStopped}
 use Rattle.archive_tables.specs.Rows.{versions_shown}
-use Rattle.archive_tables.specs.declared.texts.schema.TheConstants.{VERSION}
 
--- one row alone that shows the number of these tables
-one_cell : (trees : Trees) (row : Row) → IsPermutation (versions_shown trees) (row ∷ []) → column row 0 ≡ Int VERSION → IsOfVersion VERSION trees
-one_cell trees row same zero = only (trees 0) (one_permutation row (versions_shown trees) (IsPermutation-sym (versions_shown trees) (row ∷ []) same))
+-- one row alone that shows this number
+one_cell : (number : ℤ) (trees : Trees) (row : Row) → IsPermutation (versions_shown trees) (row ∷ []) → column row 0 ≡ Int number → IsOfVersion number trees
+one_cell number trees row same zero = only (trees 0) (one_permutation row (versions_shown trees) (IsPermutation-sym (versions_shown trees) (row ∷ []) same))
   where
-    only : (rows : List Row) → map (λ r. column r 1 ∷ []) rows ≡ row ∷ [] → (r : Row) × (rows ≡ r ∷ []) × (column r 1 ≡ Int VERSION)
+    only : (rows : List Row) → map (λ r. column r 1 ∷ []) rows ≡ row ∷ [] → (r : Row) × (rows ≡ r ∷ []) × (column r 1 ≡ Int number)
     only [] is = absurd cc
     only (r ∷ []) is = (r, refl, cc)
     only (r ∷ other ∷ rows) is = absurd cc
@@ -27,11 +26,11 @@ sole [] row some few is = absurd (omega (arith, some))
 sole (x ∷ []) row some few is = ap (λ y. y ∷ []) (sym is)
 sole (x ∷ y ∷ rows) row some few is = absurd (omega (arith, few))
 
--- where some rows are one that shows the number of these tables
-pub shows_version : (trees : Trees) (rows : List Row) (row : Row) → IsPermutation (versions_shown trees) rows → 1 ≤ length rows → length rows < 2
-    → row ≡ get_or rows 0 row → column row 0 ≡ Int VERSION → IsOfVersion VERSION trees
-shows_version trees rows row same some few is zero =
-    one_cell trees row (subst (λ l. IsPermutation (versions_shown trees) l) (sole rows row some few is) same) zero
+-- where some rows are one that shows this number
+pub shows_version : (number : ℤ) (trees : Trees) (rows : List Row) (row : Row) → IsPermutation (versions_shown trees) rows → 1 ≤ length rows → length rows < 2
+    → row ≡ get_or rows 0 row → column row 0 ≡ Int number → IsOfVersion number trees
+shows_version number trees rows row same some few is zero =
+    one_cell number trees row (subst (λ l. IsPermutation (versions_shown trees) l) (sole rows row some few is) same) zero
 
 -- a statement that fails leaves what was committed
 pub undone_by : (old new : State) (before : Database) → old.committed ≡ before → IsUnchanged old new ⊎ IsRolledBack old new → IsUndone new before

@@ -1,18 +1,21 @@
 //! The tables, made in an empty database or found in another.
-ghost use Rattle.std.specs.Prelude.{◌≡◌, ◌↔◌, None, OnOk, OnErr, IfErr, IsTrue};
+ghost use Rattle.std.specs.Prelude.{◌≡◌, ◌↔◌, pos, None, Some, OnOk, OnErr, IfSome, IfErr, IsTrue};
 ghost use Rattle.sqlite_disk.specs.Disk.{MoreFaults};
 ghost use Rattle.sqlite.specs.Held.{state};
 ghost use Rattle.sqlite.specs.State.{HasCleanDisk};
-ghost use Rattle.archive_tables.specs.Schema.{no_schema, with_person, with_message};
-ghost use Rattle.archive_tables.specs.Tables.{IsKept, IsOfArchive, IsOfVersion, archive_of};
-ghost use Rattle.archive_tables.specs.declared.texts.schema.TheConstants.{VERSION};
-ghost use Rattle.archive_tables.specs.Calls.{Leaves, WasClean, Lasts, AnswersOpen};
-ghost use Rattle.archive_tables.specs.Making.{IsMaking, IsMade, IsUndone, IsIdle, IsBackTo, IsStopped, empty_archive};
-ghost use Rattle.archive_database.specs.Adopting.{HasAsManyObjects};
+ghost use Rattle.archive_machine.specs.Records.{Archive};
+ghost use Rattle.archive_tables.specs.Schema.{no_schema, with_person, with_message, schema_1, schema_2, schema_of};
+ghost use Rattle.archive_tables.specs.Tables.{IsHeldAs, IsKept, IsKnown, IsOfArchive, HasForm, IsOfVersion, newest_number, form_of, archive_by, archive_of};
+ghost use Rattle.archive_tables.specs.Calls.{Rests, WasClean, Lasts, AnswersOpen};
+ghost use Rattle.archive_tables.specs.Making.{IsMaking, IsWithin, IsMoving, IsMade, IsUndone, IsIdle, IsBackTo, IsStopped, empty_archive};
+ghost use Rattle.archive_database.specs.Adopting.{HasObjects, HasAsManyObjects, MayBeTaken, IsOlder};
 
 use crate::faults::Fault;
 use archive_tables::texts;
 use sqlite::{Alter, Connection, Error};
+
+/// The number of the newest version.
+const NEWEST: u8 = 3;
 
 /// Whether a database has no table, index or view.
 pub fn has_nothing<S: Alter>(conn: &Connection<S>) -> bool
@@ -22,34 +25,155 @@ pub fn has_nothing<S: Alter>(conn: &Connection<S>) -> bool
     schema.tables.is_empty() && schema.indexes.is_empty() && schema.views.is_empty()
 }
 
-/// Whether a database has as many tables, indexes and views as an archive has, that of AUTOINCREMENT among the tables.
-pub fn has_as_many_objects<S: Alter>(conn: &Connection<S>) -> bool
-    ensures { IsTrue result ↔ HasAsManyObjects (state S.Store conn.now).now.schema }
+/// The version whose tables these may be: that which has as many tables, indexes and views, that of AUTOINCREMENT among the
+/// tables. `None` where none has.
+pub fn version_of_objects<S: Alter>(conn: &Connection<S>) -> Option<u8>
+    ensures some { IfSome result (λ number. IsKnown number × HasAsManyObjects number (state S.Store conn.now).now.schema) }
+    ensures own { (number : _) → IsKnown number → HasAsManyObjects number (state S.Store conn.now).now.schema → result ≡ Some number }
 {
-    let schema = conn.schema();
-    schema.tables.len() == 6 && schema.indexes.len() == 7 && schema.views.is_empty()
+    if has_objects(conn, 6, 7) {
+        Some(1)
+    } else if has_objects(conn, 7, 8) {
+        Some(2)
+    } else if has_objects(conn, 8, 9) {
+        Some(3)
+    } else {
+        None
+    }
 }
 
-/// Refuses a database whose `version` does not hold one row, of the number of these tables.
-pub fn find_version<S: Alter>(conn: &mut Connection<S>) -> Result<(), Fault>
-    ensures same { Leaves S.Store conn.old conn.new }
-    ensures up { HasCleanDisk (state S.Store conn.new) → IsKept (state S.Store conn.old) → OnOk result (IsTrue (state S.Store conn.new).is_open) }
-    ensures version { HasCleanDisk (state S.Store conn.new) → IsOfArchive (state S.Store conn.old) → OnOk result (IsOfVersion VERSION (state S.Store conn.old).now.trees) }
-    ensures back { HasCleanDisk (state S.Store conn.new) → IsOfArchive (state S.Store conn.old) → IsBackTo (state S.Store conn.new) (state S.Store conn.old).now }
+/// Whether a database has so many tables and indexes, and no view.
+fn has_objects<S: Alter>(conn: &Connection<S>, tables: usize, indexes: usize) -> bool
+    ensures { IsTrue result ↔ HasObjects tables indexes (state S.Store conn.now).now.schema }
+{
+    let schema = conn.schema();
+    schema.tables.len() == tables && schema.indexes.len() == indexes && schema.views.is_empty()
+}
+
+/// Refuses tables of a version whose `version` does not hold one row, of its number.
+pub fn find_version<S: Alter>(conn: &mut Connection<S>, number: u8) -> Result<(), Fault>
+    ensures version { HasCleanDisk (state S.Store conn.new) → IsKnown number → HasForm (form_of number) (state S.Store conn.old)
+        → OnOk result (IsOfVersion (pos number) (state S.Store conn.old).now.trees) }
+    ensures back { HasCleanDisk (state S.Store conn.new) → IsKnown number → HasForm (form_of number) (state S.Store conn.old)
+        → IsBackTo (state S.Store conn.new) (state S.Store conn.old).now }
+    ensures up { HasCleanDisk (state S.Store conn.new) → IsKnown number → HasForm (form_of number) (state S.Store conn.old)
+        → OnOk result (IsTrue (state S.Store conn.new).is_open) }
     ensures clean { WasClean S.Store conn.old conn.new }
     ensures lasts { Lasts (state S.Store conn.old) (state S.Store conn.new) }
     ensures was_open { AnswersOpen S.Store conn.old conn.new result }
-    ensures caused { HasCleanDisk (state S.Store conn.new) → IsKept (state S.Store conn.old) → (state S.Store conn.old).step_limit ≡ None
+    ensures caused { HasCleanDisk (state S.Store conn.new) → number ≡ newest_number → IsKept (state S.Store conn.old) → (state S.Store conn.old).step_limit ≡ None
         → IfErr result (λ fault. fault ≡ Fault.Database → MoreFaults (state S.Store conn.old).faults (state S.Store conn.new).faults) }
 {
     let rows = texts::schema::versions(conn)?;
     let [row] = rows.as_slice() else {
         return Err(Fault::Database);
     };
-    let number: i64 = row.get(0)?;
-    if number != texts::schema::VERSION {
+    let found: i64 = row.get(0)?;
+    let wanted = i64::from(number);
+    if found != wanted {
         return Err(Fault::Database);
     }
+    Ok(())
+}
+
+/// Takes tables of any version over: those of an older one become those of the newest. A database that has the objects of no
+/// version, or another number, is refused.
+pub fn take_over<S: Alter>(conn: &mut Connection<S>) -> Result<(), Fault>
+    ensures found { HasCleanDisk (state S.Store conn.new) → (number : _) → IsKnown number → IsHeldAs (form_of number) None (state S.Store conn.old)
+        → OnOk result (IsKept (state S.Store conn.new) × (archive_of (state S.Store conn.new) ≡ archive_by number (state S.Store conn.old).now.trees)) }
+    ensures back { HasCleanDisk (state S.Store conn.new) → IsIdle (state S.Store conn.old) → (number : _) → IsKnown number → (state S.Store conn.old).now.schema ≡ schema_of number
+        → OnErr result (IsBackTo (state S.Store conn.new) (state S.Store conn.old).now) }
+    ensures version { HasCleanDisk (state S.Store conn.new) → (number : _) → IsKnown number → HasForm (form_of number) (state S.Store conn.old)
+        → OnOk result (IsOfVersion (pos number) (state S.Store conn.old).now.trees) }
+    ensures kept { HasCleanDisk (state S.Store conn.new) → IsKept (state S.Store conn.old)
+        → OnOk result (IsKept (state S.Store conn.new) × (archive_of (state S.Store conn.new) ≡ archive_of (state S.Store conn.old))) }
+    ensures left { HasCleanDisk (state S.Store conn.new) → IsKept (state S.Store conn.old) → OnErr result (Rests (state S.Store conn.old) (state S.Store conn.new)) }
+    ensures rows { HasCleanDisk (state S.Store conn.new) → IsOfArchive (state S.Store conn.old)
+        → OnOk result (IsBackTo (state S.Store conn.new) (state S.Store conn.old).now) }
+    ensures caused { HasCleanDisk (state S.Store conn.new) → IsKept (state S.Store conn.old) → (state S.Store conn.old).step_limit ≡ None
+        → IfErr result (λ fault. fault ≡ Fault.Database → MoreFaults (state S.Store conn.old).faults (state S.Store conn.new).faults) }
+    ensures objects { OnOk result (MayBeTaken (state S.Store conn.old).now.schema) }
+    ensures foreign { ¬ MayBeTaken (state S.Store conn.old).now.schema → conn.new ≡ conn.old }
+    ensures why { ¬ MayBeTaken (state S.Store conn.old).now.schema → IfErr result (λ fault. fault ≡ Fault.Database) }
+    ensures clean { WasClean S.Store conn.old conn.new }
+    ensures lasts { Lasts (state S.Store conn.old) (state S.Store conn.new) }
+    ensures was_open { AnswersOpen S.Store conn.old conn.new result }
+{
+    let Some(number) = version_of_objects(conn) else {
+        return Err(Fault::Database);
+    };
+    find_version(conn, number)?;
+    if number == NEWEST {
+        return Ok(());
+    }
+    bring_over(conn, number)
+}
+
+/// Makes the tables of an older version those of the newest, in one transaction.
+fn bring_over<S: Alter>(conn: &mut Connection<S>, number: u8) -> Result<(), Fault>
+    ensures moved { HasCleanDisk (state S.Store conn.new) → IsOlder number → IsHeldAs (form_of number) None (state S.Store conn.old)
+        → OnOk result (IsKept (state S.Store conn.new) × (archive_of (state S.Store conn.new) ≡ archive_by number (state S.Store conn.old).now.trees)) }
+    ensures back { HasCleanDisk (state S.Store conn.new) → IsOlder number → IsIdle (state S.Store conn.old) → (state S.Store conn.old).now.schema ≡ schema_of number
+        → OnErr result (IsBackTo (state S.Store conn.new) (state S.Store conn.old).now) }
+    ensures clean { WasClean S.Store conn.old conn.new }
+    ensures lasts { Lasts (state S.Store conn.old) (state S.Store conn.new) }
+    ensures was_open { AnswersOpen S.Store conn.old conn.new result }
+{
+    texts::schema::begin(conn)?;
+    if let Err(error) = move_tables(conn, number) {
+        let _back = texts::schema::rollback(conn);
+        return Err(Fault::from(error));
+    }
+    Ok(())
+}
+
+/// Brings the tables of an older version over in a transaction, and commits it.
+fn move_tables<S: Alter>(conn: &mut Connection<S>, number: u8) -> Result<(), Error>
+    ensures moved { HasCleanDisk (state S.Store conn.new) → IsOlder number → (before : _) (archive : Archive)
+        → IsMoving (state S.Store conn.old) before (schema_of number) (pos number) number archive
+        → OnOk result (IsKept (state S.Store conn.new) × (archive_of (state S.Store conn.new) ≡ archive)) }
+    ensures stopped { HasCleanDisk (state S.Store conn.new) → IsOlder number → (before : _) → IsWithin (state S.Store conn.old) before (schema_of number)
+        → OnErr result (IsStopped (state S.Store conn.new) before) }
+    ensures clean { WasClean S.Store conn.old conn.new }
+    ensures lasts { Lasts (state S.Store conn.old) (state S.Store conn.new) }
+{
+    move_options(conn, number)?;
+    move_addresses(conn)?;
+    Ok(())
+}
+
+/// From version 1 to 2: each list has its option. The tables of version 2 stay as they are.
+fn move_options<S: Alter>(conn: &mut Connection<S>, number: u8) -> Result<(), Error>
+    ensures moved { HasCleanDisk (state S.Store conn.new) → IsOlder number → (before : _) (archive : Archive)
+        → IsMoving (state S.Store conn.old) before (schema_of number) (pos number) number archive
+        → OnOk result (IsMoving (state S.Store conn.new) before schema_2 (pos number) 2 archive) }
+    ensures within { HasCleanDisk (state S.Store conn.new) → IsOlder number → (before : _) → IsWithin (state S.Store conn.old) before (schema_of number)
+        → OnOk result (IsWithin (state S.Store conn.new) before schema_2) }
+    ensures stopped { HasCleanDisk (state S.Store conn.new) → IsOlder number → (before : _) → IsWithin (state S.Store conn.old) before (schema_of number)
+        → OnErr result (IsStopped (state S.Store conn.new) before) }
+    ensures clean { WasClean S.Store conn.old conn.new }
+    ensures lasts { Lasts (state S.Store conn.old) (state S.Store conn.new) }
+{
+    if number != 1 {
+        return Ok(());
+    }
+    texts::schema::create_option(conn)?;
+    texts::options::copy_options(conn)?;
+    Ok(())
+}
+
+/// From version 2 to 3, which is committed: nobody has an address.
+fn move_addresses<S: Alter>(conn: &mut Connection<S>) -> Result<(), Error>
+    ensures moved { HasCleanDisk (state S.Store conn.new) → (before : _) (said : _) (archive : Archive) → IsMoving (state S.Store conn.old) before schema_2 said 2 archive
+        → OnOk result (IsKept (state S.Store conn.new) × (archive_of (state S.Store conn.new) ≡ archive)) }
+    ensures stopped { HasCleanDisk (state S.Store conn.new) → (before : _) → IsWithin (state S.Store conn.old) before schema_2
+        → OnErr result (IsStopped (state S.Store conn.new) before) }
+    ensures clean { WasClean S.Store conn.old conn.new }
+    ensures lasts { Lasts (state S.Store conn.old) (state S.Store conn.new) }
+{
+    texts::schema::create_address(conn)?;
+    texts::schema::set_version(conn)?;
+    texts::schema::commit(conn)?;
     Ok(())
 }
 
@@ -87,6 +211,7 @@ fn fill<S: Alter>(conn: &mut Connection<S>) -> Result<(), Error>
     make_first(conn)?;
     make_last(conn)?;
     make_indexes(conn)?;
+    make_later(conn)?;
     texts::schema::commit(conn)?;
     Ok(())
 }
@@ -122,10 +247,9 @@ fn make_last<S: Alter>(conn: &mut Connection<S>) -> Result<(), Error>
     Ok(())
 }
 
-/// Makes the indexes, and writes the version down.
 fn make_indexes<S: Alter>(conn: &mut Connection<S>) -> Result<(), Error>
     ensures made { HasCleanDisk (state S.Store conn.new) → (before : _) → IsMaking (state S.Store conn.old) with_message before
-        → OnOk result (IsMade (state S.Store conn.new) before) }
+        → OnOk result (IsMaking (state S.Store conn.new) schema_1 before) }
     ensures undone { HasCleanDisk (state S.Store conn.new) → (before : _) → IsMaking (state S.Store conn.old) with_message before
         → OnErr result (IsUndone (state S.Store conn.new) before) }
     ensures stopped { HasCleanDisk (state S.Store conn.new) → (before : _) → IsMaking (state S.Store conn.old) with_message before
@@ -135,6 +259,22 @@ fn make_indexes<S: Alter>(conn: &mut Connection<S>) -> Result<(), Error>
 {
     texts::schema::create_month_index(conn)?;
     texts::schema::create_author_index(conn)?;
+    Ok(())
+}
+
+/// Makes the tables of the later versions, and writes the version down.
+fn make_later<S: Alter>(conn: &mut Connection<S>) -> Result<(), Error>
+    ensures made { HasCleanDisk (state S.Store conn.new) → (before : _) → IsMaking (state S.Store conn.old) schema_1 before
+        → OnOk result (IsMade (state S.Store conn.new) before empty_archive) }
+    ensures undone { HasCleanDisk (state S.Store conn.new) → (before : _) → IsMaking (state S.Store conn.old) schema_1 before
+        → OnErr result (IsUndone (state S.Store conn.new) before) }
+    ensures stopped { HasCleanDisk (state S.Store conn.new) → (before : _) → IsMaking (state S.Store conn.old) schema_1 before
+        → OnErr result (IsStopped (state S.Store conn.new) before) }
+    ensures clean { WasClean S.Store conn.old conn.new }
+    ensures lasts { Lasts (state S.Store conn.old) (state S.Store conn.new) }
+{
+    texts::schema::create_option(conn)?;
+    texts::schema::create_address(conn)?;
     texts::schema::add_version(conn)?;
     Ok(())
 }

@@ -17,7 +17,7 @@ use sqlite::{Alter, Connection, Error};
 use std::alloc::{AllocError, Global};
 
 /// Bytes of the longest whole text that is taken in.
-const LONGEST: usize = 4_194_304;
+const LONGEST: usize = 16_777_216;
 
 /// Whether the whole text of a message is too long to be taken in.
 pub fn is_too_large(item: &Item<'_>) -> bool

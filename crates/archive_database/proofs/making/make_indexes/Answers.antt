@@ -1,32 +1,22 @@
 use Rattle.sqlite.specs.Held.{state}
 use Rattle.archive_database.proofs.MakingLemmas.{undone_by, stopped_by, on_err}
-use Rattle.archive_tables.proofs.LastLemmas.{lasts_then}
 use Rattle.archive_database.proofs.making.make_indexes.Goals as goal
 
 pub returns-clause-made : goal.returns-clause-made
 returns-clause-made g c = λ clean before making.
-    let clean_2 = c.in_ok-add_version.ensures.clean clean in
-    let clean_1 = c.in_ok-create_author_index.ensures.clean clean_2 in
-    c.in_ok-add_version.ensures.made clean before (c.in_ok-create_author_index.ensures.made clean_2 before (c.in_ok-create_month_index.ensures.made clean_1 before making))
+    let clean_1 = c.in_ok-create_author_index.ensures.clean clean in
+    c.in_ok-create_author_index.ensures.made clean before (c.in_ok-create_month_index.ensures.made clean_1 before making)
 
-pub returns-in_err-add_version-clause-undone : goal.returns-in_err-add_version-clause-undone
-returns-in_err-add_version-clause-undone g c = λ clean before making.
-    let clean_2 = c.in_err-add_version.ensures.clean clean in
-    let clean_1 = c.in_ok-create_author_index.ensures.clean clean_2 in
-    let made = c.in_ok-create_author_index.ensures.made clean_2 before (c.in_ok-create_month_index.ensures.made clean_1 before making) in
-    on_err c.from_residual-in_err-add_version.result _
-    (undone_by (state g.S.Store c.create_author_index.new.conn) (state g.S.Store c.add_version.new.conn) before made.behind (c.in_err-add_version.ensures.stopped clean))
+pub returns-in_err-create_author_index-clause-undone : goal.returns-in_err-create_author_index-clause-undone
+returns-in_err-create_author_index-clause-undone g c = λ clean before making.
+    let clean_1 = c.in_err-create_author_index.ensures.clean clean in
+    let made = c.in_ok-create_month_index.ensures.made clean_1 before making in
+    on_err c.from_residual-in_err-create_author_index.result _
+    (undone_by (state g.S.Store c.create_month_index.new.conn) (state g.S.Store c.create_author_index.new.conn) before made.behind (c.in_err-create_author_index.ensures.stopped clean))
 
-pub returns-in_err-add_version-clause-stopped : goal.returns-in_err-add_version-clause-stopped
-returns-in_err-add_version-clause-stopped g c = λ clean before making.
-    let clean_2 = c.in_err-add_version.ensures.clean clean in
-    let clean_1 = c.in_ok-create_author_index.ensures.clean clean_2 in
-    let made = c.in_ok-create_author_index.ensures.made clean_2 before (c.in_ok-create_month_index.ensures.made clean_1 before making) in
-    on_err c.from_residual-in_err-add_version.result _
-    (stopped_by (state g.S.Store c.create_author_index.new.conn) (state g.S.Store c.add_version.new.conn) before made.behind made.within (c.in_err-add_version.ensures.stopped clean))
-
-pub returns-in_err-add_version-clause-lasts : goal.returns-in_err-add_version-clause-lasts
-returns-in_err-add_version-clause-lasts g c = lasts_then _ _ _ (lasts_then _ _ _ c.create_month_index.ensures.lasts c.create_author_index.ensures.lasts) c.add_version.ensures.lasts
-
-pub returns-clause-lasts : goal.returns-clause-lasts
-returns-clause-lasts g c = lasts_then _ _ _ (lasts_then _ _ _ c.create_month_index.ensures.lasts c.create_author_index.ensures.lasts) c.add_version.ensures.lasts
+pub returns-in_err-create_author_index-clause-stopped : goal.returns-in_err-create_author_index-clause-stopped
+returns-in_err-create_author_index-clause-stopped g c = λ clean before making.
+    let clean_1 = c.in_err-create_author_index.ensures.clean clean in
+    let made = c.in_ok-create_month_index.ensures.made clean_1 before making in
+    on_err c.from_residual-in_err-create_author_index.result _
+    (stopped_by (state g.S.Store c.create_month_index.new.conn) (state g.S.Store c.create_author_index.new.conn) before made.behind made.within (c.in_err-create_author_index.ensures.stopped clean))

@@ -1,0 +1,42 @@
+//! A list that is added.
+ghost use Rattle.std.specs.Prelude.{Some, MatchResult};
+ghost use Rattle.sqlite.specs.Held.{state};
+ghost use Rattle.sqlite.specs.State.{HasCleanDisk};
+ghost use Rattle.archive_tables.specs.Tables.{IsHeld, IsKept};
+ghost use Rattle.archive_tables.specs.Calls.{Changes, Rests, IsHeldOrBack, WasClean, Lasts, AnswersOpen};
+ghost use Rattle.archive_database.specs.Lists.{with_list};
+
+use crate::faults::Fault;
+use archive_tables::texts;
+use sqlite::{Alter, Connection, Error};
+
+/// Adds a list after the others, and says with it that its threads are gathered by subject: both, or nothing.
+pub fn add_list<S: Alter>(conn: &mut Connection<S>, name: &str) -> Result<(), Fault>
+    ensures added { HasCleanDisk (state S.Store conn.new) → IsKept (state S.Store conn.old) → MatchResult result
+        (λ _. Changes (state S.Store conn.old) (state S.Store conn.new) (λ a. with_list a name.now))
+        (λ _. Rests (state S.Store conn.old) (state S.Store conn.new)) }
+    ensures clean { WasClean S.Store conn.old conn.new }
+    ensures lasts { Lasts (state S.Store conn.old) (state S.Store conn.new) }
+    ensures was_open { AnswersOpen S.Store conn.old conn.new result }
+{
+    texts::schema::begin(conn)?;
+    if let Err(error) = write_list(conn, name) {
+        let _undone = texts::schema::rollback(conn);
+        return Err(Fault::from(error));
+    }
+    Ok(())
+}
+
+/// Writes both in a transaction, and commits it.
+fn write_list<S: Alter>(conn: &mut Connection<S>, name: &str) -> Result<(), Error>
+    ensures written { HasCleanDisk (state S.Store conn.new) → (db : _) → IsHeld (Some db) (state S.Store conn.old) → MatchResult result
+        (λ _. Changes (state S.Store conn.old) (state S.Store conn.new) (λ a. with_list a name.now))
+        (λ _. IsHeldOrBack db (state S.Store conn.new)) }
+    ensures clean { WasClean S.Store conn.old conn.new }
+    ensures lasts { Lasts (state S.Store conn.old) (state S.Store conn.new) }
+{
+    texts::lists::add_list(conn, name)?;
+    texts::options::add_option(conn, name, true)?;
+    texts::schema::commit(conn)?;
+    Ok(())
+}
