@@ -7,7 +7,7 @@ use Rattle.std.proofs.lemmas.List.Elements.{All-head, All-tail}
 use Rattle.sqlite_disk.specs.Disk.{MoreFaults}
 use Rattle.sqlite.specs.declared.error.Error.{Error}
 use Rattle.sqlite.specs.State.{State}
-use Rattle.archive_machine.specs.Records.{Message, Person}
+use Rattle.archive_machine.specs.Records.{Message, Person, Address}
 use Rattle.archive_machine.proofs.KeyLemmas.{IsUtf8-key}
 use Rattle.archive_tables.specs.Calls.{Lasts, IsCaused}
 use Rattle.archive_tables.specs.Rows.{no_memory}
@@ -66,6 +66,13 @@ pub by_person : (old new : State) (e : Error) (found : Option Person) → IsCaus
 by_person old new e found (inl why) it = inl (by_error old new e why it)
 by_person old new e (Some p) (inr bad) it = inr bad
 by_person old new e None (inr bad) it = absurd bad
+
+-- an address that cannot be read
+pub by_address : (old mid new : State) (e : Error) (found : Option Address) → Lasts old mid → IsCaused mid new e ⊎ IsSomeAnd found (λ a. ¬ IsUtf8 a.address) → fault_of e ≡ faults.Store
+    → MoreFaults old.faults new.faults ⊎ IsSomeAnd (option_map (λ a. a.address) found) (λ address. ¬ IsUtf8 address)
+by_address old mid new e found lasts (inl why) it = inl (by_later old mid new e lasts why it)
+by_address old mid new e (Some a) lasts (inr bad) it = inr bad
+by_address old mid new e None lasts (inr bad) it = absurd bad
 
 -- ---- messages that cannot be read
 

@@ -15,7 +15,7 @@ use Rattle.archive_store.specs.Replies.{Steps}
 use Rattle.archive_store.specs.Running.{command_of, CountsOn, IsRightCount}
 use Rattle.archive_store.specs.declared.running.Counted.{Counted}
 use Rattle.archive_store.specs.declared.running.Command.{Command as Given}
-use Rattle.archive_store.specs.declared.running.Command.TheVariants.{ListAdd, PersonAdd, Grant, Revoke, Add, Withdraw, Restore, Embargo, Lift}
+use Rattle.archive_store.specs.declared.running.Command.TheVariants.{ListAdd, PersonAdd, Grant, Revoke, Add, Withdraw, Restore, Embargo, Lift, MergeSet, AddressSet}
 
 abbrev HoldsMany : List ℕ → ℕ → Archive → Type 0
 HoldsMany list count a = length (messages_in a list) ≡ count
@@ -50,6 +50,8 @@ many_kept list count = record {
       as_many (λ (m : Message). bytes_eq m.list list) (changed of key (withdrawn_by party)) (on_its_list list of key (withdrawn_by party) (λ m. refl)) a.messages ∙ is;
   embargoes = λ a of key until is.
       as_many (λ (m : Message). bytes_eq m.list list) (changed of key (embargoed until)) (on_its_list list of key (embargoed until) (λ m. refl)) a.messages ∙ is;
+  merges = λ a of merge is. is;
+  addresses = λ a person address told is. is;
 }
 
 count_stays : (command : Command) → AddsNone command → (counted : Option Counted) (a : Archive) → IsRightCount counted a → IsRightCount counted (step a command).0
@@ -85,3 +87,7 @@ count_after g old new (Embargo list key until) before after reply clean kept som
     count_left (state g old) (state g new) (command_of (Embargo list key until)) tt before after reply some steps same right
 count_after g old new (Lift list key) before after reply clean kept some steps same right =
     count_left (state g old) (state g new) (command_of (Lift list key)) tt before after reply some steps same right
+count_after g old new (MergeSet list merge) before after reply clean kept some steps same right =
+    count_left (state g old) (state g new) (command_of (MergeSet list merge)) tt before after reply some steps same right
+count_after g old new (AddressSet person address) before after reply clean kept some steps same right =
+    count_left (state g old) (state g new) (command_of (AddressSet person address)) tt before after reply some steps same right

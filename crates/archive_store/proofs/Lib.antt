@@ -13,3 +13,4 @@ pub mod WalkingLemmas
 pub mod CheckLemmas
 pub mod FollowLemmas
 pub mod CauseLemmas
+mod PutLemmas

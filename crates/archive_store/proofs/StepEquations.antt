@@ -6,18 +6,44 @@ use Rattle.std.specs.Ordering.{int_eq}
 use Rattle.std.specs.declared.cmp.Ordering.TheVariants.{Less, Equal, Greater}
 use Rattle.mbox_core.specs.Division.{Item, whole}
 use Rattle.policy_core.specs.Names.{is_name}
-use Rattle.archive_machine.specs.Records.{Grant, Message, Archive}
-use Rattle.archive_machine.specs.Commands.{no_list, no_message, token_taken, bad_days, list_full, done, was_there, taken_in, already_known, refused}
+use Rattle.archive_machine.specs.Records.{Grant, Message, Address, Archive}
+use Rattle.archive_machine.specs.Commands.{bad_text, no_list, no_message, token_taken, bad_days, list_full, done, was_there, taken_in, already_known, refused}
 use Rattle.archive_machine.specs.Keys.{item_key}
 use Rattle.archive_machine.specs.Tokens.{is_token}
-use Rattle.archive_machine.specs.Questions.{has_list, has_person, has_token, is_grant, has_grant, is_message, message_of, messages_in}
+use Rattle.archive_machine.specs.Addresses.{is_address, kept_address}
+use Rattle.archive_database.specs.Lists.{with_list}
+use Rattle.archive_machine.specs.Questions.{has_list, has_person, has_token, is_address_of, is_grant, has_grant, is_message, message_of, messages_in}
 use Rattle.archive_tables.specs.Rows.{marks_of}
 use Rattle.archive_tables.specs.declared.rows.MarksRow.{MarksRow}
-use Rattle.archive_machine.specs.Machine.{person_added, granted, revoked, withdrawal, restored, held_back, lifted, with_keyed, added_within, longest_text}
+use Rattle.archive_machine.specs.Machine.{list_added, merge_chosen, with_merge, address_given, readdressed, with_address, person_added, granted, revoked, withdrawal, restored, held_back, lifted, with_keyed, added_within, longest_text}
 
 found : {X : Type 0} (b : Bool) (x : X) (o : Option X) (c : Bool) → is_some o ≡ c → is_some (cond b (Some x) o) ≡ (b || c)
 found true x o c h = refl
 found false x o c h = h
+
+-- ---- lists and what is told of them
+
+pub list_done : (name : List ℕ) → is_name name ≡ true → (a : Archive) → ⊤ × (false ≡ has_list a name) → list_added a name ≡ (with_list a name, done)
+list_done name n a h = rw (n, sym h.1) refl
+
+pub merge_done : (list : List ℕ) (merge : Bool) (a : Archive) → ⊤ × (true ≡ has_list a list)
+    → merge_chosen a list merge ≡ (record a { options = map (with_merge list merge) a.options }, done)
+merge_done list merge a h = rw (sym h.1) refl
+
+pub address_bad_text : (person address : List ℕ) → is_address address ≡ false → (a : Archive) → ⊤ × (true ≡ has_person a person)
+    → address_given a person address ≡ (a, refused bad_text)
+address_bad_text person address is a h = rw (sym h.1, is) refl
+
+pub address_done : (person address kept : List ℕ) → kept ≡ kept_address address → is_address address ≡ true → (a : Archive) → ⊤ × (true ≡ has_person a person)
+    → address_given a person address ≡ (record a { addresses = with_address a (record { person = person; address = kept }) }, done)
+address_done person address kept e is a h = rw e (rw (sym h.1, is) refl)
+
+-- the address that is written down, where there is one already and where not
+pub put_again : (a : Archive) (x : Address) → true ≡ list_any (is_address_of x.person) a.addresses → map (readdressed x) a.addresses ≡ with_address a x
+put_again a x had = rw (sym had) refl
+
+pub put_first : (a : Archive) (x : Address) → false ≡ list_any (is_address_of x.person) a.addresses → a.addresses ++ x ∷ [] ≡ with_address a x
+put_first a x none = rw (sym none) refl
 
 -- ---- persons
 

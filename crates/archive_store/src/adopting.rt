@@ -1,12 +1,11 @@
 //! Taking a connection over.
-ghost use Rattle.std.specs.Prelude.{◌≡◌, None, IfOk, IfErr, MatchResult};
+ghost use Rattle.std.specs.Prelude.{◌≡◌, pos, None, IfOk, IfErr, MatchResult};
 ghost use Rattle.sqlite_disk.specs.Disk.{MoreFaults};
 ghost use Rattle.sqlite.specs.Held.{state};
 ghost use Rattle.sqlite.specs.State.{HasCleanDisk};
 ghost use Rattle.sqlite.specs.Steps.{over_memory};
 ghost use Rattle.archive_tables.specs.Schema.{no_schema};
-ghost use Rattle.archive_tables.specs.Tables.{IsKept, IsOfArchive, IsOfVersion, archive_of};
-ghost use Rattle.archive_tables.specs.declared.texts.schema.TheConstants.{VERSION};
+ghost use Rattle.archive_tables.specs.Tables.{IsHeldAs, IsKept, IsKnown, IsOfArchive, HasForm, IsOfVersion, form_of, archive_by, archive_of};
 ghost use Rattle.archive_tables.specs.Calls.{Rests, Lasts};
 ghost use Rattle.archive_tables.specs.Making.{IsUndone, IsIdle, IsBackTo, empty_archive};
 ghost use Rattle.archive_database.specs.Adopting.{MayBeTaken, IsUnderstood};
@@ -16,8 +15,7 @@ ghost use Rattle.archive_store.specs.Told.{HasNoLimit, LastsButLimit};
 
 use crate::faults::StoreFault;
 use crate::store::Store;
-use archive_database::Fault;
-use archive_database::making::{find_version, has_as_many_objects, has_nothing, make_tables};
+use archive_database::making::{has_nothing, make_tables, take_over};
 use sqlite::{Alter, Connection, MemStore};
 use std::alloc::Global;
 
@@ -50,18 +48,21 @@ impl Store<MemStore> {
 
 impl<S: Alter> Store<S> {
     /// Takes a connection over that is outside a transaction. Where the database has no table, index or view, the
-    /// tables of an archive are made. Else E15, unless it has as many objects as an archive and the table `version`
-    /// holds one row, of the number of these tables. A limit on the steps of a query is taken off.
+    /// tables of an archive are made. Else E15, unless it has as many objects as an archive of some version, 1 to 3, and the
+    /// table `version` holds one row, of the number of that version. Tables of an older version become those of this one, in
+    /// one transaction, and hold the same archive. A limit on the steps of a query is taken off.
     pub fn adopt(connection: Connection<S>) -> Result<Store<S>, AdoptStop<S>>
         ensures made { IfOk result (λ store. HasCleanDisk (state S.Store (held_of store)) → (state S.Store connection).now.schema ≡ no_schema
             → IsKept (state S.Store (held_of store)) × (archive_of (state S.Store (held_of store)) ≡ empty_archive)) }
         ensures found { IfOk result (λ store. HasCleanDisk (state S.Store (held_of store)) → IsKept (state S.Store connection)
             → IsKept (state S.Store (held_of store)) × (archive_of (state S.Store (held_of store)) ≡ archive_of (state S.Store connection))) }
+        ensures brought { IfOk result (λ store. HasCleanDisk (state S.Store (held_of store)) → (number : _) → IsKnown number → IsHeldAs (form_of number) None (state S.Store connection)
+            → IsKept (state S.Store (held_of store)) × (archive_of (state S.Store (held_of store)) ≡ archive_by number (state S.Store connection).now.trees)) }
         ensures left { IfErr result (λ stop. HasCleanDisk (state S.Store stop.connection) → IsKept (state S.Store connection)
             → Rests (state S.Store connection) (state S.Store stop.connection)) }
         ensures objects { IfOk result (λ _. MayBeTaken (state S.Store connection).now.schema) }
-        ensures version { IfOk result (λ store. HasCleanDisk (state S.Store (held_of store)) → IsOfArchive (state S.Store connection)
-            → IsOfVersion VERSION (state S.Store connection).now.trees) }
+        ensures version { IfOk result (λ store. HasCleanDisk (state S.Store (held_of store)) → (number : _) → IsKnown number → HasForm (form_of number) (state S.Store connection)
+            → IsOfVersion (pos number) (state S.Store connection).now.trees) }
         ensures rows { IfOk result (λ store. HasCleanDisk (state S.Store (held_of store)) → IsOfArchive (state S.Store connection)
             → IsBackTo (state S.Store (held_of store)) (state S.Store connection).now) }
         ensures undone { IfErr result (λ stop. HasCleanDisk (state S.Store stop.connection) → (state S.Store connection).now.schema ≡ no_schema
@@ -82,10 +83,8 @@ impl<S: Alter> Store<S> {
         let mut conn = connection;
         let done = if has_nothing(&conn) {
             make_tables(&mut conn)
-        } else if has_as_many_objects(&conn) {
-            find_version(&mut conn)
         } else {
-            Err(Fault::Database)
+            take_over(&mut conn)
         };
         match done {
             Ok(()) => {

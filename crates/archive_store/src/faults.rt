@@ -12,7 +12,7 @@ use std::fmt;
 pub enum StoreFault {
     /// E1: no name of a list or a person.
     BadName,
-    /// E2: no token.
+    /// E2: no token, or no address.
     BadText,
     /// E3: there is a list of this name.
     ListExists,
@@ -34,7 +34,7 @@ pub enum StoreFault {
     BadDays,
     /// E12: the list holds as many messages as a list may.
     ListFull,
-    /// E13: the whole text has more than 4,194,304 bytes.
+    /// E13: the whole text has more than 16,777,216 bytes.
     TooLarge,
     /// E14: no memory was left.
     Memory,

@@ -11,6 +11,7 @@ mod keys;
 pub mod laws;
 pub mod limits;
 mod messages;
+mod options;
 mod persons;
 mod questions;
 mod reading;

@@ -27,7 +27,7 @@ impl<S: Alter> Store<S> {
     ghost use Rattle.archive_store.specs.Batches.{AddsCounted};
 
     /// Adds a message. A message whose key the list holds is known, and nothing changes: the first sender and arrival
-    /// stay. E4 where there is no such list, E13 where the whole text has more than 4,194,304 bytes, E12 where the list
+    /// stay. E4 where there is no such list, E13 where the whole text has more than 16,777,216 bytes, E12 where the list
     /// holds 50,000 messages and not this one. Once a message of the archive has the number 50,000, each call counts the messages
     /// of its list, which takes some 30 ms where there are 50,000; `add_counted`, `add_all` and `run` count a list once.
     pub fn add(&mut self, alloc: Global, list: &str, item: &Item<'_>) -> Result<Added, StoreFault>

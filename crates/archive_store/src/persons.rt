@@ -4,6 +4,7 @@ ghost use Rattle.archive_machine.specs.Tokens.{is_token};
 
 use crate::faults::StoreFault;
 use crate::store::Store;
+use archive_database::lists::add_list;
 use archive_tables::texts;
 use policy_core::is_name;
 use sqlite::Alter;
@@ -17,7 +18,7 @@ impl<S: Alter> Store<S> {
     ghost use Rattle.archive_store.specs.Replies.{Does, says_done, RefusedFor};
     ghost use Rattle.std.specs.Prelude.{[], ◌∷◌};
 
-    /// Adds a list. E1 where the name is none, E3 where the list is there.
+    /// Adds a list, whose threads are gathered by subject. E1 where the name is none, E3 where the list is there.
     pub fn list_add(&mut self, name: &str) -> Result<(), StoreFault>
         ensures step { Does S.Store (held_of self.old) (held_of self.new) (λ a. list_added a name.now) (says_done result) }
         ensures clean { WasClean S.Store (held_of self.old) (held_of self.new) }
@@ -31,7 +32,7 @@ impl<S: Alter> Store<S> {
         if texts::lists::has_list(&mut self.conn, name)? {
             return Err(StoreFault::ListExists);
         }
-        texts::lists::add_list(&mut self.conn, name)?;
+        add_list(&mut self.conn, name)?;
         Ok(())
     }
 

@@ -64,6 +64,14 @@ pub enum Command<'a> {
         list: &'a str,
         key: &'a Key,
     },
+    MergeSet {
+        list: &'a str,
+        merge: bool,
+    },
+    AddressSet {
+        person: &'a str,
+        address: &'a str,
+    },
 }
 
 /// What a command answers: that it is done, whether what it took away was there, what became of a message, or its
@@ -224,6 +232,10 @@ impl<S: Alter> Store<S> {
             Command::Restore { list, key } => done(self.restore(list, key)),
             Command::Embargo { list, key, until } => done(self.embargo(list, key, *until)),
             Command::Lift { list, key } => whether(self.lift(list, key)),
+            Command::MergeSet { list, merge } => done(self.merge_set(list, *merge)),
+            Command::AddressSet { person, address } => {
+                done(self.address_set(alloc, person, address))
+            }
         }
     }
 

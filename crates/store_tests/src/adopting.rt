@@ -34,6 +34,8 @@ fn connections_are_adopted_again(rt: HostRuntime) -> Result<(), Fail> {
         (true, "DELETE FROM version", false),
         (true, "DROP INDEX message_by_month", false),
         (true, "DROP INDEX message_by_author", false),
+        (true, "DROP TABLE address", false),
+        (true, "UPDATE version SET number = 2", false),
         (false, other, false),
     ] {
         let found = is_adopted(rt.alloc(), is_archive, statement)?;

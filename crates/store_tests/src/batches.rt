@@ -77,7 +77,7 @@ fn four_messages(
 fn new_and_known_and_too_large(rt: HostRuntime) -> Result<(), Fail> {
     let mut store = with_list(rt.alloc())?;
     let mut large = Vec::new(rt.alloc());
-    large.resize(4_194_305, b'x')?;
+    large.resize(16_777_217, b'x')?;
     four_messages(&rt, rt.alloc(), &mut store, &large)?;
     assert_eq!(&rt; store.rows(rt.alloc(), "soc")?.len(), 2);
     Ok(())

@@ -1,5 +1,5 @@
 //! The worked cases for any store, and the stores over memory that are told them.
-use crate::{commands, questions};
+use crate::{commands, migrating, questions};
 use archive_store::Store;
 use sqlite::Alter;
 use std::alloc::Global;
@@ -27,6 +27,14 @@ pub enum Case {
     AddThree,
     /// How many of the three lists are there.
     CountThree,
+    /// What a file of version 1 held, told to a store over it.
+    OfFirst,
+    /// What a file of version 2 held, told to a store over it.
+    OfSecond,
+    /// What a file of version 1 with many lists held, told to a store over it.
+    OfMany,
+    /// Nothing.
+    Nothing,
 }
 
 /// The cases of an empty store.
@@ -55,6 +63,10 @@ pub fn tell<S: Alter>(
         Case::Filled => questions::is_as_filled(rt, alloc, store)?,
         Case::AddThree => return Ok(commands::add_three(alloc, store)),
         Case::CountThree => return questions::count_three(rt, alloc, store),
+        Case::OfFirst => migrating::is_brought_over(rt, alloc, store, false)?,
+        Case::OfSecond => migrating::is_brought_over(rt, alloc, store, true)?,
+        Case::OfMany => migrating::are_many(rt, alloc, store)?,
+        Case::Nothing => {}
     }
     Ok(1)
 }

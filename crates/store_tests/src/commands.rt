@@ -48,8 +48,10 @@ pub fn commands<S: Alter>(
     }
     withdrawals(rt, alloc, store, &one, &key)?;
     is_withdrawn_by_the_board(rt, store, &key)?;
+    merges(rt, alloc, store)?;
+    addresses(rt, alloc, store)?;
     embargoes(rt, alloc, store, &key, &other, last)?;
-    let long = vec![in alloc; b'x'; 4_194_304]?;
+    let long = vec![in alloc; b'x'; 16_777_216]?;
     assert_eq!(rt;
         store.add(alloc, "soc", &item("a@b", &long)?),
         Err(StoreFault::TooLarge)
@@ -233,6 +235,71 @@ fn is_withdrawn_by_the_board<S: Alter>(
     Ok(())
 }
 
+/// The threads of one list are gathered by subject, and those of another are not; what is refused of others.
+fn merges<S: Alter>(rt: &impl Abort, alloc: Global, store: &mut Store<S>) -> Result<(), Fail> {
+    for list in ["a", "soc"] {
+        assert_eq!(rt; store.merge_of(list), Ok(true));
+    }
+    let told = [
+        merge("xyz", false),
+        merge("soc", false),
+        merge("a", false),
+        merge("a", true),
+        Command::ListAdd { name: "soc" },
+    ];
+    let wanted = [
+        Outcome::Refused(StoreFault::NoList),
+        Outcome::Done,
+        Outcome::Done,
+        Outcome::Done,
+        Outcome::Refused(StoreFault::ListExists),
+    ];
+    run(rt, alloc, store, &told, &wanted)?;
+    for (list, answer) in [
+        ("a", Ok(true)),
+        ("soc", Ok(false)),
+        ("xyz", Err(StoreFault::NoList)),
+    ] {
+        assert_eq!(rt; store.merge_of(list), answer, "{list}");
+    }
+    Ok(())
+}
+
+fn merge(list: &str, merge: bool) -> Command<'_> {
+    Command::MergeSet { list, merge }
+}
+
+/// An address that is given, and one that replaces it; what is refused of others.
+fn addresses<S: Alter>(rt: &impl Abort, alloc: Global, store: &mut Store<S>) -> Result<(), Fail> {
+    let told = [
+        address("eve", ""),
+        address("anna", ""),
+        address("anna", "a b"),
+        address("anna", "a@b"),
+        address("anna", "Anna@Example.org"),
+        address("bob", "anna@example.org"),
+    ];
+    let wanted = [
+        Outcome::Refused(StoreFault::NoPerson),
+        Outcome::Refused(StoreFault::BadText),
+        Outcome::Refused(StoreFault::BadText),
+        Outcome::Done,
+        Outcome::Done,
+        Outcome::Done,
+    ];
+    run(rt, alloc, store, &told, &wanted)?;
+    for person in ["anna", "bob"] {
+        let found = store.address(person)?;
+        assert_eq!(rt; found.as_deref(), Some("anna@example.org"), "{person}");
+    }
+    assert!(rt; matches!(store.address("eve"), Err(StoreFault::NoPerson)));
+    Ok(())
+}
+
+fn address<'a>(person: &'a str, address: &'a str) -> Command<'a> {
+    Command::AddressSet { person, address }
+}
+
 /// A message that is held back and let go, and what is refused of another.
 fn embargoes<'a, S: Alter>(
     rt: &impl Abort,
@@ -286,6 +353,11 @@ pub fn calls<S: Alter>(rt: &impl Abort, alloc: Global, store: &mut Store<S>) -> 
     store.restore("soc", &key)?;
     store.embargo("soc", &key, last)?;
     assert_eq!(rt; store.lift("soc", &key), Ok(true));
+    store.merge_set("soc", false)?;
+    assert_eq!(rt; store.merge_of("soc"), Ok(false));
+    assert!(rt; store.address("anna")?.is_none());
+    store.address_set(alloc, "anna", "Anna@Example.org")?;
+    assert_eq!(rt; store.address("anna")?.as_deref(), Some("anna@example.org"));
     Ok(())
 }
 
@@ -298,7 +370,7 @@ pub fn limits<S: Alter>(rt: &impl Abort, alloc: Global, store: &mut Store<S>) ->
     for (list, answer) in [("xyz", Err(StoreFault::NoList)), ("other", Ok(Added::New))] {
         assert_eq!(rt; store.add(alloc, list, &item("a@b", b"one")?), answer);
     }
-    let long = vec![in alloc; b'x'; 4_194_304]?;
+    let long = vec![in alloc; b'x'; 16_777_216]?;
     for (sender, text, answer) in [
         ("a@b", b"one".as_slice(), Ok(Added::New)),
         ("a@b", b"two\n".as_slice(), Ok(Added::New)),

@@ -19,6 +19,8 @@ mod filing;
 #[cfg(test)]
 mod keys;
 #[cfg(test)]
+mod migrating;
+#[cfg(test)]
 mod questions;
 #[cfg(test)]
 mod stops;

@@ -17,7 +17,7 @@ fn copied(alloc: Global, disk: &Memory) -> Result<Memory, Fail> {
 }
 
 /// Files that hold the same bytes, and stop after so many calls of the log and of the database file.
-fn fused(
+pub fn fused(
     alloc: Global,
     files: &Files<Memory>,
     log_calls: u64,
@@ -30,7 +30,7 @@ fn fused(
 }
 
 /// What disks that stopped hold.
-fn left(alloc: Global, files: &Files<Fuse<Memory>>) -> Result<Files<Memory>, Fail> {
+pub fn left(alloc: Global, files: &Files<Fuse<Memory>>) -> Result<Files<Memory>, Fail> {
     Ok(Files {
         log: copied(alloc, files.log.inner())?,
         db: copied(alloc, files.db.inner())?,

@@ -2,7 +2,7 @@
 use archive_tables::rows::{
     GrantRow, MarksRow, read_grant, read_marks, read_message, read_name, read_place,
 };
-use archive_tables::texts::{grants, lists, messages, persons, schema};
+use archive_tables::texts::{addresses, grants, lists, messages, options, persons, schema};
 use sqlite::{Alter, Connection, Error, ErrorCode, Row};
 use std::process::Abort;
 use std::test::Fail;
@@ -31,9 +31,11 @@ enum Case {
     Changes,
     Marks,
     Numbers,
+    Options,
+    Addresses,
 }
 
-const CASES: [Case; 11] = [
+const CASES: [Case; 13] = [
     Case::Versions,
     Case::Rollback,
     Case::Lists,
@@ -45,6 +47,8 @@ const CASES: [Case; 11] = [
     Case::Changes,
     Case::Marks,
     Case::Numbers,
+    Case::Options,
+    Case::Addresses,
 ];
 
 #[test]
@@ -69,6 +73,8 @@ fn tell<S: Alter>(rt: &impl Abort, conn: &mut Connection<S>, case: Case) -> Resu
         Case::Changes => a_message_is_withdrawn_and_held_back(rt, conn),
         Case::Marks => marks_are_those_of_the_message(rt, conn),
         Case::Numbers => numbers_reach_a_limit(rt, conn),
+        Case::Options => a_list_says_how_its_threads_are_made(rt, conn),
+        Case::Addresses => a_person_has_one_address(rt, conn),
     }
 }
 
@@ -82,6 +88,8 @@ fn begin_tables<S: Alter>(conn: &mut Connection<S>) -> Result<(), Error> {
     schema::create_message(conn)?;
     schema::create_month_index(conn)?;
     schema::create_author_index(conn)?;
+    schema::create_option(conn)?;
+    schema::create_address(conn)?;
     schema::add_version(conn)?;
     Ok(())
 }
@@ -116,9 +124,9 @@ fn is_constraint(outcome: Result<usize, Error>) -> bool {
 
 fn each_version_is_shown<S: Alter>(rt: &impl Abort, conn: &mut Connection<S>) -> Result<(), Fail> {
     make(conn)?;
-    are_versions(rt, conn, &[1])?;
+    are_versions(rt, conn, &[3])?;
     conn.execute("INSERT INTO version (number) VALUES (7)", &[])?;
-    are_versions(rt, conn, &[1, 7])
+    are_versions(rt, conn, &[3, 7])
 }
 
 fn are_versions<S: Alter>(
@@ -372,5 +380,39 @@ fn numbers_reach_a_limit<S: Alter>(rt: &impl Abort, conn: &mut Connection<S>) ->
     for (limit, is_reached) in [(2, true), (3, false)] {
         assert_eq!(rt; messages::reaches(conn, limit)?, is_reached, "{limit}");
     }
+    Ok(())
+}
+
+fn a_list_says_how_its_threads_are_made<S: Alter>(
+    rt: &impl Abort,
+    conn: &mut Connection<S>,
+) -> Result<(), Fail> {
+    fill(conn)?;
+    assert_eq!(rt; options::find_option(conn, "soc")?, None);
+    options::add_option(conn, "soc", true)?;
+    assert!(rt; is_constraint(options::add_option(conn, "soc", false)));
+    assert_eq!(rt; options::find_option(conn, "soc")?, Some(true));
+    options::set_option(conn, "soc", false)?;
+    options::set_option(conn, "other", true)?;
+    assert_eq!(rt; options::find_option(conn, "soc")?, Some(false));
+    assert_eq!(rt; options::find_option(conn, "other")?, None);
+    Ok(())
+}
+
+fn a_person_has_one_address<S: Alter>(
+    rt: &impl Abort,
+    conn: &mut Connection<S>,
+) -> Result<(), Fail> {
+    fill(conn)?;
+    assert!(rt; !addresses::has_address(conn, "anna")?);
+    assert!(rt; addresses::find_address(conn, "anna")?.is_none());
+    addresses::add_address(conn, "anna", "a@b")?;
+    assert!(rt; is_constraint(addresses::add_address(conn, "anna", "c@d")));
+    assert!(rt; addresses::has_address(conn, "anna")?);
+    addresses::change_address(conn, "anna", "e@f")?;
+    addresses::change_address(conn, "bob", "g@h")?;
+    let found = addresses::find_address(conn, "anna")?;
+    assert_eq!(rt; found.as_deref(), Some("e@f"));
+    assert!(rt; !addresses::has_address(conn, "bob")?);
     Ok(())
 }
