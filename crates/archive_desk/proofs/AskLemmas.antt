@@ -1,30 +1,30 @@
 -- Questions of the desk, from those of the store.
-use Rattle.std.proofs.Common.{◌≡◌, refl, sym, ap, ◌∙◌, subst, ℕ, Bool, true, false, not, cond, List, [], ◌∷◌, map, filter, Option, Some, None, Result, Ok, Err}
-use Rattle.std.specs.Prelude.{MatchOption, option_map}
+use Rattle.std.proofs.Common.{◌≡◌, inl, inr, refl, sym, ap, ◌∙◌, subst, ℕ, Bool, true, false, not, cond, List, [], ◌∷◌, map, filter, Option, Some, None, Result, Ok, Err}
+use Rattle.std.specs.Prelude.{IfSome, MatchOption, option_map}
 use Rattle.std.specs.Option.{option_map_or, option_and_then}
+use Rattle.std.proofs.lemmas.Bool.{true≢false}
 use Rattle.sqlite.specs.Store.{Ghosts}
-use Rattle.policy_core.specs.declared.access.Standing.{Standing}
-use Rattle.policy_core.specs.declared.access.Standing.TheVariants.{Public, Member, Subscriber, Moderator}
 use Rattle.archive_machine.specs.Records.{Archive}
 use Rattle.archive_machine.specs.Records.{Message as Remembered}
 use Rattle.archive_machine.specs.Commands.{no_list as unknown_list, no_person as unknown_person}
+use Rattle.archive_machine.specs.Commands.{bad_name, bad_text, list_exists, person_exists, token_taken, no_message, already_withdrawn, not_withdrawn, bad_days, list_full, too_large}
 use Rattle.archive_machine.specs.Commands.{Refusal as Declined}
-use Rattle.archive_machine.specs.Questions.{has_list, has_person, list_refusal, message_of, messages_in, standing_of}
+use Rattle.archive_machine.specs.Questions.{has_list, has_person, list_refusal, message_of, messages_in}
 use Rattle.archive_machine.specs.Messages.{remembered}
 use Rattle.archive_machine.specs.declared.messages.Message.{Message}
-use Rattle.archive_store.specs.Replies.{refusal, Answers}
+use Rattle.archive_store.specs.Replies.{IsOneOf, refusal, Answers}
 use Rattle.archive_store.specs.Held.{held_of}
-use Rattle.archive_store.specs.Words.{standing_rank}
 use Rattle.archive_store.specs.Told.{HoldsTables, Lasts, GoesIn, GoesInIfOpen, AsksIn}
 use Rattle.archive_store.specs.declared.store.Store.{Store}
 use Rattle.archive_store.specs.declared.faults.StoreFault.{StoreFault}
 use Rattle.archive_store.specs.declared.faults.StoreFault.TheVariants.{BadName, BadText, ListExists, NoList, PersonExists, NoPerson, TokenTaken, NoMessage, AlreadyWithdrawn, NotWithdrawn, BadDays, ListFull, TooLarge, Memory, Store as Failed}
 use Rattle.archive_store.proofs.Joins.{goes_in_as}
-use Rattle.archive_results.specs.Access.{Ask, ReaderMarks, Refusal, no_list, no_person, is_shown, reader_marks, reader_standing, standing_ranked, view_of}
+use Rattle.archive_results.specs.Access.{Ask, ReaderMarks, Refusal, no_list, no_person, is_shown, reader_marks, view_of}
 use Rattle.archive_results.specs.Access.{Asked, asked_on, asked_of}
-use Rattle.archive_desk.specs.Asking.{standing_reason}
+use Rattle.archive_desk.specs.Asking.{IsEnough, standing_reason}
 use Rattle.archive_desk.specs.declared.faults.DeskFault.{DeskFault}
 use Rattle.archive_desk.proofs.CallLemmas.{calls_after, store_asked}
+use Rattle.archive_desk.proofs.MarkLemmas.{asked_alike, view_alike}
 use Rattle.archive_desk.specs.Faults.{Reason, refused, reason, reason_by, desk_fault, ask_reason, IsAskFault}
 
 -- ---- what the store refuses
@@ -46,22 +46,59 @@ reasoned TooLarge = refl
 reasoned Memory = refl
 reasoned Failed = refl
 
-pub is_ask_fault : (fault : StoreFault) → IsAskFault (desk_fault fault)
-is_ask_fault BadName = tt
-is_ask_fault BadText = tt
-is_ask_fault ListExists = tt
-is_ask_fault NoList = tt
-is_ask_fault PersonExists = tt
-is_ask_fault NoPerson = tt
-is_ask_fault TokenTaken = tt
-is_ask_fault NoMessage = tt
-is_ask_fault AlreadyWithdrawn = tt
-is_ask_fault NotWithdrawn = tt
-is_ask_fault BadDays = tt
-is_ask_fault ListFull = tt
-is_ask_fault TooLarge = tt
-is_ask_fault Memory = tt
-is_ask_fault Failed = tt
+abbrev is_either : Declined → Bool
+is_either unknown_list = true
+is_either unknown_person = true
+is_either other = false
+
+either_is : (why : Declined) → IsOneOf why (unknown_person ∷ unknown_list ∷ []) → is_either why ≡ true
+either_is why (inl is) = ap is_either is
+either_is why (inr (inl is)) = ap is_either is
+either_is why (inr (inr bad)) = absurd bad
+
+neither : (why : Declined) → is_either why ≡ false → IsOneOf why (unknown_person ∷ unknown_list ∷ []) → ⊥
+neither why is it = true≢false (sym (either_is why it) ∙ is)
+
+-- a call that is refused for want of a list or a person alone
+pub is_ask_fault : (fault : StoreFault) → IfSome (refusal fault) (λ why. IsOneOf why (unknown_person ∷ unknown_list ∷ [])) → IsAskFault (desk_fault fault)
+is_ask_fault BadName it = absurd (neither bad_name refl it)
+is_ask_fault BadText it = absurd (neither bad_text refl it)
+is_ask_fault ListExists it = absurd (neither list_exists refl it)
+is_ask_fault NoList it = tt
+is_ask_fault PersonExists it = absurd (neither person_exists refl it)
+is_ask_fault NoPerson it = tt
+is_ask_fault TokenTaken it = absurd (neither token_taken refl it)
+is_ask_fault NoMessage it = absurd (neither no_message refl it)
+is_ask_fault AlreadyWithdrawn it = absurd (neither already_withdrawn refl it)
+is_ask_fault NotWithdrawn it = absurd (neither not_withdrawn refl it)
+is_ask_fault BadDays it = absurd (neither bad_days refl it)
+is_ask_fault ListFull it = absurd (neither list_full refl it)
+is_ask_fault TooLarge it = absurd (neither too_large refl it)
+is_ask_fault Memory it = refl
+is_ask_fault Failed it = refl
+
+no_list_alone : (why : Declined) → IsOneOf why (unknown_list ∷ []) → IsOneOf why (unknown_person ∷ unknown_list ∷ [])
+no_list_alone why it = inr it
+
+no_person_alone : (why : Declined) → IsOneOf why (unknown_person ∷ []) → IsOneOf why (unknown_person ∷ unknown_list ∷ [])
+no_person_alone why (inl is) = inl is
+no_person_alone why (inr bad) = absurd bad
+
+if_some : {A : Type 0} (P Q : A → Type 0) → ((x : A) → P x → Q x) → (o : Option A) → IfSome o P → IfSome o Q
+if_some P Q implies None it = it
+if_some P Q implies (Some x) it = implies x it
+
+pub is_list_fault : (fault : StoreFault) → IfSome (refusal fault) (λ why. IsOneOf why (unknown_list ∷ [])) → IsAskFault (desk_fault fault)
+is_list_fault fault it = is_ask_fault fault
+    (if_some (λ why. IsOneOf why (unknown_list ∷ [])) (λ why. IsOneOf why (unknown_person ∷ unknown_list ∷ [])) no_list_alone (refusal fault) it)
+
+pub is_person_fault : (fault : StoreFault) → IfSome (refusal fault) (λ why. IsOneOf why (unknown_person ∷ [])) → IsAskFault (desk_fault fault)
+is_person_fault fault it = is_ask_fault fault
+    (if_some (λ why. IsOneOf why (unknown_person ∷ [])) (λ why. IsOneOf why (unknown_person ∷ unknown_list ∷ [])) no_person_alone (refusal fault) it)
+
+-- without a reason, whoever asks
+pub is_bare_fault : (fault : StoreFault) → refusal fault ≡ None → IsAskFault (desk_fault fault)
+is_bare_fault fault is = is_ask_fault fault (rw is tt)
 
 module _ {S : Type 0} (g : Ghosts S) (old new : Store S) {A : Type 0} (refuses : Archive → Option Declined) (Says : Archive → A → Type 0) where
   -- a question that the store answers
@@ -158,17 +195,17 @@ module _ {S : Type 0} (g : Ghosts S) (ask : Ask) where
   -- the reader's marks, after what was found of the list
   pub marks_after : (old mid new : Store S) (First : Archive → Type 0) (result : Result ReaderMarks DeskFault)
       → GoesIn g (HoldsTables g) old mid (λ a b. (b ≡ a) × (option_map reason_by (list_refusal a ask.list) ≡ None) × First a)
-      → AsksIn g (HoldsTables g) mid new reason result (λ a. standing_reason a ask) (λ a reader. reader ≡ reader_marks a ask)
-      → AsksIn g (HoldsTables g) old new reason result (λ a. ask_reason a ask) (λ a reader. First a × (reader ≡ reader_marks a ask))
+      → AsksIn g (HoldsTables g) mid new reason result (λ a. standing_reason a ask) (λ a reader. IsEnough a ask reader)
+      → AsksIn g (HoldsTables g) old new reason result (λ a. ask_reason a ask) (λ a reader. First a × IsEnough a ask reader)
   marks_after old mid new First result before asks =
       calls_after g (HoldsTables g) old mid new reason (λ a b. (b ≡ a) × (option_map reason_by (list_refusal a ask.list) ≡ None) × First a)
-      (λ a b reader. (b ≡ a) × (standing_reason a ask ≡ None) × (reader ≡ reader_marks a ask))
-      (λ a b reader. (b ≡ a) × (ask_reason a ask ≡ None) × (First a × (reader ≡ reader_marks a ask)))
+      (λ a b reader. (b ≡ a) × (standing_reason a ask ≡ None) × IsEnough a ask reader)
+      (λ a b reader. (b ≡ a) × (ask_reason a ask ≡ None) × (First a × IsEnough a ask reader))
       (λ a b why. (b ≡ a) × (standing_reason a ask ≡ Some why)) (λ a b why. (b ≡ a) × (ask_reason a ask ≡ Some why)) (λ a b _. b ≡ a) (λ a b _. b ≡ a)
       (λ a b c reader first it. (
         it.0 ∙ first.0,
         by_reader_alone a ask first.1 ∙ subst (λ x. standing_reason x ask ≡ None) first.0 it.1,
-        (first.2, subst (λ x. reader ≡ reader_marks x ask) first.0 it.2),
+        (first.2, subst (λ x. IsEnough x ask reader) first.0 it.2),
       ))
       (λ a b c why first it. (it.0 ∙ first.0, by_reader_alone a ask first.1 ∙ subst (λ x. standing_reason x ask ≡ Some why) first.0 it.1))
       (λ a b c fault first it. it ∙ first.0) result before asks
@@ -176,17 +213,17 @@ module _ {S : Type 0} (g : Ghosts S) (ask : Ask) where
   -- the reader's marks, after the list was found
   pub reader_after : (old mid new : Store S) (result : Result ReaderMarks DeskFault)
       → GoesIn g (HoldsTables g) old mid (λ a b. (b ≡ a) × (list_refusal a ask.list ≡ None) × (has_list a ask.list ≡ true))
-      → AsksIn g (HoldsTables g) mid new reason result (λ a. standing_reason a ask) (λ a reader. reader ≡ reader_marks a ask)
-      → AsksIn g (HoldsTables g) old new reason result (λ a. ask_reason a ask) (λ a reader. reader ≡ reader_marks a ask)
+      → AsksIn g (HoldsTables g) mid new reason result (λ a. standing_reason a ask) (λ a reader. IsEnough a ask reader)
+      → AsksIn g (HoldsTables g) old new reason result (λ a. ask_reason a ask) (λ a reader. IsEnough a ask reader)
   reader_after old mid new result before asks =
       calls_after g (HoldsTables g) old mid new reason (λ a b. (b ≡ a) × (list_refusal a ask.list ≡ None) × (has_list a ask.list ≡ true))
-      (λ a b reader. (b ≡ a) × (standing_reason a ask ≡ None) × (reader ≡ reader_marks a ask))
-      (λ a b reader. (b ≡ a) × (ask_reason a ask ≡ None) × (reader ≡ reader_marks a ask))
+      (λ a b reader. (b ≡ a) × (standing_reason a ask ≡ None) × IsEnough a ask reader)
+      (λ a b reader. (b ≡ a) × (ask_reason a ask ≡ None) × IsEnough a ask reader)
       (λ a b why. (b ≡ a) × (standing_reason a ask ≡ Some why)) (λ a b why. (b ≡ a) × (ask_reason a ask ≡ Some why)) (λ a b _. b ≡ a) (λ a b _. b ≡ a)
       (λ a b c reader first it. (
         it.0 ∙ first.0,
         by_reader_alone a ask (ap (option_map reason_by) first.1) ∙ subst (λ x. standing_reason x ask ≡ None) first.0 it.1,
-        subst (λ x. reader ≡ reader_marks x ask) first.0 it.2,
+        subst (λ x. IsEnough x ask reader) first.0 it.2,
       ))
       (λ a b c why first it. (
         it.0 ∙ first.0,
@@ -201,31 +238,6 @@ module _ {S : Type 0} (g : Ghosts S) (ask : Ask) where
   list_declined old new fault Says Says' it =
       list_refused old new (desk_fault fault) Says Says' (desk_declined g old new (λ a. list_refusal a ask.list) Says fault it)
 
--- ---- the standing
-
-ranked : (standing : Standing) → standing_ranked (standing_rank standing) ≡ standing
-ranked Public = refl
-ranked Member = refl
-ranked Subscriber = refl
-ranked Moderator = refl
-
-standing_is : (a : Archive) (ask : Ask) (person : List ℕ) (standing : Standing) → ask.reader ≡ Some person
-    → standing_rank standing ≡ standing_of a person ask.list ask.day → standing ≡ reader_standing a ask
-standing_is a ask person standing is rank =
-    sym (ranked standing) ∙ ap standing_ranked rank
-    ∙ ap (λ r. option_map_or (λ p. standing_ranked (standing_of a p ask.list ask.day)) r Public) (sym is)
-
--- what is known of a reader of this standing
-abbrev pub marks_with : Standing → ReaderMarks
-marks_with standing = record { standing = standing }
-
-pub marks_are : (a : Archive) (ask : Ask) (person : List ℕ) (standing : Standing) → ask.reader ≡ Some person
-    → standing_rank standing ≡ standing_of a person ask.list ask.day → marks_with standing ≡ reader_marks a ask
-marks_are a ask person standing is rank = ap marks_with (standing_is a ask person standing is rank)
-
-pub marks_of_nobody : (a : Archive) (ask : Ask) → ask.reader ≡ None → marks_with Public ≡ reader_marks a ask
-marks_of_nobody a ask is = ap (λ r. marks_with (option_map_or (λ p. standing_ranked (standing_of a p ask.list ask.day)) r Public)) (sym is)
-
 -- ---- the view
 
 map_kept : {A B : Type 0} (f : A → B) (test : B → Bool) (xs : List A) → map f (filter (λ x. test (f x)) xs) ≡ filter test (map f xs)
@@ -238,32 +250,32 @@ map_kept f test (x ∷ xs) = by_test (test (f x)) (map_kept f test xs)
     by_test false h = h
 
 pub viewed : (a : Archive) (ask : Ask) (reader : ReaderMarks) (found kept : List Message) → map (remembered ask.list) found ≡ messages_in a ask.list
-    → reader ≡ reader_marks a ask → kept ≡ filter (λ m. is_shown ask reader (remembered ask.list m)) found
+    → IsEnough a ask reader → kept ≡ filter (λ m. is_shown ask reader (remembered ask.list m)) found
     → map (remembered ask.list) kept ≡ view_of a ask
 viewed a ask reader found kept all is e = ap (map (remembered ask.list)) e ∙ map_kept (remembered ask.list) (is_shown ask reader) found
-    ∙ ap (filter (is_shown ask reader)) all ∙ ap (λ s. filter (is_shown ask s) (messages_in a ask.list)) is
+    ∙ ap (filter (is_shown ask reader)) all ∙ view_alike a ask reader is (messages_in a ask.list)
 
 -- ---- the calls
 
 module _ {S : Type 0} (g : Ghosts S) (old new : Store S) (ask : Ask) (reader : ReaderMarks) where
   pub view_found : (found kept : List Message)
-      → GoesIn g (HoldsTables g) old new (λ a b. (b ≡ a) × (ask_reason a ask ≡ None) × ((map (remembered ask.list) found ≡ messages_in a ask.list) × (reader ≡ reader_marks a ask)))
+      → GoesIn g (HoldsTables g) old new (λ a b. (b ≡ a) × (ask_reason a ask ≡ None) × ((map (remembered ask.list) found ≡ messages_in a ask.list) × IsEnough a ask reader))
       → kept ≡ filter (λ m. is_shown ask reader (remembered ask.list m)) found
       → GoesIn g (HoldsTables g) old new (λ a b. (b ≡ a) × (ask_reason a ask ≡ None) × (map (remembered ask.list) kept ≡ view_of a ask))
   view_found found kept goes is =
-      goes_in_as g (HoldsTables g) old new (λ a b. (b ≡ a) × (ask_reason a ask ≡ None) × ((map (remembered ask.list) found ≡ messages_in a ask.list) × (reader ≡ reader_marks a ask)))
+      goes_in_as g (HoldsTables g) old new (λ a b. (b ≡ a) × (ask_reason a ask ≡ None) × ((map (remembered ask.list) found ≡ messages_in a ask.list) × IsEnough a ask reader))
       (λ a b. (b ≡ a) × (ask_reason a ask ≡ None) × (map (remembered ask.list) kept ≡ view_of a ask))
       (λ a b h. (h.0, h.1, viewed a ask reader found kept h.2.0 h.2.1 is)) goes
 
 module _ {S : Type 0} (g : Ghosts S) (ask : Ask) where
   -- what is said of a message that the list holds
   pub answer_told : (old new : Store S) (reader : ReaderMarks) (held : Option Remembered) (answer : Asked)
-      → GoesIn g (HoldsTables g) old new (λ a b. (b ≡ a) × (standing_reason a ask ≡ None) × (reader ≡ reader_marks a ask)) → answer ≡ asked_on ask reader held
+      → GoesIn g (HoldsTables g) old new (λ a b. (b ≡ a) × (standing_reason a ask ≡ None) × IsEnough a ask reader) → answer ≡ asked_on ask reader held
       → GoesIn g (HoldsTables g) old new (λ a b. (b ≡ a) × (standing_reason a ask ≡ None) × (answer ≡ asked_on ask (reader_marks a ask) held))
   answer_told old new reader held answer goes is =
-      goes_in_as g (HoldsTables g) old new (λ a b. (b ≡ a) × (standing_reason a ask ≡ None) × (reader ≡ reader_marks a ask))
+      goes_in_as g (HoldsTables g) old new (λ a b. (b ≡ a) × (standing_reason a ask ≡ None) × IsEnough a ask reader)
       (λ a b. (b ≡ a) × (standing_reason a ask ≡ None) × (answer ≡ asked_on ask (reader_marks a ask) held))
-      (λ a b h. (h.0, h.1, is ∙ ap (λ s. asked_on ask s held) h.2)) goes
+      (λ a b h. (h.0, h.1, is ∙ asked_alike a ask reader h.2 held)) goes
 
   pub answer_after : (old mid new : Store S) {X : Type 0} (say : X → Asked) (key : List ℕ) (held : Option Remembered) (result : Result X DeskFault)
       → GoesIn g (HoldsTables g) old mid (λ a b. (b ≡ a) × (option_map reason_by (list_refusal a ask.list) ≡ None) × (held ≡ message_of a ask.list key))

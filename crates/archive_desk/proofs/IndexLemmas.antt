@@ -16,6 +16,7 @@ use Rattle.archive_store.specs.Walking.{BeginsOver, Walk, WalksOver}
 use Rattle.archive_store.specs.declared.store.Store.{Store}
 use Rattle.archive_results.specs.Access.{Ask, ReaderMarks, is_shown, reader_marks}
 use Rattle.archive_results.specs.Shown.{Line, line_of, shown_of}
+use Rattle.archive_desk.specs.Asking.{IsEnough}
 use Rattle.archive_desk.specs.Faults.{ask_reason, declined, desk_fault, reason}
 use Rattle.archive_desk.specs.Listing.{lines_shown}
 use Rattle.archive_desk.specs.Walking.{IsUnlisted, ListsRows}
@@ -24,6 +25,7 @@ use Rattle.archive_desk.specs.declared.faults.DeskFault.TheVariants.{NoList, NoP
 use Rattle.archive_store.specs.declared.faults.StoreFault.{StoreFault}
 use Rattle.archive_desk.proofs.AskLemmas.{list_declined}
 use Rattle.archive_desk.proofs.CallLemmas.{calls_after, was_open_by}
+use Rattle.archive_desk.proofs.MarkLemmas.{view_alike}
 
 -- ---- what is made of messages
 
@@ -129,7 +131,7 @@ module _ {X : Type 0} (made : List Remembered → List X) {S : Type 0} (g : Ghos
       (λ a b c f first h. h ∙ first.0) (Err (desk_fault fault)) found (list_declined g ask mid last fault Nothing Held it)
 
   module _ (last : Store S) (walk new : Walk S) (reader : ReaderMarks) (is : last ≡ new.store.now)
-      (found : GoesIn g (HoldsTables g) old mid (λ a b. (b ≡ a) × (ask_reason a ask ≡ None) × (reader ≡ reader_marks a ask)))
+      (found : GoesIn g (HoldsTables g) old mid (λ a b. (b ≡ a) × (ask_reason a ask ≡ None) × IsEnough a ask reader))
       (begun : BeginsOver g mid ask.list which walk) (lasts : Lasts g walk.store.now new.store.now) where
     through : Lasts g old last
     through = subst (Lasts g old) (sym is) (lasts_then _ _ _ (lasts_then _ _ _ found.0 begun.0) lasts)
@@ -153,7 +155,7 @@ module _ {X : Type 0} (made : List Remembered → List X) {S : Type 0} (g : Ghos
               ap (archive_in g) is ∙ it.0.1 ∙ first.1.0,
               first.1.1,
               it.1 ∙ ap (λ b. made (filter (is_shown ask reader) (which b))) first.1.0
-                  ∙ ap (λ s. made (filter (is_shown ask s) (which (archive_in g old)))) first.1.2,
+                  ∙ ap made (view_alike (archive_in g old) ask reader first.1.2 (which (archive_in g old))),
             ),
           )),
     )

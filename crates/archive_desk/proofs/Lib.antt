@@ -1,5 +1,6 @@
 pub mod CallLemmas
 pub mod ImportLemmas
+pub mod MarkLemmas
 pub mod AskLemmas
 pub mod ExportLemmas
 pub mod ListLemmas

@@ -1,16 +1,20 @@
--- The headers of a view, and what is made of them.
-use Rattle.std.proofs.Common.{◌≡◌, refl, sym, ap, ◌∙◌, ℕ, List, map, Option, Some, None}
+-- The index of a view, and what is made of it.
+use Rattle.std.proofs.Common.{◌≡◌, refl, sym, ap, ◌∙◌, subst, ℕ, Bool, List, map, Option, Some, None, Result}
 use Rattle.std.specs.Prelude.{MatchOption}
 use Rattle.sqlite.specs.Store.{Ghosts}
 use Rattle.archive_machine.specs.Records.{Archive, Message as Remembered}
-use Rattle.archive_store.specs.Told.{HoldsTables, GoesIn, GoesInIfOpen, Goes, GoesIfOpen}
+use Rattle.archive_machine.specs.Questions.{merge_of}
+use Rattle.archive_store.specs.Told.{HoldsTables, GoesIn, GoesInIfOpen, AsksIn, Goes, GoesIfOpen}
 use Rattle.archive_store.specs.declared.store.Store.{Store}
 use Rattle.archive_store.proofs.Joins.{goes_in_as, sound_too, sound_too_if_open}
 use Rattle.archive_results.specs.Access.{Ask, view_of}
 use Rattle.archive_results.specs.Index.{Header, header_of}
 use Rattle.archive_results.specs.Results.{TreeLine, thread_lines}
 use Rattle.archive_results.specs.Shown.{shown_of}
-use Rattle.archive_desk.specs.Faults.{Reason, not_in_view, ask_reason}
+use Rattle.archive_desk.specs.Faults.{Reason, not_in_view, ask_reason, list_reason, reason}
+use Rattle.archive_desk.specs.declared.faults.DeskFault.{DeskFault}
+use Rattle.archive_desk.proofs.AskLemmas.{no_such_list}
+use Rattle.archive_desk.proofs.CallLemmas.{calls_after}
 use Rattle.archive_desk.specs.Listing.{or_then, without_thread, thread_reason}
 
 -- ---- why a thread is not shown
@@ -23,35 +27,57 @@ first_reason : (asked next : Option Reason) (why : Reason) → asked ≡ Some wh
 first_reason None next why e = absurd (cc)
 first_reason (Some x) next why e = e
 
+-- the headers of a view, and how its list is threaded
+abbrev pub IsIndexed : Archive → Ask → List Header → (merge : Bool) → Type 0
+IsIndexed a ask headers merge = (headers ≡ map header_of (view_of a ask)) × (merge ≡ merge_of a ask.list)
+
+module _ {S : Type 0} (g : Ghosts S) (ask : Ask) where
+  -- the list is asked how it is threaded, after the headers are read
+  pub index_after : (old mid new : Store S) (headers : List Header) (result : Result Bool DeskFault)
+      → GoesIn g (HoldsTables g) old mid (λ a b. (b ≡ a) × (ask_reason a ask ≡ None) × (headers ≡ map header_of (view_of a ask)))
+      → AsksIn g (HoldsTables g) mid new reason result (λ a. list_reason a ask) (λ a merge. merge ≡ merge_of a ask.list)
+      → AsksIn g (HoldsTables g) old new reason result (λ a. ask_reason a ask) (λ a merge. IsIndexed a ask headers merge)
+  index_after old mid new headers result found asked =
+      calls_after g (HoldsTables g) old mid new reason (λ a b. (b ≡ a) × (ask_reason a ask ≡ None) × (headers ≡ map header_of (view_of a ask)))
+      (λ a b merge. (b ≡ a) × (list_reason a ask ≡ None) × (merge ≡ merge_of a ask.list))
+      (λ a b merge. (b ≡ a) × (ask_reason a ask ≡ None) × IsIndexed a ask headers merge)
+      (λ a b why. (b ≡ a) × (list_reason a ask ≡ Some why)) (λ a b why. (b ≡ a) × (ask_reason a ask ≡ Some why)) (λ a b _. b ≡ a) (λ a b _. b ≡ a)
+      (λ a b c merge first it. (it.0 ∙ first.0, first.1, (first.2, subst (λ x. merge ≡ merge_of x ask.list) first.0 it.2)))
+      (λ a b c why first it. (it.0 ∙ first.0, no_such_list a ask why (subst (λ x. list_reason x ask ≡ Some why) first.0 it.1)))
+      (λ a b c fault first it. it ∙ first.0) result found asked
+
 module _ {S : Type 0} (g : Ghosts S) (old new : Store S) (ask : Ask) where
-  module _ (headers : List Header) (indexed : GoesIn g (HoldsTables g) old new (λ a b. (b ≡ a) × (ask_reason a ask ≡ None) × (headers ≡ map header_of (view_of a ask)))) where
+  module _ (headers : List Header) (merge : Bool) (indexed : GoesIn g (HoldsTables g) old new (λ a b. (b ≡ a) × (ask_reason a ask ≡ None) × IsIndexed a ask headers merge)) where
     -- what is made of them
-    pub listed_from : (Says : List Remembered → Type 0) → ((view : List Remembered) → headers ≡ map header_of view → Says view)
-        → Goes g old new (λ a b. (b ≡ a) × (ask_reason a ask ≡ None) × Says (view_of a ask))
+    pub listed_from : (Says : Bool → List Remembered → Type 0) → ((view : List Remembered) → headers ≡ map header_of view → Says merge view)
+        → Goes g old new (λ a b. (b ≡ a) × (ask_reason a ask ≡ None) × Says (merge_of a ask.list) (view_of a ask))
     listed_from Says says =
-        sound_too g old new (λ a b. (b ≡ a) × (ask_reason a ask ≡ None) × Says (view_of a ask)) (λ a b it. it.0)
-        (goes_in_as g (HoldsTables g) old new (λ a b. (b ≡ a) × (ask_reason a ask ≡ None) × (headers ≡ map header_of (view_of a ask)))
-        (λ a b. (b ≡ a) × (ask_reason a ask ≡ None) × Says (view_of a ask)) (λ a b h. (h.0, h.1, says (view_of a ask) h.2)) indexed)
+        sound_too g old new (λ a b. (b ≡ a) × (ask_reason a ask ≡ None) × Says (merge_of a ask.list) (view_of a ask)) (λ a b it. it.0)
+        (goes_in_as g (HoldsTables g) old new (λ a b. (b ≡ a) × (ask_reason a ask ≡ None) × IsIndexed a ask headers merge)
+        (λ a b. (b ≡ a) × (ask_reason a ask ≡ None) × Says (merge_of a ask.list) (view_of a ask))
+        (λ a b h. (h.0, h.1, subst (λ on. Says on (view_of a ask)) h.2.1 (says (view_of a ask) h.2.0))) indexed)
 
     -- the thread of a message
-    pub thread_from : (key : List ℕ) (rows : List TreeLine) → ((view : List Remembered) → headers ≡ map header_of view → Some rows ≡ thread_lines key (map shown_of view))
-        → Goes g old new (λ a b. (b ≡ a) × (thread_reason a ask key ≡ None) × (thread_lines key (map shown_of (view_of a ask)) ≡ Some rows))
+    pub thread_from : (key : List ℕ) (rows : List TreeLine) → ((view : List Remembered) → headers ≡ map header_of view → Some rows ≡ thread_lines merge key (map shown_of view))
+        → Goes g old new (λ a b. (b ≡ a) × (thread_reason a ask key ≡ None) × (thread_lines (merge_of a ask.list) key (map shown_of (view_of a ask)) ≡ Some rows))
     thread_from key rows says =
-        sound_too g old new (λ a b. (b ≡ a) × (thread_reason a ask key ≡ None) × (thread_lines key (map shown_of (view_of a ask)) ≡ Some rows)) (λ a b it. it.0)
-        (goes_in_as g (HoldsTables g) old new (λ a b. (b ≡ a) × (ask_reason a ask ≡ None) × (headers ≡ map header_of (view_of a ask)))
-        (λ a b. (b ≡ a) × (thread_reason a ask key ≡ None) × (thread_lines key (map shown_of (view_of a ask)) ≡ Some rows))
+        sound_too g old new (λ a b. (b ≡ a) × (thread_reason a ask key ≡ None) × (thread_lines (merge_of a ask.list) key (map shown_of (view_of a ask)) ≡ Some rows)) (λ a b it. it.0)
+        (goes_in_as g (HoldsTables g) old new (λ a b. (b ≡ a) × (ask_reason a ask ≡ None) × IsIndexed a ask headers merge)
+        (λ a b. (b ≡ a) × (thread_reason a ask key ≡ None) × (thread_lines (merge_of a ask.list) key (map shown_of (view_of a ask)) ≡ Some rows))
         (λ a b h.
-        let is = sym (says (view_of a ask) h.2) in
-        (h.0, then_reason (ask_reason a ask) (thread_lines key (map shown_of (view_of a ask))) h.1 ∙ ap without_thread is, is)) indexed)
+        let is = sym (says (view_of a ask) h.2.0 ∙ ap (λ on. thread_lines on key (map shown_of (view_of a ask))) h.2.1) in
+        (h.0, then_reason (ask_reason a ask) (thread_lines (merge_of a ask.list) key (map shown_of (view_of a ask))) h.1 ∙ ap without_thread is, is)) indexed)
 
     -- the view does not hold it
-    pub no_thread_from : (key : List ℕ) → ((view : List Remembered) → headers ≡ map header_of view → None ≡ thread_lines key (map shown_of view))
+    pub no_thread_from : (key : List ℕ) → ((view : List Remembered) → headers ≡ map header_of view → None ≡ thread_lines merge key (map shown_of view))
         → Goes g old new (λ a b. (b ≡ a) × (thread_reason a ask key ≡ Some not_in_view))
     no_thread_from key says =
         sound_too g old new (λ a b. (b ≡ a) × (thread_reason a ask key ≡ Some not_in_view)) (λ a b it. it.0)
-        (goes_in_as g (HoldsTables g) old new (λ a b. (b ≡ a) × (ask_reason a ask ≡ None) × (headers ≡ map header_of (view_of a ask)))
+        (goes_in_as g (HoldsTables g) old new (λ a b. (b ≡ a) × (ask_reason a ask ≡ None) × IsIndexed a ask headers merge)
         (λ a b. (b ≡ a) × (thread_reason a ask key ≡ Some not_in_view))
-        (λ a b h. (h.0, then_reason (ask_reason a ask) (thread_lines key (map shown_of (view_of a ask))) h.1 ∙ ap without_thread (sym (says (view_of a ask) h.2)))) indexed)
+        (λ a b h.
+        let is = sym (says (view_of a ask) h.2.0 ∙ ap (λ on. thread_lines on key (map shown_of (view_of a ask))) h.2.1) in
+        (h.0, then_reason (ask_reason a ask) (thread_lines (merge_of a ask.list) key (map shown_of (view_of a ask))) h.1 ∙ ap without_thread is)) indexed)
 
   -- memory is wanting for what is made of the headers
   module _ (Q : Archive → Type 0) (indexed : GoesIn g (HoldsTables g) old new (λ a b. (b ≡ a) × (ask_reason a ask ≡ None) × Q a)) where
@@ -69,4 +95,4 @@ module _ {S : Type 0} (g : Ghosts S) (old new : Store S) (ask : Ask) where
   thread_refused key (Some why) same =
       sound_too g old new (λ a b. (b ≡ a) × (thread_reason a ask key ≡ Some why)) (λ a b it. it.0)
       (goes_in_as g (HoldsTables g) old new (λ a b. (b ≡ a) × (ask_reason a ask ≡ Some why)) (λ a b. (b ≡ a) × (thread_reason a ask key ≡ Some why))
-      (λ a b h. (h.0, first_reason (ask_reason a ask) (without_thread (thread_lines key (map shown_of (view_of a ask)))) why h.1)) same)
+      (λ a b h. (h.0, first_reason (ask_reason a ask) (without_thread (thread_lines (merge_of a ask.list) key (map shown_of (view_of a ask)))) why h.1)) same)

@@ -1,5 +1,5 @@
 -- What an export says that walks the list.
-use Rattle.std.proofs.Common.{◌≡◌, refl, Result, sym, ap, ◌∙◌, subst, ℕ, min, List, [], ◌++◌, length, Some, None, Ok, Err, arith}
+use Rattle.std.proofs.Common.{◌≡◌, refl, Result, sym, ap, ◌∙◌, subst, ℕ, min, List, [], ◌++◌, length, map, Some, None, Ok, Err, arith}
 use Rattle.std.specs.Prelude.{⊤, IfErr, MatchOption}
 use Rattle.std.proofs.lemmas.List.{append-nil}
 use Rattle.sqlite.specs.Store.{Ghosts}
@@ -13,8 +13,11 @@ use Rattle.archive_store.specs.Told.{GoesIn, GoesInIfOpen, Calls, HasReturned, L
 use Rattle.archive_store.specs.Walking.{Walk, Begins}
 use Rattle.archive_store.specs.declared.store.Store.{Store}
 use Rattle.archive_store.specs.declared.faults.StoreFault.{StoreFault}
-use Rattle.archive_results.specs.Access.{Ask, ReaderMarks, reader_marks}
+use Rattle.archive_results.specs.Access.{Ask, ReaderMarks}
+use Rattle.archive_results.specs.Results.{export_text}
+use Rattle.archive_results.specs.Shown.{shown_of}
 use Rattle.archive_desk.specs.Exporting.{Exports, ExportsPart, HasBegun, IsExportRefused, IsExportStop, exported, shown_text, stop_reason}
+use Rattle.archive_desk.specs.Asking.{IsEnough}
 use Rattle.archive_desk.specs.Faults.{ask_reason, desk_fault, reason, IsAskFault}
 use Rattle.archive_desk.specs.Walking.{IsWalkStop, StandsOn, WritesWalk}
 use Rattle.archive_desk.specs.declared.exporting.ExportStop.{ExportStop}
@@ -24,6 +27,7 @@ use Rattle.archive_store.proofs.Joins.{ready_with}
 use Rattle.archive_desk.proofs.CallLemmas.{calls_after, unanswered_too}
 use Rattle.archive_desk.proofs.AskLemmas.{list_declined}
 use Rattle.archive_desk.proofs.ExportLemmas.{not_viewed}
+use Rattle.archive_desk.proofs.MarkLemmas.{view_alike}
 
 -- ---- the walk
 
@@ -50,7 +54,7 @@ module _ {S : Type 0} (g : Ghosts S) (old mid : Store S) (ask : Ask) (First : Ar
 
 module _ {S : Type 0} (g : Ghosts S) (old mid last : Store S) (walk new : Walk S) (ask : Ask) (reader : ReaderMarks) (head before after : List ℕ)
     (is : last ≡ new.store.now)
-    (found : GoesIn g (HoldsTables g) old mid (λ a b. (b ≡ a) × (ask_reason a ask ≡ None) × (reader ≡ reader_marks a ask)))
+    (found : GoesIn g (HoldsTables g) old mid (λ a b. (b ≡ a) × (ask_reason a ask ≡ None) × IsEnough a ask reader))
     (begun : Begins g mid ask.list walk) (lasts : Lasts g walk.store.now new.store.now) where
   abbrev text : Archive → List ℕ
   text a = head ++ exported a ask
@@ -59,8 +63,8 @@ module _ {S : Type 0} (g : Ghosts S) (old mid last : Store S) (walk new : Walk S
   seen a = head ++ shown_text ask reader (messages_in a ask.list)
 
   -- the text of the walk is the export's
-  texts : (a b : Archive) → b ≡ a → reader ≡ reader_marks a ask → seen b ≡ text a
-  texts a b same ranked = ap seen same ∙ ap (λ s. head ++ shown_text ask s (messages_in a ask.list)) ranked
+  texts : (a b : Archive) → b ≡ a → IsEnough a ask reader → seen b ≡ text a
+  texts a b same enough = ap seen same ∙ ap (λ ms. head ++ export_text (map shown_of ms)) (view_alike a ask reader enough (messages_in a ask.list))
 
   through : Lasts g old last
   through = subst (Lasts g old) (sym is) (lasts_then _ _ _ (lasts_then _ _ _ found.0 begun.0) lasts)
@@ -112,7 +116,6 @@ module _ {S : Type 0} (g : Ghosts S) (old mid last : Store S) (walk new : Walk S
     walk_unexported NoList why writes = absurd why
     walk_unexported NoPerson why writes = absurd why
     walk_unexported NotInView why writes = absurd why
-    walk_unexported Memory why writes = absurd why
     walk_unexported Write why writes = (
       through,
       (λ returned ready.
@@ -122,6 +125,15 @@ module _ {S : Type 0} (g : Ghosts S) (old mid last : Store S) (walk new : Walk S
             ready_last it.0 first.1.0 ready.filed_right,
             (ap (archive_in g) is ∙ it.0.1 ∙ first.1.0, (first.1.1, walk_part Write writes returned ready)),
           )),
+    )
+    walk_unexported Memory why writes = (
+      through,
+      (λ returned ready up.
+          let first = found.1 (at_start returned) ready.held in
+          let walks = begun.1 (at_walk returned) first.0 in
+          let it = writes (subst (HasReturned g) is returned) (messages_in (archive_in g mid) ask.list) (archive_in g mid) walks.1 in
+          let there = it.0 (subst (IsOpen g) is up) in
+          (ready_last there first.1.0 ready.filed_right, ap (archive_in g) is ∙ there.1 ∙ first.1.0)),
     )
     walk_unexported (Stored fault) why writes = rw why.0 (
       through,
@@ -141,7 +153,7 @@ module _ {S : Type 0} (g : Ghosts S) (old mid last : Store S) (walk new : Walk S
     walk_cause NoList why = absurd why
     walk_cause NoPerson why = absurd why
     walk_cause NotInView why = absurd why
-    walk_cause Memory why = absurd why
+    walk_cause Memory why = why
     walk_cause Write why = why
     walk_cause (Stored fault) why = (why.1, why.2)
 
@@ -168,5 +180,5 @@ unwritten told failures NoList is = (refl, refl, refl)
 unwritten told failures NoPerson is = (refl, refl, refl)
 unwritten told failures NotInView is = absurd is
 unwritten told failures (Stored fault) is = (refl, ([], sym (append-nil told), refl))
-unwritten told failures Memory is = (refl, refl, refl)
+unwritten told failures Memory is = (refl, ([], sym (append-nil told), refl))
 unwritten told failures Write is = absurd is

@@ -1,5 +1,6 @@
 -- How far the messages of a walk are out.
-use Rattle.std.proofs.Common.{◌≡◌, refl, sym, ap, ◌∙◌, subst, ℕ, ◌+◌, ◌<◌, ◌^◌, min, Bool, true, false, cond, List, [], ◌∷◌, ◌++◌, length, take, filter, map, None, Ok, Err, arith, append_assoc, length-append, length-take}
+use Rattle.std.proofs.Common.{◌≡◌, refl, sym, ap, ◌∙◌, subst, ℕ, ◌+◌, ◌<◌, ◌^◌, min, Bool, true, false, cond, List, [], ◌∷◌, ◌++◌, length, take, filter, map, Option, Some, None, Ok, Err, arith, append_assoc, length-append, length-take}
+use Rattle.std.specs.Prelude.{MatchOption}
 use Rattle.std.proofs.lemmas.List.{append-nil, take-append-le}
 use Rattle.std.proofs.Math.Seq.{take-append-add}
 use Rattle.sqlite.specs.Store.{Ghosts}
@@ -13,10 +14,10 @@ use Rattle.archive_store.specs.Walking.{Walk, WalksOver}
 use Rattle.archive_results.specs.Access.{Ask, ReaderMarks, is_shown}
 use Rattle.archive_results.specs.Shown.{shown_of}
 use Rattle.archive_desk.specs.Exporting.{shown_text}
-use Rattle.archive_desk.specs.Faults.{reason}
-use Rattle.archive_desk.specs.Walking.{WritesRows, WritesWalk}
+use Rattle.archive_desk.specs.Faults.{Reason, reason}
+use Rattle.archive_desk.specs.Walking.{IsRowsStop, IsShownStop, StandsOn, WritesRows, WritesWalk}
 use Rattle.archive_desk.specs.declared.faults.DeskFault.{DeskFault}
-use Rattle.archive_desk.specs.declared.faults.DeskFault.TheVariants.{Write}
+use Rattle.archive_desk.specs.declared.faults.DeskFault.TheVariants.{NoList, NoPerson, NotInView, Store as Stored, Memory, Write}
 
 -- ---- the text
 
@@ -81,6 +82,11 @@ module _ {S : Type 0} (g : Ghosts S) (ask : Ask) (reader : ReaderMarks) where
     pub walked : HasReturned g now.store.now → (all : List Remembered) (a : Archive) → WalksOver g ask.list all a [] old
         → (given : List Remembered) × WalksOver g ask.list all a given now × (part ≡ shown_text ask reader given)
 
+  -- whatever the fault
+  stands_still : (walk : Walk S) (a : Archive) (why : Option Reason) → StandsOn g a walk → MatchOption why (IsOpen g walk.store.now → StandsOn g a walk) (λ _. StandsOn g a walk)
+  stands_still walk a None it = λ up. it
+  stands_still walk a (Some why) it = it
+
   -- nothing yet
   pub rows_none : (walk : Walk S) (told : List ℕ) (counted : ℕ) → counted < 2 ^ 64 → RowsSoFar walk walk told told counted counted
   rows_none walk told counted fits = record {
@@ -92,6 +98,19 @@ module _ {S : Type 0} (g : Ghosts S) (ask : Ask) (reader : ReaderMarks) where
 
   module _ (old mid new : Walk S) (before middle : List ℕ) (counted count : ℕ) (s : RowsSoFar old mid before middle counted count)
       (was : HasReturned g new.store.now → HasReturned g mid.store.now) where
+    -- why it stopped after a message, where the writer failed or memory was wanting
+    pub rows_stopped : (after : List ℕ) (k counts failed fails : ℕ) (fault : DeskFault) → counts ≡ min (count + k) 18446744073709551615
+        → IsShownStop middle after failed fails k fault → IsRowsStop before after failed fails counted counts fault
+    rows_stopped after k counts failed fails Write sum stop = stop
+    rows_stopped after k counts failed fails Memory sum stop = (
+      stop.2,
+      (s.part, stop.1 ∙ s.out, omega (arith, sum, stop.0, s.counts_is)),
+    )
+    rows_stopped after k counts failed fails NoList sum stop = absurd stop
+    rows_stopped after k counts failed fails NoPerson sum stop = absurd stop
+    rows_stopped after k counts failed fails NotInView sum stop = absurd stop
+    rows_stopped after k counts failed fails (Stored fault) sum stop = absurd stop
+
     module _ (m : Message)
         (gives : HasReturned g new.store.now → (all : List Remembered) (a : Archive) (given : List Remembered) → WalksOver g ask.list all a given mid
         → WalksOver g ask.list all a (given ++ remembered ask.list m ∷ []) new) where
@@ -113,10 +132,10 @@ module _ {S : Type 0} (g : Ghosts S) (ask : Ask) (reader : ReaderMarks) where
             );
       }
 
-      -- the writer fails at it
-      pub rows_unwritten : (after : List ℕ) (k counts : ℕ) → (length after < 2 ^ 64 → IsCutShort middle after text k)
-          → counts ≡ min (count + k) 18446744073709551615 → WritesRows g old new ask reader before after counted counts (Err Write)
-      rows_unwritten after k counts cut sum = λ returned all a w.
+      -- the writer fails at it, or memory is wanting
+      pub rows_unwritten : (after : List ℕ) (k counts : ℕ) (fault : DeskFault) → (length after < 2 ^ 64 → IsCutShort middle after text k)
+          → counts ≡ min (count + k) 18446744073709551615 → WritesRows g old new ask reader before after counted counts (Err fault)
+      rows_unwritten after k counts fault cut sum = λ returned all a w.
           let so_far = s.walked (was returned) all a w in
           let here = gives returned all a so_far.0 so_far.1 in
           let given = so_far.0 in
@@ -125,7 +144,7 @@ module _ {S : Type 0} (g : Ghosts S) (ask : Ask) (reader : ReaderMarks) where
           ap (shown_text ask reader) (sym here.joined) ∙ shown_joined ask reader (given ++ one) here.left
           ∙ ap (λ x. x ++ shown_text ask reader here.left) (shown_joined ask reader given one ∙ ap (λ x. x ++ text) (sym so_far.2))
           ∙ append_assoc s.part text (shown_text ask reader here.left) in (
-            (here.held, here.archive_is),
+            stands_still new a (reason fault) (here.held, here.archive_is),
             λ fits. (
               length s.part + k,
               cut_behind before middle after s.part text (shown_text ask reader here.left) (shown_text ask reader all) k s.out whole (cut fits),

@@ -4,13 +4,13 @@ ghost use Rattle.mbox_core.specs.Written.{IsCutShort};
 ghost use Rattle.archive_machine.specs.Messages.{remembered};
 ghost use Rattle.archive_store.specs.Told.{HasReturned, IsOpen, Lasts, WasOpen};
 ghost use Rattle.archive_desk.specs.Exporting.{Exports, ExportsPart, HasBegun, IsExportStop, exported, shown_text, stop_reason};
-ghost use Rattle.archive_desk.specs.Walking.{CountsMore, IsRowsStop, IsWalkStop, WritesRows, WritesWalk};
+ghost use Rattle.archive_desk.specs.Walking.{CountsMore, IsRowsStop, IsShownStop, IsWalkStop, WritesRows, WritesWalk};
 
 use crate::faults::DeskFault;
 use crate::viewing::find_reader;
 use archive_results::{Ask, ReaderMarks, is_shown};
 use archive_store::{EachRow, Message, Store};
-use mbox_core::device::{Sink, WriteFault, write_bytes};
+use mbox_core::device::{Sink, write_bytes};
 use mbox_core::{write_item, written_len};
 use sqlite::Alter;
 use std::alloc::Global;
@@ -23,8 +23,8 @@ pub struct ExportStop {
 }
 
 /// Writes the view as an mbox (RFC 4155): how many bytes that is. It holds one message at a time. G1 where there is no
-/// such list, G2 where there is no such person, and nothing was written; G6 where the writer failed, G4 where the store
-/// has no memory or fails, before the first byte or at a message.
+/// such list, G2 where there is no such person, and nothing was written; G6 where the writer failed, G5 where no memory is left,
+/// G4 where the store has none or fails, before the first byte or at a message.
 pub fn export<S: Alter, W: Sink>(
     store: &mut Store<S>,
     alloc: Global,
@@ -70,7 +70,7 @@ pub fn export_after<S: Alter, W: Sink>(
         Err(fault) => return Err(ExportStop { written: 0, fault }),
     };
     match store.each_row(alloc, ask.list) {
-        Ok(mut walk) => write_walk(ask, &reader, head, &mut walk, out),
+        Ok(mut walk) => write_walk(alloc, ask, &reader, head, &mut walk, out),
         Err(fault) => Err(ExportStop {
             written: 0,
             fault: DeskFault::from(fault),
@@ -80,6 +80,7 @@ pub fn export_after<S: Alter, W: Sink>(
 
 /// Writes these bytes, and then the messages of a walk, as far as the policy shows them: how many bytes that is in all.
 fn write_walk<S: Alter, W: Sink>(
+    alloc: Global,
     ask: &Ask<'_>,
     reader: &ReaderMarks,
     head: &[u8],
@@ -100,7 +101,7 @@ fn write_walk<S: Alter, W: Sink>(
         });
     }
     let mut count = head.len() as u64;
-    match write_rows(ask, reader, walk, out, &mut count) {
+    match write_rows(alloc, ask, reader, walk, out, &mut count) {
         Ok(()) => Ok(count),
         Err(fault) => Err(ExportStop {
             written: count,
@@ -111,6 +112,7 @@ fn write_walk<S: Alter, W: Sink>(
 
 /// Writes the messages that a walk has not given yet, as far as the policy shows them, and counts their bytes.
 fn write_rows<S: Alter, W: Sink>(
+    alloc: Global,
     ask: &Ask<'_>,
     reader: &ReaderMarks,
     walk: &mut EachRow<'_, S>,
@@ -126,11 +128,11 @@ fn write_rows<S: Alter, W: Sink>(
         (W.failures out.old) (W.failures out.new) count.old count.new fault) }
 {
     while let Some(message) = walk.next()? {
-        match write_shown(ask, reader, &message, out) {
+        match write_shown(alloc, ask, reader, &message, out) {
             Ok(more) => *count = count.saturating_add(more),
-            Err(fault) => {
-                *count = count.saturating_add(fault.written);
-                return Err(DeskFault::Write);
+            Err(stop) => {
+                *count = count.saturating_add(stop.written);
+                return Err(stop.fault);
             }
         }
     }
@@ -139,26 +141,38 @@ fn write_rows<S: Alter, W: Sink>(
 
 /// Writes a message if the policy shows it: how many bytes that is.
 fn write_shown<W: Sink>(
+    alloc: Global,
     ask: &Ask<'_>,
     reader: &ReaderMarks,
     message: &Message,
     out: &mut W,
-) -> Result<u64, WriteFault>
+) -> Result<u64, ExportStop>
     ensures ok { OnOk result (W.told out.new
         ≡ W.told out.old ++ shown_text ask.now reader.now (remembered ask.now.list message.now ∷ [])) }
     ensures count { IfOk result (λ count.
         count ≡ min (length (shown_text ask.now reader.now (remembered ask.now.list message.now ∷ []))) (2 ^ 64 - 1)) }
-    ensures fault { IfErr result (λ e. length (W.told out.new) < 2 ^ 64 → IsCutShort (W.told out.old) (W.told out.new)
-        (shown_text ask.now reader.now (remembered ask.now.list message.now ∷ [])) e.written) }
+    ensures part { IfErr result (λ stop. length (W.told out.new) < 2 ^ 64 → IsCutShort (W.told out.old) (W.told out.new)
+        (shown_text ask.now reader.now (remembered ask.now.list message.now ∷ [])) stop.written) }
     ensures quiet { OnOk result (W.failures out.new ≡ W.failures out.old) }
-    ensures cause { OnErr result (W.failures out.old < W.failures out.new) }
+    ensures cause { IfErr result (λ stop. IsShownStop (W.told out.old) (W.told out.new)
+        (W.failures out.old) (W.failures out.new) stop.written stop.fault) }
 {
-    if !is_shown(ask, reader, message) {
-        return Ok(0);
+    match is_shown(alloc, ask, reader, message) {
+        Ok(true) => {}
+        Ok(false) => return Ok(0),
+        Err(_) => {
+            return Err(ExportStop {
+                written: 0,
+                fault: DeskFault::Memory,
+            });
+        }
     }
     let item = message.item.as_item();
     match write_item(out, &item) {
         Ok(()) => Ok(written_len(&item)),
-        Err(fault) => Err(fault),
+        Err(fault) => Err(ExportStop {
+            written: fault.written,
+            fault: DeskFault::Write,
+        }),
     }
 }

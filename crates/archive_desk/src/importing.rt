@@ -1,8 +1,9 @@
 //! Taking the messages of a file into a list.
-ghost use Rattle.std.specs.Prelude.{◌≡◌, true, IfOk, IfErr};
+ghost use Rattle.std.specs.Prelude.{◌≡◌, ◌∷◌, [], true, IfOk, IfErr};
 ghost use Rattle.mbox_core.specs.Division.{Divides};
+ghost use Rattle.archive_machine.specs.Commands.{no_list};
 ghost use Rattle.archive_machine.specs.Questions.{has_list, list_refusal};
-ghost use Rattle.archive_store.specs.Replies.{refusal};
+ghost use Rattle.archive_store.specs.Replies.{RefusedFor, refusal};
 ghost use Rattle.archive_store.specs.Batches.{tally_of as store_tally};
 ghost use Rattle.archive_store.specs.Told.{AsksIn, Calls, HoldsTables, WasOpen};
 ghost use Rattle.archive_desk.specs.Importing.{HasAdded, IsBrokenAdd, IsBrokenImport, IsCutStop};
@@ -80,11 +81,12 @@ pub fn import<S: Alter>(
     }
 }
 
-/// E4 where there is no such list.
-pub(crate) fn find_list<S: Alter>(store: &mut Store<S>, list: &str) -> Result<(), StoreFault>
+/// Looks a list up: E4 where there is none of this name; E14, E15.
+pub fn find_list<S: Alter>(store: &mut Store<S>, list: &str) -> Result<(), StoreFault>
     ensures found { AsksIn S.Store (HoldsTables S.Store) store.old store.new refusal result (λ a. list_refusal a list.now)
         (λ a _. has_list a list.now ≡ true) }
     ensures was_open { WasOpen S.Store store.old store.new refusal result }
+    ensures kind { RefusedFor result (no_list ∷ []) }
 {
     match store.has_list(list) {
         Ok(true) => Ok(()),

@@ -1,7 +1,7 @@
 //! The index of a view, the headers of its messages, and the lines of its messages of a month or an author, each read by one walk.
 ghost use Rattle.std.specs.Prelude.{◌≡◌, ◌∷◌, [], ◌++◌, filter, map, pos, IfErr, OnOk};
 ghost use Rattle.archive_machine.specs.Messages.{remembered};
-ghost use Rattle.archive_results.specs.Access.{is_shown, reader_marks, view_of};
+ghost use Rattle.archive_results.specs.Access.{is_shown, view_of};
 ghost use Rattle.archive_results.specs.Filed.{filed_author_lines, filed_month_lines};
 ghost use Rattle.archive_results.specs.Index.{IsIndexOf, header_of};
 ghost use Rattle.archive_store.specs.Told.{AsksIn, HoldsTables, Lasts, WasOpen};
@@ -140,7 +140,7 @@ fn push_header(
     ensures { OnOk result (headers.new.items ≡ headers.old.items
         ++ map header_of (filter (is_shown ask.now reader.now) (remembered ask.now.list message.now ∷ []))) }
 {
-    if is_shown(ask, reader, message) {
+    if is_shown(alloc, ask, reader, message)? {
         headers.push(header_of(alloc, message)?)?;
     }
     Ok(())
@@ -157,7 +157,7 @@ fn push_line(
     ensures { OnOk result (lines.new.items ≡ lines.old.items
         ++ lines_shown (filter (is_shown ask.now reader.now) (remembered ask.now.list message.now ∷ []))) }
 {
-    if is_shown(ask, reader, message) {
+    if is_shown(alloc, ask, reader, message)? {
         lines.push(line_of(alloc, message.key, &message.item.as_item())?)?;
     }
     Ok(())

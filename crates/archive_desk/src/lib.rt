@@ -11,7 +11,7 @@ mod viewing;
 
 pub use exporting::{ExportStop, export, export_after};
 pub use faults::DeskFault;
-pub use importing::{ImportFault, ImportStop, Report, import};
+pub use importing::{ImportFault, ImportStop, Report, find_list, import};
 pub use listing::{author, month, thread, threads};
 pub use messages::message;
 pub use viewing::view;

@@ -1,16 +1,18 @@
 //! The lists of a month and of an author, and threads.
 ghost use Rattle.std.specs.Prelude.{◌≡◌, map, pos, Some, IfErr};
+ghost use Rattle.archive_machine.specs.Questions.{merge_of};
 ghost use Rattle.archive_results.specs.Access.{view_of};
+ghost use Rattle.archive_results.specs.Index.{IsIndexOf};
 ghost use Rattle.archive_results.specs.Filed.{filed_author_lines, filed_month_lines};
 ghost use Rattle.archive_results.specs.Results.{author_lines, month_lines, tree_lines, thread_lines};
 ghost use Rattle.archive_results.specs.Shown.{shown_of};
 ghost use Rattle.archive_store.specs.Told.{Asks, AsksIn, HoldsTables, WasOpen};
-ghost use Rattle.archive_desk.specs.Faults.{IsAskFault, ask_reason, reason};
+ghost use Rattle.archive_desk.specs.Faults.{IsAskFault, ask_reason, list_reason, reason};
 ghost use Rattle.archive_desk.specs.Listing.{IsThreadFault, thread_reason};
 
 use crate::faults::DeskFault;
 use crate::index::{read_author, read_headers, read_month};
-use archive_results::{Ask, Line, TreeLine, thread_lines, tree_lines};
+use archive_results::{Ask, Header, Line, TreeLine, thread_lines, tree_lines};
 use archive_store::{Key, Store};
 use civil_time::Month;
 use sqlite::Alter;
@@ -55,8 +57,9 @@ pub fn author<S: Alter>(
     read_author(store, alloc, ask, key)
 }
 
-/// The threads of the view (RFC 5256, section 3, THREAD=REFERENCES), in preorder. G1 where there is no such list, G2 where
-/// there is no such person; G5 where no memory is left, G4 where the store has none or fails.
+/// The threads of the view (RFC 5256, section 3, THREAD=REFERENCES), in preorder. Those of one subject are gathered where the
+/// list has it so. G1 where there is no such list, G2 where there is no such person; G5 where no memory is left, G4 where the
+/// store has none or fails.
 pub fn threads<T: Threader, S: Alter>(
     store: &mut Store<S>,
     alloc: Global,
@@ -64,15 +67,15 @@ pub fn threads<T: Threader, S: Alter>(
     threader: &T,
 ) -> Result<Vec<TreeLine>, DeskFault>
     ensures listed { Asks S.Store store.old store.new reason result (λ a. ask_reason a ask.now)
-        (λ a rows. rows.items ≡ tree_lines (map shown_of (view_of a ask.now))) }
+        (λ a rows. rows.items ≡ tree_lines (merge_of a ask.now.list) (map shown_of (view_of a ask.now))) }
     ensures was_open { WasOpen S.Store store.old store.new reason result }
     ensures fault { IfErr result (λ fault. IsAskFault fault) }
 {
-    let headers = match read_headers(store, alloc, ask) {
-        Ok(headers) => headers,
+    let index = match read_index(store, alloc, ask) {
+        Ok(index) => index,
         Err(fault) => return Err(fault),
     };
-    match tree_lines(alloc, threader, headers) {
+    match tree_lines(alloc, threader, index.headers, index.merge) {
         Ok(rows) => Ok(rows),
         Err(_) => Err(DeskFault::Memory),
     }
@@ -89,17 +92,54 @@ pub fn thread<T: Threader, S: Alter>(
     key: &Key,
 ) -> Result<Vec<TreeLine>, DeskFault>
     ensures listed { Asks S.Store store.old store.new reason result (λ a. thread_reason a ask.now key.now)
-        (λ a rows. thread_lines key.now (map shown_of (view_of a ask.now)) ≡ Some rows.items) }
+        (λ a rows. thread_lines (merge_of a ask.now.list) key.now (map shown_of (view_of a ask.now)) ≡ Some rows.items) }
     ensures was_open { WasOpen S.Store store.old store.new reason result }
     ensures fault { IfErr result (λ fault. IsThreadFault fault) }
+{
+    let index = match read_index(store, alloc, ask) {
+        Ok(index) => index,
+        Err(fault) => return Err(fault),
+    };
+    match thread_lines(alloc, threader, index.headers, index.merge, key) {
+        Ok(Some(rows)) => Ok(rows),
+        Ok(None) => Err(DeskFault::NotInView),
+        Err(_) => Err(DeskFault::Memory),
+    }
+}
+
+/// The headers of a view, and whether its threads of one subject are gathered.
+#[derive(Drop)]
+struct Index {
+    headers: Vec<Header>,
+    merge: bool,
+}
+
+/// The index of the view. The list is asked how it is threaded once the reader is found.
+fn read_index<S: Alter>(
+    store: &mut Store<S>,
+    alloc: Global,
+    ask: &Ask<'_>,
+) -> Result<Index, DeskFault>
+    ensures held { AsksIn S.Store (HoldsTables S.Store) store.old store.new reason result (λ a. ask_reason a ask.now)
+        (λ a index. IsIndexOf (view_of a ask.now) index.headers.items × (index.merge ≡ merge_of a ask.now.list)) }
+    ensures was_open { WasOpen S.Store store.old store.new reason result }
+    ensures fault { IfErr result (λ fault. IsAskFault fault) }
 {
     let headers = match read_headers(store, alloc, ask) {
         Ok(headers) => headers,
         Err(fault) => return Err(fault),
     };
-    match thread_lines(alloc, threader, headers, key) {
-        Ok(Some(rows)) => Ok(rows),
-        Ok(None) => Err(DeskFault::NotInView),
-        Err(_) => Err(DeskFault::Memory),
+    match find_merge(store, ask) {
+        Ok(merge) => Ok(Index { headers, merge }),
+        Err(fault) => Err(fault),
     }
+}
+
+/// Whether the threads of the list are gathered by subject.
+fn find_merge<S: Alter>(store: &mut Store<S>, ask: &Ask<'_>) -> Result<bool, DeskFault>
+    ensures found { AsksIn S.Store (HoldsTables S.Store) store.old store.new reason result (λ a. list_reason a ask.now)
+        (λ a merge. merge ≡ merge_of a ask.now.list) }
+    ensures fault { IfErr result (λ fault. IsAskFault fault) }
+{
+    Ok(store.merge_of(ask.list)?)
 }

@@ -1,20 +1,18 @@
 //! Taking the messages of an mbox that is read piece by piece into a list.
-ghost use Rattle.std.specs.Prelude.{◌≡◌, ◌≢◌, ◌+◌, ◌≤◌, ◌++◌, ◌∷◌, [], ℕ, List, length, true, IfOk, IfErr, OnOk, Ok, Err};
+ghost use Rattle.std.specs.Prelude.{◌≡◌, ◌≢◌, ◌+◌, ◌≤◌, ◌++◌, ◌∷◌, [], ℕ, List, length, IfOk, IfErr, OnOk, Ok, Err};
 ghost use Rattle.mbox_core.specs.Division.{Item as Message};
 ghost use Rattle.mbox_stream.specs.Cutter.{IsCutter};
 ghost use Rattle.mbox_stream.specs.declared.cutter.Standing.TheVariants.{Open};
 ghost use Rattle.archive_machine.specs.Records.{Archive};
-ghost use Rattle.archive_machine.specs.Questions.{has_list, list_refusal};
 ghost use Rattle.archive_store.specs.Batches.{AddsAll, told_in};
 ghost use Rattle.archive_store.specs.Held.{held_of};
-ghost use Rattle.archive_store.specs.Replies.{refusal};
-ghost use Rattle.archive_store.specs.Told.{AsksIn, Calls, HoldsTables, Lasts};
+ghost use Rattle.archive_store.specs.Told.{Calls, Lasts};
 ghost use Rattle.archive_desk.specs.Importing.{HasAdded, IsBrokenAdd};
 ghost use Rattle.archive_import.specs.Streaming.{Imports, halt_reason, HasFailed, FailedBy, IsHalted, IsBroken, IsReadIn};
 ghost use Rattle.archive_import.specs.Intake.{IsUnderWay, IsHaltedAdd, IsUnread, IsOfStore};
 
 use crate::intake::Intake;
-use archive_desk::{ImportFault, ImportStop, Report};
+use archive_desk::{ImportFault, ImportStop, Report, find_list};
 use archive_store::{AddStop, Report as Counts, Store, StoreFault};
 use mbox_core::device::Source;
 use mbox_core::{Item, MboxFault, OwnedItem};
@@ -54,18 +52,6 @@ pub fn import_from<S: Alter, R: Source>(
     match add_last(store, alloc, list, &mut cutter, &mut intake) {
         Ok(()) => Ok(intake.report()),
         Err(stop) => Err(stop),
-    }
-}
-
-/// E4 where there is no such list.
-fn find_list<S: Alter>(store: &mut Store<S>, list: &str) -> Result<(), StoreFault>
-    ensures found { AsksIn S.Store (HoldsTables S.Store) store.old store.new refusal result (λ a. list_refusal a list.now)
-        (λ a _. has_list a list.now ≡ true) }
-{
-    match store.has_list(list) {
-        Ok(true) => Ok(()),
-        Ok(false) => Err(StoreFault::NoList),
-        Err(fault) => Err(fault),
     }
 }
 

@@ -71,13 +71,13 @@ fn holds_three<S: Alter>(rt: &impl Abort, alloc: Global, store: &mut Store<S>) -
     Ok(())
 }
 
-/// A whole text of 4,194,304 bytes is kept, one byte more is too large, and the import goes on behind it.
+/// A whole text of 16,777,216 bytes is kept, one byte more is too large, and the import goes on behind it.
 pub fn large<S: Alter>(rt: &impl Abort, alloc: Global, store: &mut Store<S>) -> Result<(), Fail> {
     store.list_add("soc")?;
     let mut mbox = Vec::new(alloc);
     for extra in [0, 1] {
         mbox.extend_from_slice(b"From a@b Tue Mar  4 10:00:00 2003\n")?;
-        mbox.resize(mbox.len() + 4_194_303 + extra, b'x')?;
+        mbox.resize(mbox.len() + 16_777_215 + extra, b'x')?;
         mbox.extend_from_slice(b"\n\n")?;
     }
     mbox.extend_from_slice(b"From a@b Tue Mar  4 10:00:00 2003\nsmall\n")?;

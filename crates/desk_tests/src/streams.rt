@@ -141,7 +141,7 @@ fn batches<S: Alter>(rt: &impl Abort, alloc: Global, store: &mut Store<S>) -> Re
 fn large<S: Alter>(rt: &impl Abort, alloc: Global, store: &mut Store<S>) -> Result<(), Fail> {
     store.list_add("large")?;
     let mut mbox = String::new(alloc);
-    for lines in [5000, 1000] {
+    for lines in [17_000, 1000] {
         write!(
             mbox,
             "From a@b Tue Mar  4 10:00:00 2003\nSubject: {lines}\n\n"

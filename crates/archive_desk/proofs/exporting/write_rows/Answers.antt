@@ -2,9 +2,9 @@ use Rattle.std.proofs.Common.{◌≡◌, Err, rules, refl, sym, ap, subst, ◌�
 use Rattle.std.specs.Prelude.{option_map}
 use Rattle.archive_tables.proofs.LastLemmas.{lasts_then, lasts_same}
 use Rattle.archive_desk.specs.Faults.{desk_fault, reason_by}
-use Rattle.archive_desk.specs.Walking.{WritesRows}
+use Rattle.archive_desk.specs.Walking.{IsShownStop, WritesRows}
 use Rattle.archive_desk.proofs.AskLemmas.{reasoned}
-use Rattle.archive_desk.proofs.WalkLemmas.{rows_none, rows_more, rows_unwritten, rows_unread, rows_all}
+use Rattle.archive_desk.proofs.WalkLemmas.{rows_none, rows_more, rows_unwritten, rows_unread, rows_all, rows_stopped}
 use Rattle.archive_desk.proofs.exporting.write_rows.Goals as goal
 
 pub loop-message-init : goal.loop-message-init
@@ -28,7 +28,7 @@ returns-in-Err-clause-written g c =
     rows_unwritten g.S.Store c.args.ask.now c.args.reader.now c.args.walk.now c.loop-message.walk c.next.new.self (g.W.Sink.told c.args.out.now)
     (g.W.Sink.told c.loop-message.out) c.args.count.now c.loop-message.count c.loop-message.invariant.3 c.next.ensures.lasts.returned c.in-Some.message
     (λ returned all a given w. rw c.in-Some.is at (c.in_ok-message.ensures.given returned c.args.ask.now.list all a given w))
-    (g.W.Sink.told c.write_shown.new.out) c.in-Err.fault.written c.saturating_add-in-Err.result c.in-Err.ensures.fault c.saturating_add-in-Err.ensures
+    (g.W.Sink.told c.write_shown.new.out) c.in-Err.stop.written c.saturating_add-in-Err.result c.in-Err.stop.fault c.in-Err.ensures.part c.saturating_add-in-Err.ensures
 
 pub returns-in_err-message-clause-written : goal.returns-in_err-message-clause-written
 returns-in_err-message-clause-written g c =
@@ -55,3 +55,12 @@ returns-in_err-message-clause-lasts g c = lasts_then _ _ _ c.loop-message.invari
 
 pub returns-clause-lasts : goal.returns-clause-lasts
 returns-clause-lasts g c = lasts_then _ _ _ c.loop-message.invariant.1 c.next.ensures.lasts
+
+pub returns-in-Err-clause-cause : goal.returns-in-Err-clause-cause
+returns-in-Err-clause-cause g c =
+    rows_stopped g.S.Store c.args.ask.now c.args.reader.now c.args.walk.now c.loop-message.walk c.next.new.self (g.W.Sink.told c.args.out.now)
+    (g.W.Sink.told c.loop-message.out) c.args.count.now c.loop-message.count c.loop-message.invariant.3 c.next.ensures.lasts.returned
+    (g.W.Sink.told c.write_shown.new.out) c.in-Err.stop.written c.saturating_add-in-Err.result (g.W.Sink.failures c.args.out.now) (g.W.Sink.failures c.write_shown.new.out)
+    c.in-Err.stop.fault c.saturating_add-in-Err.ensures
+    (subst (λ n. IsShownStop (g.W.Sink.told c.loop-message.out) (g.W.Sink.told c.write_shown.new.out) n (g.W.Sink.failures c.write_shown.new.out) c.in-Err.stop.written c.in-Err.stop.fault)
+    c.loop-message.invariant.2 c.in-Err.ensures.cause)

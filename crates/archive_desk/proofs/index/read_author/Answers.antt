@@ -4,20 +4,20 @@ use Rattle.std.specs.declared.alloc.Global.{Global}
 use Rattle.archive_machine.specs.Records.{Archive, Message as Remembered}
 use Rattle.archive_machine.specs.Questions.{list_refusal}
 use Rattle.archive_machine.specs.Filing.{by_author}
-use Rattle.archive_results.specs.Access.{reader_marks}
 use Rattle.archive_results.specs.Filed.{filed_author_lines}
 use Rattle.archive_results.specs.Shown.{Line}
 use Rattle.archive_store.specs.Replies.{refusal}
 use Rattle.archive_store.specs.Told.{HoldsTables, GoesIn, GoesInIfOpen, AsksIn}
 use Rattle.archive_store.specs.Walking.{BeginsOver}
+use Rattle.archive_desk.specs.Asking.{IsEnough}
 use Rattle.archive_desk.specs.Faults.{ask_reason, reason}
 use Rattle.archive_desk.specs.Listing.{lines_shown}
 use Rattle.archive_desk.proofs.IndexLemmas.{not_listed, walk_ended, walk_open}
 use Rattle.archive_desk.proofs.CallLemmas.{open_still, unbegun_lasts, was_open_by}
 use Rattle.archive_desk.proofs.index.read_author.Goals as goal
 
-pub returns-in-Err-each_by_author-clause-held : goal.returns-in-Err-each_by_author-clause-held
-returns-in-Err-each_by_author-clause-held g c =
+pub returns-clause-held : goal.returns-clause-held
+returns-clause-held g c =
     let ask = c.args.ask.now in
     let old = c.args.store.now in
     let mid = c.find_reader.new.store in
@@ -31,10 +31,10 @@ returns-in-Err-each_by_author-clause-held g c =
     (rw c.in-Err-each_by_author.is at c.each_by_author.follows.holds-at-none).0 in
     subst (λ f. AsksIn g.S.Store (HoldsTables g.S.Store) old last reason (Err f) (λ a. ask_reason a ask)
     (λ a (lines : Vec Line Global). lines.items ≡ filed_author_lines a ask c.args.key.now)) (sym c.from.ensures)
-    (not_listed lines_shown g.S.Store old mid ask which (λ a. c.in-Ok.reader ≡ reader_marks a ask) c.in-Ok.ensures.found last fault refused)
+    (not_listed lines_shown g.S.Store old mid ask which (λ a. IsEnough a ask c.in-Ok.reader) c.in-Ok.ensures.found last fault refused)
 
-pub returns-in-Err-each_by_author-clause-was_open : goal.returns-in-Err-each_by_author-clause-was_open
-returns-in-Err-each_by_author-clause-was_open g c =
+pub returns-clause-was_open : goal.returns-clause-was_open
+returns-clause-was_open g c =
     let last = c.each_by_author.follows.lender-at-none in
     let fault = c.in-Err-each_by_author.fault in
     was_open_by g.S.Store c.args.store.now last {A = Unit {0}} reason (Err c.from.result)

@@ -8,13 +8,14 @@ use Rattle.archive_results.specs.Index.{Header, IsIndexOf, header_of}
 use Rattle.archive_store.specs.Replies.{refusal}
 use Rattle.archive_store.specs.Told.{HoldsTables, GoesIn, GoesInIfOpen, AsksIn}
 use Rattle.archive_store.specs.Walking.{BeginsOver}
+use Rattle.archive_desk.specs.Asking.{IsEnough}
 use Rattle.archive_desk.specs.Faults.{ask_reason, reason}
 use Rattle.archive_desk.proofs.IndexLemmas.{not_listed, walk_ended, walk_open}
 use Rattle.archive_desk.proofs.CallLemmas.{open_still, unbegun_lasts, was_open_by}
 use Rattle.archive_desk.proofs.index.read_headers.Goals as goal
 
-pub returns-in-Err-each_row-clause-held : goal.returns-in-Err-each_row-clause-held
-returns-in-Err-each_row-clause-held g c =
+pub returns-clause-held : goal.returns-clause-held
+returns-clause-held g c =
     let ask = c.args.ask.now in
     let old = c.args.store.now in
     let mid = c.find_reader.new.store in
@@ -28,10 +29,10 @@ returns-in-Err-each_row-clause-held g c =
     (rw c.in-Err-each_row.is at c.each_row.follows.holds-at-none).0 in
     subst (λ f. AsksIn g.S.Store (HoldsTables g.S.Store) old last reason (Err f) (λ a. ask_reason a ask)
     (λ a (headers : Vec Header Global). IsIndexOf (filter (is_shown ask (reader_marks a ask)) (which a)) headers.items)) (sym c.from.ensures)
-    (not_listed (map header_of) g.S.Store old mid ask which (λ a. c.in-Ok.reader ≡ reader_marks a ask) c.in-Ok.ensures.found last fault refused)
+    (not_listed (map header_of) g.S.Store old mid ask which (λ a. IsEnough a ask c.in-Ok.reader) c.in-Ok.ensures.found last fault refused)
 
-pub returns-in-Err-each_row-clause-was_open : goal.returns-in-Err-each_row-clause-was_open
-returns-in-Err-each_row-clause-was_open g c =
+pub returns-clause-was_open : goal.returns-clause-was_open
+returns-clause-was_open g c =
     let last = c.each_row.follows.lender-at-none in
     let fault = c.in-Err-each_row.fault in
     was_open_by g.S.Store c.args.store.now last {A = Unit {0}} reason (Err c.from.result)

@@ -1,10 +1,10 @@
 use Rattle.std.proofs.Common.{◌≡◌, true, None, Some, Err, rules, sym, subst}
 use Rattle.std.specs.Prelude.{MatchOption}
 use Rattle.archive_machine.specs.Questions.{has_list, list_refusal}
-use Rattle.archive_results.specs.Access.{ReaderMarks, reader_marks}
+use Rattle.archive_results.specs.Access.{ReaderMarks}
 use Rattle.archive_store.specs.Replies.{refusal}
 use Rattle.archive_store.specs.Told.{HoldsTables, AsksIn, GoesIn, GoesInIfOpen, WasOpen}
-use Rattle.archive_desk.specs.Asking.{standing_reason}
+use Rattle.archive_desk.specs.Asking.{IsEnough, standing_reason}
 use Rattle.archive_desk.specs.Faults.{ask_reason, reason, reason_by}
 use Rattle.archive_desk.proofs.AskLemmas.{list_declined, reader_after, reasoned}
 use Rattle.archive_desk.proofs.CallLemmas.{asks_last, open_still, was_open_as, was_open_by}
@@ -28,14 +28,14 @@ returns-in-Err-clause-found g c =
     let found =
     subst (λ l. MatchOption (refusal c.in-Err.fault) (GoesInIfOpen g.S.Store (HoldsTables g.S.Store) old new (λ a b. b ≡ a))
     (λ why. GoesIn g.S.Store (HoldsTables g.S.Store) old new (λ a b. (b ≡ a) × (list_refusal a l ≡ Some why)))) is c.in-Err.ensures.found in
-    subst (λ f. AsksIn g.S.Store (HoldsTables g.S.Store) old new reason (Err f) (λ a. ask_reason a ask) (λ a reader. reader ≡ reader_marks a ask)) (sym c.from.ensures)
-    (list_declined g.S.Store ask old new {A = Unit {0}} {B = ReaderMarks} c.in-Err.fault (λ a _. has_list a ask.list ≡ true) (λ a reader. reader ≡ reader_marks a ask) found)
+    subst (λ f. AsksIn g.S.Store (HoldsTables g.S.Store) old new reason (Err f) (λ a. ask_reason a ask) (λ a reader. IsEnough a ask reader)) (sym c.from.ensures)
+    (list_declined g.S.Store ask old new {A = Unit {0}} {B = ReaderMarks} c.in-Err.fault (λ a _. has_list a ask.list ≡ true) (λ a reader. IsEnough a ask reader) found)
 
 pub returns-in-Ok-clause-was_open : goal.returns-in-Ok-clause-was_open
 returns-in-Ok-clause-was_open g c =
     was_open_by g.S.Store c.args.store.now c.find_marks.new.store reason c.find_marks.result
     (open_still g.S.Store c.args.store.now c.find_list.new.store c.find_marks.new.store c.in-Ok.ensures.was_open
-    (asks_last g.S.Store (HoldsTables g.S.Store) c.find_list.new.store c.find_marks.new.store reason (λ a. standing_reason a c.args.ask.now) (λ a reader. reader ≡ reader_marks a c.args.ask.now)
+    (asks_last g.S.Store (HoldsTables g.S.Store) c.find_list.new.store c.find_marks.new.store reason (λ a. standing_reason a c.args.ask.now) (λ a reader. IsEnough a c.args.ask.now reader)
     c.find_marks.result c.find_marks.ensures.found))
 
 pub returns-in-Err-clause-was_open : goal.returns-in-Err-clause-was_open

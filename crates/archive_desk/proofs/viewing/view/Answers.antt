@@ -6,9 +6,11 @@ use Rattle.archive_machine.specs.declared.messages.Message.{Message}
 use Rattle.archive_machine.specs.Questions.{messages_in}
 use Rattle.archive_results.specs.Access.{view_of}
 use Rattle.archive_store.proofs.Joins.{sound_too}
+use Rattle.archive_desk.specs.Asking.{IsEnough}
 use Rattle.archive_desk.specs.Faults.{ask_reason, reason}
 use Rattle.archive_desk.proofs.AskLemmas.{marks_after, view_found, list_refused}
 use Rattle.archive_desk.proofs.CallLemmas.{unanswered_too}
+use Rattle.archive_desk.proofs.ListLemmas.{unmade}
 use Rattle.archive_desk.proofs.viewing.view.Goals as goal
 
 pub returns-in-Err-clause-shown : goal.returns-in-Err-clause-shown
@@ -20,18 +22,18 @@ returns-in-Err-clause-shown g c =
     (list_refused g.S.Store ask old new c.in-Err.fault (λ a (found : Vec Message Global). map (remembered ask.list) found.items ≡ messages_in a ask.list)
     (λ a (found : Vec Message Global). map (remembered ask.list) found.items ≡ view_of a ask) c.in-Err.ensures.held)
 
-pub returns-in-Ok-find_marks-clause-shown : goal.returns-in-Ok-find_marks-clause-shown
-returns-in-Ok-find_marks-clause-shown g c =
+pub returns-in-Ok-keep_shown-clause-shown : goal.returns-in-Ok-keep_shown-clause-shown
+returns-in-Ok-keep_shown-clause-shown g c =
     let ask = c.args.ask.now in
     let old = c.args.store.now in
     let new = c.find_marks.new.store in
     let found = c.in-Ok.messages.items in
-    let kept = c.keep_shown.new.messages.items in
+    let kept = c.in-Ok-keep_shown.kept.items in
     sound_too g.S.Store old new (λ a b. (b ≡ a) × (ask_reason a ask ≡ None) × (map (remembered ask.list) kept ≡ view_of a ask)) (λ a b it. it.0)
     (view_found g.S.Store old new ask c.in-Ok-find_marks.reader found kept
     (marks_after g.S.Store ask old c.read_list.new.store new (λ a. map (remembered ask.list) found ≡ messages_in a ask.list) (Ok c.in-Ok-find_marks.reader)
     c.in-Ok.ensures.held c.in-Ok-find_marks.ensures.found)
-    c.keep_shown.ensures)
+    c.in-Ok-keep_shown.ensures)
 
 pub returns-in-Err-find_marks-clause-shown : goal.returns-in-Err-find_marks-clause-shown
 returns-in-Err-find_marks-clause-shown g c =
@@ -41,3 +43,14 @@ returns-in-Err-find_marks-clause-shown g c =
     unanswered_too g.S.Store old new reason (λ a. ask_reason a ask) c.in-Err-find_marks.fault
     (marks_after g.S.Store ask old c.read_list.new.store new (λ a. map (remembered ask.list) c.in-Ok.messages.items ≡ messages_in a ask.list)
     (Err c.in-Err-find_marks.fault) c.in-Ok.ensures.held c.in-Err-find_marks.ensures.found)
+
+pub returns-clause-shown : goal.returns-clause-shown
+returns-clause-shown g c =
+    let ask = c.args.ask.now in
+    let old = c.args.store.now in
+    let new = c.find_marks.new.store in
+    let found = c.in-Ok.messages.items in
+    let reader = c.in-Ok-find_marks.reader in
+    unmade g.S.Store old new ask (λ a. (map (remembered ask.list) found ≡ messages_in a ask.list) × IsEnough a ask reader)
+    (marks_after g.S.Store ask old c.read_list.new.store new (λ a. map (remembered ask.list) found ≡ messages_in a ask.list) (Ok reader)
+    c.in-Ok.ensures.held c.in-Ok-find_marks.ensures.found)

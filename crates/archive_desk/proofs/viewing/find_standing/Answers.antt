@@ -1,0 +1,25 @@
+use Rattle.std.proofs.Common.{◌≡◌, Err, option_map, rules, sym, subst}
+use Rattle.std.specs.Prelude.{⊤}
+use Rattle.policy_core.specs.declared.Standing.{Standing}
+use Rattle.archive_machine.specs.Questions.{standing_of, standing_refusal}
+use Rattle.archive_results.specs.Access.{standing_ranked}
+use Rattle.archive_store.specs.Held.{held_of}
+use Rattle.archive_store.specs.Replies.{Answers}
+use Rattle.archive_store.specs.Told.{AsksIn, HoldsTables}
+use Rattle.archive_desk.specs.Faults.{desk_fault, reason, reason_by}
+use Rattle.archive_desk.proofs.AskLemmas.{store_declines}
+use Rattle.archive_desk.proofs.viewing.find_standing.Goals as goal
+
+pub returns-in_err-standing-clause-found : goal.returns-in_err-standing-clause-found
+returns-in_err-standing-clause-found g c =
+    let ask = c.args.ask.now in
+    let old = c.args.store.now in
+    let new = c.standing.new.self in
+    let name = c.args.name.now in
+    let fault = c.in_err-standing.field-0.0 in
+    let Says : _ = λ a (standing : Standing). standing ≡ standing_ranked (standing_of a name ask.list ask.day) in
+    let list : c.ask.inside.list.now ≡ ask.list = search rules in
+    let is : c.from_residual.result ≡ Err (desk_fault fault) = search rules in
+    subst (λ r. AsksIn g.S.Store (HoldsTables g.S.Store) old new reason r (λ a. option_map reason_by (standing_refusal a name ask.list)) Says) (sym is)
+    (store_declines g.S.Store old new (λ a. standing_refusal a name ask.list) Says fault (λ a (standing : Standing). ⊤) c.in_err-standing.ensures.lasts
+    (subst (λ l. Answers g.S.Store (held_of old) (held_of new) {A = Standing} (Err fault) (λ a. standing_refusal a name l) (λ a s. ⊤)) list c.in_err-standing.ensures.answer))
