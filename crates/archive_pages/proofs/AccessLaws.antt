@@ -8,7 +8,7 @@ use Rattle.policy_core.specs.Facts.{Facts}
 use Rattle.policy_core.specs.Rules.{Rule, fits}
 use Rattle.policy_core.specs.Verdict.{allowed, denied, ruling_by, verdict_of}
 use Rattle.archive_machine.specs.Records.{Archive, Message}
-use Rattle.archive_machine.specs.Questions.{has_list, message_of}
+use Rattle.archive_machine.specs.Questions.{has_list, merge_of, message_of}
 use Rattle.archive_machine.specs.Keys.{is_key}
 use Rattle.archive_results.specs.Access.{Ask, asked_on, asked_by, asked_of, is_allowance, is_shown, reader_marks, ruling_on}
 use Rattle.archive_results.specs.Shown.{Shown}
@@ -201,7 +201,7 @@ module _ (archive : Archive) (rules : List Rule) (day : ℤ) (head : RequestHead
     by_route (month list text) asked status = in_list (has_list archive list) _ (by_month list (shown_view archive (asking rules day reader list)) (month_of_text text)) status
     by_route (threads list) asked status = in_list (has_list archive list) _ (other 200 refl) status
     by_route (thread list key) asked status = in_list (has_list archive list) _
-        (by_rows list (cond (is_key key) (thread_lines key (shown_view archive (asking rules day reader list))) None)) status
+        (by_rows list (cond (is_key key) (thread_lines (merge_of archive list) key (shown_view archive (asking rules day reader list))) None)) status
     by_route (author list key) asked status = in_list (has_list archive list) _ (other 200 refl) status
     by_route (mbox list) asked status = in_list (has_list archive list) _ (other 200 refl) status
 
@@ -252,7 +252,7 @@ module _ (archive : Archive) (rules : List Rule) (day : ℤ) (head : RequestHead
     of_threads = λ reader list asked listed. on_list reader list _ _ asked listed refl;
     of_thread = λ reader list key rows asked listed keyed found.
         on_list reader list _ _ asked listed refl
-        ∙ ap (λ b. option_map_or (λ rs. page_reply (thread_page list rs)) (cond b (thread_lines key (shown_view archive (asking rules day reader list))) None) not_found) keyed
+        ∙ ap (λ b. option_map_or (λ rs. page_reply (thread_page list rs)) (cond b (thread_lines (merge_of archive list) key (shown_view archive (asking rules day reader list))) None) not_found) keyed
         ∙ ap (λ o. option_map_or (λ rs. page_reply (thread_page list rs)) o not_found) found;
     of_mbox = λ reader list asked listed. on_list reader list _ _ asked listed refl;
   }

@@ -27,7 +27,7 @@ use Rattle.archive_pages.specs.Answers.{reply_of}
 
 -- an archive with one list and one person, no message, and the open policy
 abbrev soc : Archive
-soc = record { lists = codes "soc" ∷ []; persons = record { name = codes "mo"; token = codes "0123456789abcdef" } ∷ []; grants = []; messages = []; filings = [] }
+soc = record { lists = codes "soc" ∷ []; persons = record { name = codes "mo"; token = codes "0123456789abcdef" } ∷ []; grants = []; messages = []; filings = []; options = []; addresses = [] }
 
 abbrev opened : List Rule
 opened = open_rule ∷ []

@@ -9,13 +9,13 @@ use Rattle.std.proofs.lemmas.Bool.{true≢false}
 use Rattle.httparse.specs.Grammar.{RequestHead}
 use Rattle.policy_core.specs.Rules.{Rule}
 use Rattle.archive_machine.specs.Records.{Archive}
-use Rattle.archive_machine.specs.Questions.{has_list, list_names, with_name, in_byte_order}
+use Rattle.archive_machine.specs.Questions.{has_list, list_names, merge_of, with_name, in_byte_order}
 use Rattle.archive_results.specs.Access.{Ask}
 use Rattle.archive_html.specs.Pages.{lists_page}
 use Rattle.archive_requests.specs.Requests.{Request, bad, other_method, unauthorized as no_token, asks, request_of}
 use Rattle.archive_requests.specs.Routes.{Route, lists, message, month, threads, thread, author, mbox, route_of}
 use Rattle.archive_pages.specs.Replies.{page_reply, not_found, unauthorized}
-use Rattle.archive_pages.specs.Answers.{reader_of, asking, shown_view, view_reply, listed_reply, route_reply, path_reply, request_reply, reply_of}
+use Rattle.archive_pages.specs.Answers.{reader_of, asking, shown_view, view_reply, listed_reply, list_reply, route_reply, path_reply, request_reply, reply_of}
 use Rattle.archive_pages.specs.Laws.{AsksFor, list_of, is_of_message, LookAlike, EqualViews}
 
 -- ---- the names in order are the names
@@ -44,10 +44,12 @@ same_lists a b list same = sym (any_in_order (λ known. bytes_eq known list) a.l
 
 -- ---- a listing of a list
 
-listing : (a b : Archive) (first second : Ask) (route : Route) (list : List ℕ) → has_list a list ≡ has_list b list → shown_view a first ≡ shown_view b second
-    → listed_reply a list (view_reply route (shown_view a first)) ≡ listed_reply b list (view_reply route (shown_view b second))
-listing a b first second route list there same = ap (λ t. cond t (view_reply route (shown_view a first)) not_found) there
-    ∙ ap (λ view. cond (has_list b list) (view_reply route view) not_found) same
+listing : (a b : Archive) (first second : Ask) (route : Route) (list : List ℕ) → has_list a list ≡ has_list b list → merge_of a list ≡ merge_of b list
+    → shown_view a first ≡ shown_view b second
+    → listed_reply a list (view_reply (merge_of a list) route (shown_view a first)) ≡ listed_reply b list (view_reply (merge_of b list) route (shown_view b second))
+listing a b first second route list there way same = ap (λ t. cond t (view_reply (merge_of a list) route (shown_view a first)) not_found) there
+    ∙ ap (λ merge. cond (has_list b list) (view_reply merge route (shown_view a first)) not_found) way
+    ∙ ap (λ view. cond (has_list b list) (view_reply (merge_of b list) route view) not_found) same
 
 module _ (rules : List Rule) (day : ℤ) (a b : Archive) (x y : Option (List ℕ)) (names : list_names a ≡ list_names b) where
   abbrev Same : Route → Type 0
@@ -56,36 +58,42 @@ module _ (rules : List Rule) (day : ℤ) (a b : Archive) (x y : Option (List ℕ
   abbrev Views : Route → Type 0
   Views route = (list : List ℕ) → list_of route ≡ Some list → shown_view a (asking rules day x list) ≡ shown_view b (asking rules day y list)
 
-  of_list : (route : Route) (list : List ℕ) → Views route → list_of route ≡ Some list
-      → listed_reply a list (view_reply route (shown_view a (asking rules day x list))) ≡ listed_reply b list (view_reply route (shown_view b (asking rules day y list)))
-  of_list route list views is = listing a b (asking rules day x list) (asking rules day y list) route list (same_lists a b list names) (views list is)
+  abbrev Ways : Route → Type 0
+  Ways route = (list : List ℕ) → list_of route ≡ Some list → merge_of a list ≡ merge_of b list
 
-  by_route : (route : Route) → Views route → is_of_message route ≡ false → Same route
-  by_route lists views other = ap (λ ns. page_reply (lists_page ns)) names
-  by_route (message list key) views other = absurd (true≢false other)
-  by_route (month list text) views other = of_list (month list text) list views refl
-  by_route (threads list) views other = of_list (threads list) list views refl
-  by_route (thread list key) views other = of_list (thread list key) list views refl
-  by_route (author list key) views other = of_list (author list key) list views refl
-  by_route (mbox list) views other = of_list (mbox list) list views refl
+  of_list : (route : Route) (list : List ℕ) → Views route → Ways route → list_of route ≡ Some list
+      → list_reply a (asking rules day x) list route ≡ list_reply b (asking rules day y) list route
+  of_list route list views ways is =
+      listing a b (asking rules day x list) (asking rules day y list) route list (same_lists a b list names) (ways list is) (views list is)
 
-  by_found : (o : Option Route) → ((route : Route) → o ≡ Some route → Views route) → ((route : Route) → o ≡ Some route → is_of_message route ≡ false)
+  by_route : (route : Route) → Views route → Ways route → is_of_message route ≡ false → Same route
+  by_route lists views ways other = ap (λ ns. page_reply (lists_page ns)) names
+  by_route (message list key) views ways other = absurd (true≢false other)
+  by_route (month list text) views ways other = of_list (month list text) list views ways refl
+  by_route (threads list) views ways other = of_list (threads list) list views ways refl
+  by_route (thread list key) views ways other = of_list (thread list key) list views ways refl
+  by_route (author list key) views ways other = of_list (author list key) list views ways refl
+  by_route (mbox list) views ways other = of_list (mbox list) list views ways refl
+
+  by_found : (o : Option Route) → ((route : Route) → o ≡ Some route → Views route) → ((route : Route) → o ≡ Some route → Ways route)
+      → ((route : Route) → o ≡ Some route → is_of_message route ≡ false)
       → option_map_or (route_reply a (asking rules day x)) o not_found ≡ option_map_or (route_reply b (asking rules day y)) o not_found
-  by_found None v w = refl
-  by_found (Some route) v w = by_route route (v route refl) (w route refl)
+  by_found None v u w = refl
+  by_found (Some route) v u w = by_route route (v route refl) (u route refl) (w route refl)
 
 -- ---- a request
 
 by_reader : (rules : List Rule) (day : ℤ) (a b : Archive) (path : List ℕ) (u w : Option (Option (List ℕ))) → is_some u ≡ is_some w → list_names a ≡ list_names b
     → ((route : Route) (list : List ℕ) (x y : Option (List ℕ)) → route_of path ≡ Some route → list_of route ≡ Some list → u ≡ Some x → w ≡ Some y
     → shown_view a (asking rules day x list) ≡ shown_view b (asking rules day y list))
+    → ((route : Route) (list : List ℕ) → route_of path ≡ Some route → list_of route ≡ Some list → merge_of a list ≡ merge_of b list)
     → ((route : Route) → route_of path ≡ Some route → is_of_message route ≡ false)
     → option_map_or (path_reply a rules day path) u unauthorized ≡ option_map_or (path_reply b rules day path) w unauthorized
-by_reader rules day a b path None None known names views other = refl
-by_reader rules day a b path (Some x) (Some y) known names views other =
-    by_found rules day a b x y names (route_of path) (λ route is list of. views route list x y is of refl refl) other
-by_reader rules day a b path None (Some y) known names views other = absurd (true≢false (sym known))
-by_reader rules day a b path (Some x) None known names views other = absurd (true≢false known)
+by_reader rules day a b path None None known names views ways other = refl
+by_reader rules day a b path (Some x) (Some y) known names views ways other =
+    by_found rules day a b x y names (route_of path) (λ route is list of. views route list x y is of refl refl) (λ route is list of. ways route list is of) other
+by_reader rules day a b path None (Some y) known names views ways other = absurd (true≢false (sym known))
+by_reader rules day a b path (Some x) None known names views ways other = absurd (true≢false known)
 
 by_request : (rules : List Rule) (day : ℤ) (a b : Archive) (request : Request)
     → ((token : Option (List ℕ)) (path : List ℕ) → request ≡ asks token path → LookAlike rules day token path a b
@@ -96,7 +104,7 @@ by_request rules day a b other_method alike = refl
 by_request rules day a b no_token alike = refl
 by_request rules day a b (asks token path) alike =
     let it = alike token path refl in
-    by_reader rules day a b path (reader_of a token) (reader_of b token) it.0.known it.0.names it.0.views it.1
+    by_reader rules day a b path (reader_of a token) (reader_of b token) it.0.known it.0.names it.0.views it.0.merges it.1
 
 pub equal_views : EqualViews
 equal_views rules day head a b alike = by_request rules day a b (request_of head) alike

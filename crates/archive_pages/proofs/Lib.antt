@@ -2,6 +2,7 @@ pub mod ReplyExamples
 mod HeadLemmas
 mod LawLemmas
 mod AccessLaws
+mod PromiseLaws
 pub mod ServingLemmas
 mod HeadReading
 mod DeskLemmas

@@ -12,7 +12,7 @@ ghost use Rattle.archive_machine.specs.Records.{Archive};
 ghost use Rattle.archive_store.specs.declared.store.Store.{Store};
 ghost use Rattle.archive_store.specs.Told.{Goes};
 ghost use Rattle.archive_pages.specs.declared.faults.ServeFault.{ServeFault};
-ghost use Rattle.archive_pages.specs.Laws.{EqualViews, ServesWhatIsAllowed, DeniesWhatIsDenied, ShowsWhatIsAllowed};
+ghost use Rattle.archive_pages.specs.Laws.{EqualViews, IsAsIfItNeverCame, ServesWhatIsAllowed, DeniesWhatIsDenied, ShowsWhatIsAllowed};
 ghost use Rattle.archive_pages.specs.Reopened.{AnswersReopened};
 ghost use Rattle.archive_pages.specs.Serving.{Stays};
 
@@ -20,8 +20,8 @@ use archive_store::laws::a_file_opened_again_holds_the_same_archive;
 use sqlite_disk::Disk;
 
 /// Where two archives have the same list names, a request's token is a person's in both or in
-/// neither, and the readers' views of the list are equal, the replies are equal byte for byte, but
-/// where one message is asked for by its key.
+/// neither, and the list is threaded alike in both and the readers' views of it are equal, the
+/// replies are equal byte for byte, but where one message is asked for by its key.
 #[tactic(auto, using(crate::proofs::LawLemmas::equal_views))]
 pub fn equal_views()
     ensures { EqualViews }
@@ -49,6 +49,13 @@ pub fn what_is_denied_is_denied_by_its_rule()
 pub fn results_are_of_what_is_allowed()
     ensures { (archive : Archive) (rules : List Rule) (day : ℤ) (head : RequestHead)
         → ShowsWhatIsAllowed archive rules day head }
+{}
+
+/// What an author is promised. Once a message is withdrawn, by its author or the board, the pages,
+/// the listings and the mbox of each reader who did not write it, and to whom the policy denies what
+/// is withdrawn, are those of the archive in which it never came, byte for byte.
+pub fn what_is_withdrawn_might_never_have_come()
+    ensures { IsAsIfItNeverCame }
 {}
 
 /// A request to a file that was closed, opened again and taken over is answered out of the archive

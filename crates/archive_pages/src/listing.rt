@@ -4,6 +4,7 @@ ghost use Rattle.archive_pages.specs.Answers.{listed_reply, month_reply, shown_v
 ghost use Rattle.archive_pages.specs.Seen.{reply_made};
 ghost use Rattle.archive_pages.specs.Serving.{Finds};
 ghost use Rattle.archive_html.specs.Pages.{author_page, threads_page};
+ghost use Rattle.archive_machine.specs.Questions.{merge_of};
 ghost use Rattle.archive_results.specs.Results.{author_lines, tree_lines};
 ghost use Rattle.archive_pages.specs.Replies.{page_reply};
 
@@ -72,7 +73,7 @@ pub(crate) fn find_threads<T: Threader, S: Alter>(
 ) -> Result<Reply<'static>, Unavailable>
     ensures { Finds S.Store store.old store.new result
         (λ a reply. reply_made reply ≡ listed_reply a ask.now.list
-        (page_reply (threads_page ask.now.list (tree_lines (shown_view a ask.now))))) }
+        (page_reply (threads_page ask.now.list (tree_lines (merge_of a ask.now.list) (shown_view a ask.now))))) }
 {
     match threads(store, alloc, ask, threader) {
         Ok(rows) => match threads_page(alloc, ask.list, &rows) {
@@ -94,7 +95,7 @@ pub(crate) fn find_thread<T: Threader, S: Alter>(
 ) -> Result<Reply<'static>, Unavailable>
     ensures { Finds S.Store store.old store.new result
         (λ a reply. reply_made reply ≡ listed_reply a ask.now.list
-        (thread_reply ask.now.list key.now (shown_view a ask.now))) }
+        (thread_reply (merge_of a ask.now.list) ask.now.list key.now (shown_view a ask.now))) }
 {
     let Some(key) = Key::read(key) else {
         return Ok(Reply::Failed(Failure::NotFound));

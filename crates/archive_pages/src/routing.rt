@@ -1,7 +1,7 @@
 //! The answer of a route.
 ghost use Rattle.std.specs.Prelude.{◌≡◌, OnOk, IfErr, MatchResult};
 ghost use Rattle.archive_html.specs.Pages.{author_page, lists_page, threads_page};
-ghost use Rattle.archive_machine.specs.Questions.{list_names};
+ghost use Rattle.archive_machine.specs.Questions.{list_names, merge_of};
 ghost use Rattle.archive_results.specs.Results.{author_lines, export_text, tree_lines};
 ghost use Rattle.archive_pages.specs.Answers.{keyed_reply, listed_reply, month_reply, shown_view, thread_reply};
 ghost use Rattle.archive_pages.specs.Replies.{Is, IsReplyStop, Sends, mbox_reply, page_reply, unavailable};
@@ -84,7 +84,7 @@ pub(crate) fn answer_message<S: Alter, W: Sink>(
 }
 
 /// Answers the messages of a list, as an mbox, one message after the other. No reply but this one ends with the connection,
-/// and no other breaks off: S3 where the store refuses behind the first byte, and 503 before it.
+/// and no other breaks off: S3 where the store refuses or memory is wanting behind the first byte, and 503 before it.
 pub(crate) fn answer_mbox<S: Alter, W: Sink>(
     store: &mut Store<S>,
     alloc: Global,
@@ -107,6 +107,7 @@ pub(crate) fn answer_mbox<S: Alter, W: Sink>(
     match stop.fault {
         DeskFault::Write => Err(ServeFault::Write { written }),
         DeskFault::Store(_) if written > 0 => Err(ServeFault::Broken { written }),
+        DeskFault::Memory if written > 0 => Err(ServeFault::Broken { written }),
         DeskFault::NoList => write_failure(output, Failure::NotFound),
         DeskFault::NoPerson => write_failure(output, Failure::Unavailable),
         DeskFault::NotInView => write_failure(output, Failure::Unavailable),
@@ -166,7 +167,7 @@ pub(crate) fn answer_threads<T: Threader, S: Alter, W: Sink>(
 ) -> Result<StatusCode, ServeFault>
     ensures sent { Serves S.Store store.old store.new
         (λ a reply. reply ≡ listed_reply a ask.now.list
-        (page_reply (threads_page ask.now.list (tree_lines (shown_view a ask.now)))))
+        (page_reply (threads_page ask.now.list (tree_lines (merge_of a ask.now.list) (shown_view a ask.now)))))
         (W.told output.old) (W.told output.new) result }
     ensures quiet { OnOk result (W.failures output.new ≡ W.failures output.old) }
     ensures cause { IfErr result (λ fault. IsReplyStop (W.told output.old) (W.told output.new)
@@ -187,7 +188,7 @@ pub(crate) fn answer_thread<T: Threader, S: Alter, W: Sink>(
 ) -> Result<StatusCode, ServeFault>
     ensures sent { Serves S.Store store.old store.new
         (λ a reply. reply ≡ listed_reply a ask.now.list
-        (thread_reply ask.now.list key.now (shown_view a ask.now))) (W.told output.old)
+        (thread_reply (merge_of a ask.now.list) ask.now.list key.now (shown_view a ask.now))) (W.told output.old)
         (W.told output.new) result }
     ensures quiet { OnOk result (W.failures output.new ≡ W.failures output.old) }
     ensures cause { IfErr result (λ fault. IsReplyStop (W.told output.old) (W.told output.new)

@@ -1,5 +1,6 @@
 //! An mbox that is asked for over files whose disks stop.
 use crate::cases::today;
+use crate::older::is_as_before;
 use archive_desk::import;
 use archive_pages::{ServeFault, answer};
 use archive_store::{AdoptStop, Store};
@@ -44,7 +45,7 @@ const UNAVAILABLE: &[u8] =
 
 /// How far a request came.
 #[derive(Clone, Copy, Debug, PartialEq, Eq)]
-enum Stage {
+pub enum Stage {
     /// The files were not opened.
     Shut,
     /// The reply was 503.
@@ -67,9 +68,13 @@ const STAGES: [Stage; 6] = [
 
 /// What is done with a store.
 #[derive(Clone, Copy)]
-enum Step {
+pub enum Step {
+    /// Nothing.
+    Open,
     Import,
     Ask,
+    /// What it shows is looked at.
+    Show,
 }
 
 /// Adds a message of these headers.
@@ -136,7 +141,12 @@ fn take_step<S: Alter>(
     step: Step,
 ) -> Result<Stage, Fail> {
     match step {
+        Step::Open => Ok(Stage::Whole),
         Step::Ask => ask(rt, alloc, store),
+        Step::Show => {
+            is_as_before(rt, alloc, store)?;
+            Ok(Stage::Whole)
+        }
         Step::Import => {
             store.list_add("soc")?;
             import(store, alloc, "soc", &first(alloc, b"", HEADERS.len())?)?;
@@ -154,7 +164,7 @@ fn one_page() -> Options {
 }
 
 /// Opens a store over these files, takes a step, and hands the files back.
-fn over_files<D: Disk + Drop>(
+pub fn over_files<D: Disk + Drop>(
     rt: &impl Abort,
     alloc: Global,
     files: Files<D>,
@@ -190,13 +200,34 @@ fn over_connection<D: Disk + Drop>(
     }
 }
 
-/// A disk that holds the same bytes, and stops after so many calls.
-fn fused(alloc: Global, disk: &Memory, calls: u64) -> Result<Fuse<Memory>, Fail> {
-    let mut copy = Memory::new(alloc);
-    if !disk.bytes().is_empty() {
-        copy.write_at(0, disk.bytes())?;
+/// A disk that holds these bytes.
+fn holding(alloc: Global, bytes: &[u8]) -> Result<Memory, Fail> {
+    let mut disk = Memory::new(alloc);
+    if !bytes.is_empty() {
+        disk.write_at(0, bytes)?;
     }
-    Ok(Fuse::new(copy, calls))
+    Ok(disk)
+}
+
+/// Copies of files, of which the log and the database file stop after so many calls.
+pub fn stopping(
+    alloc: Global,
+    files: &Files<Memory>,
+    log_calls: u64,
+    db_calls: u64,
+) -> Result<Files<Fuse<Memory>>, Fail> {
+    Ok(Files {
+        log: Fuse::new(holding(alloc, files.log.bytes())?, log_calls),
+        db: Fuse::new(holding(alloc, files.db.bytes())?, db_calls),
+    })
+}
+
+/// What disks that stopped hold.
+pub fn left(alloc: Global, files: &Files<Fuse<Memory>>) -> Result<Files<Memory>, Fail> {
+    Ok(Files {
+        log: holding(alloc, files.log.inner().bytes())?,
+        db: holding(alloc, files.db.inner().bytes())?,
+    })
 }
 
 /// Asks for the mbox over copies of these files whose disks stop after so many calls.
@@ -206,10 +237,7 @@ fn ask_over(
     files: &Files<Memory>,
     calls: u64,
 ) -> Result<Stage, Fail> {
-    let fuses = Files {
-        log: fused(alloc, &files.log, calls)?,
-        db: fused(alloc, &files.db, calls)?,
-    };
+    let fuses = stopping(alloc, files, calls, calls)?;
     let (stage, _files) = over_files(rt, alloc, fuses, Step::Ask)?;
     Ok(stage)
 }

@@ -1,6 +1,6 @@
 //! The stores, and what they are told and asked.
 use crate::links::Past;
-use crate::{devices, hostile, links, pages, requests};
+use crate::{devices, hostile, links, own, pages, requests};
 use archive_pages::answer;
 use archive_store::Store;
 use civil_time::Day;
@@ -84,6 +84,8 @@ enum Case {
     Withdrawn,
     Withheld,
     Alone,
+    Apart,
+    Own,
     Texts,
 }
 
@@ -104,16 +106,19 @@ fn tell<S: Alter>(
         Case::Withdrawn => pages::withdrawn(rt, alloc, store),
         Case::Withheld => pages::withheld(rt, alloc, store),
         Case::Alone => pages::alone(rt, alloc, store),
+        Case::Apart => pages::apart(rt, alloc, store),
+        Case::Own => own::own(rt, alloc, store),
         Case::Texts => hostile::texts(rt, alloc, store),
     }
 }
 
-/// What a store is told: a case, or an archive of which all links are followed, whose threads are asked for, whose pages are
-/// made by both threaders, or whose messages refer to each other in a ring.
+/// What a store is told: a case, or an archive of which all links are followed, also by who wrote a withdrawn message, whose
+/// threads are asked for, whose pages are made by both threaders, or whose messages refer to each other in a ring.
 #[derive(Clone, Copy, Debug, PartialEq, Eq)]
 enum Order {
     Case(Case),
     Links,
+    OwnLinks,
     Shown(Past),
     Asking,
     ByBoth,
@@ -141,6 +146,7 @@ fn tell_order<S: Alter>(
     match order {
         Order::Case(case) => tell(rt, alloc, store, case)?,
         Order::Links => links::links(rt, alloc, store)?,
+        Order::OwnLinks => links::own(rt, alloc, store)?,
         Order::Shown(past) => return links::shown(rt, alloc, store, past),
         Order::Asking => links::asking(rt, alloc, store)?,
         Order::ByBoth => links::by_both(rt, alloc, store, nodes)?,
@@ -159,6 +165,8 @@ fn each_request_gets_its_reply(rt: HostRuntime) -> Result<(), Fail> {
         Case::Withdrawn,
         Case::Withheld,
         Case::Alone,
+        Case::Apart,
+        Case::Own,
         Case::Texts,
     ] {
         tell_new(&rt, rt.alloc(), Order::Case(case))?;
@@ -169,6 +177,12 @@ fn each_request_gets_its_reply(rt: HostRuntime) -> Result<(), Fail> {
 #[test]
 fn all_links_lead_to_pages(rt: HostRuntime) -> Result<(), Fail> {
     tell_new(&rt, rt.alloc(), Order::Links)?;
+    Ok(())
+}
+
+#[test]
+fn who_wrote_a_withdrawn_message_finds_its_pages(rt: HostRuntime) -> Result<(), Fail> {
+    tell_new(&rt, rt.alloc(), Order::OwnLinks)?;
     Ok(())
 }
 

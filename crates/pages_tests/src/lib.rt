@@ -19,6 +19,10 @@ mod hostile;
 #[cfg(test)]
 mod links;
 #[cfg(test)]
+mod older;
+#[cfg(test)]
+mod own;
+#[cfg(test)]
 mod pages;
 #[cfg(test)]
 mod peers;

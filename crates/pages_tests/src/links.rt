@@ -14,8 +14,13 @@ use std::process::Abort;
 use std::test::Fail;
 use thread_core::{NodeThreader, PlainThreader, Threader};
 
-/// What each standing may see.
+/// What each standing may see, and that one's own messages may be read.
 const POLICY: &str = "
+[[rule]]
+name = \"mine\"
+effect = \"allow\"
+own = true
+
 [[rule]]
 name = \"withdrawn\"
 effect = \"deny\"
@@ -188,6 +193,34 @@ pub fn links<S: Alter>(rt: &impl Abort, alloc: Global, store: &mut Store<S>) -> 
         let (_told, pages) = walk(rt, alloc, store, &PlainThreader, token)?;
         assert_eq!(rt; pages, count, "{token:?}");
     }
+    Ok(())
+}
+
+/// The token of who wrote the withdrawn message and has no grant, and how many pages there are for them once their address is
+/// said: those of nobody, the message, its thread and its author.
+const AUTHOR: (&str, usize) = ("3333333333333333", 30);
+
+/// Until their address is said, who wrote the withdrawn message is shown what nobody in particular is; then more. All that others
+/// are shown stays as it was, byte for byte.
+pub fn own<S: Alter>(rt: &impl Abort, alloc: Global, store: &mut Store<S>) -> Result<(), Fail> {
+    fill(alloc, store, Past::Withdrawn)?;
+    let (token, count) = AUTHOR;
+    store.person_add("eve", token)?;
+    let mut before = Vec::new(alloc);
+    for (token, _pages) in PAGES {
+        let (told, _pages) = walk(rt, alloc, store, &PlainThreader, token)?;
+        before.push(told)?;
+    }
+    let (to_author, _pages) = walk(rt, alloc, store, &PlainThreader, Some(token))?;
+    let to_nobody = before.first().ok_or("what nobody is shown")?;
+    assert!(rt; to_author.as_slice() == to_nobody.as_slice());
+    store.address_set(alloc, "eve", "Eve@Example.org")?;
+    for ((token, _pages), told) in PAGES.iter().zip(before.iter()) {
+        let (again, _pages) = walk(rt, alloc, store, &PlainThreader, *token)?;
+        assert!(rt; again.as_slice() == told.as_slice(), "{token:?}");
+    }
+    let (_told, pages) = walk(rt, alloc, store, &PlainThreader, Some(token))?;
+    assert_eq!(rt; pages, count);
     Ok(())
 }
 

@@ -11,7 +11,7 @@ use std::process::Abort;
 use std::test::Fail;
 
 /// What the public may not see: a message that was withdrawn.
-const WITHDRAWN: &str = "
+pub const WITHDRAWN: &str = "
 [[rule]]
 name = \"withdrawn\"
 effect = \"deny\"
@@ -39,7 +39,7 @@ const BY_ANNA: &[u8] =
       </body></html>\n";
 
 /// Requests, and the reply to each where all may see both messages.
-static OF_TWO: [(&str, &[u8]); 8] = [
+pub static OF_TWO: [(&str, &[u8]); 8] = [
     (
         "GET /l/soc/threads HTTP/1.1\r\n\r\n",
         b"HTTP/1.1 200 OK\r\nContent-Type: text/html; charset=us-ascii\r\nContent-Length: 703\r\nConnection: close\r\n\r\n\
@@ -97,13 +97,15 @@ static OF_TWO: [(&str, &[u8]); 8] = [
     ),
 ];
 
+/// The request for the first message, and the reply where it is withdrawn and the reader may not see it.
+pub static DENIED: [(&str, &[u8]); 1] = [(
+    "GET /l/soc/m/a9fda901d43094a70ddaab56f97a3ed4ab7d9e3f14e4c1717930bee493395661 HTTP/1.1\r\n\r\n",
+    b"HTTP/1.1 403 Forbidden\r\nContent-Type: text/plain; charset=us-ascii\r\nContent-Length: 25\r\n\
+      Connection: close\r\n\r\n403 Forbidden: withdrawn\n",
+)];
+
 /// Requests, and the reply to each where the public may not see the first message.
-static OF_WITHDRAWN: [(&str, &[u8]); 5] = [
-    (
-        "GET /l/soc/m/a9fda901d43094a70ddaab56f97a3ed4ab7d9e3f14e4c1717930bee493395661 HTTP/1.1\r\n\r\n",
-        b"HTTP/1.1 403 Forbidden\r\nContent-Type: text/plain; charset=us-ascii\r\nContent-Length: 25\r\n\
-          Connection: close\r\n\r\n403 Forbidden: withdrawn\n",
-    ),
+static OF_WITHDRAWN: [(&str, &[u8]); 4] = [
     (
         "GET /l/soc/m/a9fda901d43094a70ddaab56f97a3ed4ab7d9e3f14e4c1717930bee493395661 HTTP/1.1\r\n\
          Authorization: Bearer 0123456789abcdef\r\n\r\n",
@@ -125,7 +127,7 @@ static OF_WITHDRAWN: [(&str, &[u8]); 5] = [
 ];
 
 /// Requests of the public, and the reply to each where it sees the second message alone.
-static OF_SECOND: [(&str, &[u8]); 5] = [
+pub static OF_SECOND: [(&str, &[u8]); 5] = [
     (
         "GET /l/soc/threads HTTP/1.1\r\n\r\n",
         b"HTTP/1.1 200 OK\r\nContent-Type: text/html; charset=us-ascii\r\nContent-Length: 380\r\nConnection: close\r\n\r\n\
@@ -161,8 +163,45 @@ static OF_SECOND: [(&str, &[u8]); 5] = [
     ),
 ];
 
+/// Requests, and the reply to each where threads of one subject are not joined: the second message, which names no other, is a
+/// thread of its own.
+static OF_APART: [(&str, &[u8]); 3] = [
+    (
+        "GET /l/soc/threads HTTP/1.1\r\n\r\n",
+        b"HTTP/1.1 200 OK\r\nContent-Type: text/html; charset=us-ascii\r\nContent-Length: 703\r\nConnection: close\r\n\r\n\
+          <!DOCTYPE html>\n<html><head><title>soc: threads</title></head><body>\n<h1>soc: threads</h1>\n\
+          <div class=\"d0\"><a href=\"/l/soc/month/2003-03\">2003-03-04 10:00</a> \
+          <a href=\"/l/soc/by/anna%40example.org\">anna@example.org</a> \
+          <a href=\"/l/soc/m/a9fda901d43094a70ddaab56f97a3ed4ab7d9e3f14e4c1717930bee493395661\">Hello</a> \
+          <a href=\"/l/soc/t/a9fda901d43094a70ddaab56f97a3ed4ab7d9e3f14e4c1717930bee493395661\">thread</a></div>\n\
+          <div class=\"d0\"><a href=\"/l/soc/month/2003-03\">2003-03-12 10:30</a> (none) \
+          <a href=\"/l/soc/m/d41bdfeadb4b458370ddcfa1a3a8aa91197973a0a547288c06ee2a2ae4dbf327\">Re: Hello</a> \
+          <a href=\"/l/soc/t/d41bdfeadb4b458370ddcfa1a3a8aa91197973a0a547288c06ee2a2ae4dbf327\">thread</a></div>\n\
+          </body></html>\n",
+    ),
+    (
+        "GET /l/soc/t/a9fda901d43094a70ddaab56f97a3ed4ab7d9e3f14e4c1717930bee493395661 HTTP/1.1\r\n\r\n",
+        b"HTTP/1.1 200 OK\r\nContent-Type: text/html; charset=us-ascii\r\nContent-Length: 427\r\nConnection: close\r\n\r\n\
+          <!DOCTYPE html>\n<html><head><title>soc: thread</title></head><body>\n<h1>soc: thread</h1>\n\
+          <div class=\"d0\"><a href=\"/l/soc/month/2003-03\">2003-03-04 10:00</a> \
+          <a href=\"/l/soc/by/anna%40example.org\">anna@example.org</a> \
+          <a href=\"/l/soc/m/a9fda901d43094a70ddaab56f97a3ed4ab7d9e3f14e4c1717930bee493395661\">Hello</a> \
+          <a href=\"/l/soc/t/a9fda901d43094a70ddaab56f97a3ed4ab7d9e3f14e4c1717930bee493395661\">thread</a></div>\n\
+          </body></html>\n",
+    ),
+    (
+        "GET /l/soc/t/d41bdfeadb4b458370ddcfa1a3a8aa91197973a0a547288c06ee2a2ae4dbf327 HTTP/1.1\r\n\r\n",
+        b"HTTP/1.1 200 OK\r\nContent-Type: text/html; charset=us-ascii\r\nContent-Length: 378\r\nConnection: close\r\n\r\n\
+          <!DOCTYPE html>\n<html><head><title>soc: thread</title></head><body>\n<h1>soc: thread</h1>\n\
+          <div class=\"d0\"><a href=\"/l/soc/month/2003-03\">2003-03-12 10:30</a> (none) \
+          <a href=\"/l/soc/m/d41bdfeadb4b458370ddcfa1a3a8aa91197973a0a547288c06ee2a2ae4dbf327\">Re: Hello</a> \
+          <a href=\"/l/soc/t/d41bdfeadb4b458370ddcfa1a3a8aa91197973a0a547288c06ee2a2ae4dbf327\">thread</a></div>\n\
+          </body></html>\n",
+    ),
+];
+
 /// Each request of a table gets its reply.
-fn all_get<S: Alter>(
+pub fn all_get<S: Alter>(
     rt: &impl Abort,
     alloc: Global,
     store: &mut Store<S>,
@@ -184,6 +223,16 @@ pub fn pages<S: Alter>(rt: &impl Abort, alloc: Global, store: &mut Store<S>) -> 
     all_get(rt, alloc, store, &Policy::open(), &OF_TWO)
 }
 
+/// Two messages of one subject: the list's threads are not joined by it, and then they are.
+pub fn apart<S: Alter>(rt: &impl Abort, alloc: Global, store: &mut Store<S>) -> Result<(), Fail> {
+    import(store, alloc, "soc", TWO)?;
+    let policy = Policy::open();
+    store.merge_set("soc", false)?;
+    all_get(rt, alloc, store, &policy, &OF_APART)?;
+    store.merge_set("soc", true)?;
+    all_get(rt, alloc, store, &policy, &OF_TWO)
+}
+
 /// Imports the two messages, and withdraws the first.
 fn withdraw_first<S: Alter>(alloc: Global, store: &mut Store<S>) -> Result<(), Fail> {
     import(store, alloc, "soc", TWO)?;
@@ -201,6 +250,7 @@ pub fn withdrawn<S: Alter>(
     withdraw_first(alloc, store)?;
     store.grant("mo", "soc", Kind::Moderator, today()?, today()?)?;
     let policy = Policy::read(alloc, WITHDRAWN)?;
+    all_get(rt, alloc, store, &policy, &DENIED)?;
     all_get(rt, alloc, store, &policy, &OF_WITHDRAWN)
 }
 

@@ -4,6 +4,7 @@ use Rattle.archive_html.specs.Pages.{author_page, threads_page}
 use Rattle.archive_results.specs.Results.{author_lines, export_text, tree_lines}
 use Rattle.archive_results.specs.Access.{Ask}
 use Rattle.archive_pages.specs.Replies.{mbox_reply, page_reply}
+use Rattle.archive_machine.specs.Questions.{merge_of}
 use Rattle.archive_pages.specs.Answers.{keyed_reply, listed_reply, month_reply, shown_view, thread_reply}
 use Rattle.archive_pages.specs.Serving.{Serves}
 use Rattle.archive_pages.proofs.paths.answer_route.Goals as goal
@@ -28,7 +29,7 @@ pub returns-in-Threads-clause-sent : goal.returns-in-Threads-clause-sent
 returns-in-Threads-clause-sent g c = rw c.in-Threads.is (
     subst
     (λ (q : Ask). Serves g.S.Store c.args.store.now c.answer_threads.new.store
-    (λ a reply. reply ≡ listed_reply a q.list (page_reply (threads_page q.list (tree_lines (shown_view a q)))))
+    (λ a reply. reply ≡ listed_reply a q.list (page_reply (threads_page q.list (tree_lines (merge_of a q.list) (shown_view a q)))))
     (g.W.Sink.told c.args.output.now) (g.W.Sink.told c.answer_threads.new.output) c.answer_threads.result)
     c.ask_of-ask-in-Threads.ensures c.answer_threads.ensures.sent)
 
@@ -36,7 +37,7 @@ pub returns-in-Thread-clause-sent : goal.returns-in-Thread-clause-sent
 returns-in-Thread-clause-sent g c = rw c.in-Thread.is (
     subst
     (λ (q : Ask). Serves g.S.Store c.args.store.now c.answer_thread.new.store
-    (λ a reply. reply ≡ listed_reply a q.list (thread_reply q.list c.in-Thread.key.now (shown_view a q)))
+    (λ a reply. reply ≡ listed_reply a q.list (thread_reply (merge_of a q.list) q.list c.in-Thread.key.now (shown_view a q)))
     (g.W.Sink.told c.args.output.now) (g.W.Sink.told c.answer_thread.new.output) c.answer_thread.result)
     c.ask_of-ask-in-Thread.ensures c.answer_thread.ensures.sent)
 

@@ -42,13 +42,20 @@ returns-in-NoPerson-clause-sent g c =
 
 pub returns-in-Memory-clause-sent : goal.returns-in-Memory-clause-sent
 returns-in-Memory-clause-sent g c =
+    exported_broken g.S.Store c.args.store.now c.export_after.new.store c.args.ask.now (g.W.Sink.told c.args.output.now) (g.W.Sink.told c.export_after.new.out)
+    c.in-Err.stop c.in-Err.ensures.exported c.in-Err.ensures.part c.in-Err.ensures.begun (omega (arith, c.if-written-gt0-2.true)) (c.in-Err.ensures.out_open (omega (arith, c.if-written-gt0-2.true)))
+
+pub returns-in-Memory-2-clause-sent : goal.returns-in-Memory-2-clause-sent
+returns-in-Memory-2-clause-sent g c =
     let before = g.W.Sink.told c.args.output.now in
     let middle = g.W.Sink.told c.export_after.new.out in
-    exported_none g.S.Store c.args.store.now c.export_after.new.store c.args.ask.now before (g.W.Sink.told c.write_failure-in-Memory.new.output) c.in-Err.stop middle
-    c.write_failure-in-Memory.result c.in-Err.ensures.exported
+    exported_none g.S.Store c.args.store.now c.export_after.new.store c.args.ask.now before (g.W.Sink.told c.write_failure-in-Memory-2.new.output) c.in-Err.stop middle
+    c.write_failure-in-Memory-2.result c.in-Err.ensures.exported
+    (none_out before middle c.in-Err.stop.written
     (cause_at before middle (g.W.Sink.failures c.args.output.now) (g.W.Sink.failures c.export_after.new.out) c.in-Err.stop.written c.in-Err.stop.fault Memory
-    c.in-Memory.is c.in-Err.ensures.cause).1
-    c.write_failure-in-Memory.ensures.sent
+    c.in-Memory-2.is c.in-Err.ensures.cause).1
+    (λ some. omega (arith, c.if-written-gt0-2.false, some)))
+    c.write_failure-in-Memory-2.ensures.sent
 
 pub returns-in-NoList-clause-sent : goal.returns-in-NoList-clause-sent
 returns-in-NoList-clause-sent g c =

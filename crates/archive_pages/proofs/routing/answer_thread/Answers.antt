@@ -1,4 +1,5 @@
 use Rattle.std.proofs.Common.{◌≡◌}
+use Rattle.archive_machine.specs.Questions.{merge_of}
 use Rattle.archive_pages.specs.Answers.{listed_reply, shown_view, thread_reply}
 use Rattle.archive_pages.specs.Seen.{reply_made}
 use Rattle.archive_pages.proofs.ServingLemmas.{serves_either}
@@ -8,5 +9,5 @@ pub returns-clause-sent : goal.returns-clause-sent
 returns-clause-sent g c =
     serves_either g.S.Store (g.W.Sink.told c.args.output.now) (g.W.Sink.told c.write_found.new.output) c.write_found.result
     c.args.store.now c.find_thread-found.new.store c.find_thread-found.result reply_made
-    (λ a reply. reply_made reply ≡ listed_reply a c.args.ask.now.list (thread_reply c.args.ask.now.list c.args.key.now (shown_view a c.args.ask.now)))
-    (λ a reply. reply ≡ listed_reply a c.args.ask.now.list (thread_reply c.args.ask.now.list c.args.key.now (shown_view a c.args.ask.now))) c.find_thread-found.ensures (λ a x is. is) c.write_found.ensures.sent
+    (λ a reply. reply_made reply ≡ listed_reply a c.args.ask.now.list (thread_reply (merge_of a c.args.ask.now.list) c.args.ask.now.list c.args.key.now (shown_view a c.args.ask.now)))
+    (λ a reply. reply ≡ listed_reply a c.args.ask.now.list (thread_reply (merge_of a c.args.ask.now.list) c.args.ask.now.list c.args.key.now (shown_view a c.args.ask.now))) c.find_thread-found.ensures (λ a x is. is) c.write_found.ensures.sent
