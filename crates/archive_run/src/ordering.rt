@@ -66,8 +66,10 @@ pub(crate) fn run_import<S: Alter, D: Databases<Store<S>>, F: OpenFiles, W: Sink
         (sent (W.told output.old) (W.failures output.old)) (sent (W.told output.new) (W.failures output.new))
         F.inputs F.Input.told F.Input.ends F.Input.failures files.now order.now refusal) }
 {
-    let report = work_import(alloc, databases, files, order)?;
-    send_report(alloc, output, report)
+    match work_import(alloc, databases, files, order) {
+        Ok(report) => send_report(alloc, output, report),
+        Err(refusal) => Err(refusal),
+    }
 }
 
 /// Writes how many messages an import took in (F2). F5: there was no memory for the line.

@@ -56,6 +56,7 @@ impl<'a> SiftWords<'a> {
             arrival_day: item.envelope.arrival.day(),
             withdrawn: Withdrawn::No,
             embargo_until: None,
+            own: false,
         };
         if let Some(least) = self.min_age {
             if facts.age() < i64::from(least) {

@@ -31,7 +31,7 @@ pub(crate) fn work_table<S: Alter, D: Databases<Store<S>>>(
         ⊎ Works D.opens D.closes databases.old databases.new order.now.file (λ o c. Carries S.Store o c order.now.command (Err fault))) }
 {
     let mut store = databases.open(alloc, order.file)?;
-    let answer = carry_out(&mut store, &order.command);
+    let answer = carry_out(&mut store, alloc, &order.command);
     databases.close(store);
     answer
 }

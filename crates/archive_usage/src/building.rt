@@ -2,7 +2,7 @@
 ghost use Rattle.std.specs.Prelude.{◌≡◌, false, IfOk};
 ghost use Rattle.clap.specs.Words.{App, app_of, new_app, rule_of, with_rule, with_subcommand};
 ghost use Rattle.clap.specs.declared.builder.Command.TheViews.{out-Command};
-ghost use Rattle.archive_usage.specs.Program.{IsCommand, with_word, option_rule, needed_rule, word_rule, table_app, message_app, grant_of_app, dated_app, sift_app, list_add_app, person_add_app, grant_app, revoke_app, import_app, withdraw_app, restore_app, embargo_app, lift_app, ruled_app, ask_app, get_app, export_app, check_app, serve_app, versioned, bare_app, person_app, mail_app, archive_app, app_named};
+ghost use Rattle.archive_usage.specs.Program.{IsCommand, with_word, option_rule, needed_rule, word_rule, table_app, message_app, grant_of_app, dated_app, sift_app, list_add_app, merge_app, person_add_app, person_address_app, grant_app, revoke_app, import_app, withdraw_app, restore_app, embargo_app, lift_app, ruled_app, ask_app, get_app, export_app, check_app, serve_app, versioned, bare_app, list_app, person_app, mail_app, archive_app, app_named};
 
 use crate::help;
 use clap::{Arg, Command};
@@ -174,6 +174,15 @@ fn list_add_command<'a>(alloc: Global) -> Result<Command<'a>, AllocError>
     with_word(alloc, command, "name", "NAME", help::NAME)
 }
 
+#[tactic(auto, unfolding(crate::specs::Program::merge_app))]
+fn merge_command<'a>(alloc: Global) -> Result<Command<'a>, AllocError>
+    ensures { IfOk result (IsCommand merge_app) }
+{
+    let command = table_command(alloc, "merge", help::MERGE, help::MERGE_END)?;
+    let listed = with_word(alloc, command, "list", "LIST", help::LIST)?;
+    with_word(alloc, listed, "merge", "MERGE", help::MERGED)
+}
+
 #[tactic(auto, unfolding(crate::specs::Program::person_add_app))]
 fn person_add_command<'a>(alloc: Global) -> Result<Command<'a>, AllocError>
     ensures { IfOk result (IsCommand person_add_app) }
@@ -181,6 +190,20 @@ fn person_add_command<'a>(alloc: Global) -> Result<Command<'a>, AllocError>
     let command = table_command(alloc, "person-add", help::PERSON_ADD, help::PERSON_ADD_END)?;
     let named = with_word(alloc, command, "name", "NAME", help::NAME)?;
     with_word(alloc, named, "token", "TOKEN", help::TOKEN)
+}
+
+#[tactic(auto, unfolding(crate::specs::Program::person_address_app))]
+fn person_address_command<'a>(alloc: Global) -> Result<Command<'a>, AllocError>
+    ensures { IfOk result (IsCommand person_address_app) }
+{
+    let command = table_command(
+        alloc,
+        "person-address",
+        help::PERSON_ADDRESS,
+        help::PERSON_ADDRESS_END,
+    )?;
+    let named = with_word(alloc, command, "person", "PERSON", help::PERSON)?;
+    with_word(alloc, named, "address", "ADDRESS", help::ADDRESS)
 }
 
 #[tactic(auto, unfolding(crate::specs::Program::grant_app))]
@@ -335,15 +358,24 @@ fn bare_program<'a>(alloc: Global) -> Result<Command<'a>, AllocError>
     named(versioned(command), "archive")
 }
 
-/// The program with `sift` and the commands on lists and persons.
+/// The program with `sift` and the commands on lists.
+#[tactic(auto, unfolding(crate::specs::Program::list_app))]
+fn list_program<'a>(alloc: Global) -> Result<Command<'a>, AllocError>
+    ensures { IfOk result (IsCommand list_app) }
+{
+    let sifting = with_command(bare_program(alloc)?, sift_command(alloc)?)?;
+    let listing = with_command(sifting, list_add_command(alloc)?)?;
+    with_command(listing, merge_command(alloc)?)
+}
+
+/// The same, with the commands on persons.
 #[tactic(auto, unfolding(crate::specs::Program::person_app))]
 fn person_program<'a>(alloc: Global) -> Result<Command<'a>, AllocError>
     ensures { IfOk result (IsCommand person_app) }
 {
-    let sifting = with_command(bare_program(alloc)?, sift_command(alloc)?)?;
-    let listing = with_command(sifting, list_add_command(alloc)?)?;
-    let naming = with_command(listing, person_add_command(alloc)?)?;
-    let granting = with_command(naming, grant_command(alloc)?)?;
+    let naming = with_command(list_program(alloc)?, person_add_command(alloc)?)?;
+    let addressing = with_command(naming, person_address_command(alloc)?)?;
+    let granting = with_command(addressing, grant_command(alloc)?)?;
     with_command(granting, revoke_command(alloc)?)
 }
 
@@ -378,7 +410,9 @@ pub fn command_named<'a>(alloc: Global, name: &str) -> Result<Command<'a>, Alloc
     match name {
         "sift" => named(sift_command(alloc)?, "archive sift"),
         "list-add" => named(list_add_command(alloc)?, "archive list-add"),
+        "merge" => named(merge_command(alloc)?, "archive merge"),
         "person-add" => named(person_add_command(alloc)?, "archive person-add"),
+        "person-address" => named(person_address_command(alloc)?, "archive person-address"),
         "grant" => named(grant_command(alloc)?, "archive grant"),
         "revoke" => named(revoke_command(alloc)?, "archive revoke"),
         "import" => named(import_command(alloc)?, "archive import"),

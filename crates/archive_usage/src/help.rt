@@ -42,6 +42,21 @@ Refusals: E1 NAME is no name, E3 the list is there, E14 no memory, E15 the datab
 
 Example: archive list-add --db archive.db soc";
 
+pub const MERGE: &str = "Say whether a list's threads are joined by their subject";
+
+pub const MERGE_END: &str = "\
+Reads FILE, and makes it where it is empty or not there.
+
+Prints `merge on` or `merge off`. With `yes`, as every list begins, threads of one
+subject are one thread, though nothing in them refers to the others (step 5 of
+RFC 5256, THREAD=REFERENCES). With `no` messages stand together only where their
+References or In-Reply-To say so. No message changes, and it can be said anew.
+
+Status: 0 done; 1 refused, with one line on standard error; 2 bad words.
+Refusals: E4 no list, E14 no memory, E15 the database.
+
+Example: archive merge --db archive.db minutes no";
+
 pub const PERSON_ADD: &str = "Add a person, with the token by which requests show who asks";
 
 pub const PERSON_ADD_END: &str = "\
@@ -55,6 +70,21 @@ Refusals: E1 NAME is no name, E2 TOKEN is no token, E5 the person is there,
 E7 the token is another's, E14 no memory, E15 the database.
 
 Example: archive person-add --db archive.db anna 5fW2xkQ0aTz7uYp1";
+
+pub const PERSON_ADDRESS: &str = "Say by which address a person's own messages are known";
+
+pub const PERSON_ADDRESS_END: &str = "\
+Reads FILE, and makes it where it is empty or not there.
+
+Prints `address set`. An earlier address is replaced. A message is the person's own
+where its author is this address, upper and lower case alike; what that lets them
+read is the policy's to say, by the key `own`. Nobody proves that the address is
+theirs: it is for FILE's owner to know.
+
+Status: 0 done; 1 refused, with one line on standard error; 2 bad words.
+Refusals: E6 no person, E2 ADDRESS is no address, E14 no memory, E15 the database.
+
+Example: archive person-address --db archive.db anna anna@example.org";
 
 pub const GRANT: &str = "Make a person a member, subscriber or moderator of a list";
 
@@ -89,7 +119,7 @@ FILE is opened first, and made where it is empty or not there; then MBOX is
 opened, and read piece by piece.
 
 Prints `new N known N too-large N`: how many messages were taken in, how many the
-list held already and keeps as they were, and how many have more than 4194304
+list held already and keeps as they were, and how many have more than 16777216
 bytes and were left out.
 
 Status: 0 done; 1 refused, with one line on standard error; 2 bad words.
@@ -246,7 +276,11 @@ pub const TOKEN: &str = "A token (RFC 6750): 16 to 64 bytes, letters, digits or 
 
 pub const PERSON: &str = "The person's name";
 
+pub const ADDRESS: &str = "An address: 1 to 254 bytes, each visible ASCII";
+
 pub const LIST: &str = "The list's name";
+
+pub const MERGED: &str = "yes or no";
 
 pub const MBOX: &str = "The file with the messages, an mbox (RFC 4155)";
 

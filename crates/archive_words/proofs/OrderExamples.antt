@@ -8,7 +8,7 @@ use Rattle.archive_usage.proofs.OnLiterals.{archive_on_literals}
 use Rattle.archive_words.specs.declared.commands.GrantKind.TheVariants as kind
 use Rattle.archive_words.specs.declared.commands.WithdrawnBy.TheVariants as party
 use Rattle.archive_words.specs.declared.orders.Order.TheVariants.{Sift, Table, Import, Get, Export, Check, Serve}
-use Rattle.archive_words.specs.Values.{list_add, person_add, grant, revoke, withdraw, restore, embargo, lift}
+use Rattle.archive_words.specs.Values.{list_add, merge, person_add, person_address, grant, revoke, withdraw, restore, embargo, lift}
 use Rattle.archive_words.specs.Program.{archive_app}
 use Rattle.archive_words.specs.Orders.{ordered, number_up_to, age_of_text}
 
@@ -41,10 +41,25 @@ adds_list : ordered (codes "list-add" ∷ codes "--db" ∷ codes "f" ∷ codes "
 unfolding archive_on_literals
 adds_list = refl
 
+joins_by_subject : ordered (codes "merge" ∷ codes "--db" ∷ codes "f" ∷ codes "soc" ∷ codes "yes" ∷ [])
+    ≡ Some (Table (record { file = codes "f"; command = merge (codes "soc") true }))
+unfolding archive_on_literals
+joins_by_subject = refl
+
+joins_no_more : ordered (codes "merge" ∷ codes "soc" ∷ codes "no" ∷ codes "--db=f" ∷ [])
+    ≡ Some (Table (record { file = codes "f"; command = merge (codes "soc") false }))
+unfolding archive_on_literals
+joins_no_more = refl
+
 adds_person : ordered (codes "person-add" ∷ codes "--db" ∷ codes "f" ∷ codes "anna" ∷ codes "t" ∷ [])
     ≡ Some (Table (record { file = codes "f"; command = person_add (codes "anna") (codes "t") }))
 unfolding archive_on_literals
 adds_person = refl
+
+sets_address : ordered (codes "person-address" ∷ codes "--db" ∷ codes "f" ∷ codes "anna" ∷ codes "Anna@Example.org" ∷ [])
+    ≡ Some (Table (record { file = codes "f"; command = person_address (codes "anna") (codes "Anna@Example.org") }))
+unfolding archive_on_literals
+sets_address = refl
 
 grants : ordered (codes "grant" ∷ codes "anna" ∷ codes "soc" ∷ codes "member" ∷ codes "2003-03-20" ∷ codes "2003-03-21" ∷ codes "--db=f" ∷ [])
     ≡ Some (Table (record { file = codes "f"; command = grant (codes "anna") (codes "soc") kind.Member (pos 12131) (pos 12132) }))
@@ -160,6 +175,11 @@ no_party : ordered (codes "withdraw" ∷ codes "--db" ∷ codes "f" ∷ codes "s
 unfolding archive_on_literals
 no_party = refl
 
+no_yes_and_no_no : ordered (codes "merge" ∷ codes "--db" ∷ codes "f" ∷ codes "soc" ∷ codes "Yes" ∷ [])
+    ≡ None
+unfolding archive_on_literals
+no_yes_and_no_no = refl
+
 port_too_great : ordered (codes "serve" ∷ codes "--db" ∷ codes "f" ∷ codes "--policy" ∷ codes "p" ∷ codes "--port" ∷ codes "65536" ∷ codes "--count" ∷ codes "1" ∷ [])
     ≡ None
 unfolding archive_on_literals number_up_to
@@ -180,6 +200,12 @@ any_name : ordered (codes "list-add" ∷ codes "--db" ∷ codes "f" ∷ codes "S
     ≡ Some (Table (record { file = codes "f"; command = list_add (codes "S/1") }))
 unfolding archive_on_literals
 any_name = refl
+
+-- whether an address is one is asked of the archive, after the person
+any_address : ordered (codes "person-address" ∷ codes "--db" ∷ codes "f" ∷ codes "anna" ∷ [] ∷ [])
+    ≡ Some (Table (record { file = codes "f"; command = person_address (codes "anna") [] }))
+unfolding archive_on_literals
+any_address = refl
 
 -- ---- numbers
 
@@ -216,6 +242,14 @@ without_file = refl
 checks_no_list : fault_of archive_app (codes "check" ∷ codes "--db" ∷ codes "f" ∷ codes "soc" ∷ []) ≡ error.UnknownArgument ∷ []
 unfolding archive_on_literals
 checks_no_list = refl
+
+without_merge : fault_of archive_app (codes "merge" ∷ codes "--db" ∷ codes "f" ∷ codes "soc" ∷ []) ≡ error.MissingRequiredArgument ∷ []
+unfolding archive_on_literals
+without_merge = refl
+
+two_addresses : fault_of archive_app (codes "person-address" ∷ codes "--db" ∷ codes "f" ∷ codes "anna" ∷ codes "a" ∷ codes "b" ∷ []) ≡ error.UnknownArgument ∷ []
+unfolding archive_on_literals
+two_addresses = refl
 
 without_key : fault_of archive_app (codes "lift" ∷ codes "--db" ∷ codes "f" ∷ codes "soc" ∷ []) ≡ error.MissingRequiredArgument ∷ []
 unfolding archive_on_literals

@@ -16,15 +16,24 @@ pub enum WithdrawnBy {
     Board,
 }
 
-/// A command with its values. Names, tokens and keys are as they were given.
+/// A command with its values. Names, tokens, addresses and keys are as they were given.
 #[derive(Debug, Clone, Copy)]
 pub enum TableCommand<'a> {
     ListAdd {
         name: &'a str,
     },
+    /// Whether the threads of a list are joined by subject.
+    Merge {
+        list: &'a str,
+        merged: bool,
+    },
     PersonAdd {
         name: &'a str,
         token: &'a str,
+    },
+    PersonAddress {
+        person: &'a str,
+        address: &'a str,
     },
     Grant {
         person: &'a str,

@@ -2,12 +2,12 @@
 ghost use Rattle.std.specs.Prelude.{◌≡◌, Some, None, MatchResult, codes};
 ghost use Rattle.clap.specs.Words.{found_of, rows_of};
 ghost use Rattle.archive_words.specs.Values.{command_of};
-ghost use Rattle.archive_words.specs.Orders.{list_add_of, person_add_of, grant_of, revoke_of, withdraw_of, restore_of, embargo_of, lift_of, command_named, tables_of};
+ghost use Rattle.archive_words.specs.Orders.{list_add_of, merge_of, person_add_of, person_address_of, grant_of, revoke_of, withdraw_of, restore_of, embargo_of, lift_of, command_named, tables_of};
 
 use crate::commands::TableCommand;
 use crate::orders::TableOrder;
 use crate::stops::BadValue;
-use crate::values::{day_of, kind_of_grant, needed, party_of_withdrawal};
+use crate::values::{day_of, is_merged, kind_of_grant, needed, party_of_withdrawal};
 use clap::ArgMatches;
 
 fn list_add<'a>(inner: &ArgMatches<'a>) -> Result<TableCommand<'a>, BadValue<'a>>
@@ -19,6 +19,16 @@ fn list_add<'a>(inner: &ArgMatches<'a>) -> Result<TableCommand<'a>, BadValue<'a>
     Ok(TableCommand::ListAdd { name })
 }
 
+fn merge<'a>(inner: &ArgMatches<'a>) -> Result<TableCommand<'a>, BadValue<'a>>
+    ensures { MatchResult result
+        (λ command. merge_of (rows_of (found_of inner.now)) ≡ Some (command_of command))
+        (λ _. merge_of (rows_of (found_of inner.now)) ≡ None) }
+{
+    let list = needed(inner, "list")?;
+    let merged = is_merged(inner)?;
+    Ok(TableCommand::Merge { list, merged })
+}
+
 fn person_add<'a>(inner: &ArgMatches<'a>) -> Result<TableCommand<'a>, BadValue<'a>>
     ensures { MatchResult result
         (λ command. person_add_of (rows_of (found_of inner.now)) ≡ Some (command_of command))
@@ -27,6 +37,16 @@ fn person_add<'a>(inner: &ArgMatches<'a>) -> Result<TableCommand<'a>, BadValue<'
     let name = needed(inner, "name")?;
     let token = needed(inner, "token")?;
     Ok(TableCommand::PersonAdd { name, token })
+}
+
+fn person_address<'a>(inner: &ArgMatches<'a>) -> Result<TableCommand<'a>, BadValue<'a>>
+    ensures { MatchResult result
+        (λ command. person_address_of (rows_of (found_of inner.now)) ≡ Some (command_of command))
+        (λ _. person_address_of (rows_of (found_of inner.now)) ≡ None) }
+{
+    let person = needed(inner, "person")?;
+    let address = needed(inner, "address")?;
+    Ok(TableCommand::PersonAddress { person, address })
 }
 
 fn grant<'a>(inner: &ArgMatches<'a>) -> Result<TableCommand<'a>, BadValue<'a>>
@@ -112,7 +132,9 @@ fn table_command<'a>(
 {
     match name {
         "list-add" => list_add(inner),
+        "merge" => merge(inner),
         "person-add" => person_add(inner),
+        "person-address" => person_address(inner),
         "grant" => grant(inner),
         "revoke" => revoke(inner),
         "withdraw" => withdraw(inner),

@@ -2,7 +2,7 @@
 ghost use Rattle.std.specs.Prelude.{◌≡◌, ◌≤◌, Some, None, IfSome, MatchResult, option_map, codes};
 ghost use Rattle.clap.specs.Words.{found_of, rows_of, first_of};
 ghost use Rattle.civil_time.specs.Calendar.{day_of_text};
-ghost use Rattle.archive_words.specs.Orders.{is_decimal, number_up_to, age_of_text, port_of_text, count_of_text, kind_named, party_named, given, list_of, standing_of, read_in};
+ghost use Rattle.archive_words.specs.Orders.{is_decimal, number_up_to, age_of_text, port_of_text, count_of_text, kind_named, party_named, yes_or_no, given, list_of, standing_of, read_in};
 
 use crate::commands::{GrantKind, WithdrawnBy};
 use crate::stops::BadValue;
@@ -210,6 +210,34 @@ pub(crate) fn party_of_withdrawal<'a>(inner: &ArgMatches<'a>) -> Result<Withdraw
             option: "<BY>",
             text,
             wanted: "a message is withdrawn by author or board",
+        }),
+    }
+}
+
+/// What `yes` and `no` mean.
+fn read_yes_or_no(word: &str) -> Option<bool>
+    ensures { result ≡ yes_or_no word.now }
+{
+    match word {
+        "yes" => Some(true),
+        "no" => Some(false),
+        _ => None,
+    }
+}
+
+/// The argument MERGE.
+pub(crate) fn is_merged<'a>(inner: &ArgMatches<'a>) -> Result<bool, BadValue<'a>>
+    ensures { MatchResult result
+        (λ merged. read_in yes_or_no (codes "merge") (rows_of (found_of inner.now)) ≡ Some merged)
+        (λ _. read_in yes_or_no (codes "merge") (rows_of (found_of inner.now)) ≡ None) }
+{
+    let text = needed(inner, "merge")?;
+    match read_yes_or_no(text) {
+        Some(merged) => Ok(merged),
+        None => Err(BadValue {
+            option: "<MERGE>",
+            text,
+            wanted: "merge is yes or no",
         }),
     }
 }

@@ -6,6 +6,7 @@ use Rattle.policy_core.specs.Names.{is_name}
 use Rattle.archive_machine.specs.Records.{Archive}
 use Rattle.archive_machine.specs.Commands as machine
 use Rattle.archive_machine.specs.Commands.{Reply, done, was_there, refused, no_message}
+use Rattle.archive_machine.specs.Addresses.{is_address}
 use Rattle.archive_machine.specs.Keys.{is_key}
 use Rattle.archive_machine.specs.Questions.{has_list, has_person, has_token, has_grant, message_of, has_message, is_withdrawn, is_embargoed}
 use Rattle.archive_machine.specs.Tokens.{is_token}
@@ -21,7 +22,7 @@ use Rattle.archive_store.specs.declared.faults.StoreFault.{StoreFault}
 use Rattle.archive_store.specs.declared.faults.StoreFault.TheVariants.{NoMessage}
 use Rattle.archive_store.proofs.Joins.{stepped as store_stepped, step_failed, stays_there, goes_as, calls_refused, calls_failed}
 use Rattle.archive_store.proofs.RightLemmas.{step_right}
-use Rattle.archive_words.specs.Values.{TableCommand, list_add, person_add, grant, revoke, withdraw, restore, embargo, lift}
+use Rattle.archive_words.specs.Values.{TableCommand, list_add, merge, person_add, person_address, grant, revoke, withdraw, restore, embargo, lift}
 use Rattle.archive_work.specs.Commands.{answer_to, stepped, keyed, done_by, whether_by, rank_named, party_named}
 use Rattle.archive_work.specs.Working.{Carries}
 use Rattle.archive_work.specs.declared.commands.Answer.{Answer}
@@ -59,8 +60,10 @@ on_whether a b one two t u was = stays_if a _ _ t (stays_refused a one) (stays_i
 
 pub refusal_stays : (a : Archive) (command : TableCommand) → Stays a (stepped a command)
 refusal_stays a (list_add name) = on_two a _ _ _ (not (is_name name)) (has_list a name)
+refusal_stays a (merge list merged) = stays_if a _ _ (not (has_list a list)) (stays_refused a _) (stays_done a _)
 refusal_stays a (person_add name token) =
     stays_if a _ _ (not (is_name name)) (stays_refused a _) (on_one a _ _ _ _ (not (is_token token)) (has_person a name) (has_token a token))
+refusal_stays a (person_address person address) = on_two a _ _ _ (not (has_person a person)) (not (is_address address))
 refusal_stays a (grant person list kind from until) = on_one a _ _ _ _ (not (has_person a person)) (not (has_list a list)) (int_lt until from)
 refusal_stays a (revoke person list kind) =
     on_whether a _ _ _ (not (has_person a person)) (not (has_list a list)) (has_grant a person list (rank_named kind))
@@ -87,7 +90,9 @@ keyed_right key command a right = by_test (is_key key)
 
 stepped_right : (command : TableCommand) (a : Archive) → IsFiledRight a → IsFiledRight (stepped a command).0
 stepped_right (list_add name) a right = step_right (machine.list_add name) a right
+stepped_right (merge list merged) a right = step_right (machine.merge_set list merged) a right
 stepped_right (person_add name token) a right = step_right (machine.person_add name token) a right
+stepped_right (person_address person address) a right = step_right (machine.address_set person address) a right
 stepped_right (grant person list kind from until) a right = step_right (machine.grant person list (rank_named kind) from until) a right
 stepped_right (revoke person list kind) a right = step_right (machine.revoke person list (rank_named kind)) a right
 stepped_right (withdraw list key by) a right = keyed_right key (machine.withdraw list key (party_named by)) a right

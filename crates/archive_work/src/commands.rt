@@ -9,12 +9,16 @@ use archive_store::{Key, Kind, Party, Store, StoreFault};
 use archive_words::{GrantKind, TableCommand, WithdrawnBy};
 use civil_time::Day;
 use sqlite::Alter;
+use std::alloc::Global;
 
 /// The word that answers a command.
 #[derive(Clone, Copy, Debug, PartialEq, Eq)]
 pub enum Answer {
     /// A list or a person was added.
     Added,
+    /// Whether threads of one subject are joined from now on.
+    Merging(bool),
+    AddressSet,
     Granted,
     Revoked,
     /// There was no grant to revoke.
@@ -36,6 +40,9 @@ impl Answer {
     {
         match self {
             Answer::Added => "added\n",
+            Answer::Merging(true) => "merge on\n",
+            Answer::Merging(false) => "merge off\n",
+            Answer::AddressSet => "address set\n",
             Answer::Granted => "granted\n",
             Answer::Revoked => "revoked\n",
             Answer::NoGrant => "no grant\n",
@@ -52,14 +59,24 @@ impl Answer {
 /// before anything else.
 pub fn carry_out<S: Alter>(
     store: &mut Store<S>,
+    alloc: Global,
     command: &TableCommand<'_>,
 ) -> Result<Answer, StoreFault>
     ensures carried { Carries S.Store store.old store.new (command_of command.now) result }
 {
     match command {
         TableCommand::ListAdd { name } => says(store.list_add(name), Answer::Added),
+        TableCommand::Merge { list, merged } => {
+            says(store.merge_set(list, *merged), Answer::Merging(*merged))
+        }
         TableCommand::PersonAdd { name, token } => {
             says(store.person_add(name, token), Answer::Added)
+        }
+        TableCommand::PersonAddress { person, address } => {
+            says(
+                store.address_set(alloc, person, address),
+                Answer::AddressSet,
+            )
         }
         TableCommand::Grant {
             person,

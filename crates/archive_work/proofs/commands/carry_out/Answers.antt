@@ -2,9 +2,9 @@ use Rattle.std.proofs.Common.{refl, sym, subst}
 use Rattle.archive_machine.specs.Machine.{granted, revoked}
 use Rattle.archive_store.specs.Held.{held_of}
 use Rattle.archive_store.specs.Replies.{Does, says_done, says_whether}
-use Rattle.archive_words.specs.Values.{command_of, list_add, person_add, grant, revoke}
+use Rattle.archive_words.specs.Values.{command_of, list_add, merge, person_add, person_address, grant, revoke}
 use Rattle.archive_work.specs.Working.{Carries}
-use Rattle.archive_work.specs.declared.commands.Answer.TheVariants.{Added, Granted, Revoked, NoGrant}
+use Rattle.archive_work.specs.declared.commands.Answer.TheVariants.{Added, Merging, AddressSet, Granted, Revoked, NoGrant}
 use Rattle.archive_work.proofs.CarryLemmas.{carries_done, carries_whether}
 use Rattle.archive_work.proofs.commands.carry_out.Goals as goal
 
@@ -19,6 +19,18 @@ returns-in-ListAdd g c =
           (carries_done g.S.Store old new words c.list_add.ensures.lasts Added c.list_add.result refl c.list_add.ensures.step));
     }
 
+pub returns-in-Merge : goal.returns-in-Merge
+returns-in-Merge g c =
+    let old = c.args.store.now in
+    let new = c.merge_set.new.self in
+    let arm = c.in-Merge in
+    let words = merge arm.list.now arm.merged in
+    record {
+      carried = subst (λ m. Carries g.S.Store old new (command_of m) c.says-in-Merge.result) (sym arm.is)
+          (subst (λ r. Carries g.S.Store old new words r) (sym c.says-in-Merge.ensures)
+          (carries_done g.S.Store old new words c.merge_set.ensures.lasts (Merging arm.merged) c.merge_set.result refl c.merge_set.ensures.step));
+    }
+
 pub returns-in-PersonAdd : goal.returns-in-PersonAdd
 returns-in-PersonAdd g c =
     let old = c.args.store.now in
@@ -28,6 +40,17 @@ returns-in-PersonAdd g c =
       carried = subst (λ m. Carries g.S.Store old new (command_of m) c.says-in-PersonAdd.result) (sym c.in-PersonAdd.is)
           (subst (λ r. Carries g.S.Store old new words r) (sym c.says-in-PersonAdd.ensures)
           (carries_done g.S.Store old new words c.person_add.ensures.lasts Added c.person_add.result refl c.person_add.ensures.step));
+    }
+
+pub returns-in-PersonAddress : goal.returns-in-PersonAddress
+returns-in-PersonAddress g c =
+    let old = c.args.store.now in
+    let new = c.address_set.new.self in
+    let words = person_address c.in-PersonAddress.person.now c.in-PersonAddress.address.now in
+    record {
+      carried = subst (λ m. Carries g.S.Store old new (command_of m) c.says-in-PersonAddress.result) (sym c.in-PersonAddress.is)
+          (subst (λ r. Carries g.S.Store old new words r) (sym c.says-in-PersonAddress.ensures)
+          (carries_done g.S.Store old new words c.address_set.ensures.lasts AddressSet c.address_set.result refl c.address_set.ensures.step));
     }
 
 pub returns-in-Grant : goal.returns-in-Grant
