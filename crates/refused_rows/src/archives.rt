@@ -1,5 +1,5 @@
 //! Calls on an archive in memory.
-use crate::texts::{TWO, WITHDRAWN};
+use crate::texts::{MINE, TWO, WITHDRAWN};
 use crate::{Mark, said, tell};
 use anyhow::bail;
 use archive_desk::{DeskFault, export, import, message};
@@ -118,6 +118,29 @@ fn export_to<S: Alter>(
     Ok(())
 }
 
+/// The two messages are exported to who wrote the first, which is withdrawn.
+fn own_row<S: Alter>(rt: &HostRuntime, store: &mut Store<S>, day: Day) -> anyhow::Result<()> {
+    let alloc = rt.alloc();
+    let Some(one) = cut(TWO)?.next() else {
+        bail!("no message");
+    };
+    let one = Key::of(&one);
+    store.person_add("anna", "0123456789abcdef")?;
+    store.address_set(alloc, "anna", "Anna@Example.org")?;
+    store.withdraw("soc", &one, Party::Board)?;
+    let rules = format!(in alloc; "{MINE}{WITHDRAWN}")?;
+    let policy = Policy::read(alloc, &rules)?;
+    let ask = Ask {
+        policy: &policy,
+        reader: Reader::Person("anna"),
+        list: "soc",
+        day,
+    };
+    export_to(rt, store, &ask, 1000)?;
+    store.restore("soc", &one)?;
+    Ok(())
+}
+
 /// What a request is answered with.
 fn reply<S: Alter>(
     rt: &HostRuntime,
@@ -187,6 +210,7 @@ fn rows_of<S: Alter>(rt: &HostRuntime, store: &mut Store<S>) -> anyhow::Result<(
     message_rows(rt, store, &ask)?;
     export_to(rt, store, &ask, 10)?;
     export_to(rt, store, &ask, 1000)?;
+    own_row(rt, store, day)?;
     let nodes = NodeThreader::new(RandomState::new(rt)?);
     reply_row(rt, store, &nodes, day, ALL_LISTS)?;
     reply_row(rt, store, &nodes, day, ALL_THREADS)?;

@@ -21,6 +21,9 @@ pub const WITHDRAWN: &str =
     "[[rule]]\nname = \"withdrawn\"\neffect = \"deny\"\nstandings = [\"public\"]\nwithdrawn = [\"author\", \"board\"]\n\n\
      [[rule]]\nname = \"all\"\neffect = \"allow\"\n";
 
+/// The rule by which one's own messages may be read.
+pub const MINE: &str = "[[rule]]\nname = \"mine\"\neffect = \"allow\"\nown = true\n\n";
+
 /// Passes the two messages on: whether all of it went out.
 fn sifted(alloc: Global, day: Day, input: &mut Tap, output: &mut Tap) -> Result<bool, SiftFault> {
     let words = SiftWords {

@@ -3,7 +3,7 @@
 //! `time ROUNDS` prints the nanoseconds of the fastest of so many rounds. `rows` prints the depth and the place of each
 //! row, `-` for a dummy. `entries` prints what threads ask of each message: its sent date in seconds, 1 for a reply, its
 //! base subject, its id and its references, in hexadecimal, the sides of an id apart. Without words it prints how many
-//! rows there are.
+//! rows there are. Where `apart` is one of the words threads of one subject are not joined.
 #![tactic(auto)]
 
 use anyhow::bail;
@@ -16,6 +16,9 @@ use std::hash::RandomState;
 use std::time::Instant;
 use subject_core::base;
 use thread_core::{Entry, NodeThreader, Row, threads};
+
+/// The word that leaves step 5 out.
+const APART: &str = "apart";
 
 /// What a message says about threads.
 fn entry_of(alloc: Global, item: &Item<'_>) -> Result<Entry, Memory> {
@@ -48,20 +51,25 @@ fn entries(alloc: Global, mbox: &[u8]) -> anyhow::Result<Vec<Entry>> {
     Ok(all)
 }
 
-fn thread(alloc: Global, state: RandomState, entries: &[Entry]) -> anyhow::Result<Vec<Row>> {
-    let Ok(rows) = threads(alloc, &NodeThreader::new(state), entries, true) else {
+fn thread(
+    alloc: Global,
+    state: RandomState,
+    entries: &[Entry],
+    merge: bool,
+) -> anyhow::Result<Vec<Row>> {
+    let Ok(rows) = threads(alloc, &NodeThreader::new(state), entries, merge) else {
         bail!("no memory");
     };
     Ok(rows)
 }
 
 /// The nanoseconds of the fastest of so many rounds.
-fn time(rt: &HostRuntime, rounds: u32, entries: &[Entry]) -> anyhow::Result<u128> {
+fn time(rt: &HostRuntime, rounds: u32, entries: &[Entry], merge: bool) -> anyhow::Result<u128> {
     let state = RandomState::new(rt)?;
     let mut best = u128::MAX;
     for _ in 0..rounds {
         let begun = Instant::now(rt)?;
-        let rows = thread(rt.alloc(), state, entries)?;
+        let rows = thread(rt.alloc(), state, entries, merge)?;
         best = best.min(begun.elapsed(rt)?.as_nanos());
         if rows.len() < entries.len() {
             bail!("rows are missing");
@@ -127,20 +135,24 @@ fn main(rt: HostRuntime) -> anyhow::Result<()> {
         bail!("standard input cannot be read");
     };
     let entries = entries(alloc, &mbox)?;
-    let mut words = words.iter().skip(1);
+    let merge = !words.iter().any(|word| word.as_str() == APART);
+    let mut words = words.iter().skip(1).filter(|word| word.as_str() != APART);
     match (words.next(), words.next()) {
         (Some(call), Some(rounds)) if call.as_str() == "time" => {
-            println!(rt; "{}", time(&rt, rounds.parse()?, &entries)?)?
+            println!(rt; "{}", time(&rt, rounds.parse()?, &entries, merge)?)?
         }
         (Some(call), None) if call.as_str() == "entries" => print_entries(&rt, &entries)?,
         (Some(call), None) if call.as_str() == "rows" => {
-            print_rows(&rt, &thread(alloc, RandomState::new(&rt)?, &entries)?)?
+            print_rows(
+                &rt,
+                &thread(alloc, RandomState::new(&rt)?, &entries, merge)?,
+            )?
         }
         (None, None) => println!(rt;
             "{}",
-            thread(alloc, RandomState::new(&rt)?, &entries)?.len()
+            thread(alloc, RandomState::new(&rt)?, &entries, merge)?.len()
         )?,
-        _ => bail!("words: time ROUNDS, rows, or entries"),
+        _ => bail!("words: time ROUNDS, rows, or entries; and apart"),
     }
     Ok(())
 }

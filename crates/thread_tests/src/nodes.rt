@@ -424,15 +424,16 @@ fn long_list(alloc: Global, shape: Shape, count: usize) -> Result<Vec<Entry>, Fa
     Ok(entries)
 }
 
-/// How many rows a long list has, and the greatest depth of one.
-fn measure(
+/// How many rows a long list has, and the greatest depth of one, with step 5 or without it.
+fn measure_by(
     alloc: Global,
     threader: &NodeThreader,
     shape: Shape,
     count: usize,
+    merge: bool,
 ) -> Result<(usize, usize), Fail> {
     let entries = long_list(alloc, shape, count)?;
-    let rows = threads(alloc, threader, &entries, true)?;
+    let rows = threads(alloc, threader, &entries, merge)?;
     let mut deepest = 0;
     for row in &rows {
         if row.depth > deepest {
@@ -440,6 +441,55 @@ fn measure(
         }
     }
     Ok((rows.len(), deepest))
+}
+
+/// The same with step 5.
+fn measure(
+    alloc: Global,
+    threader: &NodeThreader,
+    shape: Shape,
+    count: usize,
+) -> Result<(usize, usize), Fail> {
+    measure_by(alloc, threader, shape, count, true)
+}
+
+/// Each shape, and the rows and the greatest depth of 50,000 messages of it without step 5.
+const APART: [(Shape, (usize, usize)); 10] = [
+    (Shape::Forward, (50000, 49999)),
+    (Shape::Backward, (50000, 49999)),
+    (Shape::Star, (50000, 1)),
+    (Shape::Ring, (50000, 49999)),
+    (Shape::Alone, (50000, 0)),
+    (Shape::OneSubject, (50000, 0)),
+    (Shape::OnePlain, (50000, 0)),
+    (Shape::ThroughDummies, (50000, 49999)),
+    (Shape::Ordinary, (50000, 9)),
+    (Shape::TakenApart, (50000, 1)),
+];
+
+#[test]
+fn long_lists_without_step_5(rt: HostRuntime) -> Result<(), Fail> {
+    let threader = NodeThreader::new(RandomState::new(&rt)?);
+    for (number, (shape, wanted)) in APART.iter().enumerate() {
+        let found = measure_by(rt.alloc(), &threader, *shape, 50000, false)?;
+        assert_eq!(rt; found, *wanted, "shape {number}");
+    }
+    Ok(())
+}
+
+#[test]
+fn both_threaders_agree_on_each_shape(rt: HostRuntime) -> Result<(), Fail> {
+    let threader = NodeThreader::new(RandomState::new(&rt)?);
+    for (number, (shape, _wanted)) in APART.iter().enumerate() {
+        for count in [1, 2, 11, 60] {
+            let entries = long_list(rt.alloc(), *shape, count)?;
+            assert!(rt;
+                is_same(rt.alloc(), &threader, &entries)?,
+                "shape {number}, {count}"
+            );
+        }
+    }
+    Ok(())
 }
 
 #[test]
