@@ -67,6 +67,7 @@ def stock_file(path, schema):
     for made in schema:
         stock.execute(made)
     stock.execute("INSERT INTO list (name) VALUES ('soc')")
+    stock.execute("INSERT INTO list_option (list, merge) VALUES ('soc', 1)")
     return stock
 
 

@@ -17,10 +17,13 @@ with docs/TABLES.md.
 Then it times, in new files, a thousand messages added to a list that holds
 1,000 and to one that holds 49,000, and a hundred added where two lists hold
 49,000 together and where they hold 52,100, each by `add`, which counts its
-list there, and by `add_counted`, which is told. It prints ratios, and what is
-asked for beside them. Build the program first: (cd crates/archive_probe && rt run < stdin).
+list there, and by `add_counted`, which is told. And it takes what came with
+tables 2 and 3 out of a file of --older messages, by stock SQLite, and times
+the program's opening of that file, which brings it over, beside opening the
+file itself. It prints ratios, and what is asked for beside them.
+Build the program first: (cd crates/archive_probe && rt run < stdin).
 """
-import hashlib, os, pathlib, re, sqlite3, subprocess, sys, tempfile, time
+import hashlib, os, pathlib, re, shutil, sqlite3, subprocess, sys, tempfile, time
 
 from probing import ROOT, read_words
 
@@ -85,6 +88,7 @@ def stock_file(path, schema):
     for made in schema:
         stock.execute(made)
     stock.execute("INSERT INTO list (name) VALUES ('soc')")
+    stock.execute("INSERT INTO list_option (list, merge) VALUES ('soc', 1)")
     return stock
 
 
@@ -186,8 +190,50 @@ def growing(asked, folder, call, titles):
         print(f"{title:50} {fewer / 1e9:8.3f} s, {more / 1e9:8.3f} s, ratio {more / fewer:6.2f} (at most 2)")
 
 
+def older(path, to):
+    """A copy of a file as of tables 1, and how many messages it holds."""
+    shutil.copyfile(path, to)
+    stock = sqlite3.connect(to, isolation_level=None)
+    for text in ("DROP TABLE address", "DROP TABLE list_option", "UPDATE version SET number = 1", "VACUUM"):
+        stock.execute(text)
+    [(count,)] = stock.execute("SELECT count(*) FROM message").fetchall()
+    stock.close()
+    return count
+
+
+def opening(program, path):
+    """The nanoseconds in which the program opens a file that was read before, and closes it."""
+    pathlib.Path(path).read_bytes()
+    return timed(probe_once, program, "open", path)
+
+
+def probe_once(*words):
+    subprocess.run([*words], stdout=subprocess.DEVNULL, check=True)
+
+
+def bringing_over(asked, folder):
+    """Prints the time of opening a file of tables 1 beside that of opening it again, in the best of the rounds each."""
+    paths = new, old, copy = [os.path.join(folder, f"{name}.db") for name in ("newest", "older", "copy")]
+    probe(asked.probe, "batch", new, asked.older, asked.bytes)
+    count, over, again = older(new, old), [], []
+    for _ in range(asked.rounds):
+        shutil.copyfile(old, copy)
+        over.append(opening(asked.probe, copy))
+        again.append(opening(asked.probe, copy))
+    with sqlite3.connect(copy) as found:
+        [(number,)], lists = found.execute("SELECT number FROM version").fetchall(), found.execute("SELECT list, merge FROM list_option").fetchall()
+    found.close()
+    if (number, lists) != (3, [("soc", 1)]):
+        sys.exit(f"the file was not brought over: it says {number}, and of its lists {lists}")
+    ours, theirs = min(over), min(again)
+    print(f"opened and brought over, {count} messages: {ours / 1e9:.2f} s, opened {theirs / 1e9:.2f} s, ratio {ours / theirs:.2f} (at most 1.2)")
+    for path in paths:
+        os.remove(path)
+
+
 def main():
-    asked = read_words(__doc__, messages={"type": int, "default": 20000}, bytes={"type": int, "default": 3000})
+    words = {name: {"type": int, "default": count} for name, count in (("messages", 20000), ("bytes", 3000), ("older", 50000))}
+    asked = read_words(__doc__, **words)
     with tempfile.TemporaryDirectory(dir=asked.folder) as folder:
         rounds = [compare(asked, folder, round) for round in range(asked.rounds)]
         took = {call: min(each[call] for each in rounds) for call in rounds[0]}
@@ -205,6 +251,7 @@ def main():
         print(f"tables as in docs/TABLES.md: {'yes' if schema_of(ours) == documented() else 'NO'}")
         growing(asked, folder, "grow", ["a thousand more to 1,000 and to 49,000:"])
         growing(asked, folder, "lists", ["a hundred where two lists hold 49,000 and 52,100:", "the same, to a list counted before:"])
+        bringing_over(asked, folder)
 
 
 if __name__ == "__main__":

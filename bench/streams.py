@@ -11,12 +11,19 @@ file in memory, so `get`, which opens the file and then reads one message, tells
 how much that is: `import` and `export` may take 64 MB more. Python's sqlite3
 then reads the same texts from the same file; what `export` takes more than
 `get` may be 1.5 times as long.
+
+Then it imports, into a new file, one message of 16,777,216 bytes, which is the
+most that a list takes, between messages of 8 MB in all before it and as many
+after it, and opens the file for a small one by `get`. It prints what both
+hold, in multiples of the long message for `import`; nothing is asked for.
 Build the program first: ./archive --version.
 """
-import argparse, os, pathlib, sqlite3, subprocess, sys, tempfile, time
+import argparse, contextlib, hashlib, os, pathlib, sqlite3, subprocess, sys, tempfile, time
 
 ROOT = pathlib.Path(__file__).resolve().parent.parent
 OPEN = '[[rule]]\nname = "all"\neffect = "allow"\n'
+LONGEST = 16_777_216  # bytes of a message's text, with the LF at its end
+BESIDE = 8 << 20  # bytes of messages before it, and of those after it
 LINE = b"A line of a message that many have read, and that says little more than its number does.\n"
 
 
@@ -31,6 +38,35 @@ def make(path, megabytes, count):
             mbox.write(b"From a@example.org Tue Mar  4 %02d:%02d:%02d 2003\n" % (hour, minute, second))
             mbox.write(b"From: a@example.org\nMessage-ID: <%d@example.org>\nSubject: %d\n\n" % (number, number))
             mbox.write(body + b"\n")
+
+
+def text_of(number, size):
+    """A message's text of so many bytes."""
+    head = b"From: a@example.org\nMessage-ID: <%d@example.org>\nSubject: %d\n\n" % (number, number)
+    return head + (LINE * (size // len(LINE) + 1))[: size - len(head) - 1] + b"\n"
+
+
+def make_long(path, size=4_000):
+    """An mbox of small messages with the longest one among them, and the key of the first."""
+    texts = [text_of(number, size) for number in range(2 * BESIDE // size)]
+    texts.insert(len(texts) // 2, text_of(len(texts), LONGEST))
+    path.write_bytes(b"".join(b"From a@example.org Tue Mar  4 10:00:00 2003\n%s\n" % text for text in texts))
+    return hashlib.sha256(texts[0]).hexdigest()
+
+
+def longest(asked, folder, policy):
+    """Prints what the import of the longest message holds."""
+    mbox, db = pathlib.Path(folder) / "long.mbox", pathlib.Path(folder) / "long.db"
+    key = make_long(mbox)
+    run(asked.archive, "list-add", "--db", db, "soc")
+    seconds, held = run(asked.archive, "import", "--db", db, "soc", mbox)
+    _, opened = run(asked.archive, "get", "--db", db, *policy, "soc", key)
+    with contextlib.closing(sqlite3.connect(db)) as stock:
+        [(most,)] = stock.execute("SELECT max(length(text)) FROM message").fetchall()
+    if most != LONGEST:
+        sys.exit(f"the longest message that was taken in has {most} bytes")
+    print(f"a message of {LONGEST} bytes among {2 * BESIDE / 1e6:.0f} MB of others: import {seconds:.2f} s {held:.0f} MB, "
+          f"{held * 1e6 / LONGEST:.1f} times its text; get, which opens the file, {opened:.0f} MB")
 
 
 def run(*words, into=subprocess.DEVNULL):
@@ -84,6 +120,7 @@ def main():
         tell("import", *imported, opened[1])
         tell("export", *exported, opened[1])
         print(f"stock SQLite reads the texts in {stock:.2f} s; export takes {(exported[0] - opened[0]) / stock:.2f} times that beside the opening")
+        longest(asked, folder, policy)
 
 
 if __name__ == "__main__":
