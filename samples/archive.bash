@@ -2,7 +2,7 @@
 # Completion of the archive's words for bash: `. samples/archive.bash`.
 _archive() {
   local word=${COMP_WORDS[COMP_CWORD]} before=${COMP_WORDS[COMP_CWORD-1]} options=
-  local words='sift list-add person-add grant revoke import withdraw restore embargo lift get export check serve'
+  local words='sift list-add merge person-add person-address grant revoke import withdraw restore embargo lift get export check serve'
   if [ "$COMP_CWORD" -eq 1 ] || [ "${COMP_WORDS[1]}" = help ]; then
     mapfile -t COMPREPLY < <(compgen -W "$words help --help --version" -- "$word")
     return
@@ -19,6 +19,7 @@ _archive() {
     serve) options='--db --policy --day --port --count' ;;
     grant | revoke) options='--db member subscriber moderator' ;;
     withdraw) options='--db author board' ;;
+    merge) options='--db yes no' ;;
     *) options='--db' ;;
   esac
   mapfile -t COMPREPLY < <(compgen -W "$options --help" -- "$word"; compgen -f -- "$word")

@@ -73,7 +73,7 @@ carry_out_line() {
   local db=$1
   case ${2-} in
     '' | '#'*) ;;
-    list-add | person-add | grant | revoke | withdraw | restore | embargo | lift) run "$2" --db "$db" "${@:3}" ;;
+    list-add | merge | person-add | person-address | grant | revoke | withdraw | restore | embargo | lift) run "$2" --db "$db" "${@:3}" ;;
     *) note "$2: no such command" ;;
   esac
 }

@@ -10,7 +10,7 @@ whole text, and its key the SHA-256 of that. An mbox that begins with something 
 """
 import calendar, hashlib, re, sys
 
-LARGEST = 4_194_304  # bytes of a whole text
+LARGEST = 16_777_216  # bytes of a whole text
 MONTHS = {it.lower(): at for at, it in enumerate(calendar.month_abbr) if it}
 ZONES = {b"EST": -5, b"EDT": -4, b"CST": -6, b"CDT": -5, b"MST": -7, b"MDT": -6, b"PST": -8, b"PDT": -7}
 SEPARATOR = re.compile(

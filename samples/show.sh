@@ -1,6 +1,6 @@
 #!/usr/bin/env bash
-# Shows what is in an archive: lists, persons, grants, and messages that are withdrawn or held back. It asks stock sqlite3, of a
-# copy, so that nothing is locked or changed, also while the archive is served. Tokens are not shown.
+# Shows what is in an archive: lists, persons with their addresses, grants, and messages that are withdrawn or held back. It asks
+# stock sqlite3, of a copy, so that nothing is locked or changed, also while the archive is served. Tokens are not shown.
 #
 #   samples/show.sh FILE [LIST]     with a LIST also its messages: key, arrival, size, sender
 #
@@ -18,11 +18,20 @@ ask() {
   sqlite3 -batch -init /dev/null -separator $'\t' "$folder/a.db" "$@"
 }
 
+# whether there is a table of this name: files of older versions lack some
+has() {
+  [ "$(ask "SELECT count(*) FROM sqlite_schema WHERE type = 'table' AND name = '$1'")" -eq 1 ]
+}
+
 echo '# lists: name, messages, bytes, withdrawn, held back'
 ask "SELECT l.name, count(m.pos), coalesce(sum(length(m.text)), 0), count(nullif(m.withdrawn, 0)), count(m.embargo)
   FROM list l LEFT JOIN message m ON m.list = l.name GROUP BY l.name ORDER BY l.name"
+echo '# lists whose threads are not joined by subject'
+! has list_option || ask "SELECT list FROM list_option WHERE merge = 0 ORDER BY list"
 echo '# persons'
 ask "SELECT name FROM person ORDER BY name"
+echo '# addresses: person, address'
+! has address || ask "SELECT person, address FROM address ORDER BY person"
 echo '# grants: person, list, kind, from, until'
 ask "SELECT person, list, CASE kind WHEN 1 THEN 'member' WHEN 2 THEN 'subscriber' ELSE 'moderator' END,
   date(from_day * 86400, 'unixepoch'), date(until_day * 86400, 'unixepoch') FROM grant_row ORDER BY person, list, kind"

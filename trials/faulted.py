@@ -21,6 +21,7 @@ Build the program first: ./archive --version.
 import collections, hashlib, multiprocessing, os, pathlib, re, shutil, signal, socket, sqlite3, struct, subprocess, tempfile, threading
 
 from ground import DAY, TWO, Tally, built, opened, read_words, words_of
+from store import older
 
 KINDS = "alloc read write sync trunc open recv send other disk".split()
 COUNTS = [*KINDS, "failed", "killed"]
@@ -75,7 +76,9 @@ COMMANDS = [
     Command("sift", "", None, TWO), Command("sift policy", f"sift --policy POLICY --day {DAY} --min-age 10", None, TWO),
     Command("list-add new file", f"list-add {DB} soc", "none", changes=True),
     Command("list-add", f"list-add {DB} other", changes=True),
+    Command("merge", f"merge {DB} soc no", changes=True),
     Command("person-add", f"person-add {DB} eve 0123456789abcdeX", changes=True),
+    Command("person-address", f"person-address {DB} anna anna@example.org", changes=True),
     Command("grant", f"grant {DB} anna soc moderator 2003-01-01 2003-12-31", changes=True),
     Command("revoke", f"revoke {DB} anna soc member", changes=True),
     Command("import", f"import {DB} soc MORE", changes=True, imports=True),
@@ -86,7 +89,7 @@ COMMANDS = [
     Command("lift", f"lift {DB} soc {SECOND}", changes=True),
     Command("get", f"get {ASK} soc {FIRST}"), Command("get denied", f"get {ASK} soc {SECOND}", status=1),
     Command("get person", f"get {ASK} --person anna soc {SECOND}"), Command("export", f"export {ASK} --person anna soc"),
-    Command("check", f"check {DB}"),
+    Command("check", f"check {DB}"), Command("check older file", f"check {DB}", "older", changes=True),
     serves("/", "/"), serves("month", "/l/soc/month/2003-03", TOKEN), serves("threads", "/l/soc/threads", TOKEN),
     serves("thread", f"/l/soc/t/{FIRST}"), serves("message", f"/l/soc/m/{FIRST}"), serves("denied", f"/l/soc/m/{SECOND}", status=403),
     serves("author", "/l/soc/by/anna%40example.org"), serves("mbox", "/l/soc/mbox", TOKEN), serves("401", "/", "0123456789abcdeZ", status=401),
@@ -109,6 +112,8 @@ class Ground:
                       "grant --db DB anna soc member 2003-01-01 2003-12-31", f"withdraw --db DB soc {SECOND} board",
                       f"embargo --db DB soc {SECOND} 2003-04-01"):
             subprocess.run(self.words(words.split(), base), check=True, stdout=subprocess.DEVNULL)
+        (self.folder / "older").mkdir()
+        older(base / "db", self.folder / "older" / "db")
 
     def words(self, words, place):
         named = {"DB": str(place / "db")} | {name: str(self.folder / name) for name in self.files}

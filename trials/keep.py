@@ -226,7 +226,7 @@ def not_put_away(trial, keeper):
     trial.holds("what was done cannot be put away: it answers all the time", reader.refused == 0 and longest < 1, f"{longest:.2f} s at most")
     held.rmdir()
     (keeper.folder / "held").rename(held)
-    keeper.until(lambda: "list-add untidy\n" in held.read_text(), 60)
+    keeper.until(lambda: "list-add untidy\n" in held.read_text() and not (keeper.folder / "commands.now").exists(), 60)
     trial.holds("and it is put away later", "list-add board\n" in held.read_text() and "list-add untidy\n" in held.read_text()
                 and not (keeper.folder / "commands.now").exists())
 

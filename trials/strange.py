@@ -136,6 +136,10 @@ UNSOUND = [
     "UPDATE message SET embargo = 2932531", "CREATE TRIGGER t AFTER INSERT ON message BEGIN DELETE FROM message; END", "CREATE VIEW v AS SELECT 1",
     "UPDATE message SET sent = 9223372036854775807", "UPDATE message SET month = -1", "UPDATE message SET month = 9223372036854775807",
     "UPDATE message SET author = randomblob(9)", "UPDATE message SET author = x''", "DROP INDEX message_by_month",
+    "DELETE FROM list_option", "UPDATE list_option SET merge = 7", "UPDATE list_option SET list = 'x'", "INSERT INTO list_option VALUES ('x', 0)",
+    "INSERT INTO address VALUES ('nobody', '')", "DROP TABLE address", "UPDATE version SET number = 1", "UPDATE version SET number = 4",
+    "DROP TABLE address; UPDATE version SET number = 2", "DROP TABLE address; DROP TABLE list_option; UPDATE version SET number = 1",
+    "DROP TABLE address; CREATE TABLE address (x); INSERT INTO address VALUES (1)", "DROP TABLE address; DROP TABLE list_option; CREATE TABLE x (y); UPDATE version SET number = 2",
 ]
 
 
@@ -218,6 +222,7 @@ def words(program, folder, tally, _times):
         ["list-add", "--db", "a" * 5000, "x"], ["list-add", "--db", db, "x\n"], ["list-add"] + ["x"] * 20_000, ["--" + "a" * 100_000],
         ["sift", "--day", "9" * 100_000], ["sift", "--min-age", "9" * 1000], ["sift", "--min-age", "-1"], ["sift", "--day", "0000-00-00"],
         ["person-add", "--db", db, "bob", "=" * 16], ["person-add", "--db", db, "bob", "a" * 100_000],
+        ["person-address", "--db", db, "anna", "a" * 100_000], ["person-address", "--db", db, "anna", "\x7f"], ["merge", "--db", db, "soc", "y" * 100_000],
         ["get", "--db", db, "--policy", policy, "soc", "é" * 64], ["import", "--db", db, "soc", "-"], ["import", "--db", db, "soc", ""], ["help"] * 100,
         ["serve", "--db", db, "--policy", policy, "--port", "1", "--count", "0"], ["serve", "--db", db, "--policy", policy, "--port", "99999", "--count", "0"],
         [""], ["sift", "sift"], ["--db", db, "list-add", "x"],
