@@ -252,6 +252,9 @@ GATE = {
     "a wrong body that is proved": ends("gate.py", WITH_EDITS, [WHY, "  rt: must-fail low/g.drops_it.edit: NOT REFUSED: still proved", "  rt: FAILED: low/g.drops_it.edit"],
         says=ALL_REFUSED.replace(REFUSED.format("low/g.drops_it.edit"), "rt: must-fail low/g.drops_it.edit: NOT REFUSED: still proved\n")
              + "rt: FAILED: low/g.drops_it.edit\n8 passed, 1 failed\n", status="1", edits=3),
+    "one that is refused is no reason, whatever the prover said of it": ends("gate.py", WITH_EDITS, [WHY, "  rt: FAILED: top (run)"],
+        says=ALL_REFUSED.replace("be (a clause is not proved)", "be: ./proofs/f/Answers.antt:1:2: error: `returns`: no") + "rt: FAILED: top (run)\n8 passed, 1 failed\n",
+        status="1", edits=3),
     "a wrong body that shows little": says("gate.py", [], WITH_EDITS, 0,
         "check: low/f.turns_it.edit shows little of a contract: change a value, and keep the names", "10 passed, 0 failed",
         says=ALL_REFUSED.replace(REFUSED.format("low/f.turns_it.edit"), LITTLE) + "9 passed, 0 failed\n"),

@@ -2,8 +2,9 @@
 import re, sys
 
 # An error with its place, a function that is not proved, and whatever `rt` says but of what passed.
-WHY = re.compile(r".*: error[:\[].*|fn \S+: not proved|FAILED .*|rt: (?!note: |warning: |ok;|must-fail \S+: refused).*")
-PASSED = re.compile(r"rt: \w+(: its tests are)? proved|rt: \w+ (is kept: |ran\b).*|rt: \w+: (trying its|\d+ of its|its tests passed).*")
+WHY = re.compile(r".*: error[:\[].*|fn \S+: not proved|FAILED .*|rt: (?!note: |warning: |ok;).*")
+PASSED = re.compile(r"rt: \w+(: its tests are)? proved|rt: \w+ (is kept: |ran\b).*|rt: \w+: (trying its|\d+ of its|its tests passed).*"
+                    r"|rt: must-fail \S+: refused\b.*")
 MOST, WIDEST = 40, 240
 
 
