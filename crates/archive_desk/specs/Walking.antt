@@ -1,13 +1,14 @@
 -- Reading and writing the messages of a walk, one after the other.
-use Rattle.std.specs.Prelude.{◌≡◌, ◌+◌, ◌<◌, ◌^◌, ◌-◌, ◌++◌, ℕ, List, [], length, filter, min, None, Result, MatchResult, MatchOption, Vec}
+use Rattle.std.specs.Prelude.{◌≡◌, ◌⊎◌, ◌+◌, ◌<◌, ◌^◌, ◌-◌, ◌++◌, ℕ, List, [], length, filter, min, None, Result, MatchResult, MatchOption, Vec}
 use Rattle.std.specs.declared.alloc.Global.{Global}
 use Rattle.sqlite.specs.Store.{Ghosts}
 use Rattle.mbox_core.specs.Written.{IsCutShort}
 use Rattle.archive_machine.specs.Records.{Archive, Message as Remembered}
 use Rattle.archive_store.specs.Replies.{refusal}
-use Rattle.archive_store.specs.Told.{HasReturned, HoldsTables, IsOpen, archive_in}
+use Rattle.archive_store.specs.Told.{HasFailed, HasNoLimit, HasReturned, HoldsTables, IsOpen, archive_in}
 use Rattle.archive_store.specs.Walking.{Walk, WalksOver}
 use Rattle.archive_results.specs.Access.{Ask, ReaderMarks, is_shown}
+use Rattle.archive_desk.specs.Causes.{AreUnreadable}
 use Rattle.archive_desk.specs.Exporting.{HasWritten, shown_text}
 use Rattle.archive_desk.specs.Faults.{reason}
 use Rattle.archive_desk.specs.declared.exporting.ExportStop.{ExportStop}
@@ -53,6 +54,12 @@ module _ {S : Type 0} (g : Ghosts S) where
   -- after a fault that has a reason so; after one of memory or of the database if the connection is still open
   abbrev pub StandsIfOpen : Archive → Walk S → DeskFault → Type 0
   StandsIfOpen a walk fault = MatchOption (reason fault) (IsOpen g walk.store.now → StandsOn a walk) (λ _. StandsOn a walk)
+
+  -- The cause of a walk that the database broke, over messages of the list, that gave none yet: where no limit is set on the steps of
+  -- a query, the disk failed, or one of the messages cannot be read.
+  abbrev pub HasWalkCause : Walk S → Walk S → Ask → Type 0
+  HasWalkCause old new ask = HasReturned g new.store.now → HasNoLimit g old.store.now → (all : List Remembered) (a : Archive)
+      → WalksOver g ask.list all a [] old → HasFailed g old.store.now new.store.now ⊎ AreUnreadable all
 
   module _ (old new : Walk S) (ask : Ask) (reader : ReaderMarks) where
     -- A walk over messages of the list that gave none yet: this was made of them, as far as the policy shows them.

@@ -13,6 +13,19 @@ pub record Served (L St : Type 0) : Type 0 where
 abbrev pub served : {L St : Type 0} → L → St → Served L St
 served listener state = record { listener = listener; state = state }
 
+-- a service at work: what it is, and the state that it answers out of
+pub record AtWork (V St : Type 0) : Type 0 where
+  pub service : V
+  pub state : St
+
+abbrev pub at_work : {V St : Type 0} → V → St → AtWork V St
+at_work service state = record { service = service; state = state }
+
+-- what a service says of an answer, as a law of the service and its state together
+abbrev pub law_of : {V St : Type 0} → (V → V → St → St → Telling → Telling → Outcome → Type 0)
+    → AtWork V St → AtWork V St → Telling → Telling → Outcome → Type 0
+law_of answers old new before after outcome = answers old.service new.service old.state new.state before after outcome
+
 -- `answers` is the law of what answers: it holds of the state before and after, of what a connection told before and after, and
 -- of the answer.
 module _ {St : Type 0} (answers : St → St → Telling → Telling → Outcome → Type 0) where

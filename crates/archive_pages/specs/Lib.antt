@@ -3,6 +3,7 @@ pub mod Seen
 pub mod Answers
 pub mod Laws
 pub mod Serving
+pub mod KeptServing
 pub mod Answered
 pub mod Running
 pub mod Reopened

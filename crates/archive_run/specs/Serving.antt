@@ -2,6 +2,7 @@
 use Rattle.std.specs.Prelude.{◌≡◌, ◌⊎◌, ◌<◌, ◌++◌, ℕ, ℤ, Bool, true, List, flat_map, length, Option, Some, None, Result, Ok, Err}
 use Rattle.sqlite.specs.Store.{Ghosts}
 use Rattle.policy_core.specs.Rules.{Rule}
+use Rattle.archive_store.specs.Told.{HasReturned, IsReady}
 use Rattle.archive_store.specs.declared.store.Store.{Store as Open}
 use Rattle.archive_store.specs.declared.faults.StoreFault.{StoreFault}
 use Rattle.archive_listen.specs.Connections.{Exchange, Outcome, outcome_line}
@@ -35,10 +36,10 @@ said out out_failures faults faults_failures = record { output = sent out out_fa
 module _ {S L : Type 0} (g : Ghosts S) (accepts : L → L → Option AcceptFault → Type 0) (shuts : L → L → Exchange → Bool → Type 0)
     (rules : List Rule) (day : ℤ) (listening : Listening L) (old new : Open S) (before after : Said) where
   -- The line that says where the archive listens went out; then connections were answered by these rules and on this day, with
-  -- these outcomes; and each fault was told in one line, where the stream of faults did not fail.
+  -- these outcomes, where the store was ready; and each fault was told in one line, where the stream of faults did not fail.
   pub record ServesThese (last : Served L (Open S)) (outcomes : List Outcome) : Type 0 where
     pub announced : after.output.written ≡ before.output.written ++ listening_line listening.port
-    pub serves : ServesEach (AnswersAs g rules day) accepts shuts outcomes (served listening.listener old) last
+    pub serves : HasReturned g new → IsReady g old → ServesEach (AnswersAs g rules day) accepts shuts outcomes (served listening.listener old) last
     pub told : after.faults.failures ≡ before.faults.failures → after.faults.written ≡ before.faults.written ++ flat_map outcome_line outcomes
 
   -- as many connections as were ordered

@@ -3,9 +3,12 @@ use Rattle.std.specs.Prelude.{◌≡◌, ◌++◌, ℕ, ℤ, List, Result, Ok, E
 use Rattle.sqlite.specs.Store.{Ghosts}
 use Rattle.httparse.specs.Grammar.{HasNoRequest}
 use Rattle.policy_core.specs.Rules.{Rule}
-use Rattle.archive_store.specs.Told.{Goes}
+use Rattle.archive_store.specs.Told.{Goes, HadReturned}
 use Rattle.archive_store.specs.declared.store.Store.{Store}
+use Rattle.archive_kept.specs.Views.{Keeping}
+use Rattle.archive_kept.specs.Kept.{AreOf, Keeps}
 use Rattle.archive_pages.specs.Answered.{ByOutcome, IsAnswered, Reads}
+use Rattle.archive_pages.specs.KeptServing.{OfReady}
 use Rattle.archive_pages.specs.Replies.{IsServeStop}
 use Rattle.archive_pages.specs.Serving.{Stays}
 use Rattle.archive_pages.specs.declared.faults.ServeFault.{ServeFault}
@@ -35,3 +38,22 @@ pub record AnswersAs {S : Type 0} (g : Ghosts S) (rules : List Rule) (day : ℤ)
   pub quiet : OnOk result ((after.read_failures ≡ before.read_failures) × (after.write_failures ≡ before.write_failures))
   pub cause : IfErr result (λ fault. IsServeStop before.written after.written
       before.read_failures after.read_failures before.write_failures after.write_failures fault)
+
+-- ---- with what is kept from one connection to the next
+
+-- what answers: by which rules, on which day, and what it keeps
+pub record Keeper : Type 0 where
+  pub rules : List Rule
+  pub day : ℤ
+  pub kept : Keeping
+
+-- One request is answered as `AnswersAs` says, where what is kept is of the archive that the store remembers, by the rules and on
+-- the day; and what is kept then stays so.
+pub record AnswersKept {S : Type 0} (g : Ghosts S) (keeper later : Keeper) (old new : Store S) (before after : Telling)
+    (outcome : Outcome) : Type 0 where
+  pub same_rules : later.rules ≡ keeper.rules
+  pub same_day : later.day ≡ keeper.day
+  pub answers : OfReady g old new (λ a. AreOf a keeper.rules keeper.day keeper.kept)
+      → AnswersAs g keeper.rules keeper.day old new before after outcome
+  pub keeps : Keeps g old new keeper.rules keeper.day keeper.kept later.kept
+  pub had : HadReturned g old new

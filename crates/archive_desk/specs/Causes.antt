@@ -1,0 +1,73 @@
+-- Why the database does not answer a question: what G4 means that carries E15. Want of memory, E14 and G5, needs no cause, since the
+-- system may refuse memory at any time.
+use Rattle.std.specs.Prelude.{◌≡◌, ◌≢◌, ◌⊎◌, ℕ, true, List, Result, IfErr, IsUtf8}
+use Rattle.std.specs.List.{All}
+use Rattle.std.specs.Option.{IsSomeAnd}
+use Rattle.sqlite.specs.Store.{Ghosts}
+use Rattle.policy_core.specs.declared.access.Standing.{Standing}
+use Rattle.policy_core.specs.Rules.{asks_own}
+use Rattle.archive_machine.specs.Records.{Archive, Message}
+use Rattle.archive_machine.specs.Questions.{address_of, message_of, standing_of}
+use Rattle.archive_database.specs.Messages.{IsReadable}
+use Rattle.archive_store.specs.Told.{HasFailed, HasNoLimit, HasReturned, HoldsTables, archive_in}
+use Rattle.archive_store.specs.Words.{standing_rank}
+use Rattle.archive_store.specs.declared.store.Store.{Store}
+use Rattle.archive_store.specs.declared.faults.StoreFault.TheVariants as faults
+use Rattle.archive_results.specs.Access.{Ask}
+use Rattle.archive_desk.specs.declared.faults.DeskFault.{DeskFault}
+use Rattle.archive_desk.specs.declared.faults.DeskFault.TheVariants.{Store as Stored}
+
+-- G4 that carries E15
+abbrev pub IsBroken : DeskFault → Type 0
+IsBroken fault = fault ≡ Stored faults.Store
+
+-- ---- rows that cannot be read, which no command writes (a law: `what_commands_write_can_be_read`)
+
+-- among these messages is one that cannot be read
+abbrev pub AreUnreadable : List Message → Type 0
+AreUnreadable messages = ¬ All IsReadable messages
+
+-- the message of a key cannot be read
+abbrev pub IsMessageUnreadable : Archive → Ask → (key : List ℕ) → Type 0
+IsMessageUnreadable archive ask key = IsSomeAnd (message_of archive ask.list key) (λ m. ¬ IsReadable m)
+
+-- what a person's grants give is no standing
+abbrev pub IsRankUnknown : Archive → Ask → (person : List ℕ) → Type 0
+IsRankUnknown archive ask person = (standing : Standing) → standing_rank standing ≢ standing_of archive person ask.list ask.day
+
+-- the address of a person is no UTF-8
+abbrev pub IsAddressUnreadable : Archive → (person : List ℕ) → Type 0
+IsAddressUnreadable archive person = IsSomeAnd (address_of archive person) (λ address. ¬ IsUtf8 address)
+
+-- what is asked of a person: the standing, and the address where a rule asks whether a message is the reader's own
+abbrev pub IsPersonUnreadable : Archive → Ask → (person : List ℕ) → Type 0
+IsPersonUnreadable archive ask person = IsRankUnknown archive ask person ⊎ ((asks_own ask.rules ≡ true) × IsAddressUnreadable archive person)
+
+-- the same of who asks, if it is a person
+abbrev pub IsReaderUnreadable : Archive → Ask → Type 0
+IsReaderUnreadable archive ask = IsSomeAnd ask.reader (IsPersonUnreadable archive ask)
+
+-- one of the messages that a question is about, or who asks
+abbrev pub IsUnreadable : Archive → Ask → List Message → Type 0
+IsUnreadable archive ask messages = AreUnreadable messages ⊎ IsReaderUnreadable archive ask
+
+-- ---- a call
+
+module _ {S : Type 0} (g : Ghosts S) (old new : Store S) where
+  -- The cause of a call that the database broke, of the desk or of a layer above it: where the disk has returned what was written
+  -- to it, the tables are an archive's and no limit is set on the steps of a query, the disk failed in that call, or this is so of
+  -- the archive, which holds what no command writes.
+  abbrev pub HasCause : (Archive → Type 0) → Type 0
+  HasCause Unread = HasReturned g new → HoldsTables g old → HasNoLimit g old → HasFailed g old new ⊎ Unread (archive_in g old)
+
+  -- the same, where every archive can be read: the disk failed
+  abbrev pub HasDiskCause : Type 0
+  HasDiskCause = HasReturned g new → HoldsTables g old → HasNoLimit g old → HasFailed g old new
+
+  -- what G4 of a question means that carries E15: the disk failed, or this is so of the archive
+  abbrev pub CausedOr : {A : Type 0} → Result A DeskFault → (Archive → Type 0) → Type 0
+  CausedOr result Unread = IfErr result (λ fault. IsBroken fault → HasCause Unread)
+
+  -- the disk failed
+  abbrev pub Caused : {A : Type 0} → Result A DeskFault → Type 0
+  Caused result = IfErr result (λ fault. IsBroken fault → HasDiskCause)

@@ -1,0 +1,94 @@
+-- Archives that can be read, as the commands of the code leave them, and calls in which the database has no cause to fail.
+use Rattle.std.specs.Prelude.{◌≡◌, ◌≢◌, ◌⊎◌, ⊤, ℕ, ℤ, true, List, Result, IfErr, IsUtf8}
+use Rattle.std.specs.List.{All}
+use Rattle.std.specs.Option.{IsSomeAnd}
+use Rattle.sqlite.specs.Store.{Ghosts}
+use Rattle.civil_time.specs.Calendar.{is_day}
+use Rattle.mbox_core.specs.Written.{IsItem}
+use Rattle.policy_core.specs.declared.access.Standing.{Standing}
+use Rattle.archive_machine.specs.Records.{Address, Archive, Grant, Person}
+use Rattle.archive_machine.specs.Commands.{Command, grant, add, withdraw, embargo}
+use Rattle.archive_machine.specs.Filing.{in_month, by_author}
+use Rattle.archive_machine.specs.Questions.{messages_in, person_of_token}
+use Rattle.archive_database.specs.Messages.{IsReadable}
+use Rattle.archive_store.specs.Told.{CausedOr as StoreCausedOr, HasFailed, HasNoLimit, HasReturned, HoldsTables, archive_in}
+use Rattle.archive_store.specs.Words.{party_of, rank_of, standing_rank}
+use Rattle.archive_store.specs.declared.faults.StoreFault.{StoreFault}
+use Rattle.archive_store.specs.declared.faults.StoreFault.TheVariants as faults
+use Rattle.archive_store.specs.declared.store.Store.{Store}
+use Rattle.archive_store.specs.declared.words.Kind.{Kind}
+use Rattle.archive_store.specs.declared.words.Party.{Party}
+use Rattle.archive_results.specs.Access.{Ask}
+use Rattle.archive_desk.specs.Causes.{CausedOr, HasCause, IsBroken, IsMessageUnreadable, IsReaderUnreadable, IsUnreadable}
+use Rattle.archive_desk.specs.declared.exporting.ExportStop.{ExportStop}
+use Rattle.archive_desk.specs.declared.faults.DeskFault.{DeskFault}
+
+-- its rank is that of a standing
+abbrev pub IsRanked : Grant → Type 0
+IsRanked g = (standing : Standing) × (standing_rank standing ≡ g.rank)
+
+-- the names of lists and persons are UTF-8, each message can be read, each grant's rank is that of a standing, and each address is UTF-8
+pub record CanBeRead (archive : Archive) : Type 0 where
+  pub lists : All IsUtf8 archive.lists
+  pub persons : All (λ (p : Person). IsUtf8 p.name) archive.persons
+  pub messages : All IsReadable archive.messages
+  pub grants : All IsRanked archive.grants
+  pub addresses : All (λ (a : Address). IsUtf8 a.address) archive.addresses
+
+-- What each command of the code has: what it adds is a message that can be written, what it grants is of rank 1 to 3, it withdraws
+-- for the author or the board, and holds back up to a day.
+abbrev pub IsSaid : Command → Type 0
+IsSaid (grant person list rank from_day until_day) = (kind : Kind) × (rank_of kind ≡ rank)
+IsSaid (add list item) = IsItem item
+IsSaid (withdraw list key party) = (by : Party) × (party_of by ≡ party)
+IsSaid (embargo list key until_day) = is_day until_day ≡ true
+IsSaid command = ⊤
+
+-- ---- what the store cannot tell, beside what the desk cannot
+
+-- the name of a list is no UTF-8
+abbrev pub AreListsUnreadable : Archive → Type 0
+AreListsUnreadable archive = ¬ All IsUtf8 archive.lists
+
+-- the name of the person who has this token is none
+abbrev pub IsHolderUnreadable : Archive → (token : List ℕ) → Type 0
+IsHolderUnreadable archive token = IsSomeAnd (person_of_token archive token) (λ name. ¬ IsUtf8 name)
+
+-- ---- a question
+
+-- its answer is not G4 that carries E15
+abbrev pub IsUnbroken : {A : Type 0} → Result A DeskFault → Type 0
+IsUnbroken result = IfErr result (λ fault. ¬ IsBroken fault)
+
+-- its tables are those of an archive that can be read, and no limit is set on the steps of a query
+pub record IsTellable {S : Type 0} (g : Ghosts S) (store : Store S) : Type 0 where
+  pub held : HoldsTables g store
+  pub unlimited : HasNoLimit g store
+  pub readable : CanBeRead (archive_in g store)
+
+module _ {S : Type 0} (g : Ghosts S) (old new : Store S) where
+  -- the same before a call, in which the disk did not fail, and has returned what was written to it
+  pub record IsUntroubled : Type 0 where
+    pub tellable : IsTellable g old
+    pub unfailed : ¬ HasFailed g old new
+    pub returned : HasReturned g new
+
+  -- Whatever the call was, if this is its answer and E15 comes of nothing but what its clause `caused` says: a question on the messages
+  -- of a list, of a month or of an author, on the message of a key, or on who asks.
+  pub record IsNeverBroken {A : Type 0} (result : Result A DeskFault) (ask : Ask) : Type 0 where
+    pub list : CausedOr g old new result (λ a. IsUnreadable a ask (messages_in a ask.list)) → IsUnbroken result
+    pub month : (month : ℤ) → CausedOr g old new result (λ a. IsUnreadable a ask (in_month a ask.list month)) → IsUnbroken result
+    pub author : (key : List ℕ) → CausedOr g old new result (λ a. IsUnreadable a ask (by_author a ask.list key)) → IsUnbroken result
+    pub message : (key : List ℕ) → CausedOr g old new result (λ a. IsMessageUnreadable a ask key ⊎ IsReaderUnreadable a ask) → IsUnbroken result
+    pub reader : CausedOr g old new result (λ a. IsReaderUnreadable a ask) → IsUnbroken result
+
+  -- the same of an export, by its stop
+  abbrev pub IsNeverCutOff : {A : Type 0} → Result A ExportStop → Ask → Type 0
+  IsNeverCutOff result ask =
+      IfErr result (λ stop. IsBroken stop.fault → HasCause g old new (λ a. IsUnreadable a ask (messages_in a ask.list)))
+      → IfErr result (λ stop. ¬ IsBroken stop.fault)
+
+  -- the same of the two questions that are asked of the store itself: the lists, and who has a token
+  pub record IsNeverLost {A : Type 0} (result : Result A StoreFault) : Type 0 where
+    pub lists : StoreCausedOr g old new result AreListsUnreadable → IfErr result (λ fault. fault ≢ faults.Store)
+    pub holder : (token : List ℕ) → StoreCausedOr g old new result (λ a. IsHolderUnreadable a token) → IfErr result (λ fault. fault ≢ faults.Store)

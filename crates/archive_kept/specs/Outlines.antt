@@ -1,0 +1,30 @@
+-- A view without its texts: the pages of threads are made of it.
+use Rattle.std.specs.Prelude.{ℕ, Bool, List, map, Option, option_map}
+use Rattle.std.specs.Option.{option_and_then}
+use Rattle.thread_core.specs.TopThread.{top_thread_of}
+use Rattle.thread_core.specs.declared.row.Row.{Row}
+use Rattle.archive_machine.specs.Records.{Archive}
+use Rattle.archive_machine.specs.Questions.{merge_of}
+use Rattle.archive_results.specs.Access.{Ask, view_of}
+use Rattle.archive_results.specs.Results.{TreeLine, tree_line, lines_of, rows_of, within, place_of}
+use Rattle.archive_results.specs.Shown.{Shown, Line, shown_of}
+
+-- the line of each message, in mailbox order, and the rows of the threads, each with the place of its message
+pub record Outline : Type 0 where
+  pub lines : List Line
+  pub rows : List Row
+
+abbrev pub outline_of : (merge : Bool) → List Shown → Outline
+outline_of merge view = record { lines = lines_of view; rows = rows_of merge view }
+
+-- the outline of what the asker is shown of a list, threaded as the list is
+abbrev pub outline_for : Archive → Ask → Outline
+outline_for archive ask = outline_of (merge_of archive ask.list) (map shown_of (view_of archive ask))
+
+-- The rows of the top thread that holds the message of a key; none where no line has the key.
+abbrev pub thread_in : Outline → (key : List ℕ) → Option (List Row)
+thread_in outline key = option_map (λ range. within range outline.rows) (option_and_then (top_thread_of outline.rows) (place_of key outline.lines))
+
+-- rows with the lines at their places
+abbrev pub trees_in : Outline → List Row → List TreeLine
+trees_in outline rows = map (tree_line outline.lines) rows

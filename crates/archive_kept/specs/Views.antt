@@ -1,0 +1,63 @@
+-- What is kept of views: the outlines, how one is looked for, and how many bytes they take, about.
+use Rattle.std.specs.Prelude.{◌≡◌, ◌==◌, ◌&&◌, ◌⊎◌, ◌+◌, ◌*◌, ◌≤◌, ℕ, Bool, true, false, List, [], length, sum_by, slice_get, bytes_eq, Option, None, Some, option_map}
+use Rattle.std.specs.Option.{option_map_or}
+use Rattle.policy_core.specs.Facts.{rank_of}
+use Rattle.archive_results.specs.Access.{ReaderMarks}
+use Rattle.archive_results.specs.Shown.{Line}
+use Rattle.archive_kept.specs.Outlines.{Outline}
+
+-- The outline of what the readers of these marks are shown of a list.
+pub record KeptView : Type 0 where
+  pub list : List ℕ
+  pub reader : ReaderMarks
+  pub outline : Outline
+
+-- all that is kept, and how many bytes that may be
+pub record Keeping : Type 0 where
+  pub most : ℕ
+  pub views : List KeptView
+
+abbrev pub nothing_kept : (most : ℕ) → Keeping
+nothing_kept most = record { most = most; views = [] }
+
+-- ---- looking for a view
+
+abbrev pub same_address : Option (List ℕ) → Option (List ℕ) → Bool
+same_address None None = true
+same_address (Some a) (Some b) = bytes_eq a b
+same_address None (Some b) = false
+same_address (Some a) None = false
+
+abbrev pub same_reader : ReaderMarks → ReaderMarks → Bool
+same_reader a b = (rank_of a.standing == rank_of b.standing) && same_address a.address b.address
+
+abbrev pub is_view_of : (list : List ℕ) → ReaderMarks → KeptView → Bool
+is_view_of list reader view = bytes_eq view.list list && same_reader view.reader reader
+
+abbrev pub outline_at : Keeping → (place : ℕ) → Option Outline
+outline_at kept place = option_map (λ v. v.outline) (slice_get kept.views place)
+
+-- ---- how much it is
+
+-- A line counts the bytes of its author key and subject, and 176 for all else that it takes.
+abbrev pub line_weight : Line → ℕ
+line_weight line = 176 + length line.author + length line.subject
+
+-- a row counts 24 bytes
+abbrev pub outline_weight : Outline → ℕ
+outline_weight outline = sum_by line_weight outline.lines + 24 * length outline.rows
+
+-- A view counts the bytes of its list's name and its reader's address too, and 1,024, so that there are few of them.
+abbrev pub view_weight : KeptView → ℕ
+view_weight view = 1024 + length view.list + option_map_or length view.reader.address 0 + outline_weight view.outline
+
+abbrev pub weight_of : List KeptView → ℕ
+weight_of views = sum_by view_weight views
+
+-- all of it weighs what it may, or it is one view alone
+abbrev pub IsBounded : Keeping → Type 0
+IsBounded kept = (weight_of kept.views ≤ kept.most) ⊎ (length kept.views ≡ 1)
+
+-- all stays, or all is let go
+abbrev pub Clears : (old new : List KeptView) → Type 0
+Clears old new = (new ≡ old) ⊎ (new ≡ [])
