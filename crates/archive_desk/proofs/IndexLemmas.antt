@@ -15,7 +15,7 @@ use Rattle.archive_store.specs.Told.{AsksIn, GoesIn, GoesInIfOpen, Lasts, HasRet
 use Rattle.archive_store.specs.Walking.{BeginsOver, Walk, WalksOver}
 use Rattle.archive_store.specs.declared.store.Store.{Store}
 use Rattle.archive_results.specs.Access.{Ask, ReaderMarks, is_shown, reader_marks}
-use Rattle.archive_results.specs.Shown.{Line, line_of, shown_of}
+use Rattle.archive_results.specs.Shown.{line_of, shown_of}
 use Rattle.archive_desk.specs.Asking.{IsEnough}
 use Rattle.archive_desk.specs.Faults.{ask_reason, declined, desk_fault, reason}
 use Rattle.archive_desk.specs.Listing.{lines_shown}

@@ -1,3 +1,4 @@
+pub mod CauseLemmas
 pub mod CallLemmas
 pub mod ImportLemmas
 pub mod MarkLemmas
@@ -7,3 +8,5 @@ pub mod ListLemmas
 pub mod IndexLemmas
 pub mod WalkLemmas
 pub mod WalkExports
+pub mod ReadableLemmas
+pub mod UnbrokenLemmas

@@ -1,5 +1,5 @@
 -- What is known of a reader, and what a policy says by it.
-use Rattle.std.proofs.Common.{◌≡◌, refl, sym, ap, ◌∙◌, ℕ, Bool, true, false, not, cond, List, [], ◌∷◌, ◌++◌, filter, Option, Some, None, Result, Ok, Err}
+use Rattle.std.proofs.Common.{◌≡◌, refl, sym, ap, ◌∙◌, ℕ, Bool, true, false, not, cond, List, [], ◌∷◌, ◌++◌, filter, Option, Some, None, Result}
 use Rattle.std.specs.Prelude.{option_map}
 use Rattle.std.specs.Option.{option_map_or, option_and_then}
 use Rattle.std.proofs.lemmas.List.{append-nil}
@@ -8,7 +8,6 @@ use Rattle.sqlite.specs.Store.{Ghosts}
 use Rattle.policy_core.specs.declared.access.Standing.{Standing}
 use Rattle.policy_core.specs.declared.access.Standing.TheVariants.{Public, Member, Subscriber, Moderator}
 use Rattle.policy_core.specs.Facts.{Facts}
-use Rattle.policy_core.specs.Rules.{Rule}
 use Rattle.policy_core.specs.Verdict.{verdict_of}
 use Rattle.archive_machine.specs.Records.{Archive, Message}
 use Rattle.archive_machine.specs.Commands.{no_list as unknown_list, no_person as unknown_person}
@@ -18,9 +17,9 @@ use Rattle.archive_store.specs.Words.{standing_rank}
 use Rattle.archive_store.specs.declared.store.Store.{Store}
 use Rattle.archive_store.proofs.Joins.{goes_in_as, stays_there_in}
 use Rattle.archive_results.specs.Access.{Ask, ReaderMarks, facts_of, is_allowance, is_shown, marks_of, reader_marks, reader_standing, ruling_on, standing_ranked}
-use Rattle.archive_results.specs.Access.{Asked, asked_by, asked_on}
+use Rattle.archive_results.specs.Access.{asked_by, asked_on}
 use Rattle.archive_desk.specs.Asking.{IsEnough, person_reason, standing_reason}
-use Rattle.archive_desk.specs.Faults.{Reason, reason, reason_by}
+use Rattle.archive_desk.specs.Faults.{reason, reason_by}
 use Rattle.archive_desk.specs.declared.faults.DeskFault.{DeskFault}
 use Rattle.archive_desk.proofs.CallLemmas.{calls_after}
 

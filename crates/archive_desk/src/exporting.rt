@@ -2,9 +2,11 @@
 ghost use Rattle.std.specs.Prelude.{◌≡◌, ◌∷◌, [], ◌<◌, ◌^◌, ◌-◌, ◌++◌, min, length, OnOk, IfOk, IfErr, OnErr};
 ghost use Rattle.mbox_core.specs.Written.{IsCutShort};
 ghost use Rattle.archive_machine.specs.Messages.{remembered};
+ghost use Rattle.archive_machine.specs.Questions.{messages_in};
 ghost use Rattle.archive_store.specs.Told.{HasReturned, IsOpen, Lasts, WasOpen};
+ghost use Rattle.archive_desk.specs.Causes.{HasCause, IsBroken, IsUnreadable};
 ghost use Rattle.archive_desk.specs.Exporting.{Exports, ExportsPart, HasBegun, IsExportStop, exported, shown_text, stop_reason};
-ghost use Rattle.archive_desk.specs.Walking.{CountsMore, IsRowsStop, IsShownStop, IsWalkStop, WritesRows, WritesWalk};
+ghost use Rattle.archive_desk.specs.Walking.{CountsMore, HasWalkCause, IsRowsStop, IsShownStop, IsWalkStop, WritesRows, WritesWalk};
 
 use crate::faults::DeskFault;
 use crate::viewing::find_reader;
@@ -41,6 +43,8 @@ pub fn export<S: Alter, W: Sink>(
     ensures quiet { OnOk result (W.failures out.new ≡ W.failures out.old) }
     ensures cause { IfErr result (λ stop. IsExportStop (W.told out.old) (W.told out.new)
         (W.failures out.old) (W.failures out.new) stop.written stop.fault) }
+    ensures caused { IfErr result (λ stop. IsBroken stop.fault → HasCause S.Store store.old store.new
+        (λ a. IsUnreadable a ask.now (messages_in a ask.now.list))) }
 {
     export_after(store, alloc, ask, b"", out)
 }
@@ -64,6 +68,8 @@ pub fn export_after<S: Alter, W: Sink>(
     ensures quiet { OnOk result (W.failures out.new ≡ W.failures out.old) }
     ensures cause { IfErr result (λ stop. IsExportStop (W.told out.old) (W.told out.new)
         (W.failures out.old) (W.failures out.new) stop.written stop.fault) }
+    ensures caused { IfErr result (λ stop. IsBroken stop.fault → HasCause S.Store store.old store.new
+        (λ a. IsUnreadable a ask.now (messages_in a ask.now.list))) }
 {
     let reader = match find_reader(store, ask) {
         Ok(reader) => reader,
@@ -93,6 +99,7 @@ fn write_walk<S: Alter, W: Sink>(
     ensures quiet { OnOk result (W.failures out.new ≡ W.failures out.old) }
     ensures cause { IfErr result (λ stop. IsWalkStop (W.told out.old) (W.told out.new)
         (W.failures out.old) (W.failures out.new) stop.written stop.fault) }
+    ensures caused { IfErr result (λ stop. IsBroken stop.fault → HasWalkCause S.Store walk.old walk.new ask.now) }
 {
     if let Err(fault) = write_bytes(out, head) {
         return Err(ExportStop {
@@ -126,6 +133,7 @@ fn write_rows<S: Alter, W: Sink>(
     ensures quiet { OnOk result (W.failures out.new ≡ W.failures out.old) }
     ensures cause { IfErr result (λ fault. IsRowsStop (W.told out.old) (W.told out.new)
         (W.failures out.old) (W.failures out.new) count.old count.new fault) }
+    ensures caused { IfErr result (λ fault. IsBroken fault → HasWalkCause S.Store walk.old walk.new ask.now) }
 {
     while let Some(message) = walk.next()? {
         match write_shown(alloc, ask, reader, &message, out) {

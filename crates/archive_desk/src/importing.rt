@@ -5,7 +5,7 @@ ghost use Rattle.archive_machine.specs.Commands.{no_list};
 ghost use Rattle.archive_machine.specs.Questions.{has_list, list_refusal};
 ghost use Rattle.archive_store.specs.Replies.{RefusedFor, refusal};
 ghost use Rattle.archive_store.specs.Batches.{tally_of as store_tally};
-ghost use Rattle.archive_store.specs.Told.{AsksIn, Calls, HoldsTables, WasOpen};
+ghost use Rattle.archive_store.specs.Told.{AsksIn, Calls, Caused, HoldsTables, WasOpen};
 ghost use Rattle.archive_desk.specs.Importing.{HasAdded, IsBrokenAdd, IsBrokenImport, IsCutStop};
 ghost use Rattle.archive_desk.specs.Importing.{IsImported, IsRefusedAdd, IsRefusedImport, stop_reason, tally_of};
 ghost use Rattle.archive_desk.specs.declared.importing.ImportFault.TheVariants.{Store as Stored};
@@ -86,6 +86,7 @@ pub fn find_list<S: Alter>(store: &mut Store<S>, list: &str) -> Result<(), Store
     ensures found { AsksIn S.Store (HoldsTables S.Store) store.old store.new refusal result (λ a. list_refusal a list.now)
         (λ a _. has_list a list.now ≡ true) }
     ensures was_open { WasOpen S.Store store.old store.new refusal result }
+    ensures caused { Caused S.Store store.old store.new result }
     ensures kind { RefusedFor result (no_list ∷ []) }
 {
     match store.has_list(list) {

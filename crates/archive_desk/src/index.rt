@@ -1,13 +1,16 @@
 //! The index of a view, the headers of its messages, and the lines of its messages of a month or an author, each read by one walk.
 ghost use Rattle.std.specs.Prelude.{◌≡◌, ◌∷◌, [], ◌++◌, filter, map, pos, IfErr, OnOk};
+ghost use Rattle.archive_machine.specs.Filing.{by_author, in_month};
 ghost use Rattle.archive_machine.specs.Messages.{remembered};
+ghost use Rattle.archive_machine.specs.Questions.{messages_in};
 ghost use Rattle.archive_results.specs.Access.{is_shown, view_of};
 ghost use Rattle.archive_results.specs.Filed.{filed_author_lines, filed_month_lines};
 ghost use Rattle.archive_results.specs.Index.{IsIndexOf, header_of};
 ghost use Rattle.archive_store.specs.Told.{AsksIn, HoldsTables, Lasts, WasOpen};
+ghost use Rattle.archive_desk.specs.Causes.{CausedOr, IsBroken, IsUnreadable};
 ghost use Rattle.archive_desk.specs.Faults.{IsAskFault, ask_reason, reason};
 ghost use Rattle.archive_desk.specs.Listing.{lines_shown};
-ghost use Rattle.archive_desk.specs.Walking.{IsUnlisted, ListsRows};
+ghost use Rattle.archive_desk.specs.Walking.{HasWalkCause, IsUnlisted, ListsRows};
 
 use crate::faults::DeskFault;
 use crate::viewing::find_reader;
@@ -29,6 +32,7 @@ pub(crate) fn read_headers<S: Alter>(
         (λ a headers. IsIndexOf (view_of a ask.now) headers.items) }
     ensures was_open { WasOpen S.Store store.old store.new reason result }
     ensures fault { IfErr result (λ fault. IsAskFault fault) }
+    ensures caused { CausedOr S.Store store.old store.new result (λ a. IsUnreadable a ask.now (messages_in a ask.now.list)) }
 {
     let reader = match find_reader(store, ask) {
         Ok(reader) => reader,
@@ -52,6 +56,7 @@ pub(crate) fn read_month<S: Alter>(
         (λ a lines. lines.items ≡ filed_month_lines a ask.now (pos month)) }
     ensures was_open { WasOpen S.Store store.old store.new reason result }
     ensures fault { IfErr result (λ fault. IsAskFault fault) }
+    ensures caused { CausedOr S.Store store.old store.new result (λ a. IsUnreadable a ask.now (in_month a ask.now.list (pos month))) }
 {
     let reader = match find_reader(store, ask) {
         Ok(reader) => reader,
@@ -74,6 +79,7 @@ pub(crate) fn read_author<S: Alter>(
         (λ a lines. lines.items ≡ filed_author_lines a ask.now key.now) }
     ensures was_open { WasOpen S.Store store.old store.new reason result }
     ensures fault { IfErr result (λ fault. IsAskFault fault) }
+    ensures caused { CausedOr S.Store store.old store.new result (λ a. IsUnreadable a ask.now (by_author a ask.now.list key.now)) }
 {
     let reader = match find_reader(store, ask) {
         Ok(reader) => reader,
@@ -96,6 +102,7 @@ fn walk_headers<S: Alter>(
     ensures lasts { Lasts S.Store walk.old.store.now walk.new.store.now }
     ensures listed { ListsRows S.Store walk.old walk.new ask.now reader.now (map header_of) result }
     ensures fault { IfErr result (λ fault. IsUnlisted fault) }
+    ensures caused { IfErr result (λ fault. IsBroken fault → HasWalkCause S.Store walk.old walk.new ask.now) }
 {
     let mut headers = Vec::new(alloc);
     while let Some(message) = walk.next()? {
@@ -118,6 +125,7 @@ fn walk_lines<S: Alter>(
     ensures lasts { Lasts S.Store walk.old.store.now walk.new.store.now }
     ensures listed { ListsRows S.Store walk.old walk.new ask.now reader.now lines_shown result }
     ensures fault { IfErr result (λ fault. IsUnlisted fault) }
+    ensures caused { IfErr result (λ fault. IsBroken fault → HasWalkCause S.Store walk.old walk.new ask.now) }
 {
     let mut lines = Vec::new(alloc);
     while let Some(message) = walk.next()? {

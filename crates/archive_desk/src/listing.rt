@@ -1,12 +1,14 @@
 //! The lists of a month and of an author, and threads.
 ghost use Rattle.std.specs.Prelude.{◌≡◌, map, pos, Some, IfErr};
-ghost use Rattle.archive_machine.specs.Questions.{merge_of};
+ghost use Rattle.archive_machine.specs.Filing.{by_author, in_month};
+ghost use Rattle.archive_machine.specs.Questions.{merge_of, messages_in};
 ghost use Rattle.archive_results.specs.Access.{view_of};
 ghost use Rattle.archive_results.specs.Index.{IsIndexOf};
 ghost use Rattle.archive_results.specs.Filed.{filed_author_lines, filed_month_lines};
 ghost use Rattle.archive_results.specs.Results.{author_lines, month_lines, tree_lines, thread_lines};
 ghost use Rattle.archive_results.specs.Shown.{shown_of};
 ghost use Rattle.archive_store.specs.Told.{Asks, AsksIn, HoldsTables, WasOpen};
+ghost use Rattle.archive_desk.specs.Causes.{Caused, CausedOr, IsUnreadable};
 ghost use Rattle.archive_desk.specs.Faults.{IsAskFault, ask_reason, list_reason, reason};
 ghost use Rattle.archive_desk.specs.Listing.{IsThreadFault, thread_reason};
 
@@ -34,6 +36,7 @@ pub fn month<S: Alter>(
         (λ a lines. lines.items ≡ filed_month_lines a ask.now (pos month)) }
     ensures was_open { WasOpen S.Store store.old store.new reason result }
     ensures fault { IfErr result (λ fault. IsAskFault fault) }
+    ensures caused { CausedOr S.Store store.old store.new result (λ a. IsUnreadable a ask.now (in_month a ask.now.list (pos month))) }
 {
     read_month(store, alloc, ask, month)
 }
@@ -53,6 +56,7 @@ pub fn author<S: Alter>(
         (λ a lines. lines.items ≡ filed_author_lines a ask.now key.now) }
     ensures was_open { WasOpen S.Store store.old store.new reason result }
     ensures fault { IfErr result (λ fault. IsAskFault fault) }
+    ensures caused { CausedOr S.Store store.old store.new result (λ a. IsUnreadable a ask.now (by_author a ask.now.list key.now)) }
 {
     read_author(store, alloc, ask, key)
 }
@@ -70,6 +74,7 @@ pub fn threads<T: Threader, S: Alter>(
         (λ a rows. rows.items ≡ tree_lines (merge_of a ask.now.list) (map shown_of (view_of a ask.now))) }
     ensures was_open { WasOpen S.Store store.old store.new reason result }
     ensures fault { IfErr result (λ fault. IsAskFault fault) }
+    ensures caused { CausedOr S.Store store.old store.new result (λ a. IsUnreadable a ask.now (messages_in a ask.now.list)) }
 {
     let index = match read_index(store, alloc, ask) {
         Ok(index) => index,
@@ -95,6 +100,7 @@ pub fn thread<T: Threader, S: Alter>(
         (λ a rows. thread_lines (merge_of a ask.now.list) key.now (map shown_of (view_of a ask.now)) ≡ Some rows.items) }
     ensures was_open { WasOpen S.Store store.old store.new reason result }
     ensures fault { IfErr result (λ fault. IsThreadFault fault) }
+    ensures caused { CausedOr S.Store store.old store.new result (λ a. IsUnreadable a ask.now (messages_in a ask.now.list)) }
 {
     let index = match read_index(store, alloc, ask) {
         Ok(index) => index,
@@ -107,15 +113,16 @@ pub fn thread<T: Threader, S: Alter>(
     }
 }
 
-/// The headers of a view, and whether its threads of one subject are gathered.
+/// The headers of the messages of a view, in mailbox order, and whether its threads of one subject are gathered.
 #[derive(Drop)]
-struct Index {
-    headers: Vec<Header>,
-    merge: bool,
+pub struct Index {
+    pub headers: Vec<Header>,
+    pub merge: bool,
 }
 
-/// The index of the view. The list is asked how it is threaded once the reader is found.
-fn read_index<S: Alter>(
+/// The index of the view: the list is walked, one message at a time, and is then asked how it is threaded. G1 where there is no
+/// such list, G2 where there is no such person; G5 where no memory is left, G4 where the store has none or fails.
+pub fn read_index<S: Alter>(
     store: &mut Store<S>,
     alloc: Global,
     ask: &Ask<'_>,
@@ -124,6 +131,7 @@ fn read_index<S: Alter>(
         (λ a index. IsIndexOf (view_of a ask.now) index.headers.items × (index.merge ≡ merge_of a ask.now.list)) }
     ensures was_open { WasOpen S.Store store.old store.new reason result }
     ensures fault { IfErr result (λ fault. IsAskFault fault) }
+    ensures caused { CausedOr S.Store store.old store.new result (λ a. IsUnreadable a ask.now (messages_in a ask.now.list)) }
 {
     let headers = match read_headers(store, alloc, ask) {
         Ok(headers) => headers,
@@ -140,6 +148,7 @@ fn find_merge<S: Alter>(store: &mut Store<S>, ask: &Ask<'_>) -> Result<bool, Des
     ensures found { AsksIn S.Store (HoldsTables S.Store) store.old store.new reason result (λ a. list_reason a ask.now)
         (λ a merge. merge ≡ merge_of a ask.now.list) }
     ensures fault { IfErr result (λ fault. IsAskFault fault) }
+    ensures caused { Caused S.Store store.old store.new result }
 {
     Ok(store.merge_of(ask.list)?)
 }

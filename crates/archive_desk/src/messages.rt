@@ -1,10 +1,11 @@
 //! One message, asked for by its key.
-ghost use Rattle.std.specs.Prelude.{◌≡◌, IfErr, option_map};
+ghost use Rattle.std.specs.Prelude.{◌≡◌, ◌⊎◌, IfErr, option_map};
 ghost use Rattle.archive_machine.specs.Questions.{message_of};
 ghost use Rattle.archive_machine.specs.Messages.{remembered};
 ghost use Rattle.archive_results.specs.Access.{asked_of, asked_on, reader_marks, told};
 ghost use Rattle.archive_store.specs.Told.{Asks, AsksIn, HoldsTables, WasOpen};
 ghost use Rattle.archive_desk.specs.Asking.{standing_reason};
+ghost use Rattle.archive_desk.specs.Causes.{CausedOr, IsMessageUnreadable, IsReaderUnreadable};
 ghost use Rattle.archive_desk.specs.Faults.{IsAskFault, ask_reason, list_reason, reason};
 
 use crate::faults::DeskFault;
@@ -27,6 +28,8 @@ pub fn message<'p, S: Alter>(
         (λ a answer. told answer ≡ asked_of a ask.entry.now key.now) }
     ensures was_open { WasOpen S.Store store.old store.new reason result }
     ensures fault { IfErr result (λ fault. IsAskFault fault) }
+    ensures caused { CausedOr S.Store store.old store.new result
+        (λ a. IsMessageUnreadable a ask.entry.now key.now ⊎ IsReaderUnreadable a ask.entry.now) }
 {
     match find_row(store, ask, key) {
         Ok(held) => answer_on(store, alloc, ask, &held),
@@ -44,6 +47,7 @@ fn find_row<S: Alter>(
         (λ a found. option_map (remembered ask.now.list) found ≡ message_of a ask.now.list key.now) }
     ensures was_open { WasOpen S.Store store.old store.new reason result }
     ensures fault { IfErr result (λ fault. IsAskFault fault) }
+    ensures caused { CausedOr S.Store store.old store.new result (λ a. IsMessageUnreadable a ask.now key.now) }
 {
     Ok(store.row(ask.list, key)?)
 }
@@ -59,6 +63,7 @@ fn answer_on<'p, S: Alter>(
         (λ a answer. told answer ≡ asked_on ask.entry.now (reader_marks a ask.entry.now)
         (option_map (remembered ask.entry.now.list) held.now)) }
     ensures fault { IfErr result (λ fault. IsAskFault fault) }
+    ensures caused { CausedOr S.Store store.old store.new result (λ a. IsReaderUnreadable a ask.entry.now) }
 {
     let reader = find_marks(store, ask)?;
     match asked(alloc, ask, &reader, held) {

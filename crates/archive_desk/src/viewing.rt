@@ -5,6 +5,8 @@ ghost use Rattle.archive_machine.specs.Messages.{remembered};
 ghost use Rattle.archive_results.specs.Access.{is_shown, standing_ranked, view_of};
 ghost use Rattle.archive_store.specs.Told.{Asks, AsksIn, HoldsTables, WasOpen};
 ghost use Rattle.archive_desk.specs.Asking.{IsEnough, person_reason, standing_reason};
+ghost use Rattle.archive_desk.specs.Causes.{AreUnreadable, CausedOr, IsAddressUnreadable, IsPersonUnreadable, IsRankUnknown};
+ghost use Rattle.archive_desk.specs.Causes.{IsReaderUnreadable, IsUnreadable};
 ghost use Rattle.archive_desk.specs.Faults.{IsAskFault, ask_reason, list_reason, reason, reason_by};
 
 use crate::faults::DeskFault;
@@ -26,6 +28,7 @@ pub fn view<S: Alter>(
     ensures shown { Asks S.Store store.old store.new reason result (λ a. ask_reason a ask.now)
         (λ a found. map (remembered ask.now.list) found.items ≡ view_of a ask.now) }
     ensures fault { IfErr result (λ fault. IsAskFault fault) }
+    ensures caused { CausedOr S.Store store.old store.new result (λ a. IsUnreadable a ask.now (messages_in a ask.now.list)) }
 {
     let messages = match read_list(store, alloc, ask) {
         Ok(messages) => messages,
@@ -50,19 +53,20 @@ pub(crate) fn read_list<S: Alter>(
     ensures held { AsksIn S.Store (HoldsTables S.Store) store.old store.new reason result (λ a. list_reason a ask.now)
         (λ a found. map (remembered ask.now.list) found.items ≡ messages_in a ask.now.list) }
     ensures fault { IfErr result (λ fault. IsAskFault fault) }
+    ensures caused { CausedOr S.Store store.old store.new result (λ a. AreUnreadable (messages_in a ask.now.list)) }
 {
     Ok(store.rows(alloc, ask.list)?)
 }
 
-/// What a policy asks of the reader of a list that is there. G1 where it is not, and then G2 where there is no such person.
-pub(crate) fn find_reader<S: Alter>(
-    store: &mut Store<S>,
-    ask: &Ask<'_>,
-) -> Result<ReaderMarks, DeskFault>
+/// What a policy asks of the reader of a list that is there: the standing on the list and the day, and the address where a rule
+/// turns on it. G1 where there is no such list, and then G2 where there is no such person; G4 where the store has no memory or
+/// fails.
+pub fn find_reader<S: Alter>(store: &mut Store<S>, ask: &Ask<'_>) -> Result<ReaderMarks, DeskFault>
     ensures found { AsksIn S.Store (HoldsTables S.Store) store.old store.new reason result (λ a. ask_reason a ask.now)
         (λ a reader. IsEnough a ask.now reader) }
     ensures was_open { WasOpen S.Store store.old store.new reason result }
     ensures fault { IfErr result (λ fault. IsAskFault fault) }
+    ensures caused { CausedOr S.Store store.old store.new result (λ a. IsReaderUnreadable a ask.now) }
 {
     match find_list(store, ask.list) {
         Ok(()) => find_marks(store, ask),
@@ -78,6 +82,7 @@ pub(crate) fn find_marks<S: Alter>(
     ensures found { AsksIn S.Store (HoldsTables S.Store) store.old store.new reason result (λ a. standing_reason a ask.now)
         (λ a reader. IsEnough a ask.now reader) }
     ensures fault { IfErr result (λ fault. IsAskFault fault) }
+    ensures caused { CausedOr S.Store store.old store.new result (λ a. IsReaderUnreadable a ask.now) }
 {
     match ask.reader {
         Reader::Nobody => Ok(ReaderMarks {
@@ -99,6 +104,7 @@ fn person_marks<S: Alter>(
         (λ a. option_map reason_by (standing_refusal a name.now ask.now.list))
         (λ a reader. IsEnough a (record ask.now { reader = Some name.now }) reader) }
     ensures fault { IfErr result (λ fault. IsAskFault fault) }
+    ensures caused { CausedOr S.Store store.old store.new result (λ a. IsPersonUnreadable a ask.now name.now) }
 {
     let standing = match find_standing(store, ask, name) {
         Ok(standing) => standing,
@@ -126,6 +132,7 @@ fn find_standing<S: Alter>(
         (λ a. option_map reason_by (standing_refusal a name.now ask.now.list))
         (λ a standing. standing ≡ standing_ranked (standing_of a name.now ask.now.list ask.now.day)) }
     ensures fault { IfErr result (λ fault. IsAskFault fault) }
+    ensures caused { CausedOr S.Store store.old store.new result (λ a. IsRankUnknown a ask.now name.now) }
 {
     Ok(store.standing(name, ask.list, ask.day)?)
 }
@@ -135,6 +142,7 @@ fn find_address<S: Alter>(store: &mut Store<S>, name: &str) -> Result<Option<Str
     ensures found { AsksIn S.Store (HoldsTables S.Store) store.old store.new reason result (λ a. person_reason a name.now)
         (λ a address. option_map string_bytes address ≡ address_of a name.now) }
     ensures fault { IfErr result (λ fault. IsAskFault fault) }
+    ensures caused { CausedOr S.Store store.old store.new result (λ a. IsAddressUnreadable a name.now) }
 {
     Ok(store.address(name)?)
 }

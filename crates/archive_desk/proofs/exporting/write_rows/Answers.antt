@@ -1,10 +1,12 @@
 use Rattle.std.proofs.Common.{◌≡◌, Err, rules, refl, sym, ap, subst, ◌∙◌}
-use Rattle.std.specs.Prelude.{option_map}
+use Rattle.std.specs.Prelude.{option_map, IfErr}
 use Rattle.archive_tables.proofs.LastLemmas.{lasts_then, lasts_same}
 use Rattle.archive_desk.specs.Faults.{desk_fault, reason_by}
-use Rattle.archive_desk.specs.Walking.{IsShownStop, WritesRows}
+use Rattle.archive_desk.specs.Walking.{IsShownStop, WritesRows, HasWalkCause}
 use Rattle.archive_desk.proofs.AskLemmas.{reasoned}
 use Rattle.archive_desk.proofs.WalkLemmas.{rows_none, rows_more, rows_unwritten, rows_unread, rows_all, rows_stopped}
+use Rattle.archive_desk.specs.Causes.{IsBroken}
+use Rattle.archive_desk.proofs.CauseLemmas.{next_cause, shown_unbroken}
 use Rattle.archive_desk.proofs.exporting.write_rows.Goals as goal
 
 pub loop-message-init : goal.loop-message-init
@@ -64,3 +66,17 @@ returns-in-Err-clause-cause g c =
     c.in-Err.stop.fault c.saturating_add-in-Err.ensures
     (subst (λ n. IsShownStop (g.W.Sink.told c.loop-message.out) (g.W.Sink.told c.write_shown.new.out) n (g.W.Sink.failures c.write_shown.new.out) c.in-Err.stop.written c.in-Err.stop.fault)
     c.loop-message.invariant.2 c.in-Err.ensures.cause)
+
+pub returns-in_err-message-clause-caused : goal.returns-in_err-message-clause-caused
+returns-in_err-message-clause-caused g c =
+    let fault = c.in_err-message.field-0.0 in
+    let is : c.from_residual.result ≡ Err (desk_fault fault) = search rules in
+    subst (λ r. IfErr r (λ fault. IsBroken fault → HasWalkCause g.S.Store c.args.walk.now c.next.new.self c.args.ask.now)) (sym is)
+    (next_cause g.S.Store c.args.ask.now c.args.walk.now c.loop-message.walk c.next.new.self
+    (λ returned all a w. let so_far = c.loop-message.invariant.3.walked returned all a w in (so_far.0, so_far.1)) c.loop-message.invariant.1 c.next.ensures.lasts fault
+    c.in_err-message.ensures.caused)
+
+pub returns-in-Err-clause-caused : goal.returns-in-Err-clause-caused
+returns-in-Err-clause-caused g c =
+    shown_unbroken (g.W.Sink.told c.loop-message.out) (g.W.Sink.told c.write_shown.new.out) (g.W.Sink.failures c.loop-message.out) (g.W.Sink.failures c.write_shown.new.out)
+    c.in-Err.stop.written c.in-Err.stop.fault c.in-Err.ensures.cause

@@ -1,4 +1,4 @@
-use Rattle.std.proofs.Common.{◌≡◌, pos, List, Some, Err, rules, sym, subst}
+use Rattle.std.proofs.Common.{◌≡◌, pos, List, Some, Err, rules, sym, subst, inl, inr}
 use Rattle.std.specs.Prelude.{MatchOption, Vec}
 use Rattle.std.specs.declared.alloc.Global.{Global}
 use Rattle.archive_machine.specs.Records.{Archive, Message as Remembered}
@@ -14,6 +14,10 @@ use Rattle.archive_desk.specs.Faults.{ask_reason, reason}
 use Rattle.archive_desk.specs.Listing.{lines_shown}
 use Rattle.archive_desk.proofs.IndexLemmas.{not_listed, walk_ended, walk_open}
 use Rattle.archive_desk.proofs.CallLemmas.{open_still, unbegun_lasts, was_open_by}
+use Rattle.archive_results.specs.Access.{ReaderMarks}
+use Rattle.archive_desk.specs.Causes.{AreUnreadable, CausedOr, HasCause, IsBroken, IsReaderUnreadable, IsUnreadable}
+use Rattle.archive_desk.specs.Walking.{HasWalkCause}
+use Rattle.archive_desk.proofs.CauseLemmas.{cause_after, cause_among, disk_cause, each_fault, store_disk, walk_cause}
 use Rattle.archive_desk.proofs.index.read_month.Goals as goal
 
 pub returns-clause-held : goal.returns-clause-held
@@ -59,3 +63,41 @@ returns-in-Ok-each_in_month-clause-was_open g c =
     c.store-1.given.0 c.in-Ok-each_in_month.walk c.walk_lines.new.walk c.in-Ok.reader is
     c.in-Ok.ensures.found (subst (λ l. BeginsOver g.S.Store c.find_reader.new.store l (λ a. in_month a l (pos c.args.month)) c.in-Ok-each_in_month.walk) list c.in-Ok-each_in_month.ensures.begun)
     c.walk_lines.ensures.lasts c.in-Ok.ensures.was_open c.walk_lines.result
+
+pub returns-in-Err-clause-caused : goal.returns-in-Err-clause-caused
+returns-in-Err-clause-caused g c = λ it.
+    let ask = c.args.ask.now in
+    cause_among g.S.Store c.args.store.now c.find_reader.new.store (λ a. IsReaderUnreadable a ask) (λ a. IsUnreadable a ask (in_month a ask.list (pos c.args.month))) (λ a bad. inr bad)
+    (c.in-Err.ensures.caused it)
+
+pub returns-clause-caused : goal.returns-clause-caused
+returns-clause-caused g c =
+    let ask = c.args.ask.now in
+    let old = c.args.store.now in
+    let mid = c.find_reader.new.store in
+    let last = c.each_in_month.follows.lender-at-none in
+    let fault = c.in-Err-each_in_month.fault in
+    let Unread : _ = λ a. IsUnreadable a ask (in_month a ask.list (pos c.args.month)) in
+    let stops = rw c.in-Err-each_in_month.is at c.each_in_month.follows.holds-at-none in
+    subst (λ f. CausedOr g.S.Store old last {A = ReaderMarks} (Err f) Unread) (sym c.from.ensures)
+    (λ it. cause_after g.S.Store old mid last (c.in-Ok.ensures.found.0, λ returned held. let there = c.in-Ok.ensures.found.1 returned held in (there.0, there.1.0))
+    (unbegun_lasts g.S.Store mid last fault (λ a why. list_refusal a c.ask.inside.list.now ≡ Some why) stops.0) Unread
+    (disk_cause g.S.Store mid last Unread (store_disk g.S.Store mid last fault stops.1 it)))
+
+pub returns-in-Ok-each_in_month-clause-caused : goal.returns-in-Ok-each_in_month-clause-caused
+returns-in-Ok-each_in_month-clause-caused g c =
+    let ask = c.args.ask.now in
+    let old = c.args.store.now in
+    let mid = c.find_reader.new.store in
+    let last = c.store-1.given.0 in
+    let walk = c.in-Ok-each_in_month.walk in
+    let new = c.walk_lines.new.walk in
+    let list : c.ask.inside.list.now ≡ ask.list = search rules in
+    let is : last ≡ new.store.now = search rules in
+    let which : Archive → List Remembered = λ a. in_month a ask.list (pos c.args.month) in
+    let begun = subst (λ l. BeginsOver g.S.Store mid l (λ a. in_month a l (pos c.args.month)) walk) list c.in-Ok-each_in_month.ensures.begun in
+    each_fault (λ fault. IsBroken fault → HasWalkCause g.S.Store walk new ask) (λ fault. IsBroken fault → HasCause g.S.Store old last (λ a. IsUnreadable a ask (which a)))
+    (λ fault why it. cause_among g.S.Store old last (λ a. AreUnreadable (which a)) (λ a. IsUnreadable a ask (which a)) (λ a bad. inl bad)
+    (walk_cause g.S.Store ask which old mid last walk new is
+    (c.in-Ok.ensures.found.0, λ returned held. let there = c.in-Ok.ensures.found.1 returned held in (there.0, there.1.0)) begun c.walk_lines.ensures.lasts (why it)))
+    c.walk_lines.result c.walk_lines.ensures.caused

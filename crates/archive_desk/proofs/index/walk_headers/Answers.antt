@@ -1,12 +1,14 @@
 use Rattle.std.proofs.Common.{◌≡◌, Err, map, rules, refl, sym, ap, subst, ◌∙◌}
-use Rattle.std.specs.Prelude.{option_map}
+use Rattle.std.specs.Prelude.{option_map, IfErr}
 use Rattle.archive_results.specs.Index.{header_of}
-use Rattle.archive_tables.proofs.LastLemmas.{lasts_then, lasts_same}
+use Rattle.archive_tables.proofs.LastLemmas.{lasts_then}
 use Rattle.archive_desk.specs.Faults.{desk_fault, reason_by}
-use Rattle.archive_desk.specs.Walking.{ListsRows}
+use Rattle.archive_desk.specs.Walking.{ListsRows, HasWalkCause}
 use Rattle.archive_desk.specs.declared.faults.DeskFault.TheVariants.{Memory}
 use Rattle.archive_desk.proofs.AskLemmas.{reasoned}
 use Rattle.archive_desk.proofs.IndexLemmas.{each_apart, listed_more, listed_all, listed_no_more, listed_unread}
+use Rattle.archive_desk.specs.Causes.{IsBroken}
+use Rattle.archive_desk.proofs.CauseLemmas.{next_cause}
 use Rattle.archive_desk.proofs.index.walk_headers.Goals as goal
 
 pub loop-headers-preserved : goal.loop-headers-preserved
@@ -48,3 +50,11 @@ returns-in_err-message-clause-lasts g c = lasts_then _ _ _ c.loop-headers.invari
 
 pub returns-clause-lasts : goal.returns-clause-lasts
 returns-clause-lasts g c = lasts_then _ _ _ c.loop-headers.invariant.1 c.next.ensures.lasts
+
+pub returns-in_err-message-clause-caused : goal.returns-in_err-message-clause-caused
+returns-in_err-message-clause-caused g c =
+    let fault = c.in_err-message.field-0.0 in
+    let is : c.from_residual.result ≡ Err (desk_fault fault) = search rules in
+    subst (λ r. IfErr r (λ fault. IsBroken fault → HasWalkCause g.S.Store c.args.walk.now c.next.new.self c.args.ask.now)) (sym is)
+    (next_cause g.S.Store c.args.ask.now c.args.walk.now c.loop-headers.walk c.next.new.self
+    (λ returned all a w. let so_far = c.loop-headers.invariant.2 returned all a w in (so_far.0, so_far.1)) c.loop-headers.invariant.1 c.next.ensures.lasts fault c.in_err-message.ensures.caused)

@@ -1,9 +1,9 @@
-use Rattle.std.proofs.Common.{◌≡◌, Bool, map}
+use Rattle.std.proofs.Common.{◌≡◌, map}
 use Rattle.archive_results.specs.Results.{tree_lines}
 use Rattle.archive_results.specs.Shown.{shown_of}
 use Rattle.archive_desk.specs.Faults.{ask_reason, reason}
 use Rattle.archive_desk.proofs.CallLemmas.{unanswered_too}
-use Rattle.archive_desk.proofs.ListLemmas.{listed_from, unmade, IsIndexed}
+use Rattle.archive_desk.proofs.ListLemmas.{listed_from}
 use Rattle.archive_desk.proofs.listing.threads.Goals as goal
 
 pub returns-in-Ok-tree_lines-clause-listed : goal.returns-in-Ok-tree_lines-clause-listed

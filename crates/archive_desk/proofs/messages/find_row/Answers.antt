@@ -4,9 +4,11 @@ use Rattle.archive_machine.specs.Questions.{list_refusal, message_of}
 use Rattle.archive_machine.specs.declared.messages.Message.{Message}
 use Rattle.archive_store.specs.Held.{held_of}
 use Rattle.archive_store.specs.Replies.{Answers}
-use Rattle.archive_store.specs.Told.{AsksIn, HoldsTables}
+use Rattle.archive_store.specs.Told.{AsksIn, HoldsTables, CausedOr as StoreCausedOr}
 use Rattle.archive_desk.specs.Faults.{desk_fault, list_reason, reason}
 use Rattle.archive_desk.proofs.AskLemmas.{store_declines}
+use Rattle.archive_desk.specs.Causes.{CausedOr, IsMessageUnreadable}
+use Rattle.archive_desk.proofs.CauseLemmas.{store_cause}
 use Rattle.archive_desk.proofs.messages.find_row.Goals as goal
 
 pub returns-in_err-row-clause-held : goal.returns-in_err-row-clause-held
@@ -21,3 +23,16 @@ returns-in_err-row-clause-held g c =
     subst (λ r. AsksIn g.S.Store (HoldsTables g.S.Store) old new reason r (λ a. list_reason a ask) Says) (sym is)
     (store_declines g.S.Store old new (λ a. list_refusal a ask.list) Says fault Says c.in_err-row.ensures.lasts
     (subst (λ l. Answers g.S.Store (held_of old) (held_of new) {A = Option Message} (Err fault) (λ a. list_refusal a l) Says) list c.in_err-row.ensures.answer))
+
+pub returns-in_err-row-clause-caused : goal.returns-in_err-row-clause-caused
+returns-in_err-row-clause-caused g c =
+    let ask = c.args.ask.now in
+    let old = c.args.store.now in
+    let new = c.row.new.self in
+    let key = c.args.key.now in
+    let fault = c.in_err-row.field-0.0 in
+    let list : c.ask.inside.list.now ≡ ask.list = search rules in
+    let is : c.from_residual.result ≡ Err (desk_fault fault) = search rules in
+    subst (λ r. CausedOr g.S.Store old new r (λ a. IsMessageUnreadable a ask key)) (sym is)
+    (store_cause g.S.Store old new fault (λ a. IsMessageUnreadable a ask key)
+    (subst (λ l. StoreCausedOr g.S.Store old new {A = Option Message} (Err fault) (λ a. IsMessageUnreadable a (record ask { list = l }) key)) list c.in_err-row.ensures.caused))

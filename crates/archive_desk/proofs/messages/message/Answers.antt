@@ -1,4 +1,4 @@
-use Rattle.std.proofs.Common.{◌≡◌}
+use Rattle.std.proofs.Common.{◌≡◌, ◌⊎◌, inl, inr}
 use Rattle.std.specs.Prelude.{option_map}
 use Rattle.archive_machine.specs.Messages.{remembered}
 use Rattle.archive_machine.specs.Questions.{message_of}
@@ -9,6 +9,8 @@ use Rattle.archive_desk.specs.Faults.{ask_reason, reason}
 use Rattle.archive_desk.proofs.AskLemmas.{answer_after, list_refused}
 use Rattle.archive_desk.proofs.CallLemmas.{asks_last, open_still, unanswered_too, was_open_by}
 use Rattle.archive_store.specs.Told.{HoldsTables}
+use Rattle.archive_desk.specs.Causes.{HasCause, IsBroken, IsMessageUnreadable, IsReaderUnreadable}
+use Rattle.archive_desk.proofs.CauseLemmas.{cause_after, cause_among, each_fault}
 use Rattle.archive_desk.proofs.messages.message.Goals as goal
 
 pub returns-in-Ok-clause-asked : goal.returns-in-Ok-clause-asked
@@ -35,3 +37,24 @@ returns-in-Ok-clause-was_open g c =
     (open_still g.S.Store c.args.store.now c.find_row.new.store c.answer_on.new.store c.in-Ok.ensures.was_open
     (asks_last g.S.Store (HoldsTables g.S.Store) c.find_row.new.store c.answer_on.new.store reason (λ a. standing_reason a c.args.ask.now)
     (λ a answer. told answer ≡ asked_on c.args.ask.now (reader_marks a c.args.ask.now) (option_map (remembered c.args.ask.now.list) c.in-Ok.held)) c.answer_on.result c.answer_on.ensures.asked))
+
+pub returns-in-Ok-clause-caused : goal.returns-in-Ok-clause-caused
+returns-in-Ok-clause-caused g c =
+    let ask = c.args.ask.now in
+    let old = c.args.store.now in
+    let mid = c.find_row.new.store in
+    let new = c.answer_on.new.store in
+    let Unread : _ = λ a. IsReaderUnreadable a ask in
+    let Either : _ = λ a. IsMessageUnreadable a ask c.args.key.now ⊎ IsReaderUnreadable a ask in
+    let last = asks_last g.S.Store (HoldsTables g.S.Store) mid new reason (λ a. standing_reason a ask)
+    (λ a answer. told answer ≡ asked_on ask (reader_marks a ask) (option_map (remembered ask.list) c.in-Ok.held)) c.answer_on.result c.answer_on.ensures.asked in
+    each_fault (λ fault. IsBroken fault → HasCause g.S.Store mid new Unread) (λ fault. IsBroken fault → HasCause g.S.Store old new Either)
+    (λ fault why it. cause_among g.S.Store old new Unread Either (λ a bad. inr bad)
+    (cause_after g.S.Store old mid new (c.in-Ok.ensures.held.0, λ returned held. let there = c.in-Ok.ensures.held.1 returned held in (there.0, there.1.0)) last Unread (why it)))
+    c.answer_on.result c.answer_on.ensures.caused
+
+pub returns-in-Err-clause-caused : goal.returns-in-Err-clause-caused
+returns-in-Err-clause-caused g c = λ it.
+    let ask = c.args.ask.now in
+    cause_among g.S.Store c.args.store.now c.find_row.new.store (λ a. IsMessageUnreadable a ask c.args.key.now)
+    (λ a. IsMessageUnreadable a ask c.args.key.now ⊎ IsReaderUnreadable a ask) (λ a bad. inl bad) (c.in-Err.ensures.caused it)

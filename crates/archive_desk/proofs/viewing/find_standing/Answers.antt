@@ -5,9 +5,11 @@ use Rattle.archive_machine.specs.Questions.{standing_of, standing_refusal}
 use Rattle.archive_results.specs.Access.{standing_ranked}
 use Rattle.archive_store.specs.Held.{held_of}
 use Rattle.archive_store.specs.Replies.{Answers}
-use Rattle.archive_store.specs.Told.{AsksIn, HoldsTables}
+use Rattle.archive_store.specs.Told.{AsksIn, HoldsTables, CausedOr as StoreCausedOr}
 use Rattle.archive_desk.specs.Faults.{desk_fault, reason, reason_by}
 use Rattle.archive_desk.proofs.AskLemmas.{store_declines}
+use Rattle.archive_desk.specs.Causes.{CausedOr, IsRankUnknown}
+use Rattle.archive_desk.proofs.CauseLemmas.{store_cause}
 use Rattle.archive_desk.proofs.viewing.find_standing.Goals as goal
 
 pub returns-in_err-standing-clause-found : goal.returns-in_err-standing-clause-found
@@ -23,3 +25,19 @@ returns-in_err-standing-clause-found g c =
     subst (λ r. AsksIn g.S.Store (HoldsTables g.S.Store) old new reason r (λ a. option_map reason_by (standing_refusal a name ask.list)) Says) (sym is)
     (store_declines g.S.Store old new (λ a. standing_refusal a name ask.list) Says fault (λ a (standing : Standing). ⊤) c.in_err-standing.ensures.lasts
     (subst (λ l. Answers g.S.Store (held_of old) (held_of new) {A = Standing} (Err fault) (λ a. standing_refusal a name l) (λ a s. ⊤)) list c.in_err-standing.ensures.answer))
+
+pub returns-in_err-standing-clause-caused : goal.returns-in_err-standing-clause-caused
+returns-in_err-standing-clause-caused g c =
+    let ask = c.args.ask.now in
+    let old = c.args.store.now in
+    let new = c.standing.new.self in
+    let name = c.args.name.now in
+    let fault = c.in_err-standing.field-0.0 in
+    let list : c.ask.inside.list.now ≡ ask.list = search rules in
+    let day : c.ask.inside.day ≡ ask.day = search rules in
+    let is : c.from_residual.result ≡ Err (desk_fault fault) = search rules in
+    subst (λ r. CausedOr g.S.Store old new r (λ a. IsRankUnknown a ask name)) (sym is)
+    (store_cause g.S.Store old new fault (λ a. IsRankUnknown a ask name)
+    (subst (λ l. StoreCausedOr g.S.Store old new {A = Standing} (Err fault) (λ a. IsRankUnknown a (record ask { list = l }) name)) list
+    (subst (λ d. StoreCausedOr g.S.Store old new {A = Standing} (Err fault) (λ a. IsRankUnknown a (record ask { list = c.ask.inside.list.now; day = d }) name)) day
+    c.in_err-standing.ensures.caused)))

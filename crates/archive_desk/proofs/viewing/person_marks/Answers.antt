@@ -1,10 +1,18 @@
-use Rattle.std.proofs.Common.{◌≡◌, Bool, List, Ok, Err, false, option_map, refl, ap, subst}
+use Rattle.std.proofs.Common.{◌≡◌, Bool, List, Ok, Err, true, false, option_map, refl, ap, sym, ◌∙◌, subst, inl, inr}
 use Rattle.std.specs.Prelude.{string_bytes}
+use Rattle.std.specs.declared.alloc.Global.{Global}
 use Rattle.policy_core.specs.Facts.{Facts}
-use Rattle.policy_core.specs.Rules.{Rule}
+use Rattle.policy_core.specs.Rules.{Rule, asks_own}
 use Rattle.policy_core.specs.Verdict.{verdict_of}
 use Rattle.archive_results.specs.Access.{Ask}
 use Rattle.archive_desk.proofs.MarkLemmas.{person_known, person_unasked}
+use Rattle.archive_desk.specs.Causes.{IsAddressUnreadable, IsPersonUnreadable, IsRankUnknown}
+use Rattle.archive_desk.proofs.CauseLemmas.{cause_after, cause_among}
+use Rattle.archive_desk.proofs.CallLemmas.{asks_last}
+use Rattle.archive_machine.specs.Questions.{address_of}
+use Rattle.archive_store.specs.Told.{HoldsTables}
+use Rattle.archive_desk.specs.Asking.{person_reason}
+use Rattle.archive_desk.specs.Faults.{reason}
 use Rattle.archive_desk.proofs.viewing.person_marks.Goals as goal
 
 pub returns-then-not-asks_own-clause-found : goal.returns-then-not-asks_own-clause-found
@@ -25,3 +33,26 @@ returns-in-Err-find_address-clause-found g c =
     rw c.in-Err-find_address.is at (person_known g.S.Store c.args.ask.now c.args.name.now c.in-Ok.standing c.args.store.now c.find_standing.new.store c.find_address.new.store
     (λ address. option_map string_bytes address) (λ address. record { standing = c.in-Ok.standing; address = option_map string_bytes address }) (λ address. refl)
     c.find_address.result c.in-Ok.ensures.found c.find_address.ensures.found)
+
+pub returns-in-Err-clause-caused : goal.returns-in-Err-clause-caused
+returns-in-Err-clause-caused g c = λ it.
+    let ask = c.args.ask.now in
+    let name = c.args.name.now in
+    cause_among g.S.Store c.args.store.now c.find_standing.new.store (λ a. IsRankUnknown a ask name) (λ a. IsPersonUnreadable a ask name) (λ a bad. inl bad)
+    (c.in-Err.ensures.caused it)
+
+pub returns-in-Err-find_address-clause-caused : goal.returns-in-Err-find_address-clause-caused
+returns-in-Err-find_address-clause-caused g c = λ it.
+    let ask = c.args.ask.now in
+    let name = c.args.name.now in
+    let old = c.args.store.now in
+    let mid = c.find_standing.new.store in
+    let new = c.find_address.new.store in
+    let asked : c.asks_own.result ≡ true = cc in
+    let own : asks_own ask.rules ≡ true = sym (c.asks_own.ensures.value ∙ ap (λ (ask : Ask). asks_own ask.rules) c.ask.view_is) ∙ asked in
+    let last = asks_last g.S.Store (HoldsTables g.S.Store) mid new reason (λ a. person_reason a name)
+    (λ a address. option_map (string_bytes {Z = Global}) address ≡ address_of a name)
+    (Err c.in-Err-find_address.fault) c.in-Err-find_address.ensures.found in
+    cause_among g.S.Store old new (λ a. IsAddressUnreadable a name) (λ a. IsPersonUnreadable a ask name) (λ a bad. inr (own, bad))
+    (cause_after g.S.Store old mid new (c.in-Ok.ensures.found.0, λ returned held. let there = c.in-Ok.ensures.found.1 returned held in (there.0, there.1.0)) last
+    (λ a. IsAddressUnreadable a name) (c.in-Err-find_address.ensures.caused it))

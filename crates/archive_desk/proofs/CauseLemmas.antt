@@ -1,0 +1,103 @@
+-- Why the database does not answer: causes, carried from call to call.
+use Rattle.std.proofs.Common.{◌≡◌, inl, inr, refl, sym, ◌∙◌, subst, ℕ, List, [], Result, Ok, Err, IfErr}
+use Rattle.sqlite.specs.Store.{Ghosts}
+use Rattle.sqlite.specs.Held.{state}
+use Rattle.archive_machine.specs.Records.{Archive, Message as Remembered}
+use Rattle.archive_tables.proofs.LastLemmas.{lasts_then}
+use Rattle.archive_store.specs.Held.{held_of}
+use Rattle.archive_store.specs.Told.{Caused as StoreCaused, CausedOr as StoreCausedOr, GoesIn, HasFailed, HasReturned, HoldsTables, Lasts, archive_in}
+use Rattle.archive_store.specs.Walking.{BeginsOver, StopsNext, Walk, WalksOver}
+use Rattle.archive_store.specs.declared.store.Store.{Store}
+use Rattle.archive_store.specs.declared.faults.StoreFault.{StoreFault}
+use Rattle.archive_store.specs.declared.faults.StoreFault.TheVariants as faults
+use Rattle.archive_store.proofs.CauseLemmas.{more_since, stops_later}
+use Rattle.archive_results.specs.Access.{Ask}
+use Rattle.archive_desk.specs.Causes.{AreUnreadable, HasCause, HasDiskCause, IsBroken}
+use Rattle.archive_desk.specs.Faults.{desk_fault}
+use Rattle.archive_desk.specs.Walking.{HasWalkCause, IsShownStop}
+use Rattle.archive_desk.specs.declared.faults.DeskFault.{DeskFault}
+
+-- ---- which faults are the database's
+
+-- of those of the store E15 alone
+broken_by : (fault : StoreFault) → IsBroken (desk_fault fault) → fault ≡ faults.Store
+broken_by faults.BadName it = absurd (cc)
+broken_by faults.BadText it = absurd (cc)
+broken_by faults.ListExists it = absurd (cc)
+broken_by faults.NoList it = absurd (cc)
+broken_by faults.PersonExists it = absurd (cc)
+broken_by faults.NoPerson it = absurd (cc)
+broken_by faults.TokenTaken it = absurd (cc)
+broken_by faults.NoMessage it = absurd (cc)
+broken_by faults.AlreadyWithdrawn it = absurd (cc)
+broken_by faults.NotWithdrawn it = absurd (cc)
+broken_by faults.BadDays it = absurd (cc)
+broken_by faults.ListFull it = absurd (cc)
+broken_by faults.TooLarge it = absurd (cc)
+broken_by faults.Memory it = absurd (cc)
+broken_by faults.Store it = refl
+
+-- none that stops the writing of a message
+pub shown_unbroken : {X : Type 0} (before after : List ℕ) (failed fails count : ℕ) (fault : DeskFault) → IsShownStop before after failed fails count fault → IsBroken fault → X
+shown_unbroken before after failed fails count fault stop it = absurd (subst (IsShownStop before after failed fails count) it stop)
+
+-- of each fault of an answer
+pub each_fault : {A F : Type 0} (P Q : F → Type 0) → ((fault : F) → P fault → Q fault) → (result : Result A F) → IfErr result P → IfErr result Q
+each_fault P Q implies (Ok answer) it = tt
+each_fault P Q implies (Err fault) it = implies fault it
+
+module _ {S : Type 0} (g : Ghosts S) (old new : Store S) where
+  -- ---- a question of the store
+
+  pub store_cause : (fault : StoreFault) (Unread : Archive → Type 0) → StoreCausedOr g old new {A = Unit {0}} (Err fault) Unread
+      → IsBroken (desk_fault fault) → HasCause g old new Unread
+  store_cause fault Unread why it = λ returned held free. why returned held free (broken_by fault it)
+
+  pub store_disk : (fault : StoreFault) → StoreCaused g old new {A = Unit {0}} (Err fault) → IsBroken (desk_fault fault) → HasDiskCause g old new
+  store_disk fault why it = λ returned held free. why returned held free (broken_by fault it)
+
+  -- ---- a cause among others
+
+  pub disk_cause : (Unread : Archive → Type 0) → HasDiskCause g old new → HasCause g old new Unread
+  disk_cause Unread why = λ returned held free. inl (why returned held free)
+
+  pub cause_among : (Unread Unread' : Archive → Type 0) → ((a : Archive) → Unread a → Unread' a) → HasCause g old new Unread → HasCause g old new Unread'
+  cause_among Unread Unread' implies why = λ returned held free. elim (why returned held free) [ inl more ↦ inl more | inr bad ↦ inr (implies _ bad) ]
+
+module _ {S : Type 0} (g : Ghosts S) (old mid new : Store S) (first : GoesIn g (HoldsTables g) old mid (λ a b. b ≡ a)) (last : Lasts g mid new) where
+  -- behind calls that left the archive: the faults of the disk never get fewer, and no limit was set
+  pub cause_after : (Unread : Archive → Type 0) → HasCause g mid new Unread → HasCause g old new Unread
+  cause_after Unread why = λ returned held free.
+      let there = first.1 (last.returned returned) held in
+      elim (why returned there.0 (first.0.limit ∙ free)) [
+        | inl more ↦ inl (more_since (state g (held_of old)) (state g (held_of mid)) (state g (held_of new)) first.0 more)
+        | inr bad ↦ inr (subst Unread there.1 bad)
+      ]
+
+-- ---- a walk
+
+module _ {S : Type 0} (g : Ghosts S) (ask : Ask) (old mid new : Walk S) where
+  -- the next message cannot be read, or the disk failed
+  pub next_cause : (HasReturned g mid.store.now → (all : List Remembered) (a : Archive) → WalksOver g ask.list all a [] old
+      → (given : List Remembered) × WalksOver g ask.list all a given mid)
+      → Lasts g old.store.now mid.store.now → Lasts g mid.store.now new.store.now → (fault : StoreFault) → StopsNext g {A = Unit {0}} mid new (Err fault)
+      → IsBroken (desk_fault fault) → HasWalkCause g old new ask
+  next_cause so_far before last fault stops it = λ returned free all a w.
+      let here = so_far (last.returned returned) all a w in
+      stops_later (state g (held_of old.store.now)) (state g (held_of mid.store.now)) (state g (held_of new.store.now)) here.0 all before
+      (stops returned ask.list all a here.0 here.1 (before.limit ∙ free) (broken_by fault it))
+
+module _ {S : Type 0} (g : Ghosts S) (ask : Ask) (which : Archive → List Remembered) (old mid last : Store S) (walk new : Walk S) (is : last ≡ new.store.now)
+    (first : GoesIn g (HoldsTables g) old mid (λ a b. b ≡ a)) (begun : BeginsOver g mid ask.list which walk) (lasts : Lasts g walk.store.now new.store.now) where
+  -- behind calls that left the archive
+  pub walk_cause : HasWalkCause g walk new ask → HasCause g old last (λ a. AreUnreadable (which a))
+  walk_cause why = λ returned held free.
+      let returned' = subst (HasReturned g) is returned in
+      let there = first.1 (begun.0.returned (lasts.returned returned')) held in
+      let walks = begun.1 (lasts.returned returned') there.0 in
+      elim (why returned' (begun.0.limit ∙ first.0.limit ∙ free) (which (archive_in g mid)) (archive_in g mid) walks.1) [
+        | inl more ↦
+            inl (subst (HasFailed g old) (sym is) (more_since (state g (held_of old)) (state g (held_of walk.store.now)) (state g (held_of new.store.now))
+            (lasts_then _ _ _ first.0 begun.0) more))
+        | inr bad ↦ inr (subst (λ a. AreUnreadable (which a)) there.1 bad)
+      ]

@@ -1,0 +1,198 @@
+-- Of an archive that can be read nothing breaks a question, but the disk.
+use Rattle.std.proofs.Common.{◌≡◌, ◌≢◌, ◌⊎◌, ℕ, ℤ, Bool, true, false, ◌&&◌, inl, inr, refl, List, [], ◌∷◌, cond, pos, Option, Some, None, Result, arith, if◌then◌else◌}
+use Rattle.std.specs.Prelude.{map, filter, find, zip, int_lt, option_map, IfErr, IfSome, IsUtf8, bytes_eq}
+use Rattle.std.specs.Int.{int_max}
+use Rattle.std.specs.List.{All}
+use Rattle.std.specs.Option.{IsSomeAnd}
+use Rattle.std.proofs.lemmas.List.Elements.{All-nil, All-cons, All-head, All-tail, All-map, All-filter}
+use Rattle.sqlite.specs.Store.{Ghosts}
+use Rattle.sqlite.specs.Steps.{over_memory}
+use Rattle.sqlite.proofs.Callers.{memory_is_clean}
+use Rattle.sqlite_disk.specs.Disk.{MoreFaults}
+use Rattle.sqlite_trees.specs.declared.memory.MemStore.{MemStore}
+use Rattle.policy_core.specs.Rules.{asks_own}
+use Rattle.policy_core.specs.declared.access.Standing.{Standing}
+use Rattle.policy_core.specs.declared.access.Standing.TheVariants.{Public}
+use Rattle.archive_machine.specs.Records.{Address, Archive, Filing, Grant, Message, Person}
+use Rattle.archive_machine.specs.Filing.{Filed, filed, by_author, by_filed_date, in_month, is_filed_by_author, is_filed_in_month, is_sent_before, with_filed}
+use Rattle.archive_machine.specs.Questions.{address_of, highest, holds_on, is_address_of, is_grant_of, is_message, message_of, messages_in, person_of_token, standing_of}
+use Rattle.archive_database.specs.Messages.{IsReadable}
+use Rattle.archive_store.specs.Held.{held_of}
+use Rattle.archive_store.specs.Told.{CausedOr as StoreCausedOr, HasFailed, archive_in}
+use Rattle.archive_store.specs.Words.{standing_rank}
+use Rattle.archive_store.specs.declared.faults.StoreFault.{StoreFault}
+use Rattle.archive_store.specs.declared.faults.StoreFault.TheVariants as faults
+use Rattle.archive_store.specs.declared.store.Store.{Store}
+use Rattle.archive_results.specs.Access.{Ask}
+use Rattle.archive_desk.specs.Causes.{CausedOr, HasCause, IsBroken, IsMessageUnreadable, IsPersonUnreadable, IsReaderUnreadable, IsUnreadable}
+use Rattle.archive_desk.specs.Readable.{AreListsUnreadable, CanBeRead, IsHolderUnreadable, IsNeverBroken, IsNeverCutOff, IsNeverLost, IsRanked, IsTellable, IsUnbroken, IsUntroubled}
+use Rattle.archive_desk.specs.declared.exporting.ExportStop.{ExportStop}
+use Rattle.archive_desk.specs.declared.faults.DeskFault.{DeskFault}
+use Rattle.archive_desk.proofs.CauseLemmas.{each_fault}
+
+-- ---- what is found
+
+module _ {X : Type 0} (P : X → Type 0) where
+  found : (test : X → Bool) (xs : List X) → All P xs → IfSome (find test xs) P
+  found test [] all = tt
+  found test (x ∷ xs) all = cases (test x) (found test xs (All-tail P x xs all))
+    where
+      cases : (b : Bool) → IfSome (find test xs) P → IfSome (cond b (Some x) (find test xs)) P
+      cases true rest = All-head P x xs all
+      cases false rest = rest
+
+  none_else : (o : Option X) → IfSome o P → ¬ IsSomeAnd o (λ x. ¬ P x)
+  none_else None holds = λ bad. bad
+  none_else (Some x) holds = λ bad. bad holds
+
+of_value : {X Y : Type 0} (P : Y → Type 0) (f : X → Y) (o : Option X) → IfSome o (λ x. P (f x)) → IfSome (option_map f o) P
+of_value P f None holds = tt
+of_value P f (Some x) holds = holds
+
+no_one : {X : Type 0} (P : X → Type 0) (o : Option X) → ((x : X) → ¬ P x) → ¬ IsSomeAnd o P
+no_one P None never = λ bad. bad
+no_one P (Some x) never = never x
+
+-- ---- messages by what is filed of them
+
+module _ (P : Message → Type 0) where
+  abbrev OfFiled : Filed → Type 0
+  OfFiled f = P f.0
+
+  zipped : (ms : List Message) (fs : List Filing) → All P ms → All OfFiled (zip ms fs)
+  zipped [] fs all = All-nil OfFiled
+  zipped (m ∷ ms) [] all = All-nil OfFiled
+  zipped (m ∷ ms) (f ∷ fs) all = All-cons OfFiled (m, f) (zip ms fs) (All-head P m ms all) (zipped ms fs (All-tail P m ms all))
+
+  placed : (f : Filed) (fs : List Filed) → OfFiled f → All OfFiled fs → All OfFiled (with_filed f fs)
+  placed f [] it all = All-cons OfFiled f [] it all
+  placed f (g ∷ gs) it all = cases (is_sent_before g f) (placed f gs it (All-tail OfFiled g gs all))
+    where
+      cases : (b : Bool) → All OfFiled (with_filed f gs) → All OfFiled (if b then g ∷ with_filed f gs else f ∷ g ∷ gs)
+      cases true rest = All-cons OfFiled g (with_filed f gs) (All-head OfFiled g gs all) rest
+      cases false rest = All-cons OfFiled f (g ∷ gs) it all
+
+  in_order : (fs : List Filed) → All OfFiled fs → All OfFiled (by_filed_date fs)
+  in_order [] all = all
+  in_order (f ∷ fs) all = placed f (by_filed_date fs) (All-head OfFiled f fs all) (in_order fs (All-tail OfFiled f fs all))
+
+  filed_so : (a : Archive) (test : Filed → Bool) → All P a.messages → All P (map (λ (f : Filed). f.0) (by_filed_date (filter test (filed a))))
+  filed_so a test all =
+      All-map P (λ (f : Filed). f.0) (by_filed_date (filter test (filed a)))
+      (in_order (filter test (filed a)) (All-filter test OfFiled (filed a) (zipped a.messages a.filings all)))
+
+-- ---- the rank of a person is a standing's
+
+abbrev IsRank : ℤ → Type 0
+IsRank rank = (standing : Standing) × (standing_rank standing ≡ rank)
+
+higher : (x y : ℤ) → IsRank x → IsRank y → IsRank (int_max x y)
+higher x y first last = cases (int_lt y x)
+  where
+    cases : (b : Bool) → IsRank (cond b x y)
+    cases true = first
+    cases false = last
+
+highest_is_rank : (ranks : List ℤ) → All IsRank ranks → IsRank (highest ranks)
+highest_is_rank [] all = (Public, refl)
+highest_is_rank (rank ∷ ranks) all = higher rank (highest ranks) (All-head IsRank rank ranks all) (highest_is_rank ranks (All-tail IsRank rank ranks all))
+
+module _ (a : Archive) (can : CanBeRead a) where
+  standing_is_rank : (person list : List ℕ) (day : ℤ) → IsRank (standing_of a person list day)
+  standing_is_rank person list day =
+      let holds : Grant → Bool = λ g. is_grant_of person list g && holds_on day g in
+      highest_is_rank (map (λ g. g.rank) (filter holds a.grants))
+      (All-map IsRank (λ (g : Grant). g.rank) (filter holds a.grants) (All-filter holds IsRanked a.grants can.grants))
+
+  -- ---- none is unreadable
+
+  person_read : (ask : Ask) (person : List ℕ) → ¬ IsPersonUnreadable a ask person
+  person_read ask person bad = elim bad [
+    | inl unknown ↦ let rank = standing_is_rank person ask.list ask.day in unknown rank.0 rank.1
+    | inr own ↦
+        none_else IsUtf8 (address_of a person)
+        (of_value IsUtf8 (λ (x : Address). x.address) (find (is_address_of person) a.addresses) (found (λ (x : Address). IsUtf8 x.address) (is_address_of person) a.addresses can.addresses))
+        own.1
+  ]
+
+  pub reader_read : (ask : Ask) → ¬ IsReaderUnreadable a ask
+  reader_read ask = no_one (IsPersonUnreadable a ask) ask.reader (person_read ask)
+
+  pub message_read : (ask : Ask) (key : List ℕ) → ¬ IsMessageUnreadable a ask key
+  message_read ask key = none_else IsReadable (message_of a ask.list key) (found IsReadable (is_message ask.list key) a.messages can.messages)
+
+  pub message_or_reader_read : (ask : Ask) (key : List ℕ) → ¬ (IsMessageUnreadable a ask key ⊎ IsReaderUnreadable a ask)
+  message_or_reader_read ask key bad = elim bad [ inl message ↦ message_read ask key message | inr reader ↦ reader_read ask reader ]
+
+  messages_read : (ask : Ask) (messages : List Message) → All IsReadable messages → ¬ IsUnreadable a ask messages
+  messages_read ask messages all bad = elim bad [ inl messages ↦ messages all | inr reader ↦ reader_read ask reader ]
+
+  pub list_read : (ask : Ask) → ¬ IsUnreadable a ask (messages_in a ask.list)
+  list_read ask = messages_read ask (messages_in a ask.list) (All-filter (λ m. bytes_eq m.list ask.list) IsReadable a.messages can.messages)
+
+  pub month_read : (ask : Ask) (month : ℤ) → ¬ IsUnreadable a ask (in_month a ask.list month)
+  month_read ask month = messages_read ask (in_month a ask.list month) (filed_so IsReadable a (is_filed_in_month ask.list month) can.messages)
+
+  pub author_read : (ask : Ask) (key : List ℕ) → ¬ IsUnreadable a ask (by_author a ask.list key)
+  author_read ask key = messages_read ask (by_author a ask.list key) (filed_so IsReadable a (is_filed_by_author ask.list key) can.messages)
+
+  pub lists_read : ¬ AreListsUnreadable a
+  lists_read bad = bad can.lists
+
+  pub holder_read : (token : List ℕ) → ¬ IsHolderUnreadable a token
+  holder_read token =
+      none_else IsUtf8 (person_of_token a token)
+      (of_value IsUtf8 (λ (p : Person). p.name) (find (λ (p : Person). bytes_eq p.token token) a.persons)
+      (found (λ (p : Person). IsUtf8 p.name) (λ (p : Person). bytes_eq p.token token) a.persons can.persons))
+
+-- ---- so only the disk breaks a question
+
+module _ {S : Type 0} (g : Ghosts S) (old new : Store S) (well : IsUntroubled g old new) where
+  abbrev before : Archive
+  before = archive_in g old
+
+  abbrev can_be_read : CanBeRead before
+  can_be_read = well.tellable.readable
+
+  no_cause : (Unread : Archive → Type 0) → ¬ Unread before → ¬ HasCause g old new Unread
+  no_cause Unread read cause = elim (cause well.returned well.tellable.held well.tellable.unlimited) [ inl more ↦ well.unfailed more | inr bad ↦ read bad ]
+
+  unbroken : {A : Type 0} (result : Result A DeskFault) (Unread : Archive → Type 0) → ¬ Unread before → CausedOr g old new result Unread → IsUnbroken result
+  unbroken result Unread read = each_fault (λ fault. IsBroken fault → HasCause g old new Unread) (λ fault. ¬ IsBroken fault)
+      (λ fault why it. no_cause Unread read (why it)) result
+
+  told : {A : Type 0} (result : Result A StoreFault) (Unread : Archive → Type 0) → ¬ Unread before → StoreCausedOr g old new result Unread
+      → IfErr result (λ fault. fault ≢ faults.Store)
+  told result Unread read why =
+      each_fault (λ fault. fault ≡ faults.Store → HasFailed g old new ⊎ Unread before) (λ fault. fault ≢ faults.Store)
+      (λ fault cause it. elim (cause it) [ inl more ↦ well.unfailed more | inr bad ↦ read bad ])
+      result (why well.returned well.tellable.held well.tellable.unlimited)
+
+  pub never_broken : {A : Type 0} (result : Result A DeskFault) (ask : Ask) → IsNeverBroken g old new result ask
+  never_broken result ask = record {
+    list = unbroken result (λ a. IsUnreadable a ask (messages_in a ask.list)) (list_read before can_be_read ask);
+    month = λ month. unbroken result (λ a. IsUnreadable a ask (in_month a ask.list month)) (month_read before can_be_read ask month);
+    author = λ key. unbroken result (λ a. IsUnreadable a ask (by_author a ask.list key)) (author_read before can_be_read ask key);
+    message = λ key. unbroken result (λ a. IsMessageUnreadable a ask key ⊎ IsReaderUnreadable a ask) (message_or_reader_read before can_be_read ask key);
+    reader = unbroken result (λ a. IsReaderUnreadable a ask) (reader_read before can_be_read ask);
+  }
+
+  pub never_cut_off : {A : Type 0} (result : Result A ExportStop) (ask : Ask) → IsNeverCutOff g old new result ask
+  never_cut_off result ask =
+      let Unread : Archive → Type 0 = λ a. IsUnreadable a ask (messages_in a ask.list) in
+      each_fault (λ (stop : ExportStop). IsBroken stop.fault → HasCause g old new Unread) (λ stop. ¬ IsBroken stop.fault)
+      (λ stop why it. no_cause Unread (list_read before can_be_read ask) (why it)) result
+
+  pub never_lost : {A : Type 0} (result : Result A StoreFault) → IsNeverLost g old new result
+  never_lost result = record {
+    lists = told result AreListsUnreadable (lists_read before can_be_read);
+    holder = λ token. told result (λ a. IsHolderUnreadable a token) (holder_read before can_be_read token);
+  }
+
+-- ---- memory never fails as a disk does
+
+never_more : MoreFaults 0 0 → ⊥
+never_more more = absurd (omega (arith, more))
+
+pub memory_is_untroubled : (old new : Store MemStore) → IsTellable over_memory old → IsUntroubled over_memory old new
+memory_is_untroubled old new tellable = record { tellable = tellable; unfailed = never_more; returned = memory_is_clean (held_of new) }

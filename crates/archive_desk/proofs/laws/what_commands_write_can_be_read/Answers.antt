@@ -1,0 +1,25 @@
+use Rattle.std.specs.Prelude.{IsUtf8}
+use Rattle.std.proofs.lemmas.List.Elements.{All-nil}
+use Rattle.archive_machine.specs.Records.{Address, Person}
+use Rattle.archive_database.specs.Messages.{IsReadable}
+use Rattle.archive_desk.specs.Readable.{IsRanked}
+use Rattle.archive_desk.proofs.ReadableLemmas.{kept_by_steps, kept_by_runs, kept_by_items}
+use Rattle.archive_desk.proofs.laws.what_commands_write_can_be_read.Goals as goal
+
+pub returns-clause-step : goal.returns-clause-step
+returns-clause-step c = kept_by_steps c.whole_items_are_items.ensures
+
+pub returns-clause-run : goal.returns-clause-run
+returns-clause-run c = kept_by_runs c.whole_items_are_items.ensures
+
+pub returns-clause-taken : goal.returns-clause-taken
+returns-clause-taken c = kept_by_items c.whole_items_are_items.ensures
+
+pub returns-clause-empty : goal.returns-clause-empty
+returns-clause-empty c = record {
+  lists = All-nil IsUtf8;
+  persons = All-nil (λ (p : Person). IsUtf8 p.name);
+  messages = All-nil IsReadable;
+  grants = All-nil IsRanked;
+  addresses = All-nil (λ (a : Address). IsUtf8 a.address);
+}
