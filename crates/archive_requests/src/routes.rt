@@ -57,50 +57,64 @@ fn router_of_pages(alloc: Global) -> Result<Router<Page>, InsertError>
     Ok(router)
 }
 
-// The route of a path, by a router of the pages.
-fn found_route<'p>(router: &Router<Page>, path: &'p str) -> Option<Route<'p>>
-    requires { router.now ≡ pages }
-    ensures { option_map named_route result ≡ route_of path.now }
-{
-    let Ok(found) = router.at(path) else {
-        return None;
-    };
-    let params = found.params;
-    match *found.value {
-        Page::Lists => Some(Route::Lists),
-        Page::Message => Some(Route::Message {
-            list: params.get("list")?,
-            key: params.get("key")?,
-        }),
-        Page::Month => Some(Route::Month {
-            list: params.get("list")?,
-            month: params.get("month")?,
-        }),
-        Page::Threads => Some(Route::Threads {
-            list: params.get("list")?,
-        }),
-        Page::Thread => Some(Route::Thread {
-            list: params.get("list")?,
-            key: params.get("key")?,
-        }),
-        Page::Author => Some(Route::Author {
-            list: params.get("list")?,
-            author: params.get("author")?,
-        }),
-        Page::Mbox => Some(Route::Mbox {
-            list: params.get("list")?,
-        }),
+/// The routes of the pages, in a router that is made once.
+#[derive(Drop)]
+pub struct Routes {
+    router: Router<Page>,
+    ghost of_pages: { router ≡ pages },
+}
+
+impl Routes {
+    /// `Memory`: the router's was refused.
+    pub fn new(alloc: Global) -> Result<Routes, Memory> {
+        match router_of_pages(alloc) {
+            Ok(router) => Ok(Routes { router }),
+            Err(_) => Err(Memory),
+        }
+    }
+
+    /// The route of a path. It takes no memory.
+    pub fn find<'p>(&self, path: &'p str) -> Option<Route<'p>>
+        ensures { option_map named_route result ≡ route_of path.now }
+    {
+        let Ok(found) = self.router.at(path) else {
+            return None;
+        };
+        let params = found.params;
+        match *found.value {
+            Page::Lists => Some(Route::Lists),
+            Page::Message => Some(Route::Message {
+                list: params.get("list")?,
+                key: params.get("key")?,
+            }),
+            Page::Month => Some(Route::Month {
+                list: params.get("list")?,
+                month: params.get("month")?,
+            }),
+            Page::Threads => Some(Route::Threads {
+                list: params.get("list")?,
+            }),
+            Page::Thread => Some(Route::Thread {
+                list: params.get("list")?,
+                key: params.get("key")?,
+            }),
+            Page::Author => Some(Route::Author {
+                list: params.get("list")?,
+                author: params.get("author")?,
+            }),
+            Page::Mbox => Some(Route::Mbox {
+                list: params.get("list")?,
+            }),
+        }
     }
 }
 
-/// The route of a path, by a router that is made here. `Memory`: the router's was refused.
+/// The route of a path, by routes that are made here. `Memory`: theirs was refused.
 pub fn route_of<'p>(alloc: Global, path: &'p str) -> Result<Option<Route<'p>>, Memory>
     ensures { IfOk result (λ route. option_map named_route route ≡ route_of path.now) }
 {
-    let Ok(router) = router_of_pages(alloc) else {
-        return Err(Memory);
-    };
-    Ok(found_route(&router, path))
+    let routes = Routes::new(alloc)?;
+    Ok(routes.find(path))
 }
 
 /// The bytes that a percent-encoded text stands for (RFC 3986, section 2.1). An escape that is none

@@ -1,5 +1,5 @@
 //! The routes of paths, and what a percent-encoded text stands for.
-use archive_requests::{Route, decoded, route_of};
+use archive_requests::{Route, Routes, decoded, route_of};
 use mail_core::Memory;
 use std::alloc::Global;
 use std::test::Fail;
@@ -63,6 +63,15 @@ static ROUTES: [(&str, Option<Route<'static>>); 19] = [
 fn routes_of_paths(rt: HostRuntime) -> Result<(), Fail> {
     for (path, expected) in &ROUTES {
         assert!(rt; route_of(rt.alloc(), path)? == *expected, "{path}");
+    }
+    Ok(())
+}
+
+#[test]
+fn routes_are_made_once(rt: HostRuntime) -> Result<(), Fail> {
+    let routes = Routes::new(rt.alloc())?;
+    for (path, expected) in &ROUTES {
+        assert!(rt; routes.find(path) == *expected, "{path}");
     }
     Ok(())
 }
