@@ -11,7 +11,7 @@ use mail_core::Memory;
 use std::alloc::{AllocError, Global};
 
 /// The title of a page of a list.
-fn titled(alloc: Global, list: &str, rest: &[u8]) -> Result<Vec<u8>, AllocError>
+pub(crate) fn titled(alloc: Global, list: &str, rest: &[u8]) -> Result<Vec<u8>, AllocError>
     ensures { IfOk result (λ title. title.items ≡ titled list.now rest.now) }
 {
     let mut title = list.as_bytes().to_vec(alloc)?;
@@ -21,7 +21,7 @@ fn titled(alloc: Global, list: &str, rest: &[u8]) -> Result<Vec<u8>, AllocError>
 }
 
 /// A page with its title, up to its rows.
-fn started(alloc: Global, title: &[u8]) -> Result<Vec<u8>, AllocError>
+pub(crate) fn started(alloc: Global, title: &[u8]) -> Result<Vec<u8>, AllocError>
     ensures { IfOk result (λ page. page.items ≡ page_head title.now) }
 {
     let mut page = Vec::new(alloc);
@@ -35,7 +35,7 @@ fn started(alloc: Global, title: &[u8]) -> Result<Vec<u8>, AllocError>
 
 /// Adds what stands behind the rows.
 #[tactic(auto, unfolding(crate::specs::Pages::page_foot))]
-fn push_foot(page: &mut Vec<u8>) -> Result<(), AllocError>
+pub(crate) fn push_foot(page: &mut Vec<u8>) -> Result<(), AllocError>
     ensures { OnOk result (page.new.items ≡ page.old.items ++ page_foot) }
 {
     page.extend_from_slice(b"</body></html>\n")?;

@@ -71,7 +71,7 @@ pub(crate) fn push_message(
 }
 
 /// Adds the row of a message that is not there.
-fn push_missing(page: &mut Vec<u8>) -> Result<(), AllocError>
+pub(crate) fn push_missing(page: &mut Vec<u8>) -> Result<(), AllocError>
     ensures { OnOk result (page.new.items ≡ page.old.items ++ missing_row) }
 {
     page.extend_from_slice(b"<div class=\"d0\">(missing)</div>\n")?;

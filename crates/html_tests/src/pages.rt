@@ -1,10 +1,14 @@
 //! Pages byte for byte.
-use archive_html::{author_page, lists_page, month_page, thread_page, threads_page};
+use archive_html::{
+    author_page, lists_page, month_page, placed_thread_page, placed_threads_page, thread_page,
+    threads_page,
+};
 use archive_machine::Key;
 use archive_results::{Line, TreeLine};
 use civil_time::{Instant, Month};
 use std::alloc::Global;
 use std::test::Fail;
+use thread_core::Row as PlacedRow;
 
 /// A row: its depth, and the key, the second, the author and the subject of its message.
 type Row = (
@@ -185,6 +189,62 @@ fn pages_of_a_list_are_these_bytes(rt: HostRuntime) -> Result<(), Fail> {
     for (number, (ask, rows, page)) in PAGES.iter().enumerate() {
         let made = page_of(rt.alloc(), *ask, rows)?;
         assert!(rt; made.as_slice() == *page, "page {number}");
+    }
+    Ok(())
+}
+
+/// The lines of rows, and the rows with the places of their lines.
+#[derive(Drop)]
+struct Placed {
+    lines: Vec<Line>,
+    rows: Vec<PlacedRow>,
+}
+
+/// The line of the last row stands first. The row of a message that is missing has this place.
+fn placed_of(alloc: Global, rows: &[Row], missing: Option<usize>) -> Result<Placed, Fail> {
+    let mut lines = Vec::new(alloc);
+    let mut placed = Vec::new(alloc);
+    for (depth, message) in rows.iter().rev() {
+        let mut place = missing;
+        if let Some((key, second, author, subject)) = message {
+            place = Some(lines.len());
+            lines.push(line_of(alloc, key, *second, author, subject)?)?;
+        }
+        placed.push(PlacedRow {
+            depth: *depth,
+            place,
+        })?;
+    }
+    placed.reverse();
+    Ok(Placed {
+        lines,
+        rows: placed,
+    })
+}
+
+/// The page of threads from lines that stand apart, and none of another page.
+fn placed_page_of(
+    alloc: Global,
+    ask: Ask,
+    rows: &[Row],
+    missing: Option<usize>,
+) -> Result<Option<Vec<u8>>, Fail> {
+    let placed = placed_of(alloc, rows, missing)?;
+    Ok(match ask {
+        Ask::Threads => Some(placed_threads_page(alloc, "soc", &placed.lines, &placed.rows)?),
+        Ask::Thread => Some(placed_thread_page(alloc, "soc", &placed.lines, &placed.rows)?),
+        Ask::Month(_) | Ask::Author(_) => None,
+    })
+}
+
+#[test]
+fn pages_from_lines_apart_are_these_bytes(rt: HostRuntime) -> Result<(), Fail> {
+    for (number, (ask, rows, page)) in PAGES.iter().enumerate() {
+        for missing in [None, Some(1000)] {
+            if let Some(made) = placed_page_of(rt.alloc(), *ask, rows, missing)? {
+                assert!(rt; made.as_slice() == *page, "page {number}");
+            }
+        }
     }
     Ok(())
 }
