@@ -1,2 +1,3 @@
 pub mod ServingLemmas
+pub mod ThroughLemmas
 pub mod GatheringLemmas

@@ -79,21 +79,22 @@ pub trait Ports {
         ensures { listens self.old self.new port result };
 }
 
-/// Whatever answers what comes over a connection, out of a state.
+/// Whatever answers what comes over a connection, out of a state; what it keeps itself may change with each answer.
 pub trait Service<St> {
     ghost use Rattle.archive_listen.specs.Connections.{Telling, telling, Outcome};
 
-    // Holds of the state before and after, of what the connection told before and after, and of the answer.
-    ghost answers: { Self → St → St → Telling → Telling → Outcome → Type 0 };
+    // Holds of the service before and after, of the state before and after, of what the connection told before and after, and
+    // of the answer.
+    ghost answers: { Self → Self → St → St → Telling → Telling → Outcome → Type 0 };
 
     /// Answers one request, and tells the status of the reply.
     fn answer<R: Source, W: Sink>(
-        &self,
+        &mut self,
         state: &mut St,
         input: &mut R,
         output: &mut W,
     ) -> Result<u16, ConnectionFault>
-        ensures { answers self.now state.old state.new
+        ensures { answers self.old self.new state.old state.new
             (telling (R.told input.old) (R.ends input.old) (R.failures input.old) (W.told output.old) (W.failures output.old))
             (telling (R.told input.new) (R.ends input.new) (R.failures input.new) (W.told output.new) (W.failures output.new)) result };
 }

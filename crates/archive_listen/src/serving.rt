@@ -2,7 +2,7 @@
 ghost use Rattle.std.specs.Prelude.{◌≡◌, ◌≤◌, ◌<◌, ◌++◌, List, Some, flat_map, length, IfOk, OnOk, OnErr};
 ghost use Rattle.archive_listen.specs.declared.faults.AcceptFault.TheVariants as accepting;
 ghost use Rattle.archive_listen.specs.Connections.{telling, Outcome, lingers, outcome_line};
-ghost use Rattle.archive_listen.specs.Serving.{Answers, Served, ServesEach, ServesOne, served};
+ghost use Rattle.archive_listen.specs.Serving.{Answers, AtWork, Served, ServesEach, ServesOne, at_work, law_of, served};
 
 use crate::connections::{Connection, Listener, Outgoing, Service};
 use crate::faults::{AcceptFault, ConnectionFault, ListenFault};
@@ -10,11 +10,11 @@ use mbox_core::device::{Sink, Source, write_bytes};
 
 /// One answer on a connection, which is passed on to its peer whole. S2 where that fails.
 fn answer_connection<St, V: Service<St>, I: Source, O: Outgoing>(
-    service: &V,
+    service: &mut V,
     state: &mut St,
     connection: &mut Connection<I, O>,
 ) -> Result<u16, ConnectionFault>
-    ensures { Answers (V.answers service.now) state.old state.new
+    ensures { Answers (law_of V.answers) (at_work service.old state.old) (at_work service.new state.new)
         (telling (I.told connection.old.input) (I.ends connection.old.input) (I.failures connection.old.input)
         (O.told connection.old.output) (O.failures connection.old.output))
         (telling (I.told connection.new.input) (I.ends connection.new.input) (I.failures connection.new.input)
@@ -41,13 +41,14 @@ fn lingers(outcome: &Result<u16, ConnectionFault>) -> bool
 /// Takes the next connection, answers it once, and gives it back. A peer that is gone by then is S1. F4: there is no
 /// next one.
 fn serve_next<St, V: Service<St>, L: Listener>(
-    service: &V,
+    service: &mut V,
     state: &mut St,
     listener: &mut L,
 ) -> Result<Result<u16, ConnectionFault>, ListenFault>
-    ensures served { IfOk result (λ outcome. ServesOne (V.answers service.now) L.accepts L.closes outcome
-        (served listener.old state.old) (served listener.new state.new)) }
-    ensures stopped { OnErr result ((state.new ≡ state.old) × L.accepts listener.old listener.new (Some accepting.Listener)) }
+    ensures served { IfOk result (λ outcome. ServesOne (law_of V.answers) L.accepts L.closes outcome
+        (served listener.old (at_work service.old state.old)) (served listener.new (at_work service.new state.new))) }
+    ensures stopped { OnErr result ((at_work service.new state.new ≡ at_work service.old state.old)
+        × L.accepts listener.old listener.new (Some accepting.Listener)) }
 {
     let mut connection = match listener.accept() {
         Ok(connection) => connection,
@@ -72,18 +73,19 @@ fn tell_outcome<E: Sink>(faults: &mut E, outcome: &Result<u16, ConnectionFault>)
 /// Takes `count` connections, one after the other, and answers each once; a fault of a connection is told in one line, and the
 /// next connection follows. F4: after fewer, the listener gave no more.
 pub fn serve_each<St, V: Service<St>, L: Listener, E: Sink>(
-    service: &V,
+    service: &mut V,
     state: &mut St,
     listener: &mut L,
     count: u32,
     faults: &mut E,
 ) -> Result<(), ListenFault>
     ensures served { OnOk result ((outcomes : List Outcome) × (length outcomes ≡ count)
-        × ServesEach (V.answers service.now) L.accepts L.closes outcomes (served listener.old state.old) (served listener.new state.new)
+        × ServesEach (law_of V.answers) L.accepts L.closes outcomes
+        (served listener.old (at_work service.old state.old)) (served listener.new (at_work service.new state.new))
         × (E.failures faults.new ≡ E.failures faults.old → E.told faults.new ≡ E.told faults.old ++ flat_map outcome_line outcomes)) }
-    ensures stopped { OnErr result ((outcomes : List Outcome) × (last : Served L St) × (length outcomes < count)
-        × ServesEach (V.answers service.now) L.accepts L.closes outcomes (served listener.old state.old) last
-        × (state.new ≡ last.state) × L.accepts last.listener listener.new (Some accepting.Listener)
+    ensures stopped { OnErr result ((outcomes : List Outcome) × (last : Served L (AtWork V St)) × (length outcomes < count)
+        × ServesEach (law_of V.answers) L.accepts L.closes outcomes (served listener.old (at_work service.old state.old)) last
+        × (at_work service.new state.new ≡ last.state) × L.accepts last.listener listener.new (Some accepting.Listener)
         × (E.failures faults.new ≡ E.failures faults.old → E.told faults.new ≡ E.told faults.old ++ flat_map outcome_line outcomes)) }
     ensures failures { E.failures faults.old ≤ E.failures faults.new }
 {

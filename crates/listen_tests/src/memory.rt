@@ -105,6 +105,7 @@ struct Case {
     count: u32,
     outcome: Result<(), ListenFault>,
     answered: u32,
+    found: u32,
     got: &'static [u8],
     told: &'static [u8],
 }
@@ -115,6 +116,7 @@ const CASES: [Case; 7] = [
         count: 0,
         outcome: Ok(()),
         answered: 0,
+        found: 0,
         got: b"",
         told: b"",
     },
@@ -123,6 +125,7 @@ const CASES: [Case; 7] = [
         count: 3,
         outcome: Ok(()),
         answered: 3,
+        found: 2,
         got: b"200 yes\n404 no\n+200 yes\n",
         told: b"",
     },
@@ -131,6 +134,7 @@ const CASES: [Case; 7] = [
         count: 2,
         outcome: Ok(()),
         answered: 1,
+        found: 1,
         got: b"200 yes\n",
         told: b"archive: S1 Read\n",
     },
@@ -151,6 +155,7 @@ const CASES: [Case; 7] = [
         count: 3,
         outcome: Ok(()),
         answered: 2,
+        found: 2,
         got: b"200 y200 yes\n",
         told: b"archive: S1 Read\narchive: S2 Write\n",
     },
@@ -159,6 +164,7 @@ const CASES: [Case; 7] = [
         count: 2,
         outcome: Ok(()),
         answered: 2,
+        found: 1,
         got: b"200 yes\n",
         told: b"archive: S3 Broken\n",
     },
@@ -167,6 +173,7 @@ const CASES: [Case; 7] = [
         count: 2,
         outcome: Ok(()),
         answered: 2,
+        found: 1,
         got: b"404 no\n+200 yes\n",
         told: b"",
     },
@@ -175,12 +182,14 @@ const CASES: [Case; 7] = [
         count: 4,
         outcome: Err(ListenFault),
         answered: 1,
+        found: 1,
         got: b"200 yes\n",
         told: b"archive: S1 Read\n",
     },
 ];
 
 fn comes(rt: &impl Abort, alloc: Global, case: &Case) -> Result<(), Fail> {
+    let mut words = Words { found: 0 };
     let mut answered = 0;
     let mut listener = Peers {
         alloc,
@@ -190,7 +199,7 @@ fn comes(rt: &impl Abort, alloc: Global, case: &Case) -> Result<(), Fail> {
     };
     let mut faults = Tap::new(alloc, b"", 1000)?;
     let outcome = serve_each(
-        &Words,
+        &mut words,
         &mut answered,
         &mut listener,
         case.count,
@@ -198,6 +207,7 @@ fn comes(rt: &impl Abort, alloc: Global, case: &Case) -> Result<(), Fail> {
     );
     assert_eq!(rt; outcome, case.outcome);
     assert_eq!(rt; answered, case.answered);
+    assert_eq!(rt; words.found, case.found);
     assert_eq!(rt; listener.got.as_slice(), case.got);
     assert_eq!(rt; faults.bytes(), case.told);
     Ok(())

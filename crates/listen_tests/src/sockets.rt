@@ -74,9 +74,10 @@ fn is_text(got: &[u8], wanted: &[u8]) -> bool {
 
 /// Answers two peers, and tells the lines of their faults.
 fn answers_two<L: Listener>(alloc: Global, listener: &mut L) -> Result<Tap, Fail> {
+    let mut words = Words { found: 0 };
     let mut answered = 0;
     let mut faults = Tap::new(alloc, b"", 1000)?;
-    match serve_each(&Words, &mut answered, listener, 2, &mut faults) {
+    match serve_each(&mut words, &mut answered, listener, 2, &mut faults) {
         Ok(()) => Ok(faults),
         Err(_) => Err(Fail::from("no connection")),
     }

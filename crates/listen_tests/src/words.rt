@@ -24,14 +24,17 @@ fn reply_to(request: &[u8]) -> (Result<u16, ConnectionFault>, &'static [u8]) {
     }
 }
 
-/// It reads up to 64 bytes once.
-pub struct Words;
+/// It reads up to 64 bytes once, and counts the requests that begin with `GET`.
+#[derive(Drop)]
+pub struct Words {
+    pub found: u32,
+}
 
 impl Service<u32> for Words {
-    ghost answers = { λ _ _ _ _ _ _. ⊤ };
+    ghost answers = { λ _ _ _ _ _ _ _. ⊤ };
 
     fn answer<R: Source, W: Sink>(
-        &self,
+        &mut self,
         state: &mut u32,
         input: &mut R,
         output: &mut W,
@@ -42,6 +45,9 @@ impl Service<u32> for Words {
         };
         *state = state.saturating_add(1);
         let (told, reply) = reply_to(&buffer[..count]);
+        if told == Ok(200) {
+            self.found = self.found.saturating_add(1);
+        }
         match write_bytes(output, reply) {
             Ok(()) => told,
             Err(_) => Err(ConnectionFault::Write),

@@ -1,5 +1,5 @@
 use Rattle.std.proofs.Common.{arith, ◌+◌, [], ◌∷◌, ◌++◌, ◌∙◌, ap, refl, length-append}
-use Rattle.archive_listen.specs.Serving.{served}
+use Rattle.archive_listen.specs.Serving.{at_work, served}
 use Rattle.archive_listen.proofs.ServingLemmas.{serves_more, lines_none, lines_more}
 use Rattle.archive_listen.proofs.serving.serve_each.Goals as goal
 
@@ -20,7 +20,7 @@ loop-taken-preserved g c =
 pub returns-in-Err-clause-stopped : goal.returns-in-Err-clause-stopped
 returns-in-Err-clause-stopped g c =
     let i = c.loop-taken.invariant in
-    (i.0, served c.loop-taken.listener c.loop-taken.state, omega (arith, i.1, c.loop-taken-test.true), i.3, c.in-Err.ensures.stopped.0, c.in-Err.ensures.stopped.1, i.5)
+    (i.0, served c.loop-taken.listener (at_work c.loop-taken.service c.loop-taken.state), omega (arith, i.1, c.loop-taken-test.true), i.3, c.in-Err.ensures.stopped.0, c.in-Err.ensures.stopped.1, i.5)
 
 pub returns-in-Err-clause-failures : goal.returns-in-Err-clause-failures
 returns-in-Err-clause-failures g c = c.loop-taken.invariant.4
