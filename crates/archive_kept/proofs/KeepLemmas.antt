@@ -1,0 +1,82 @@
+-- What is kept, from call to call.
+use Rattle.std.proofs.Common.{◌≡◌, refl, sym, ap, ◌∙◌, subst, inl, inr, ℕ, zero, suc, ℤ, List, [], ◌∷◌, ◌++◌, filter, map, slice_get, Option, Some}
+use Rattle.sqlite.specs.Store.{Ghosts}
+use Rattle.policy_core.specs.Rules.{Rule}
+use Rattle.archive_machine.specs.Records.{Archive, Message}
+use Rattle.archive_machine.specs.Questions.{merge_of, messages_in}
+use Rattle.archive_store.specs.Told.{Goes, Lasts}
+use Rattle.archive_store.specs.declared.store.Store.{Store}
+use Rattle.archive_results.specs.Access.{Ask, ReaderMarks, is_shown, ruling_on, view_of}
+use Rattle.archive_results.specs.Shown.{shown_of}
+use Rattle.archive_desk.specs.Asking.{IsEnough}
+use Rattle.archive_desk.proofs.MarkLemmas.{view_alike}
+use Rattle.archive_kept.specs.Outlines.{Outline, outline_for, outline_of}
+use Rattle.archive_kept.specs.Views.{KeptView, Keeping, Clears}
+use Rattle.archive_kept.specs.Kept.{AreOf, EachIsOf, IsOf, Keeps}
+
+-- ---- who asks does not matter
+
+module _ (a : Archive) (ask : Ask) (reader : ReaderMarks) (who : Option (List ℕ)) where
+  -- the same question, asked by another
+  abbrev other : Ask
+  other = record ask { reader = who }
+
+  shown_alike : (messages : List Message) → filter (is_shown ask reader) messages ≡ filter (is_shown other reader) messages
+  unfolding ruling_on
+  shown_alike messages = refl
+
+  view_same : IsEnough a ask reader → IsEnough a other reader → view_of a ask ≡ view_of a other
+  view_same one two = sym (view_alike a ask reader one (messages_in a ask.list)) ∙ shown_alike (messages_in a ask.list)
+      ∙ view_alike a other reader two (messages_in a ask.list)
+
+  outline_same : IsEnough a ask reader → IsEnough a other reader → outline_for a ask ≡ outline_for a other
+  outline_same one two = ap (λ (ms : List Message). outline_of (merge_of a ask.list) (map shown_of ms)) (view_same one two)
+
+-- the outline of what one asker is shown is of the archive, for all
+pub of_asked : (a : Archive) (ask : Ask) (reader : ReaderMarks) (outline : Outline) → IsEnough a ask reader → outline ≡ outline_for a ask
+    → IsOf a ask.rules ask.day (record { list = ask.list; reader = reader; outline = outline })
+of_asked a ask reader outline enough is = λ asked rules day list known.
+    let same : asked ≡ record ask { reader = asked.reader } = λ i. record { rules = rules i; reader = asked.reader; list = list i; day = day i } in
+    is ∙ outline_same a ask reader asked.reader enough (subst (λ x. IsEnough a x reader) same known) ∙ ap (outline_for a) (sym same)
+
+-- ---- all that is kept
+
+module _ (a : Archive) (rules : List Rule) (day : ℤ) where
+  -- what stands at a place
+  pub of_at : (views : List KeptView) (place : ℕ) (v : KeptView) → EachIsOf a rules day views → slice_get views place ≡ Some v → IsOf a rules day v
+  of_at [] place v h e = absurd (cc)
+  of_at (x ∷ xs) zero v h e = let same : x ≡ v = cc in subst (λ (w : KeptView). IsOf a rules day w) same h.0
+  of_at (x ∷ xs) (suc n) v h e = of_at xs n v h.1 e
+
+  -- one more
+  pub of_more : (views : List KeptView) (v : KeptView) → EachIsOf a rules day views → IsOf a rules day v → EachIsOf a rules day (views ++ v ∷ [])
+  of_more [] v h is = (is, tt)
+  of_more (x ∷ xs) v h is = (h.0, of_more xs v h.1 is)
+
+  pub of_cleared : (old rest : List KeptView) → Clears old rest → EachIsOf a rules day old → EachIsOf a rules day rest
+  of_cleared old rest (inl same) h = subst (λ (vs : List KeptView). EachIsOf a rules day vs) (sym same) h
+  of_cleared old rest (inr none) h = subst (λ (vs : List KeptView). EachIsOf a rules day vs) (sym none) tt
+
+-- ---- from call to call
+
+module _ {S : Type 0} (g : Ghosts S) (rules : List Rule) (day : ℤ) where
+  -- a call that lets what is kept be
+  pub keeps_same : (old new : Store S) (kept : Keeping) → Keeps g old new rules day kept kept
+  keeps_same old new kept = record { ready = λ returned ready are. are; shut = λ returned shut. refl }
+
+  -- before another that does
+  pub keeps_later : (old mid new : Store S) (kept later : Keeping) → Keeps g old mid rules day kept later → Lasts g mid new → Keeps g old new rules day kept later
+  keeps_later old mid new kept later keeps lasts = record {
+    ready = λ returned ready are. keeps.ready (lasts.returned returned) ready are;
+    shut = λ returned shut. keeps.shut (lasts.returned returned) shut;
+  }
+
+  -- after one that does, and leaves the archive
+  pub keeps_after : (old mid new : Store S) (kept later : Keeping) → Goes g old mid (λ a b. b ≡ a) → Lasts g mid new → Keeps g mid new rules day kept later
+      → Keeps g old new rules day kept later
+  keeps_after old mid new kept later goes lasts keeps = record {
+    ready = λ returned ready are.
+        let it = goes.1 (lasts.returned returned) ready in
+        subst (λ a. AreOf a rules day later) it.1 (keeps.ready returned it.0 (subst (λ a. AreOf a rules day kept) (sym it.1) are));
+    shut = λ returned shut. keeps.shut returned (λ up. shut (goes.0.stays_shut (lasts.returned returned) up));
+  }

@@ -1,0 +1,4 @@
+pub mod OutlineLemmas
+pub mod ViewLemmas
+pub mod KeepLemmas
+pub mod FindLemmas

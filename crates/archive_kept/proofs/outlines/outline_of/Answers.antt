@@ -1,0 +1,14 @@
+use Rattle.std.proofs.Common.{List, map, ap, ◌∙◌}
+use Rattle.thread_core.specs.Threads.{threads_of}
+use Rattle.thread_links.specs.declared.entry.Entry.{Entry}
+use Rattle.archive_results.specs.Shown.{shown_of}
+use Rattle.archive_results.proofs.IndexLemmas.{lines_are, rows_are}
+use Rattle.archive_kept.proofs.OutlineLemmas.{made_of}
+use Rattle.archive_kept.proofs.outlines.outline_of.Goals as goal
+
+pub returns : goal.returns
+returns g c = λ view e.
+    made_of c.args.merge (map shown_of view) _ _
+    (lines_are view c.args.headers.items _ e c.in_ok-columns.ensures.lines)
+    (rows_are c.args.merge view c.args.headers.items _ _ e c.in_ok-columns.ensures.entries
+    (c.in_ok-rows.ensures ∙ ap (λ (es : List Entry). threads_of es c.args.merge) c.deref.ensures.value))

@@ -1,0 +1,78 @@
+//! The outline of a view, out of what is kept or read of a store.
+ghost use Rattle.std.specs.Prelude.{◌≡◌, Some, IfErr};
+ghost use Rattle.archive_machine.specs.Questions.{messages_in};
+ghost use Rattle.archive_store.specs.Told.{Asks, WasOpen};
+ghost use Rattle.archive_desk.specs.Causes.{CausedOr, IsUnreadable};
+ghost use Rattle.archive_desk.specs.Faults.{IsAskFault, ask_reason, reason};
+ghost use Rattle.archive_kept.specs.Outlines.{outline_for};
+ghost use Rattle.archive_kept.specs.Kept.{AreOf, Keeps};
+ghost use Rattle.archive_kept.specs.Views.{IsBounded, outline_at};
+
+use crate::kept::Kept;
+use crate::outlines::{Outline, outline_of};
+use archive_desk::{DeskFault, find_reader, read_index};
+use archive_results::Ask;
+use archive_store::Store;
+use sqlite::Alter;
+use std::alloc::Global;
+use thread_core::Threader;
+
+/// The outline of the view, made of what is read of the store.
+fn read_outline<T: Threader, S: Alter>(
+    store: &mut Store<S>,
+    alloc: Global,
+    ask: &Ask<'_>,
+    threader: &T,
+) -> Result<Outline, DeskFault>
+    ensures made { Asks S.Store store.old store.new reason result (λ a. ask_reason a ask.now)
+        (λ a outline. outline ≡ outline_for a ask.now) }
+    ensures fault { IfErr result (λ fault. IsAskFault fault) }
+    ensures caused { CausedOr S.Store store.old store.new result (λ a. IsUnreadable a ask.now (messages_in a ask.now.list)) }
+{
+    let index = match read_index(store, alloc, ask) {
+        Ok(index) => index,
+        Err(fault) => return Err(fault),
+    };
+    match outline_of(alloc, threader, index.headers, index.merge) {
+        Ok(outline) => Ok(outline),
+        Err(_) => Err(DeskFault::Memory),
+    }
+}
+
+/// The place of the outline of the view: one that is kept, or that is made now, and kept. The store is asked for the list and
+/// the reader each time. Where what was kept is of the archive that the store remembers, under the policy and on the day of
+/// the question, the outline is that of the view, and what is kept then is of that archive too. The place is good until the next
+/// call. G1 where there is no such list, G2 where there is no such person; G5 where no memory is left, G4 where the store has
+/// none or fails.
+pub fn find_outline<T: Threader, S: Alter>(
+    store: &mut Store<S>,
+    kept: &mut Kept,
+    alloc: Global,
+    ask: &Ask<'_>,
+    threader: &T,
+) -> Result<usize, DeskFault>
+    ensures found { Asks S.Store store.old store.new reason result (λ a. ask_reason a ask.now)
+        (λ a place. AreOf a ask.now.rules ask.now.day kept.old → outline_at kept.new place ≡ Some (outline_for a ask.now)) }
+    ensures keeps { Keeps S.Store store.old store.new ask.now.rules ask.now.day kept.old kept.new }
+    ensures was_open { WasOpen S.Store store.old store.new reason result }
+    ensures bounded { IsBounded kept.old → IsBounded kept.new }
+    ensures most { kept.new.most ≡ kept.old.most }
+    ensures fault { IfErr result (λ fault. IsAskFault fault) }
+    ensures caused { CausedOr S.Store store.old store.new result (λ a. IsUnreadable a ask.now (messages_in a ask.now.list)) }
+{
+    let reader = match find_reader(store, ask) {
+        Ok(reader) => reader,
+        Err(fault) => return Err(fault),
+    };
+    if let Some(place) = kept.find(ask.list, &reader) {
+        return Ok(place);
+    }
+    let outline = match read_outline(store, alloc, ask, threader) {
+        Ok(outline) => outline,
+        Err(fault) => return Err(fault),
+    };
+    match kept.put(alloc, ask.list, reader, outline) {
+        Ok(place) => Ok(place),
+        Err(_) => Err(DeskFault::Memory),
+    }
+}

@@ -1,0 +1,172 @@
+//! Views that are kept.
+ghost use Rattle.std.specs.Prelude.{◌≡◌, ◌⊎◌, ◌<◌, ◌+◌, ◌-◌, ◌^◌, ℕ, List, ◌∷◌, [], ◌++◌, length, min, position, string_bytes, option_copied, option_map, MatchResult};
+ghost use Rattle.std.specs.Option.{option_map_or};
+ghost use Rattle.archive_kept.specs.Views.{Clears, IsBounded, KeptView as Shown, is_view_of, nothing_kept, outline_at, same_address, same_reader, view_weight, weight_of};
+
+use crate::outlines::Outline;
+use crate::weights::outline_weight;
+use archive_results::ReaderMarks;
+use mail_core::Memory;
+use std::alloc::Global;
+use std::marker::Model;
+
+/// The outline of what the readers of these marks are shown of a list.
+#[derive(Drop)]
+struct KeptView {
+    list: String,
+    reader: ReaderMarks,
+    outline: Outline,
+}
+
+impl Model for KeptView {
+    ghost use Rattle.std.specs.Prelude.{string_bytes};
+    ghost use Rattle.archive_kept.specs.Views.{KeptView as Shown};
+
+    ghost Value = { Shown };
+
+    ghost view = { λ v. record { list = string_bytes v.list; reader = v.reader; outline = v.outline } };
+}
+
+/// Outlines of views, one of a list and the marks of a reader: at most so many bytes, or one view alone.
+#[derive(Drop)]
+pub struct Kept {
+    views: Vec<KeptView>,
+    most: usize,
+}
+
+impl Model for Kept {
+    ghost use Rattle.archive_kept.specs.Views.{IsBounded, Keeping};
+
+    ghost Value = { Keeping };
+
+    ghost view = { λ k. record { most = k.most; views = k.views.items } };
+
+    ghost invariant = { λ k. IsBounded (record { most = k.most; views = k.views.items }) };
+}
+
+fn is_same_address(one: &Option<String>, other: &Option<String>) -> bool
+    ensures { result ≡ same_address (option_map string_bytes one.now) (option_map string_bytes other.now) }
+{
+    match (one, other) {
+        (None, None) => true,
+        (Some(one), Some(other)) => one.as_str() == other.as_str(),
+        (None, Some(_)) | (Some(_), None) => false,
+    }
+}
+
+fn is_same_reader(one: &ReaderMarks, other: &ReaderMarks) -> bool
+    ensures { result ≡ same_reader one.now other.now }
+{
+    one.standing.rank() == other.standing.rank() && is_same_address(&one.address, &other.address)
+}
+
+/// Whether it is the view of a list for readers of these marks.
+fn is_view_of(view: &KeptView, list: &str, reader: &ReaderMarks) -> bool
+    ensures { result ≡ is_view_of list.now reader.now view.now }
+{
+    view.list.as_str() == list && is_same_reader(&view.reader, reader)
+}
+
+/// The place of the view of a list for readers of these marks.
+fn place_of(views: &[KeptView], list: &str, reader: &ReaderMarks) -> Option<usize>
+    ensures { result ≡ position (is_view_of list.now reader.now) views.now }
+{
+    views.iter().position(|view| is_view_of(view, list, reader))
+}
+
+/// What a view takes beside its outline, its list's name and its reader's address. It is much, so that views are few.
+const VIEW_BYTES: usize = 1024;
+
+/// The weight of a view, as far as 64 bits go.
+fn view_weight(view: &KeptView) -> usize
+    ensures { result ≡ min (view_weight view.now) (2 ^ 64 - 1) }
+{
+    let address = match &view.reader.address {
+        Some(address) => address.len(),
+        None => 0,
+    };
+    VIEW_BYTES
+        .saturating_add(view.list.len())
+        .saturating_add(address)
+        .saturating_add(outline_weight(&view.outline))
+}
+
+/// The weight of some views, as far as 64 bits go.
+fn weight_of(views: &[KeptView]) -> usize
+    ensures { result ≡ min (weight_of views.now) (2 ^ 64 - 1) }
+{
+    let mut weight: usize = 0;
+    for view in views {
+        weight = weight.saturating_add(view_weight(view));
+    }
+    weight
+}
+
+/// Lets go of all views where there is no room for one of this weight.
+fn make_room(views: &mut Vec<KeptView>, most: usize, weight: usize)
+    ensures cleared { Clears views.old.items views.new.items }
+    ensures room { (min (weight_of views.new.items) (2 ^ 64 - 1) + weight < most) ⊎ (views.new.items ≡ []) }
+{
+    if weight_of(views).saturating_add(weight) < most {
+        return;
+    }
+    views.clear();
+}
+
+impl Kept {
+    /// Nothing is kept yet, and at most so many bytes will be, or one view alone.
+    pub fn new(alloc: Global, most: usize) -> Kept
+        ensures { result ≡ nothing_kept most }
+    {
+        Kept {
+            views: Vec::new(alloc),
+            most,
+        }
+    }
+
+    /// The outline at a place. `None` where none is.
+    pub fn outline(&self, place: usize) -> Option<&Outline>
+        ensures outline { option_copied result ≡ outline_at self.entry.now place }
+        ensures bounded { IsBounded self.entry.now }
+    {
+        if place < self.views.len() {
+            let view = &self.views[place];
+            Some(&view.outline)
+        } else {
+            None
+        }
+    }
+
+    /// The place of the view of a list for readers of these marks, if it is kept.
+    pub(crate) fn find(&self, list: &str, reader: &ReaderMarks) -> Option<usize>
+        ensures { result ≡ position (is_view_of list.now reader.now) self.now.views }
+    {
+        place_of(&self.views, list, reader)
+    }
+
+    /// Keeps one view more, and answers its place. All others are let go where it does not fit beside them.
+    pub(crate) fn put(
+        &mut self,
+        alloc: Global,
+        list: &str,
+        reader: ReaderMarks,
+        outline: Outline,
+    ) -> Result<usize, Memory>
+        ensures kept { (rest : List Shown) × Clears self.old.views rest × MatchResult result
+            (λ place. (place ≡ length rest) × (self.new.views ≡ rest ++ (record { list = list.now; reader = reader; outline = outline }) ∷ []))
+            (λ _. self.new.views ≡ rest) }
+        ensures most { self.new.most ≡ self.old.most }
+        ensures bounded { IsBounded self.new }
+    {
+        let most = self.most;
+        let view = KeptView {
+            list: String::from_str(alloc, list)?,
+            reader,
+            outline,
+        };
+        make_room(&mut self.views, most, view_weight(&view));
+        let place = self.views.len();
+        self.views.push(view)?;
+        Ok(place)
+    }
+}

@@ -1,0 +1,11 @@
+//! What is kept of views while an archive stays as it is, so that a list is read once and not for each page.
+#![tactic(auto)]
+
+mod finding;
+mod kept;
+mod outlines;
+mod weights;
+
+pub use finding::find_outline;
+pub use kept::Kept;
+pub use outlines::Outline;
