@@ -4,6 +4,7 @@ mod LawLemmas
 mod AccessLaws
 mod PromiseLaws
 pub mod ServingLemmas
+mod KeptLemmas
 mod HeadReading
 mod DeskLemmas
 pub mod AnswerExamples

@@ -7,7 +7,7 @@ use Rattle.archive_machine.specs.Commands.{Refusal}
 use Rattle.archive_tables.proofs.LastLemmas.{lasts_then}
 use Rattle.archive_store.specs.Held.{held_of}
 use Rattle.archive_store.specs.Replies.{refusal, Answers}
-use Rattle.archive_store.specs.Told.{Goes, GoesIfOpen, HasReturned, IsOpen, IsReady, IsShut, Lasts, archive_in}
+use Rattle.archive_store.specs.Told.{Goes, GoesIfOpen, HasReturned, IsOpen, IsReady, Lasts, archive_in}
 use Rattle.archive_store.specs.declared.store.Store.{Store}
 use Rattle.archive_store.specs.declared.faults.StoreFault.{StoreFault}
 use Rattle.archive_store.proofs.Joins.{asked, ask_refused, ask_failed, stays_there, goes_on, goes_on_if_open, goes_as, goes_as_if_open}
@@ -68,7 +68,7 @@ module _ {S : Type 0} (g : Ghosts S) where
     abbrev OfShut : (Archive → Reply → Type 0) → Type 0
     OfShut Says = Sends (λ reply. (reply ≡ unavailable) ⊎ ((a : Archive) → Says a reply)) before after result
 
-    of_shut_when : (Says Says' : Archive → Reply → Type 0) (P : Archive → Type 0) → ((a : Archive) (r : Reply) → P a → Says a r → Says' a r) → ((a : Archive) → P a)
+    pub of_shut_when : (Says Says' : Archive → Reply → Type 0) (P : Archive → Type 0) → ((a : Archive) (r : Reply) → P a → Says a r → Says' a r) → ((a : Archive) → P a)
         → OfShut Says → OfShut Says'
     of_shut_when Says Says' P says every sent = sends_as (λ r. (r ≡ unavailable) ⊎ ((a : Archive) → Says a r)) (λ r. (r ≡ unavailable) ⊎ ((a : Archive) → Says' a r)) before after result
         (λ r it. elim it [ inl none ↦ inl none | inr all ↦ inr (λ a. says a r (every a) (all a)) ]) sent
@@ -84,7 +84,7 @@ module _ {S : Type 0} (g : Ghosts S) where
     }
 
     -- one that was made of what was found
-    found_sent : (old new : Store S) (made : Reply) (Says : Archive → Reply → Type 0) → Goes g old new (λ a b. (b ≡ a) × Says a made)
+    pub found_sent : (old new : Store S) (made : Reply) (Says : Archive → Reply → Type 0) → Goes g old new (λ a b. (b ≡ a) × Says a made)
         → Sends (Is made) before after result
         → Sent g old new Says before after result
     found_sent old new made Says goes (reply, inl is, told) = inl (goes_as g old new (λ a b. (b ≡ a) × Says a made) (λ a b. (b ≡ a) × Sends (Says a) before after result)
@@ -121,7 +121,7 @@ module _ {S : Type 0} (g : Ghosts S) where
 
     module _ (old mid new : Store S) (P : Archive → Type 0) (Says Says' : Archive → Reply → Type 0) (first : Goes g old mid (λ a b. (b ≡ a) × P a))
         (says : (a : Archive) (r : Reply) → P a → Says a r → Says' a r) where
-      sent_after : Sent g mid new Says before after result → Sent g old new Says' before after result
+      pub sent_after : Sent g mid new Says before after result → Sent g old new Says' before after result
       sent_after (inl second) =
           inl (goes_as g old new (λ a c. (b : Archive) × ((b ≡ a) × P a) × ((c ≡ b) × Sends (Says b) before after result)) (λ a c. (c ≡ a) × Sends (Says' a) before after result)
           (λ a c (b, h, k). (k.0 ∙ h.0, sends_as (Says a) (Says' a) before after result (λ r it. says a r h.1 it) (subst (λ x. Sends (Says x) before after result) h.0 k.1)))

@@ -13,7 +13,7 @@ mod routing;
 mod running;
 mod writing;
 
-pub use answering::answer;
+pub use answering::{answer, answer_kept};
 pub use faults::ServeFault;
 pub use following::answer_two;
 pub use running::{run_and_answer, run_and_answer_in_memory};

@@ -6,11 +6,14 @@ ghost use Rattle.archive_pages.specs.Serving.{Finds};
 ghost use Rattle.archive_html.specs.Pages.{author_page, threads_page};
 ghost use Rattle.archive_machine.specs.Questions.{merge_of};
 ghost use Rattle.archive_results.specs.Results.{author_lines, tree_lines};
+ghost use Rattle.archive_kept.specs.Kept.{AreOf, Keeps};
+ghost use Rattle.archive_pages.specs.KeptServing.{FindsIf};
 ghost use Rattle.archive_pages.specs.Replies.{page_reply};
 
 use crate::replies::{Failure, Reply, Unavailable};
-use archive_desk::{DeskFault, author, month, thread, threads};
-use archive_html::{author_page, month_page, thread_page, threads_page};
+use archive_desk::{DeskFault, author, month};
+use archive_html::{author_page, month_page, placed_thread_page, placed_threads_page};
+use archive_kept::{Kept, find_outline};
 use archive_results::Ask;
 use archive_store::{Key, Store};
 use civil_time::Month;
@@ -64,49 +67,63 @@ pub(crate) fn find_author<S: Alter>(
     }
 }
 
-/// The page of all threads.
+/// The page of all threads, out of the outline that is kept, or of one that is read and kept.
 pub(crate) fn find_threads<T: Threader, S: Alter>(
     store: &mut Store<S>,
+    kept: &mut Kept,
     alloc: Global,
     ask: &Ask<'_>,
     threader: &T,
 ) -> Result<Reply<'static>, Unavailable>
-    ensures { Finds S.Store store.old store.new result
+    ensures found { FindsIf S.Store store.old store.new (λ a. AreOf a ask.now.rules ask.now.day kept.old) result
         (λ a reply. reply_made reply ≡ listed_reply a ask.now.list
         (page_reply (threads_page ask.now.list (tree_lines (merge_of a ask.now.list) (shown_view a ask.now))))) }
+    ensures keeps { Keeps S.Store store.old store.new ask.now.rules ask.now.day kept.old kept.new }
 {
-    match threads(store, alloc, ask, threader) {
-        Ok(rows) => match threads_page(alloc, ask.list, &rows) {
-            Ok(page) => Ok(Reply::Page(page)),
-            Err(_) => Err(Unavailable),
-        },
-        Err(DeskFault::NoList) => Ok(Reply::Failed(Failure::NotFound)),
+    let place = match find_outline(store, kept, alloc, ask, threader) {
+        Ok(place) => place,
+        Err(DeskFault::NoList) => return Ok(Reply::Failed(Failure::NotFound)),
+        Err(_) => return Err(Unavailable),
+    };
+    let Some(outline) = kept.outline(place) else {
+        return Err(Unavailable);
+    };
+    match placed_threads_page(alloc, ask.list, &outline.lines, &outline.rows) {
+        Ok(page) => Ok(Reply::Page(page)),
         Err(_) => Err(Unavailable),
     }
 }
 
-/// The page of the thread that holds the message of a key.
+/// The page of the thread that holds the message of a key, out of an outline, as that of all threads.
 pub(crate) fn find_thread<T: Threader, S: Alter>(
     store: &mut Store<S>,
+    kept: &mut Kept,
     alloc: Global,
     ask: &Ask<'_>,
     threader: &T,
     key: &str,
 ) -> Result<Reply<'static>, Unavailable>
-    ensures { Finds S.Store store.old store.new result
+    ensures found { FindsIf S.Store store.old store.new (λ a. AreOf a ask.now.rules ask.now.day kept.old) result
         (λ a reply. reply_made reply ≡ listed_reply a ask.now.list
         (thread_reply (merge_of a ask.now.list) ask.now.list key.now (shown_view a ask.now))) }
+    ensures keeps { Keeps S.Store store.old store.new ask.now.rules ask.now.day kept.old kept.new }
 {
     let Some(key) = Key::read(key) else {
         return Ok(Reply::Failed(Failure::NotFound));
     };
-    match thread(store, alloc, ask, threader, &key) {
-        Ok(rows) => match thread_page(alloc, ask.list, &rows) {
-            Ok(page) => Ok(Reply::Page(page)),
-            Err(_) => Err(Unavailable),
-        },
-        Err(DeskFault::NoList) => Ok(Reply::Failed(Failure::NotFound)),
-        Err(DeskFault::NotInView) => Ok(Reply::Failed(Failure::NotFound)),
+    let place = match find_outline(store, kept, alloc, ask, threader) {
+        Ok(place) => place,
+        Err(DeskFault::NoList) => return Ok(Reply::Failed(Failure::NotFound)),
+        Err(_) => return Err(Unavailable),
+    };
+    let Some(outline) = kept.outline(place) else {
+        return Err(Unavailable);
+    };
+    let Some(rows) = outline.thread(&key) else {
+        return Ok(Reply::Failed(Failure::NotFound));
+    };
+    match placed_thread_page(alloc, ask.list, &outline.lines, rows) {
+        Ok(page) => Ok(Reply::Page(page)),
         Err(_) => Err(Unavailable),
     }
 }

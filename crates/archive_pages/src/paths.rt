@@ -1,13 +1,16 @@
 //! The answer of a path.
-ghost use Rattle.std.specs.Prelude.{◌≡◌, OnOk, IfErr, IfSome, Some};
+ghost use Rattle.std.specs.Prelude.{◌≡◌, OnOk, IfErr, IfOk, IfSome, Some, option_map};
 ghost use Rattle.std.specs.Option.{option_map_or};
 ghost use Rattle.archive_requests.specs.Asked.{named_request};
+ghost use Rattle.archive_requests.specs.Routes.{route_of};
 ghost use Rattle.archive_requests.specs.Routing.{named_route};
+ghost use Rattle.archive_kept.specs.Kept.{AreOf, Keeps};
 ghost use Rattle.archive_results.specs.Access.{name_of};
 ghost use Rattle.percent_encoding.specs.Percent.{percent_decode};
 ghost use Rattle.archive_html.specs.Pages.{author_page};
 ghost use Rattle.archive_results.specs.Results.{author_lines};
 ghost use Rattle.archive_pages.specs.Answers.{asking, direct_reply, listed_reply, path_reply, reader_of, request_reply, route_reply, shown_view};
+ghost use Rattle.archive_pages.specs.KeptServing.{ServesIf};
 ghost use Rattle.archive_pages.specs.Replies.{IsReplyStop, Sends, page_reply, unauthorized};
 ghost use Rattle.archive_pages.specs.Serving.{Serves};
 
@@ -19,11 +22,13 @@ use crate::routing::{
     answer_threads,
 };
 use crate::writing::write_failure;
-use archive_requests::{Request, Route, decoded, route_of};
+use archive_kept::Kept;
+use archive_requests::{Request, Route, Routes, decoded, route_of};
 use archive_results::{Ask, Reader};
 use archive_store::Store;
 use civil_time::Day;
 use http::StatusCode;
+use mail_core::Memory;
 use mbox_core::device::Sink;
 use policy_core::Policy;
 use sqlite::Alter;
@@ -68,6 +73,7 @@ fn answer_escaped_author<S: Alter, W: Sink>(
 /// Answers what a route leads to.
 fn answer_route<T: Threader, S: Alter, W: Sink>(
     store: &mut Store<S>,
+    kept: &mut Kept,
     alloc: Global,
     policy: &Policy,
     threader: &T,
@@ -76,13 +82,14 @@ fn answer_route<T: Threader, S: Alter, W: Sink>(
     route: &Route<'_>,
     output: &mut W,
 ) -> Result<StatusCode, ServeFault>
-    ensures sent { Serves S.Store store.old store.new
+    ensures sent { ServesIf S.Store store.old store.new (λ a. AreOf a policy.now day kept.old)
         (λ a reply. reply ≡ route_reply a (asking policy.now day (name_of reader.entry))
         (named_route route.now))
         (W.told output.old) (W.told output.new) result }
     ensures quiet { OnOk result (W.failures output.new ≡ W.failures output.old) }
     ensures cause { IfErr result (λ fault. IsReplyStop (W.told output.old) (W.told output.new)
         (W.failures output.old) (W.failures output.new) fault) }
+    ensures keeps { Keeps S.Store store.old store.new policy.now day kept.old kept.new }
 {
     match route {
         Route::Lists => answer_lists(store, alloc, output),
@@ -96,11 +103,11 @@ fn answer_route<T: Threader, S: Alter, W: Sink>(
         }
         Route::Threads { list } => {
             let ask = ask_of(policy, reader, day, list);
-            answer_threads(store, alloc, &ask, threader, output)
+            answer_threads(store, kept, alloc, &ask, threader, output)
         }
         Route::Thread { list, key } => {
             let ask = ask_of(policy, reader, day, list);
-            answer_thread(store, alloc, &ask, threader, key, output)
+            answer_thread(store, kept, alloc, &ask, threader, key, output)
         }
         Route::Author { list, author } => {
             let ask = ask_of(policy, reader, day, list);
@@ -113,9 +120,26 @@ fn answer_route<T: Threader, S: Alter, W: Sink>(
     }
 }
 
+/// The route of a path, by routes that were made before, or else by a router that is made for it. `Memory`: the router's was
+/// refused.
+fn find_route<'p>(
+    alloc: Global,
+    routes: Option<&Routes>,
+    path: &'p str,
+) -> Result<Option<Route<'p>>, Memory>
+    ensures { IfOk result (λ route. option_map named_route route ≡ route_of path.now) }
+{
+    match routes {
+        Some(routes) => Ok(routes.find(path)),
+        None => route_of(alloc, path),
+    }
+}
+
 /// Answers a path: 404 where no route leads there.
 fn answer_path<T: Threader, S: Alter, W: Sink>(
     store: &mut Store<S>,
+    kept: &mut Kept,
+    routes: Option<&Routes>,
     alloc: Global,
     policy: &Policy,
     threader: &T,
@@ -124,16 +148,17 @@ fn answer_path<T: Threader, S: Alter, W: Sink>(
     path: &str,
     output: &mut W,
 ) -> Result<StatusCode, ServeFault>
-    ensures sent { Serves S.Store store.old store.new
+    ensures sent { ServesIf S.Store store.old store.new (λ a. AreOf a policy.now day kept.old)
         (λ a reply. reply ≡ path_reply a policy.now day path.now (name_of reader.entry))
         (W.told output.old) (W.told output.new) result }
     ensures quiet { OnOk result (W.failures output.new ≡ W.failures output.old) }
     ensures cause { IfErr result (λ fault. IsReplyStop (W.told output.old) (W.told output.new)
         (W.failures output.old) (W.failures output.new) fault) }
+    ensures keeps { Keeps S.Store store.old store.new policy.now day kept.old kept.new }
 {
-    match route_of(alloc, path) {
+    match find_route(alloc, routes, path) {
         Ok(Some(route)) => answer_route(
-            store, alloc, policy, threader, day, reader, &route, output,
+            store, kept, alloc, policy, threader, day, reader, &route, output,
         ),
         Ok(None) => write_failure(output, Failure::NotFound),
         Err(_) => write_failure(output, Failure::Unavailable),
@@ -143,6 +168,8 @@ fn answer_path<T: Threader, S: Alter, W: Sink>(
 /// Answers a path to whoever has a token: 401 where nobody has it.
 fn answer_holder<T: Threader, S: Alter, W: Sink>(
     store: &mut Store<S>,
+    kept: &mut Kept,
+    routes: Option<&Routes>,
     alloc: Global,
     policy: &Policy,
     threader: &T,
@@ -151,17 +178,20 @@ fn answer_holder<T: Threader, S: Alter, W: Sink>(
     path: &str,
     output: &mut W,
 ) -> Result<StatusCode, ServeFault>
-    ensures sent { Serves S.Store store.old store.new
+    ensures sent { ServesIf S.Store store.old store.new (λ a. AreOf a policy.now day kept.old)
         (λ a reply. reply ≡ option_map_or (path_reply a policy.now day path.now)
         (reader_of a (Some token.now)) unauthorized) (W.told output.old)
         (W.told output.new) result }
     ensures quiet { OnOk result (W.failures output.new ≡ W.failures output.old) }
     ensures cause { IfErr result (λ fault. IsReplyStop (W.told output.old) (W.told output.new)
         (W.failures output.old) (W.failures output.new) fault) }
+    ensures keeps { Keeps S.Store store.old store.new policy.now day kept.old kept.new }
 {
     match find_person(store, token) {
         Ok(Some(name)) => answer_path(
             store,
+            kept,
+            routes,
             alloc,
             policy,
             threader,
@@ -178,6 +208,8 @@ fn answer_holder<T: Threader, S: Alter, W: Sink>(
 /// Answers what a request asks for.
 pub(crate) fn answer_request<T: Threader, S: Alter, W: Sink>(
     store: &mut Store<S>,
+    kept: &mut Kept,
+    routes: Option<&Routes>,
     alloc: Global,
     policy: &Policy,
     threader: &T,
@@ -185,7 +217,7 @@ pub(crate) fn answer_request<T: Threader, S: Alter, W: Sink>(
     request: &Request<'_>,
     output: &mut W,
 ) -> Result<StatusCode, ServeFault>
-    ensures sent { Serves S.Store store.old store.new
+    ensures sent { ServesIf S.Store store.old store.new (λ a. AreOf a policy.now day kept.old)
         (λ a reply. reply ≡ request_reply a policy.now day (named_request request.now))
         (W.told output.old) (W.told output.new) result }
     ensures direct { IfSome (direct_reply (named_request request.now)) (λ wanted. Sends (λ reply. reply ≡ wanted)
@@ -193,6 +225,7 @@ pub(crate) fn answer_request<T: Threader, S: Alter, W: Sink>(
     ensures quiet { OnOk result (W.failures output.new ≡ W.failures output.old) }
     ensures cause { IfErr result (λ fault. IsReplyStop (W.told output.old) (W.told output.new)
         (W.failures output.old) (W.failures output.new) fault) }
+    ensures keeps { Keeps S.Store store.old store.new policy.now day kept.old kept.new }
 {
     match request {
         Request::Bad => write_failure(output, Failure::BadRequest),
@@ -200,6 +233,8 @@ pub(crate) fn answer_request<T: Threader, S: Alter, W: Sink>(
         Request::Unauthorized => write_failure(output, Failure::Unauthorized),
         Request::Asks { token: None, path } => answer_path(
             store,
+            kept,
+            routes,
             alloc,
             policy,
             threader,
@@ -211,6 +246,8 @@ pub(crate) fn answer_request<T: Threader, S: Alter, W: Sink>(
         Request::Asks {
             token: Some(token),
             path,
-        } => answer_holder(store, alloc, policy, threader, day, token, path, output),
+        } => answer_holder(
+            store, kept, routes, alloc, policy, threader, day, token, path, output,
+        ),
     }
 }

@@ -3,7 +3,9 @@ ghost use Rattle.std.specs.Prelude.{◌≡◌, OnOk, IfErr, MatchResult};
 ghost use Rattle.archive_html.specs.Pages.{author_page, lists_page, threads_page};
 ghost use Rattle.archive_machine.specs.Questions.{list_names, merge_of};
 ghost use Rattle.archive_results.specs.Results.{author_lines, export_text, tree_lines};
+ghost use Rattle.archive_kept.specs.Kept.{AreOf, Keeps};
 ghost use Rattle.archive_pages.specs.Answers.{keyed_reply, listed_reply, month_reply, shown_view, thread_reply};
+ghost use Rattle.archive_pages.specs.KeptServing.{ServesIf};
 ghost use Rattle.archive_pages.specs.Replies.{Is, IsReplyStop, Sends, mbox_reply, page_reply, unavailable};
 ghost use Rattle.archive_pages.specs.Seen.{reply_made};
 ghost use Rattle.archive_pages.specs.Serving.{Serves};
@@ -14,6 +16,7 @@ use crate::listing::{find_author, find_month, find_thread, find_threads};
 use crate::replies::{Failure, Reply, Unavailable};
 use crate::writing::{write_failure, write_reply};
 use archive_desk::{DeskFault, export_after};
+use archive_kept::Kept;
 use archive_results::Ask;
 use archive_store::Store;
 use http::StatusCode;
@@ -157,43 +160,47 @@ pub(crate) fn answer_author<S: Alter, W: Sink>(
     write_found(alloc, output, &found)
 }
 
-/// Answers the page of all threads.
+/// Answers the page of all threads, out of what is kept.
 pub(crate) fn answer_threads<T: Threader, S: Alter, W: Sink>(
     store: &mut Store<S>,
+    kept: &mut Kept,
     alloc: Global,
     ask: &Ask<'_>,
     threader: &T,
     output: &mut W,
 ) -> Result<StatusCode, ServeFault>
-    ensures sent { Serves S.Store store.old store.new
+    ensures sent { ServesIf S.Store store.old store.new (λ a. AreOf a ask.now.rules ask.now.day kept.old)
         (λ a reply. reply ≡ listed_reply a ask.now.list
         (page_reply (threads_page ask.now.list (tree_lines (merge_of a ask.now.list) (shown_view a ask.now)))))
         (W.told output.old) (W.told output.new) result }
     ensures quiet { OnOk result (W.failures output.new ≡ W.failures output.old) }
     ensures cause { IfErr result (λ fault. IsReplyStop (W.told output.old) (W.told output.new)
         (W.failures output.old) (W.failures output.new) fault) }
+    ensures keeps { Keeps S.Store store.old store.new ask.now.rules ask.now.day kept.old kept.new }
 {
-    let found = find_threads(store, alloc, ask, threader);
+    let found = find_threads(store, kept, alloc, ask, threader);
     write_found(alloc, output, &found)
 }
 
-/// Answers the page of the thread that holds the message of a key.
+/// Answers the page of the thread that holds the message of a key, out of what is kept.
 pub(crate) fn answer_thread<T: Threader, S: Alter, W: Sink>(
     store: &mut Store<S>,
+    kept: &mut Kept,
     alloc: Global,
     ask: &Ask<'_>,
     threader: &T,
     key: &str,
     output: &mut W,
 ) -> Result<StatusCode, ServeFault>
-    ensures sent { Serves S.Store store.old store.new
+    ensures sent { ServesIf S.Store store.old store.new (λ a. AreOf a ask.now.rules ask.now.day kept.old)
         (λ a reply. reply ≡ listed_reply a ask.now.list
         (thread_reply (merge_of a ask.now.list) ask.now.list key.now (shown_view a ask.now))) (W.told output.old)
         (W.told output.new) result }
     ensures quiet { OnOk result (W.failures output.new ≡ W.failures output.old) }
     ensures cause { IfErr result (λ fault. IsReplyStop (W.told output.old) (W.told output.new)
         (W.failures output.old) (W.failures output.new) fault) }
+    ensures keeps { Keeps S.Store store.old store.new ask.now.rules ask.now.day kept.old kept.new }
 {
-    let found = find_thread(store, alloc, ask, threader, key);
+    let found = find_thread(store, kept, alloc, ask, threader, key);
     write_found(alloc, output, &found)
 }

@@ -1,16 +1,8 @@
-use Rattle.archive_pages.specs.Answered.{IsAnswered}
-use Rattle.archive_pages.proofs.HeadReading.{said_either, outcome_answered}
+use Rattle.std.proofs.Common.{sym, subst}
+use Rattle.archive_kept.specs.Kept.{AreOf}
+use Rattle.archive_store.specs.Told.{archive_in}
 use Rattle.archive_pages.proofs.answering.answer.Goals as goal
 
 pub returns-clause-answered : goal.returns-clause-answered
-returns-clause-answered g c =
-    let told = c.in-Ok.ensures.read in
-    outcome_answered c.answer_read.result (g.W.Sink.told c.args.output.now) (g.W.Sink.told c.answer_read.new.output) (g.W.Sink.failures c.args.output.now)
-    (g.W.Sink.failures c.answer_read.new.output) _ _ c.answer_read.ensures.cause (
-      told.0,
-      told.1,
-      said_either told.0 c.in-Ok.read _ _ _
-          (λ all. IsAnswered g.S.Store c.args.store.now c.answer_read.new.store c.args.policy.now c.args.day told.0 all (g.W.Sink.told c.args.output.now)
-          (g.W.Sink.told c.answer_read.new.output) c.answer_read.result)
-          (λ more is. c.answer_read.ensures.answered told.0 more is) told.2,
-    )
+returns-clause-answered g c = c.answer_kept.ensures.answered (λ returned ready.
+    subst (AreOf (archive_in g.S.Store c.args.store.now) c.args.policy.now c.args.day) (sym c.new-kept.ensures) tt)

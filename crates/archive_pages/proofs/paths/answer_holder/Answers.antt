@@ -2,17 +2,21 @@ use Rattle.std.proofs.Common.{◌≡◌, ◌∙◌, Some, List, ℕ, ap, sym, su
 use Rattle.std.specs.Prelude.{option_map, string_bytes}
 use Rattle.std.specs.Option.{option_map_or}
 use Rattle.archive_machine.specs.Questions.{person_of_token}
+use Rattle.archive_store.proofs.Joins.{goes_as}
+use Rattle.archive_kept.specs.Kept.{AreOf}
+use Rattle.archive_kept.proofs.KeepLemmas.{keeps_after}
 use Rattle.archive_pages.specs.Answers.{path_reply}
 use Rattle.archive_pages.specs.Replies.{unauthorized}
-use Rattle.archive_pages.proofs.ServingLemmas.{serves_after}
+use Rattle.archive_pages.proofs.KeptLemmas.{lasts_kept, serves_if_after}
 use Rattle.archive_pages.proofs.paths.answer_holder.Goals as goal
 
 pub returns-in-Ok-Some-clause-sent : goal.returns-in-Ok-Some-clause-sent
 returns-in-Ok-Some-clause-sent g c =
     let named : Some c.as_str.result.now ≡ option_map string_bytes c.in-Ok-Some.field-0 =
     ap (λ (n : List ℕ). Some n) c.as_str.ensures.value ∙ sym (ap (option_map string_bytes) c.in-Ok-Some.field-0-is) in
-    serves_after g.S.Store (g.W.Sink.told c.args.output.now) (g.W.Sink.told c.answer_path.new.output) c.answer_path.result c.args.store.now c.find_person.new.store
+    serves_if_after g.S.Store (g.W.Sink.told c.args.output.now) (g.W.Sink.told c.answer_path.new.output) c.answer_path.result c.args.store.now c.find_person.new.store
     c.answer_path.new.store (λ a. option_map string_bytes c.in-Ok-Some.field-0 ≡ person_of_token a c.args.token.now)
+    (λ a. AreOf a c.args.policy.now c.args.day c.args.kept.now)
     (λ a reply. reply ≡ path_reply a c.args.policy.now c.args.day c.args.path.now (Some c.as_str.result.now))
     (λ a reply. reply ≡ option_map_or (path_reply a c.args.policy.now c.args.day c.args.path.now)
     (option_map (λ (x : List ℕ). Some x) (person_of_token a c.args.token.now)) unauthorized)
@@ -20,3 +24,13 @@ returns-in-Ok-Some-clause-sent g c =
     (λ a r it is. subst (λ o. r ≡ option_map_or (path_reply a c.args.policy.now c.args.day c.args.path.now) (option_map (λ (x : List ℕ). Some x) o) unauthorized)
     (named ∙ it) is)
     c.in-Ok-Some.ensures.1 c.answer_path.ensures.sent
+
+pub returns-in-Ok-Some-clause-keeps : goal.returns-in-Ok-Some-clause-keeps
+returns-in-Ok-Some-clause-keeps g c =
+    keeps_after g.S.Store c.args.policy.now c.args.day c.args.store.now c.find_person.new.store c.answer_path.new.store c.args.kept.now c.answer_path.new.kept
+    (goes_as g.S.Store c.args.store.now c.find_person.new.store (λ a b. (b ≡ a) × (option_map string_bytes c.in-Ok-Some.field-0 ≡ person_of_token a c.args.token.now))
+    (λ a b. b ≡ a) (λ a b h. h.0) c.in-Ok-Some.ensures.0)
+    (lasts_kept g.S.Store (g.W.Sink.told c.args.output.now) (g.W.Sink.told c.answer_path.new.output) c.answer_path.result
+    c.find_person.new.store c.answer_path.new.store (λ a. AreOf a c.args.policy.now c.args.day c.args.kept.now)
+    (λ a reply. reply ≡ path_reply a c.args.policy.now c.args.day c.args.path.now (Some c.as_str.result.now)) c.answer_path.ensures.sent)
+    c.answer_path.ensures.keeps

@@ -1,14 +1,15 @@
 use Rattle.std.proofs.Common.{◌≡◌, subst}
 use Rattle.std.specs.Option.{option_map_or}
 use Rattle.archive_results.specs.Access.{name_of}
+use Rattle.archive_kept.specs.Kept.{AreOf}
 use Rattle.archive_pages.specs.Answers.{asking, route_reply}
 use Rattle.archive_pages.specs.Replies.{not_found}
-use Rattle.archive_pages.specs.Serving.{Serves}
+use Rattle.archive_pages.specs.KeptServing.{ServesIf}
 use Rattle.archive_pages.proofs.paths.answer_path.Goals as goal
 
 pub returns-in-Ok-Some-clause-sent : goal.returns-in-Ok-Some-clause-sent
 returns-in-Ok-Some-clause-sent g c = subst
-    (λ route. Serves g.S.Store c.args.store.now c.answer_route.new.store
+    (λ route. ServesIf g.S.Store c.args.store.now c.answer_route.new.store (λ a. AreOf a c.args.policy.now c.args.day c.args.kept.now)
     (λ a reply. reply ≡ option_map_or (route_reply a (asking c.args.policy.now c.args.day (name_of c.args.reader))) route not_found)
     (g.W.Sink.told c.args.output.now) (g.W.Sink.told c.answer_route.new.output) c.answer_route.result)
     (rw c.in-Ok-Some.field-0-is at c.in-Ok-Some.ensures) c.answer_route.ensures.sent
