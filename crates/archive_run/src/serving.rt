@@ -21,6 +21,9 @@ use sqlite::Alter;
 use std::alloc::Global;
 use thread_core::Threader;
 
+/// How many bytes of lists are kept at most while an archive is served, or one list alone.
+const KEPT_BYTES: usize = 256 << 20;
+
 /// Listens on a port. F4: it cannot be had.
 fn listen_on<P: Ports>(ports: &mut P, port: u16) -> Result<Listening<P::Listener>, Refusal>
     ensures ok { IfOk result (λ listening. P.listens ports.old ports.new port (Ok listening)) }
@@ -62,6 +65,7 @@ fn serve_listening<T: Threader, S: Alter, L: Listener + Drop, W: Sink, E: Sink>(
         policy,
         threader,
         day,
+        KEPT_BYTES,
         &mut listener,
         port,
         count,

@@ -3,6 +3,7 @@ ghost use Rattle.std.specs.Prelude.{◌≡◌, ◌≢◌, ◌≤◌, ◌<◌, �
 ghost use Rattle.archive_listen.specs.declared.faults.AcceptFault.TheVariants as accepting;
 ghost use Rattle.archive_listen.specs.Connections.{Outcome, outcome_line};
 ghost use Rattle.archive_listen.specs.Serving.{Served, ServesEach, served};
+ghost use Rattle.archive_store.specs.Told.{HasReturned, IsReady};
 ghost use Rattle.archive_serve.specs.Announced.{listening_line};
 ghost use Rattle.archive_serve.specs.Pages.{AnswersAs};
 
@@ -64,6 +65,7 @@ pub fn serve<T: Threader, S: Alter, L: Listener, O: Sink, E: Sink>(
     policy: &Policy,
     threader: &T,
     day: Day,
+    most: usize,
     listener: &mut L,
     port: u16,
     count: u32,
@@ -72,13 +74,15 @@ pub fn serve<T: Threader, S: Alter, L: Listener, O: Sink, E: Sink>(
 ) -> Result<(), ServeStop>
     ensures announced { OnOk result (O.told output.new ≡ O.told output.old ++ listening_line port) }
     ensures served { OnOk result ((outcomes : List Outcome) × (length outcomes ≡ count)
-        × ServesEach (AnswersAs S.Store policy.now day) L.accepts L.closes outcomes (served listener.old store.old) (served listener.new store.new)
+        × (HasReturned S.Store store.new → IsReady S.Store store.old → ServesEach (AnswersAs S.Store policy.now day)
+        L.accepts L.closes outcomes (served listener.old store.old) (served listener.new store.new))
         × (E.failures faults.new ≡ E.failures faults.old → E.told faults.new ≡ E.told faults.old ++ flat_map outcome_line outcomes)) }
 
     // At F4 it was said where the archive listens, and fewer connections were answered; before that nothing was touched.
     ensures stopped { result ≡ Err ServeStop.Listen → (O.told output.new ≡ O.told output.old ++ listening_line port)
         × (outcomes : List Outcome) × (last : Served L (Store S)) × (length outcomes < count)
-        × ServesEach (AnswersAs S.Store policy.now day) L.accepts L.closes outcomes (served listener.old store.old) last
+        × (HasReturned S.Store store.new → IsReady S.Store store.old → ServesEach (AnswersAs S.Store policy.now day)
+        L.accepts L.closes outcomes (served listener.old store.old) last)
         × (store.new ≡ last.state) × L.accepts last.listener listener.new (Some accepting.Listener)
         × (E.failures faults.new ≡ E.failures faults.old → E.told faults.new ≡ E.told faults.old ++ flat_map outcome_line outcomes) }
     ensures untouched { IfErr result (λ stop. stop ≢ ServeStop.Listen
@@ -87,7 +91,9 @@ pub fn serve<T: Threader, S: Alter, L: Listener, O: Sink, E: Sink>(
     ensures write { result ≡ Err ServeStop.Write → O.failures output.old < O.failures output.new }
 {
     announce(alloc, port, output)?;
-    match serve_on(alloc, store, policy, threader, day, listener, count, faults) {
+    match serve_on(
+        alloc, store, policy, threader, day, most, listener, count, faults,
+    ) {
         Ok(()) => Ok(()),
         Err(_) => Err(ServeStop::Listen),
     }

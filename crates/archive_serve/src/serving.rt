@@ -3,6 +3,7 @@ ghost use Rattle.std.specs.Prelude.{◌≡◌, ◌≤◌, ◌<◌, ◌++◌, Lis
 ghost use Rattle.archive_listen.specs.declared.faults.AcceptFault.TheVariants as accepting;
 ghost use Rattle.archive_listen.specs.Connections.{Outcome, outcome_line};
 ghost use Rattle.archive_listen.specs.Serving.{Served, ServesEach, served};
+ghost use Rattle.archive_store.specs.Told.{HasReturned, IsReady};
 ghost use Rattle.archive_serve.specs.Pages.{AnswersAs};
 
 use crate::pages::Pages;
@@ -15,33 +16,32 @@ use sqlite::Alter;
 use std::alloc::Global;
 use thread_core::Threader;
 
-/// Takes `count` connections, one after the other, and answers one request on each, by the policy and on the day; the store stays
-/// as it is. A connection that fails is told in one line, S1 to S3, and the next one follows. F4: after fewer, the listener gave
-/// no more.
+/// Takes `count` connections, one after the other, and answers one request on each as `answer` does, by the policy and on the day,
+/// where the store is ready; it stays as it is. What is read of a list for its threads is kept for the connections behind, at most
+/// `most` bytes of it, or one list alone. A connection that fails is told in one line, S1 to S3, and the next one follows. F4: after
+/// fewer, the listener gave no more.
 pub fn serve_on<T: Threader, S: Alter, L: Listener, E: Sink>(
     alloc: Global,
     store: &mut Store<S>,
     policy: &Policy,
     threader: &T,
     day: Day,
+    most: usize,
     listener: &mut L,
     count: u32,
     faults: &mut E,
 ) -> Result<(), ListenFault>
     ensures served { OnOk result ((outcomes : List Outcome) × (length outcomes ≡ count)
-        × ServesEach (AnswersAs S.Store policy.now day) L.accepts L.closes outcomes (served listener.old store.old) (served listener.new store.new)
+        × (HasReturned S.Store store.new → IsReady S.Store store.old → ServesEach (AnswersAs S.Store policy.now day)
+        L.accepts L.closes outcomes (served listener.old store.old) (served listener.new store.new))
         × (E.failures faults.new ≡ E.failures faults.old → E.told faults.new ≡ E.told faults.old ++ flat_map outcome_line outcomes)) }
     ensures stopped { OnErr result ((outcomes : List Outcome) × (last : Served L (Store S)) × (length outcomes < count)
-        × ServesEach (AnswersAs S.Store policy.now day) L.accepts L.closes outcomes (served listener.old store.old) last
+        × (HasReturned S.Store store.new → IsReady S.Store store.old → ServesEach (AnswersAs S.Store policy.now day)
+        L.accepts L.closes outcomes (served listener.old store.old) last)
         × (store.new ≡ last.state) × L.accepts last.listener listener.new (Some accepting.Listener)
         × (E.failures faults.new ≡ E.failures faults.old → E.told faults.new ≡ E.told faults.old ++ flat_map outcome_line outcomes)) }
     ensures failures { E.failures faults.old ≤ E.failures faults.new }
 {
-    let pages = Pages {
-        alloc,
-        policy,
-        threader,
-        day,
-    };
-    serve_each(&pages, store, listener, count, faults)
+    let mut pages = Pages::new(alloc, policy, threader, day, most);
+    serve_each(&mut pages, store, listener, count, faults)
 }

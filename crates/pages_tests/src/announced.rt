@@ -1,6 +1,6 @@
 //! What is said before the first connection.
 use crate::peers::{Peer, Peers};
-use crate::serving::{GETS, LISTS, fill, today};
+use crate::serving::{GETS, LISTS, MOST, fill, today};
 use archive_serve::{ServeStop, serve};
 use archive_store::Store;
 use mbox_core::device::Tap;
@@ -81,6 +81,7 @@ fn says_where<S: Alter>(
         &Policy::open(),
         &PlainThreader,
         today()?,
+        MOST,
         &mut listener,
         case.port,
         case.count,

@@ -1,6 +1,6 @@
 //! The stores, and what they are told and asked.
 use crate::links::Past;
-use crate::{devices, hostile, links, own, pages, requests};
+use crate::{devices, hostile, keeping, links, own, pages, requests};
 use archive_pages::answer;
 use archive_store::Store;
 use civil_time::Day;
@@ -113,7 +113,8 @@ fn tell<S: Alter>(
 }
 
 /// What a store is told: a case, or an archive of which all links are followed, also by who wrote a withdrawn message, whose
-/// threads are asked for, whose pages are made by both threaders, or whose messages refer to each other in a ring.
+/// threads are asked for, once or again and again, whose pages are made by both threaders, or whose messages refer to each other
+/// in a ring.
 #[derive(Clone, Copy, Debug, PartialEq, Eq)]
 enum Order {
     Case(Case),
@@ -121,6 +122,7 @@ enum Order {
     OwnLinks,
     Shown(Past),
     Asking,
+    Keeping,
     ByBoth,
     Rings,
 }
@@ -149,6 +151,7 @@ fn tell_order<S: Alter>(
         Order::OwnLinks => links::own(rt, alloc, store)?,
         Order::Shown(past) => return links::shown(rt, alloc, store, past),
         Order::Asking => links::asking(rt, alloc, store)?,
+        Order::Keeping => keeping::keeping(rt, alloc, store)?,
         Order::ByBoth => links::by_both(rt, alloc, store, nodes)?,
         Order::Rings => hostile::rings(rt, alloc, store, nodes)?,
     }
@@ -199,6 +202,13 @@ fn a_withdrawn_message_leaves_no_trace(rt: HostRuntime) -> Result<(), Fail> {
 #[test]
 fn a_page_of_threads_asks_the_threader_once_of_the_view_alone(rt: HostRuntime) -> Result<(), Fail> {
     tell_new(&rt, rt.alloc(), Order::Asking)?;
+    Ok(())
+}
+
+/// What is kept changes no reply, and the threader is asked once for each list and reader.
+#[test]
+fn what_is_kept_changes_no_reply(rt: HostRuntime) -> Result<(), Fail> {
+    tell_new(&rt, rt.alloc(), Order::Keeping)?;
     Ok(())
 }
 

@@ -1,6 +1,6 @@
 //! Peers that fail at each byte, and the next ones.
 use crate::peers::{ALL, Peer, Peers};
-use crate::serving::{GET, GETS, LISTS, fill, joined, today};
+use crate::serving::{GET, GETS, LISTS, MOST, fill, joined, today};
 use archive_serve::serve_on;
 use archive_store::Store;
 use mbox_core::device::Tap;
@@ -29,6 +29,7 @@ fn is_followed<S: Alter>(
         &Policy::open(),
         &PlainThreader,
         today()?,
+        MOST,
         &mut listener,
         2,
         &mut faults,

@@ -17,6 +17,8 @@ mod failing;
 #[cfg(test)]
 mod hostile;
 #[cfg(test)]
+mod keeping;
+#[cfg(test)]
 mod links;
 #[cfg(test)]
 mod older;

@@ -15,7 +15,7 @@ use std::test::Fail;
 use thread_core::{NodeThreader, PlainThreader, Threader};
 
 /// What each standing may see, and that one's own messages may be read.
-const POLICY: &str = "
+pub const POLICY: &str = "
 [[rule]]
 name = \"mine\"
 effect = \"allow\"
@@ -45,12 +45,12 @@ standings = [\"member\", \"subscriber\", \"moderator\"]
 ";
 
 /// The first message of a thread. Its author and its subject have what a page has to escape.
-const FIRST: &[u8] = b"\
+pub const FIRST: &[u8] = b"\
 From a@b Tue Mar  4 10:00:00 2003\nFrom: <B/%b?#\"&@Example.ORG>\nMessage-ID: <1@x>\n\
 Subject: 1 <a href=\"/nope\"> &amp;\n\n<a href=\"/nope\">\n\n";
 
 /// An answer to it, which is withdrawn.
-const WITHDRAWN: &[u8] = b"\
+pub const WITHDRAWN: &[u8] = b"\
 From a@b Wed Mar  5 10:00:00 2003\nFrom: eve@example.org\nMessage-ID: <2@x>\nReferences: <1@x>\n\
 Subject: 2\n\nTwo.\n\n";
 
@@ -82,7 +82,7 @@ const PERSONS: [(&str, &str, Kind); 3] = [
 ];
 
 /// How many pages there are for nobody and for each person.
-const PAGES: [(Option<&str>, usize); 4] = [
+pub const PAGES: [(Option<&str>, usize); 4] = [
     (None, 27),
     (Some("0000000000000000"), 30),
     (Some("1111111111111111"), 33),
@@ -90,12 +90,12 @@ const PAGES: [(Option<&str>, usize); 4] = [
 ];
 
 /// The first message of an mbox.
-fn first_key(mbox: &[u8]) -> Result<Key, Fail> {
+pub fn first_key(mbox: &[u8]) -> Result<Key, Fail> {
     Ok(Key::of(&cut(mbox)?.next().ok_or("a message")?))
 }
 
 /// Two lists with their messages, and the readers.
-fn fill<S: Alter>(alloc: Global, store: &mut Store<S>, past: Past) -> Result<(), Fail> {
+pub fn fill<S: Alter>(alloc: Global, store: &mut Store<S>, past: Past) -> Result<(), Fail> {
     store.list_add("soc")?;
     store.list_add("other")?;
     for (name, token, kind) in PERSONS {
@@ -114,15 +114,8 @@ fn fill<S: Alter>(alloc: Global, store: &mut Store<S>, past: Past) -> Result<(),
     Ok(())
 }
 
-/// The reply to a request for a path, by a threader.
-fn reply<T: Threader, S: Alter>(
-    alloc: Global,
-    store: &mut Store<S>,
-    policy: &Policy,
-    threader: &T,
-    token: Option<&str>,
-    path: &[u8],
-) -> Result<Tap, Fail> {
+/// A request for a path, of whoever has a token.
+pub fn request_for(alloc: Global, token: Option<&str>, path: &[u8]) -> Result<Vec<u8>, Fail> {
     let mut request = Vec::new(alloc);
     request.extend_from_slice(b"GET ")?;
     request.extend_from_slice(path)?;
@@ -133,6 +126,19 @@ fn reply<T: Threader, S: Alter>(
         request.extend_from_slice(b"\r\n")?;
     }
     request.extend_from_slice(b"\r\n")?;
+    Ok(request)
+}
+
+/// The reply to a request for a path, by a threader.
+pub fn reply<T: Threader, S: Alter>(
+    alloc: Global,
+    store: &mut Store<S>,
+    policy: &Policy,
+    threader: &T,
+    token: Option<&str>,
+    path: &[u8],
+) -> Result<Tap, Fail> {
+    let request = request_for(alloc, token, path)?;
     let mut input = Tap::new(alloc, &request, 10_000)?;
     let mut output = Tap::new(alloc, b"", 100_000)?;
     answer(
@@ -267,8 +273,8 @@ fn asks_once<S: Alter>(
     Ok(())
 }
 
-/// For a page of threads the threader is asked once, and of the messages of the view alone; where the view does not hold the
-/// message, it is not asked.
+/// For a page of threads the threader is asked once, and of the messages of the view alone, also where the view does not hold
+/// the message of the thread.
 pub fn asking<S: Alter>(rt: &impl Abort, alloc: Global, store: &mut Store<S>) -> Result<(), Fail> {
     fill(alloc, store, Past::Withdrawn)?;
     let policy = Policy::read(alloc, POLICY)?;
@@ -280,13 +286,15 @@ pub fn asking<S: Alter>(rt: &impl Abort, alloc: Global, store: &mut Store<S>) ->
     let hidden = thread_path(alloc, &first_key(WITHDRAWN)?)?;
     let noting = Noting::new(alloc);
     let output = reply(alloc, store, &policy, &noting, None, &hidden)?;
+    let noted = noting.into_noted();
     assert!(rt; output.bytes().starts_with(b"HTTP/1.1 404 Not Found\r\n"));
-    assert_eq!(rt; noting.into_noted().joins, 0);
+    assert_eq!(rt; (noted.joins, noted.rows), (1, 1));
+    assert_eq!(rt; noted.entries.as_slice(), SEEN_BY_NOBODY);
     Ok(())
 }
 
 /// The path of the thread of a message.
-fn thread_path(alloc: Global, key: &Key) -> Result<Vec<u8>, Fail> {
+pub fn thread_path(alloc: Global, key: &Key) -> Result<Vec<u8>, Fail> {
     let mut path = Vec::new(alloc);
     path.extend_from_slice(b"/l/soc/t/")?;
     path.extend_from_slice(key.as_str().as_bytes())?;

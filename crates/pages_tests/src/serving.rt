@@ -148,6 +148,9 @@ const CASES: [Case; 7] = [
     },
 ];
 
+/// How many bytes of lists are kept at most.
+pub const MOST: usize = 1 << 20;
+
 /// The day of each request.
 pub fn today() -> Result<Day, Fail> {
     Ok(Day::read(b"2003-03-20").ok_or("a day")?)
@@ -187,6 +190,7 @@ fn comes<S: Alter>(
         policy,
         &PlainThreader,
         today()?,
+        MOST,
         &mut listener,
         case.count,
         &mut faults,

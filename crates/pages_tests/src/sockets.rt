@@ -1,5 +1,5 @@
 //! A peer of this process, on the loopback interface.
-use crate::serving::{GET, LISTS, fill, today};
+use crate::serving::{GET, LISTS, MOST, fill, today};
 use archive_listen::Loopback;
 use archive_serve::serve_on;
 use archive_store::Store;
@@ -32,6 +32,7 @@ fn asks<R: Net + Clock + Abort, S: Alter>(
         &Policy::open(),
         &PlainThreader,
         today()?,
+        MOST,
         &mut listener,
         1,
         &mut faults,
