@@ -14,7 +14,6 @@ pub trait Outgoing: Sink {
     fn flush(&mut self) -> Result<(), DeviceFailure>
         ensures told { Self.told self.new ≡ Self.told self.old }
         ensures sent { OnOk result (sent self.new ≡ Self.told self.new) }
-        ensures quiet { OnOk result (Self.failures self.new ≡ Self.failures self.old) }
         ensures cause { OnErr result (Self.failures self.old < Self.failures self.new) };
 
     // They are a beginning of those that it told.

@@ -5,4 +5,4 @@ pub mod SiftExamples
 pub mod WorkLemmas
 pub mod CheckLemmas
 pub mod OrderLemmas
-pub mod ResultLemmas
+pub mod ServeLemmas

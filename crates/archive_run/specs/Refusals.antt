@@ -1,5 +1,5 @@
 -- How refusals are told.
-use Rattle.std.specs.Prelude.{◌≡◌, ◌≤◌, ◌⊎◌, ◌&&◌, ◌++◌, nat_le, ℕ, List, map, codes, decimal, string_bytes, if◌then◌else◌}
+use Rattle.std.specs.Prelude.{◌≡◌, ◌⊎◌, ◌&&◌, ◌++◌, nat_le, ℕ, List, map, codes, decimal, string_bytes, if◌then◌else◌}
 use Rattle.mbox_core.specs.declared.faults.MboxFault.{MboxFault}
 use Rattle.mbox_core.specs.declared.faults.MboxFault.TheVariants as mbox
 use Rattle.policy_core.specs.declared.faults.PolicyFault.{PolicyFault}
@@ -10,7 +10,6 @@ use Rattle.archive_desk.specs.declared.faults.DeskFault.{DeskFault}
 use Rattle.archive_desk.specs.declared.faults.DeskFault.TheVariants as desk
 use Rattle.archive_desk.specs.declared.importing.ImportFault.{ImportFault}
 use Rattle.archive_desk.specs.declared.importing.ImportFault.TheVariants as taking
-use Rattle.archive_run.specs.World.{Noted}
 use Rattle.archive_run.specs.declared.faults.Refusal.{Refusal}
 use Rattle.archive_run.specs.declared.faults.Refusal.TheVariants.{Mbox, Policy, Store, Desk, Import, Damaged, Denied, Read, Write, Clock, Net, Memory}
 
@@ -98,8 +97,3 @@ fault_line refusal = codes "archive: " ++ refusal_text refusal ++ codes "\n"
 -- The line of the refusal was told, or the line that there was no memory for it.
 abbrev pub TellsOf : Refusal → List ℕ → List ℕ → Type 0
 TellsOf refusal old new = (new ≡ old ++ fault_line refusal) ⊎ (new ≡ old ++ fault_line Memory)
-
--- One line told the refusal, where the stream of faults did not fail.
-abbrev pub Tells : Refusal → (before after : Noted) → Type 0
-Tells refusal before after =
-    (before.failures ≤ after.failures) × (after.failures ≡ before.failures → TellsOf refusal before.written after.written)

@@ -1,7 +1,6 @@
 //! What the program says where it refuses.
-ghost use Rattle.std.specs.Prelude.{◌≡◌};
-ghost use Rattle.archive_run.specs.Refusals.{Tells, desk_text, store_text};
-ghost use Rattle.archive_run.specs.World.{noted};
+ghost use Rattle.std.specs.Prelude.{◌≡◌, ◌≤◌};
+ghost use Rattle.archive_run.specs.Refusals.{TellsOf, desk_text, store_text};
 
 use archive_desk::{DeskFault, ImportFault, ImportStop};
 use archive_store::StoreFault;
@@ -172,7 +171,8 @@ impl fmt::Display for Refusal {
 
 /// Writes a refusal as one line. Where that line fails there is nowhere left to say so.
 pub fn tell<E: Sink>(alloc: Global, faults: &mut E, refusal: &Refusal)
-    ensures { Tells refusal.now (noted E.Sink faults.old) (noted E.Sink faults.new) }
+    ensures told { E.failures faults.new ≡ E.failures faults.old → TellsOf refusal.now (E.told faults.old) (E.told faults.new) }
+    ensures failures { E.failures faults.old ≤ E.failures faults.new }
 {
     let _ = match format!(in alloc; "archive: {refusal}\n") {
         Ok(line) => write_bytes(faults, line.as_bytes()),

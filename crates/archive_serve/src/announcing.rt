@@ -8,7 +8,7 @@ ghost use Rattle.archive_serve.specs.Announced.{listening_line};
 ghost use Rattle.archive_serve.specs.Pages.{AnswersAs};
 
 use crate::serving::serve_on;
-use archive_listen::{Listener, Outgoing};
+use archive_listen::Listener;
 use archive_store::Store;
 use civil_time::Day;
 use mbox_core::device::{Sink, write_bytes};
@@ -42,10 +42,9 @@ impl fmt::Display for ServeStop {
 
 impl Error for ServeStop {}
 
-/// Writes the line that says where the archive listens, and passes it on.
-fn announce<O: Outgoing>(alloc: Global, port: u16, output: &mut O) -> Result<(), ServeStop>
+/// Writes the line that says where the archive listens.
+fn announce<O: Sink>(alloc: Global, port: u16, output: &mut O) -> Result<(), ServeStop>
     ensures ok { OnOk result (O.told output.new ≡ O.told output.old ++ listening_line port) }
-    ensures passed { OnOk result (O.sent output.new ≡ O.told output.new) }
     ensures cause { IfErr result (λ stop. stop ≢ ServeStop.Listen) }
     ensures write { result ≡ Err ServeStop.Write → O.failures output.old < O.failures output.new }
 {
@@ -53,18 +52,14 @@ fn announce<O: Outgoing>(alloc: Global, port: u16, output: &mut O) -> Result<(),
         return Err(ServeStop::Memory);
     };
     match write_bytes(output, line.as_bytes()) {
-        Ok(()) => {}
-        Err(_) => return Err(ServeStop::Write),
-    }
-    match output.flush() {
         Ok(()) => Ok(()),
         Err(_) => Err(ServeStop::Write),
     }
 }
 
 /// Says on the output where the archive listens, and then answers `count` connections as `serve_on` does. The listener listens
-/// on that port already, and the line is passed on before the first connection is taken.
-pub fn serve<T: Threader, S: Alter, L: Listener, O: Outgoing, E: Sink>(
+/// on that port already; an output that holds back what it is given tells nobody in time.
+pub fn serve<T: Threader, S: Alter, L: Listener, O: Sink, E: Sink>(
     alloc: Global,
     store: &mut Store<S>,
     policy: &Policy,
@@ -77,14 +72,14 @@ pub fn serve<T: Threader, S: Alter, L: Listener, O: Outgoing, E: Sink>(
     output: &mut O,
     faults: &mut E,
 ) -> Result<(), ServeStop>
-    ensures announced { OnOk result ((O.told output.new ≡ O.told output.old ++ listening_line port) × (O.sent output.new ≡ O.told output.new)) }
+    ensures announced { OnOk result (O.told output.new ≡ O.told output.old ++ listening_line port) }
     ensures served { OnOk result ((outcomes : List Outcome) × (length outcomes ≡ count)
         × (HasReturned S.Store store.new → IsReady S.Store store.old → ServesEach (AnswersAs S.Store policy.now day)
         L.accepts L.closes outcomes (served listener.old store.old) (served listener.new store.new))
         × (E.failures faults.new ≡ E.failures faults.old → E.told faults.new ≡ E.told faults.old ++ flat_map outcome_line outcomes)) }
 
     // At F4 it was said where the archive listens, and fewer connections were answered; before that nothing was touched.
-    ensures stopped { result ≡ Err ServeStop.Listen → (O.told output.new ≡ O.told output.old ++ listening_line port) × (O.sent output.new ≡ O.told output.new)
+    ensures stopped { result ≡ Err ServeStop.Listen → (O.told output.new ≡ O.told output.old ++ listening_line port)
         × (outcomes : List Outcome) × (last : Served L (Store S)) × (length outcomes < count)
         × (HasReturned S.Store store.new → IsReady S.Store store.old → ServesEach (AnswersAs S.Store policy.now day)
         L.accepts L.closes outcomes (served listener.old store.old) last)

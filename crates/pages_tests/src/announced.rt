@@ -1,7 +1,6 @@
 //! What is said before the first connection.
 use crate::peers::{Peer, Peers};
-use crate::serving::{GETS, LISTS, fill, today};
-use archive_listen::Gathered;
+use crate::serving::{GETS, LISTS, MOST, fill, today};
 use archive_serve::{ServeStop, serve};
 use archive_store::Store;
 use mbox_core::device::Tap;
@@ -74,7 +73,7 @@ fn says_where<S: Alter>(
     case: &Case,
 ) -> Result<(), Fail> {
     let mut listener = Peers::new(alloc, &PEERS);
-    let mut output = Gathered::new(Tap::new(alloc, b"", case.room)?);
+    let mut output = Tap::new(alloc, b"", case.room)?;
     let mut faults = Tap::new(alloc, b"", 1000)?;
     let outcome = serve(
         alloc,
@@ -82,6 +81,7 @@ fn says_where<S: Alter>(
         &Policy::open(),
         &PlainThreader,
         today()?,
+        MOST,
         &mut listener,
         case.port,
         case.count,
@@ -89,7 +89,7 @@ fn says_where<S: Alter>(
         &mut faults,
     );
     assert_eq!(rt; outcome, case.outcome);
-    assert_eq!(rt; output.into_inner().bytes(), case.said);
+    assert_eq!(rt; output.bytes(), case.said);
     assert_eq!(rt; listener.got.as_slice(), case.got);
     assert!(rt; faults.bytes().is_empty());
     Ok(())

@@ -19,24 +19,29 @@
 
 mod shelf;
 mod short_files;
-mod stage;
 
 use anyhow::{Context, bail};
-use archive_listen::{Gathered, Outgoing};
-use archive_run::{SystemFiles, World, run};
+use archive_run::{DayClock, SystemFiles, run};
 use civil_time::Day;
 use mbox_core::device::{Counted, Tap, read_all, write_bytes};
 use shelf::Shelf;
 use short_files::ShortFiles;
-use stage::{NoPorts, Stand, Still};
 use std::alloc::{AllocError, AllocGlobal, Global};
-use std::hash::RandomState;
 use std::rt::Files;
-use std::{fs, io, mem};
-use thread_core::NodeThreader;
+use std::{fs, io};
 
 /// More bytes than any run here reads or writes.
 const ROOM: usize = 65_536;
+
+/// A clock that stands still, or tells nothing.
+#[derive(Drop)]
+struct Still(Option<Day>);
+
+impl DayClock for Still {
+    fn today(&mut self) -> Option<Day> {
+        self.0
+    }
+}
 
 /// What the runs are over.
 #[derive(Drop)]
@@ -44,7 +49,6 @@ struct Stage {
     input: Vec<u8>,
     today: Option<Day>,
     databases: Shelf,
-    threader: NodeThreader,
 }
 
 /// What came of a run.
@@ -72,32 +76,27 @@ impl Stage {
         room: usize,
     ) -> anyhow::Result<Ran> {
         let alloc = rt.alloc();
-        let databases = mem::replace(&mut self.databases, Shelf::new(alloc));
-        let mut world: World<Stand<'_, RT>> = World {
-            files: ShortFiles {
-                files: SystemFiles { rt },
-                passes,
-            },
-            databases,
-            clock: Still(self.today),
-            ports: NoPorts,
-            threader: self.threader,
-            input: Tap::new(alloc, &self.input, passes)?,
-            output: Gathered::new(Tap::new(alloc, b"", room)?),
-            faults: Tap::new(alloc, b"", ROOM)?,
+        let mut clock = Still(self.today);
+        let mut input = Tap::new(alloc, &self.input, passes)?;
+        let mut output = Tap::new(alloc, b"", room)?;
+        let mut faults = Tap::new(alloc, b"", ROOM)?;
+        let files = ShortFiles {
+            files: SystemFiles { rt },
+            passes,
         };
-        let status = run(alloc, &mut world, words);
-        let _ = world.output.flush();
-        let World {
-            databases,
-            output,
-            faults,
-            ..
-        } = world;
-        self.databases = databases;
+        let status = run(
+            alloc,
+            &files,
+            &mut self.databases,
+            words,
+            &mut clock,
+            &mut input,
+            &mut output,
+            &mut faults,
+        );
         Ok(Ran {
             status,
-            output: output.into_inner(),
+            output,
             faults,
         })
     }
@@ -290,7 +289,6 @@ fn main(rt: HostRuntime) -> anyhow::Result<()> {
         input: Vec::new(alloc),
         today: None,
         databases: Shelf::new(alloc),
-        threader: NodeThreader::new(RandomState::new(&rt)?),
     };
     let mut page = Vec::new(alloc);
     for line in script.lines() {

@@ -2,14 +2,12 @@
 ghost use Rattle.std.specs.Prelude.{⊤};
 
 use archive_listen::{AcceptFault, Connection, Gathered, ListenFault, Listener, Listening, Ports};
-use archive_run::{Databases, DayClock, FileFault, OpenFiles, ReadFiles, System};
+use archive_run::{Databases, DayClock, FileFault, OpenFiles, ReadFiles};
 use archive_store::{Store, StoreFault};
 use civil_time::Day;
 use mbox_core::device::Tap;
 use sqlite::MemStore;
 use std::alloc::Global;
-use std::marker::PhantomData;
-use thread_core::NodeThreader;
 
 /// A file that writes a policy.
 pub const POLICY: &str = "policy.toml";
@@ -206,29 +204,4 @@ impl Ports for Quay {
             port: if port == 0 { PICKED } else { port },
         })
     }
-}
-
-/// The kinds of devices of memory, with these databases.
-pub struct Desk<D> {
-    of: PhantomData<D>,
-}
-
-impl<D: Databases<Store<MemStore>> + Drop> System for Desk<D> {
-    type Pages = MemStore;
-
-    type Files = KnownFiles;
-
-    type Databases = D;
-
-    type Clock = Still;
-
-    type Ports = Quay;
-
-    type Threader = NodeThreader;
-
-    type Input = Tap;
-
-    type Output = Gathered<Tap>;
-
-    type Faults = Tap;
 }

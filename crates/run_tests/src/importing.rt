@@ -1,13 +1,10 @@
 //! What orders to import come to.
-use crate::devices::{ARCHIVE, BROKEN, Desk, Drawer, KnownFiles, MBOX, NO_MEMORY, Quay, Still};
-use archive_listen::Gathered;
-use archive_run::{World, run};
+use crate::devices::{ARCHIVE, BROKEN, Drawer, KnownFiles, MBOX, NO_MEMORY, Still};
+use archive_run::run;
 use mbox_core::device::Tap;
 use std::alloc::Global;
-use std::hash::RandomState;
 use std::process::Abort;
 use std::test::Fail;
-use thread_core::NodeThreader;
 
 /// A list, an mbox, and what comes of its import.
 #[derive(Clone, Copy)]
@@ -64,45 +61,46 @@ const CASES: [Case; 7] = [
     FAILS,
 ];
 
-/// Runs over one database, compares what went out and what was told, and gives the database back.
+/// Runs over one database, and compares what went out and what was told.
 fn comes(
     rt: &impl Abort,
     alloc: Global,
-    threader: NodeThreader,
-    databases: Drawer,
+    databases: &mut Drawer,
     words: &[&str],
     case: &Case,
-) -> Result<Drawer, Fail> {
-    let mut world: World<Desk<Drawer>> = World {
-        files: KnownFiles,
+) -> Result<(), Fail> {
+    let mut input = Tap::new(alloc, b"", 0)?;
+    let mut output = Tap::new(alloc, b"", 100)?;
+    let mut faults = Tap::new(alloc, b"", 100)?;
+    let status = run(
+        alloc,
+        &KnownFiles,
         databases,
-        clock: Still(None),
-        ports: Quay { alloc, peers: &[] },
-        threader,
-        input: Tap::new(alloc, b"", 0)?,
-        output: Gathered::new(Tap::new(alloc, b"", 100)?),
-        faults: Tap::new(alloc, b"", 100)?,
-    };
-    let status = run(alloc, &mut world, words);
-    assert_eq!(rt; world.faults.bytes(), case.told);
-    assert_eq!(rt; world.output.into_inner().bytes(), case.said);
+        words,
+        &mut Still(None),
+        &mut input,
+        &mut output,
+        &mut faults,
+    );
+    assert_eq!(rt; faults.bytes(), case.told);
+    assert_eq!(rt; output.bytes(), case.said);
     assert_eq!(rt; status, case.status);
-    Ok(world.databases)
+    Ok(())
 }
 
 #[test]
 fn a_file_is_imported_as_far_as_it_is_read(rt: HostRuntime) -> Result<(), Fail> {
     let alloc = rt.alloc();
-    let threader = NodeThreader::new(RandomState::new(&rt)?);
+    let mut databases = Drawer(None);
     let added = Case {
         said: b"added\n",
         ..REST
     };
     let words = ["list-add", "--db", ARCHIVE, "soc"];
-    let mut databases = comes(&rt, alloc, threader, Drawer(None), &words, &added)?;
+    comes(&rt, alloc, &mut databases, &words, &added)?;
     for case in &CASES {
         let words = ["import", "--db", ARCHIVE, case.list, case.mbox];
-        databases = comes(&rt, alloc, threader, databases, &words, case)?;
+        comes(&rt, alloc, &mut databases, &words, case)?;
     }
     Ok(())
 }

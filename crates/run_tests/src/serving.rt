@@ -1,14 +1,13 @@
 //! What orders to serve come to.
-use crate::devices::{ARCHIVE, Desk, KnownFiles, NO_POLICY, POLICY, Peer, Quay, Shelf, Still, TAKEN};
-use archive_listen::Gathered;
-use archive_run::{World, run};
+use crate::devices::{ARCHIVE, KnownFiles, NO_POLICY, POLICY, Peer, Quay, Shelf, Still, TAKEN};
+use archive_run::run_serve;
+use archive_words::ServeOrder;
 use civil_time::Day;
 use mbox_core::device::Tap;
 use std::alloc::Global;
-use std::hash::RandomState;
 use std::process::Abort;
 use std::test::Fail;
-use thread_core::NodeThreader;
+use thread_core::PlainThreader;
 
 /// An order, what it meets, and what comes of it.
 #[derive(Clone, Copy)]
@@ -118,52 +117,52 @@ const CASES: [Case; 11] = [
     },
 ];
 
-fn comes(
-    rt: &impl Abort,
-    alloc: Global,
-    threader: NodeThreader,
-    case: &Case,
-) -> Result<(), Fail> {
-    let mut world: World<Desk<Shelf>> = World {
-        files: KnownFiles,
-        databases: Shelf {
-            opened: 0,
-            closed: 0,
-        },
-        clock: Still(if case.tells_day {
-            Day::of(2024, 3, 20)
-        } else {
-            None
-        }),
-        ports: Quay {
-            alloc,
-            peers: &PEERS,
-        },
-        threader,
-        input: Tap::new(alloc, b"", 0)?,
-        output: Gathered::new(Tap::new(alloc, b"", case.room)?),
-        faults: Tap::new(alloc, b"", 1000)?,
+fn comes(rt: &impl Abort, alloc: Global, case: &Case) -> Result<(), Fail> {
+    let mut databases = Shelf {
+        opened: 0,
+        closed: 0,
     };
-    let port = format!(in alloc; "{}", case.port)?;
-    let count = format!(in alloc; "{}", case.count)?;
-    let words = [
-        "serve", "--db", case.file, "--policy", case.policy, "--port", port.as_str(), "--count",
-        count.as_str(),
-    ];
-    let status = run(alloc, &mut world, &words);
+    let mut clock = Still(if case.tells_day {
+        Day::of(2024, 3, 20)
+    } else {
+        None
+    });
+    let mut ports = Quay {
+        alloc,
+        peers: &PEERS,
+    };
+    let order = ServeOrder {
+        file: case.file,
+        policy: case.policy,
+        day: None,
+        port: case.port,
+        count: case.count,
+    };
+    let mut output = Tap::new(alloc, b"", case.room)?;
+    let mut faults = Tap::new(alloc, b"", 1000)?;
+    let status = run_serve(
+        alloc,
+        &KnownFiles,
+        &mut databases,
+        &PlainThreader,
+        &mut clock,
+        &mut ports,
+        &order,
+        &mut output,
+        &mut faults,
+    );
     assert_eq!(rt; status, case.status);
-    assert_eq!(rt; world.output.into_inner().bytes(), case.said);
-    assert_eq!(rt; world.faults.bytes(), case.told);
-    assert_eq!(rt; world.databases.opened, case.opened);
-    assert_eq!(rt; world.databases.closed, case.opened);
+    assert_eq!(rt; output.bytes(), case.said);
+    assert_eq!(rt; faults.bytes(), case.told);
+    assert_eq!(rt; databases.opened, case.opened);
+    assert_eq!(rt; databases.closed, case.opened);
     Ok(())
 }
 
 #[test]
 fn each_order_comes_to_its_status(rt: HostRuntime) -> Result<(), Fail> {
-    let threader = NodeThreader::new(RandomState::new(&rt)?);
     for case in &CASES {
-        comes(&rt, rt.alloc(), threader, case)?;
+        comes(&rt, rt.alloc(), case)?;
     }
     Ok(())
 }
