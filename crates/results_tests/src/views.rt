@@ -51,6 +51,7 @@ Subject: Tea
 
 ";
 
+/// What a policy is asked of the list `soc` on 20 March 2003, by nobody.
 pub fn ask<'a>(policy: &'a Policy) -> Result<Ask<'a>, Fail> {
     Ok(Ask {
         policy,
@@ -60,6 +61,7 @@ pub fn ask<'a>(policy: &'a Policy) -> Result<Ask<'a>, Fail> {
     })
 }
 
+/// The message of an item, withdrawn as given and held back by no embargo.
 pub fn message(alloc: Global, item: &Item<'_>, withdrawn: Withdrawn) -> Result<Message, Fail> {
     Ok(Message {
         key: Key::of(item),
