@@ -13,4 +13,5 @@ pub mod WalkingLemmas
 pub mod CheckLemmas
 pub mod FollowLemmas
 pub mod CauseLemmas
+pub mod WantLemmas
 mod PutLemmas

@@ -1,6 +1,6 @@
 -- Walks over the messages of a list.
 use Rattle.std.proofs.Common.{◌≡◌, ℕ, ℤ, ◌+◌, ◌<◌, ◌≤◌, true, List, [], ◌∷◌, ◌++◌, length, get_or, drop, map, bytes_eq, refl, ap, sym, subst, append_assoc, ◌∙◌, Option, Some, None, Result, Ok, Err, IfErr, ◌⊎◌, inl, inr}
-use Rattle.std.specs.Prelude.{IsErrAnd, slice_get, Vec, ◌&&◌, Bool, false, filter}
+use Rattle.std.specs.Prelude.{IsErrAnd, MatchOption, MatchResult, slice_get, Vec, ◌&&◌, Bool, false, filter}
 use Rattle.std.specs.declared.alloc.Global.{Global}
 use Rattle.std.proofs.lemmas.Option.{slice_get_cases, slice_get_within, get_or_from_slice_get}
 use Rattle.std.specs.List.{All, AllByRecursion}
@@ -10,6 +10,7 @@ use Rattle.std.proofs.lemmas.Bool.{cases_Bool}
 use Rattle.std.proofs.lemmas.List.{drop_more, drop_all, map-append}
 use Rattle.std.proofs.lemmas.Slice.Eq.{bytes_eq-Decides}
 use Rattle.archive_machine.specs.Records.{Message, Archive}
+use Rattle.archive_machine.specs.Commands.{Refusal}
 use Rattle.archive_machine.specs.Questions.{list_refusal, messages_in}
 use Rattle.archive_machine.specs.Messages.{remembered}
 use Rattle.archive_machine.specs.Filing.{Filed, filed, is_sent_before, with_filed, by_filed_date, is_filed_in_month, is_filed_by_author, in_month, by_author}
@@ -21,11 +22,12 @@ use Rattle.sqlite.specs.Held.{state}
 use Rattle.archive_database.specs.Messages.{IsReadable}
 use Rattle.archive_tables.specs.Rows.{message_at}
 use Rattle.archive_tables.specs.Tables.{AreTables, archive_in}
-use Rattle.archive_store.specs.Replies.{refusal, Answers}
+use Rattle.archive_tables.specs.Calls.{Rests}
+use Rattle.archive_store.specs.Replies.{refusal, Answers, Stays}
 use Rattle.archive_store.specs.Held.{held_of}
-use Rattle.archive_store.specs.Told.{HoldsTables, IsOpen, HasReturned, HadReturned, HasFailed, Lasts, CausedOr, GoesInIfOpen, archive_in as now_holds}
+use Rattle.archive_store.specs.Told.{HoldsTables, IsOpen, HasReturned, HadReturned, HasFailed, Lasts, CausedOr, GoesIn, GoesInIfOpen, archive_in as now_holds}
 use Rattle.archive_store.proofs.CauseLemmas.{more_since}
-use Rattle.archive_store.specs.Walking.{Walk, WalksOver, BeginsOver, IsNotBegun, GivesAll, StopsAll, now_in, rows_of}
+use Rattle.archive_store.specs.Walking.{Walk, WalksOn, WalksOver, BeginsOver, IsNotBegun, FindsPlaces, GivesAll, StopsAll, now_in, rows_of}
 use Rattle.archive_store.specs.declared.store.Store.{Store}
 use Rattle.archive_store.specs.declared.faults.StoreFault.{StoreFault}
 
@@ -127,9 +129,11 @@ author_of_list list key a =
     messages_of_list list (by_filed_date (filter (is_filed_by_author list key) (filed a)))
     (sorted_of_list list (filter (is_filed_by_author list key) (filed a)) (wanted_of_list list (λ (f : Filed). bytes_eq f.1.author key) (filed a)))
 
-pub no_refusal : {A : Type 0} (r : Result A StoreFault) (Q : StoreFault → Type 0) → IsErrAnd r Q → ((fault : StoreFault) → Q fault → refusal fault ≡ None) → IfErr r (λ fault. refusal fault ≡ None)
-no_refusal (Ok x) Q none why = absurd none
-no_refusal (Err fault) Q it why = why fault it
+-- a fault that has no reason
+pub without_reason : {A : Type 0} (r : Result A StoreFault) (Q : StoreFault → Type 0) (P : A → Type 0) (R : Refusal → Type 0) {X : Type 0} → IsErrAnd r (λ fault. Q fault × (refusal fault ≡ None)) → X
+    → MatchResult r P (λ fault. MatchOption (refusal fault) X R)
+without_reason (Ok x) Q P R none it = absurd none
+without_reason (Err fault) Q P R why it = rw why.1 it
 
 pub past_end : {A : Type 0} (xs : List A) (i : ℕ) → slice_get xs i ≡ None → length xs ≤ i
 past_end xs i none = elim ((slice_get_cases xs i).1) [ inl found ↦ absurd (let bad = sym none ∙ found.2 in cc) | inr past ↦ past.0 ]
@@ -141,10 +145,24 @@ module _ {S : Type 0} (g : Ghosts S) where
       → (list_refusal (now_holds g old) list ≡ None) × HoldsTables g mid × (now_holds g mid ≡ now_holds g old) × (walk.places.items ≡ which (rows_of g mid))
   at_start mid old list which walk places same it = (it.0, it.1, it.2, ap (λ (v : Vec ℤ Global). v.items) same ∙ it.3)
 
-  pub fails : {A : Type 0} (old new : Store S) (list : List ℕ) (r : Result A StoreFault) → IfErr r (λ fault. refusal fault ≡ None) → GoesInIfOpen g (HoldsTables g) old new (λ a b. b ≡ a)
-      → IsNotBegun g old list r new
-  fails old new list (Ok x) none goes = tt
-  fails old new list (Err fault) none goes = rw none goes
+  -- a question for the numbers of messages
+  module _ (old new : Store S) (list : List ℕ) (which : Trees → List ℤ) where
+    abbrev pub AnswersPlaces : Result (Vec ℤ Global) StoreFault → Type 0
+    AnswersPlaces r = Answers g (held_of old) (held_of new) r (λ a. list_refusal a list) (λ _ places. places.items ≡ which (rows_of g new))
+
+    pub not_begun : (r : Result (Vec ℤ Global) StoreFault) → Lasts g old new → AnswersPlaces r → IsNotBegun g old list r new
+    not_begun (Ok places) lasts it = tt
+    not_begun (Err fault) lasts it = go (refusal fault) it
+      where
+        go : (o : Option Refusal) → (HasReturned g new → HoldsTables g old → MatchOption o (Rests (state g (held_of old)) (state g (held_of new)))
+            (λ why. Stays g (held_of old) (held_of new) × (list_refusal (now_holds g old) list ≡ Some why)))
+            → MatchOption o (GoesInIfOpen g (HoldsTables g) old new (λ a b. b ≡ a)) (λ why. GoesIn g (HoldsTables g) old new (λ a b. (b ≡ a) × (list_refusal a list ≡ Some why)))
+        go None it = (lasts, λ returned kept up. it returned kept up)
+        go (Some why) it = (lasts, λ returned kept. let stays = it returned kept in (stays.0.0, (stays.0.1, stays.1)))
+
+    pub places_found : (r : Result (Vec ℤ Global) StoreFault) → AnswersPlaces r → FindsPlaces g old new list which r
+    places_found (Ok places) it = λ returned kept. let found = it returned kept in (found.1, found.0.0, found.0.1, found.2)
+    places_found (Err fault) it = λ returned kept. tt
 
   pub begins_walk : (old mid : Store S) (list : List ℕ) (which : Trees → List ℤ) (all : Archive → List Message)
       → ((trees : Trees) → AreTables trees → map (message_at trees) (which trees) ≡ map Some (all (archive_in trees))) → ((a : Archive) → AreOfList list (all a))
@@ -185,11 +203,11 @@ module _ {S : Type 0} (g : Ghosts S) (list : List ℕ) (all : List Message) (a :
   }
 
   -- one message further
-  pub further : (old new : Walk S) (d : ℤ) (m : Given) → WalksOver g list all a given old → old.at < length old.places.items → new.places.items ≡ old.places.items → new.at ≡ old.at + 1
-      → now_in g new.store.now ≡ now_in g old.store.now → HoldsTables g new.store.now
+  pub further : (old : Walk S) (new : Store S) (where_at : ℕ) (left : List ℤ) (d : ℤ) (m : Given) → WalksOver g list all a given old → old.at < length old.places.items → left ≡ old.places.items → where_at ≡ old.at + 1
+      → now_in g new ≡ now_in g old.store.now → HoldsTables g new
       → (it : Message) × (message_at (rows_of g old.store.now) (get_or old.places.items old.at d) ≡ Some it) × (remembered it.list m ≡ it)
-      → WalksOver g list all a (given ++ remembered list m ∷ []) new
-  further old new d m w within places at now held shown =
+      → WalksOn g list all a (given ++ remembered list m ∷ []) (held_of new) (drop where_at left)
+  further old new where_at left d m w within places at now held shown =
       let n = next_is (message_at (rows_of g old.store.now)) old.places.items old.at d w.left w.ahead within in
       let same : shown.0 ≡ n.0 = some_is (sym shown.1 ∙ n.3) in
       let joined : given ++ n.0 ∷ n.1 ≡ all = ap (λ l. given ++ l) (sym n.2) ∙ w.joined in
@@ -199,8 +217,8 @@ module _ {S : Type 0} (g : Ghosts S) (list : List ℕ) (all : List Message) (a :
         held = held;
         archive_is = ap (λ (d : Database). archive_in d.trees) now ∙ w.archive_is;
         left = n.1;
-        ahead = ap (λ (d : Database). map (message_at d.trees) (drop new.at new.places.items)) now
-            ∙ ap (λ k. map (message_at (rows_of g old.store.now)) (drop k new.places.items)) at
+        ahead = ap (λ (d : Database). map (message_at d.trees) (drop where_at left)) now
+            ∙ ap (λ k. map (message_at (rows_of g old.store.now)) (drop k left)) at
             ∙ ap (λ l. map (message_at (rows_of g old.store.now)) (drop (old.at + 1) l)) places ∙ n.4;
         joined = one_more given (remembered list m) n.1 ∙ ap (λ x. given ++ x ∷ n.1) read ∙ joined;
         of_list = w.of_list;

@@ -71,6 +71,10 @@ IsRefusedAt a list items at no_list = (at ≡ 0) × (has_list a list ≡ false)
 IsRefusedAt a list items at list_full = IsFullAt a list items at
 IsRefusedAt a list items at _ = ⊥
 
+-- It came to a place between these, up to which the report tells, or memory or the database was at fault.
+abbrev pub EndsAt : Result ℕ StoreFault → (from to : ℕ) → Report → Type 0
+EndsAt result from to telling = MatchResult result (λ at. (told_in telling ≡ at) × (from ≤ at) × (at ≤ to)) (λ fault. refusal fault ≡ None)
+
 module _ {S : Type 0} (g : Ghosts S) (old new : Held S) where
   abbrev pub AddsOne : Result Taken StoreFault → List ℕ → Item → ℕ → ℕ → Type 0
   AddsOne result list item before after =

@@ -1,4 +1,5 @@
 pub mod Held
+pub mod Wanting
 pub mod Replies
 pub mod Words
 pub mod Running
@@ -6,3 +7,5 @@ pub mod Batches
 pub mod Told
 pub mod Walking
 pub mod Checking
+pub mod Uncounted
+pub mod Names

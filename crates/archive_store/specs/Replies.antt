@@ -1,5 +1,5 @@
 -- How the answers of a store stand for those of the machine.
-use Rattle.std.specs.Prelude.{◌≡◌, ◌⊎◌, Bool, List, [], ◌∷◌, IfErr, IfSome, MatchResult, MatchOption, Option, Some, None, Result, Ok, Err, option_map}
+use Rattle.std.specs.Prelude.{◌≡◌, ◌⊎◌, ⊤, IsTrue, Bool, List, [], ◌∷◌, IfErr, IfSome, MatchResult, MatchOption, Option, Some, None, Result, Ok, Err, option_map}
 use Rattle.sqlite_disk.specs.Disk.{MoreFaults}
 use Rattle.sqlite.specs.Store.{Ghosts}
 use Rattle.sqlite.specs.declared.error.Error.{Error}
@@ -99,3 +99,13 @@ module _ {S : Type 0} (g : Ghosts S) (old new : Held S) where
   abbrev pub FailsByDisk : {A : Type 0} → Result A StoreFault → Type 0
   FailsByDisk result = HasCleanDisk (state g new) → IsKept (state g old) → (state g old).step_limit ≡ None
       → IfErr result (λ fault. fault ≡ Store → MoreFaults (state g old).faults (state g new).faults)
+
+  -- the same, or this is so of the archive
+  abbrev pub FailsByDiskOr : {A : Type 0} → Result A StoreFault → (Archive → Type 0) → Type 0
+  FailsByDiskOr result Unread = HasCleanDisk (state g new) → IsKept (state g old) → (state g old).step_limit ≡ None
+      → IfErr result (λ fault. fault ≡ Store → MoreFaults (state g old).faults (state g new).faults ⊎ Unread (archive_of (state g old)))
+
+  -- who is answered, or refused for a reason, asked an open connection
+  abbrev pub WasUp : {A : Type 0} → Result A StoreFault → Type 0
+  WasUp result = HasCleanDisk (state g new)
+      → MatchResult result (λ _. IsTrue (state g old).is_open) (λ fault. MatchOption (refusal fault) ⊤ (λ _. IsTrue (state g old).is_open))

@@ -1,5 +1,5 @@
 -- The words in which the layers above speak of a store: they name neither its tables nor its database.
-use Rattle.std.specs.Prelude.{◌≡◌, ◌⊎◌, ℕ, ⊤, IsTrue, Option, None, Some, Result, IfErr, MatchResult, MatchOption}
+use Rattle.std.specs.Prelude.{◌≡◌, ◌⊎◌, ◌<◌, ℕ, ⊤, IsTrue, Option, None, Some, Result, IfErr, MatchResult, MatchOption}
 use Rattle.sqlite_disk.specs.Disk.{MoreFaults}
 use Rattle.sqlite.specs.Store.{Ghosts}
 use Rattle.sqlite.specs.Held.{Held, state}
@@ -8,10 +8,20 @@ use Rattle.archive_machine.specs.Records.{Archive}
 use Rattle.archive_machine.specs.Sound.{IsFiledRight}
 use Rattle.archive_tables.specs.Tables.{IsKept, archive_of}
 use Rattle.archive_tables.specs.Calls.{Lasts as LastsOpen}
-use Rattle.archive_store.specs.Held.{held_of}
+use Rattle.archive_store.specs.Held.{held_of, wants_of}
+use Rattle.archive_store.specs.Wanting.{Raises}
 use Rattle.archive_store.specs.declared.store.Store.{Store}
 use Rattle.archive_store.specs.declared.faults.StoreFault.{StoreFault}
 use Rattle.archive_store.specs.declared.faults.StoreFault.TheVariants as faults
+
+-- in a call memory was refused once more
+abbrev pub WasRefused : {S : Type 0} → Store S → Store S → Type 0
+WasRefused old new = wants_of old < wants_of new
+
+-- What a call does to the count of refused memory, whatever it answers: it does not fall, and after a fault that is a want of
+-- memory it rose.
+abbrev pub Counts : {S A F : Type 0} → (F → Type 0) → Store S → Store S → Result A F → Type 0
+Counts IsWant old new result = Raises IsWant (wants_of old) (wants_of new) result
 
 module _ {S : Type 0} (g : Ghosts S) where
   -- a connection is open outside a transaction, and its tables are an archive's and hold this one, in which what is filed of each
@@ -33,9 +43,12 @@ module _ {S : Type 0} (g : Ghosts S) where
 
   -- The premise on a store: its tables are as the calls of a store leave them, so what is filed of each message is what its text
   -- says.
-  pub record IsReady (store : Store S) : Type 0 where
-    pub held : HoldsTables store
-    pub filed_right : IsFiledRight (archive_in store)
+  pub record IsReadyOn (connection : Held S) : Type 0 where
+    pub held : IsKept (state g connection)
+    pub filed_right : IsFiledRight (archive_of (state g connection))
+
+  abbrev pub IsReady : Store S → Type 0
+  IsReady store = IsReadyOn (held_of store)
 
   abbrev pub IsOpen : Store S → Type 0
   IsOpen store = IsTrue (state g (held_of store)).is_open

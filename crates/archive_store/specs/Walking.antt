@@ -1,29 +1,39 @@
 -- Walks over the messages of a list, one message at a time.
-use Rattle.std.specs.Prelude.{◌≡◌, ◌⊎◌, ◌-◌, ℕ, ℤ, true, bytes_eq, List, [], ◌∷◌, ◌++◌, length, drop, map, Option, Some, None, Result, IfOk, IfErr, MatchResult, MatchOption, Vec}
+use Rattle.std.specs.Prelude.{◌≡◌, ◌⊎◌, ◌-◌, ℕ, ℤ, true, bytes_eq, List, [], ◌∷◌, ◌++◌, length, drop, map, pos, Option, Some, None, Result, IfOk, IfErr, MatchResult, MatchOption, Vec}
 use Rattle.std.specs.declared.alloc.Global.{Global}
 use Rattle.std.specs.List.{All, AllByRecursion}
 use Rattle.std.specs.Option.{IsSomeAnd}
 use Rattle.sqlite.specs.Effect.{Database}
 use Rattle.sqlite.specs.Tree.{Trees}
 use Rattle.sqlite.specs.Store.{Ghosts}
-use Rattle.sqlite.specs.Held.{state}
+use Rattle.sqlite.specs.Held.{Held, state}
 use Rattle.archive_machine.specs.Records.{Message as Remembered, Archive}
 use Rattle.archive_machine.specs.Questions.{list_refusal, messages_in}
 use Rattle.archive_machine.specs.Messages.{remembered}
 use Rattle.archive_machine.specs.declared.messages.Message.{Message}
-use Rattle.archive_tables.specs.Rows.{message_at}
+use Rattle.archive_tables.specs.Rows.{message_at, places_in, month_places, author_places}
+use Rattle.archive_tables.specs.Tables.{IsKept, archive_of}
 use Rattle.archive_database.specs.Messages.{IsReadable}
 use Rattle.archive_store.specs.Held.{held_of}
 use Rattle.archive_store.specs.Replies.{refusal}
-use Rattle.archive_store.specs.Told.{HoldsTables, IsOpen, HasReturned, HasNoLimit, HasFailed, Lasts, Caused, archive_in, GoesIn, GoesInIfOpen}
+use Rattle.archive_store.specs.Wanting.{IsWant}
+use Rattle.archive_store.specs.Told.{HoldsTables, IsOpen, HasReturned, HasNoLimit, HasFailed, Lasts, Caused, Counts, archive_in, GoesIn, GoesInIfOpen}
 use Rattle.archive_store.specs.declared.store.Store.{Store}
 use Rattle.archive_store.specs.declared.faults.StoreFault.{StoreFault}
 use Rattle.archive_store.specs.declared.faults.StoreFault.TheVariants as faults
 use Rattle.archive_store.specs.declared.walking.EachRow.{EachRow}
+use Rattle.archive_store.specs.declared.walking.Selection.{Selection}
+use Rattle.archive_store.specs.declared.walking.Selection.TheVariants.{Every, InMonth, ByAuthor}
 
 -- a walk, with the numbers that it holds
 abbrev pub Walk : Type 0 → Type 0
 Walk S = EachRow S (Vec ℤ Global)
+
+-- the numbers of these of a list's messages
+abbrev pub selected_places : Trees → List ℕ → Selection → List ℤ
+selected_places trees list Every = places_in trees list
+selected_places trees list (InMonth month) = month_places trees list (pos month)
+selected_places trees list (ByAuthor key) = author_places trees list key.now
 
 -- how many messages it has not given yet
 abbrev pub left_of : {S : Type 0} → Walk S → ℕ
@@ -39,13 +49,16 @@ module _ {S : Type 0} (g : Ghosts S) where
 
   -- A walk over these messages of a list of this archive that gave some of them: the store holds the archive's tables, whatever is
   -- filed in them, and the given messages and those that are left are all. It holds the numbers of those that are left.
-  pub record WalksOver (list : List ℕ) (all : List Remembered) (a : Archive) (given : List Remembered) (walk : Walk S) : Type 0 where
-    pub held : HoldsTables g walk.store.now
-    pub archive_is : archive_in g walk.store.now ≡ a
+  pub record WalksOn (list : List ℕ) (all : List Remembered) (a : Archive) (given : List Remembered) (connection : Held S) (places : List ℤ) : Type 0 where
+    pub held : IsKept (state g connection)
+    pub archive_is : archive_of (state g connection) ≡ a
     pub left : List Remembered
-    pub ahead : map (message_at (rows_of walk.store.now)) (drop walk.at walk.places.items) ≡ map Some left
+    pub ahead : map (message_at (state g connection).now.trees) places ≡ map Some left
     pub joined : given ++ left ≡ all
     pub of_list : AllByRecursion (λ (m : Remembered). bytes_eq m.list list ≡ true) all
+
+  abbrev pub WalksOver : (list : List ℕ) (all : List Remembered) (a : Archive) (given : List Remembered) (walk : Walk S) → Type 0
+  WalksOver list all a given walk = WalksOn list all a given (held_of walk.store.now) (drop walk.at walk.places.items)
 
   -- over all messages of the list, in mailbox order
   abbrev pub Walks : (list : List ℕ) (a : Archive) (given : List Remembered) (walk : Walk S) → Type 0
@@ -92,9 +105,9 @@ module _ {S : Type 0} (g : Ghosts S) where
 
   -- ---- what E15 of a walk means, where no limit is set
 
-  -- it does not begin, and the disk failed
+  -- it does not begin, and the disk failed; or memory was refused, and that was counted
   abbrev pub DoesNotBegin : {A : Type 0} → Store S → List ℕ → Result A StoreFault → Store S → Type 0
-  DoesNotBegin old list result last = IsNotBegun old list result last × Caused g old last result
+  DoesNotBegin old list result last = IsNotBegun old list result last × Caused g old last result × Counts IsWant old last result
 
   -- the disk failed, or no message of the number can be read
   abbrev pub StopsShowing : {A : Type 0} → Store S → Store S → ℤ → Result A StoreFault → Type 0

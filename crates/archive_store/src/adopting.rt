@@ -1,4 +1,4 @@
-//! Taking a connection over.
+//! Taking a connection over as a store: it has our tables, of a version that we know.
 ghost use Rattle.std.specs.Prelude.{◌≡◌, pos, None, IfOk, IfErr, MatchResult};
 ghost use Rattle.sqlite_disk.specs.Disk.{MoreFaults};
 ghost use Rattle.sqlite.specs.Held.{state};
@@ -15,6 +15,7 @@ ghost use Rattle.archive_store.specs.Told.{HasNoLimit, LastsButLimit};
 
 use crate::faults::StoreFault;
 use crate::store::Store;
+use crate::wants::Wants;
 use archive_database::making::{has_nothing, make_tables, take_over};
 use sqlite::{Alter, Connection, MemStore};
 use std::alloc::Global;
@@ -22,7 +23,9 @@ use std::alloc::Global;
 /// A connection that was not adopted, and why: E14 or E15.
 #[derive(Drop)]
 pub struct AdoptStop<S: Alter> {
+    /// The connection, as it stood then.
     pub connection: Connection<S>,
+    /// Why it was not adopted.
     pub fault: StoreFault,
 }
 
@@ -89,7 +92,10 @@ impl<S: Alter> Store<S> {
         match done {
             Ok(()) => {
                 conn.set_step_limit(None);
-                Ok(Store { conn })
+                Ok(Store {
+                    conn,
+                    wants: Wants::new(),
+                })
             }
             Err(fault) => Err(AdoptStop {
                 connection: conn,

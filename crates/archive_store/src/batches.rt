@@ -4,14 +4,16 @@ ghost use Rattle.mbox_core.specs.Division.{Item};
 ghost use Rattle.sqlite.specs.Held.{state};
 ghost use Rattle.archive_tables.specs.Calls.{WasClean, Lasts, AnswersOpen};
 ghost use Rattle.archive_store.specs.Held.{held_of};
-ghost use Rattle.archive_store.specs.Told.{Lasts as StoreLasts};
+ghost use Rattle.archive_store.specs.Told.{Counts as CountsWants, Lasts as StoreLasts};
+ghost use Rattle.archive_store.specs.Wanting.{IsWant, Raises};
 ghost use Rattle.archive_store.specs.Replies.{refusal, FailsByDisk, RefusedFor, IsOneOf};
 ghost use Rattle.archive_machine.specs.Commands.{no_list, list_full};
-ghost use Rattle.archive_store.specs.Batches.{AddsOne, AddsSome, AddsBatch, AddsAll, Counts, told_in, text_bytes};
+ghost use Rattle.archive_store.specs.Batches.{AddsOne, AddsSome, AddsBatch, AddsAll, EndsAt, Counts, told_in, text_bytes};
 
 use crate::faults::StoreFault;
 use crate::limits::MESSAGES;
 use crate::store::Store;
+use crate::wants::Wants;
 use archive_database::taking::{is_too_large, take_in};
 use archive_machine::Key;
 use archive_tables::texts;
@@ -28,8 +30,11 @@ const BYTES_AT_ONCE: usize = 8_388_608;
 /// What became of messages that were added: how many were new on the list, how many it held, and how many are too large.
 #[derive(Clone, Copy, Debug, PartialEq, Eq)]
 pub struct Report {
+    /// Messages that the list did not hold.
     pub new: usize,
+    /// Messages that it held.
     pub known: usize,
+    /// Messages that no list takes.
     pub too_large: usize,
 }
 
@@ -37,8 +42,18 @@ pub struct Report {
 /// other was taken in.
 #[derive(Clone, Copy, Debug, PartialEq, Eq)]
 pub struct AddStop {
+    /// How many of the messages were seen to.
     pub done: usize,
+    /// Why no more were.
     pub fault: StoreFault,
+}
+
+/// Messages for a list, with the allocator that serves while they are added.
+#[derive(Clone, Copy)]
+struct Intake<'a> {
+    alloc: Global,
+    list: &'a str,
+    items: &'a [Item<'a>],
 }
 
 /// What becomes of one message.
@@ -65,43 +80,65 @@ impl<S: Alter> Store<S> {
         ensures lasts { StoreLasts S.Store self.old self.new }
         ensures was_open { AnswersOpen S.Store (held_of self.old) (held_of self.new) result }
         ensures kind { IfErr result (λ stop. IfSome (refusal stop.fault) (λ why. IsOneOf why (no_list ∷ list_full ∷ []))) }
+        ensures counted { CountsWants (λ stop. IsWant stop.fault) self.old self.new result }
     {
-        let mut done = 0;
-        let mut count = match count_list(&mut self.conn, list) {
-            Ok(count) => count,
-            Err(fault) => return Err(AddStop { done, fault }),
-        };
-        let mut report = Report {
-            new: 0,
-            known: 0,
-            too_large: 0,
-        };
-        while done < items.len() {
-            let to = batch_end(items, done);
-            match add_batch(
-                &mut self.conn,
-                alloc,
-                list,
-                items,
-                done,
-                to,
-                &mut count,
-                &mut report,
-            ) {
-                Ok(at) => {
-                    done = at;
-                    if at < to {
-                        return Err(AddStop {
-                            done,
-                            fault: StoreFault::ListFull,
-                        });
-                    }
-                }
-                Err(fault) => return Err(AddStop { done, fault }),
-            }
-        }
-        Ok(report)
+        let report = take_all(&mut self.conn, &Intake { alloc, list, items });
+        raise_for(&mut self.wants, &report);
+        report
     }
+}
+
+/// One refusal of memory more, where messages ceased to be added for it.
+fn raise_for(wants: &mut Wants, report: &Result<Report, AddStop>)
+    ensures { Raises (λ stop. IsWant stop.fault) wants.old wants.new report.now }
+{
+    match report {
+        Err(
+            AddStop {
+                fault: StoreFault::Memory,
+                done: _,
+            },
+        ) => wants.raise(),
+        _ => {}
+    }
+}
+
+/// `Store::add_all`, but that want of memory is not counted.
+fn take_all<S: Alter>(conn: &mut Connection<S>, intake: &Intake<'_>) -> Result<Report, AddStop>
+    ensures step { AddsAll S.Store conn.old conn.new result intake.now.list.now intake.now.items.now }
+    ensures total { IfOk result (λ report. told_in report ≡ length intake.now.items.now) }
+    ensures bound { IfErr result (λ stop. stop.done ≤ length intake.now.items.now) }
+    ensures clean { WasClean S.Store conn.old conn.new }
+    ensures lasts { Lasts (state S.Store conn.old) (state S.Store conn.new) }
+    ensures was_open { AnswersOpen S.Store conn.old conn.new result }
+    ensures kind { IfErr result (λ stop. IfSome (refusal stop.fault) (λ why. IsOneOf why (no_list ∷ list_full ∷ []))) }
+{
+    let mut done = 0;
+    let mut count = match count_list(conn, intake.list) {
+        Ok(count) => count,
+        Err(fault) => return Err(AddStop { done, fault }),
+    };
+    let mut report = Report {
+        new: 0,
+        known: 0,
+        too_large: 0,
+    };
+    while done < intake.items.len() {
+        let to = batch_end(intake.items, done);
+        match add_batch(conn, intake, done, to, &mut count, &mut report) {
+            Ok(at) => {
+                done = at;
+                if at < to {
+                    return Err(AddStop {
+                        done,
+                        fault: StoreFault::ListFull,
+                    });
+                }
+            }
+            Err(fault) => return Err(AddStop { done, fault }),
+        }
+    }
+    Ok(report)
 }
 
 /// Where the transaction ends that begins with this message: after 500 messages, or before the message with which its
@@ -136,27 +173,21 @@ fn text_len(item: &Item<'_>) -> usize
 /// Adds messages in a transaction of their own, until the list is full: the place that it came to.
 fn add_batch<S: Alter>(
     conn: &mut Connection<S>,
-    alloc: Global,
-    list: &str,
-    items: &[Item<'_>],
+    intake: &Intake<'_>,
     from: usize,
     to: usize,
     count: &mut usize,
     report: &mut Report,
 ) -> Result<usize, StoreFault>
-    requires place { to ≤ length items.now }
+    requires place { to ≤ length intake.now.items.now }
     requires order { from ≤ to }
     requires told { told_in report.now ≡ from }
-    ensures step { AddsBatch S.Store conn.old conn.new result list.now items.now from to count.old report.entry.now count.new report.exit.now }
-    ensures told { IfOk result (λ at. told_in report.exit.now ≡ at) }
-    ensures clean { WasClean S.Store conn.old conn.new }
+    ensures step { AddsBatch S.Store conn.old conn.new result intake.now.list.now intake.now.items.now from to count.old report.entry.now count.new report.exit.now }
+    ensures ends { EndsAt result from to report.exit.now }
     ensures lasts { Lasts (state S.Store conn.old) (state S.Store conn.new) }
-    ensures from { IfOk result (λ at. from ≤ at) }
-    ensures to { IfOk result (λ at. at ≤ to) }
-    ensures fault { IfErr result (λ fault. refusal fault ≡ None) }
 {
     texts::schema::begin(conn)?;
-    match add_some(conn, alloc, list, items, from, to, count, report) {
+    match add_some(conn, intake, from, to, count, report) {
         Ok(at) => match texts::schema::commit(conn) {
             Ok(_) => Ok(at),
             Err(error) => {
@@ -174,29 +205,23 @@ fn add_batch<S: Alter>(
 /// Adds messages one after the other, until the list is full: the place that it came to.
 fn add_some<S: Alter>(
     conn: &mut Connection<S>,
-    alloc: Global,
-    list: &str,
-    items: &[Item<'_>],
+    intake: &Intake<'_>,
     from: usize,
     to: usize,
     count: &mut usize,
     report: &mut Report,
 ) -> Result<usize, StoreFault>
-    requires place { to ≤ length items.now }
+    requires place { to ≤ length intake.now.items.now }
     requires order { from ≤ to }
     requires told { told_in report.now ≡ from }
-    ensures step { AddsSome S.Store conn.old conn.new result list.now items.now from to count.old report.entry.now count.new report.exit.now }
-    ensures told { IfOk result (λ at. told_in report.exit.now ≡ at) }
-    ensures clean { WasClean S.Store conn.old conn.new }
+    ensures step { AddsSome S.Store conn.old conn.new result intake.now.list.now intake.now.items.now from to count.old report.entry.now count.new report.exit.now }
+    ensures ends { EndsAt result from to report.exit.now }
     ensures lasts { Lasts (state S.Store conn.old) (state S.Store conn.new) }
-    ensures from { IfOk result (λ at. from ≤ at) }
-    ensures to { IfOk result (λ at. at ≤ to) }
-    ensures fault { IfErr result (λ fault. refusal fault ≡ None) }
 {
     let mut at = from;
     while at < to {
-        let item = &items[at];
-        match add_counted(conn, alloc, list, item, count)? {
+        let item = &intake.items[at];
+        match add_counted(conn, intake.alloc, intake.list, item, count)? {
             Taken::New => report.new += 1,
             Taken::Known => report.known += 1,
             Taken::TooLarge => report.too_large += 1,

@@ -3,7 +3,8 @@ ghost use Rattle.std.specs.Prelude.{◌≡◌, None, IfErr};
 ghost use Rattle.archive_tables.specs.Calls.{AnswersOpen};
 ghost use Rattle.archive_store.specs.Held.{held_of};
 ghost use Rattle.archive_store.specs.Replies.{refusal};
-ghost use Rattle.archive_store.specs.Told.{HadReturned, Lasts, Caused};
+ghost use Rattle.archive_store.specs.Told.{HadReturned, Lasts, Caused, Counts};
+ghost use Rattle.archive_store.specs.Wanting.{IsWant};
 ghost use Rattle.archive_store.specs.Checking.{FindsAllPlaces, LooksAt, StopsLooking};
 ghost use Rattle.archive_store.specs.declared.checking.CheckStop.TheVariants.{Failed};
 
@@ -42,7 +43,7 @@ impl<S: Alter> Store<S> {
     ghost use Rattle.archive_store.specs.declared.checking.CheckStop.TheVariants.{Failed};
     ghost use Rattle.archive_tables.specs.Calls.{AnswersOpen};
     ghost use Rattle.archive_store.specs.Held.{held_of};
-    ghost use Rattle.archive_store.specs.Told.{HoldsTables, HasReturned, HasNoLimit, HasFailed};
+    ghost use Rattle.archive_store.specs.Told.{Counts, HoldsTables, HasReturned, HasNoLimit, HasFailed};
 
     /// Looks at every message: whether its sender, arrival and text make a complete message, its key is that of the text, and it is
     /// filed by what the text says. E16 where one is not so. It holds the numbers of all messages, and one text at a time.
@@ -52,6 +53,7 @@ impl<S: Alter> Store<S> {
         ensures was_open { AnswersOpen S.Store (held_of self.old) (held_of self.new) result }
         ensures caused { HasReturned S.Store self.new → HoldsTables S.Store self.old → HasNoLimit S.Store self.old
             → IfErr result (λ stop. stop ≡ Failed StoreFault.Store → HasFailed S.Store self.old self.new) }
+        ensures counted { Counts (λ stop. stop ≡ Failed StoreFault.Memory) self.old self.new result }
     {
         let places = find_all_places(self, alloc)?;
         for place in places.iter() {
@@ -71,6 +73,22 @@ fn find_all_places<S: Alter>(store: &mut Store<S>, alloc: Global) -> Result<Vec<
     ensures lasts { Lasts S.Store store.old store.new }
     ensures was_open { AnswersOpen S.Store (held_of store.old) (held_of store.new) result }
     ensures caused { Caused S.Store store.old store.new result }
+    ensures counted { Counts IsWant store.old store.new result }
+{
+    let found = look_up_all(store, alloc);
+    store.wants.raise_for(&found);
+    found
+}
+
+/// The same, but that want of memory is not counted.
+fn look_up_all<S: Alter>(store: &mut Store<S>, alloc: Global) -> Result<Vec<i64>, StoreFault>
+    ensures found { FindsAllPlaces S.Store store.old store.new result }
+    ensures fault { IfErr result (λ fault. refusal fault ≡ None) }
+    ensures clean { HadReturned S.Store store.old store.new }
+    ensures lasts { Lasts S.Store store.old store.new }
+    ensures was_open { AnswersOpen S.Store (held_of store.old) (held_of store.new) result }
+    ensures caused { Caused S.Store store.old store.new result }
+    ensures quiet { store.new.wants ≡ store.old.wants }
 {
     let shown = texts::checking::all_places(&mut store.conn)?;
     Ok(read_places(alloc, &shown)?)
@@ -87,6 +105,25 @@ fn damage_at<S: Alter>(
     ensures clean { HadReturned S.Store store.old store.new }
     ensures lasts { Lasts S.Store store.old store.new }
     ensures caused { StopsLooking S.Store store.old store.new place result }
+    ensures counted { Counts IsWant store.old store.new result }
+{
+    let found = look_at(store, alloc, place);
+    store.wants.raise_for(&found);
+    found
+}
+
+/// The same, but that want of memory is not counted.
+fn look_at<S: Alter>(
+    store: &mut Store<S>,
+    alloc: Global,
+    place: i64,
+) -> Result<Option<Damage>, StoreFault>
+    ensures looked { LooksAt S.Store store.old store.new place result }
+    ensures fault { IfErr result (λ fault. refusal fault ≡ None) }
+    ensures clean { HadReturned S.Store store.old store.new }
+    ensures lasts { Lasts S.Store store.old store.new }
+    ensures caused { StopsLooking S.Store store.old store.new place result }
+    ensures quiet { store.new.wants ≡ store.old.wants }
 {
     let rows = texts::checking::filed_at(&mut store.conn, place)?;
     let Some(row) = rows.first() else {

@@ -88,9 +88,15 @@ impl<T: Drop> From<AllocFailed<T>> for StoreFault {
     }
 }
 
-impl fmt::Display for StoreFault {
-    fn fmt<W: fmt::Write>(&self, f: &mut fmt::Formatter<W>) -> fmt::Result {
-        f.write_str(match self {
+impl StoreFault {
+    ghost use Rattle.std.specs.Prelude.{◌≡◌};
+    ghost use Rattle.archive_store.specs.Names.{store_text};
+
+    /// Its number and its name.
+    pub fn name(self) -> &'static str
+        ensures { result.now ≡ store_text self }
+    {
+        match self {
             StoreFault::BadName => "E1 BadName",
             StoreFault::BadText => "E2 BadText",
             StoreFault::ListExists => "E3 ListExists",
@@ -106,7 +112,13 @@ impl fmt::Display for StoreFault {
             StoreFault::TooLarge => "E13 TooLarge",
             StoreFault::Memory => "E14 Memory",
             StoreFault::Store => "E15 Store",
-        })
+        }
+    }
+}
+
+impl fmt::Display for StoreFault {
+    fn fmt<W: fmt::Write>(&self, f: &mut fmt::Formatter<W>) -> fmt::Result {
+        f.write_str(self.name())
     }
 }
 

@@ -1,4 +1,4 @@
-//! Keys.
+//! The key of a message that is not yet in a list.
 ghost use Rattle.std.specs.Prelude.{◌≡◌};
 ghost use Rattle.archive_machine.specs.Keys.{item_key};
 

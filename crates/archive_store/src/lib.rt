@@ -18,6 +18,7 @@ mod reading;
 mod running;
 mod store;
 mod walking;
+mod wants;
 mod words;
 
 pub use adopting::AdoptStop;
@@ -29,4 +30,5 @@ pub use keys::key_of;
 pub use running::{Command, Outcome, RunStop};
 pub use store::Store;
 pub use walking::EachRow;
+pub use wants::Wants;
 pub use words::{Added, Kind, Party};

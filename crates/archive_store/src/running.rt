@@ -4,7 +4,8 @@ ghost use Rattle.archive_machine.specs.Machine.{added_within, message_limit, ste
 ghost use Rattle.sqlite.specs.Held.{state};
 ghost use Rattle.archive_tables.specs.Calls.{WasClean, Lasts};
 ghost use Rattle.archive_store.specs.Held.{held_of};
-ghost use Rattle.archive_store.specs.Told.{Lasts as StoreLasts};
+ghost use Rattle.archive_store.specs.Told.{Counts, Lasts as StoreLasts};
+ghost use Rattle.archive_store.specs.Wanting.{IsWant};
 ghost use Rattle.archive_store.specs.Replies.{Does, refusal, says_done, says_whether, says_added};
 ghost use Rattle.archive_store.specs.Running.{command_of, answer_of, carried, CountsOn, DoesCounted, FindsCount, IsCountedOn, Runs};
 
@@ -87,7 +88,9 @@ pub enum Outcome {
 /// Where a run stopped, for E14 or E15: the first `done` commands were carried out, and no other.
 #[derive(Clone, Copy, Debug, PartialEq, Eq)]
 pub struct RunStop {
+    /// How many commands were carried out.
     pub done: usize,
+    /// Why no more were.
     pub fault: StoreFault,
 }
 
@@ -103,6 +106,7 @@ fn refused(fault: StoreFault) -> Result<Outcome, StoreFault>
     ensures value { carried result ≡ says_done (Err fault) }
     ensures told { IfOk result (λ outcome. is_some (answer_of outcome) ≡ true) }
     ensures stop { IfErr result (λ fault. refusal fault ≡ None) }
+    ensures passed { IfErr result (λ told. told ≡ fault) }
 {
     match fault {
         StoreFault::Memory | StoreFault::Store => Err(fault),
@@ -115,6 +119,7 @@ fn done(answer: Result<(), StoreFault>) -> Result<Outcome, StoreFault>
     ensures value { carried result ≡ says_done answer }
     ensures told { IfOk result (λ outcome. is_some (answer_of outcome) ≡ true) }
     ensures stop { IfErr result (λ fault. refusal fault ≡ None) }
+    ensures passed { IfErr result (λ fault. answer ≡ Err fault) }
 {
     match answer {
         Ok(()) => Ok(Outcome::Done),
@@ -127,6 +132,7 @@ fn whether(answer: Result<bool, StoreFault>) -> Result<Outcome, StoreFault>
     ensures value { carried result ≡ says_whether answer }
     ensures told { IfOk result (λ outcome. is_some (answer_of outcome) ≡ true) }
     ensures stop { IfErr result (λ fault. refusal fault ≡ None) }
+    ensures passed { IfErr result (λ fault. answer ≡ Err fault) }
 {
     match answer {
         Ok(was_there) => Ok(Outcome::WasThere(was_there)),
@@ -139,6 +145,7 @@ fn added(answer: Result<Added, StoreFault>) -> Result<Outcome, StoreFault>
     ensures value { carried result ≡ says_added answer }
     ensures told { IfOk result (λ outcome. is_some (answer_of outcome) ≡ true) }
     ensures stop { IfErr result (λ fault. refusal fault ≡ None) }
+    ensures passed { IfErr result (λ fault. answer ≡ Err fault) }
 {
     match answer {
         Ok(added) => Ok(Outcome::Added(added)),
@@ -183,10 +190,14 @@ impl<S: Alter> Store<S> {
         ensures counted { IsCountedOn S.Store (held_of self.old) (held_of self.new) counted.old counted.new (says_added result) }
         ensures clean { WasClean S.Store (held_of self.old) (held_of self.new) }
         ensures lasts { StoreLasts S.Store self.old self.new }
+        ensures wanted { Counts IsWant self.old self.new result }
     {
         let known = match find_count(&mut self.conn, list, *counted) {
             Ok(known) => known,
-            Err(fault) => return Err(fault),
+            Err(fault) => {
+                self.wants.raise_at(fault);
+                return Err(fault);
+            }
         };
         match known {
             Some(before) => {
@@ -215,6 +226,7 @@ impl<S: Alter> Store<S> {
         ensures lasts { StoreLasts S.Store self.old self.new }
         ensures told { IfOk result (λ outcome. is_some (answer_of outcome) ≡ true) }
         ensures stop { IfErr result (λ fault. refusal fault ≡ None) }
+        ensures wanted { Counts IsWant self.old self.new result }
     {
         match command {
             Command::ListAdd { name } => done(self.list_add(name)),
@@ -247,8 +259,10 @@ impl<S: Alter> Store<S> {
         ensures clean { WasClean S.Store (held_of self.old) (held_of self.new) }
         ensures lasts { StoreLasts S.Store self.old self.new }
         ensures stop { IfErr result (λ stop. refusal stop.fault ≡ None) }
+        ensures counted { Counts (λ stop. IsWant stop.fault) self.old self.new result }
     {
         let Ok(mut outcomes) = Vec::with_capacity(alloc, commands.len()) else {
+            self.wants.raise();
             return Err(RunStop {
                 done: 0,
                 fault: StoreFault::Memory,
@@ -262,6 +276,7 @@ impl<S: Alter> Store<S> {
                     match outcomes.push(outcome) {
                         Ok(()) => {}
                         Err(_) => {
+                            self.wants.raise();
                             return Err(RunStop {
                                 done,
                                 fault: StoreFault::Memory,

@@ -1,12 +1,15 @@
-//! The store.
+//! The store: a connection, whether it is ready, and how often memory was wanting.
 ghost use Rattle.std.specs.Prelude.{◌≡◌};
 
+use crate::wants::Wants;
 use sqlite::{Alter, Connection};
 
 /// The archive in the tables of a connection.
 #[derive(Drop)]
 pub struct Store<S: Alter> {
     pub(crate) conn: Connection<S>,
+    /// How often memory was refused: each call counts its E14, and the layers above theirs.
+    pub wants: Wants,
 }
 
 impl<S: Alter> Store<S> {
@@ -16,7 +19,10 @@ impl<S: Alter> Store<S> {
     pub fn into_connection(self) -> Connection<S>
         ensures { result ≡ held_of self }
     {
-        let Store { conn } = self;
+        let Store {
+            conn,
+            wants: _wants,
+        } = self;
         conn
     }
 }

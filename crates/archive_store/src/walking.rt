@@ -1,15 +1,17 @@
 //! Walks over the messages of a list.
-ghost use Rattle.std.specs.Prelude.{◌≡◌, ◌+◌, ◌∷◌, [], ◌++◌, map, slice_get, pos, None, IfOk, IfErr, OnOk, MatchResult, MatchOption};
+ghost use Rattle.std.specs.Prelude.{◌≡◌, ◌≤◌, ◌+◌, ◌∷◌, [], ◌++◌, map, slice_get, pos, None, IfOk, IfErr, OnOk, MatchResult, MatchOption};
 ghost use Rattle.archive_machine.specs.Messages.{remembered};
 ghost use Rattle.archive_machine.specs.Questions.{list_refusal, messages_in};
-ghost use Rattle.archive_tables.specs.Calls.{WasClean};
-ghost use Rattle.archive_tables.specs.Rows.{places_in, month_places, author_places};
-ghost use Rattle.archive_store.specs.Held.{held_of};
+ghost use Rattle.sqlite.specs.Held.{state};
+ghost use Rattle.archive_tables.specs.Calls.{WasClean, Lasts as LastsOpen, AsksRows, AnswersOpen, FailsByFault};
+ghost use Rattle.archive_tables.specs.Rows.{place_shown};
+ghost use Rattle.archive_store.specs.Held.{held_of, wants_of};
 ghost use Rattle.archive_machine.specs.Commands.{no_list};
-ghost use Rattle.archive_store.specs.Replies.{refusal, RefusedFor};
-ghost use Rattle.archive_store.specs.Told.{HadReturned, HasReturned, IsOpen, Lasts, Caused, CausedOr};
+ghost use Rattle.archive_store.specs.Replies.{refusal, Answers, FailsByDisk, RefusedFor};
+ghost use Rattle.archive_store.specs.Told.{HadReturned, HasReturned, IsOpen, Lasts, Caused, CausedOr, Counts};
+ghost use Rattle.archive_store.specs.Wanting.{IsWant};
 ghost use Rattle.archive_database.specs.Messages.{IsReadable};
-ghost use Rattle.archive_store.specs.Walking.{GivesNext, GivesAll, StopsNext, StopsAll, ShowsMessage, StopsShowing, FindsPlaces, IsNotBegun, left_of};
+ghost use Rattle.archive_store.specs.Walking.{GivesNext, GivesAll, StopsNext, StopsAll, ShowsMessage, StopsShowing, FindsPlaces, IsNotBegun, left_of, selected_places};
 
 use crate::faults::StoreFault;
 use crate::store::Store;
@@ -18,7 +20,7 @@ use archive_database::reading::{read_or_fail, read_places};
 use archive_machine::Message;
 use archive_tables::texts;
 use civil_time::Month;
-use sqlite::Alter;
+use sqlite::{Alter, Connection, Error, Row};
 use std::alloc::Global;
 
 /// Messages of a list, one at a time: all in mailbox order, or those of a month or an author. It holds the numbers of the
@@ -28,6 +30,14 @@ pub struct EachRow<'a, S: Alter, P = Vec<i64>> {
     store: &'a mut Store<S>,
     places: P,
     at: usize,
+}
+
+/// Which messages of a list are walked over: all, those of a month, or those of an author key.
+#[derive(Clone, Copy)]
+enum Selection<'a> {
+    Every,
+    InMonth(Month),
+    ByAuthor(&'a [u8]),
 }
 
 impl<S: Alter, P: Drop> Drop for EachRow<'_, S, P> {
@@ -62,6 +72,7 @@ impl<S: Alter> Store<S> {
         ensures was_open { HasReturned S.Store self.new → OnOk result (IsOpen S.Store self.old) }
         ensures caused { CausedOr S.Store self.old self.new result (λ a. ¬ All IsReadable (messages_in a list.now)) }
         ensures kind { RefusedFor result (no_list ∷ []) }
+        ensures counted { Counts IsWant self.old self.new result }
     {
         let mut walk = self.each_row(alloc, list)?;
         read_rows(alloc, &mut walk)
@@ -74,8 +85,9 @@ impl<S: Alter> Store<S> {
         ensures begun { IfOk result (λ walk. Begins S.Store self.old list.now walk) }
         ensures was_open { IfOk result (λ walk. HasReturned S.Store walk.store.now → IsOpen S.Store self.old) }
         ensures kind { RefusedFor result (no_list ∷ []) }
+        ensures counted { IfOk result (λ walk. wants_of self.old ≤ wants_of walk.store.now) }
     {
-        let places = find_places(self, alloc, list)?;
+        let places = find_places(self, alloc, list, &Selection::Every)?;
         Ok(EachRow::new(self, places))
     }
 
@@ -94,6 +106,7 @@ impl<S: Alter> Store<S> {
         ensures was_open { HasReturned S.Store self.new → OnOk result (IsOpen S.Store self.old) }
         ensures caused { CausedOr S.Store self.old self.new result (λ a. ¬ All IsReadable (in_month a list.now (pos month))) }
         ensures kind { RefusedFor result (no_list ∷ []) }
+        ensures counted { Counts IsWant self.old self.new result }
     {
         let mut walk = self.each_in_month(alloc, list, month)?;
         read_rows(alloc, &mut walk)
@@ -113,6 +126,7 @@ impl<S: Alter> Store<S> {
         ensures was_open { HasReturned S.Store self.new → OnOk result (IsOpen S.Store self.old) }
         ensures caused { CausedOr S.Store self.old self.new result (λ a. ¬ All IsReadable (by_author a list.now key.now)) }
         ensures kind { RefusedFor result (no_list ∷ []) }
+        ensures counted { Counts IsWant self.old self.new result }
     {
         let mut walk = self.each_by_author(alloc, list, key)?;
         read_rows(alloc, &mut walk)
@@ -130,8 +144,9 @@ impl<S: Alter> Store<S> {
         ensures begun { IfOk result (λ walk. BeginsOver S.Store self.old list.now (λ a. in_month a list.now (pos month)) walk) }
         ensures was_open { IfOk result (λ walk. HasReturned S.Store walk.store.now → IsOpen S.Store self.old) }
         ensures kind { RefusedFor result (no_list ∷ []) }
+        ensures counted { IfOk result (λ walk. wants_of self.old ≤ wants_of walk.store.now) }
     {
-        let places = find_month_places(self, alloc, list, month)?;
+        let places = find_places(self, alloc, list, &Selection::InMonth(month))?;
         Ok(EachRow::new(self, places))
     }
 
@@ -147,8 +162,9 @@ impl<S: Alter> Store<S> {
         ensures begun { IfOk result (λ walk. BeginsOver S.Store self.old list.now (λ a. by_author a list.now key.now) walk) }
         ensures was_open { IfOk result (λ walk. HasReturned S.Store walk.store.now → IsOpen S.Store self.old) }
         ensures kind { RefusedFor result (no_list ∷ []) }
+        ensures counted { IfOk result (λ walk. wants_of self.old ≤ wants_of walk.store.now) }
     {
-        let places = find_author_places(self, alloc, list, key)?;
+        let places = find_places(self, alloc, list, &Selection::ByAuthor(key))?;
         Ok(EachRow::new(self, places))
     }
 }
@@ -184,6 +200,7 @@ impl<'a, S: Alter> EachRow<'a, S> {
         ensures clean { HadReturned S.Store self.old.store.now self.new.store.now }
         ensures lasts { Lasts S.Store self.old.store.now self.new.store.now }
         ensures caused { StopsNext S.Store self.old self.new result }
+        ensures counted { Counts IsWant self.old.store.now self.new.store.now result }
     {
         let Some(place) = place_at(&self.places, self.at) else {
             return Ok(None);
@@ -202,78 +219,83 @@ fn read_rows<S: Alter>(alloc: Global, walk: &mut EachRow<'_, S>) -> Result<Vec<M
     ensures clean { HadReturned S.Store walk.old.store.now walk.new.store.now }
     ensures lasts { Lasts S.Store walk.old.store.now walk.new.store.now }
     ensures caused { StopsAll S.Store walk.old walk.new result }
+    ensures counted { Counts IsWant walk.old.store.now walk.new.store.now result }
 {
-    let mut found = Vec::with_capacity(alloc, walk.left())?;
+    let mut found = match Vec::with_capacity(alloc, walk.left()) {
+        Ok(found) => found,
+        Err(_) => return Err(walk.store.wants.refuse()),
+    };
     while let Some(message) = walk.next()? {
-        found.push(message)?;
+        match found.push(message) {
+            Ok(()) => {}
+            Err(_) => return Err(walk.store.wants.refuse()),
+        }
     }
     Ok(found)
 }
 
-/// The numbers of the list's messages. E4 where there is no such list.
+/// The numbers of these of a list's messages. E4 where there is no such list.
 fn find_places<S: Alter>(
     store: &mut Store<S>,
     alloc: Global,
     list: &str,
+    which: &Selection<'_>,
 ) -> Result<Vec<i64>, StoreFault>
     ensures refused { IsNotBegun S.Store store.old list.now result store.new }
-    ensures found { FindsPlaces S.Store store.old store.new list.now (λ trees. places_in trees list.now) result }
+    ensures found { FindsPlaces S.Store store.old store.new list.now (λ trees. selected_places trees list.now which.now) result }
     ensures clean { HadReturned S.Store store.old store.new }
     ensures lasts { Lasts S.Store store.old store.new }
     ensures was_open { HasReturned S.Store store.new → OnOk result (IsOpen S.Store store.old) }
     ensures caused { Caused S.Store store.old store.new result }
     ensures kind { RefusedFor result (no_list ∷ []) }
+    ensures counted { Counts IsWant store.old store.new result }
 {
-    if !texts::lists::has_list(&mut store.conn, list)? {
+    let found = look_up_places(&mut store.conn, alloc, list, which);
+    store.wants.raise_for(&found);
+    found
+}
+
+/// The same, but that want of memory is not counted.
+fn look_up_places<S: Alter>(
+    conn: &mut Connection<S>,
+    alloc: Global,
+    list: &str,
+    which: &Selection<'_>,
+) -> Result<Vec<i64>, StoreFault>
+    ensures answer { Answers S.Store conn.old conn.new result (λ a. list_refusal a list.now)
+        (λ _ places. places.items ≡ selected_places (state S.Store conn.new).now.trees list.now which.now) }
+    ensures clean { WasClean S.Store conn.old conn.new }
+    ensures lasts { LastsOpen (state S.Store conn.old) (state S.Store conn.new) }
+    ensures was_open { AnswersOpen S.Store conn.old conn.new result }
+    ensures caused { FailsByDisk S.Store conn.old conn.new result }
+    ensures kind { RefusedFor result (no_list ∷ []) }
+{
+    if !texts::lists::has_list(conn, list)? {
         return Err(StoreFault::NoList);
     }
-    let shown = texts::messages::places(&mut store.conn, list)?;
+    let shown = show_places(conn, list, which)?;
     Ok(read_places(alloc, &shown)?)
 }
 
-/// The numbers of those that are filed under a month. E4 where there is no such list.
-fn find_month_places<S: Alter>(
-    store: &mut Store<S>,
-    alloc: Global,
+/// The rows that show those numbers.
+fn show_places<S: Alter>(
+    conn: &mut Connection<S>,
     list: &str,
-    month: Month,
-) -> Result<Vec<i64>, StoreFault>
-    ensures refused { IsNotBegun S.Store store.old list.now result store.new }
-    ensures found { FindsPlaces S.Store store.old store.new list.now (λ trees. month_places trees list.now (pos month)) result }
-    ensures clean { HadReturned S.Store store.old store.new }
-    ensures lasts { Lasts S.Store store.old store.new }
-    ensures was_open { HasReturned S.Store store.new → OnOk result (IsOpen S.Store store.old) }
-    ensures caused { Caused S.Store store.old store.new result }
-    ensures kind { RefusedFor result (no_list ∷ []) }
+    which: &Selection<'_>,
+) -> Result<Vec<Row>, Error>
+    ensures held { AsksRows S.Store conn.old conn.new result (λ trees rows. rows.items ≡ map place_shown (selected_places trees list.now which.now)) }
+    ensures clean { WasClean S.Store conn.old conn.new }
+    ensures lasts { LastsOpen (state S.Store conn.old) (state S.Store conn.new) }
+    ensures was_open { AnswersOpen S.Store conn.old conn.new result }
+    ensures caused { FailsByFault S.Store conn.old conn.new result }
 {
-    if !texts::lists::has_list(&mut store.conn, list)? {
-        return Err(StoreFault::NoList);
+    match which {
+        Selection::Every => texts::messages::places(conn, list),
+        Selection::InMonth(month) => {
+            texts::messages::month_places(conn, list, month_number(*month))
+        }
+        Selection::ByAuthor(key) => texts::messages::author_places(conn, list, key),
     }
-    let number = month_number(month);
-    let shown = texts::messages::month_places(&mut store.conn, list, number)?;
-    Ok(read_places(alloc, &shown)?)
-}
-
-/// The numbers of those that are filed under an author key. E4 where there is no such list.
-fn find_author_places<S: Alter>(
-    store: &mut Store<S>,
-    alloc: Global,
-    list: &str,
-    key: &[u8],
-) -> Result<Vec<i64>, StoreFault>
-    ensures refused { IsNotBegun S.Store store.old list.now result store.new }
-    ensures found { FindsPlaces S.Store store.old store.new list.now (λ trees. author_places trees list.now key.now) result }
-    ensures clean { HadReturned S.Store store.old store.new }
-    ensures lasts { Lasts S.Store store.old store.new }
-    ensures was_open { HasReturned S.Store store.new → OnOk result (IsOpen S.Store store.old) }
-    ensures caused { Caused S.Store store.old store.new result }
-    ensures kind { RefusedFor result (no_list ∷ []) }
-{
-    if !texts::lists::has_list(&mut store.conn, list)? {
-        return Err(StoreFault::NoList);
-    }
-    let shown = texts::messages::author_places(&mut store.conn, list, key)?;
-    Ok(read_places(alloc, &shown)?)
 }
 
 fn place_at(places: &[i64], at: usize) -> Option<i64>
@@ -289,6 +311,21 @@ fn message_at<S: Alter>(store: &mut Store<S>, place: i64) -> Result<Message, Sto
     ensures clean { HadReturned S.Store store.old store.new }
     ensures lasts { Lasts S.Store store.old store.new }
     ensures caused { StopsShowing S.Store store.old store.new place result }
+    ensures counted { Counts IsWant store.old store.new result }
+{
+    let found = look_up_message(store, place);
+    store.wants.raise_for(&found);
+    found
+}
+
+/// The same, but that want of memory is not counted.
+fn look_up_message<S: Alter>(store: &mut Store<S>, place: i64) -> Result<Message, StoreFault>
+    ensures shown { ShowsMessage S.Store store.old store.new place result }
+    ensures fault { IfErr result (λ fault. refusal fault ≡ None) }
+    ensures clean { HadReturned S.Store store.old store.new }
+    ensures lasts { Lasts S.Store store.old store.new }
+    ensures caused { StopsShowing S.Store store.old store.new place result }
+    ensures quiet { store.new.wants ≡ store.old.wants }
 {
     match texts::messages::message_at(&mut store.conn, place)? {
         Some(row) => Ok(read_or_fail(row)?),

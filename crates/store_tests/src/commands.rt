@@ -10,6 +10,7 @@ use std::alloc::Global;
 use std::process::Abort;
 use std::test::Fail;
 
+/// Anna's token.
 pub const TOKEN: &str = "0123456789abcdef";
 
 const TOKEN_OF_BOB: &str = "0123456789abcdeF";

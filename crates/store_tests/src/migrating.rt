@@ -17,8 +17,12 @@ static ROWS: [&str; 6] = [
     "INSERT INTO list (name) VALUES ('other')",
     "INSERT INTO person (name, token) VALUES ('anna', '0123456789abcdef')",
     "INSERT INTO grant_row (person, list, kind, from_day, until_day) VALUES ('anna', 'soc', 1, 12053, 12417)",
-    "INSERT INTO message (list, key, sender, arrival, text, withdrawn, embargo, sent, month, author) VALUES ('soc', '2c8b08da5ce60398e1f19af0e5dccc744df274b826abe585eaba68c525434806', x'614062', 1046772000, x'6f6e650a', 1, NULL, 1046772000, 24038, x'')",
-    "INSERT INTO message (list, key, sender, arrival, text, withdrawn, embargo, sent, month, author) VALUES ('soc', '27dd8ed44a83ff94d557f9fd0412ed5a8cbca69ea04922d88c01184a07300a5a', x'634064', 1046772000, x'74776f0a', 0, NULL, 1046772000, 24038, x'')",
+    "INSERT INTO message (list, key, sender, arrival, text, withdrawn, embargo, sent, month, author) VALUES ('soc', \
+     '2c8b08da5ce60398e1f19af0e5dccc744df274b826abe585eaba68c525434806', x'614062', 1046772000, x'6f6e650a', 1, NULL, \
+     1046772000, 24038, x'')",
+    "INSERT INTO message (list, key, sender, arrival, text, withdrawn, embargo, sent, month, author) VALUES ('soc', \
+     '27dd8ed44a83ff94d557f9fd0412ed5a8cbca69ea04922d88c01184a07300a5a', x'634064', 1046772000, x'74776f0a', 0, NULL, \
+     1046772000, 24038, x'')",
 ];
 
 /// What version 2 has beside them: the threads of `soc` are not gathered by subject.

@@ -9,7 +9,10 @@ use std::test::Fail;
 
 /// The table of messages before anything was filed of them, when the number was 0.
 const MESSAGES_BEFORE: &str =
-    "CREATE TABLE message (pos INTEGER PRIMARY KEY AUTOINCREMENT, list TEXT NOT NULL REFERENCES list (name), key TEXT NOT NULL, sender BLOB NOT NULL, arrival INTEGER NOT NULL, text BLOB NOT NULL, withdrawn INTEGER NOT NULL CHECK (withdrawn BETWEEN 0 AND 2), embargo INTEGER CHECK (embargo BETWEEN -25567 AND 2932531), UNIQUE (list, key)) STRICT";
+    "CREATE TABLE message (pos INTEGER PRIMARY KEY AUTOINCREMENT, list TEXT NOT NULL REFERENCES list (name), \
+     key TEXT NOT NULL, sender BLOB NOT NULL, arrival INTEGER NOT NULL, text BLOB NOT NULL, \
+     withdrawn INTEGER NOT NULL CHECK (withdrawn BETWEEN 0 AND 2), \
+     embargo INTEGER CHECK (embargo BETWEEN -25567 AND 2932531), UNIQUE (list, key)) STRICT";
 
 /// A database that this program does not take over.
 #[derive(Clone, Copy, Debug)]

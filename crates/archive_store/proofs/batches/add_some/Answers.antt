@@ -1,4 +1,4 @@
-use Rattle.std.proofs.Common.{◌<◌, ◌∙◌, ap, length, take, arith, Some, inr}
+use Rattle.std.proofs.Common.{◌<◌, ◌∙◌, ap, get_or, length, take, arith, Some, inr}
 use Rattle.sqlite.specs.Held.{state}
 use Rattle.archive_machine.specs.Commands.{taken_in, already_known, refused, too_large}
 use Rattle.archive_machine.specs.Runs.{taken}
@@ -12,9 +12,10 @@ use Rattle.archive_store.proofs.batches.add_some.Goals as goal
 pub returns-in-Full-clause-step : goal.returns-in-Full-clause-step
 returns-in-Full-clause-step g c = λ clean db a from.
     let so_far = c.loop-at.invariant.4 (c.add_counted.ensures.clean clean) db a from in
-    let within : c.loop-at.at < length c.args.items.now = omega (arith, c.loop-at-test.true, c.requires.place) in
-    let it = none_taken (Some db) (state g.S.Store c.loop-at.conn) (state g.S.Store c.add_counted.new.conn) a c.args.list.now c.args.items.now c.loop-at.at c.loop-at.count c.add_counted.new.count
-    c.index-items-at.result c.loop-at.report so_far within c.index-items-at.is (rw c.in-Full.is at (c.in_ok-add_counted.ensures.step clean (Some db) so_far.held so_far.counted)) in
+    let items = c.args.intake.now.items.now in
+    let within : c.loop-at.at < length items = omega (arith, c.loop-at-test.true, c.requires.place) in
+    let it = none_taken (Some db) (state g.S.Store c.loop-at.conn) (state g.S.Store c.add_counted.new.conn) a c.args.intake.now.list.now items c.loop-at.at c.loop-at.count c.add_counted.new.count
+    (get_or items c.loop-at.at c.index-intake-at.result) c.loop-at.report so_far within (ap (get_or items c.loop-at.at) c.index-intake-at.is) (rw c.in-Full.is at (c.in_ok-add_counted.ensures.step clean (Some db) so_far.held so_far.counted)) in
     (it.0, inr it.1)
 
 pub returns-in_err-add_counted-clause-step : goal.returns-in_err-add_counted-clause-step
@@ -35,11 +36,12 @@ loop-at-preserved g c = (
   (λ clean. c.loop-at.invariant.3 (c.add_counted.ensures.clean clean)),
   (λ clean db a from.
       let so_far = c.loop-at.invariant.4 (c.add_counted.ensures.clean clean) db a from in
-      let within : c.loop-at.at < length c.args.items.now = omega (arith, c.loop-at-test.true, c.requires.place) in
-      let more = one_taken (Some db) (state g.S.Store c.loop-at.conn) (state g.S.Store c.add_counted.new.conn) a c.args.list.now c.args.items.now c.loop-at.at c.loop-at.count c.add_counted.new.count
-      c.index-items-at.result c.loop-at.report so_far within c.index-items-at.is in
+      let items = c.args.intake.now.items.now in
+      let within : c.loop-at.at < length items = omega (arith, c.loop-at-test.true, c.requires.place) in
+      let more = one_taken (Some db) (state g.S.Store c.loop-at.conn) (state g.S.Store c.add_counted.new.conn) a c.args.intake.now.list.now items c.loop-at.at c.loop-at.count c.add_counted.new.count
+      (get_or items c.loop-at.at c.index-intake-at.result) c.loop-at.report so_far within (ap (get_or items c.loop-at.at) c.index-intake-at.is) in
       let adds = c.in_ok-add_counted.ensures.step clean (Some db) so_far.held so_far.counted in
-      let replies = (taken a c.args.list.now (take c.loop-at.at c.args.items.now)).replies in
+      let replies = (taken a c.args.intake.now.list.now (take c.loop-at.at items)).replies in
       elim c.match-branch-2.branch [
         | in-New w ↦ more taken_in c.match-branch-2.report (rw w.in-New.is at adds) (ap tally_of w.report-is ∙ told_new c.loop-at.report replies so_far.told)
         | in-Known w ↦ more already_known c.match-branch-2.report (rw w.in-Known.is at adds) (ap tally_of w.report-is ∙ told_known c.loop-at.report replies so_far.told)

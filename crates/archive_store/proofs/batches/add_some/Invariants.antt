@@ -12,8 +12,8 @@ invariant-loop-at g l =
     let first = state g.S.Store l.fn.conn in
     let now = state g.S.Store l.conn in
     (l.from ≤ l.at) × (l.at ≤ l.to) × (told_in l.report ≡ l.at) × (HasCleanDisk now → HasCleanDisk first)
-    × (HasCleanDisk now → (db : Database) (a : Archive) → HasTaken (Some db) first a l.list (take l.from l.items) l.fn.count l.fn.report
-    → HasTaken (Some db) now a l.list (take l.at l.items) l.count l.report) × Lasts first now
+    × (HasCleanDisk now → (db : Database) (a : Archive) → HasTaken (Some db) first a l.intake.list.now (take l.from l.intake.items.now) l.fn.count l.fn.report
+    → HasTaken (Some db) now a l.intake.list.now (take l.at l.intake.items.now) l.count l.report) × Lasts first now
 
 abbrev pub decreases-loop-at : goal.decreases-loop-at
 decreases-loop-at g l = l.to - l.at

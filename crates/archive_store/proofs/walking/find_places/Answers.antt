@@ -1,62 +1,13 @@
-use Rattle.std.proofs.Common.{◌∙◌, sym, ap, None}
-use Rattle.sqlite.specs.Effect.{Database}
-use Rattle.archive_tables.specs.Tables.{archive_in}
-use Rattle.archive_tables.specs.Rows.{places_in}
-use Rattle.archive_store.specs.Told.{archive_in as now_holds}
-use Rattle.archive_store.proofs.ReadingLemmas.{is_there}
-use Rattle.archive_store.proofs.WalkingLemmas.{fails, no_refusal}
-use Rattle.archive_tables.proofs.LastLemmas.{lasts_then}
-use Rattle.sqlite.specs.Held.{state}
-use Rattle.archive_store.proofs.CauseLemmas.{blamed, blamed_in, by_error, by_later, want_is_not_in}
+use Rattle.archive_store.specs.Walking.{selected_places}
+use Rattle.archive_store.proofs.WalkingLemmas.{not_begun, places_found}
 use Rattle.archive_store.proofs.walking.find_places.Goals as goal
 
-pub returns-in_err-shown-clause-refused : goal.returns-in_err-shown-clause-refused
-returns-in_err-shown-clause-refused g c =
-    fails g.S.Store c.args.store.now (record { conn = c.places.new.conn }) c.args.list.now c.from_residual-in_err-shown.result
-    (no_refusal c.from_residual-in_err-shown.result _ c.from_residual-in_err-shown.ensures.1 (λ fault it. it.1)) (
-      lasts_then _ _ _ c.has_list.ensures.lasts c.places.ensures.lasts,
-      (λ returned kept up.
-          let has = c.in_ok-has_list.ensures.held (c.in_err-shown.ensures.clean returned) None kept in
-          let rest = c.in_err-shown.ensures.held returned None has.1.0 up in
-          (rest.1, ap (λ (d : Database). archive_in d.trees) rest.0 ∙ has.1.1)),
-    )
-
-pub returns-in_err-read_places-clause-refused : goal.returns-in_err-read_places-clause-refused
-returns-in_err-read_places-clause-refused g c =
-    fails g.S.Store c.args.store.now (record { conn = c.places.new.conn }) c.args.list.now c.from_residual-in_err-read_places.result
-    (no_refusal c.from_residual-in_err-read_places.result _ c.from_residual-in_err-read_places.ensures.1 (λ fault it. it.1)) (
-      lasts_then _ _ _ c.has_list.ensures.lasts c.places.ensures.lasts,
-      (λ returned kept up.
-          let has = c.in_ok-has_list.ensures.held (c.in_ok-shown.ensures.clean returned) None kept in
-          let shown = c.in_ok-shown.ensures.held returned None has.1.0 in
-          (shown.2, ap (λ (d : Database). archive_in d.trees) shown.1 ∙ has.1.1)),
-    )
+pub returns-clause-refused : goal.returns-clause-refused
+returns-clause-refused g c =
+    not_begun g.S.Store c.args.store.now (record { conn = c.look_up_places-found.new.conn; wants = c.raise_for.new.self }) c.args.list.now
+    (λ trees. selected_places trees c.args.list.now c.args.which.now) c.look_up_places-found.result c.look_up_places-found.ensures.lasts c.look_up_places-found.ensures.answer
 
 pub returns-clause-found : goal.returns-clause-found
-returns-clause-found g c = λ returned kept.
-    let has = c.in_ok-has_list.ensures.held (c.in_ok-shown.ensures.clean returned) None kept in
-    let shown = c.in_ok-shown.ensures.held returned None has.1.0 in (
-      is_there c.args.list.now (now_holds g.S.Store c.args.store.now) (sym c.if-not-branch.false ∙ has.0),
-      shown.2,
-      ap (λ (d : Database). archive_in d.trees) shown.1 ∙ has.1.1,
-      c.in_ok-read_places.ensures.read _ (c.deref.ensures.value ∙ shown.0) ∙ ap (λ (d : Database). places_in d.trees c.args.list.now) (sym shown.1),
-    )
-
-pub returns-in_err-has_list-clause-caused : goal.returns-in_err-has_list-clause-caused
-returns-in_err-has_list-clause-caused g c = λ clean kept free.
-    blamed c.from_residual.result c.in_err-has_list.field-0.0 _ c.from_residual.ensures.1
-    (by_error (state g.S.Store c.args.store.now.conn) (state g.S.Store c.has_list.new.conn) c.in_err-has_list.field-0.0 (c.in_err-has_list.ensures.caused clean kept free))
-
-pub returns-in_err-shown-clause-caused : goal.returns-in_err-shown-clause-caused
-returns-in_err-shown-clause-caused g c = λ clean kept free.
-    let has = c.in_ok-has_list.ensures.held (c.in_err-shown.ensures.clean clean) None kept in
-    blamed c.from_residual-in_err-shown.result c.in_err-shown.field-0.0 _ c.from_residual-in_err-shown.ensures.1
-    (by_later (state g.S.Store c.args.store.now.conn) (state g.S.Store c.has_list.new.conn) (state g.S.Store c.places.new.conn) c.in_err-shown.field-0.0 c.has_list.ensures.lasts
-    (c.in_err-shown.ensures.caused clean has.1.0 (c.has_list.ensures.lasts.limit ∙ free)))
-
-pub returns-in_err-read_places-clause-caused : goal.returns-in_err-read_places-clause-caused
-returns-in_err-read_places-clause-caused g c = λ clean kept free.
-    let has = c.in_ok-has_list.ensures.held (c.in_ok-shown.ensures.clean clean) None kept in
-    let shown = c.in_ok-shown.ensures.held clean None has.1.0 in
-    blamed_in c.from_residual-in_err-read_places.result c.in_err-read_places.field-0.0 _ c.from_residual-in_err-read_places.ensures.1
-    (λ it. want_is_not_in c.in_err-read_places.field-0.0 (c.in_err-read_places.ensures.unread _ (c.deref.ensures.value ∙ shown.0)) it)
+returns-clause-found g c =
+    places_found g.S.Store c.args.store.now (record { conn = c.look_up_places-found.new.conn; wants = c.raise_for.new.self }) c.args.list.now
+    (λ trees. selected_places trees c.args.list.now c.args.which.now) c.look_up_places-found.result c.look_up_places-found.ensures.answer

@@ -13,6 +13,7 @@ loop-place-init g c = (
       looks_first g.S.Store c.args.self.now c.find_all_places.new.store c.deref-place-items.result.now held (c.deref-place-items.ensures.value ∙ found.0) found.1),
   c.in_ok-places.ensures.lasts,
   c.in_ok-places.ensures.was_open,
+  c.in_ok-places.ensures.counted.0,
 )
 
 pub loop-place-preserved : goal.loop-place-preserved
@@ -27,6 +28,7 @@ loop-place-preserved g c =
           next.goes_on c.damage_at.new.store looked.0 looked.1),
       lasts_then _ _ _ c.loop-place.invariant.2 c.damage_at.ensures.lasts,
       (λ returned. c.loop-place.invariant.3 (c.damage_at.ensures.clean returned)),
+      omega (arith, c.loop-place.invariant.4, c.in_ok-list.ensures.counted.0),
     )
 
 pub returns-in_err-list-clause-checked : goal.returns-in_err-list-clause-checked

@@ -19,6 +19,7 @@ loop-command-init g c =
       (λ clean. clean),
       (λ clean kept. (subst (λ outcomes. RanAll first (run (archive_of first) []) first outcomes) (sym c.in-Ok.ensures.items) (ran_none first kept), tt)),
       lasts_same _,
+      omega arith,
     )
 
 pub returns-in-Err-clause-clean : goal.returns-in-Err-clause-clean
@@ -61,6 +62,7 @@ loop-command-preserved g c =
                 (answer_of o) clean ran.0.0 c.in-Ok-carry_out.ensures.told steps c.in-Ok-carry_out.ensures.counted ran.1,
           )),
       lasts_then _ _ _ c.loop-command.invariant.3 c.carry_out.ensures.lasts,
+      omega (arith, c.loop-command.invariant.4, c.in-Ok-carry_out.ensures.wanted.0),
     )
 
 pub returns-in-Err-push-clause-step : goal.returns-in-Err-push-clause-step

@@ -1,10 +1,11 @@
-use Rattle.std.proofs.Common.{◌≡◌, length, map, take}
+use Rattle.std.proofs.Common.{◌≡◌, ◌≤◌, length, map, take}
 use Rattle.sqlite.specs.Held.{state}
 use Rattle.sqlite.specs.State.{HasCleanDisk}
 use Rattle.archive_machine.specs.Runs.{run}
 use Rattle.archive_tables.specs.Tables.{IsKept, archive_of}
 use Rattle.archive_store.specs.Running.{command_of, IsRightCount, RanAll}
 use Rattle.archive_tables.specs.Calls.{Lasts}
+use Rattle.archive_store.specs.Held.{wants_of}
 use Rattle.archive_store.proofs.store.Store.run.Given as goal
 
 abbrev pub invariant-loop-command : goal.invariant-loop-command
@@ -14,4 +15,4 @@ invariant-loop-command g l =
     (length l.outcomes.items ≡ l.command-index) × (HasCleanDisk now → HasCleanDisk first)
     × (HasCleanDisk now → IsKept first
     → RanAll first (run (archive_of first) (map command_of (take l.command-index l.commands))) now l.outcomes.items × IsRightCount l.counted (archive_of now))
-    × Lasts first now
+    × Lasts first now × (wants_of l.fn.self ≤ wants_of l.self)

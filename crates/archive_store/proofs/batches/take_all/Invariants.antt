@@ -1,0 +1,19 @@
+use Rattle.std.proofs.Common.{◌≡◌, ◌-◌, ◌≤◌, length, take, None}
+use Rattle.std.specs.Prelude.{IsTrue}
+use Rattle.sqlite.specs.Held.{state}
+use Rattle.sqlite.specs.State.{HasCleanDisk}
+use Rattle.archive_tables.specs.Tables.{IsKept, archive_of}
+use Rattle.archive_store.specs.Batches.{HasTaken, told_in}
+use Rattle.archive_tables.specs.Calls.{Lasts}
+use Rattle.archive_store.proofs.batches.take_all.Given as goal
+
+abbrev pub invariant-loop-done : goal.invariant-loop-done
+invariant-loop-done g l =
+    let first = state g.S.Store l.fn.conn in
+    let now = state g.S.Store l.conn in
+    (l.done ≤ length l.intake.items.now) × (told_in l.report ≡ l.done) × (HasCleanDisk now → HasCleanDisk first)
+    × (HasCleanDisk now → IsKept first → HasTaken None now (archive_of first) l.intake.list.now (take l.done l.intake.items.now) l.count l.report) × Lasts first now
+    × (HasCleanDisk now → IsTrue first.is_open)
+
+abbrev pub decreases-loop-done : goal.decreases-loop-done
+decreases-loop-done g l = length l.intake.items.now - l.done

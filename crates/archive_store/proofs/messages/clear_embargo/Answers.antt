@@ -1,0 +1,34 @@
+use Rattle.std.proofs.Common.{◌≡◌, true, Some, None, sym, ◌∙◌}
+use Rattle.std.specs.Prelude.{⊤, map, option_map, if◌then◌else◌}
+use Rattle.archive_machine.specs.Commands.{was_there}
+use Rattle.archive_machine.specs.Questions.{has_list, is_message, message_of}
+use Rattle.archive_machine.specs.Machine.{lifted}
+use Rattle.archive_tables.specs.Rows.{marks_of}
+use Rattle.archive_store.proofs.StepLemmas.{begins, asks, writes}
+use Rattle.archive_store.proofs.StepEquations.{lift_done}
+use Rattle.archive_tables.proofs.LastLemmas.{lasts_then}
+use Rattle.archive_store.proofs.messages.clear_embargo.Goals as goal
+
+pub returns-clause-step : goal.returns-clause-step
+returns-clause-step g c =
+    let list = c.args.list.now in
+    let key = c.args.key.now in
+    let k = c.as_str.result.now in
+    let k2 = c.as_str-2.result.now in
+    let one = asks g.S.Store c.args.conn.now c.args.conn.now c.has_list.new.conn (λ _. ⊤) (λ a. true ≡ has_list a list)
+    (begins g.S.Store c.args.conn.now) c.in_ok-has_list.ensures.clean c.in_ok-has_list.ensures.same c.in_ok-has_list.ensures.up
+    (λ clean kept. sym c.if-not-branch.false ∙ c.in_ok-has_list.ensures.found clean kept) in
+    let r = c.in-Some.marks in
+    let two = asks g.S.Store c.args.conn.now c.has_list.new.conn c.marks.new.conn (λ a. ⊤ × (true ≡ has_list a list)) (λ a. Some r ≡ option_map marks_of (message_of a list k))
+    one c.in_ok-marks.ensures.clean c.in_ok-marks.ensures.same c.in_ok-marks.ensures.up
+    (λ clean kept. sym c.in-Some.is ∙ c.in_ok-marks.ensures.found clean kept) in
+    writes g.S.Store c.args.conn.now c.marks.new.conn c.clear_embargo.new.conn _ (λ a. lifted a list key) (was_there c.is_some-had_one.result)
+    (λ a. record a { messages = map (λ m. if is_message list k2 m then record m { embargo = None } else m) a.messages })
+    two c.in_ok-clear_embargo.ensures.clean c.in_ok-clear_embargo.ensures.changed
+    (lift_done list key k k2 r c.is_some-had_one.result c.as_str.ensures c.as_str-2.ensures c.is_some-had_one.ensures)
+
+pub returns-in_err-clear_embargo-clause-lasts : goal.returns-in_err-clear_embargo-clause-lasts
+returns-in_err-clear_embargo-clause-lasts g c = lasts_then _ _ _ (lasts_then _ _ _ c.has_list.ensures.lasts c.marks.ensures.lasts) c.clear_embargo.ensures.lasts
+
+pub returns-clause-lasts : goal.returns-clause-lasts
+returns-clause-lasts g c = lasts_then _ _ _ (lasts_then _ _ _ c.has_list.ensures.lasts c.marks.ensures.lasts) c.clear_embargo.ensures.lasts

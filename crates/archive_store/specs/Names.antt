@@ -1,0 +1,21 @@
+-- How faults are named.
+use Rattle.std.specs.Prelude.{ℕ, List, codes}
+use Rattle.archive_store.specs.declared.faults.StoreFault.{StoreFault}
+use Rattle.archive_store.specs.declared.faults.StoreFault.TheVariants as store
+
+abbrev pub store_text : StoreFault → List ℕ
+store_text store.BadName = codes "E1 BadName"
+store_text store.BadText = codes "E2 BadText"
+store_text store.ListExists = codes "E3 ListExists"
+store_text store.NoList = codes "E4 NoList"
+store_text store.PersonExists = codes "E5 PersonExists"
+store_text store.NoPerson = codes "E6 NoPerson"
+store_text store.TokenTaken = codes "E7 TokenTaken"
+store_text store.NoMessage = codes "E8 NoMessage"
+store_text store.AlreadyWithdrawn = codes "E9 AlreadyWithdrawn"
+store_text store.NotWithdrawn = codes "E10 NotWithdrawn"
+store_text store.BadDays = codes "E11 BadDays"
+store_text store.ListFull = codes "E12 ListFull"
+store_text store.TooLarge = codes "E13 TooLarge"
+store_text store.Memory = codes "E14 Memory"
+store_text store.Store = codes "E15 Store"
