@@ -1,4 +1,5 @@
 pub mod CauseLemmas
+pub mod WantLemmas
 pub mod CallLemmas
 pub mod ImportLemmas
 pub mod MarkLemmas

@@ -1,6 +1,6 @@
 -- Commands keep an archive that can be read.
 use Rattle.std.proofs.Common.{◌≡◌, ℕ, ℤ, zero, suc, Bool, true, false, ◌&&◌, ◌<◌, refl, subst, List, [], ◌∷◌, ◌++◌, length, pos, Option, Some, None, arith, if◌then◌else◌}
-use Rattle.std.specs.Prelude.{not, map, filter, int_lt, nat_lt, nat_le, slice_index, IfSome, IsUtf8}
+use Rattle.std.specs.Prelude.{not, map, int_lt, nat_lt, nat_le, slice_index, IfSome, IsUtf8}
 use Rattle.std.specs.Int.{to_be_bytes, w32}
 use Rattle.std.specs.List.{All, list_all}
 use Rattle.std.specs.Str.{IsAscii}
@@ -8,7 +8,7 @@ use Rattle.std.specs.Char.{to_ascii_lowercase}
 use Rattle.std.proofs.lemmas.Bool.{and_parts}
 use Rattle.std.proofs.lemmas.Bool.Decides.{nat_tests}
 use Rattle.std.proofs.lemmas.List.{map-id}
-use Rattle.std.proofs.lemmas.List.Elements.{All-nil, All-head, All-tail, All-push, All-map, All-weaker, All-filter}
+use Rattle.std.proofs.lemmas.List.Elements.{All-head, All-tail, All-push, All-map, All-weaker, All-filter}
 use Rattle.std.proofs.lemmas.Str.{IsUtf8-from_ascii}
 use Rattle.std.proofs.lemmas.Str.Ascii.{IsAscii-nil, IsAscii-cons}
 use Rattle.sha2.specs.Sha256.{sha256, digest_bytes}
@@ -27,7 +27,7 @@ use Rattle.archive_machine.specs.Keys.{is_key, item_key}
 use Rattle.archive_machine.specs.Tokens.{is_token}
 use Rattle.archive_machine.specs.Addresses.{is_address_byte, is_address, kept_address}
 use Rattle.archive_machine.specs.Questions.{has_list, has_person, has_token, is_grant, has_grant, is_address_of, has_address, has_message, is_message, message_of, messages_in, is_withdrawn}
-use Rattle.archive_machine.specs.Machine.{Outcome, readdressed, with_address, with_days_of, with_grant, new_message, with_message}
+use Rattle.archive_machine.specs.Machine.{Outcome, readdressed, with_address, with_days_of, with_grant, new_message}
 use Rattle.archive_machine.specs.Machine.{longest_text, message_limit, changed, with_change, withdrawn_by, embargoed, step}
 use Rattle.archive_machine.specs.Runs.{run, taken}
 use Rattle.archive_machine.proofs.KeyLemmas.{is_key-encode_lower}

@@ -1,5 +1,5 @@
 -- Of an archive that can be read nothing breaks a question, but the disk.
-use Rattle.std.proofs.Common.{◌≡◌, ◌≢◌, ◌⊎◌, ℕ, ℤ, Bool, true, false, ◌&&◌, inl, inr, refl, List, [], ◌∷◌, cond, pos, Option, Some, None, Result, arith, if◌then◌else◌}
+use Rattle.std.proofs.Common.{◌≡◌, ◌≢◌, ◌⊎◌, ℕ, ℤ, Bool, true, false, ◌&&◌, inl, inr, refl, List, [], ◌∷◌, cond, Option, Some, None, Result, arith, if◌then◌else◌}
 use Rattle.std.specs.Prelude.{map, filter, find, zip, int_lt, option_map, IfErr, IfSome, IsUtf8, bytes_eq}
 use Rattle.std.specs.Int.{int_max}
 use Rattle.std.specs.List.{All}
@@ -10,7 +10,6 @@ use Rattle.sqlite.specs.Steps.{over_memory}
 use Rattle.sqlite.proofs.Callers.{memory_is_clean}
 use Rattle.sqlite_disk.specs.Disk.{MoreFaults}
 use Rattle.sqlite_trees.specs.declared.memory.MemStore.{MemStore}
-use Rattle.policy_core.specs.Rules.{asks_own}
 use Rattle.policy_core.specs.declared.access.Standing.{Standing}
 use Rattle.policy_core.specs.declared.access.Standing.TheVariants.{Public}
 use Rattle.archive_machine.specs.Records.{Address, Archive, Filing, Grant, Message, Person}

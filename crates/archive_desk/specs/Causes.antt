@@ -1,5 +1,5 @@
 -- Why the database does not answer a question: what G4 means that carries E15. Want of memory, E14 and G5, needs no cause, since the
--- system may refuse memory at any time.
+-- system may refuse memory at any time; it is counted.
 use Rattle.std.specs.Prelude.{◌≡◌, ◌≢◌, ◌⊎◌, ℕ, true, List, Result, IfErr, IsUtf8}
 use Rattle.std.specs.List.{All}
 use Rattle.std.specs.Option.{IsSomeAnd}
@@ -15,11 +15,25 @@ use Rattle.archive_store.specs.declared.store.Store.{Store}
 use Rattle.archive_store.specs.declared.faults.StoreFault.TheVariants as faults
 use Rattle.archive_results.specs.Access.{Ask}
 use Rattle.archive_desk.specs.declared.faults.DeskFault.{DeskFault}
-use Rattle.archive_desk.specs.declared.faults.DeskFault.TheVariants.{Store as Stored}
+use Rattle.archive_desk.specs.declared.faults.DeskFault.TheVariants.{Store as Stored, Memory}
 
 -- G4 that carries E15
 abbrev pub IsBroken : DeskFault → Type 0
 IsBroken fault = fault ≡ Stored faults.Store
+
+-- ---- want of memory, which is counted
+
+-- G5
+abbrev pub IsOwnWant : DeskFault → Type 0
+IsOwnWant fault = fault ≡ Memory
+
+-- G4 that carries E14
+abbrev pub IsStoreWanting : DeskFault → Type 0
+IsStoreWanting fault = fault ≡ Stored faults.Memory
+
+-- either
+abbrev pub IsWanting : DeskFault → Type 0
+IsWanting fault = IsOwnWant fault ⊎ IsStoreWanting fault
 
 -- ---- rows that cannot be read, which no command writes (a law: `what_commands_write_can_be_read`)
 

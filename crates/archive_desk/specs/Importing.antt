@@ -37,6 +37,10 @@ cause_of (Store fault) = option_map not_taken (refusal fault)
 abbrev pub stop_reason : ImportStop → Option (ℕ × Cause)
 stop_reason stop = option_map (λ cause. (stop.done, cause)) (cause_of stop.fault)
 
+-- E14
+abbrev pub IsImportWant : ImportFault → Type 0
+IsImportWant fault = fault ≡ Store NoMemory
+
 -- ---- messages, added one after the other
 
 -- all of them: the archive is the machine's, and the report counts its replies

@@ -4,5 +4,6 @@ pub mod Exporting
 pub mod Faults
 pub mod Importing
 pub mod Listing
+pub mod Names
 pub mod Readable
 pub mod Walking

@@ -3,15 +3,16 @@ ghost use Rattle.std.specs.Prelude.{◌≡◌, ◌∷◌, [], ◌<◌, ◌^◌, 
 ghost use Rattle.mbox_core.specs.Written.{IsCutShort};
 ghost use Rattle.archive_machine.specs.Messages.{remembered};
 ghost use Rattle.archive_machine.specs.Questions.{messages_in};
-ghost use Rattle.archive_store.specs.Told.{HasReturned, IsOpen, Lasts, WasOpen};
-ghost use Rattle.archive_desk.specs.Causes.{HasCause, IsBroken, IsUnreadable};
+ghost use Rattle.archive_store.specs.Told.{Counts, HasReturned, IsOpen, Lasts, WasOpen};
+ghost use Rattle.archive_store.specs.Wanting.{Raises};
+ghost use Rattle.archive_desk.specs.Causes.{HasCause, IsBroken, IsOwnWant, IsStoreWanting, IsUnreadable, IsWanting};
 ghost use Rattle.archive_desk.specs.Exporting.{Exports, ExportsPart, HasBegun, IsExportStop, exported, shown_text, stop_reason};
 ghost use Rattle.archive_desk.specs.Walking.{CountsMore, HasWalkCause, IsRowsStop, IsShownStop, IsWalkStop, WritesRows, WritesWalk};
 
 use crate::faults::DeskFault;
 use crate::viewing::find_reader;
 use archive_results::{Ask, ReaderMarks, is_shown};
-use archive_store::{EachRow, Message, Store};
+use archive_store::{EachRow, Message, Store, Wants};
 use mbox_core::device::{Sink, write_bytes};
 use mbox_core::{write_item, written_len};
 use sqlite::Alter;
@@ -20,7 +21,9 @@ use std::alloc::Global;
 /// Where an export stopped: exactly the first `written` bytes of the text went out, those of the head among them.
 #[derive(Clone, Copy, Debug, PartialEq, Eq, Drop)]
 pub struct ExportStop {
+    /// How many bytes of the text went out.
     pub written: u64,
+    /// Why no more did.
     pub fault: DeskFault,
 }
 
@@ -45,6 +48,7 @@ pub fn export<S: Alter, W: Sink>(
         (W.failures out.old) (W.failures out.new) stop.written stop.fault) }
     ensures caused { IfErr result (λ stop. IsBroken stop.fault → HasCause S.Store store.old store.new
         (λ a. IsUnreadable a ask.now (messages_in a ask.now.list))) }
+    ensures counted { Counts (λ stop. IsWanting stop.fault) store.old store.new result }
 {
     export_after(store, alloc, ask, b"", out)
 }
@@ -70,17 +74,37 @@ pub fn export_after<S: Alter, W: Sink>(
         (W.failures out.old) (W.failures out.new) stop.written stop.fault) }
     ensures caused { IfErr result (λ stop. IsBroken stop.fault → HasCause S.Store store.old store.new
         (λ a. IsUnreadable a ask.now (messages_in a ask.now.list))) }
+    ensures counted { Counts (λ stop. IsWanting stop.fault) store.old store.new result }
 {
     let reader = match find_reader(store, ask) {
         Ok(reader) => reader,
         Err(fault) => return Err(ExportStop { written: 0, fault }),
     };
-    match store.each_row(alloc, ask.list) {
-        Ok(mut walk) => write_walk(alloc, ask, &reader, head, &mut walk, out),
-        Err(fault) => Err(ExportStop {
-            written: 0,
-            fault: DeskFault::from(fault),
-        }),
+    let mut walk = match store.each_row(alloc, ask.list) {
+        Ok(walk) => walk,
+        Err(fault) => {
+            return Err(ExportStop {
+                written: 0,
+                fault: DeskFault::from(fault),
+            });
+        }
+    };
+    let written = write_walk(alloc, ask, &reader, head, &mut walk, out);
+    drop(walk);
+    raise_for(&mut store.wants, &written);
+    written
+}
+
+/// Counts a want of memory that an export met itself, G5: what the store refused, it has counted.
+fn raise_for(wants: &mut Wants, written: &Result<u64, ExportStop>)
+    ensures { Raises (λ stop. IsOwnWant stop.fault) wants.old wants.new written.now }
+{
+    let Err(stop) = written else {
+        return;
+    };
+    match stop.fault {
+        DeskFault::Memory => wants.raise(),
+        _ => {}
     }
 }
 
@@ -100,6 +124,7 @@ fn write_walk<S: Alter, W: Sink>(
     ensures cause { IfErr result (λ stop. IsWalkStop (W.told out.old) (W.told out.new)
         (W.failures out.old) (W.failures out.new) stop.written stop.fault) }
     ensures caused { IfErr result (λ stop. IsBroken stop.fault → HasWalkCause S.Store walk.old walk.new ask.now) }
+    ensures counted { Counts (λ stop. IsStoreWanting stop.fault) walk.old.store.now walk.new.store.now result }
 {
     if let Err(fault) = write_bytes(out, head) {
         return Err(ExportStop {
@@ -134,6 +159,7 @@ fn write_rows<S: Alter, W: Sink>(
     ensures cause { IfErr result (λ fault. IsRowsStop (W.told out.old) (W.told out.new)
         (W.failures out.old) (W.failures out.new) count.old count.new fault) }
     ensures caused { IfErr result (λ fault. IsBroken fault → HasWalkCause S.Store walk.old walk.new ask.now) }
+    ensures counted { Counts IsStoreWanting walk.old.store.now walk.new.store.now result }
 {
     while let Some(message) = walk.next()? {
         match write_shown(alloc, ask, reader, &message, out) {

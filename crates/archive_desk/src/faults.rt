@@ -1,7 +1,9 @@
 //! Why a question is not answered.
+ghost use Rattle.archive_store.specs.Wanting.{Raises};
 ghost use Rattle.archive_desk.specs.Faults.{desk_fault};
+ghost use Rattle.archive_desk.specs.Causes.{IsOwnWant};
 
-use archive_store::StoreFault;
+use archive_store::{StoreFault, Wants};
 use std::error::Error;
 use std::fmt;
 
@@ -36,17 +38,39 @@ impl From<StoreFault> for DeskFault {
     }
 }
 
-impl fmt::Display for DeskFault {
-    fn fmt<W: fmt::Write>(&self, f: &mut fmt::Formatter<W>) -> fmt::Result {
-        f.write_str(match self {
+impl DeskFault {
+    ghost use Rattle.std.specs.Prelude.{◌≡◌};
+    ghost use Rattle.archive_desk.specs.Names.{desk_text};
+
+    /// Its number and its name; of G4 without the store's refusal.
+    pub fn name(self) -> &'static str
+        ensures { result.now ≡ desk_text self }
+    {
+        match self {
             DeskFault::NoList => "G1 NoList",
             DeskFault::NoPerson => "G2 NoPerson",
             DeskFault::NotInView => "G3 NotInView",
             DeskFault::Store(_) => "G4 Store",
             DeskFault::Memory => "G5 Memory",
             DeskFault::Write => "G6 Write",
-        })
+        }
+    }
+}
+
+impl fmt::Display for DeskFault {
+    fn fmt<W: fmt::Write>(&self, f: &mut fmt::Formatter<W>) -> fmt::Result {
+        f.write_str(self.name())
     }
 }
 
 impl Error for DeskFault {}
+
+/// Counts a want of memory that the desk met itself, G5: what the store refused, it has counted.
+pub(crate) fn raise_for<T>(wants: &mut Wants, answer: &Result<T, DeskFault>)
+    ensures { Raises IsOwnWant wants.old wants.new answer.now }
+{
+    match answer {
+        Err(DeskFault::Memory) => wants.raise(),
+        _ => {}
+    }
+}

@@ -1,16 +1,17 @@
 //! Taking the messages of a file into a list.
-ghost use Rattle.std.specs.Prelude.{◌≡◌, ◌∷◌, [], true, IfOk, IfErr};
+ghost use Rattle.std.specs.Prelude.{◌≡◌, ◌<◌, ◌≤◌, ◌∷◌, [], true, IfOk, IfErr};
 ghost use Rattle.mbox_core.specs.Division.{Divides};
 ghost use Rattle.archive_machine.specs.Commands.{no_list};
 ghost use Rattle.archive_machine.specs.Questions.{has_list, list_refusal};
 ghost use Rattle.archive_store.specs.Replies.{RefusedFor, refusal};
 ghost use Rattle.archive_store.specs.Batches.{tally_of as store_tally};
-ghost use Rattle.archive_store.specs.Told.{AsksIn, Calls, Caused, HoldsTables, WasOpen};
-ghost use Rattle.archive_desk.specs.Importing.{HasAdded, IsBrokenAdd, IsBrokenImport, IsCutStop};
+ghost use Rattle.archive_store.specs.Told.{AsksIn, Calls, Caused, Counts as CountsWants, HoldsTables, WasOpen};
+ghost use Rattle.archive_store.specs.Wanting.{IsWant};
+ghost use Rattle.archive_desk.specs.Importing.{HasAdded, IsBrokenAdd, IsBrokenImport, IsCutStop, IsImportWant};
 ghost use Rattle.archive_desk.specs.Importing.{IsImported, IsRefusedAdd, IsRefusedImport, stop_reason, tally_of};
 ghost use Rattle.archive_desk.specs.declared.importing.ImportFault.TheVariants.{Store as Stored};
 
-use archive_store::{AddStop, Report as Counts, Store, StoreFault};
+use archive_store::{AddStop, Report as Counts, Store, StoreFault, Wants};
 use mbox_core::{Item, MboxFault, cut};
 use sqlite::Alter;
 use std::alloc::Global;
@@ -20,8 +21,11 @@ use std::fmt;
 /// What became of the messages of a file: how many were new on the list, how many it held, and how many are too large.
 #[derive(Clone, Copy, Debug, PartialEq, Eq)]
 pub struct Report {
+    /// Messages that the list did not hold.
     pub new: u64,
+    /// Messages that it held.
     pub known: u64,
+    /// Messages that no list takes.
     pub too_large: u64,
 }
 
@@ -29,7 +33,9 @@ pub struct Report {
 /// taken in.
 #[derive(Clone, Copy, Debug, PartialEq, Eq, Drop)]
 pub struct ImportStop {
+    /// How many messages of the file were seen to.
     pub done: u64,
+    /// Why no more were.
     pub fault: ImportFault,
 }
 
@@ -68,6 +74,7 @@ pub fn import<S: Alter>(
         (λ a b report. IsImported list.now mbox.now a b report)
         (λ a b why. IsRefusedImport list.now mbox.now a b why.0 why.1)
         (λ a b stop. IsBrokenImport list.now mbox.now a b stop.done stop.fault) }
+    ensures counted { CountsWants (λ stop. IsImportWant stop.fault) store.old store.new result }
 {
     if let Err(fault) = find_list(store, list) {
         return Err(ImportStop {
@@ -77,7 +84,21 @@ pub fn import<S: Alter>(
     }
     match cut_items(alloc, mbox) {
         Ok(items) => add_items(store, alloc, list, &items),
-        Err(fault) => Err(ImportStop { done: 0, fault }),
+        Err(fault) => {
+            raise_at(&mut store.wants, fault);
+            Err(ImportStop { done: 0, fault })
+        }
+    }
+}
+
+/// Counts a want of memory while the file is cut.
+fn raise_at(wants: &mut Wants, fault: ImportFault)
+    ensures grows { wants.old ≤ wants.new }
+    ensures raised { IsImportWant fault → wants.old < wants.new }
+{
+    match fault {
+        ImportFault::Store(StoreFault::Memory) => wants.raise(),
+        _ => {}
     }
 }
 
@@ -88,6 +109,7 @@ pub fn find_list<S: Alter>(store: &mut Store<S>, list: &str) -> Result<(), Store
     ensures was_open { WasOpen S.Store store.old store.new refusal result }
     ensures caused { Caused S.Store store.old store.new result }
     ensures kind { RefusedFor result (no_list ∷ []) }
+    ensures counted { CountsWants IsWant store.old store.new result }
 {
     match store.has_list(list) {
         Ok(true) => Ok(()),
@@ -122,6 +144,7 @@ fn add_items<S: Alter>(
         (λ a b report. HasAdded list.now items.entry.now a b report)
         (λ a b why. IsRefusedAdd list.now items.entry.now a b why.0 why.1)
         (λ a b stop. IsBrokenAdd list.now items.entry.now a b stop.done stop.fault) }
+    ensures counted { CountsWants (λ stop. IsImportWant stop.fault) store.old store.new result }
 {
     match store.add_all(alloc, list, items) {
         Ok(counts) => Ok(report_of(counts)),

@@ -6,13 +6,13 @@ ghost use Rattle.archive_machine.specs.Questions.{messages_in};
 ghost use Rattle.archive_results.specs.Access.{is_shown, view_of};
 ghost use Rattle.archive_results.specs.Filed.{filed_author_lines, filed_month_lines};
 ghost use Rattle.archive_results.specs.Index.{IsIndexOf, header_of};
-ghost use Rattle.archive_store.specs.Told.{AsksIn, HoldsTables, Lasts, WasOpen};
-ghost use Rattle.archive_desk.specs.Causes.{CausedOr, IsBroken, IsUnreadable};
+ghost use Rattle.archive_store.specs.Told.{AsksIn, Counts, HoldsTables, Lasts, WasOpen};
+ghost use Rattle.archive_desk.specs.Causes.{CausedOr, IsBroken, IsStoreWanting, IsUnreadable, IsWanting};
 ghost use Rattle.archive_desk.specs.Faults.{IsAskFault, ask_reason, reason};
 ghost use Rattle.archive_desk.specs.Listing.{lines_shown};
 ghost use Rattle.archive_desk.specs.Walking.{HasWalkCause, IsUnlisted, ListsRows};
 
-use crate::faults::DeskFault;
+use crate::faults::{DeskFault, raise_for};
 use crate::viewing::find_reader;
 use archive_results::{Ask, Header, Line, ReaderMarks, header_of, is_shown, line_of};
 use archive_store::{EachRow, Message, Store};
@@ -33,6 +33,25 @@ pub(crate) fn read_headers<S: Alter>(
     ensures was_open { WasOpen S.Store store.old store.new reason result }
     ensures fault { IfErr result (λ fault. IsAskFault fault) }
     ensures caused { CausedOr S.Store store.old store.new result (λ a. IsUnreadable a ask.now (messages_in a ask.now.list)) }
+    ensures counted { Counts IsWanting store.old store.new result }
+{
+    let headers = gather_headers(store, alloc, ask);
+    raise_for(&mut store.wants, &headers);
+    headers
+}
+
+/// The same, but that want of memory is counted where the store met it alone.
+fn gather_headers<S: Alter>(
+    store: &mut Store<S>,
+    alloc: Global,
+    ask: &Ask<'_>,
+) -> Result<Vec<Header>, DeskFault>
+    ensures held { AsksIn S.Store (HoldsTables S.Store) store.old store.new reason result (λ a. ask_reason a ask.now)
+        (λ a headers. IsIndexOf (view_of a ask.now) headers.items) }
+    ensures was_open { WasOpen S.Store store.old store.new reason result }
+    ensures fault { IfErr result (λ fault. IsAskFault fault) }
+    ensures caused { CausedOr S.Store store.old store.new result (λ a. IsUnreadable a ask.now (messages_in a ask.now.list)) }
+    ensures counted { Counts IsStoreWanting store.old store.new result }
 {
     let reader = match find_reader(store, ask) {
         Ok(reader) => reader,
@@ -57,6 +76,7 @@ pub(crate) fn read_month<S: Alter>(
     ensures was_open { WasOpen S.Store store.old store.new reason result }
     ensures fault { IfErr result (λ fault. IsAskFault fault) }
     ensures caused { CausedOr S.Store store.old store.new result (λ a. IsUnreadable a ask.now (in_month a ask.now.list (pos month))) }
+    ensures counted { Counts IsStoreWanting store.old store.new result }
 {
     let reader = match find_reader(store, ask) {
         Ok(reader) => reader,
@@ -80,6 +100,7 @@ pub(crate) fn read_author<S: Alter>(
     ensures was_open { WasOpen S.Store store.old store.new reason result }
     ensures fault { IfErr result (λ fault. IsAskFault fault) }
     ensures caused { CausedOr S.Store store.old store.new result (λ a. IsUnreadable a ask.now (by_author a ask.now.list key.now)) }
+    ensures counted { Counts IsStoreWanting store.old store.new result }
 {
     let reader = match find_reader(store, ask) {
         Ok(reader) => reader,
@@ -103,6 +124,7 @@ fn walk_headers<S: Alter>(
     ensures listed { ListsRows S.Store walk.old walk.new ask.now reader.now (map header_of) result }
     ensures fault { IfErr result (λ fault. IsUnlisted fault) }
     ensures caused { IfErr result (λ fault. IsBroken fault → HasWalkCause S.Store walk.old walk.new ask.now) }
+    ensures counted { Counts IsStoreWanting walk.old.store.now walk.new.store.now result }
 {
     let mut headers = Vec::new(alloc);
     while let Some(message) = walk.next()? {
@@ -126,6 +148,7 @@ fn walk_lines<S: Alter>(
     ensures listed { ListsRows S.Store walk.old walk.new ask.now reader.now lines_shown result }
     ensures fault { IfErr result (λ fault. IsUnlisted fault) }
     ensures caused { IfErr result (λ fault. IsBroken fault → HasWalkCause S.Store walk.old walk.new ask.now) }
+    ensures counted { Counts IsStoreWanting walk.old.store.now walk.new.store.now result }
 {
     let mut lines = Vec::new(alloc);
     while let Some(message) = walk.next()? {

@@ -7,12 +7,12 @@ ghost use Rattle.archive_results.specs.Index.{IsIndexOf};
 ghost use Rattle.archive_results.specs.Filed.{filed_author_lines, filed_month_lines};
 ghost use Rattle.archive_results.specs.Results.{author_lines, month_lines, tree_lines, thread_lines};
 ghost use Rattle.archive_results.specs.Shown.{shown_of};
-ghost use Rattle.archive_store.specs.Told.{Asks, AsksIn, HoldsTables, WasOpen};
-ghost use Rattle.archive_desk.specs.Causes.{Caused, CausedOr, IsUnreadable};
+ghost use Rattle.archive_store.specs.Told.{Asks, AsksIn, Counts, HoldsTables, WasOpen};
+ghost use Rattle.archive_desk.specs.Causes.{Caused, CausedOr, IsUnreadable, IsWanting};
 ghost use Rattle.archive_desk.specs.Faults.{IsAskFault, ask_reason, list_reason, reason};
 ghost use Rattle.archive_desk.specs.Listing.{IsThreadFault, thread_reason};
 
-use crate::faults::DeskFault;
+use crate::faults::{DeskFault, raise_for};
 use crate::index::{read_author, read_headers, read_month};
 use archive_results::{Ask, Header, Line, TreeLine, thread_lines, tree_lines};
 use archive_store::{Key, Store};
@@ -37,8 +37,11 @@ pub fn month<S: Alter>(
     ensures was_open { WasOpen S.Store store.old store.new reason result }
     ensures fault { IfErr result (λ fault. IsAskFault fault) }
     ensures caused { CausedOr S.Store store.old store.new result (λ a. IsUnreadable a ask.now (in_month a ask.now.list (pos month))) }
+    ensures counted { Counts IsWanting store.old store.new result }
 {
-    read_month(store, alloc, ask, month)
+    let lines = read_month(store, alloc, ask, month);
+    raise_for(&mut store.wants, &lines);
+    lines
 }
 
 /// The messages of the view that have an author key, by sent date and then in mailbox order: those that are filed under it, as
@@ -57,8 +60,11 @@ pub fn author<S: Alter>(
     ensures was_open { WasOpen S.Store store.old store.new reason result }
     ensures fault { IfErr result (λ fault. IsAskFault fault) }
     ensures caused { CausedOr S.Store store.old store.new result (λ a. IsUnreadable a ask.now (by_author a ask.now.list key.now)) }
+    ensures counted { Counts IsWanting store.old store.new result }
 {
-    read_author(store, alloc, ask, key)
+    let lines = read_author(store, alloc, ask, key);
+    raise_for(&mut store.wants, &lines);
+    lines
 }
 
 /// The threads of the view (RFC 5256, section 3, THREAD=REFERENCES), in preorder. Those of one subject are gathered where the
@@ -75,6 +81,7 @@ pub fn threads<T: Threader, S: Alter>(
     ensures was_open { WasOpen S.Store store.old store.new reason result }
     ensures fault { IfErr result (λ fault. IsAskFault fault) }
     ensures caused { CausedOr S.Store store.old store.new result (λ a. IsUnreadable a ask.now (messages_in a ask.now.list)) }
+    ensures counted { Counts IsWanting store.old store.new result }
 {
     let index = match read_index(store, alloc, ask) {
         Ok(index) => index,
@@ -82,7 +89,10 @@ pub fn threads<T: Threader, S: Alter>(
     };
     match tree_lines(alloc, threader, index.headers, index.merge) {
         Ok(rows) => Ok(rows),
-        Err(_) => Err(DeskFault::Memory),
+        Err(_) => {
+            store.wants.raise();
+            Err(DeskFault::Memory)
+        }
     }
 }
 
@@ -101,6 +111,7 @@ pub fn thread<T: Threader, S: Alter>(
     ensures was_open { WasOpen S.Store store.old store.new reason result }
     ensures fault { IfErr result (λ fault. IsThreadFault fault) }
     ensures caused { CausedOr S.Store store.old store.new result (λ a. IsUnreadable a ask.now (messages_in a ask.now.list)) }
+    ensures counted { Counts IsWanting store.old store.new result }
 {
     let index = match read_index(store, alloc, ask) {
         Ok(index) => index,
@@ -109,14 +120,19 @@ pub fn thread<T: Threader, S: Alter>(
     match thread_lines(alloc, threader, index.headers, index.merge, key) {
         Ok(Some(rows)) => Ok(rows),
         Ok(None) => Err(DeskFault::NotInView),
-        Err(_) => Err(DeskFault::Memory),
+        Err(_) => {
+            store.wants.raise();
+            Err(DeskFault::Memory)
+        }
     }
 }
 
 /// The headers of the messages of a view, in mailbox order, and whether its threads of one subject are gathered.
 #[derive(Drop)]
 pub struct Index {
+    /// In mailbox order.
     pub headers: Vec<Header>,
+    /// Whether threads of one subject are gathered (RFC 5256, REFERENCES, step 5).
     pub merge: bool,
 }
 
@@ -132,6 +148,7 @@ pub fn read_index<S: Alter>(
     ensures was_open { WasOpen S.Store store.old store.new reason result }
     ensures fault { IfErr result (λ fault. IsAskFault fault) }
     ensures caused { CausedOr S.Store store.old store.new result (λ a. IsUnreadable a ask.now (messages_in a ask.now.list)) }
+    ensures counted { Counts IsWanting store.old store.new result }
 {
     let headers = match read_headers(store, alloc, ask) {
         Ok(headers) => headers,
@@ -149,6 +166,7 @@ fn find_merge<S: Alter>(store: &mut Store<S>, ask: &Ask<'_>) -> Result<bool, Des
         (λ a merge. merge ≡ merge_of a ask.now.list) }
     ensures fault { IfErr result (λ fault. IsAskFault fault) }
     ensures caused { Caused S.Store store.old store.new result }
+    ensures counted { Counts IsWanting store.old store.new result }
 {
     Ok(store.merge_of(ask.list)?)
 }

@@ -3,9 +3,9 @@ ghost use Rattle.std.specs.Prelude.{◌≡◌, ◌⊎◌, IfErr, option_map};
 ghost use Rattle.archive_machine.specs.Questions.{message_of};
 ghost use Rattle.archive_machine.specs.Messages.{remembered};
 ghost use Rattle.archive_results.specs.Access.{asked_of, asked_on, reader_marks, told};
-ghost use Rattle.archive_store.specs.Told.{Asks, AsksIn, HoldsTables, WasOpen};
+ghost use Rattle.archive_store.specs.Told.{Asks, AsksIn, Counts, HoldsTables, WasOpen};
 ghost use Rattle.archive_desk.specs.Asking.{standing_reason};
-ghost use Rattle.archive_desk.specs.Causes.{CausedOr, IsMessageUnreadable, IsReaderUnreadable};
+ghost use Rattle.archive_desk.specs.Causes.{CausedOr, IsMessageUnreadable, IsReaderUnreadable, IsWanting};
 ghost use Rattle.archive_desk.specs.Faults.{IsAskFault, ask_reason, list_reason, reason};
 
 use crate::faults::DeskFault;
@@ -30,6 +30,7 @@ pub fn message<'p, S: Alter>(
     ensures fault { IfErr result (λ fault. IsAskFault fault) }
     ensures caused { CausedOr S.Store store.old store.new result
         (λ a. IsMessageUnreadable a ask.entry.now key.now ⊎ IsReaderUnreadable a ask.entry.now) }
+    ensures counted { Counts IsWanting store.old store.new result }
 {
     match find_row(store, ask, key) {
         Ok(held) => answer_on(store, alloc, ask, &held),
@@ -48,6 +49,7 @@ fn find_row<S: Alter>(
     ensures was_open { WasOpen S.Store store.old store.new reason result }
     ensures fault { IfErr result (λ fault. IsAskFault fault) }
     ensures caused { CausedOr S.Store store.old store.new result (λ a. IsMessageUnreadable a ask.now key.now) }
+    ensures counted { Counts IsWanting store.old store.new result }
 {
     Ok(store.row(ask.list, key)?)
 }
@@ -64,10 +66,14 @@ fn answer_on<'p, S: Alter>(
         (option_map (remembered ask.entry.now.list) held.now)) }
     ensures fault { IfErr result (λ fault. IsAskFault fault) }
     ensures caused { CausedOr S.Store store.old store.new result (λ a. IsReaderUnreadable a ask.entry.now) }
+    ensures counted { Counts IsWanting store.old store.new result }
 {
     let reader = find_marks(store, ask)?;
     match asked(alloc, ask, &reader, held) {
         Ok(answer) => Ok(answer),
-        Err(_) => Err(DeskFault::Memory),
+        Err(_) => {
+            store.wants.raise();
+            Err(DeskFault::Memory)
+        }
     }
 }

@@ -3,10 +3,10 @@ ghost use Rattle.std.specs.Prelude.{◌≡◌, map, filter, IfErr, IfOk, Some, o
 ghost use Rattle.archive_machine.specs.Questions.{address_of, messages_in, standing_of, standing_refusal};
 ghost use Rattle.archive_machine.specs.Messages.{remembered};
 ghost use Rattle.archive_results.specs.Access.{is_shown, standing_ranked, view_of};
-ghost use Rattle.archive_store.specs.Told.{Asks, AsksIn, HoldsTables, WasOpen};
+ghost use Rattle.archive_store.specs.Told.{Asks, AsksIn, Counts, HoldsTables, WasOpen};
 ghost use Rattle.archive_desk.specs.Asking.{IsEnough, person_reason, standing_reason};
 ghost use Rattle.archive_desk.specs.Causes.{AreUnreadable, CausedOr, IsAddressUnreadable, IsPersonUnreadable, IsRankUnknown};
-ghost use Rattle.archive_desk.specs.Causes.{IsReaderUnreadable, IsUnreadable};
+ghost use Rattle.archive_desk.specs.Causes.{IsReaderUnreadable, IsUnreadable, IsWanting};
 ghost use Rattle.archive_desk.specs.Faults.{IsAskFault, ask_reason, list_reason, reason, reason_by};
 
 use crate::faults::DeskFault;
@@ -29,6 +29,7 @@ pub fn view<S: Alter>(
         (λ a found. map (remembered ask.now.list) found.items ≡ view_of a ask.now) }
     ensures fault { IfErr result (λ fault. IsAskFault fault) }
     ensures caused { CausedOr S.Store store.old store.new result (λ a. IsUnreadable a ask.now (messages_in a ask.now.list)) }
+    ensures counted { Counts IsWanting store.old store.new result }
 {
     let messages = match read_list(store, alloc, ask) {
         Ok(messages) => messages,
@@ -40,7 +41,10 @@ pub fn view<S: Alter>(
     };
     match keep_shown(alloc, ask, &reader, messages) {
         Ok(kept) => Ok(kept),
-        Err(_) => Err(DeskFault::Memory),
+        Err(_) => {
+            store.wants.raise();
+            Err(DeskFault::Memory)
+        }
     }
 }
 
@@ -54,6 +58,7 @@ pub(crate) fn read_list<S: Alter>(
         (λ a found. map (remembered ask.now.list) found.items ≡ messages_in a ask.now.list) }
     ensures fault { IfErr result (λ fault. IsAskFault fault) }
     ensures caused { CausedOr S.Store store.old store.new result (λ a. AreUnreadable (messages_in a ask.now.list)) }
+    ensures counted { Counts IsWanting store.old store.new result }
 {
     Ok(store.rows(alloc, ask.list)?)
 }
@@ -67,6 +72,7 @@ pub fn find_reader<S: Alter>(store: &mut Store<S>, ask: &Ask<'_>) -> Result<Read
     ensures was_open { WasOpen S.Store store.old store.new reason result }
     ensures fault { IfErr result (λ fault. IsAskFault fault) }
     ensures caused { CausedOr S.Store store.old store.new result (λ a. IsReaderUnreadable a ask.now) }
+    ensures counted { Counts IsWanting store.old store.new result }
 {
     match find_list(store, ask.list) {
         Ok(()) => find_marks(store, ask),
@@ -83,6 +89,7 @@ pub(crate) fn find_marks<S: Alter>(
         (λ a reader. IsEnough a ask.now reader) }
     ensures fault { IfErr result (λ fault. IsAskFault fault) }
     ensures caused { CausedOr S.Store store.old store.new result (λ a. IsReaderUnreadable a ask.now) }
+    ensures counted { Counts IsWanting store.old store.new result }
 {
     match ask.reader {
         Reader::Nobody => Ok(ReaderMarks {
@@ -105,6 +112,7 @@ fn person_marks<S: Alter>(
         (λ a reader. IsEnough a (record ask.now { reader = Some name.now }) reader) }
     ensures fault { IfErr result (λ fault. IsAskFault fault) }
     ensures caused { CausedOr S.Store store.old store.new result (λ a. IsPersonUnreadable a ask.now name.now) }
+    ensures counted { Counts IsWanting store.old store.new result }
 {
     let standing = match find_standing(store, ask, name) {
         Ok(standing) => standing,
@@ -133,6 +141,7 @@ fn find_standing<S: Alter>(
         (λ a standing. standing ≡ standing_ranked (standing_of a name.now ask.now.list ask.now.day)) }
     ensures fault { IfErr result (λ fault. IsAskFault fault) }
     ensures caused { CausedOr S.Store store.old store.new result (λ a. IsRankUnknown a ask.now name.now) }
+    ensures counted { Counts IsWanting store.old store.new result }
 {
     Ok(store.standing(name, ask.list, ask.day)?)
 }
@@ -143,6 +152,7 @@ fn find_address<S: Alter>(store: &mut Store<S>, name: &str) -> Result<Option<Str
         (λ a address. option_map string_bytes address ≡ address_of a name.now) }
     ensures fault { IfErr result (λ fault. IsAskFault fault) }
     ensures caused { CausedOr S.Store store.old store.new result (λ a. IsAddressUnreadable a name.now) }
+    ensures counted { Counts IsWanting store.old store.new result }
 {
     Ok(store.address(name)?)
 }

@@ -1,14 +1,15 @@
 -- What messages that are held make of an archive once they are added.
-use Rattle.std.proofs.Common.{◌≡◌, ℕ, ◌+◌, ◌<◌, ◌≤◌, Bool, true, false, List, [], ◌∷◌, ◌++◌, length, take, map, filter, refl, ap, sym, subst, ◌∙◌, arith, append_assoc, append-nil, length-append, min, inl}
+use Rattle.std.proofs.Common.{◌≡◌, ℕ, ◌+◌, ◌<◌, ◌≤◌, Bool, true, false, List, [], ◌∷◌, ◌++◌, length, take, map, filter, min, inl}
+use Rattle.std.proofs.Common.{refl, ap, sym, subst, ◌∙◌, arith, append_assoc, append-nil, length-append}
 use Rattle.std.specs.Prelude.{not, if◌then◌else◌, bytes_eq}
 use Rattle.std.specs.List.{list_any}
 use Rattle.std.proofs.lemmas.List.{take-append-le, map-append}
 use Rattle.std.proofs.lemmas.List.Elements.{filter-append}
 use Rattle.std.proofs.lemmas.List.Sums.{sum_by-append}
-use Rattle.std.proofs.Math.Seq.{take-append-add, take-append_seam, take-length}
+use Rattle.std.proofs.Math.Seq.{take-append-add, take-append_seam}
 use Rattle.mbox_core.specs.Division.{Item}
 use Rattle.archive_machine.specs.Records.{Archive}
-use Rattle.archive_machine.specs.Commands.{add, Reply, Refusal, refused, list_full, no_list, too_large, already_known, taken_in}
+use Rattle.archive_machine.specs.Commands.{add, Reply, refused, list_full, no_list, too_large, already_known, taken_in}
 use Rattle.archive_machine.specs.Questions.{has_list, messages_in}
 use Rattle.archive_machine.specs.Machine.{Outcome, step}
 use Rattle.archive_machine.specs.Runs.{run, taken, Tally, tally, is_new, is_known, is_too_large}
@@ -16,7 +17,7 @@ use Rattle.archive_machine.proofs.RunLemmas.{archive_of_both, replies_of_both}
 use Rattle.archive_store.specs.Batches.{IsFullAt, text_bytes}
 use Rattle.archive_store.proofs.RunLemmas.{run_nothing}
 use Rattle.archive_desk.specs.Importing.{HasAddedFirst, tally_of}
-use Rattle.archive_import.specs.declared.intake.TheConstants.{MESSAGES_AT_ONCE, BYTES_AT_ONCE}
+use Rattle.archive_import.specs.declared.intake.TheConstants.{MESSAGES_HELD, BYTES_HELD}
 use Rattle.archive_import.specs.Intake.{IntakeState, IsUnderWay, IsSmall, is_more, tally_sum}
 
 -- ---- some messages and then others
@@ -190,7 +191,8 @@ under_way_first list a b i there same is = subst (λ x. IsUnderWay list a b [] x
 
 -- ---- what may be held
 
-pub small_more : (held : List Item) (item : Item) (bytes all : ℕ) → bytes ≡ text_bytes held → length held < MESSAGES_AT_ONCE → all ≡ min (bytes + length item.text) 18446744073709551615 → all ≤ BYTES_AT_ONCE
+pub small_more : (held : List Item) (item : Item) (bytes all : ℕ) → bytes ≡ text_bytes held → length held < MESSAGES_HELD
+    → all ≡ min (bytes + length item.text) 18446744073709551615 → all ≤ BYTES_HELD
     → IsSmall (held ++ item ∷ [])
 small_more held item bytes all is few sum small = (
   omega (arith, few, length-append held (item ∷ [])),

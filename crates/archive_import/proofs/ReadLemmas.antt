@@ -1,5 +1,6 @@
 -- What reading, adding and ending say together.
-use Rattle.std.proofs.Common.{◌≡◌, ◌⊎◌, ℕ, ◌+◌, ◌≤◌, true, false, List, [], ◌∷◌, ◌++◌, length, take, refl, ap, sym, subst, ◌∙◌, arith, append-nil, length-append, inl, inr, Option, Some, None, Result, Ok, Err}
+use Rattle.std.proofs.Common.{◌≡◌, ℕ, ◌≤◌, true, List, [], ◌++◌, length, inl, inr, Option, Some, None, Result, Ok, Err}
+use Rattle.std.proofs.Common.{refl, ap, sym, subst, ◌∙◌, arith, append-nil}
 use Rattle.std.specs.Prelude.{MatchOption, option_map, OnOk}
 use Rattle.sqlite.specs.Store.{Ghosts}
 use Rattle.mbox_core.specs.Division.{Item, Divides, IsPreamble}
@@ -9,7 +10,7 @@ use Rattle.mbox_stream.specs.Stream.{IsBeginning, settled_items, IsSettledPreamb
 use Rattle.mbox_stream.specs.Cutter.{CutterState, given, IsGiven, IsCutter, IsReadFault, IsEndFault}
 use Rattle.mbox_stream.specs.declared.cutter.Standing.{Standing}
 use Rattle.mbox_stream.specs.declared.cutter.Standing.TheVariants.{Open, Finished}
-use Rattle.mbox_stream.proofs.StreamLaws.{settled_grow, settled_none, settled_preamble, settled_nothing}
+use Rattle.mbox_stream.proofs.StreamLaws.{settled_grow, settled_none, settled_preamble}
 use Rattle.archive_machine.specs.Records.{Archive}
 use Rattle.archive_machine.specs.Commands.{Refusal}
 use Rattle.archive_machine.specs.Questions.{has_list, list_refusal}
@@ -61,7 +62,8 @@ module _ {S : Type 0} (g : Ghosts S) (old new : Store S) (list : List ℕ) (i : 
   pub unread_stopped : (j : IntakeState) (stop : ImportStop)
       → Calls g old new {A = Unit {0}} halt_reason (Err stop) (λ b c _. Keeps list i j b c) (HaltsAmid list i) (BreaksAmid list i)
       → Calls g old new {A = Unit {0}} halt_reason (Err stop) Nothing (Unreads list i) (BreaksAmid list i)
-  unread_stopped j stop call = stopped_as g old new {A = Unit {0}} {B = Unit {0}} halt_reason (λ b c _. Keeps list i j b c) Nothing (HaltsAmid list i) (Unreads list i) (BreaksAmid list i) (BreaksAmid list i)
+  unread_stopped j stop call =
+      stopped_as g old new {A = Unit {0}} {B = Unit {0}} halt_reason (λ b c _. Keeps list i j b c) Nothing (HaltsAmid list i) (Unreads list i) (BreaksAmid list i) (BreaksAmid list i)
       (λ b c why halts a items w. unread_halt list items a c why.0 why.1 (halts a items w)) (λ b c stop breaks. breaks) stop call
 
 -- ---- what was read

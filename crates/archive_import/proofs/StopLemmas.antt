@@ -1,14 +1,14 @@
 -- What adding what is held, and holding more, says of a store.
 use Rattle.std.proofs.Common.{◌≡◌, ℕ, ◌+◌, ◌≤◌, true, List, [], ◌∷◌, ◌++◌, length, take, refl, ap, sym, subst, ◌∙◌, append_assoc, append-nil, Option, Some, None, Result, Ok, Err}
-use Rattle.std.specs.Prelude.{MatchOption, option_map, OnOk, IfErr, IsTrue}
+use Rattle.std.specs.Prelude.{MatchOption, option_map, OnOk, IfErr}
 use Rattle.sqlite.specs.Store.{Ghosts}
 use Rattle.sqlite.specs.Held.{state}
 use Rattle.sqlite.specs.State.{HasCleanDisk}
 use Rattle.mbox_core.specs.Division.{Item}
 use Rattle.mbox_core.specs.declared.faults.MboxFault.TheVariants.{Memory as NoRoom}
 use Rattle.archive_machine.specs.Records.{Archive}
-use Rattle.archive_machine.specs.Commands.{Refusal, no_list, bad_name, bad_text, list_exists, person_exists, no_person, token_taken, no_message, already_withdrawn, not_withdrawn, bad_days, list_full, too_large}
-use Rattle.archive_machine.specs.Questions.{has_list}
+use Rattle.archive_machine.specs.Commands.{Refusal, no_list, bad_name, bad_text, list_exists, person_exists, no_person, token_taken}
+use Rattle.archive_machine.specs.Commands.{no_message, already_withdrawn, not_withdrawn, bad_days, list_full, too_large}
 use Rattle.archive_machine.specs.Runs.{taken}
 use Rattle.archive_machine.specs.Sound.{IsFiledRight}
 use Rattle.archive_tables.specs.Tables.{IsKept, archive_of}
@@ -23,8 +23,7 @@ use Rattle.archive_store.specs.declared.batches.AddStop.{AddStop}
 use Rattle.archive_store.specs.declared.batches.Report.{Report as Counts}
 use Rattle.archive_store.proofs.Joins.{goes_on, goes_on_if_open, goes_as, goes_as_if_open, ready_with, stays_there}
 use Rattle.archive_store.proofs.RightLemmas.{taken_right}
-use Rattle.archive_store.proofs.RunLemmas.{run_nothing}
-use Rattle.archive_desk.specs.Importing.{IsBrokenAdd, HasAddedFirst}
+use Rattle.archive_desk.specs.Importing.{IsBrokenAdd}
 use Rattle.archive_desk.specs.declared.importing.ImportStop.{ImportStop}
 use Rattle.archive_desk.specs.declared.importing.ImportFault.{ImportFault}
 use Rattle.archive_desk.specs.declared.importing.ImportFault.TheVariants.{Mbox, Store as Stored}
@@ -144,7 +143,9 @@ module _ {S : Type 0} (g : Ghosts S) (old new : Store S) (list : List ℕ) (i : 
 
       by_reason : (r : Option Refusal)
           → (HasCleanDisk (state g (held_of new)) → IsKept (state g (held_of old)) → MatchOption r (IsAfter (state g (held_of new)) (archive_of (state g (held_of old))) list (take stop.done i.held))
-          (λ why. IsKept (state g (held_of new)) × (archive_of (state g (held_of new)) ≡ (taken (archive_of (state g (held_of old))) list (take stop.done i.held)).archive) × IsRefusedAt (archive_of (state g (held_of old))) list i.held stop.done why))
+          (λ why. IsKept (state g (held_of new))
+          × (archive_of (state g (held_of new)) ≡ (taken (archive_of (state g (held_of old))) list (take stop.done i.held)).archive)
+          × IsRefusedAt (archive_of (state g (held_of old))) list i.held stop.done why))
           → MatchOption (option_map (λ (halt : Halt). (i.done + stop.done, halt)) (option_map halt_by r))
           (GoesIfOpen g old new (λ b c. BreaksAmid list i b c (record { done = i.done + stop.done; fault = Stored stop.fault }))) (λ why. Goes g old new (λ b c. HaltsAmid list i b c why))
       by_reason None it = (

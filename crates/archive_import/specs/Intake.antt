@@ -9,7 +9,7 @@ use Rattle.archive_desk.specs.Importing.{tally_of, HasAddedFirst}
 use Rattle.archive_desk.specs.declared.importing.Report.{Report}
 use Rattle.archive_desk.specs.declared.importing.ImportFault.{ImportFault}
 use Rattle.archive_desk.specs.declared.importing.ImportFault.TheVariants.{Mbox, Store}
-use Rattle.archive_import.specs.declared.intake.TheConstants.{MESSAGES_AT_ONCE, BYTES_AT_ONCE}
+use Rattle.archive_import.specs.declared.intake.TheConstants.{MESSAGES_HELD, BYTES_HELD}
 use Rattle.archive_import.specs.Streaming.{Halt, no_mbox, not_read, no_room, unknown_list, full, declined}
 
 pub record IntakeState : Type 0 where
@@ -21,7 +21,7 @@ pub record IntakeState : Type 0 where
 
 -- what may be held: so many messages, and so many bytes of their texts, unless the one text is longer
 abbrev pub IsSmall : List Item → Type 0
-IsSmall items = (length items ≤ MESSAGES_AT_ONCE) × ((text_bytes items ≤ BYTES_AT_ONCE) ⊎ (length items ≤ 1))
+IsSmall items = (length items ≤ MESSAGES_HELD) × ((text_bytes items ≤ BYTES_HELD) ⊎ (length items ≤ 1))
 
 -- how many messages a report tells of
 abbrev pub sum_of : Report → ℕ

@@ -12,12 +12,12 @@ use std::alloc::Global;
 use std::marker::Model;
 
 /// Messages that are held, at most. They are many transactions: a call of the store counts its list once, and then adds all.
-const MESSAGES_AT_ONCE: usize = 4_000;
+const MESSAGES_HELD: usize = 4_000;
 
 /// Bytes of their texts, at most, unless the one text is longer.
-const BYTES_AT_ONCE: usize = 8_388_608;
+const BYTES_HELD: usize = 8_388_608;
 
-/// The messages that are held for the next call, as many as `MESSAGES_AT_ONCE` and `BYTES_AT_ONCE` allow, or one alone; and how
+/// The messages that are held for the next call, as many as `MESSAGES_HELD` and `BYTES_HELD` allow, or one alone; and how
 /// many were done before them, with what became of those.
 #[derive(Drop)]
 pub(crate) struct Intake {
@@ -95,8 +95,8 @@ impl Intake {
     pub(crate) fn has_room(&self, item: &OwnedItem) -> bool
         ensures { IsTrue result → IsSmall (self.now.held ++ item.now ∷ []) }
     {
-        self.held.len() < MESSAGES_AT_ONCE
-            && self.bytes.saturating_add(item.text().len()) <= BYTES_AT_ONCE
+        self.held.len() < MESSAGES_HELD
+            && self.bytes.saturating_add(item.text().len()) <= BYTES_HELD
     }
 
     /// Holds a message more. M3: there was no memory for it.

@@ -14,8 +14,11 @@ use std::alloc::Global;
 /// What became of the messages of a file, the lines of a month, and how many bytes an export wrote.
 #[derive(Drop)]
 pub struct Told {
+    /// What became of the messages.
     pub report: Report,
+    /// The lines of the month.
     pub lines: Vec<Line>,
+    /// How many bytes the export wrote.
     pub count: u64,
 }
 

@@ -19,22 +19,29 @@ type Row = (usize, Option<u8>);
 const THREADS: [(&str, &[u8], &[Row]); 4] = [
     (
         "owners",
-        b"From a@b Tue Mar  4 10:00:00 2003\nFrom: 0\nMessage-ID: <a@x>\n\n0\n\nFrom a@b Tue Mar  4 10:00:01 2003\nFrom: 1\nReferences: <a@x> <b@x>\n\n1\n\nFrom a@b Tue Mar  4 10:00:02 2003\nFrom: 2\nMessage-ID: <b@x>\n\n2\n\n",
+        b"From a@b Tue Mar  4 10:00:00 2003\nFrom: 0\nMessage-ID: <a@x>\n\n0\n\n\
+          From a@b Tue Mar  4 10:00:01 2003\nFrom: 1\nReferences: <a@x> <b@x>\n\n1\n\n\
+          From a@b Tue Mar  4 10:00:02 2003\nFrom: 2\nMessage-ID: <b@x>\n\n2\n\n",
         &[(0, Some(b'0')), (0, Some(b'2')), (1, Some(b'1'))],
     ),
     (
         "loop",
-        b"From a@b Tue Mar  4 10:00:00 2003\nFrom: 0\nMessage-ID: <a@x>\nReferences: <b@x>\n\n0\n\nFrom a@b Tue Mar  4 10:00:01 2003\nFrom: 1\nMessage-ID: <b@x>\nReferences: <a@x>\n\n1\n\n",
+        b"From a@b Tue Mar  4 10:00:00 2003\nFrom: 0\nMessage-ID: <a@x>\nReferences: <b@x>\n\n0\n\n\
+          From a@b Tue Mar  4 10:00:01 2003\nFrom: 1\nMessage-ID: <b@x>\nReferences: <a@x>\n\n1\n\n",
         &[(0, Some(b'1')), (1, Some(b'0'))],
     ),
     (
         "missing",
-        b"From a@b Tue Mar  4 10:00:00 2003\nFrom: 0\nIn-Reply-To: <p@x>\n\n0\n\nFrom a@b Tue Mar  4 10:00:01 2003\nFrom: 1\nIn-Reply-To: <p@x>\n\n1\n\n",
+        b"From a@b Tue Mar  4 10:00:00 2003\nFrom: 0\nIn-Reply-To: <p@x>\n\n0\n\n\
+          From a@b Tue Mar  4 10:00:01 2003\nFrom: 1\nIn-Reply-To: <p@x>\n\n1\n\n",
         &[(0, None), (1, Some(b'0')), (1, Some(b'1'))],
     ),
     (
         "subjects",
-        b"From a@b Tue Mar  4 10:00:00 2003\nFrom: 0\nSubject: x\n\n0\n\nFrom a@b Tue Mar  4 10:00:01 2003\nFrom: 1\nSubject: Re: x\n\n1\n\nFrom a@b Tue Mar  4 10:00:02 2003\nFrom: 2\nSubject: x\n\n2\n\nFrom a@b Tue Mar  4 10:00:03 2003\nFrom: 3\nSubject: Re: x\n\n3\n\n",
+        b"From a@b Tue Mar  4 10:00:00 2003\nFrom: 0\nSubject: x\n\n0\n\n\
+          From a@b Tue Mar  4 10:00:01 2003\nFrom: 1\nSubject: Re: x\n\n1\n\n\
+          From a@b Tue Mar  4 10:00:02 2003\nFrom: 2\nSubject: x\n\n2\n\n\
+          From a@b Tue Mar  4 10:00:03 2003\nFrom: 3\nSubject: Re: x\n\n3\n\n",
         &[
             (0, None),
             (1, Some(b'0')),

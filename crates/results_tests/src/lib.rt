@@ -5,6 +5,7 @@
 mod asking;
 #[cfg(test)]
 mod gathering;
+pub mod noting;
 #[cfg(test)]
 mod own;
 #[cfg(test)]

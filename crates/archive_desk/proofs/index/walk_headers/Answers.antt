@@ -1,4 +1,4 @@
-use Rattle.std.proofs.Common.{◌≡◌, Err, map, rules, refl, sym, ap, subst, ◌∙◌}
+use Rattle.std.proofs.Common.{◌≡◌, arith, Err, map, rules, refl, sym, ap, subst, ◌∙◌}
 use Rattle.std.specs.Prelude.{option_map, IfErr}
 use Rattle.archive_results.specs.Index.{header_of}
 use Rattle.archive_tables.proofs.LastLemmas.{lasts_then}
@@ -7,7 +7,11 @@ use Rattle.archive_desk.specs.Walking.{ListsRows, HasWalkCause}
 use Rattle.archive_desk.specs.declared.faults.DeskFault.TheVariants.{Memory}
 use Rattle.archive_desk.proofs.AskLemmas.{reasoned}
 use Rattle.archive_desk.proofs.IndexLemmas.{each_apart, listed_more, listed_all, listed_no_more, listed_unread}
-use Rattle.archive_desk.specs.Causes.{IsBroken}
+use Rattle.archive_store.specs.Held.{wants_of}
+use Rattle.archive_store.specs.Wanting.{Raises}
+use Rattle.archive_store.proofs.WantLemmas.{raises_after}
+use Rattle.archive_desk.proofs.WantLemmas.{store_wants_of}
+use Rattle.archive_desk.specs.Causes.{IsBroken, IsStoreWanting}
 use Rattle.archive_desk.proofs.CauseLemmas.{next_cause}
 use Rattle.archive_desk.proofs.index.walk_headers.Goals as goal
 
@@ -19,6 +23,7 @@ loop-headers-preserved g c =
       listed_more (map header_of) (each_apart header_of) c.args.ask.now c.args.reader.now g.S.Store c.args.walk.now c.loop-headers.walk c.next.new.self c.loop-headers.headers.items so_far.2
           c.next.ensures.lasts.returned c.in-Some.message c.push_header.new.headers.items
           (λ returned all a given w. rw c.in-Some.is at (c.in_ok-message.ensures.given returned c.args.ask.now.list all a given w)) c.in-Ok.ensures,
+      omega (arith, c.loop-headers.invariant.3, c.in_ok-message.ensures.counted.0),
     )
 
 pub returns-in-Err-clause-listed : goal.returns-in-Err-clause-listed
@@ -58,3 +63,19 @@ returns-in_err-message-clause-caused g c =
     subst (λ r. IfErr r (λ fault. IsBroken fault → HasWalkCause g.S.Store c.args.walk.now c.next.new.self c.args.ask.now)) (sym is)
     (next_cause g.S.Store c.args.ask.now c.args.walk.now c.loop-headers.walk c.next.new.self
     (λ returned all a w. let so_far = c.loop-headers.invariant.2 returned all a w in (so_far.0, so_far.1)) c.loop-headers.invariant.1 c.next.ensures.lasts fault c.in_err-message.ensures.caused)
+
+pub returns-in_err-message-clause-counted : goal.returns-in_err-message-clause-counted
+returns-in_err-message-clause-counted g c =
+    let fault = c.in_err-message.field-0.0 in
+    let first = wants_of c.args.walk.now.store.now in
+    let mid = wants_of c.loop-headers.walk.store.now in
+    let last = wants_of c.next.new.self.store.now in
+    let is : c.from_residual.result ≡ Err (desk_fault fault) = search rules in
+    subst (λ r. Raises IsStoreWanting first last r) (sym is)
+    (raises_after {A = Unit {0}} IsStoreWanting first mid last (Err (desk_fault fault)) c.loop-headers.invariant.3 (store_wants_of (Unit {0}) (Unit {0}) mid last fault c.in_err-message.ensures.counted))
+
+pub returns-in-Err-clause-counted : goal.returns-in-Err-clause-counted
+returns-in-Err-clause-counted g c = (omega (arith, c.loop-headers.invariant.3, c.in_ok-message.ensures.counted.0), (λ it. absurd (cc)))
+
+pub returns-clause-counted : goal.returns-clause-counted
+returns-clause-counted g c = (omega (arith, c.loop-headers.invariant.3, c.in_ok-message.ensures.counted.0), tt)

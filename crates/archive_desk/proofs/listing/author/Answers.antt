@@ -11,6 +11,6 @@ use Rattle.archive_desk.proofs.listing.author.Goals as goal
 pub returns-clause-listed : goal.returns-clause-listed
 returns-clause-listed g c =
     let ask = c.args.ask.now in
-    asks_right g.S.Store c.args.store.now c.read_author.new.store reason (λ a. ask_reason a ask) (λ a lines. lines.items ≡ filed_author_lines a ask c.args.key.now)
+    asks_right g.S.Store c.args.store.now c.read_author-lines.new.store reason (λ a. ask_reason a ask) (λ a lines. lines.items ≡ filed_author_lines a ask c.args.key.now)
     (λ a lines. lines.items ≡ author_lines c.args.key.now (map shown_of (view_of a ask))) (λ a lines right is. is ∙ author_is_filed a ask c.args.key.now right)
-    c.read_author.result c.read_author.ensures.held
+    c.read_author-lines.result c.read_author-lines.ensures.held

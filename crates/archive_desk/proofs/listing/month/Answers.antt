@@ -11,6 +11,6 @@ use Rattle.archive_desk.proofs.listing.month.Goals as goal
 pub returns-clause-listed : goal.returns-clause-listed
 returns-clause-listed g c =
     let ask = c.args.ask.now in
-    asks_right g.S.Store c.args.store.now c.read_month.new.store reason (λ a. ask_reason a ask) (λ a lines. lines.items ≡ filed_month_lines a ask (pos c.args.month))
+    asks_right g.S.Store c.args.store.now c.read_month-lines.new.store reason (λ a. ask_reason a ask) (λ a lines. lines.items ≡ filed_month_lines a ask (pos c.args.month))
     (λ a lines. lines.items ≡ month_lines c.args.month (map shown_of (view_of a ask))) (λ a lines right is. is ∙ month_is_filed a ask c.args.month right)
-    c.read_month.result c.read_month.ensures.held
+    c.read_month-lines.result c.read_month-lines.ensures.held

@@ -1,4 +1,4 @@
-use Rattle.std.proofs.Common.{[], ◌∙◌, sym, ap, subst, refl, append-nil, arith}
+use Rattle.std.proofs.Common.{[], sym, subst, append-nil, arith}
 use Rattle.archive_machine.specs.Records.{Archive}
 use Rattle.archive_machine.specs.Questions.{list_refusal}
 use Rattle.archive_store.specs.Replies.{refusal}
@@ -45,7 +45,9 @@ returns-in-Ok-add_last-clause-imports g c =
           (found_begun g.S.Store store c.find_list.new.store c.add_settled.new.store list c.new-intake.result c.new-intake.ensures
           (sound_too g.S.Store store c.find_list.new.store (IsFound list) (λ a b h. h.0) c.in_default.ensures.found) cutter.taken intake c.in-Ok.ensures.adds)
           c.report.result
-          (subst (λ r. Goes g.S.Store c.add_settled.new.store c.add_last.new.store (λ b c. (a : Archive) → IsUnderWay list a b cutter.taken intake → IsReadIn list cutter.stream 1 a c r)) (sym c.report.ensures) c.in-Ok-add_last.ensures.adds),
+          (subst (λ r. Goes g.S.Store c.add_settled.new.store c.add_last.new.store
+          (λ b c. (a : Archive) → IsUnderWay list a b cutter.taken intake → IsReadIn list cutter.stream 1 a c r)) (sym c.report.ensures)
+          c.in-Ok-add_last.ensures.adds),
     )
 
 pub returns-clause-imports : goal.returns-clause-imports

@@ -15,7 +15,7 @@ use Rattle.archive_desk.proofs.CallLemmas.{open_still, unbegun_lasts, was_open_b
 use Rattle.archive_desk.specs.Causes.{AreUnreadable, CausedOr, HasCause, IsBroken, IsReaderUnreadable, IsUnreadable}
 use Rattle.archive_desk.specs.Walking.{HasWalkCause}
 use Rattle.archive_desk.proofs.CauseLemmas.{cause_after, cause_among, disk_cause, each_fault, store_disk, walk_cause}
-use Rattle.archive_desk.proofs.index.read_headers.Goals as goal
+use Rattle.archive_desk.proofs.index.gather_headers.Goals as goal
 
 pub returns-clause-held : goal.returns-clause-held
 returns-clause-held g c =

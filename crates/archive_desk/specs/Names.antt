@@ -1,0 +1,12 @@
+-- How faults are named.
+use Rattle.std.specs.Prelude.{ℕ, List, codes}
+use Rattle.archive_desk.specs.declared.faults.DeskFault.{DeskFault}
+use Rattle.archive_desk.specs.declared.faults.DeskFault.TheVariants as desk
+
+abbrev pub desk_text : DeskFault → List ℕ
+desk_text desk.NoList = codes "G1 NoList"
+desk_text desk.NoPerson = codes "G2 NoPerson"
+desk_text desk.NotInView = codes "G3 NotInView"
+desk_text (desk.Store fault) = codes "G4 Store"
+desk_text desk.Memory = codes "G5 Memory"
+desk_text desk.Write = codes "G6 Write"
