@@ -12,10 +12,10 @@ use Rattle.archive_desk.specs.Faults.{ask_reason, reason}
 use Rattle.archive_desk.specs.declared.faults.DeskFault.{DeskFault}
 use Rattle.archive_desk.proofs.CallLemmas.{calls_after}
 use Rattle.archive_kept.specs.Outlines.{Outline, outline_for}
-use Rattle.archive_kept.specs.Views.{KeptView, Keeping, Clears, is_view_of, outline_at}
+use Rattle.archive_kept.specs.Views.{KeptView, Keeping, DropsOldest, is_view_of, outline_at}
 use Rattle.archive_kept.specs.Kept.{AreOf, EachIsOf, Keeps}
 use Rattle.archive_kept.proofs.ViewLemmas.{Found, found_view, outline_last}
-use Rattle.archive_kept.proofs.KeepLemmas.{of_asked, of_at, of_cleared, of_more}
+use Rattle.archive_kept.proofs.KeepLemmas.{of_asked, of_at, of_dropped, of_more}
 
 -- what is kept of it answers the question
 outline_found : (a : Archive) (ask : Ask) (reader : ReaderMarks) (kept : Keeping) (place : ℕ) → Found ask.list reader kept.views place → IsEnough a ask reader
@@ -67,7 +67,7 @@ module _ {S : Type 0} (g : Ghosts S) (ask : Ask) (reader : ReaderMarks) where
       abbrev view : KeptView
       view = record { list = ask.list; reader = reader; outline = outline }
 
-      module _ (kept later : Keeping) (rest : List KeptView) (cleared : Clears kept.views rest) where
+      module _ (kept later : Keeping) (rest : List KeptView) (dropped : DropsOldest kept.views rest) where
         -- it is put last
         module _ (put : later.views ≡ rest ++ view ∷ []) where
           pub found_put : (place : ℕ) → place ≡ length rest → Goes g old new (Finds kept later place)
@@ -79,7 +79,7 @@ module _ {S : Type 0} (g : Ghosts S) (ask : Ask) (reader : ReaderMarks) where
               let a = archive_in g old in
               let it = (makes.1 returned ready).1.2 in
               subst (λ (vs : List KeptView). EachIsOf a ask.rules ask.day vs) (sym put)
-              (of_more a ask.rules ask.day rest view (of_cleared a ask.rules ask.day kept.views rest cleared are) (of_asked a ask reader outline it.0 it.1))
+              (of_more a ask.rules ask.day rest view (of_dropped a ask.rules ask.day kept.views rest dropped are) (of_asked a ask reader outline it.0 it.1))
 
           -- where the store was open
           pub keeps_put : (HasReturned g mid → IsOpen g old) → Keeps g old new ask.rules ask.day kept later
@@ -87,3 +87,11 @@ module _ {S : Type 0} (g : Ghosts S) (ask : Ask) (reader : ReaderMarks) where
             ready = are_put;
             shut = λ returned shut. absurd (shut (up (made.0.returned returned)));
           }
+
+        -- or it is not, for want of memory
+        pub keeps_left : later.views ≡ rest → (HasReturned g mid → IsOpen g old) → Keeps g old new ask.rules ask.day kept later
+        keeps_left left up = record {
+          ready = λ returned ready are. let a = archive_in g old in
+              subst (λ (vs : List KeptView). EachIsOf a ask.rules ask.day vs) (sym left) (of_dropped a ask.rules ask.day kept.views rest dropped are);
+          shut = λ returned shut. absurd (shut (up (made.0.returned returned)));
+        }

@@ -1,5 +1,5 @@
 -- What is kept, from call to call.
-use Rattle.std.proofs.Common.{◌≡◌, refl, sym, ap, ◌∙◌, subst, inl, inr, ℕ, zero, suc, ℤ, List, [], ◌∷◌, ◌++◌, filter, map, slice_get, Option, Some}
+use Rattle.std.proofs.Common.{◌≡◌, refl, sym, ap, ◌∙◌, subst, inl, inr, ℕ, zero, suc, ℤ, List, [], ◌∷◌, ◌++◌, drop, filter, map, slice_get, Option, Some}
 use Rattle.sqlite.specs.Store.{Ghosts}
 use Rattle.policy_core.specs.Rules.{Rule}
 use Rattle.archive_machine.specs.Records.{Archive, Message}
@@ -11,7 +11,7 @@ use Rattle.archive_results.specs.Shown.{shown_of}
 use Rattle.archive_desk.specs.Asking.{IsEnough}
 use Rattle.archive_desk.proofs.MarkLemmas.{view_alike}
 use Rattle.archive_kept.specs.Outlines.{Outline, outline_for, outline_of}
-use Rattle.archive_kept.specs.Views.{KeptView, Keeping, Clears}
+use Rattle.archive_kept.specs.Views.{KeptView, Keeping, DropsOldest}
 use Rattle.archive_kept.specs.Kept.{AreOf, EachIsOf, IsOf, Keeps}
 
 -- ---- who asks does not matter
@@ -53,9 +53,14 @@ module _ (a : Archive) (rules : List Rule) (day : ℤ) where
   of_more [] v h is = (is, tt)
   of_more (x ∷ xs) v h is = (h.0, of_more xs v h.1 is)
 
-  pub of_cleared : (old rest : List KeptView) → Clears old rest → EachIsOf a rules day old → EachIsOf a rules day rest
-  of_cleared old rest (inl same) h = subst (λ (vs : List KeptView). EachIsOf a rules day vs) (sym same) h
-  of_cleared old rest (inr none) h = subst (λ (vs : List KeptView). EachIsOf a rules day vs) (sym none) tt
+  -- and fewer
+  of_later : (n : ℕ) (views : List KeptView) → EachIsOf a rules day views → EachIsOf a rules day (drop n views)
+  of_later zero views h = h
+  of_later (suc n) [] h = tt
+  of_later (suc n) (v ∷ vs) h = of_later n vs h.1
+
+  pub of_dropped : (old rest : List KeptView) → DropsOldest old rest → EachIsOf a rules day old → EachIsOf a rules day rest
+  of_dropped old rest (n, is) h = subst (λ (vs : List KeptView). EachIsOf a rules day vs) (sym is) (of_later n old h)
 
 -- ---- from call to call
 

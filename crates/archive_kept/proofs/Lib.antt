@@ -1,4 +1,6 @@
 pub mod OutlineLemmas
+pub mod KeyLemmas
+pub mod StartLemmas
 pub mod ViewLemmas
 pub mod KeepLemmas
 pub mod FindLemmas

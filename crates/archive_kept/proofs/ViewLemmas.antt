@@ -97,7 +97,7 @@ weight_more views v = sum_by-append view_weight views (v ∷ []) ∙ ap (λ n. w
 module _ (most weight : ℕ) (rest views : List KeptView) (v : KeptView) (fits : most < 2 ^ 64) (weighs : weight ≡ min (view_weight v) (2 ^ 64 - 1))
     (put : views ≡ rest ++ v ∷ []) where
   -- it has room beside the others, or it is alone
-  pub bounded_put : (min (weight_of rest) (2 ^ 64 - 1) + weight < most) ⊎ (rest ≡ []) → IsBounded (record { most = most; views = views })
+  pub bounded_put : (weight_of rest + weight < most) ⊎ (rest ≡ []) → IsBounded (record { most = most; views = views })
   bounded_put (inl room) =
       let sum = ap weight_of put ∙ weight_more rest v in
       inl (omega (arith, sum, room, weighs, fits))

@@ -3,6 +3,7 @@ use Rattle.std.specs.Prelude.{◌≡◌, ⊤, ℤ, List, [], ◌∷◌}
 use Rattle.sqlite.specs.Store.{Ghosts}
 use Rattle.policy_core.specs.Rules.{Rule}
 use Rattle.archive_machine.specs.Records.{Archive}
+use Rattle.archive_store.specs.Uncounted.{uncounted}
 use Rattle.archive_store.specs.Told.{HasReturned, IsReady, IsShut, archive_in}
 use Rattle.archive_store.specs.declared.store.Store.{Store}
 use Rattle.archive_results.specs.Access.{Ask}
@@ -24,6 +25,10 @@ abbrev pub AreOf : Archive → List Rule → ℤ → Keeping → Type 0
 AreOf archive rules day kept = EachIsOf archive rules day kept.views
 
 -- What a call does to what is kept: it stays of the archive that a store remembers; and a store that is shut adds nothing.
-pub record Keeps {S : Type 0} (g : Ghosts S) (old new : Store S) (rules : List Rule) (day : ℤ) (kept_old kept_new : Keeping) : Type 0 where
+pub record KeepsBy {S : Type 0} (g : Ghosts S) (old new : Store S) (rules : List Rule) (day : ℤ) (kept_old kept_new : Keeping) : Type 0 where
   pub ready : HasReturned g new → IsReady g old → AreOf (archive_in g old) rules day kept_old → AreOf (archive_in g old) rules day kept_new
   pub shut : HasReturned g new → IsShut g old → kept_new ≡ kept_old
+
+-- whatever is counted of the store
+abbrev pub Keeps : {S : Type 0} (g : Ghosts S) (old new : Store S) (rules : List Rule) (day : ℤ) (kept_old kept_new : Keeping) → Type 0
+Keeps g old new rules day kept_old kept_new = KeepsBy g (uncounted old) (uncounted new) rules day kept_old kept_new

@@ -1,3 +1,5 @@
 pub mod Outlines
+pub mod Keyed
+pub mod Threaded
 pub mod Views
 pub mod Kept

@@ -1,5 +1,5 @@
 -- What is kept of views: the outlines, how one is looked for, and how many bytes they take, about.
-use Rattle.std.specs.Prelude.{◌≡◌, ◌==◌, ◌&&◌, ◌⊎◌, ◌+◌, ◌*◌, ◌≤◌, ℕ, Bool, true, false, List, [], length, sum_by, slice_get, bytes_eq, Option, None, Some, option_map}
+use Rattle.std.specs.Prelude.{◌≡◌, ◌==◌, ◌&&◌, ◌⊎◌, ◌+◌, ◌*◌, ◌≤◌, ℕ, Bool, true, false, List, [], length, drop, sum_by, slice_get, bytes_eq, Option, None, Some, option_map}
 use Rattle.std.specs.Option.{option_map_or}
 use Rattle.policy_core.specs.Facts.{rank_of}
 use Rattle.archive_results.specs.Access.{ReaderMarks}
@@ -39,9 +39,10 @@ outline_at kept place = option_map (λ v. v.outline) (slice_get kept.views place
 
 -- ---- how much it is
 
--- A line counts the bytes of its author key and subject, and 176 for all else that it takes.
+-- A line counts the bytes of its author key and subject, and 192 for all else that it takes, with the two numbers by which it and its
+-- thread are found.
 abbrev pub line_weight : Line → ℕ
-line_weight line = 176 + length line.author + length line.subject
+line_weight line = 192 + length line.author + length line.subject
 
 -- a row counts 24 bytes
 abbrev pub outline_weight : Outline → ℕ
@@ -58,6 +59,6 @@ weight_of views = sum_by view_weight views
 abbrev pub IsBounded : Keeping → Type 0
 IsBounded kept = (weight_of kept.views ≤ kept.most) ⊎ (length kept.views ≡ 1)
 
--- all stays, or all is let go
-abbrev pub Clears : (old new : List KeptView) → Type 0
-Clears old new = (new ≡ old) ⊎ (new ≡ [])
+-- the oldest are let go, or none
+abbrev pub DropsOldest : (old new : List KeptView) → Type 0
+DropsOldest old new = (n : ℕ) × (new ≡ drop n old)

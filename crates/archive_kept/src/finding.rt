@@ -1,8 +1,8 @@
 //! The outline of a view, out of what is kept or read of a store.
-ghost use Rattle.std.specs.Prelude.{◌≡◌, Some, IfErr};
+ghost use Rattle.std.specs.Prelude.{◌≡◌, ◌<◌, length, Some, IfOk, IfErr};
 ghost use Rattle.archive_machine.specs.Questions.{messages_in};
-ghost use Rattle.archive_store.specs.Told.{Asks, WasOpen};
-ghost use Rattle.archive_desk.specs.Causes.{CausedOr, IsUnreadable};
+ghost use Rattle.archive_store.specs.Told.{Asks, Counts, WasOpen};
+ghost use Rattle.archive_desk.specs.Causes.{CausedOr, IsUnreadable, IsWanting};
 ghost use Rattle.archive_desk.specs.Faults.{IsAskFault, ask_reason, reason};
 ghost use Rattle.archive_kept.specs.Outlines.{outline_for};
 ghost use Rattle.archive_kept.specs.Kept.{AreOf, Keeps};
@@ -28,6 +28,7 @@ fn read_outline<T: Threader, S: Alter>(
         (λ a outline. outline ≡ outline_for a ask.now) }
     ensures fault { IfErr result (λ fault. IsAskFault fault) }
     ensures caused { CausedOr S.Store store.old store.new result (λ a. IsUnreadable a ask.now (messages_in a ask.now.list)) }
+    ensures counted { Counts IsWanting store.old store.new result }
 {
     let index = match read_index(store, alloc, ask) {
         Ok(index) => index,
@@ -35,7 +36,10 @@ fn read_outline<T: Threader, S: Alter>(
     };
     match outline_of(alloc, threader, index.headers, index.merge) {
         Ok(outline) => Ok(outline),
-        Err(_) => Err(DeskFault::Memory),
+        Err(_) => {
+            store.wants.raise();
+            Err(DeskFault::Memory)
+        }
     }
 }
 
@@ -59,6 +63,8 @@ pub fn find_outline<T: Threader, S: Alter>(
     ensures most { kept.new.most ≡ kept.old.most }
     ensures fault { IfErr result (λ fault. IsAskFault fault) }
     ensures caused { CausedOr S.Store store.old store.new result (λ a. IsUnreadable a ask.now (messages_in a ask.now.list)) }
+    ensures counted { Counts IsWanting store.old store.new result }
+    ensures there { IfOk result (λ place. place < length kept.new.views) }
 {
     let reader = match find_reader(store, ask) {
         Ok(reader) => reader,
@@ -73,6 +79,9 @@ pub fn find_outline<T: Threader, S: Alter>(
     };
     match kept.put(alloc, ask.list, reader, outline) {
         Ok(place) => Ok(place),
-        Err(_) => Err(DeskFault::Memory),
+        Err(_) => {
+            store.wants.raise();
+            Err(DeskFault::Memory)
+        }
     }
 }

@@ -1,7 +1,7 @@
 //! Views that are kept.
-ghost use Rattle.std.specs.Prelude.{◌≡◌, ◌⊎◌, ◌<◌, ◌+◌, ◌-◌, ◌^◌, ℕ, List, ◌∷◌, [], ◌++◌, length, min, position, string_bytes, option_copied, option_map, MatchResult};
+ghost use Rattle.std.specs.Prelude.{◌≡◌, ◌⊎◌, ◌<◌, ◌≤◌, ◌+◌, ◌-◌, ◌^◌, ℕ, drop, List, ◌∷◌, [], ◌++◌, length, min, position, string_bytes, option_copied, option_map, MatchResult};
 ghost use Rattle.std.specs.Option.{option_map_or};
-ghost use Rattle.archive_kept.specs.Views.{Clears, IsBounded, KeptView as Shown, is_view_of, nothing_kept, outline_at, same_address, same_reader, view_weight, weight_of};
+ghost use Rattle.archive_kept.specs.Views.{DropsOldest, IsBounded, KeptView as Shown, is_view_of, nothing_kept, outline_at, same_address, same_reader, view_weight, weight_of};
 
 use crate::outlines::Outline;
 use crate::weights::outline_weight;
@@ -91,26 +91,32 @@ fn view_weight(view: &KeptView) -> usize
         .saturating_add(outline_weight(&view.outline))
 }
 
-/// The weight of some views, as far as 64 bits go.
-fn weight_of(views: &[KeptView]) -> usize
-    ensures { result ≡ min (weight_of views.now) (2 ^ 64 - 1) }
+/// The first place from which the views have room beside one of this weight, or the end.
+fn first_with_room(views: &[KeptView], most: usize, weight: usize) -> usize
+    ensures within { result ≤ length views.now }
+    ensures room { (weight_of (drop result views.now) + weight < most) ⊎ (result ≡ length views.now) }
+    ensures first { (result ≡ 0) ⊎ (most ≤ weight_of (drop (result - 1) views.now) + weight) }
 {
-    let mut weight: usize = 0;
-    for view in views {
-        weight = weight.saturating_add(view_weight(view));
+    let mut place = views.len();
+    let mut used: usize = 0;
+    while place > 0 {
+        let more = used.saturating_add(view_weight(&views[place - 1]));
+        if more.saturating_add(weight) >= most {
+            break;
+        }
+        used = more;
+        place -= 1;
     }
-    weight
+    place
 }
 
-/// Lets go of all views where there is no room for one of this weight.
+/// Lets the oldest views go, as many as it takes that there is room for one of this weight.
 fn make_room(views: &mut Vec<KeptView>, most: usize, weight: usize)
-    ensures cleared { Clears views.old.items views.new.items }
-    ensures room { (min (weight_of views.new.items) (2 ^ 64 - 1) + weight < most) ⊎ (views.new.items ≡ []) }
+    ensures dropped { DropsOldest views.old.items views.new.items }
+    ensures room { (weight_of views.new.items + weight < most) ⊎ (views.new.items ≡ []) }
 {
-    if weight_of(views).saturating_add(weight) < most {
-        return;
-    }
-    views.clear();
+    let place = first_with_room(views, most, weight);
+    views.drain(..place);
 }
 
 impl Kept {
@@ -144,7 +150,7 @@ impl Kept {
         place_of(&self.views, list, reader)
     }
 
-    /// Keeps one view more, and answers its place. All others are let go where it does not fit beside them.
+    /// Keeps one view more, and answers its place. The oldest are let go, as many as it takes that it fits beside the others.
     pub(crate) fn put(
         &mut self,
         alloc: Global,
@@ -152,7 +158,7 @@ impl Kept {
         reader: ReaderMarks,
         outline: Outline,
     ) -> Result<usize, Memory>
-        ensures kept { (rest : List Shown) × Clears self.old.views rest × MatchResult result
+        ensures kept { (rest : List Shown) × DropsOldest self.old.views rest × MatchResult result
             (λ place. (place ≡ length rest) × (self.new.views ≡ rest ++ (record { list = list.now; reader = reader; outline = outline }) ∷ []))
             (λ _. self.new.views ≡ rest) }
         ensures most { self.new.most ≡ self.old.most }

@@ -3,7 +3,9 @@
 
 mod finding;
 mod kept;
+mod keyed;
 mod outlines;
+mod threaded;
 mod weights;
 
 pub use finding::find_outline;

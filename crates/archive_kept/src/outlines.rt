@@ -1,23 +1,25 @@
 //! Views without their texts.
-ghost use Rattle.std.specs.Prelude.{◌≡◌, List, Bool, IfOk, map, position, bytes_eq, option_map};
+ghost use Rattle.std.specs.Prelude.{◌≡◌, List, Bool, IfOk, map, option_map};
 ghost use Rattle.archive_results.specs.Index.{OfEachView, entries_in, lines_in};
-ghost use Rattle.archive_results.specs.Results.{place_of, thread_lines, within};
+ghost use Rattle.archive_results.specs.Results.{thread_lines};
 ghost use Rattle.archive_results.specs.Shown.{Shown as Seen, shown_of};
 ghost use Rattle.archive_kept.specs.Outlines.{outline_of, thread_in, trees_in};
 
+use crate::keyed::KeyedLines;
+use crate::threaded::ThreadedRows;
 use archive_machine::Key;
 use archive_results::{Header, Line};
 use mail_core::Memory;
 use std::alloc::Global;
 use std::marker::Model;
-use thread_core::{Entry, Row, Threader, thread_of, threads};
+use thread_core::{Entry, Row, Threader, threads};
 
 /// A view without its texts: the line of each message, in mailbox order, and the rows of the threads, each with the place of
-/// its message.
+/// its message. A message is found by its key, and its thread by its place, without a look at the others.
 #[derive(Drop)]
 pub struct Outline {
-    pub lines: Vec<Line>,
-    pub rows: Vec<Row>,
+    lines: KeyedLines,
+    rows: ThreadedRows,
 }
 
 impl Model for Outline {
@@ -25,43 +27,33 @@ impl Model for Outline {
 
     ghost Value = { Shown };
 
-    ghost view = { λ o. record { lines = o.lines.items; rows = o.rows.items } };
+    ghost view = { λ o. record { lines = o.lines; rows = o.rows } };
 }
 
 impl Outline {
+    /// The line of each message, in mailbox order.
+    pub fn lines(&self) -> &[Line]
+        ensures { result.now ≡ self.entry.now.lines }
+    {
+        self.lines.as_slice()
+    }
+
+    /// The rows of the threads, in preorder, each with the place of its message's line.
+    pub fn rows(&self) -> &[Row]
+        ensures { result.now ≡ self.entry.now.rows }
+    {
+        self.rows.as_slice()
+    }
+
     /// The rows of the top thread that holds the message of a key. `None` where no line has the key.
     pub fn thread(&self, key: &Key) -> Option<&[Row]>
         ensures rows { option_map (λ rows. rows.now) result ≡ thread_in self.entry.now key.now }
         ensures shown { (merge : Bool) (view : List Seen) → self.entry.now ≡ outline_of merge view
             → option_map (λ rows. trees_in self.entry.now rows.now) result ≡ thread_lines merge key.now view }
     {
-        let place = place_of(&self.lines, key)?;
-        let (first, end) = thread_of(&self.rows, place)?;
-        Some(within(&self.rows, first, end))
+        let place = self.lines.place_of(key)?;
+        self.rows.thread_at(place)
     }
-}
-
-/// Whether a line is that of the message of this key.
-fn has_key(line: &Line, key: &Key) -> bool
-    ensures { result ≡ bytes_eq line.now.key key.now }
-{
-    line.key.as_str() == key.as_str()
-}
-
-/// The place of the message of a key.
-fn place_of(lines: &[Line], key: &Key) -> Option<usize>
-    ensures { result ≡ place_of key.now lines.now }
-{
-    lines.iter().position(|line| has_key(line, key))
-}
-
-/// The rows of a range.
-fn within<'a>(rows: &'a [Row], first: usize, end: usize) -> &'a [Row]
-    ensures { result.now ≡ within (first, end) rows.entry.now }
-{
-    let (_, behind) = rows.split_at(first.min(rows.len()));
-    let (part, _) = behind.split_at(end.saturating_sub(first).min(behind.len()));
-    part
 }
 
 /// The lines of some headers, and what the headers say about threads.
@@ -96,9 +88,8 @@ pub(crate) fn outline_of<T: Threader>(
         IfOk result (λ outline. outline ≡ outline_of merge (map shown_of view))) }
 {
     let columns = columns_of(alloc, headers)?;
-    let rows = threads(alloc, threader, &columns.entries, merge)?;
-    Ok(Outline {
-        lines: columns.lines,
-        rows,
-    })
+    let threaded = threads(alloc, threader, &columns.entries, merge)?;
+    let rows = ThreadedRows::new(alloc, threaded, columns.lines.len())?;
+    let lines = KeyedLines::new(alloc, columns.lines)?;
+    Ok(Outline { lines, rows })
 }

@@ -5,8 +5,9 @@ ghost use Rattle.archive_kept.specs.Views.{line_weight, outline_weight};
 use crate::outlines::Outline;
 use archive_results::Line;
 
-/// What a line takes beside the bytes of its author key and subject.
-const LINE_BYTES: usize = 176;
+/// What a line takes beside the bytes of its author key and subject, with its place in the order of the keys and the start of
+/// its thread.
+const LINE_BYTES: usize = 192;
 
 const ROW_BYTES: usize = 24;
 
@@ -34,6 +35,6 @@ fn lines_weight(lines: &[Line]) -> usize
 pub(crate) fn outline_weight(outline: &Outline) -> usize
     ensures { result ≡ min (outline_weight outline.now) (2 ^ 64 - 1) }
 {
-    let rows = ROW_BYTES.saturating_mul(outline.rows.len());
-    lines_weight(&outline.lines).saturating_add(rows)
+    let rows = ROW_BYTES.saturating_mul(outline.rows().len());
+    lines_weight(outline.lines()).saturating_add(rows)
 }

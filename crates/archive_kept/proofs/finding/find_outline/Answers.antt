@@ -8,7 +8,7 @@ use Rattle.archive_desk.proofs.CallLemmas.{asks_last}
 use Rattle.archive_desk.proofs.CauseLemmas.{cause_after, cause_among}
 use Rattle.archive_kept.specs.Outlines.{Outline, outline_for}
 use Rattle.archive_kept.specs.Views.{is_view_of}
-use Rattle.archive_kept.proofs.FindLemmas.{found_kept, found_put, keeps_put, not_made}
+use Rattle.archive_kept.proofs.FindLemmas.{found_kept, found_put, keeps_left, keeps_put, not_made}
 use Rattle.archive_kept.proofs.finding.find_outline.Goals as goal
 
 pub returns-in-Some-clause-found : goal.returns-in-Some-clause-found
@@ -43,6 +43,14 @@ returns-in-Ok-put-clause-keeps g c =
     keeps_put g.S.Store ask c.in-Ok.reader c.args.store.now c.find_reader.new.store c.read_outline.new.store c.in-Ok.ensures.found outline
     c.in-Ok-read_outline.ensures.made c.args.kept.now c.put.new.self put.0 put.1
     (subst (λ l. c.put.new.self.views ≡ put.0 ++ (record { list = l; reader = c.in-Ok.reader; outline = outline }) ∷ []) list put.2.1) c.in-Ok.ensures.was_open
+
+pub returns-in-Err-put-clause-keeps : goal.returns-in-Err-put-clause-keeps
+returns-in-Err-put-clause-keeps g c =
+    let ask = c.args.ask.now in
+    let put = c.in-Err-put.ensures.kept in
+    let outline = c.in-Ok-read_outline.outline in
+    keeps_left g.S.Store ask c.in-Ok.reader c.args.store.now c.find_reader.new.store c.read_outline.new.store c.in-Ok.ensures.found outline
+    c.in-Ok-read_outline.ensures.made c.args.kept.now c.put.new.self put.0 put.1 put.2 c.in-Ok.ensures.was_open
 
 pub returns-in-Err-clause-caused : goal.returns-in-Err-clause-caused
 returns-in-Err-clause-caused g c = λ it.

@@ -9,6 +9,6 @@ use Rattle.archive_kept.proofs.outlines.outline_of.Goals as goal
 pub returns : goal.returns
 returns g c = λ view e.
     made_of c.args.merge (map shown_of view) _ _
-    (lines_are view c.args.headers.items _ e c.in_ok-columns.ensures.lines)
-    (rows_are c.args.merge view c.args.headers.items _ _ e c.in_ok-columns.ensures.entries
-    (c.in_ok-rows.ensures ∙ ap (λ (es : List Entry). threads_of es c.args.merge) c.deref.ensures.value))
+    (c.in_ok-lines.ensures ∙ lines_are view c.args.headers.items _ e c.in_ok-columns.ensures.lines)
+    (c.in_ok-rows.ensures ∙ rows_are c.args.merge view c.args.headers.items _ _ e c.in_ok-columns.ensures.entries
+    (c.in_ok-threaded.ensures ∙ ap (λ (es : List Entry). threads_of es c.args.merge) c.deref.ensures.value))
