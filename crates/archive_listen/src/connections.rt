@@ -14,6 +14,7 @@ pub trait Outgoing: Sink {
     fn flush(&mut self) -> Result<(), DeviceFailure>
         ensures told { Self.told self.new ≡ Self.told self.old }
         ensures sent { OnOk result (sent self.new ≡ Self.told self.new) }
+        ensures quiet { OnOk result (Self.failures self.new ≡ Self.failures self.old) }
         ensures cause { OnErr result (Self.failures self.old < Self.failures self.new) };
 
     // They are a beginning of those that it told.
@@ -23,7 +24,9 @@ pub trait Outgoing: Sink {
 /// A connection with a peer: what is read of it, and what is written to it.
 #[derive(Drop)]
 pub struct Connection<I, O> {
+    /// What the peer sends.
     pub input: I,
+    /// What it is sent.
     pub output: O,
 }
 
@@ -59,7 +62,9 @@ pub trait Listener {
 /// A listener, and the port that it listens on.
 #[derive(Drop)]
 pub struct Listening<L> {
+    /// What gives its peers.
     pub listener: L,
+    /// From 1 to 65535.
     pub port: u16,
 }
 

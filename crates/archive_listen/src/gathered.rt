@@ -6,22 +6,22 @@ use crate::connections::Outgoing;
 use mbox_core::device::{DeviceFailure, Sink, Told, WriteFault, write_bytes};
 use std::marker::Model;
 
-/// How many bytes are held back at most.
+/// How many bytes of a reply are held back at most.
 pub const ROOM: usize = 16_384;
 
-/// A sink whose bytes are passed on to another one in pieces of `ROOM`, and by `flush`. It takes no memory of its own.
+/// A sink whose bytes are passed on to another one in pieces of `N` bytes, and by `flush`. It takes no memory of its own.
 #[derive(Drop)]
-pub struct Gathered<W> {
+pub struct Gathered<W, const N: usize> {
     inner: W,
-    held: [u8; ROOM],
+    held: [u8; N],
     // Those from the first up to the last wait in `held`.
     first: usize,
     last: usize,
     faults: Told,
 }
 
-impl<W> Model for Gathered<W> {
-    ghost use Rattle.std.specs.Prelude.{◌≤◌, ◌-◌, length};
+impl<W, const N: usize> Model for Gathered<W, N> {
+    ghost use Rattle.std.specs.Prelude.{◌≤◌, ◌<◌, ◌-◌, length};
     ghost use Rattle.archive_listen.specs.Gathering.{GatheredState, rest_of};
 
     ghost Value = { GatheredState W };
@@ -29,20 +29,21 @@ impl<W> Model for Gathered<W> {
     ghost view = { λ g. record {
       inner = g.inner;
       held = rest_of g.first g.last g.held;
-      free = 16_384 - g.last;
+      free = N - g.last;
       failures = length g.faults.bytes;
     } };
 
-    ghost invariant = { λ g. (g.first ≤ g.last) × (g.last ≤ 16_384) };
+    ghost invariant = { λ g. (0 < N) × (g.first ≤ g.last) × (g.last ≤ N) };
 }
 
 /// Copies the beginning of the bytes behind the first `at` of the room, as many as fit, and answers how many.
-fn fill(room: &mut [u8; ROOM], at: usize, bytes: &[u8]) -> usize
-    requires { at ≤ 16_384 }
-    ensures count { result ≡ min (length bytes.now) (16_384 - at) }
+fn fill<const N: usize>(room: &mut [u8; N], at: usize, bytes: &[u8]) -> usize
+    requires { at ≤ N }
+    ensures count { result ≡ min (length bytes.now) (N - at) }
     ensures filled { take (at + result) room.new ≡ take at room.old ++ take result bytes.now }
 {
-    let count = bytes.len().min(ROOM - at);
+    let room = &mut room[..];
+    let count = bytes.len().min(N - at);
     room[at..at + count].copy_from_slice(&bytes[..count]);
     count
 }
@@ -50,12 +51,12 @@ fn fill(room: &mut [u8; ROOM], at: usize, bytes: &[u8]) -> usize
 /// Writes what lies in the room from the first place up to the last.
 fn write_rest<W: Sink>(
     out: &mut W,
-    room: &[u8; ROOM],
+    room: &[u8],
     first: usize,
     last: usize,
 ) -> Result<(), WriteFault>
     requires order { first ≤ last }
-    requires within { last ≤ 16_384 }
+    requires within { last ≤ length room.now }
     ensures ok { OnOk result (W.told out.new ≡ W.told out.old ++ rest_of first last room.now) }
     ensures fault { IfErr result (λ e. (e.written ≤ last - first)
         × (W.told out.new ++ rest_of (first + e.written) last room.now ≡ W.told out.old ++ rest_of first last room.now)) }
@@ -66,14 +67,15 @@ fn write_rest<W: Sink>(
     }
 }
 
-impl<W> Gathered<W> {
-    /// Nothing is held back yet.
-    pub fn new(inner: W) -> Gathered<W>
-        ensures { result ≡ record { inner = inner; held = []; free = 16_384; failures = 0 } }
+impl<W, const N: usize> Gathered<W, N> {
+    /// Nothing is held back yet, and some room is there.
+    pub fn new(inner: W) -> Gathered<W, N>
+        requires { 0 < N }
+        ensures { result ≡ record { inner = inner; held = []; free = N; failures = 0 } }
     {
         Gathered {
             inner,
-            held: [0; ROOM],
+            held: [0; N],
             first: 0,
             last: 0,
             faults: Told::new(),
@@ -88,15 +90,15 @@ impl<W> Gathered<W> {
     }
 }
 
-impl<W: Sink> Gathered<W> {
+impl<W: Sink, const N: usize> Gathered<W, N> {
     /// Passes on what is held back, or a beginning of it where that fails.
     fn pass_on(&mut self) -> Result<(), DeviceFailure>
         ensures told { W.told self.new.inner ++ self.new.held ≡ W.told self.old.inner ++ self.old.held }
-        ensures ok { OnOk result ((self.new.held ≡ []) × (self.new.free ≡ 16_384)) }
+        ensures ok { OnOk result ((self.new.held ≡ []) × (self.new.free ≡ N)) }
         ensures quiet { OnOk result (self.new.failures ≡ self.old.failures) }
         ensures cause { OnErr result (self.new.failures ≡ self.old.failures + 1) }
     {
-        match write_rest(&mut self.inner, &self.held, self.first, self.last) {
+        match write_rest(&mut self.inner, &self.held[..], self.first, self.last) {
             Ok(()) => {
                 self.first = 0;
                 self.last = 0;
@@ -111,7 +113,7 @@ impl<W: Sink> Gathered<W> {
     }
 }
 
-impl<W: Sink> Gathered<W> {
+impl<W: Sink, const N: usize> Gathered<W, N> {
     /// Sees to it that one byte more can be held back.
     fn make_room(&mut self) -> Result<(), DeviceFailure>
         ensures told { W.told self.new.inner ++ self.new.held ≡ W.told self.old.inner ++ self.old.held }
@@ -119,7 +121,7 @@ impl<W: Sink> Gathered<W> {
         ensures quiet { OnOk result (self.new.failures ≡ self.old.failures) }
         ensures cause { OnErr result (self.new.failures ≡ self.old.failures + 1) }
     {
-        if self.last == ROOM {
+        if self.last == N {
             self.pass_on()
         } else {
             Ok(())
@@ -127,7 +129,7 @@ impl<W: Sink> Gathered<W> {
     }
 }
 
-impl<W: Sink> Sink for Gathered<W> {
+impl<W: Sink, const N: usize> Sink for Gathered<W, N> {
     ghost told = { λ g. W.told g.inner ++ g.held };
 
     ghost failures = { λ g. g.failures };
@@ -140,7 +142,7 @@ impl<W: Sink> Sink for Gathered<W> {
     }
 }
 
-impl<W: Sink> Outgoing for Gathered<W> {
+impl<W: Sink, const N: usize> Outgoing for Gathered<W, N> {
     ghost sent = { λ g. W.told g.inner };
 
     fn flush(&mut self) -> Result<(), DeviceFailure> {

@@ -5,7 +5,7 @@ ghost use Rattle.archive_listen.specs.Sockets.{nothing_read};
 
 use crate::connections::{Connection, Listener, Listening, Ports};
 use crate::faults::{AcceptFault, ListenFault};
-use crate::gathered::Gathered;
+use crate::gathered::{Gathered, ROOM};
 use crate::waiting::{Span, read_within};
 use mbox_core::device::{Counted, DeviceFailure, Source, Told};
 use std::io::{ErrorKind, Read, Write};
@@ -203,6 +203,7 @@ impl<'a, R: Net> Loopback<'a, R> {
 /// The ports of 127.0.0.1.
 #[derive(Drop)]
 pub struct LoopbackPorts<'a, R> {
+    /// The system whose ports they are.
     pub rt: &'a R,
 }
 
@@ -222,7 +223,7 @@ impl<'a, R: Net + Clock> Ports for LoopbackPorts<'a, R> {
 fn connection_of<'a, R: Clock, S: Read + Write + OpenStream + Drop>(
     clock: &'a R,
     stream: S,
-) -> Result<Connection<SocketInput<'a, R, S>, Gathered<Counted<S>>>, AcceptFault>
+) -> Result<Connection<SocketInput<'a, R, S>, Gathered<Counted<S>, ROOM>>, AcceptFault>
     ensures input { IfOk result (λ c. c.input ≡ nothing_read) }
     ensures output { IfOk result (λ c. c.output ≡ record { inner = record { inner = c.output.inner.inner; told = []; failures = 0; ends = 0 }; held = []; free = 16_384; failures = 0 }) }
 {
@@ -248,12 +249,12 @@ fn connection_of<'a, R: Clock, S: Read + Write + OpenStream + Drop>(
 impl<'a, R: Net + Clock> Listener for Loopback<'a, R> {
     type Input = SocketInput<'a, R, R::Stream>;
 
-    type Output = Gathered<Counted<R::Stream>>;
+    type Output = Gathered<Counted<R::Stream>, ROOM>;
 
     fn accept(
         &mut self,
     ) -> Result<
-        Connection<SocketInput<'a, R, R::Stream>, Gathered<Counted<R::Stream>>>,
+        Connection<SocketInput<'a, R, R::Stream>, Gathered<Counted<R::Stream>, ROOM>>,
         AcceptFault,
     > {
         match self.listener.accept() {
@@ -264,7 +265,7 @@ impl<'a, R: Net + Clock> Listener for Loopback<'a, R> {
 
     fn close(
         &mut self,
-        connection: Connection<SocketInput<'a, R, R::Stream>, Gathered<Counted<R::Stream>>>,
+        connection: Connection<SocketInput<'a, R, R::Stream>, Gathered<Counted<R::Stream>, ROOM>>,
         lingers: bool,
     )
         ensures closes { ⊤ }

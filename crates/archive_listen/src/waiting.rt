@@ -11,8 +11,11 @@ use std::time::{Duration, Instant};
 /// A span of time that began, and the longest wait in it.
 #[derive(Clone, Copy, Drop)]
 pub(crate) struct Span {
+    /// When it began.
     pub since: Instant,
+    /// How long it is.
     pub whole: Duration,
+    /// The longest wait in it.
     pub most: Duration,
 }
 

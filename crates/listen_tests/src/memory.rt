@@ -2,7 +2,7 @@
 ghost use Rattle.std.specs.Prelude.{⊤};
 
 use crate::words::Words;
-use archive_listen::{AcceptFault, Connection, Gathered, ListenFault, Listener, serve_each};
+use archive_listen::{AcceptFault, Connection, Gathered, ListenFault, Listener, ROOM, serve_each};
 use mbox_core::device::Tap;
 use std::alloc::Global;
 use std::process::Abort;
@@ -61,9 +61,9 @@ struct Peers<'a> {
 impl<'a> Listener for Peers<'a> {
     type Input = Tap;
 
-    type Output = Gathered<Tap>;
+    type Output = Gathered<Tap, ROOM>;
 
-    fn accept(&mut self) -> Result<Connection<Tap, Gathered<Tap>>, AcceptFault> {
+    fn accept(&mut self) -> Result<Connection<Tap, Gathered<Tap, ROOM>>, AcceptFault> {
         let Some(peer) = self.peers.get(self.at) else {
             return Err(AcceptFault::Listener);
         };
@@ -88,7 +88,7 @@ impl<'a> Listener for Peers<'a> {
         })
     }
 
-    fn close(&mut self, connection: Connection<Tap, Gathered<Tap>>, lingers: bool)
+    fn close(&mut self, connection: Connection<Tap, Gathered<Tap, ROOM>>, lingers: bool)
         ensures closes { ⊤ }
     {
         let output = connection.output.into_inner();

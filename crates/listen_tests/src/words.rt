@@ -27,6 +27,7 @@ fn reply_to(request: &[u8]) -> (Result<u16, ConnectionFault>, &'static [u8]) {
 /// It reads up to 64 bytes once, and counts the requests that begin with `GET`.
 #[derive(Drop)]
 pub struct Words {
+    /// How many such requests came so far.
     pub found: u32,
 }
 

@@ -7,8 +7,8 @@ use Rattle.archive_listen.proofs.gathered.GatheredSink.write.Goals as goal
 pub returns-clause-faults : goal.returns-clause-faults
 returns-clause-faults g c =
     let view = c.self.view_is in
-    let some : 0 < 16384 - c.self.inside.last = subst (λ (n : ℕ). 0 < n) (sym (ap (λ s. s.free) view)) c.in_ok-make_room.ensures.ok in
+    let some : 0 < g.row.N - c.self.inside.last = subst (λ (n : ℕ). 0 < n) (sym (ap (λ s. s.free) view)) c.in_ok-make_room.ensures.ok in
     let same : length c.self.inside.faults.bytes ≡ c.args.self.now.failures = ap (λ s. s.failures) view ∙ c.in_ok-make_room.ensures.quiet in
-    let none = taken_fits ℕ c.args.bytes.now (16384 - c.self.inside.last) some in
+    let none = taken_fits ℕ c.args.bytes.now (g.row.N - c.self.inside.last) some in
     let took = ap (λ (n : ℕ). written_faults {E = ℕ} c.args.bytes.now (Ok n)) c.fill-count.ensures.count ∙ none in
     omega (arith, same, took)
