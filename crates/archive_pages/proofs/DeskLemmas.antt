@@ -41,7 +41,7 @@ unlisted_by false unknown is = refl
 unlisted_by true true is = absurd (cc)
 unlisted_by true false is = absurd (cc)
 
-on_unlisted : (a : Archive) (ask : Ask) (made : Reply) → ask_reason a ask ≡ Some (refused no_list) → listed_reply a ask.list made ≡ not_found
+pub on_unlisted : (a : Archive) (ask : Ask) (made : Reply) → ask_reason a ask ≡ Some (refused no_list) → listed_reply a ask.list made ≡ not_found
 on_unlisted a ask made is = ap (λ b. cond b made not_found)
     (unlisted_by (has_list a ask.list) (option_map_or (λ person. not (has_person a person)) ask.reader false) is)
 
@@ -56,7 +56,7 @@ module _ {S : Type 0} (g : Ghosts S) (old new : Store S) where
 
 -- ---- an mbox
 
-abbrev mbox_head : List ℕ
+abbrev pub mbox_head : List ℕ
 mbox_head = codes "HTTP/1.1 200 OK\r\nContent-Type: application/mbox\r\nConnection: close\r\n\r\n"
 
 mbox_head_is : (text : List ℕ) → mbox_head ≡ head_bytes (mbox_reply text)

@@ -1,6 +1,6 @@
 -- What is answered to what was read of a request.
 use Rattle.std.proofs.Common.{◌≡◌, ◌≤◌, ◌<◌, ◌++◌, ◌⊎◌, inl, inr, ℕ, ℤ, List, [], length, Result, Ok, Err, refl, sym, subst, arith, append-nil}
-use Rattle.std.specs.Prelude.{IfErr, IfSome}
+use Rattle.std.specs.Prelude.{IfErr, IfSome, OnOk}
 use Rattle.sqlite.specs.Store.{Ghosts}
 use Rattle.httparse.specs.Grammar.{RequestHead}
 use Rattle.httparse.specs.Spans.{RequestExceeds}
@@ -102,3 +102,7 @@ outcome_cause (Ok status) before after read_failed read_fails failed fails same 
 outcome_cause (Err Read) before after read_failed read_fails failed fails same why = absurd why
 outcome_cause (Err (Write written)) before after read_failed read_fails failed fails same why = (same, why)
 outcome_cause (Err (Broken written)) before after read_failed read_fails failed fails same why = (same, why)
+
+pub outcome_quiet : (result : Result ℕ ServeFault) (A B : Type 0) → A → OnOk result B → OnOk result (A × B)
+outcome_quiet (Ok status) A B same quiet = (same, quiet)
+outcome_quiet (Err fault) A B same quiet = tt

@@ -1,5 +1,5 @@
 -- What is found in a store and in what is kept of it, and then written.
-use Rattle.std.proofs.Common.{◌≡◌, inl, inr, ℕ, List, Result, Ok, Err, sym, subst}
+use Rattle.std.proofs.Common.{◌≡◌, inl, inr, ℕ, List, Result, Ok, Err, refl, sym, subst}
 use Rattle.std.specs.Prelude.{◌⊎◌, ⊤, MatchResult}
 use Rattle.sqlite.specs.Store.{Ghosts}
 use Rattle.archive_machine.specs.Records.{Archive}
@@ -9,8 +9,14 @@ use Rattle.archive_store.proofs.Joins.{goes_as}
 use Rattle.archive_pages.specs.Replies.{Reply, Sends, Breaks, Is, unavailable}
 use Rattle.archive_pages.specs.Serving.{OfEvery, Sent, Serves, Stays}
 use Rattle.archive_pages.specs.KeptServing.{OfReady, FindsIf, ServesIf}
+use Rattle.archive_pages.specs.Calls.{KeepsOn}
 use Rattle.archive_pages.specs.declared.faults.ServeFault.{ServeFault}
+use Rattle.archive_pages.specs.declared.pages.Pages.{Pages}
 use Rattle.archive_pages.proofs.ServingLemmas.{sends_as, broken_as, breaks_as, found_sent, of_shut_when, sent_after, serves_lasts, serves_none, stays_served}
+
+-- pages that nothing was done to
+pub keeps_still : {S T : Type 0} (g : Ghosts S) (old new : Store S) (pages : Pages T) → KeepsOn g old new pages pages
+keeps_still g old new pages = record { same = refl; keeps = record { ready = λ returned ready of. of; shut = λ returned shut. refl } }
 
 module _ {S : Type 0} (g : Ghosts S) (before after : List ℕ) (result : Result ℕ ServeFault) where
   module _ (old new : Store S) where

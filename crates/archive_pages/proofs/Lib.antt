@@ -6,6 +6,9 @@ mod PromiseLaws
 pub mod ServingLemmas
 mod KeptLemmas
 mod HeadReading
+mod UnroutedLemmas
 mod DeskLemmas
+mod PlaceLemmas
+mod CauseLemmas
 pub mod AnswerExamples
 pub mod RunningLemmas

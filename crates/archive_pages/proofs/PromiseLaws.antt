@@ -1,5 +1,5 @@
 -- Why a withdrawn message leaves no trace in the replies to others.
-use Rattle.std.proofs.Common.{◌≡◌, ◌≢◌, ◌∙◌, ℕ, ℤ, List, map, Option, Some, None, refl, sym, ap, subst}
+use Rattle.std.proofs.Common.{◌≡◌, ◌≢◌, ◌∙◌, ℕ, ℤ, List, map, Option, Some, None, refl, sym, ap}
 use Rattle.std.specs.Prelude.{is_some, option_map}
 use Rattle.httparse.specs.Grammar.{RequestHead}
 use Rattle.policy_core.specs.Rules.{Rule}
@@ -16,7 +16,7 @@ use Rattle.archive_results.proofs.PromiseLemmas.{all_else_alike, as_if_it_never_
 use Rattle.archive_requests.specs.Requests.{asks, request_of}
 use Rattle.archive_requests.specs.Routes.{Route, route_of}
 use Rattle.archive_pages.specs.Answers.{reader_of, asking, shown_view}
-use Rattle.archive_pages.specs.Laws.{AsksFor, AsksForNoMessage, IsAskedByOthers, IsAsIfItNeverCame, LookAlike, list_of}
+use Rattle.archive_pages.specs.Laws.{IsAskedByOthers, IsAsIfItNeverCame, LookAlike, list_of}
 use Rattle.archive_pages.proofs.LawLemmas.{equal_views}
 
 -- ---- what does not turn on messages

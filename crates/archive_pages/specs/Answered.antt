@@ -9,7 +9,7 @@ use Rattle.archive_store.specs.declared.store.Store.{Store}
 use Rattle.archive_requests.specs.Heads.{BeginsWith, Exceeds, CanBecome}
 use Rattle.archive_pages.specs.Replies.{Sends, bad_request, head_too_large}
 use Rattle.archive_requests.specs.Requests.{request_of}
-use Rattle.archive_pages.specs.Answers.{reply_of, direct_reply}
+use Rattle.archive_pages.specs.Answers.{reply_of, direct_reply, unrouted_reply}
 use Rattle.archive_pages.specs.Serving.{Serves}
 use Rattle.archive_pages.specs.declared.faults.ServeFault.{ServeFault}
 use Rattle.archive_pages.specs.declared.faults.ServeFault.TheVariants.{Read, Write, Broken}
@@ -35,6 +35,11 @@ pub record IsAnswered {S : Type 0} (g : Ghosts S) (old new : Store S) (rules : L
   pub few : ((h : RequestHead) → ¬ BeginsWith all h) → length given < 8192 → ¬ RequestExceeds 64 given
       → Sends (λ reply. reply ≡ bad_request) told_before told_after result
 
+-- With routes that were made before, 404 to nobody who asks for a path that no route fits, whatever the store: never 503.
+abbrev pub IsUnrouted : (all told_before told_after : List ℕ) → Result ℕ ServeFault → Type 0
+IsUnrouted all told_before told_after result =
+    (h : RequestHead) → BeginsWith all h → IfSome (unrouted_reply (request_of h)) (λ wanted. Sends (λ reply. reply ≡ wanted) told_before told_after result)
+
 -- The input told some bytes, and was read to its end; or what came settles the answer, whatever bytes would follow.
 abbrev pub Reads : (told_before told_after : List ℕ) → (ends_before ends_after : ℕ) → (List ℕ → List ℕ → Type 0) → Type 0
 Reads told_before told_after ends_before ends_after Says = (given : List ℕ) × (told_after ≡ told_before ++ given)
@@ -47,3 +52,12 @@ ByOutcome (Ok status) answered unread = answered
 ByOutcome (Err (Write written)) answered unread = answered
 ByOutcome (Err (Broken written)) answered unread = answered
 ByOutcome (Err Read) answered unread = unread
+
+-- What a call that answers one request says of the bytes that the input told and of those that went out; or the input failed before it told a
+-- whole head, nothing went out, and the store is left as it was.
+abbrev pub AnswersBy : {S : Type 0} (g : Ghosts S) (old new : Store S) → List Rule → (day : ℤ) → (read_before read_after : List ℕ)
+    → (ends_before ends_after : ℕ) → (told_before told_after : List ℕ) → Result ℕ ServeFault → Type 0
+AnswersBy g old new rules day read_before read_after ends_before ends_after told_before told_after result = ByOutcome result
+    (Reads read_before read_after ends_before ends_after
+    (λ given all. IsAnswered g old new rules day given all told_before told_after result))
+    ((given : List ℕ) × (read_after ≡ read_before ++ given) × HasNoRequest given × (told_after ≡ told_before) × Goes g old new (λ a b. b ≡ a))

@@ -1,7 +1,7 @@
 -- The reply to a request, as a function of the archive, the policy, the day and the head (RFC 9110, RFC 9112; RFC 6750, section
 -- 3; profile: the routes and the order of the checks).
 use Rattle.std.specs.Prelude.{ℕ, ℤ, Bool, List, map, Option, Some, None, option_map, if◌then◌else◌}
-use Rattle.std.specs.Option.{option_map_or}
+use Rattle.std.specs.Option.{is_none, option_map_or}
 use Rattle.httparse.specs.Grammar.{RequestHead}
 use Rattle.civil_time.specs.Calendar.{month_of_text}
 use Rattle.policy_core.specs.Rules.{Rule}
@@ -62,10 +62,33 @@ view_reply merge (mbox list) view = mbox_reply (export_text view)
 abbrev pub listed_reply : Archive → (list : List ℕ) → Reply → Reply
 listed_reply archive list reply = if has_list archive list then reply else not_found
 
+-- of each thing that is asked of a list
+abbrev pub message_for : Ask → (key : List ℕ) → Archive → Reply
+message_for ask key archive = listed_reply archive ask.list (keyed_reply archive ask key)
+
+abbrev pub month_for : Ask → (text : List ℕ) → Archive → Reply
+month_for ask text archive = listed_reply archive ask.list (month_reply ask.list text (shown_view archive ask))
+
+abbrev pub author_for : Ask → (key : List ℕ) → Archive → Reply
+author_for ask key archive = listed_reply archive ask.list (page_reply (author_page ask.list key (author_lines key (shown_view archive ask))))
+
+abbrev pub threads_for : Ask → Archive → Reply
+threads_for ask archive = listed_reply archive ask.list (page_reply (threads_page ask.list (tree_lines (merge_of archive ask.list) (shown_view archive ask))))
+
+abbrev pub thread_for : Ask → (key : List ℕ) → Archive → Reply
+thread_for ask key archive = listed_reply archive ask.list (thread_reply (merge_of archive ask.list) ask.list key (shown_view archive ask))
+
+abbrev pub mbox_for : Ask → Archive → Reply
+mbox_for ask archive = listed_reply archive ask.list (mbox_reply (export_text (shown_view archive ask)))
+
 -- of a route on this list, where it is there
 abbrev pub list_reply : Archive → (ask_of : List ℕ → Ask) → (list : List ℕ) → Route → Reply
 list_reply archive ask_of list route =
     listed_reply archive list (view_reply (merge_of archive list) route (shown_view archive (ask_of list)))
+
+-- of all lists
+abbrev pub lists_reply : Archive → Reply
+lists_reply archive = page_reply (lists_page (list_names archive))
 
 abbrev pub route_reply : Archive → (ask_of : List ℕ → Ask) → Route → Reply
 route_reply archive ask_of lists = page_reply (lists_page (list_names archive))
@@ -96,6 +119,15 @@ direct_reply bad = Some bad_request
 direct_reply other_method = Some not_allowed
 direct_reply no_token = Some unauthorized
 direct_reply (asks token path) = None
+
+-- The reply to nobody who asks for a path that no route fits: the archive is not needed for it. None: another request; where it
+-- has a token, the person is looked for before the path.
+abbrev pub unrouted_reply : Request → Option Reply
+unrouted_reply bad = None
+unrouted_reply other_method = None
+unrouted_reply no_token = None
+unrouted_reply (asks None path) = if is_none (route_of path) then Some not_found else None
+unrouted_reply (asks (Some token) path) = None
 
 abbrev pub reply_of : Archive → List Rule → ℤ → RequestHead → Reply
 reply_of archive rules day head = request_reply archive rules day (request_of head)

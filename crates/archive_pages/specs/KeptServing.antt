@@ -2,6 +2,7 @@
 use Rattle.std.specs.Prelude.{◌≡◌, ◌⊎◌, ℕ, List, Result, MatchResult}
 use Rattle.sqlite.specs.Store.{Ghosts}
 use Rattle.archive_machine.specs.Records.{Archive}
+use Rattle.archive_store.specs.Uncounted.{uncounted}
 use Rattle.archive_store.specs.Told.{Goes, GoesIfOpen, HasReturned, IsReady, IsShut, archive_in}
 use Rattle.archive_store.specs.declared.store.Store.{Store}
 use Rattle.archive_pages.specs.Replies.{Reply, Sends, unavailable}
@@ -22,6 +23,11 @@ module _ {S : Type 0} (g : Ghosts S) (old new : Store S) (If : Archive → Type 
       (λ _. GoesIfOpen g old new (λ a b. b ≡ a))
 
   -- The same of what `Serves` says.
-  pub record ServesIf (Says : Archive → Reply → Type 0) (before after : List ℕ) (result : Result ℕ ServeFault) : Type 0 where
+  pub record ServesIfBy (Says : Archive → Reply → Type 0) (before after : List ℕ) (result : Result ℕ ServeFault) : Type 0 where
     pub sent : Sent g old new (λ a reply. If a → Says a reply) before after result
     pub shut : HasReturned g new → IsShut g old → Sends (λ reply. (reply ≡ unavailable) ⊎ ((a : Archive) → Says a reply)) before after result
+
+module _ {S : Type 0} (g : Ghosts S) (old new : Store S) (If : Archive → Type 0) where
+  -- whatever is counted of the store
+  abbrev pub ServesIf : (Says : Archive → Reply → Type 0) (before after : List ℕ) (result : Result ℕ ServeFault) → Type 0
+  ServesIf Says before after result = ServesIfBy g (uncounted old) (uncounted new) If Says before after result

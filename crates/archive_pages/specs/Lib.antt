@@ -3,7 +3,9 @@ pub mod Seen
 pub mod Answers
 pub mod Laws
 pub mod Serving
+pub mod Causes
 pub mod KeptServing
 pub mod Answered
 pub mod Running
 pub mod Reopened
+pub mod Calls

@@ -1,5 +1,5 @@
 -- A file that is closed, opened again and taken over, and a request to it.
-use Rattle.std.specs.Prelude.{◌≡◌, ◌++◌, ℕ, ℤ, List, Result}
+use Rattle.std.specs.Prelude.{◌≡◌, ℕ, ℤ, List, Result}
 use Rattle.sqlite_disk.specs.declared.Disk.{Ghosts}
 use Rattle.sqlite_disk.specs.declared.Files.{Files}
 use Rattle.sqlite_wal.specs.Reads.{AreClean}
@@ -8,12 +8,11 @@ use Rattle.sqlite.specs.Held.{Held}
 use Rattle.sqlite.specs.State.{IsLive}
 use Rattle.sqlite.specs.Files.{over_files, file_state, Finds, IsOpened}
 use Rattle.sqlite.specs.Closing.{IsCopied}
-use Rattle.httparse.specs.Grammar.{HasNoRequest}
 use Rattle.policy_core.specs.Rules.{Rule}
 use Rattle.archive_machine.specs.Records.{Archive}
-use Rattle.archive_store.specs.Told.{HoldsArchive, HasReturned, HoldsTables, archive_in, Goes}
+use Rattle.archive_store.specs.Told.{HoldsArchive, HasReturned, HoldsTables, archive_in}
 use Rattle.archive_store.specs.declared.store.Store.{Store}
-use Rattle.archive_pages.specs.Answered.{ByOutcome, IsAnswered, Reads}
+use Rattle.archive_pages.specs.Answered.{AnswersBy}
 use Rattle.archive_pages.specs.Running.{AnswersFrom}
 use Rattle.archive_pages.specs.declared.faults.ServeFault.{ServeFault}
 
@@ -33,11 +32,7 @@ module _ {D : Type 0} {g : Ghosts D} where
   -- the clause of `answer`
   abbrev pub Answers : (old new : Store (FileStore D g)) → List Rule → (day : ℤ) → (read_before read_after : List ℕ) → (ends_before ends_after : ℕ)
       → (told_before told_after : List ℕ) → Result ℕ ServeFault → Type 0
-  Answers old new rules day read_before read_after ends_before ends_after told_before told_after result = ByOutcome result
-      (Reads read_before read_after ends_before ends_after
-      (λ given all. IsAnswered over_files old new rules day given all told_before told_after result))
-      ((given : List ℕ) × (read_after ≡ read_before ++ given) × HasNoRequest given × (told_after ≡ told_before)
-      × Goes over_files old new (λ a b. b ≡ a))
+  Answers = AnswersBy over_files
 
   -- A request to a file that was closed while it held this archive, and was opened again, is answered out of this archive.
   abbrev pub AnswersReopened : (closed opened : Held (FileStore D g)) → Files D → (store new : Store (FileStore D g)) → Archive → Type 0

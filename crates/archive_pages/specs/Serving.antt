@@ -2,6 +2,7 @@
 use Rattle.std.specs.Prelude.{◌≡◌, ◌≢◌, ◌⊎◌, ℕ, List, Result, MatchResult, IfOk}
 use Rattle.sqlite.specs.Store.{Ghosts}
 use Rattle.archive_machine.specs.Records.{Archive}
+use Rattle.archive_store.specs.Uncounted.{uncounted}
 use Rattle.archive_store.specs.Told.{Goes, GoesIfOpen, HasReturned, IsReady, IsShut, archive_in}
 use Rattle.archive_store.specs.declared.store.Store.{Store}
 use Rattle.archive_pages.specs.Replies.{Reply, Sends, Breaks, IsBroken, unavailable}
@@ -29,10 +30,15 @@ module _ {S : Type 0} (g : Ghosts S) (old new : Store S) where
       ⊎ (GoesIfOpen g old new (λ a b. b ≡ a)
       × IsBroken result (λ written. HasReturned g new → IsReady g old → Breaks (Says (archive_in g old)) before after written)))
 
-  pub record Serves (Says : Archive → Reply → Type 0) (before after : List ℕ) (result : Result ℕ ServeFault) : Type 0 where
+  pub record ServesBy (Says : Archive → Reply → Type 0) (before after : List ℕ) (result : Result ℕ ServeFault) : Type 0 where
     pub sent : Sent Says before after result
     -- out of a store that is shut 503, or a reply that is the same for every archive
     pub shut : HasReturned g new → IsShut g old → Sends (λ reply. (reply ≡ unavailable) ⊎ ((a : Archive) → Says a reply)) before after result
+
+module _ {S : Type 0} (g : Ghosts S) (old new : Store S) where
+  -- whatever is counted of the store
+  abbrev pub Serves : (Says : Archive → Reply → Type 0) (before after : List ℕ) (result : Result ℕ ServeFault) → Type 0
+  Serves Says before after result = ServesBy g (uncounted old) (uncounted new) Says before after result
 
   -- What an answer leaves of a store, whatever the request and the reply, and whatever the fault: the same archive, if the
   -- connection is still open; and where a reply other than 503 went out, the store is ready for the next request.

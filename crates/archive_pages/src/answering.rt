@@ -1,20 +1,22 @@
 //! Answering a request: from the bytes of its head to the bytes of the reply.
-ghost use Rattle.std.specs.Prelude.{◌≡◌, ◌++◌, ℕ, List, OnOk, IfErr};
+ghost use Rattle.std.specs.Prelude.{◌≡◌, ◌++◌, ⊤, ℕ, List, OnOk, IfErr, IfSome};
 ghost use Rattle.httparse.specs.Grammar.{HasNoRequest};
 ghost use Rattle.archive_store.specs.Told.{Goes};
 ghost use Rattle.archive_requests.specs.Reading.{IsRequestAs};
-ghost use Rattle.archive_kept.specs.Kept.{AreOf, Keeps};
-ghost use Rattle.archive_pages.specs.Answered.{ByOutcome, IsAnswered, Reads};
+ghost use Rattle.archive_pages.specs.Answered.{AnswersBy, ByOutcome, IsAnswered, IsUnrouted, Reads};
+ghost use Rattle.archive_pages.specs.Calls.{AreKept, EndsAnswer, EndsPages, KeepsOn};
+ghost use Rattle.archive_pages.specs.Causes.{IsUnread, ServesOr};
 ghost use Rattle.archive_pages.specs.KeptServing.{OfReady};
-ghost use Rattle.archive_pages.specs.Replies.{IsReplyStop, IsServeStop};
+ghost use Rattle.archive_pages.specs.Replies.{IsServeStop};
 ghost use Rattle.archive_pages.specs.Serving.{Stays};
 
 use crate::faults::ServeFault;
+use crate::pages::Pages;
 use crate::paths::answer_request;
 use crate::replies::Failure;
 use crate::writing::write_failure;
 use archive_kept::Kept;
-use archive_requests::{MOST_BYTES, RequestRead, Routes, read_request};
+use archive_requests::{MOST_BYTES, RequestRead, read_request};
 use archive_store::Store;
 use civil_time::Day;
 use http::StatusCode;
@@ -27,29 +29,20 @@ use thread_core::Threader;
 /// Answers what was read of a request.
 fn answer_read<T: Threader, S: Alter, W: Sink>(
     store: &mut Store<S>,
-    kept: &mut Kept,
-    routes: Option<&Routes>,
-    alloc: Global,
-    policy: &Policy,
-    threader: &T,
-    day: Day,
+    pages: &mut Pages<'_, T>,
     read: &RequestRead<'_>,
     output: &mut W,
 ) -> Result<StatusCode, ServeFault>
-    ensures answered { OfReady S.Store store.old store.new (λ a. AreOf a policy.now day kept.old)
-        → (given more : List ℕ) → IsRequestAs given (given ++ more) read.now
-        → IsAnswered S.Store store.old store.new policy.now day given (given ++ more)
+    ensures answered { OfReady S.Store store.old store.new (AreKept pages.old) → (given more : List ℕ) → IsRequestAs given (given ++ more) read.now
+        → IsAnswered S.Store store.old store.new pages.old.policy.now pages.old.day given (given ++ more)
         (W.told output.old) (W.told output.new) result }
+    ensures unrouted { IfSome pages.old.routes (λ _. (given more : List ℕ) → IsRequestAs given (given ++ more) read.now
+        → IsUnrouted (given ++ more) (W.told output.old) (W.told output.new) result) }
     ensures stays { Stays S.Store store.old store.new result }
-    ensures quiet { OnOk result (W.failures output.new ≡ W.failures output.old) }
-    ensures cause { IfErr result (λ fault. IsReplyStop (W.told output.old) (W.told output.new)
-        (W.failures output.old) (W.failures output.new) fault) }
-    ensures keeps { Keeps S.Store store.old store.new policy.now day kept.old kept.new }
+    ensures ends { EndsPages S.Store W.Sink store.old store.new output.old output.new result IsUnread pages.old pages.new }
 {
     match read {
-        RequestRead::Whole(request) => answer_request(
-            store, kept, routes, alloc, policy, threader, day, request, output,
-        ),
+        RequestRead::Whole(request) => answer_request(store, pages, request, output),
         RequestRead::Malformed => write_failure(output, Failure::BadRequest),
         RequestRead::TooLarge => write_failure(output, Failure::HeadTooLarge),
     }
@@ -57,41 +50,29 @@ fn answer_read<T: Threader, S: Alter, W: Sink>(
 
 /// Answers one request as `answer` does, out of what is kept where it can, and keeps the outline of a list that it reads for
 /// threads. What is kept has to be of what the store remembers, this policy and this day: then the reply is the one of `answer`,
-/// and what is kept stays so. Nothing is kept at first (`Kept::new`), and only this call may change it. `routes`: those of the
-/// pages, or none, and then a router is made where the path is looked at, which is 503 where there is no memory for it.
+/// and what is kept stays so. Nothing is kept at first (`Pages::new`), and only this call may change it. With routes a head without
+/// a token that asks for a path that no route fits gets 404 and nothing else; without them a router is made where the path is looked
+/// at, which is 503 where there is no memory for it.
 pub fn answer_kept<T: Threader, S: Alter, R: Source, W: Sink>(
     store: &mut Store<S>,
-    kept: &mut Kept,
-    routes: Option<&Routes>,
-    alloc: Global,
-    policy: &Policy,
-    threader: &T,
-    day: Day,
+    pages: &mut Pages<'_, T>,
     input: &mut R,
     output: &mut W,
 ) -> Result<StatusCode, ServeFault>
-    ensures answered { OfReady S.Store store.old store.new (λ a. AreOf a policy.now day kept.old) → ByOutcome result
+    ensures answered { OfReady S.Store store.old store.new (AreKept pages.old) → AnswersBy S.Store store.old store.new pages.old.policy.now pages.old.day
+        (R.told input.old) (R.told input.new) (R.ends input.old) (R.ends input.new) (W.told output.old) (W.told output.new) result }
+    ensures unrouted { IfSome pages.old.routes (λ _. ByOutcome result
         (Reads (R.told input.old) (R.told input.new) (R.ends input.old) (R.ends input.new)
-        (λ given all. IsAnswered S.Store store.old store.new policy.now day given all
-        (W.told output.old) (W.told output.new) result))
-        ((given : List ℕ) × (R.told input.new ≡ R.told input.old ++ given) × HasNoRequest given
-        × (W.told output.new ≡ W.told output.old)
-        × Goes S.Store store.old store.new (λ a b. b ≡ a)) }
-    ensures keeps { Keeps S.Store store.old store.new policy.now day kept.old kept.new }
-    ensures stays { Stays S.Store store.old store.new result }
-    ensures quiet { OnOk result ((R.failures input.new ≡ R.failures input.old)
-        × (W.failures output.new ≡ W.failures output.old)) }
-    ensures cause { IfErr result (λ fault. IsServeStop (W.told output.old) (W.told output.new)
-        (R.failures input.old) (R.failures input.new)
-        (W.failures output.old) (W.failures output.new) fault) }
+        (λ given all. IsUnrouted all (W.told output.old) (W.told output.new) result)) ⊤) }
+    ensures keeps { KeepsOn S.Store store.old store.new pages.old pages.new }
+    ensures ends { EndsAnswer S.Store R.Source W.Sink store.old store.new input.old input.new output.old output.new result }
+    ensures caused { ServesOr S.Store store.old store.new result IsUnread }
 {
     let mut buffer = [0; MOST_BYTES];
     let Ok(read) = read_request(input, &mut buffer) else {
         return Err(ServeFault::Read);
     };
-    answer_read(
-        store, kept, routes, alloc, policy, threader, day, &read, output,
-    )
+    answer_read(store, pages, &read, output)
 }
 
 /// Answers one request: reads its head from `input`, writes the reply to `output`, and answers the
@@ -122,9 +103,15 @@ pub fn answer<T: Threader, S: Alter, R: Source, W: Sink>(
     ensures cause { IfErr result (λ fault. IsServeStop (W.told output.old) (W.told output.new)
         (R.failures input.old) (R.failures input.new)
         (W.failures output.old) (W.failures output.new) fault) }
+    ensures caused { ServesOr S.Store store.old store.new result IsUnread }
 {
-    let mut kept = Kept::new(alloc, 0);
-    answer_kept(
-        store, &mut kept, None, alloc, policy, threader, day, input, output,
-    )
+    let mut pages = Pages {
+        alloc,
+        policy,
+        threader,
+        day,
+        routes: None,
+        kept: Kept::new(alloc, 0),
+    };
+    answer_kept(store, &mut pages, input, output)
 }

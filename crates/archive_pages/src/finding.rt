@@ -1,10 +1,9 @@
 //! What is asked of the store and of the desk.
 ghost use Rattle.std.specs.Prelude.{◌≡◌, option_map, string_bytes};
-ghost use Rattle.archive_machine.specs.Questions.{list_names, person_of_token};
-ghost use Rattle.archive_html.specs.Pages.{lists_page};
-ghost use Rattle.archive_pages.specs.Answers.{keyed_reply, listed_reply};
-ghost use Rattle.archive_pages.specs.Replies.{page_reply};
-ghost use Rattle.archive_pages.specs.Seen.{reply_made};
+ghost use Rattle.archive_machine.specs.Questions.{person_of_token};
+ghost use Rattle.archive_pages.specs.Answers.{lists_reply, message_for};
+ghost use Rattle.archive_pages.specs.Calls.{FindsMade, FindsReply};
+ghost use Rattle.archive_pages.specs.Causes.{FindsOr, IsUnread, IsUnreadBy};
 ghost use Rattle.archive_pages.specs.Serving.{Finds};
 
 use crate::replies::{Failure, Reply, Unavailable};
@@ -20,8 +19,9 @@ pub(crate) fn find_person<S: Alter>(
     store: &mut Store<S>,
     token: &str,
 ) -> Result<Option<String>, Unavailable>
-    ensures { Finds S.Store store.old store.new result
+    ensures found { Finds S.Store store.old store.new result
         (λ a name. option_map string_bytes name ≡ person_of_token a token.now) }
+    ensures caused { FindsOr S.Store store.old store.new result IsUnread }
 {
     match store.person_of_token(token) {
         Ok(name) => Ok(name),
@@ -34,8 +34,8 @@ pub(crate) fn find_lists<S: Alter>(
     store: &mut Store<S>,
     alloc: Global,
 ) -> Result<Reply<'static>, Unavailable>
-    ensures { Finds S.Store store.old store.new result
-        (λ a reply. reply_made reply ≡ page_reply (lists_page (list_names a))) }
+    ensures found { FindsReply S.Store store.old store.new result lists_reply }
+    ensures why { FindsMade S.Store store.old store.new result IsUnread }
 {
     let names = match store.lists(alloc) {
         Ok(names) => names,
@@ -43,7 +43,10 @@ pub(crate) fn find_lists<S: Alter>(
     };
     match lists_page(alloc, &names) {
         Ok(page) => Ok(Reply::Page(page)),
-        Err(_) => Err(Unavailable),
+        Err(_) => {
+            store.wants.raise();
+            Err(Unavailable)
+        }
     }
 }
 
@@ -54,9 +57,8 @@ pub(crate) fn find_message<'p, S: Alter>(
     ask: &Ask<'p>,
     key: &str,
 ) -> Result<Reply<'p>, Unavailable>
-    ensures { Finds S.Store store.old store.new result
-        (λ a reply. reply_made reply ≡ listed_reply a ask.entry.now.list
-        (keyed_reply a ask.entry.now key.now)) }
+    ensures found { FindsReply S.Store store.old store.new result (message_for ask.entry.now key.now) }
+    ensures why { FindsMade S.Store store.old store.new result (IsUnreadBy ask.entry.now.reader) }
 {
     let Some(key) = Key::read(key) else {
         return Ok(Reply::Failed(Failure::NotFound));
@@ -65,7 +67,9 @@ pub(crate) fn find_message<'p, S: Alter>(
         Ok(Asked::Served(text)) => Ok(Reply::Message(text)),
         Ok(Asked::Denied(rule)) => Ok(Reply::Forbidden(rule)),
         Ok(Asked::Absent) => Ok(Reply::Failed(Failure::NotFound)),
-        Err(DeskFault::NoList) => Ok(Reply::Failed(Failure::NotFound)),
-        Err(_) => Err(Unavailable),
+        Err(fault) => match fault {
+            DeskFault::NoList => Ok(Reply::Failed(Failure::NotFound)),
+            _ => Err(Unavailable),
+        },
     }
 }

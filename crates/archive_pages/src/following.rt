@@ -1,11 +1,12 @@
 //! Two requests, one after the other.
 ghost use Rattle.std.specs.Prelude.{◌≡◌, ◌≢◌, IfOk};
 ghost use Rattle.archive_store.specs.Told.{GoesIfOpen, IsReady, archive_in, HasReturned};
-ghost use Rattle.archive_pages.specs.Running.{AnswersFrom};
+ghost use Rattle.archive_pages.specs.Calls.{AnswersPeer};
 ghost use Rattle.archive_pages.specs.Serving.{Stays};
 
 use crate::answering::answer;
 use crate::faults::ServeFault;
+use crate::pages::Peer;
 use archive_store::Store;
 use civil_time::Day;
 use http::StatusCode;
@@ -23,45 +24,36 @@ pub fn answer_two<T: Threader, S: Alter, R: Source, W: Sink>(
     policy: &Policy,
     threader: &T,
     day: Day,
-    first_input: &mut R,
-    first_output: &mut W,
-    second_input: &mut R,
-    second_output: &mut W,
+    first: &mut Peer<R, W>,
+    second: &mut Peer<R, W>,
 ) -> (
     Result<StatusCode, ServeFault>,
     Result<StatusCode, ServeFault>,
 )
     ensures first { HasReturned S.Store store.new → IsReady S.Store store.old
-        → AnswersFrom (archive_in S.Store store.old) policy.now day
-        (R.told first_input.old) (R.told first_input.new)
-        (R.ends first_input.old) (R.ends first_input.new)
-        (W.told first_output.old) (W.told first_output.new) result.0 }
+        → AnswersPeer R.Source W.Sink (archive_in S.Store store.old) policy.now day first.old first.new result.0 }
     ensures second { HasReturned S.Store store.new → IsReady S.Store store.old
-        → AnswersFrom (archive_in S.Store store.old) policy.now day
-        (R.told second_input.old) (R.told second_input.new)
-        (R.ends second_input.old) (R.ends second_input.new)
-        (W.told second_output.old) (W.told second_output.new) result.1 }
+        → AnswersPeer R.Source W.Sink (archive_in S.Store store.old) policy.now day second.old second.new result.1 }
     ensures stays { GoesIfOpen S.Store store.old store.new (λ a b. b ≡ a) }
-    ensures ready { IfOk result.0 (λ status. status ≢ 503
-        → Stays S.Store store.old store.new result.1) }
+    ensures ready { IfOk result.0 (λ status. status ≢ 503 → Stays S.Store store.old store.new result.1) }
 {
-    let first = answer(
+    let one = answer(
         store,
         alloc,
         policy,
         threader,
         day,
-        first_input,
-        first_output,
+        &mut first.input,
+        &mut first.output,
     );
-    let second = answer(
+    let other = answer(
         store,
         alloc,
         policy,
         threader,
         day,
-        second_input,
-        second_output,
+        &mut second.input,
+        &mut second.output,
     );
-    (first, second)
+    (one, other)
 }

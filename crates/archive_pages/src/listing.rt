@@ -1,14 +1,10 @@
-//! Pages of listings.
-ghost use Rattle.std.specs.Prelude.{◌≡◌};
-ghost use Rattle.archive_pages.specs.Answers.{listed_reply, month_reply, shown_view, thread_reply};
-ghost use Rattle.archive_pages.specs.Seen.{reply_made};
-ghost use Rattle.archive_pages.specs.Serving.{Finds};
-ghost use Rattle.archive_html.specs.Pages.{author_page, threads_page};
-ghost use Rattle.archive_machine.specs.Questions.{merge_of};
-ghost use Rattle.archive_results.specs.Results.{author_lines, tree_lines};
-ghost use Rattle.archive_kept.specs.Kept.{AreOf, Keeps};
+//! The pages that list messages: of a month, of an author, of all threads and of one.
+ghost use Rattle.std.specs.Prelude.{◌<◌, IfOk, IfSome, length};
+ghost use Rattle.archive_kept.specs.Kept.{Keeps};
+ghost use Rattle.archive_pages.specs.Answers.{author_for, month_for, thread_for, threads_for};
+ghost use Rattle.archive_pages.specs.Calls.{AreFor, FindsMade, FindsReply, FindsReplyIf, IsPlace};
+ghost use Rattle.archive_pages.specs.Causes.{FindsOr, IsUnreadBy};
 ghost use Rattle.archive_pages.specs.KeptServing.{FindsIf};
-ghost use Rattle.archive_pages.specs.Replies.{page_reply};
 
 use crate::replies::{Failure, Reply, Unavailable};
 use archive_desk::{DeskFault, author, month};
@@ -28,9 +24,8 @@ pub(crate) fn find_month<S: Alter>(
     ask: &Ask<'_>,
     text: &str,
 ) -> Result<Reply<'static>, Unavailable>
-    ensures { Finds S.Store store.old store.new result
-        (λ a reply. reply_made reply ≡ listed_reply a ask.now.list
-        (month_reply ask.now.list text.now (shown_view a ask.now))) }
+    ensures found { FindsReply S.Store store.old store.new result (month_for ask.now text.now) }
+    ensures why { FindsMade S.Store store.old store.new result (IsUnreadBy ask.now.reader) }
 {
     let Some(asked) = Month::read(text.as_bytes()) else {
         return Ok(Reply::Failed(Failure::NotFound));
@@ -38,10 +33,15 @@ pub(crate) fn find_month<S: Alter>(
     match month(store, alloc, ask, asked) {
         Ok(lines) => match month_page(alloc, ask.list, asked, &lines) {
             Ok(page) => Ok(Reply::Page(page)),
-            Err(_) => Err(Unavailable),
+            Err(_) => {
+                store.wants.raise();
+                Err(Unavailable)
+            }
         },
-        Err(DeskFault::NoList) => Ok(Reply::Failed(Failure::NotFound)),
-        Err(_) => Err(Unavailable),
+        Err(fault) => match fault {
+            DeskFault::NoList => Ok(Reply::Failed(Failure::NotFound)),
+            _ => Err(Unavailable),
+        },
     }
 }
 
@@ -52,18 +52,43 @@ pub(crate) fn find_author<S: Alter>(
     ask: &Ask<'_>,
     key: &[u8],
 ) -> Result<Reply<'static>, Unavailable>
-    ensures { Finds S.Store store.old store.new result
-        (λ a reply. reply_made reply ≡ listed_reply a ask.now.list
-        (page_reply (author_page ask.now.list key.now
-        (author_lines key.now (shown_view a ask.now))))) }
+    ensures found { FindsReply S.Store store.old store.new result (author_for ask.now key.now) }
+    ensures why { FindsMade S.Store store.old store.new result (IsUnreadBy ask.now.reader) }
 {
     match author(store, alloc, ask, key) {
         Ok(lines) => match author_page(alloc, ask.list, key, &lines) {
             Ok(page) => Ok(Reply::Page(page)),
-            Err(_) => Err(Unavailable),
+            Err(_) => {
+                store.wants.raise();
+                Err(Unavailable)
+            }
         },
-        Err(DeskFault::NoList) => Ok(Reply::Failed(Failure::NotFound)),
-        Err(_) => Err(Unavailable),
+        Err(fault) => match fault {
+            DeskFault::NoList => Ok(Reply::Failed(Failure::NotFound)),
+            _ => Err(Unavailable),
+        },
+    }
+}
+
+/// The place of the outline of the list that is asked for, which is kept, or is read and kept. `None`: there is no such list.
+fn find_place<T: Threader, S: Alter>(
+    store: &mut Store<S>,
+    kept: &mut Kept,
+    alloc: Global,
+    ask: &Ask<'_>,
+    threader: &T,
+) -> Result<Option<usize>, Unavailable>
+    ensures found { FindsIf S.Store store.old store.new (AreFor ask.now kept.old) result (λ a place. IsPlace a ask.now kept.new place) }
+    ensures there { IfOk result (λ place. IfSome place (λ at. at < length kept.new.views)) }
+    ensures keeps { Keeps S.Store store.old store.new ask.now.rules ask.now.day kept.old kept.new }
+    ensures caused { FindsOr S.Store store.old store.new result (IsUnreadBy ask.now.reader) }
+{
+    match find_outline(store, kept, alloc, ask, threader) {
+        Ok(place) => Ok(Some(place)),
+        Err(fault) => match fault {
+            DeskFault::NoList => Ok(None),
+            _ => Err(Unavailable),
+        },
     }
 }
 
@@ -75,22 +100,22 @@ pub(crate) fn find_threads<T: Threader, S: Alter>(
     ask: &Ask<'_>,
     threader: &T,
 ) -> Result<Reply<'static>, Unavailable>
-    ensures found { FindsIf S.Store store.old store.new (λ a. AreOf a ask.now.rules ask.now.day kept.old) result
-        (λ a reply. reply_made reply ≡ listed_reply a ask.now.list
-        (page_reply (threads_page ask.now.list (tree_lines (merge_of a ask.now.list) (shown_view a ask.now))))) }
+    ensures found { FindsReplyIf S.Store store.old store.new result (AreFor ask.now kept.old) (threads_for ask.now) }
     ensures keeps { Keeps S.Store store.old store.new ask.now.rules ask.now.day kept.old kept.new }
+    ensures why { FindsMade S.Store store.old store.new result (IsUnreadBy ask.now.reader) }
 {
-    let place = match find_outline(store, kept, alloc, ask, threader) {
-        Ok(place) => place,
-        Err(DeskFault::NoList) => return Ok(Reply::Failed(Failure::NotFound)),
-        Err(_) => return Err(Unavailable),
+    let Some(place) = find_place(store, kept, alloc, ask, threader)? else {
+        return Ok(Reply::Failed(Failure::NotFound));
     };
     let Some(outline) = kept.outline(place) else {
         return Err(Unavailable);
     };
-    match placed_threads_page(alloc, ask.list, &outline.lines, &outline.rows) {
+    match placed_threads_page(alloc, ask.list, outline.lines(), outline.rows()) {
         Ok(page) => Ok(Reply::Page(page)),
-        Err(_) => Err(Unavailable),
+        Err(_) => {
+            store.wants.raise();
+            Err(Unavailable)
+        }
     }
 }
 
@@ -103,18 +128,15 @@ pub(crate) fn find_thread<T: Threader, S: Alter>(
     threader: &T,
     key: &str,
 ) -> Result<Reply<'static>, Unavailable>
-    ensures found { FindsIf S.Store store.old store.new (λ a. AreOf a ask.now.rules ask.now.day kept.old) result
-        (λ a reply. reply_made reply ≡ listed_reply a ask.now.list
-        (thread_reply (merge_of a ask.now.list) ask.now.list key.now (shown_view a ask.now))) }
+    ensures found { FindsReplyIf S.Store store.old store.new result (AreFor ask.now kept.old) (thread_for ask.now key.now) }
     ensures keeps { Keeps S.Store store.old store.new ask.now.rules ask.now.day kept.old kept.new }
+    ensures why { FindsMade S.Store store.old store.new result (IsUnreadBy ask.now.reader) }
 {
     let Some(key) = Key::read(key) else {
         return Ok(Reply::Failed(Failure::NotFound));
     };
-    let place = match find_outline(store, kept, alloc, ask, threader) {
-        Ok(place) => place,
-        Err(DeskFault::NoList) => return Ok(Reply::Failed(Failure::NotFound)),
-        Err(_) => return Err(Unavailable),
+    let Some(place) = find_place(store, kept, alloc, ask, threader)? else {
+        return Ok(Reply::Failed(Failure::NotFound));
     };
     let Some(outline) = kept.outline(place) else {
         return Err(Unavailable);
@@ -122,8 +144,11 @@ pub(crate) fn find_thread<T: Threader, S: Alter>(
     let Some(rows) = outline.thread(&key) else {
         return Ok(Reply::Failed(Failure::NotFound));
     };
-    match placed_thread_page(alloc, ask.list, &outline.lines, rows) {
+    match placed_thread_page(alloc, ask.list, outline.lines(), rows) {
         Ok(page) => Ok(Reply::Page(page)),
-        Err(_) => Err(Unavailable),
+        Err(_) => {
+            store.wants.raise();
+            Err(Unavailable)
+        }
     }
 }

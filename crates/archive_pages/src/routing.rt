@@ -1,14 +1,11 @@
 //! The answer of a route.
-ghost use Rattle.std.specs.Prelude.{◌≡◌, OnOk, IfErr, MatchResult};
-ghost use Rattle.archive_html.specs.Pages.{author_page, lists_page, threads_page};
-ghost use Rattle.archive_machine.specs.Questions.{list_names, merge_of};
-ghost use Rattle.archive_results.specs.Results.{author_lines, export_text, tree_lines};
-ghost use Rattle.archive_kept.specs.Kept.{AreOf, Keeps};
-ghost use Rattle.archive_pages.specs.Answers.{keyed_reply, listed_reply, month_reply, shown_view, thread_reply};
-ghost use Rattle.archive_pages.specs.KeptServing.{ServesIf};
-ghost use Rattle.archive_pages.specs.Replies.{Is, IsReplyStop, Sends, mbox_reply, page_reply, unavailable};
+ghost use Rattle.std.specs.Prelude.{◌≡◌, ◌≤◌, MatchResult};
+ghost use Rattle.archive_kept.specs.Kept.{Keeps};
+ghost use Rattle.archive_pages.specs.Answers.{author_for, lists_reply, mbox_for, message_for, month_for, thread_for, threads_for};
+ghost use Rattle.archive_pages.specs.Calls.{AreFor, EndsReply, EndsServed, ServesReply, ServesReplyIf, Writes};
+ghost use Rattle.archive_pages.specs.Causes.{IsUnread, IsUnreadBy, SendsOr, ServesOr};
+ghost use Rattle.archive_pages.specs.Replies.{Is, unavailable};
 ghost use Rattle.archive_pages.specs.Seen.{reply_made};
-ghost use Rattle.archive_pages.specs.Serving.{Serves};
 
 use crate::faults::ServeFault;
 use crate::finding::{find_lists, find_message};
@@ -18,7 +15,7 @@ use crate::writing::{write_failure, write_reply};
 use archive_desk::{DeskFault, export_after};
 use archive_kept::Kept;
 use archive_results::Ask;
-use archive_store::Store;
+use archive_store::{Store, Wants};
 use http::StatusCode;
 use mbox_core::device::Sink;
 use sqlite::Alter;
@@ -31,21 +28,18 @@ const MBOX_HEAD: &[u8] =
 
 /// Writes the reply that was found, or 503 where none was.
 fn write_found<W: Sink>(
+    wants: &mut Wants,
     alloc: Global,
     output: &mut W,
     found: &Result<Reply<'_>, Unavailable>,
 ) -> Result<StatusCode, ServeFault>
-    ensures sent { MatchResult found.now
-        (λ reply. Sends (Is (reply_made reply)) (W.told output.old)
-        (W.told output.new) result)
-        (λ _. Sends (λ reply. reply ≡ unavailable) (W.told output.old)
-        (W.told output.new) result) }
-    ensures quiet { OnOk result (W.failures output.new ≡ W.failures output.old) }
-    ensures cause { IfErr result (λ fault. IsReplyStop (W.told output.old) (W.told output.new)
-        (W.failures output.old) (W.failures output.new) fault) }
+    ensures sent { MatchResult found.now (λ reply. Writes W.Sink output.old output.new (Is (reply_made reply)) result)
+        (λ _. Writes W.Sink output.old output.new (λ reply. reply ≡ unavailable) result) }
+    ensures ends { EndsReply W.Sink output.old output.new result }
+    ensures counted { MatchResult found.now (λ reply. SendsOr wants.old wants.new (reply_made reply) result) (λ _. wants.old ≤ wants.new) }
 {
     match found {
-        Ok(reply) => write_reply(alloc, output, reply),
+        Ok(reply) => write_reply(wants, alloc, output, reply),
         Err(_) => write_failure(output, Failure::Unavailable),
     }
 }
@@ -56,15 +50,11 @@ pub(crate) fn answer_lists<S: Alter, W: Sink>(
     alloc: Global,
     output: &mut W,
 ) -> Result<StatusCode, ServeFault>
-    ensures sent { Serves S.Store store.old store.new
-        (λ a reply. reply ≡ page_reply (lists_page (list_names a)))
-        (W.told output.old) (W.told output.new) result }
-    ensures quiet { OnOk result (W.failures output.new ≡ W.failures output.old) }
-    ensures cause { IfErr result (λ fault. IsReplyStop (W.told output.old) (W.told output.new)
-        (W.failures output.old) (W.failures output.new) fault) }
+    ensures sent { ServesReply S.Store W.Sink store.old store.new output.old output.new result lists_reply }
+    ensures ends { EndsServed S.Store W.Sink store.old store.new output.old output.new result IsUnread }
 {
     let found = find_lists(store, alloc);
-    write_found(alloc, output, &found)
+    write_found(&mut store.wants, alloc, output, &found)
 }
 
 /// Answers a message, asked for by its key.
@@ -75,15 +65,11 @@ pub(crate) fn answer_message<S: Alter, W: Sink>(
     key: &str,
     output: &mut W,
 ) -> Result<StatusCode, ServeFault>
-    ensures sent { Serves S.Store store.old store.new
-        (λ a reply. reply ≡ listed_reply a ask.now.list (keyed_reply a ask.now key.now))
-        (W.told output.old) (W.told output.new) result }
-    ensures quiet { OnOk result (W.failures output.new ≡ W.failures output.old) }
-    ensures cause { IfErr result (λ fault. IsReplyStop (W.told output.old) (W.told output.new)
-        (W.failures output.old) (W.failures output.new) fault) }
+    ensures sent { ServesReply S.Store W.Sink store.old store.new output.old output.new result (message_for ask.now key.now) }
+    ensures ends { EndsServed S.Store W.Sink store.old store.new output.old output.new result (IsUnreadBy ask.now.reader) }
 {
     let found = find_message(store, alloc, ask, key);
-    write_found(alloc, output, &found)
+    write_found(&mut store.wants, alloc, output, &found)
 }
 
 /// Answers the messages of a list, as an mbox, one message after the other. No reply but this one ends with the connection,
@@ -94,13 +80,9 @@ pub(crate) fn answer_mbox<S: Alter, W: Sink>(
     ask: &Ask<'_>,
     output: &mut W,
 ) -> Result<StatusCode, ServeFault>
-    ensures sent { Serves S.Store store.old store.new
-        (λ a reply. reply ≡ listed_reply a ask.now.list
-        (mbox_reply (export_text (shown_view a ask.now)))) (W.told output.old)
-        (W.told output.new) result }
-    ensures quiet { OnOk result (W.failures output.new ≡ W.failures output.old) }
-    ensures cause { IfErr result (λ fault. IsReplyStop (W.told output.old) (W.told output.new)
-        (W.failures output.old) (W.failures output.new) fault) }
+    ensures sent { ServesReply S.Store W.Sink store.old store.new output.old output.new result (mbox_for ask.now) }
+    ensures ends { EndsReply W.Sink output.old output.new result }
+    ensures caused { ServesOr S.Store store.old store.new result (IsUnreadBy ask.now.reader) }
 {
     let stop = match export_after(store, alloc, ask, MBOX_HEAD, output) {
         Ok(_) => return Ok(StatusCode::OK),
@@ -127,19 +109,14 @@ pub(crate) fn answer_month<S: Alter, W: Sink>(
     month: &str,
     output: &mut W,
 ) -> Result<StatusCode, ServeFault>
-    ensures sent { Serves S.Store store.old store.new
-        (λ a reply. reply ≡ listed_reply a ask.now.list
-        (month_reply ask.now.list month.now (shown_view a ask.now))) (W.told output.old)
-        (W.told output.new) result }
-    ensures quiet { OnOk result (W.failures output.new ≡ W.failures output.old) }
-    ensures cause { IfErr result (λ fault. IsReplyStop (W.told output.old) (W.told output.new)
-        (W.failures output.old) (W.failures output.new) fault) }
+    ensures sent { ServesReply S.Store W.Sink store.old store.new output.old output.new result (month_for ask.now month.now) }
+    ensures ends { EndsServed S.Store W.Sink store.old store.new output.old output.new result (IsUnreadBy ask.now.reader) }
 {
     let found = find_month(store, alloc, ask, month);
-    write_found(alloc, output, &found)
+    write_found(&mut store.wants, alloc, output, &found)
 }
 
-/// Answers the page of an author, whose key stands in the path with escapes.
+/// Answers the page of an author, whose key is given without escapes.
 pub(crate) fn answer_author<S: Alter, W: Sink>(
     store: &mut Store<S>,
     alloc: Global,
@@ -147,17 +124,11 @@ pub(crate) fn answer_author<S: Alter, W: Sink>(
     author: &[u8],
     output: &mut W,
 ) -> Result<StatusCode, ServeFault>
-    ensures sent { Serves S.Store store.old store.new
-        (λ a reply. reply ≡ listed_reply a ask.now.list
-        (page_reply (author_page ask.now.list author.now
-        (author_lines author.now (shown_view a ask.now))))) (W.told output.old)
-        (W.told output.new) result }
-    ensures quiet { OnOk result (W.failures output.new ≡ W.failures output.old) }
-    ensures cause { IfErr result (λ fault. IsReplyStop (W.told output.old) (W.told output.new)
-        (W.failures output.old) (W.failures output.new) fault) }
+    ensures sent { ServesReply S.Store W.Sink store.old store.new output.old output.new result (author_for ask.now author.now) }
+    ensures ends { EndsServed S.Store W.Sink store.old store.new output.old output.new result (IsUnreadBy ask.now.reader) }
 {
     let found = find_author(store, alloc, ask, author);
-    write_found(alloc, output, &found)
+    write_found(&mut store.wants, alloc, output, &found)
 }
 
 /// Answers the page of all threads, out of what is kept.
@@ -169,17 +140,12 @@ pub(crate) fn answer_threads<T: Threader, S: Alter, W: Sink>(
     threader: &T,
     output: &mut W,
 ) -> Result<StatusCode, ServeFault>
-    ensures sent { ServesIf S.Store store.old store.new (λ a. AreOf a ask.now.rules ask.now.day kept.old)
-        (λ a reply. reply ≡ listed_reply a ask.now.list
-        (page_reply (threads_page ask.now.list (tree_lines (merge_of a ask.now.list) (shown_view a ask.now)))))
-        (W.told output.old) (W.told output.new) result }
-    ensures quiet { OnOk result (W.failures output.new ≡ W.failures output.old) }
-    ensures cause { IfErr result (λ fault. IsReplyStop (W.told output.old) (W.told output.new)
-        (W.failures output.old) (W.failures output.new) fault) }
+    ensures sent { ServesReplyIf S.Store W.Sink store.old store.new output.old output.new result (AreFor ask.now kept.old) (threads_for ask.now) }
+    ensures ends { EndsServed S.Store W.Sink store.old store.new output.old output.new result (IsUnreadBy ask.now.reader) }
     ensures keeps { Keeps S.Store store.old store.new ask.now.rules ask.now.day kept.old kept.new }
 {
     let found = find_threads(store, kept, alloc, ask, threader);
-    write_found(alloc, output, &found)
+    write_found(&mut store.wants, alloc, output, &found)
 }
 
 /// Answers the page of the thread that holds the message of a key, out of what is kept.
@@ -192,15 +158,10 @@ pub(crate) fn answer_thread<T: Threader, S: Alter, W: Sink>(
     key: &str,
     output: &mut W,
 ) -> Result<StatusCode, ServeFault>
-    ensures sent { ServesIf S.Store store.old store.new (λ a. AreOf a ask.now.rules ask.now.day kept.old)
-        (λ a reply. reply ≡ listed_reply a ask.now.list
-        (thread_reply (merge_of a ask.now.list) ask.now.list key.now (shown_view a ask.now))) (W.told output.old)
-        (W.told output.new) result }
-    ensures quiet { OnOk result (W.failures output.new ≡ W.failures output.old) }
-    ensures cause { IfErr result (λ fault. IsReplyStop (W.told output.old) (W.told output.new)
-        (W.failures output.old) (W.failures output.new) fault) }
+    ensures sent { ServesReplyIf S.Store W.Sink store.old store.new output.old output.new result (AreFor ask.now kept.old) (thread_for ask.now key.now) }
+    ensures ends { EndsServed S.Store W.Sink store.old store.new output.old output.new result (IsUnreadBy ask.now.reader) }
     ensures keeps { Keeps S.Store store.old store.new ask.now.rules ask.now.day kept.old kept.new }
 {
     let found = find_thread(store, kept, alloc, ask, threader, key);
-    write_found(alloc, output, &found)
+    write_found(&mut store.wants, alloc, output, &found)
 }

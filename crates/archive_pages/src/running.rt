@@ -6,11 +6,11 @@ ghost use Rattle.archive_tables.specs.Making.{empty_archive};
 ghost use Rattle.archive_store.specs.Replies.{refusal};
 ghost use Rattle.archive_store.specs.Running.{command_of};
 ghost use Rattle.archive_store.specs.Told.{IsReady, archive_in, HasReturned};
-ghost use Rattle.archive_pages.specs.Replies.{IsServeStop};
-ghost use Rattle.archive_pages.specs.Running.{AnswersFrom};
+ghost use Rattle.archive_pages.specs.Calls.{AnswersPeer, QuietPeer, StopsPeer};
 
 use crate::answering::answer;
 use crate::faults::ServeFault;
+use crate::pages::Peer;
 use archive_store::{Command, RunStop, Store, StoreFault};
 use civil_time::Day;
 use http::StatusCode;
@@ -29,26 +29,24 @@ pub fn run_and_answer<T: Threader, S: Alter, R: Source, W: Sink>(
     policy: &Policy,
     threader: &T,
     day: Day,
-    input: &mut R,
-    output: &mut W,
+    peer: &mut Peer<R, W>,
 ) -> Result<Result<StatusCode, ServeFault>, RunStop>
-    ensures answered { IfOk result (λ answer. HasReturned S.Store store.new
-        → IsReady S.Store store.old
-        → AnswersFrom (run (archive_in S.Store store.old)
-        (map command_of commands.entry.now)).archive policy.now day
-        (R.told input.old) (R.told input.new) (R.ends input.old) (R.ends input.new)
-        (W.told output.old) (W.told output.new) answer) }
-    ensures quiet { IfOk result (λ answer. OnOk answer
-        ((R.failures input.new ≡ R.failures input.old)
-        × (W.failures output.new ≡ W.failures output.old))) }
-    ensures cause { IfOk result (λ answer. IfErr answer (λ fault. IsServeStop
-        (W.told output.old) (W.told output.new) (R.failures input.old) (R.failures input.new)
-        (W.failures output.old) (W.failures output.new) fault)) }
-    ensures stopped { IfErr result (λ stop. (refusal stop.fault ≡ None) × (input.new ≡ input.old)
-        × (output.new ≡ output.old)) }
+    ensures answered { IfOk result (λ answer. HasReturned S.Store store.new → IsReady S.Store store.old → AnswersPeer R.Source W.Sink
+        (run (archive_in S.Store store.old) (map command_of commands.entry.now)).archive policy.now day peer.old peer.new answer) }
+    ensures quiet { IfOk result (λ answer. OnOk answer (QuietPeer R.Source W.Sink peer.old peer.new)) }
+    ensures cause { IfOk result (λ answer. IfErr answer (λ fault. StopsPeer R.Source W.Sink peer.old peer.new fault)) }
+    ensures stopped { IfErr result (λ stop. (refusal stop.fault ≡ None) × (peer.new ≡ peer.old)) }
 {
     match store.run(alloc, commands) {
-        Ok(_outcomes) => Ok(answer(store, alloc, policy, threader, day, input, output)),
+        Ok(_outcomes) => Ok(answer(
+            store,
+            alloc,
+            policy,
+            threader,
+            day,
+            &mut peer.input,
+            &mut peer.output,
+        )),
         Err(stop) => Err(stop),
     }
 }
@@ -61,26 +59,16 @@ pub fn run_and_answer_in_memory<T: Threader, R: Source, W: Sink>(
     policy: &Policy,
     threader: &T,
     day: Day,
-    input: &mut R,
-    output: &mut W,
+    peer: &mut Peer<R, W>,
 ) -> Result<Result<StatusCode, ServeFault>, StoreFault>
-    ensures answered { IfOk result (λ answer. AnswersFrom
-        (run empty_archive (map command_of commands.entry.now)).archive policy.now day
-        (R.told input.old) (R.told input.new) (R.ends input.old) (R.ends input.new)
-        (W.told output.old) (W.told output.new) answer) }
-    ensures quiet { IfOk result (λ answer. OnOk answer
-        ((R.failures input.new ≡ R.failures input.old)
-        × (W.failures output.new ≡ W.failures output.old))) }
-    ensures cause { IfOk result (λ answer. IfErr answer (λ fault. IsServeStop
-        (W.told output.old) (W.told output.new) (R.failures input.old) (R.failures input.new)
-        (W.failures output.old) (W.failures output.new) fault)) }
-    ensures stopped { IfErr result (λ fault. (refusal fault ≡ None) × (input.new ≡ input.old)
-        × (output.new ≡ output.old)) }
+    ensures answered { IfOk result (λ answer. AnswersPeer R.Source W.Sink
+        (run empty_archive (map command_of commands.entry.now)).archive policy.now day peer.old peer.new answer) }
+    ensures quiet { IfOk result (λ answer. OnOk answer (QuietPeer R.Source W.Sink peer.old peer.new)) }
+    ensures cause { IfOk result (λ answer. IfErr answer (λ fault. StopsPeer R.Source W.Sink peer.old peer.new fault)) }
+    ensures stopped { IfErr result (λ fault. (refusal fault ≡ None) × (peer.new ≡ peer.old)) }
 {
     let mut store = Store::open_in_memory(alloc)?;
-    match run_and_answer(
-        &mut store, alloc, commands, policy, threader, day, input, output,
-    ) {
+    match run_and_answer(&mut store, alloc, commands, policy, threader, day, peer) {
         Ok(answer) => Ok(answer),
         Err(stop) => Err(stop.fault),
     }

@@ -1,10 +1,12 @@
 //! Writing a reply.
-ghost use Rattle.std.specs.Prelude.{◌≡◌, IfOk, IfErr, OnOk, string_bytes};
-ghost use Rattle.archive_pages.specs.Replies.{head_bytes, sized, forbidden, Is, IsReplyStop, Sends};
+ghost use Rattle.std.specs.Prelude.{◌≡◌, IfOk, string_bytes};
+ghost use Rattle.archive_pages.specs.Calls.{EndsMade, EndsReply, Writes};
+ghost use Rattle.archive_pages.specs.Replies.{head_bytes, sized, forbidden, Is};
 ghost use Rattle.archive_pages.specs.Seen.{failure_reply, reply_made};
 
 use crate::faults::ServeFault;
 use crate::replies::{Failure, Reply};
+use archive_store::Wants;
 use http::StatusCode;
 use mbox_core::device::{Sink, write_bytes, write_two};
 use std::alloc::{AllocError, Global};
@@ -14,11 +16,8 @@ pub(crate) fn write_failure<W: Sink>(
     output: &mut W,
     failure: Failure,
 ) -> Result<StatusCode, ServeFault>
-    ensures sent { Sends (λ r. r ≡ failure_reply failure) (W.told output.old)
-        (W.told output.new) result }
-    ensures quiet { OnOk result (W.failures output.new ≡ W.failures output.old) }
-    ensures cause { IfErr result (λ fault. IsReplyStop (W.told output.old) (W.told output.new)
-        (W.failures output.old) (W.failures output.new) fault) }
+    ensures sent { Writes W.Sink output.old output.new (λ r. r ≡ failure_reply failure) result }
+    ensures ends { EndsReply W.Sink output.old output.new result }
 {
     write_bytes(output, failure.reply())?;
     Ok(failure.status())
@@ -31,8 +30,7 @@ fn sized_head(
     content_type: &str,
     body: &[u8],
 ) -> Result<String, AllocError>
-    ensures { IfOk result (λ head. string_bytes head
-        ≡ head_bytes (sized status content_type.now body.now)) }
+    ensures { IfOk result (λ head. string_bytes head ≡ head_bytes (sized status content_type.now body.now)) }
 {
     let length = body.len();
     format!(in alloc;
@@ -43,19 +41,18 @@ fn sized_head(
 /// Writes a reply whose length its head tells. Where there is no memory for its head, 503 goes out
 /// in its place.
 fn write_sized<W: Sink>(
+    wants: &mut Wants,
     alloc: Global,
     output: &mut W,
     status: StatusCode,
     content_type: &str,
     body: &[u8],
 ) -> Result<StatusCode, ServeFault>
-    ensures sent { Sends (Is (sized status content_type.now body.now))
-        (W.told output.old) (W.told output.new) result }
-    ensures quiet { OnOk result (W.failures output.new ≡ W.failures output.old) }
-    ensures cause { IfErr result (λ fault. IsReplyStop (W.told output.old) (W.told output.new)
-        (W.failures output.old) (W.failures output.new) fault) }
+    ensures sent { Writes W.Sink output.old output.new (Is (sized status content_type.now body.now)) result }
+    ensures ends { EndsMade W.Sink output.old output.new wants.old wants.new (sized status content_type.now body.now) result }
 {
     let Ok(head) = sized_head(alloc, status, content_type, body) else {
+        wants.raise();
         return write_failure(output, Failure::Unavailable);
     };
     match write_two(output, head.as_bytes(), body) {
@@ -66,52 +63,60 @@ fn write_sized<W: Sink>(
 
 /// Writes the denial of a message by a rule.
 fn write_denial<W: Sink>(
+    wants: &mut Wants,
     alloc: Global,
     output: &mut W,
     rule: &str,
 ) -> Result<StatusCode, ServeFault>
-    ensures sent { Sends (Is (forbidden rule.now)) (W.told output.old)
-        (W.told output.new) result }
-    ensures quiet { OnOk result (W.failures output.new ≡ W.failures output.old) }
-    ensures cause { IfErr result (λ fault. IsReplyStop (W.told output.old) (W.told output.new)
-        (W.failures output.old) (W.failures output.new) fault) }
+    ensures sent { Writes W.Sink output.old output.new (Is (forbidden rule.now)) result }
+    ensures ends { EndsMade W.Sink output.old output.new wants.old wants.new (forbidden rule.now) result }
 {
     let status = StatusCode::FORBIDDEN;
     match format!(in alloc; "{status}: {rule}\n") {
         Ok(body) => write_sized(
+            wants,
             alloc,
             output,
             status,
             "text/plain; charset=us-ascii",
             body.as_bytes(),
         ),
-        Err(_) => write_failure(output, Failure::Unavailable),
+        Err(_) => {
+            wants.raise();
+            write_failure(output, Failure::Unavailable)
+        }
     }
 }
 
 /// Writes a reply, and answers its status. Where there is no memory for its head, 503 goes out in
 /// its place. Where the writer fails, exactly the first `written` bytes went out.
 pub(crate) fn write_reply<W: Sink>(
+    wants: &mut Wants,
     alloc: Global,
     output: &mut W,
     reply: &Reply<'_>,
 ) -> Result<StatusCode, ServeFault>
-    ensures sent { Sends (Is (reply_made reply.now)) (W.told output.old)
-        (W.told output.new) result }
-    ensures quiet { OnOk result (W.failures output.new ≡ W.failures output.old) }
-    ensures cause { IfErr result (λ fault. IsReplyStop (W.told output.old) (W.told output.new)
-        (W.failures output.old) (W.failures output.new) fault) }
+    ensures sent { Writes W.Sink output.old output.new (Is (reply_made reply.now)) result }
+    ensures ends { EndsMade W.Sink output.old output.new wants.old wants.new (reply_made reply.now) result }
 {
     match reply {
         Reply::Page(page) => write_sized(
+            wants,
             alloc,
             output,
             StatusCode::OK,
             "text/html; charset=us-ascii",
             page,
         ),
-        Reply::Message(text) => write_sized(alloc, output, StatusCode::OK, "message/rfc822", text),
-        Reply::Forbidden(rule) => write_denial(alloc, output, rule),
+        Reply::Message(text) => write_sized(
+            wants,
+            alloc,
+            output,
+            StatusCode::OK,
+            "message/rfc822",
+            text,
+        ),
+        Reply::Forbidden(rule) => write_denial(wants, alloc, output, rule),
         Reply::Failed(failure) => write_failure(output, *failure),
     }
 }

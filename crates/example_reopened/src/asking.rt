@@ -18,7 +18,9 @@ use thread_core::Threader;
 /// What a reader is shown of a list: the messages of a month, and the threads of all.
 #[derive(Drop)]
 pub struct Shown {
+    /// The lines of the month, by the sent date.
     pub month: Vec<Line>,
+    /// The rows of all threads.
     pub threads: Vec<TreeLine>,
 }
 

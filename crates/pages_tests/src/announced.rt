@@ -1,7 +1,9 @@
 //! What is said before the first connection.
 use crate::peers::{Peer, Peers};
 use crate::serving::{GETS, LISTS, MOST, fill, today};
-use archive_serve::{ServeStop, serve};
+use archive_listen::{Gathered, ROOM};
+use archive_pages::Pages;
+use archive_serve::{PageService, ServeStop, serve};
 use archive_store::Store;
 use mbox_core::device::Tap;
 use policy_core::Policy;
@@ -73,15 +75,13 @@ fn says_where<S: Alter>(
     case: &Case,
 ) -> Result<(), Fail> {
     let mut listener = Peers::new(alloc, &PEERS);
-    let mut output = Tap::new(alloc, b"", case.room)?;
+    let mut output: Gathered<Tap, ROOM> = Gathered::new(Tap::new(alloc, b"", case.room)?);
     let mut faults = Tap::new(alloc, b"", 1000)?;
+    let policy = Policy::open();
+    let mut pages = PageService::new(Pages::new(alloc, &policy, &PlainThreader, today()?, MOST));
     let outcome = serve(
-        alloc,
         store,
-        &Policy::open(),
-        &PlainThreader,
-        today()?,
-        MOST,
+        &mut pages,
         &mut listener,
         case.port,
         case.count,
@@ -89,7 +89,7 @@ fn says_where<S: Alter>(
         &mut faults,
     );
     assert_eq!(rt; outcome, case.outcome);
-    assert_eq!(rt; output.bytes(), case.said);
+    assert_eq!(rt; output.into_inner().bytes(), case.said);
     assert_eq!(rt; listener.got.as_slice(), case.got);
     assert!(rt; faults.bytes().is_empty());
     Ok(())

@@ -39,7 +39,7 @@ const LINE: &[u8] = b"A body takes more bytes than a page of the database has.\n
 const LINES: usize = 100;
 
 /// 503.
-const UNAVAILABLE: &[u8] =
+pub const UNAVAILABLE: &[u8] =
     b"HTTP/1.1 503 Service Unavailable\r\nContent-Type: text/plain; charset=us-ascii\r\nContent-Length: 24\r\n\
       Connection: close\r\n\r\n503 Service Unavailable\n";
 
@@ -156,7 +156,7 @@ fn take_step<S: Alter>(
 }
 
 /// A cache of one page, so that the pages of each message are read from a disk.
-fn one_page() -> Options {
+pub fn one_page() -> Options {
     Options {
         cache_pages: 1,
         ..Options::new(1)
@@ -243,7 +243,7 @@ fn ask_over(
 }
 
 /// The most calls of a disk over which no store is opened.
-fn last_shut(rt: &impl Abort, alloc: Global, files: &Files<Memory>) -> Result<u64, Fail> {
+pub fn last_shut(rt: &impl Abort, alloc: Global, files: &Files<Memory>) -> Result<u64, Fail> {
     let (mut shut, mut open) = (0, CALLS);
     for _turn in 0..HALVINGS {
         let calls = shut / 2 + open / 2;

@@ -52,7 +52,7 @@ const CASES: [Case; 14] = [
 ];
 
 /// The list `soc` with two messages, the second of a sender that is none.
-fn damaged(alloc: Global) -> Result<Store<MemStore>, Fail> {
+pub fn damaged(alloc: Global) -> Result<Store<MemStore>, Fail> {
     let mut store = Store::open_in_memory(alloc)?;
     store.list_add("soc")?;
     import(&mut store, alloc, "soc", TWO)?;

@@ -1,7 +1,8 @@
 //! Peers that fail at each byte, and the next ones.
 use crate::peers::{ALL, Peer, Peers};
 use crate::serving::{GET, GETS, LISTS, MOST, fill, joined, today};
-use archive_serve::serve_on;
+use archive_pages::Pages;
+use archive_serve::{PageService, serve_on};
 use archive_store::Store;
 use mbox_core::device::Tap;
 use policy_core::Policy;
@@ -23,17 +24,9 @@ fn is_followed<S: Alter>(
     let peers = [peer, GETS];
     let mut listener = Peers::new(alloc, &peers);
     let mut faults = Tap::new(alloc, b"", 1000)?;
-    let outcome = serve_on(
-        alloc,
-        store,
-        &Policy::open(),
-        &PlainThreader,
-        today()?,
-        MOST,
-        &mut listener,
-        2,
-        &mut faults,
-    );
+    let policy = Policy::open();
+    let mut pages = PageService::new(Pages::new(alloc, &policy, &PlainThreader, today()?, MOST));
+    let outcome = serve_on(store, &mut pages, &mut listener, 2, &mut faults);
     assert_eq!(rt; outcome, Ok(()));
     assert_eq!(rt;
         listener.got.as_slice(),

@@ -4,7 +4,7 @@ use crate::links::{
     FIRST, PAGES, POLICY, Past, WITHDRAWN, fill, first_key, reply, request_for, thread_path,
 };
 use archive_kept::Kept;
-use archive_pages::answer_kept;
+use archive_pages::{Pages, answer_kept};
 use archive_requests::Routes;
 use archive_store::Store;
 use desk_tests::noting::Noting;
@@ -27,56 +27,38 @@ fn paths(alloc: Global) -> Result<Vec<Vec<u8>>, Fail> {
     Ok(paths)
 }
 
-/// What is kept, and by which routes paths are looked at.
-#[derive(Drop)]
-struct Keeper {
-    kept: Kept,
-    routes: Option<Routes>,
-}
-
-impl Keeper {
-    /// The reply to a request for a path, out of what is kept.
-    fn reply<T: Threader, S: Alter>(
-        &mut self,
-        alloc: Global,
-        store: &mut Store<S>,
-        policy: &Policy,
-        threader: &T,
-        token: Option<&str>,
-        path: &[u8],
-    ) -> Result<Tap, Fail> {
-        let request = request_for(alloc, token, path)?;
-        let mut input = Tap::new(alloc, &request, 10_000)?;
-        let mut output = Tap::new(alloc, b"", 100_000)?;
-        answer_kept(
-            store,
-            &mut self.kept,
-            self.routes.as_ref(),
-            alloc,
-            policy,
-            threader,
-            today()?,
-            &mut input,
-            &mut output,
-        )?;
-        Ok(output)
-    }
+/// The reply to a request for a path, out of what is kept.
+pub fn kept_reply<T: Threader, S: Alter>(
+    store: &mut Store<S>,
+    pages: &mut Pages<'_, T>,
+    token: Option<&str>,
+    path: &[u8],
+) -> Result<Tap, Fail> {
+    let request = request_for(pages.alloc, token, path)?;
+    let mut input = Tap::new(pages.alloc, &request, 10_000)?;
+    let mut output = Tap::new(pages.alloc, b"", 100_000)?;
+    answer_kept(store, pages, &mut input, &mut output)?;
+    Ok(output)
 }
 
 /// Each reader asks for each path; the replies are those of `answer`.
 fn all_ask<T: Threader, S: Alter>(
     rt: &impl Abort,
-    alloc: Global,
     store: &mut Store<S>,
-    keeper: &mut Keeper,
-    threader: &T,
+    pages: &mut Pages<'_, T>,
     paths: &[Vec<u8>],
 ) -> Result<(), Fail> {
-    let policy = Policy::read(alloc, POLICY)?;
     for (token, _pages) in PAGES {
         for path in paths {
-            let wanted = reply(alloc, store, &policy, &PlainThreader, token, path)?;
-            let got = keeper.reply(alloc, store, &policy, threader, token, path)?;
+            let wanted = reply(
+                pages.alloc,
+                store,
+                pages.policy,
+                &PlainThreader,
+                token,
+                path,
+            )?;
+            let got = kept_reply(store, pages, token, path)?;
             assert!(rt; got.bytes() == wanted.bytes(), "{token:?}");
         }
     }
@@ -92,14 +74,21 @@ fn asks_twice<S: Alter>(
     routes: Option<Routes>,
     joins: usize,
 ) -> Result<(), Fail> {
-    let mut keeper = Keeper {
-        kept: Kept::new(alloc, most),
-        routes,
-    };
+    let policy = Policy::read(alloc, POLICY)?;
     let noting = Noting::new(alloc);
     let paths = paths(alloc)?;
-    for _ in 0..2 {
-        all_ask(rt, alloc, store, &mut keeper, &noting, &paths)?;
+    {
+        let mut pages = Pages {
+            alloc,
+            policy: &policy,
+            threader: &noting,
+            day: today()?,
+            routes,
+            kept: Kept::new(alloc, most),
+        };
+        for _ in 0..2 {
+            all_ask(rt, store, &mut pages, &paths)?;
+        }
     }
     assert_eq!(rt; noting.into_noted().joins, joins);
     Ok(())

@@ -34,3 +34,5 @@ mod requests;
 mod serving;
 #[cfg(test)]
 mod sockets;
+#[cfg(test)]
+mod standing;

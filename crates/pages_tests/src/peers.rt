@@ -1,7 +1,7 @@
 //! Peers of memory, which say something and whose directions pass so many bytes.
 ghost use Rattle.std.specs.Prelude.{⊤};
 
-use archive_listen::{AcceptFault, Connection, Gathered, Listener};
+use archive_listen::{AcceptFault, Connection, Gathered, Listener, ROOM};
 use mbox_core::device::Tap;
 use std::alloc::Global;
 
@@ -24,8 +24,11 @@ pub enum Peer {
 /// Gives these peers, and then no more. What each of them got is kept, with `+` behind it where its connection lingered.
 #[derive(Drop)]
 pub struct Peers<'a> {
+    /// Where the bytes are kept.
     pub alloc: Global,
+    /// Those that have not come yet.
     pub peers: &'a [Peer],
+    /// What all of them got.
     pub got: Vec<u8>,
 }
 
@@ -43,9 +46,9 @@ impl<'a> Peers<'a> {
 impl<'a> Listener for Peers<'a> {
     type Input = Tap;
 
-    type Output = Gathered<Tap>;
+    type Output = Gathered<Tap, ROOM>;
 
-    fn accept(&mut self) -> Result<Connection<Tap, Gathered<Tap>>, AcceptFault> {
+    fn accept(&mut self) -> Result<Connection<Tap, Gathered<Tap, ROOM>>, AcceptFault> {
         let Some((first, rest)) = self.peers.split_first() else {
             return Err(AcceptFault::Listener);
         };
@@ -70,7 +73,7 @@ impl<'a> Listener for Peers<'a> {
         })
     }
 
-    fn close(&mut self, connection: Connection<Tap, Gathered<Tap>>, lingers: bool)
+    fn close(&mut self, connection: Connection<Tap, Gathered<Tap, ROOM>>, lingers: bool)
         ensures closes { ⊤ }
     {
         let output = connection.output.into_inner();

@@ -2,7 +2,8 @@
 use crate::peers::{ALL, Peer, Peers};
 use archive_desk::import;
 use archive_listen::ListenFault;
-use archive_serve::serve_on;
+use archive_pages::Pages;
+use archive_serve::{PageService, serve_on};
 use archive_store::{Key, Party, Store};
 use civil_time::Day;
 use mbox_core::cut;
@@ -184,17 +185,8 @@ fn comes<S: Alter>(
 ) -> Result<(), Fail> {
     let mut listener = Peers::new(alloc, case.peers);
     let mut faults = Tap::new(alloc, b"", 1000)?;
-    let outcome = serve_on(
-        alloc,
-        store,
-        policy,
-        &PlainThreader,
-        today()?,
-        MOST,
-        &mut listener,
-        case.count,
-        &mut faults,
-    );
+    let mut pages = PageService::new(Pages::new(alloc, policy, &PlainThreader, today()?, MOST));
+    let outcome = serve_on(store, &mut pages, &mut listener, case.count, &mut faults);
     assert_eq!(rt; outcome, case.outcome);
     assert_eq!(rt;
         listener.got.as_slice(),

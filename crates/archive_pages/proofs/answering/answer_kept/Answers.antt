@@ -1,22 +1,38 @@
-use Rattle.archive_pages.specs.Answered.{IsAnswered}
-use Rattle.archive_pages.proofs.HeadReading.{outcome_answered, outcome_cause, said_either}
+use Rattle.archive_pages.specs.Answered.{IsAnswered, IsUnrouted}
+use Rattle.archive_pages.proofs.HeadReading.{outcome_answered, outcome_cause, outcome_quiet, said_either}
+use Rattle.archive_pages.proofs.UnroutedLemmas.{with_same}
 use Rattle.archive_pages.proofs.answering.answer_kept.Goals as goal
 
 pub returns-clause-answered : goal.returns-clause-answered
 returns-clause-answered g c = λ of.
     let told = c.in-Ok.ensures.read in
     outcome_answered c.answer_read.result (g.W.Sink.told c.args.output.now) (g.W.Sink.told c.answer_read.new.output) (g.W.Sink.failures c.args.output.now)
-    (g.W.Sink.failures c.answer_read.new.output) _ _ c.answer_read.ensures.cause (
+    (g.W.Sink.failures c.answer_read.new.output) _ _ c.answer_read.ensures.ends.reply.cause (
       told.0,
       told.1,
       said_either told.0 c.in-Ok.read _ _ _
-          (λ all. IsAnswered g.S.Store c.args.store.now c.answer_read.new.store c.args.policy.now c.args.day told.0 all (g.W.Sink.told c.args.output.now)
+          (λ all. IsAnswered g.S.Store c.args.store.now c.answer_read.new.store c.args.pages.now.policy.now c.args.pages.now.day told.0 all (g.W.Sink.told c.args.output.now)
           (g.W.Sink.told c.answer_read.new.output) c.answer_read.result)
           (λ more is. c.answer_read.ensures.answered of told.0 more is) told.2,
     )
 
-pub returns-clause-cause : goal.returns-clause-cause
-returns-clause-cause g c =
-    outcome_cause c.answer_read.result (g.W.Sink.told c.args.output.now) (g.W.Sink.told c.answer_read.new.output) (g.R.Source.failures c.args.input.now)
-    (g.R.Source.failures c.read_request.new.input) (g.W.Sink.failures c.args.output.now) (g.W.Sink.failures c.answer_read.new.output)
-    c.in-Ok.ensures.quiet c.answer_read.ensures.cause
+pub returns-clause-ends : goal.returns-clause-ends
+returns-clause-ends g c = record {
+  stays = c.answer_read.ensures.stays;
+  quiet = outcome_quiet c.answer_read.result _ _ c.in-Ok.ensures.quiet c.answer_read.ensures.ends.reply.quiet;
+  cause = outcome_cause c.answer_read.result (g.W.Sink.told c.args.output.now) (g.W.Sink.told c.answer_read.new.output) (g.R.Source.failures c.args.input.now)
+      (g.R.Source.failures c.read_request.new.input) (g.W.Sink.failures c.args.output.now) (g.W.Sink.failures c.answer_read.new.output)
+      c.in-Ok.ensures.quiet c.answer_read.ensures.ends.reply.cause;
+}
+
+pub returns-clause-unrouted : goal.returns-clause-unrouted
+returns-clause-unrouted g c = with_same c.args.pages.now.routes
+    (λ says.
+    let told = c.in-Ok.ensures.read in
+    outcome_answered c.answer_read.result (g.W.Sink.told c.args.output.now) (g.W.Sink.told c.answer_read.new.output) (g.W.Sink.failures c.args.output.now)
+    (g.W.Sink.failures c.answer_read.new.output) _ _ c.answer_read.ensures.ends.reply.cause (
+      told.0,
+      told.1,
+      said_either told.0 c.in-Ok.read _ _ _ (λ all. IsUnrouted all (g.W.Sink.told c.args.output.now) (g.W.Sink.told c.answer_read.new.output) c.answer_read.result)
+          (λ more is. says told.0 more is) told.2,
+    )) c.answer_read.ensures.unrouted

@@ -7,6 +7,8 @@ use Rattle.archive_kept.specs.Kept.{AreOf}
 use Rattle.archive_kept.proofs.KeepLemmas.{keeps_after}
 use Rattle.archive_pages.specs.Answers.{path_reply}
 use Rattle.archive_pages.specs.Replies.{unauthorized}
+use Rattle.archive_pages.specs.Causes.{IsUnread, IsUnreadBy}
+use Rattle.archive_pages.proofs.CauseLemmas.{known_reader, served_after}
 use Rattle.archive_pages.proofs.KeptLemmas.{lasts_kept, serves_if_after}
 use Rattle.archive_pages.proofs.paths.answer_holder.Goals as goal
 
@@ -16,21 +18,37 @@ returns-in-Ok-Some-clause-sent g c =
     ap (λ (n : List ℕ). Some n) c.as_str.ensures.value ∙ sym (ap (option_map string_bytes) c.in-Ok-Some.field-0-is) in
     serves_if_after g.S.Store (g.W.Sink.told c.args.output.now) (g.W.Sink.told c.answer_path.new.output) c.answer_path.result c.args.store.now c.find_person.new.store
     c.answer_path.new.store (λ a. option_map string_bytes c.in-Ok-Some.field-0 ≡ person_of_token a c.args.token.now)
-    (λ a. AreOf a c.args.policy.now c.args.day c.args.kept.now)
-    (λ a reply. reply ≡ path_reply a c.args.policy.now c.args.day c.args.path.now (Some c.as_str.result.now))
-    (λ a reply. reply ≡ option_map_or (path_reply a c.args.policy.now c.args.day c.args.path.now)
+    (λ a. AreOf a c.args.pages.now.policy.now c.args.pages.now.day c.args.pages.now.kept)
+    (λ a reply. reply ≡ path_reply a c.args.pages.now.policy.now c.args.pages.now.day c.args.path.now (Some c.as_str.result.now))
+    (λ a reply. reply ≡ option_map_or (path_reply a c.args.pages.now.policy.now c.args.pages.now.day c.args.path.now)
     (option_map (λ (x : List ℕ). Some x) (person_of_token a c.args.token.now)) unauthorized)
-    c.in-Ok-Some.ensures.0
-    (λ a r it is. subst (λ o. r ≡ option_map_or (path_reply a c.args.policy.now c.args.day c.args.path.now) (option_map (λ (x : List ℕ). Some x) o) unauthorized)
+    c.in-Ok-Some.ensures.found.0
+    (λ a r it is. subst (λ o. r ≡ option_map_or (path_reply a c.args.pages.now.policy.now c.args.pages.now.day c.args.path.now) (option_map (λ (x : List ℕ). Some x) o) unauthorized)
     (named ∙ it) is)
-    c.in-Ok-Some.ensures.1 c.answer_path.ensures.sent
+    c.in-Ok-Some.ensures.found.1 c.answer_path.ensures.sent
 
-pub returns-in-Ok-Some-clause-keeps : goal.returns-in-Ok-Some-clause-keeps
-returns-in-Ok-Some-clause-keeps g c =
-    keeps_after g.S.Store c.args.policy.now c.args.day c.args.store.now c.find_person.new.store c.answer_path.new.store c.args.kept.now c.answer_path.new.kept
-    (goes_as g.S.Store c.args.store.now c.find_person.new.store (λ a b. (b ≡ a) × (option_map string_bytes c.in-Ok-Some.field-0 ≡ person_of_token a c.args.token.now))
-    (λ a b. b ≡ a) (λ a b h. h.0) c.in-Ok-Some.ensures.0)
-    (lasts_kept g.S.Store (g.W.Sink.told c.args.output.now) (g.W.Sink.told c.answer_path.new.output) c.answer_path.result
-    c.find_person.new.store c.answer_path.new.store (λ a. AreOf a c.args.policy.now c.args.day c.args.kept.now)
-    (λ a reply. reply ≡ path_reply a c.args.policy.now c.args.day c.args.path.now (Some c.as_str.result.now)) c.answer_path.ensures.sent)
-    c.answer_path.ensures.keeps
+pub returns-in-Ok-Some-clause-ends : goal.returns-in-Ok-Some-clause-ends
+returns-in-Ok-Some-clause-ends g c =
+    let named : Some c.as_str.result.now ≡ option_map string_bytes c.in-Ok-Some.field-0 =
+    ap (λ (n : List ℕ). Some n) c.as_str.ensures.value ∙ sym (ap (option_map string_bytes) c.in-Ok-Some.field-0-is) in
+    record {
+      reply = c.answer_path.ensures.ends.reply;
+      caused = served_after g.S.Store c.args.store.now c.find_person.new.store c.answer_path.new.store (λ a. option_map string_bytes c.in-Ok-Some.field-0 ≡ person_of_token a c.args.token.now)
+          c.in-Ok-Some.ensures.found.0 c.in-Ok-Some.ensures.caused.0
+          (lasts_kept g.S.Store (g.W.Sink.told c.args.output.now) (g.W.Sink.told c.answer_path.new.output) c.answer_path.result
+          c.find_person.new.store c.answer_path.new.store (λ a. AreOf a c.args.pages.now.policy.now c.args.pages.now.day c.args.pages.now.kept)
+          (λ a reply. reply ≡ path_reply a c.args.pages.now.policy.now c.args.pages.now.day c.args.path.now (Some c.as_str.result.now)) c.answer_path.ensures.sent)
+          c.answer_path.result (IsUnreadBy (Some c.as_str.result.now)) IsUnread
+          (λ a is bad. known_reader a c.args.token.now c.as_str.result.now (sym (named ∙ is)) bad) c.answer_path.ensures.ends.caused;
+      keeps = record {
+        same = c.answer_path.ensures.ends.keeps.same;
+        keeps = keeps_after g.S.Store c.args.pages.now.policy.now c.args.pages.now.day c.args.store.now c.find_person.new.store c.answer_path.new.store
+            c.args.pages.now.kept c.answer_path.new.pages.kept
+            (goes_as g.S.Store c.args.store.now c.find_person.new.store (λ a b. (b ≡ a) × (option_map string_bytes c.in-Ok-Some.field-0 ≡ person_of_token a c.args.token.now))
+            (λ a b. b ≡ a) (λ a b h. h.0) c.in-Ok-Some.ensures.found.0)
+            (lasts_kept g.S.Store (g.W.Sink.told c.args.output.now) (g.W.Sink.told c.answer_path.new.output) c.answer_path.result
+            c.find_person.new.store c.answer_path.new.store (λ a. AreOf a c.args.pages.now.policy.now c.args.pages.now.day c.args.pages.now.kept)
+            (λ a reply. reply ≡ path_reply a c.args.pages.now.policy.now c.args.pages.now.day c.args.path.now (Some c.as_str.result.now)) c.answer_path.ensures.sent)
+            c.answer_path.ensures.ends.keeps.keeps;
+      };
+    }

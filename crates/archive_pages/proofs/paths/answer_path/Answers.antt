@@ -5,11 +5,21 @@ use Rattle.archive_kept.specs.Kept.{AreOf}
 use Rattle.archive_pages.specs.Answers.{asking, route_reply}
 use Rattle.archive_pages.specs.Replies.{not_found}
 use Rattle.archive_pages.specs.KeptServing.{ServesIf}
+use Rattle.archive_pages.proofs.UnroutedLemmas.{with_any, with_none, with_route}
 use Rattle.archive_pages.proofs.paths.answer_path.Goals as goal
 
 pub returns-in-Ok-Some-clause-sent : goal.returns-in-Ok-Some-clause-sent
 returns-in-Ok-Some-clause-sent g c = subst
-    (λ route. ServesIf g.S.Store c.args.store.now c.answer_route.new.store (λ a. AreOf a c.args.policy.now c.args.day c.args.kept.now)
-    (λ a reply. reply ≡ option_map_or (route_reply a (asking c.args.policy.now c.args.day (name_of c.args.reader))) route not_found)
+    (λ route. ServesIf g.S.Store c.args.store.now c.answer_route.new.store (λ a. AreOf a c.args.pages.now.policy.now c.args.pages.now.day c.args.pages.now.kept)
+    (λ a reply. reply ≡ option_map_or (route_reply a (asking c.args.pages.now.policy.now c.args.pages.now.day (name_of c.args.reader))) route not_found)
     (g.W.Sink.told c.args.output.now) (g.W.Sink.told c.answer_route.new.output) c.answer_route.result)
-    (rw c.in-Ok-Some.field-0-is at c.in-Ok-Some.ensures) c.answer_route.ensures.sent
+    (rw c.in-Ok-Some.field-0-is at c.in-Ok-Some.ensures.route) c.answer_route.ensures.sent
+
+pub returns-in-Ok-Some-clause-unrouted : goal.returns-in-Ok-Some-clause-unrouted
+returns-in-Ok-Some-clause-unrouted g c = with_route c.args.pages.now.routes _ _ _ (rw c.in-Ok-Some.field-0-is at c.in-Ok-Some.ensures.route)
+
+pub returns-in-Ok-None-clause-unrouted : goal.returns-in-Ok-None-clause-unrouted
+returns-in-Ok-None-clause-unrouted g c = with_any c.args.pages.now.routes (λ none. c.write_failure.ensures.sent)
+
+pub returns-in-Err-clause-unrouted : goal.returns-in-Err-clause-unrouted
+returns-in-Err-clause-unrouted g c = with_none c.args.pages.now.routes _ c.in-Err.ensures.made

@@ -3,6 +3,8 @@ use Rattle.archive_machine.specs.Questions.{list_names}
 use Rattle.archive_html.specs.Pages.{lists_page}
 use Rattle.archive_pages.specs.Replies.{page_reply}
 use Rattle.archive_pages.specs.Seen.{reply_made}
+use Rattle.archive_pages.specs.Causes.{IsUnread}
+use Rattle.archive_pages.proofs.CauseLemmas.{found_served}
 use Rattle.archive_pages.proofs.ServingLemmas.{serves_either}
 use Rattle.archive_pages.proofs.routing.answer_lists.Goals as goal
 
@@ -10,4 +12,11 @@ pub returns-clause-sent : goal.returns-clause-sent
 returns-clause-sent g c =
     serves_either g.S.Store (g.W.Sink.told c.args.output.now) (g.W.Sink.told c.write_found.new.output) c.write_found.result
     c.args.store.now c.find_lists-found.new.store c.find_lists-found.result reply_made (λ a reply. reply_made reply ≡ page_reply (lists_page (list_names a)))
-    (λ a reply. reply ≡ page_reply (lists_page (list_names a))) c.find_lists-found.ensures (λ a x is. is) c.write_found.ensures.sent
+    (λ a reply. reply ≡ page_reply (lists_page (list_names a))) c.find_lists-found.ensures.found (λ a x is. is) c.write_found.ensures.sent
+
+pub returns-clause-ends : goal.returns-clause-ends
+returns-clause-ends g c = record {
+  reply = c.write_found.ensures.ends;
+  caused = found_served g.S.Store c.args.store.now c.find_lists-found.new.store c.write_found.new.wants c.write_found.result IsUnread c.find_lists-found.result reply_made
+      c.find_lists-found.ensures.why.caused c.find_lists-found.ensures.why.served c.write_found.ensures.counted;
+}

@@ -1,6 +1,12 @@
-use Rattle.std.proofs.Common.{arith}
-use Rattle.archive_desk.specs.declared.faults.DeskFault.TheVariants.{NoList, NoPerson, NotInView, Store as Stored, Memory}
-use Rattle.archive_pages.proofs.DeskLemmas.{cause_at, exported_whole, exported_part, exported_none, exported_broken, exported_unlisted, none_out}
+use Rattle.std.proofs.Common.{◌≡◌, ◌∙◌, ◌++◌, arith, ap, sym}
+use Rattle.archive_machine.specs.Questions.{messages_in}
+use Rattle.archive_desk.specs.Causes.{IsUnreadable}
+use Rattle.archive_desk.specs.Exporting.{exported}
+use Rattle.archive_desk.specs.declared.faults.DeskFault.TheVariants.{NoList, NoPerson, NotInView, Store as Stored, Memory, Write}
+use Rattle.archive_desk.proofs.UnbrokenLemmas.{list_read}
+use Rattle.archive_pages.specs.Replies.{Reply, not_found}
+use Rattle.archive_pages.proofs.CauseLemmas.{mbox_unserved, other_status}
+use Rattle.archive_pages.proofs.DeskLemmas.{cause_at, exported_whole, exported_part, exported_none, exported_broken, exported_unlisted, mbox_head, none_out}
 use Rattle.archive_pages.proofs.routing.answer_mbox.Goals as goal
 
 pub returns-in-Ok-clause-sent : goal.returns-in-Ok-clause-sent
@@ -76,3 +82,82 @@ returns-in-NotInView-clause-sent g c =
     (cause_at before middle (g.W.Sink.failures c.args.output.now) (g.W.Sink.failures c.export_after.new.out) c.in-Err.stop.written c.in-Err.stop.fault NotInView
     c.in-NotInView.is c.in-Err.ensures.cause).1
     c.write_failure-in-NotInView.ensures.sent
+
+pub returns-in-Ok-clause-caused : goal.returns-in-Ok-clause-caused
+returns-in-Ok-clause-caused g c = (c.in-Ok.ensures.counted.0, (λ bad. absurd (let no : 200 ≡ 503 = bad in omega (arith, no))))
+
+pub returns-in-Write-clause-caused : goal.returns-in-Write-clause-caused
+returns-in-Write-clause-caused g c = (c.in-Err.ensures.counted.0, (λ bad. absurd bad))
+
+pub returns-in-Store-clause-caused : goal.returns-in-Store-clause-caused
+returns-in-Store-clause-caused g c =
+    let ask = c.args.ask.now in
+    let is = c.in-Store.is in (
+      c.in-Err.ensures.counted.0,
+      λ bad. mbox_unserved g.S.Store c.args.store.now c.export_after.new.store ask (λ a. IsUnreadable a ask (messages_in a ask.list)) (λ a can. list_read a can ask)
+          (g.W.Sink.told c.args.output.now) (g.W.Sink.told c.export_after.new.out) (λ a. mbox_head ++ exported a ask) c.in-Err.stop.written c.in-Err.stop.fault
+          (λ it. absurd (let other : Stored c.in-Store.field-0 ≡ NoList = sym is ∙ it in cc)) (λ it. absurd (let other : Stored c.in-Store.field-0 ≡ Write = sym is ∙ it in cc))
+          c.in-Err.ensures.counted.1 c.in-Err.ensures.caused c.in-Err.ensures.exported,
+    )
+
+pub returns-in-Store-2-clause-caused : goal.returns-in-Store-2-clause-caused
+returns-in-Store-2-clause-caused g c =
+    let ask = c.args.ask.now in
+    let is = c.in-Store-2.is in (
+      c.in-Err.ensures.counted.0,
+      λ bad. mbox_unserved g.S.Store c.args.store.now c.export_after.new.store ask (λ a. IsUnreadable a ask (messages_in a ask.list)) (λ a can. list_read a can ask)
+          (g.W.Sink.told c.args.output.now) (g.W.Sink.told c.export_after.new.out) (λ a. mbox_head ++ exported a ask) c.in-Err.stop.written c.in-Err.stop.fault
+          (λ it. absurd (let other : Stored c.in-Store-2.field-0 ≡ NoList = sym is ∙ it in cc)) (λ it. absurd (let other : Stored c.in-Store-2.field-0 ≡ Write = sym is ∙ it in cc))
+          c.in-Err.ensures.counted.1 c.in-Err.ensures.caused c.in-Err.ensures.exported,
+    )
+
+pub returns-in-Memory-clause-caused : goal.returns-in-Memory-clause-caused
+returns-in-Memory-clause-caused g c =
+    let ask = c.args.ask.now in
+    let is = c.in-Memory.is in (
+      c.in-Err.ensures.counted.0,
+      λ bad. mbox_unserved g.S.Store c.args.store.now c.export_after.new.store ask (λ a. IsUnreadable a ask (messages_in a ask.list)) (λ a can. list_read a can ask)
+          (g.W.Sink.told c.args.output.now) (g.W.Sink.told c.export_after.new.out) (λ a. mbox_head ++ exported a ask) c.in-Err.stop.written c.in-Err.stop.fault
+          (λ it. absurd (let other : Memory ≡ NoList = sym is ∙ it in cc)) (λ it. absurd (let other : Memory ≡ Write = sym is ∙ it in cc))
+          c.in-Err.ensures.counted.1 c.in-Err.ensures.caused c.in-Err.ensures.exported,
+    )
+
+pub returns-in-Memory-2-clause-caused : goal.returns-in-Memory-2-clause-caused
+returns-in-Memory-2-clause-caused g c =
+    let ask = c.args.ask.now in
+    let is = c.in-Memory-2.is in (
+      c.in-Err.ensures.counted.0,
+      λ bad. mbox_unserved g.S.Store c.args.store.now c.export_after.new.store ask (λ a. IsUnreadable a ask (messages_in a ask.list)) (λ a can. list_read a can ask)
+          (g.W.Sink.told c.args.output.now) (g.W.Sink.told c.export_after.new.out) (λ a. mbox_head ++ exported a ask) c.in-Err.stop.written c.in-Err.stop.fault
+          (λ it. absurd (let other : Memory ≡ NoList = sym is ∙ it in cc)) (λ it. absurd (let other : Memory ≡ Write = sym is ∙ it in cc))
+          c.in-Err.ensures.counted.1 c.in-Err.ensures.caused c.in-Err.ensures.exported,
+    )
+
+pub returns-in-NoPerson-clause-caused : goal.returns-in-NoPerson-clause-caused
+returns-in-NoPerson-clause-caused g c =
+    let ask = c.args.ask.now in
+    let is = c.in-NoPerson.is in (
+      c.in-Err.ensures.counted.0,
+      λ bad. mbox_unserved g.S.Store c.args.store.now c.export_after.new.store ask (λ a. IsUnreadable a ask (messages_in a ask.list)) (λ a can. list_read a can ask)
+          (g.W.Sink.told c.args.output.now) (g.W.Sink.told c.export_after.new.out) (λ a. mbox_head ++ exported a ask) c.in-Err.stop.written c.in-Err.stop.fault
+          (λ it. absurd (let other : NoPerson ≡ NoList = sym is ∙ it in cc)) (λ it. absurd (let other : NoPerson ≡ Write = sym is ∙ it in cc))
+          c.in-Err.ensures.counted.1 c.in-Err.ensures.caused c.in-Err.ensures.exported,
+    )
+
+pub returns-in-NotInView-clause-caused : goal.returns-in-NotInView-clause-caused
+returns-in-NotInView-clause-caused g c =
+    let ask = c.args.ask.now in
+    let is = c.in-NotInView.is in (
+      c.in-Err.ensures.counted.0,
+      λ bad. mbox_unserved g.S.Store c.args.store.now c.export_after.new.store ask (λ a. IsUnreadable a ask (messages_in a ask.list)) (λ a can. list_read a can ask)
+          (g.W.Sink.told c.args.output.now) (g.W.Sink.told c.export_after.new.out) (λ a. mbox_head ++ exported a ask) c.in-Err.stop.written c.in-Err.stop.fault
+          (λ it. absurd (let other : NotInView ≡ NoList = sym is ∙ it in cc)) (λ it. absurd (let other : NotInView ≡ Write = sym is ∙ it in cc))
+          c.in-Err.ensures.counted.1 c.in-Err.ensures.caused c.in-Err.ensures.exported,
+    )
+
+pub returns-in-NoList-clause-caused : goal.returns-in-NoList-clause-caused
+returns-in-NoList-clause-caused g c = (
+  c.in-Err.ensures.counted.0,
+  other_status (λ r. r ≡ not_found) (g.W.Sink.told c.export_after.new.out) (g.W.Sink.told c.write_failure-in-NoList.new.output) c.write_failure-in-NoList.result
+      (λ r is it. absurd (let bad : 404 ≡ 503 = sym (ap (λ (r : Reply). r.status) is) ∙ it in omega (arith, bad))) c.write_failure-in-NoList.ensures.sent,
+)

@@ -3,6 +3,8 @@ use Rattle.archive_machine.specs.Questions.{merge_of}
 use Rattle.archive_kept.specs.Kept.{AreOf}
 use Rattle.archive_pages.specs.Answers.{listed_reply, shown_view, thread_reply}
 use Rattle.archive_pages.specs.Seen.{reply_made}
+use Rattle.archive_pages.specs.Causes.{IsUnreadBy}
+use Rattle.archive_pages.proofs.CauseLemmas.{found_served}
 use Rattle.archive_pages.proofs.KeptLemmas.{finds_serves}
 use Rattle.archive_pages.proofs.routing.answer_thread.Goals as goal
 
@@ -14,3 +16,10 @@ returns-clause-sent g c =
     (λ a reply. reply_made reply ≡ listed_reply a ask.list (thread_reply (merge_of a ask.list) ask.list c.args.key.now (shown_view a ask)))
     (λ a reply. reply ≡ listed_reply a ask.list (thread_reply (merge_of a ask.list) ask.list c.args.key.now (shown_view a ask)))
     c.find_thread-found.ensures.found (λ a x is. is) c.write_found.ensures.sent
+
+pub returns-clause-ends : goal.returns-clause-ends
+returns-clause-ends g c = record {
+  reply = c.write_found.ensures.ends;
+  caused = found_served g.S.Store c.args.store.now c.find_thread-found.new.store c.write_found.new.wants c.write_found.result (IsUnreadBy c.args.ask.now.reader) c.find_thread-found.result reply_made
+      c.find_thread-found.ensures.why.caused c.find_thread-found.ensures.why.served c.write_found.ensures.counted;
+}

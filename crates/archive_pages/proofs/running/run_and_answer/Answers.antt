@@ -16,6 +16,6 @@ returns-in-Ok-clause-answered g c = λ returned ready.
       ready_with g.S.Store c.run.new.self (run (archive_in g.S.Store c.args.store.now) commands).archive ran.0 ran.1
           (run_right (archive_in g.S.Store c.args.store.now) commands ready.filed_right),
       ran.1,
-    )) c.args.policy.now c.args.day c.answer.result (g.R.Source.told c.args.input.now)
-    (g.R.Source.told c.answer.new.input) (g.R.Source.ends c.args.input.now) (g.R.Source.ends c.answer.new.input) (g.W.Sink.told c.args.output.now)
+    )) c.args.policy.now c.args.day c.answer.result (g.R.Source.told c.args.peer.now.input)
+    (g.R.Source.told c.answer.new.input) (g.R.Source.ends c.args.peer.now.input) (g.R.Source.ends c.answer.new.input) (g.W.Sink.told c.args.peer.now.output)
     (g.W.Sink.told c.answer.new.output) c.answer.ensures.answered

@@ -14,8 +14,8 @@ pub returns-in-Ok-clause-answered : goal.returns-in-Ok-clause-answered
 returns-in-Ok-clause-answered g c =
     let made = c.in_ok-store.ensures.made (memory_is_clean (held_of c.in_ok-store.store)) in
     subst
-    (λ archive. AnswersFrom (run archive (map command_of c.args.commands.now)).archive c.args.policy.now c.args.day (g.R.Source.told c.args.input.now)
-    (g.R.Source.told c.run_and_answer.new.input) (g.R.Source.ends c.args.input.now) (g.R.Source.ends c.run_and_answer.new.input) (g.W.Sink.told c.args.output.now)
-    (g.W.Sink.told c.run_and_answer.new.output) c.in-Ok.answer)
+    (λ archive. AnswersFrom (run archive (map command_of c.args.commands.now)).archive c.args.policy.now c.args.day (g.R.Source.told c.args.peer.now.input)
+    (g.R.Source.told c.run_and_answer.new.peer.input) (g.R.Source.ends c.args.peer.now.input) (g.R.Source.ends c.run_and_answer.new.peer.input) (g.W.Sink.told c.args.peer.now.output)
+    (g.W.Sink.told c.run_and_answer.new.peer.output) c.in-Ok.answer)
     made.1 (c.in-Ok.ensures.answered (memory_is_clean (held_of c.run_and_answer.new.store))
     (ready_with over_memory c.in_ok-store.store empty_archive made.0 made.1 empty_right))

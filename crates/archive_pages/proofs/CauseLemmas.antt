@@ -1,0 +1,243 @@
+-- Why 503 goes out, and why an mbox breaks off.
+use Rattle.std.proofs.Common.{◌≡◌, ◌∙◌, ◌≤◌, ◌<◌, inl, inr, refl, sym, subst, arith, length, zero, suc, ℕ, List, [], ◌∷◌, Bool, true, false, not, cond, Option, Some, None, Result, Ok, Err}
+use Rattle.std.specs.Prelude.{◌≢◌, ◌||◌, option_map, slice_get, if◌then◌else◌, find, bytes_eq, MatchResult, MatchOption, IfOk}
+use Rattle.std.specs.List.{list_any}
+use Rattle.std.specs.Option.{IsSomeAnd, option_map_or}
+use Rattle.std.proofs.lemmas.Slice.Eq.{bytes_eq-Decides}
+use Rattle.sqlite.specs.Store.{Ghosts}
+use Rattle.sqlite.specs.Steps.{over_memory}
+use Rattle.sqlite.proofs.Callers.{memory_is_clean}
+use Rattle.sqlite_disk.specs.Disk.{MoreFaults}
+use Rattle.sqlite_trees.specs.declared.memory.MemStore.{MemStore}
+use Rattle.archive_machine.specs.Records.{Archive, Person}
+use Rattle.archive_machine.specs.Commands.{Refusal}
+use Rattle.archive_machine.specs.Questions.{has_list, has_person, person_of_token}
+use Rattle.sqlite.specs.Held.{state}
+use Rattle.archive_store.specs.Held.{held_of, wants_of}
+use Rattle.archive_store.proofs.CauseLemmas.{more_since}
+use Rattle.archive_store.specs.Replies.{RefusedFor, refusal}
+use Rattle.archive_store.specs.Told.{CausedOr as StoreCausedOr, Counts, Goes, GoesIfOpen, HasFailed, HasNoLimit, IsReady, Lasts, WasRefused, archive_in}
+use Rattle.archive_store.specs.Wanting.{IsWant}
+use Rattle.archive_store.specs.declared.store.Store.{Store}
+use Rattle.archive_store.specs.declared.faults.StoreFault.{StoreFault}
+use Rattle.archive_store.specs.declared.faults.StoreFault.TheVariants as faults
+use Rattle.archive_results.specs.Access.{Ask, no_list, no_person}
+use Rattle.archive_desk.specs.Causes.{HasCause, IsBroken, IsWanting}
+use Rattle.archive_desk.specs.Exporting.{Exports, IsExportRefused}
+use Rattle.archive_desk.specs.Faults.{IsAskFault, Reason, ask_reason, declined, reason, refused}
+use Rattle.archive_desk.specs.Readable.{CanBeRead}
+use Rattle.archive_desk.specs.declared.faults.DeskFault.{DeskFault}
+use Rattle.archive_desk.specs.declared.faults.DeskFault.TheVariants as desk
+use Rattle.archive_kept.specs.Views.{KeptView, Keeping, outline_at}
+use Rattle.archive_pages.specs.Causes.{FindsOr, HasServeCause, IsUnread, IsUnreadBy, IsUnserved, SendsOr, ServesOr}
+use Rattle.archive_pages.specs.Replies.{Reply, Sends}
+use Rattle.archive_pages.specs.declared.faults.ServeFault.{ServeFault}
+use Rattle.archive_pages.specs.declared.faults.ServeFault.TheVariants.{Read, Write, Broken}
+
+-- ---- who asks
+
+module _ (a : Archive) (ask : Ask) where
+  by_person : (b : Bool) → option_map refused (if not b then Some no_person else None) ≡ Some (refused no_person) → b ≡ false
+  by_person true is = absurd (cc)
+  by_person false is = refl
+
+  by_reader : (listed : Bool) (reader : Option (List ℕ))
+      → option_map refused (if not listed then Some no_list else if option_map_or (λ person. not (has_person a person)) reader false then Some no_person else None) ≡ Some (refused no_person)
+      → IsSomeAnd reader (λ name. has_person a name ≡ false)
+  by_reader false reader is = absurd (cc)
+  by_reader true None is = absurd (cc)
+  by_reader true (Some name) is = by_person (has_person a name) is
+
+  -- whom the archive does not know
+  pub stranger : ask_reason a ask ≡ Some (refused no_person) → IsSomeAnd ask.reader (λ name. has_person a name ≡ false)
+  stranger is = by_reader (has_list a ask.list) ask.reader is
+
+module _ (test : Person → Bool) (name : List ℕ) where
+  abbrev named : Person → Bool
+  named p = bytes_eq p.name name
+
+  one_named : (persons : List Person) → option_map (λ (p : Person). p.name) (find test persons) ≡ Some name → list_any named persons ≡ true
+  one_named [] is = absurd (cc)
+  one_named (p ∷ ps) is = cases (test p) is (one_named ps)
+    where
+      or_true : (b : Bool) → (b || true) ≡ true
+      or_true true = refl
+      or_true false = refl
+
+      cases : (b : Bool) → option_map (λ (p : Person). p.name) (cond b (Some p) (find test ps)) ≡ Some name
+          → (option_map (λ (p : Person). p.name) (find test ps) ≡ Some name → list_any named ps ≡ true) → list_any named (p ∷ ps) ≡ true
+      cases true is rest = let same : p.name ≡ name = cc in rw ((bytes_eq-Decides p.name name).1 same) refl
+      cases false is rest = rw (rest is) (or_true (named p))
+
+-- whoever has a token is a person
+pub known : (a : Archive) (token name : List ℕ) → person_of_token a token ≡ Some name → has_person a name ≡ true
+known a token name is = one_named (λ p. bytes_eq p.token token) name a.persons is
+
+pub known_reader : (a : Archive) (token name : List ℕ) → person_of_token a token ≡ Some name → IsUnreadBy (Some name) a → IsUnread a
+known_reader a token name is bad = elim bad [ inl unread ↦ unread | inr none ↦ absurd (let no : true ≡ false = sym (known a token name is) ∙ none in cc) ]
+
+-- ---- at a place that is kept stands an outline
+
+kept_at : (views : List KeptView) (place : ℕ) → place < length views → option_map (λ (v : KeptView). v.outline) (slice_get views place) ≡ None → ⊥
+kept_at [] place less none = absurd (omega (arith, less))
+kept_at (v ∷ vs) zero less none = absurd (cc)
+kept_at (v ∷ vs) (suc n) less none = kept_at vs n (omega (arith, less)) none
+
+pub no_outline : {X : Type 0} (kept : Keeping) (place : ℕ) → place < length kept.views → outline_at kept place ≡ None → X
+no_outline kept place less none = absurd (kept_at kept.views place less none)
+
+-- ---- a reply that is not 503
+
+pub other_status : (P : Reply → Type 0) (before after : List ℕ) (result : Result ℕ ServeFault) {X : Type 0} → ((r : Reply) → P r → r.status ≢ 503) → Sends P before after result
+    → IsUnserved result → X
+other_status P before after (Ok status) other sent it = absurd (other sent.0 sent.1 (sym sent.2.0 ∙ it))
+other_status P before after (Err Read) other sent it = absurd it
+other_status P before after (Err (Write written)) other sent it = absurd it
+other_status P before after (Err (Broken written)) other sent it = absurd sent.2
+
+module _ {S : Type 0} (g : Ghosts S) where
+  -- ---- a cause of which more is known
+
+  pub cause_as : (old new : Store S) (P Q : Archive → Type 0) → ((a : Archive) → P a → Q a) → HasServeCause g old new P → HasServeCause g old new Q
+  cause_as old new P Q implies it = elim it [
+    | inl more ↦ inl more
+    | inr why ↦ inr (λ returned ready free. elim (why returned ready free) [ inl more ↦ inl more | inr bad ↦ inr (implies _ bad) ])
+  ]
+
+  pub serves_or_as : (old new : Store S) (result : Result ℕ ServeFault) (P Q : Archive → Type 0) → ((a : Archive) → P a → Q a) → ServesOr g old new result P → ServesOr g old new result Q
+  serves_or_as old new result P Q implies it = (it.0, λ bad. cause_as old new P Q implies (it.1 bad))
+
+  module _ (old new : Store S) where
+    -- ---- of a fault of the store
+
+    of_store : (fault : StoreFault) (Unread : Archive → Type 0) → ((a : Archive) → CanBeRead a → ¬ Unread a) → fault ≡ faults.Store
+        → StoreCausedOr g old new {A = Unit {0}} (Err fault) Unread → HasServeCause g old new IsUnread
+    of_store fault Unread read it why = inr (λ returned ready free. elim (why returned ready.held free it) [
+      | inl more ↦ inl more
+      | inr bad ↦ inr (λ can. read _ can bad)
+    ])
+
+    -- none of a question that is never refused
+    pub store_unfound : (fault : StoreFault) (Unread : Archive → Type 0) → ((a : Archive) → CanBeRead a → ¬ Unread a) → RefusedFor {A = Unit {0}} (Err fault) []
+        → Counts {A = Unit {0}} IsWant old new (Err fault) → StoreCausedOr g old new {A = Unit {0}} (Err fault) Unread → HasServeCause g old new IsUnread
+    store_unfound faults.Memory Unread read kind counts why = inl (counts.1 refl)
+    store_unfound faults.Store Unread read kind counts why = of_store faults.Store Unread read refl why
+    store_unfound faults.BadName Unread read kind counts why = absurd kind
+    store_unfound faults.BadText Unread read kind counts why = absurd kind
+    store_unfound faults.ListExists Unread read kind counts why = absurd kind
+    store_unfound faults.NoList Unread read kind counts why = absurd kind
+    store_unfound faults.PersonExists Unread read kind counts why = absurd kind
+    store_unfound faults.NoPerson Unread read kind counts why = absurd kind
+    store_unfound faults.TokenTaken Unread read kind counts why = absurd kind
+    store_unfound faults.NoMessage Unread read kind counts why = absurd kind
+    store_unfound faults.AlreadyWithdrawn Unread read kind counts why = absurd kind
+    store_unfound faults.NotWithdrawn Unread read kind counts why = absurd kind
+    store_unfound faults.BadDays Unread read kind counts why = absurd kind
+    store_unfound faults.ListFull Unread read kind counts why = absurd kind
+    store_unfound faults.TooLarge Unread read kind counts why = absurd kind
+
+    -- ---- of a fault of the desk
+
+    module _ (ask : Ask) (Unread : Archive → Type 0) (read : (a : Archive) → CanBeRead a → ¬ Unread a) where
+      broken_desk : (fault : DeskFault) → IsBroken fault → (IsBroken fault → HasCause g old new Unread) → HasServeCause g old new (IsUnreadBy ask.reader)
+      broken_desk fault it why = inr (λ returned ready free. elim (why it returned ready.held free) [
+        | inl more ↦ inl more
+        | inr bad ↦ inr (inl (λ can. read _ can bad))
+      ])
+
+      unasked : Goes g old new (λ a b. (b ≡ a) × (ask_reason a ask ≡ Some (refused no_person))) → HasServeCause g old new (IsUnreadBy ask.reader)
+      unasked goes = inr (λ returned ready free. inr (inr (stranger (archive_in g old) ask (goes.1 returned ready).1.1)))
+
+      -- of a refusal of the store, which carries no other than E14 and E15
+      by_store : (fault : StoreFault) → refusal fault ≡ None → (IsWanting (desk.Store fault) → WasRefused old new)
+          → (IsBroken (desk.Store fault) → HasCause g old new Unread) → HasServeCause g old new (IsUnreadBy ask.reader)
+      by_store faults.Memory none counts why = inl (counts (inr refl))
+      by_store faults.Store none counts why = broken_desk (desk.Store faults.Store) refl why
+      by_store faults.BadName none counts why = absurd (cc)
+      by_store faults.BadText none counts why = absurd (cc)
+      by_store faults.ListExists none counts why = absurd (cc)
+      by_store faults.NoList none counts why = absurd (cc)
+      by_store faults.PersonExists none counts why = absurd (cc)
+      by_store faults.NoPerson none counts why = absurd (cc)
+      by_store faults.TokenTaken none counts why = absurd (cc)
+      by_store faults.NoMessage none counts why = absurd (cc)
+      by_store faults.AlreadyWithdrawn none counts why = absurd (cc)
+      by_store faults.NotWithdrawn none counts why = absurd (cc)
+      by_store faults.BadDays none counts why = absurd (cc)
+      by_store faults.ListFull none counts why = absurd (cc)
+      by_store faults.TooLarge none counts why = absurd (cc)
+
+      pub desk_unfound : (fault : DeskFault) → fault ≢ desk.NoList → IsAskFault fault → (IsWanting fault → WasRefused old new) → (IsBroken fault → HasCause g old new Unread)
+          → MatchOption (reason fault) (GoesIfOpen g old new (λ a b. b ≡ a)) (λ why. Goes g old new (λ a b. (b ≡ a) × (ask_reason a ask ≡ Some why))) → HasServeCause g old new (IsUnreadBy ask.reader)
+      desk_unfound desk.NoList other kind counts why asks = absurd (other refl)
+      desk_unfound desk.NoPerson other kind counts why asks = unasked asks
+      desk_unfound desk.NotInView other kind counts why asks = absurd kind
+      desk_unfound desk.Write other kind counts why asks = absurd kind
+      desk_unfound desk.Memory other kind counts why asks = inl (counts (inl refl))
+      desk_unfound (desk.Store fault) other kind counts why asks = by_store fault kind counts why
+
+      -- an export that stopped for no unknown list, and for no writer
+      pub mbox_unserved : (before after : List ℕ) (text : Archive → List ℕ) (written : ℕ) (fault : DeskFault) → fault ≢ desk.NoList → fault ≢ desk.Write
+          → (IsWanting fault → WasRefused old new) → (IsBroken fault → HasCause g old new Unread)
+          → Exports g old new (Err (record { written = written; fault = fault })) ask before after text → HasServeCause g old new (IsUnreadBy ask.reader)
+      mbox_unserved before after text written desk.NoList other unwritten counts why exports = absurd (other refl)
+      mbox_unserved before after text written desk.Write other unwritten counts why exports = absurd (unwritten refl)
+      mbox_unserved before after text written desk.NoPerson other unwritten counts why exports = unasked exports
+      mbox_unserved before after text written desk.NotInView other unwritten counts why exports = inr (λ returned ready free. absurd (exports.1 returned ready).1.1)
+      mbox_unserved before after text written desk.Memory other unwritten counts why exports = inl (counts (inl refl))
+      mbox_unserved before after text written (desk.Store fault) other unwritten counts why exports = cases (refusal fault) refl exports
+        where
+          cases : (o : Option Refusal) → refusal fault ≡ o
+              → MatchOption {T = ℕ × Reason} (option_map (λ why. (written, why)) (option_map declined o)) (GoesIfOpen g old new (λ a b. b ≡ a))
+              (λ why. Goes g old new (λ a b. (b ≡ a) × IsExportRefused (ask_reason a ask) before after (text a) why.0 why.1))
+              → HasServeCause g old new (IsUnreadBy ask.reader)
+          cases None none it = by_store fault none counts why
+          cases (Some r) some it = inr (λ returned ready free. absurd (it.1 returned ready).1.1)
+
+  -- ---- a reply of what was found
+
+  module _ (old mid : Store S) (wants : ℕ) (result : Result ℕ ServeFault) (Unread : Archive → Type 0) where
+    pub found_served : {A F : Type 0} (found : Result A F) (made : A → Reply) → FindsOr g old mid found Unread → IfOk found (λ x. (made x).status ≢ 503)
+        → MatchResult found (λ x. SendsOr (wants_of mid) wants (made x) result) (λ _. wants_of mid ≤ wants)
+        → ServesOr g old (record mid { wants = wants }) result Unread
+    found_served (Ok x) made finds other sends = (
+      omega (arith, finds.0, sends.0),
+      (λ bad. elim (sends.1 bad) [ inl more ↦ inl (omega (arith, finds.0, more)) | inr is ↦ absurd (other is) ]),
+    )
+    found_served (Err e) made finds other sends = (
+      omega (arith, finds.0, sends),
+      (λ bad. elim finds.1 [ inl more ↦ inl (omega (arith, more, sends)) | inr why ↦ inr why ]),
+    )
+
+  -- ---- behind a question
+
+  module _ (old mid new : Store S) (P : Archive → Type 0) (first : Goes g old mid (λ a b. (b ≡ a) × P a)) (grows : wants_of old ≤ wants_of mid) (last : Lasts g mid new) where
+    pub served_after : (result : Result ℕ ServeFault) (Unread Unread' : Archive → Type 0) → ((a : Archive) → P a → Unread a → Unread' a) → ServesOr g mid new result Unread
+        → ServesOr g old new result Unread'
+    served_after result Unread Unread' implies it = (
+      omega (arith, grows, it.0),
+      (λ bad. elim (it.1 bad) [
+        | inl more ↦ inl (omega (arith, grows, more))
+        | inr why ↦ inr (λ returned ready free.
+            let there = first.1 (last.returned returned) ready in
+            elim (why returned there.0 (first.0.limit ∙ free)) [
+              | inl more ↦ inl (failed_since more)
+              | inr bad ↦ inr (implies _ there.1.1 (subst Unread there.1.0 bad))
+            ])
+      ]),
+    )
+      where
+        failed_since : HasFailed g mid new → HasFailed g old new
+        failed_since more = more_since (state g (held_of old)) (state g (held_of mid)) (state g (held_of new)) first.0 more
+
+-- ---- in memory
+
+never_more : MoreFaults 0 0 → ⊥
+never_more more = absurd (omega (arith, more))
+
+pub memory_refused : (old new : Store MemStore) → IsReady over_memory old → HasNoLimit over_memory old → CanBeRead (archive_in over_memory old)
+    → HasServeCause over_memory old new IsUnread → WasRefused old new
+memory_refused old new ready free can it = elim it [
+  | inl more ↦ more
+  | inr why ↦ elim (why (memory_is_clean (held_of new)) ready free) [ inl more ↦ absurd (never_more more) | inr bad ↦ absurd (bad can) ]
+]

@@ -1,0 +1,61 @@
+//! What requests are answered by, and who makes one.
+ghost use Rattle.std.specs.Prelude.{◌≡◌};
+ghost use Rattle.archive_kept.specs.Views.{nothing_kept};
+
+use archive_kept::Kept;
+use archive_requests::Routes;
+use civil_time::Day;
+use policy_core::Policy;
+use std::alloc::Global;
+
+/// By what requests are answered, and what is kept for those that come later. What is kept has to be of one archive, this policy
+/// and this day: nothing at first (`Kept::new`), and then what `answer_kept` leaves.
+#[derive(Drop)]
+pub struct Pages<'a, T> {
+    /// What gives memory.
+    pub alloc: Global,
+    /// Decides what each reader is shown.
+    pub policy: &'a Policy,
+    /// Threads the messages of a list.
+    pub threader: &'a T,
+    /// The day that the policy is asked about, in UTC.
+    pub day: Day,
+    /// Those of the pages. `None`: a router is made where a path is looked at.
+    pub routes: Option<Routes>,
+    /// The outlines of lists that were read for their threads.
+    pub kept: Kept,
+}
+
+impl<'a, T> Pages<'a, T> {
+    /// Nothing is kept yet, and at most so many bytes will be, or one list alone. Where there is no memory for the routes now, they
+    /// are made for each path.
+    pub fn new(
+        alloc: Global,
+        policy: &'a Policy,
+        threader: &'a T,
+        day: Day,
+        most: usize,
+    ) -> Pages<'a, T>
+        ensures policy { result.policy.now ≡ policy.now }
+        ensures day { result.day ≡ day }
+        ensures kept { result.kept ≡ nothing_kept most }
+    {
+        Pages {
+            alloc,
+            policy,
+            threader,
+            day,
+            routes: Routes::new(alloc).ok(),
+            kept: Kept::new(alloc, most),
+        }
+    }
+}
+
+/// Who makes one request: what is read of it, and what is written to it.
+#[derive(Drop)]
+pub struct Peer<R, W> {
+    /// What the peer sends.
+    pub input: R,
+    /// What it is sent.
+    pub output: W,
+}
