@@ -1,8 +1,7 @@
 -- Connections one after the other, each with a whole reply other than 503: the store is ready for the next.
-use Rattle.std.proofs.Common.{◌≡◌, ◌∙◌, inl, inr, ℕ, ℤ, List, [], ◌∷◌, Bool, Option, Some, None, Result, Ok, Err, refl, sym, ap, subst}
+use Rattle.std.proofs.Common.{◌≡◌, ◌∙◌, inl, inr, ℕ, ℤ, List, [], ◌∷◌, Bool, Option, Result, Ok, Err, sym, ap, subst}
 use Rattle.std.specs.Prelude.{◌≢◌, ◌++◌}
 use Rattle.httparse.specs.Grammar.{HasNoRequest}
-use Rattle.std.specs.List.{AllByRecursion}
 use Rattle.sqlite.specs.Store.{Ghosts}
 use Rattle.policy_core.specs.Rules.{Rule}
 use Rattle.archive_store.specs.Told.{HasReturned, IsReady, archive_in, Goes}
@@ -15,7 +14,7 @@ use Rattle.archive_pages.proofs.RunningLemmas.{answers_first}
 use Rattle.archive_listen.specs.Connections.{Telling, untold, Outcome, Exchange, Reaches}
 use Rattle.archive_listen.specs.declared.faults.AcceptFault.{AcceptFault}
 use Rattle.archive_listen.specs.declared.faults.ConnectionFault.TheVariants.{Read, Write, Broken}
-use Rattle.archive_listen.specs.Serving.{Served, Answers, Takes, Misses, ServesOne, ServesEach}
+use Rattle.archive_listen.specs.Serving.{Served, ServesOne, ServesEach}
 use Rattle.archive_serve.specs.Pages.{AnswersAs, outcome_of}
 use Rattle.archive_serve.specs.Runs.{IsSteady, AnswersOf, LeaveItReady}
 

@@ -1,13 +1,14 @@
 -- What an archive answers on a connection.
-use Rattle.std.specs.Prelude.{◌≡◌, ◌++◌, ℕ, ℤ, List, Result, Ok, Err, OnOk, IfErr}
+use Rattle.std.specs.Prelude.{◌≡◌, ℕ, ℤ, List, Result, Ok, Err, OnOk, IfErr}
 use Rattle.sqlite.specs.Store.{Ghosts}
-use Rattle.httparse.specs.Grammar.{HasNoRequest}
 use Rattle.policy_core.specs.Rules.{Rule}
-use Rattle.archive_store.specs.Told.{Goes, HadReturned}
+use Rattle.archive_machine.specs.Records.{Archive}
+use Rattle.archive_store.specs.Told.{HadReturned}
 use Rattle.archive_store.specs.declared.store.Store.{Store}
 use Rattle.archive_kept.specs.Views.{Keeping}
 use Rattle.archive_kept.specs.Kept.{AreOf, Keeps}
-use Rattle.archive_pages.specs.Answered.{ByOutcome, IsAnswered, Reads}
+use Rattle.archive_pages.specs.Answered.{AnswersBy}
+use Rattle.archive_pages.specs.Causes.{IsUnread, ServesOr}
 use Rattle.archive_pages.specs.KeptServing.{OfReady}
 use Rattle.archive_pages.specs.Replies.{IsServeStop}
 use Rattle.archive_pages.specs.Serving.{Stays}
@@ -29,15 +30,22 @@ pub record AnswersAs {S : Type 0} (g : Ghosts S) (rules : List Rule) (day : ℤ)
     (outcome : Outcome) : Type 0 where
   pub result : Result ℕ ServeFault
   pub ends : outcome ≡ outcome_of result
-  pub answered : ByOutcome result
-      (Reads before.read after.read before.ends after.ends
-      (λ given all. IsAnswered g old new rules day given all before.written after.written result))
-      ((given : List ℕ) × (after.read ≡ before.read ++ given) × HasNoRequest given × (after.written ≡ before.written)
-      × Goes g old new (λ a b. b ≡ a))
+  pub answered : AnswersBy g old new rules day before.read after.read before.ends after.ends before.written after.written result
   pub stays : Stays g old new result
   pub quiet : OnOk result ((after.read_failures ≡ before.read_failures) × (after.write_failures ≡ before.write_failures))
   pub cause : IfErr result (λ fault. IsServeStop before.written after.written
       before.read_failures after.read_failures before.write_failures after.write_failures fault)
+
+-- How one answer ends, whatever the store is: the store is left, no direction failed where a reply went out, each fault has its
+-- cause, and so have 503 and S3. What went out is not said.
+pub record EndsAs {S : Type 0} (g : Ghosts S) (old new : Store S) (before after : Telling) (outcome : Outcome) : Type 0 where
+  pub result : Result ℕ ServeFault
+  pub ends : outcome ≡ outcome_of result
+  pub stays : Stays g old new result
+  pub quiet : OnOk result ((after.read_failures ≡ before.read_failures) × (after.write_failures ≡ before.write_failures))
+  pub cause : IfErr result (λ fault. IsServeStop before.written after.written
+      before.read_failures after.read_failures before.write_failures after.write_failures fault)
+  pub caused : ServesOr g old new result IsUnread
 
 -- ---- with what is kept from one connection to the next
 
@@ -47,13 +55,25 @@ pub record Keeper : Type 0 where
   pub day : ℤ
   pub kept : Keeping
 
+-- what it keeps is of this archive, by the rules and on the day
+abbrev pub IsKept : Keeper → Archive → Type 0
+IsKept keeper archive = AreOf archive keeper.rules keeper.day keeper.kept
+
 -- One request is answered as `AnswersAs` says, where what is kept is of the archive that the store remembers, by the rules and on
 -- the day; and what is kept then stays so.
 pub record AnswersKept {S : Type 0} (g : Ghosts S) (keeper later : Keeper) (old new : Store S) (before after : Telling)
     (outcome : Outcome) : Type 0 where
   pub same_rules : later.rules ≡ keeper.rules
   pub same_day : later.day ≡ keeper.day
-  pub answers : OfReady g old new (λ a. AreOf a keeper.rules keeper.day keeper.kept)
+  pub answers : OfReady g old new (IsKept keeper)
       → AnswersAs g keeper.rules keeper.day old new before after outcome
+  pub ends : EndsAs g old new before after outcome
   pub keeps : Keeps g old new keeper.rules keeper.day keeper.kept later.kept
   pub had : HadReturned g old new
+
+-- What a run of connections leaves of what answers: the rules and the day; and what is kept stays of the archive that the store
+-- remembered before the first of them.
+pub record LeavesKept {S : Type 0} (g : Ghosts S) (keeper later : Keeper) (old new : Store S) : Type 0 where
+  pub same_rules : later.rules ≡ keeper.rules
+  pub same_day : later.day ≡ keeper.day
+  pub kept : OfReady g old new (IsKept keeper) → OfReady g old new (IsKept later)

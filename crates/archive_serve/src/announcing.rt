@@ -1,18 +1,17 @@
 //! Saying where the archive listens, and then serving it.
-ghost use Rattle.std.specs.Prelude.{◌≡◌, ◌≢◌, ◌≤◌, ◌<◌, ◌++◌, List, Some, Err, flat_map, length, IfErr, OnOk, OnErr};
+ghost use Rattle.std.specs.Prelude.{◌≡◌, ◌≢◌, ◌≤◌, ◌<◌, ◌++◌, List, Some, Err, flat_map, length, IfErr, OnOk};
 ghost use Rattle.archive_listen.specs.declared.faults.AcceptFault.TheVariants as accepting;
 ghost use Rattle.archive_listen.specs.Connections.{Outcome, outcome_line};
 ghost use Rattle.archive_listen.specs.Serving.{Served, ServesEach, served};
-ghost use Rattle.archive_store.specs.Told.{HasReturned, IsReady};
+ghost use Rattle.archive_store.specs.Told.{HasReturned, IsReady, archive_in};
 ghost use Rattle.archive_serve.specs.Announced.{listening_line};
-ghost use Rattle.archive_serve.specs.Pages.{AnswersAs};
+ghost use Rattle.archive_serve.specs.Pages.{AnswersAs, EndsAs, IsKept, LeavesKept};
 
+use crate::pages::PageService;
 use crate::serving::serve_on;
-use archive_listen::Listener;
+use archive_listen::{Listener, Outgoing};
 use archive_store::Store;
-use civil_time::Day;
 use mbox_core::device::{Sink, write_bytes};
-use policy_core::Policy;
 use sqlite::Alter;
 use std::alloc::Global;
 use std::error::Error;
@@ -42,9 +41,10 @@ impl fmt::Display for ServeStop {
 
 impl Error for ServeStop {}
 
-/// Writes the line that says where the archive listens.
-fn announce<O: Sink>(alloc: Global, port: u16, output: &mut O) -> Result<(), ServeStop>
+/// Writes the line that says where the archive listens, and passes it on.
+fn announce<O: Outgoing>(alloc: Global, port: u16, output: &mut O) -> Result<(), ServeStop>
     ensures ok { OnOk result (O.told output.new ≡ O.told output.old ++ listening_line port) }
+    ensures passed { OnOk result (O.sent output.new ≡ O.told output.new) }
     ensures cause { IfErr result (λ stop. stop ≢ ServeStop.Listen) }
     ensures write { result ≡ Err ServeStop.Write → O.failures output.old < O.failures output.new }
 {
@@ -52,48 +52,51 @@ fn announce<O: Sink>(alloc: Global, port: u16, output: &mut O) -> Result<(), Ser
         return Err(ServeStop::Memory);
     };
     match write_bytes(output, line.as_bytes()) {
+        Ok(()) => {}
+        Err(_) => return Err(ServeStop::Write),
+    }
+    match output.flush() {
         Ok(()) => Ok(()),
         Err(_) => Err(ServeStop::Write),
     }
 }
 
 /// Says on the output where the archive listens, and then answers `count` connections as `serve_on` does. The listener listens
-/// on that port already; an output that holds back what it is given tells nobody in time.
-pub fn serve<T: Threader, S: Alter, L: Listener, O: Sink, E: Sink>(
-    alloc: Global,
+/// on that port already, and the line is passed on before the first connection is taken.
+pub fn serve<T: Threader, S: Alter, L: Listener, O: Outgoing, E: Sink>(
     store: &mut Store<S>,
-    policy: &Policy,
-    threader: &T,
-    day: Day,
-    most: usize,
+    pages: &mut PageService<'_, T>,
     listener: &mut L,
     port: u16,
     count: u32,
     output: &mut O,
     faults: &mut E,
 ) -> Result<(), ServeStop>
-    ensures announced { OnOk result (O.told output.new ≡ O.told output.old ++ listening_line port) }
-    ensures served { OnOk result ((outcomes : List Outcome) × (length outcomes ≡ count)
-        × (HasReturned S.Store store.new → IsReady S.Store store.old → ServesEach (AnswersAs S.Store policy.now day)
+    ensures served { OnOk result ((O.told output.new ≡ O.told output.old ++ listening_line port) × (O.sent output.new ≡ O.told output.new)
+        × (outcomes : List Outcome) × (length outcomes ≡ count)
+        × (HasReturned S.Store store.new → IsReady S.Store store.old → IsKept pages.old (archive_in S.Store store.old)
+        → ServesEach (AnswersAs S.Store pages.old.rules pages.old.day)
         L.accepts L.closes outcomes (served listener.old store.old) (served listener.new store.new))
-        × (E.failures faults.new ≡ E.failures faults.old → E.told faults.new ≡ E.told faults.old ++ flat_map outcome_line outcomes)) }
+        × (E.failures faults.new ≡ E.failures faults.old → E.told faults.new ≡ E.told faults.old ++ flat_map outcome_line outcomes)
+        × ServesEach (EndsAs S.Store) L.accepts L.closes outcomes (served listener.old store.old) (served listener.new store.new)) }
 
     // At F4 it was said where the archive listens, and fewer connections were answered; before that nothing was touched.
-    ensures stopped { result ≡ Err ServeStop.Listen → (O.told output.new ≡ O.told output.old ++ listening_line port)
+    ensures stopped { result ≡ Err ServeStop.Listen → (O.told output.new ≡ O.told output.old ++ listening_line port) × (O.sent output.new ≡ O.told output.new)
         × (outcomes : List Outcome) × (last : Served L (Store S)) × (length outcomes < count)
-        × (HasReturned S.Store store.new → IsReady S.Store store.old → ServesEach (AnswersAs S.Store policy.now day)
+        × (HasReturned S.Store store.new → IsReady S.Store store.old → IsKept pages.old (archive_in S.Store store.old)
+        → ServesEach (AnswersAs S.Store pages.old.rules pages.old.day)
         L.accepts L.closes outcomes (served listener.old store.old) last)
         × (store.new ≡ last.state) × L.accepts last.listener listener.new (Some accepting.Listener)
-        × (E.failures faults.new ≡ E.failures faults.old → E.told faults.new ≡ E.told faults.old ++ flat_map outcome_line outcomes) }
+        × (E.failures faults.new ≡ E.failures faults.old → E.told faults.new ≡ E.told faults.old ++ flat_map outcome_line outcomes)
+        × ServesEach (EndsAs S.Store) L.accepts L.closes outcomes (served listener.old store.old) last }
     ensures untouched { IfErr result (λ stop. stop ≢ ServeStop.Listen
-        → (store.new ≡ store.old) × (listener.new ≡ listener.old) × (faults.new ≡ faults.old)) }
+        → (store.new ≡ store.old) × (listener.new ≡ listener.old) × (faults.new ≡ faults.old) × (pages.new ≡ pages.old)
+        × (stop ≡ ServeStop.Write → O.failures output.old < O.failures output.new)) }
+    ensures keeps { LeavesKept S.Store pages.old pages.new store.old store.new }
     ensures failures { E.failures faults.old ≤ E.failures faults.new }
-    ensures write { result ≡ Err ServeStop.Write → O.failures output.old < O.failures output.new }
 {
-    announce(alloc, port, output)?;
-    match serve_on(
-        alloc, store, policy, threader, day, most, listener, count, faults,
-    ) {
+    announce(pages.pages.alloc, port, output)?;
+    match serve_on(store, pages, listener, count, faults) {
         Ok(()) => Ok(()),
         Err(_) => Err(ServeStop::Listen),
     }

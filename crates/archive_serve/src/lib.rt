@@ -7,5 +7,5 @@ mod pages;
 mod serving;
 
 pub use announcing::{ServeStop, serve};
-pub use pages::Pages;
+pub use pages::PageService;
 pub use serving::serve_on;

@@ -2,8 +2,8 @@ use Rattle.std.proofs.Common.{◌≡◌, rules}
 use Rattle.archive_listen.specs.Connections.{telling}
 use Rattle.archive_serve.specs.Pages.{outcome_of}
 use Rattle.archive_serve.proofs.KeptLemmas.{answers_kept}
-use Rattle.archive_serve.proofs.pages.PagesServiceStore.answer.Goals.{in-Ok, in-Err-Read, in-Err-Write, in-Err-Broken}
-use Rattle.archive_serve.proofs.pages.PagesServiceStore.answer.Goals as goal
+use Rattle.archive_serve.proofs.pages.PageServiceServiceStore.answer.Goals.{in-Ok, in-Err-Read, in-Err-Write, in-Err-Broken}
+use Rattle.archive_serve.proofs.pages.PageServiceServiceStore.answer.Goals as goal
 
 pub returns : goal.returns
 returns g c =
@@ -14,7 +14,8 @@ returns g c =
       | in-Err-Write w ↦ search rules
       | in-Err-Broken w ↦ search rules
     ] in
-    rw (← c.self.view_is) (answers_kept g.S.Store c.self.inside.policy.now c.self.inside.day c.self.inside.kept answer.new.kept c.args.state.now answer.new.store
+    rw (← c.self.view_is) (answers_kept g.S.Store c.self.inside.pages answer.new.pages c.args.state.now answer.new.store
     (telling (g.R.Source.told c.args.input.now) (g.R.Source.ends c.args.input.now) (g.R.Source.failures c.args.input.now) (g.W.Sink.told c.args.output.now) (g.W.Sink.failures c.args.output.now))
     (telling (g.R.Source.told answer.new.input) (g.R.Source.ends answer.new.input) (g.R.Source.failures answer.new.input) (g.W.Sink.told answer.new.output) (g.W.Sink.failures answer.new.output))
-    answer.result c.match-answered.result ends answer.ensures.answered answer.ensures.keeps answer.ensures.stays answer.ensures.quiet answer.ensures.cause)
+    answer.result c.match-answered.result ends answer.ensures.answered answer.ensures.keeps answer.ensures.ends.stays answer.ensures.ends.quiet answer.ensures.ends.cause
+    answer.ensures.caused)
