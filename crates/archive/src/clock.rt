@@ -7,6 +7,7 @@ use std::time::{SystemTime, UNIX_EPOCH};
 /// The system's clock.
 #[derive(Drop)]
 pub struct SystemDay<'a, R> {
+    /// The system that is asked for the time.
     pub rt: &'a R,
 }
 

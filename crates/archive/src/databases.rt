@@ -81,6 +81,7 @@ fn connect(rt: &HostRuntime, name: &str) -> Result<Connection<FileStore<File>>, 
 /// The system's files, as databases.
 #[derive(Drop)]
 pub struct SystemDatabases<'a> {
+    /// The system whose files they are.
     pub rt: &'a HostRuntime,
 }
 

@@ -5,4 +5,5 @@ pub mod SiftExamples
 pub mod WorkLemmas
 pub mod CheckLemmas
 pub mod OrderLemmas
-pub mod ServeLemmas
+pub mod ResultLemmas
+pub mod FreshLemmas

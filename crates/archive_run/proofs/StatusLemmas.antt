@@ -1,17 +1,18 @@
 -- What an exit status says.
-use Rattle.std.proofs.Common.{◌≡◌, ◌≤◌, ◌⊎◌, inl, inr, ℕ, List, [], ◌∷◌, Bool, true, false, Option, Some, None, Result, Ok, Err, subst, arith}
-use Rattle.std.specs.Prelude.{MatchResult, OnOk, IfErr}
-use Rattle.archive_words.specs.Values.{SiftValues}
+use Rattle.std.proofs.Common.{◌≡◌, ◌≤◌, ◌⊎◌, inl, inr, ℕ, List, [], ◌∷◌, Bool, true, false, Option, Some, None, Result, Ok, Err, arith}
+use Rattle.std.specs.Prelude.{MatchResult}
 use Rattle.archive_words.specs.declared.orders.Order.{Order}
-use Rattle.archive_words.specs.declared.orders.Order.TheVariants.{Sift}
 use Rattle.archive_words.specs.declared.orders.OrderStop.{OrderStop}
 use Rattle.archive_words.specs.declared.orders.OrderStop.TheVariants.{Help, Words, Memory}
-use Rattle.archive_words.specs.Orders.{IsMemory, IsStopOf, ordered}
+use Rattle.archive_words.specs.Orders.{AreBad, IsMemory, IsStopOf, ordered}
 use Rattle.clap.specs.Words.{IsAmong, Kinds, fault_of, takes}
 use Rattle.archive_words.specs.Program.{archive_app}
 use Rattle.clap.specs.declared.error.kind.ErrorKind.{ErrorKind}
 use Rattle.archive_run.specs.Running.{GiveOrder}
-use Rattle.archive_run.specs.Orders.{OnSift}
+use Rattle.archive_run.specs.Runs.{SaysStop, TellsLast}
+use Rattle.archive_run.specs.World.{Devices}
+use Rattle.archive_run.specs.declared.faults.Refusal.TheVariants as refusal
+use Rattle.archive_run.specs.declared.world.World.{World}
 
 none_among : (k : ErrorKind) (kinds : Kinds) → kinds ≡ [] → IsAmong k kinds → ⊥
 none_among k [] e among = among
@@ -26,18 +27,14 @@ module _ {A R : Type 0} (Kept : Type 0) (Told : R → Type 0) where
   at_most_one (Ok a) status is = omega (arith, is.0)
   at_most_one (Err refusal) status is = omega (arith, is.0)
 
-  pub kept : (done : Result A R) (status : ℕ) → IsStatus done status → status ≡ 0 → Kept
-  kept (Ok a) status is zero = is.1
-  kept (Err refusal) status is zero = let one : status ≡ 1 = is.0 in cc
+  pub at_zero : (Runs : Result A R → Type 0) (done : Result A R) (status : ℕ) → IsStatus done status → Runs done → status ≡ 0 → (a : A) × Runs (Ok a) × Kept
+  at_zero Runs (Ok a) status is it zero = (a, it, is.1)
+  at_zero Runs (Err refusal) status is it zero = let one : status ≡ 1 = is.0 in cc
 
-  pub at_zero : (Done : Type 0) (done : Result A R) (status : ℕ) → IsStatus done status → OnOk done Done → status ≡ 0 → Done
-  at_zero Done (Ok a) status is it zero = it
-  at_zero Done (Err refusal) status is it zero = let one : status ≡ 1 = is.0 in cc
-
-  pub at_one : (Why : R → Type 0) (done : Result A R) (status : ℕ) → IsStatus done status → IfErr done Why → status ≡ 1
-      → (refusal : R) × Told refusal × Why refusal
-  at_one Why (Ok a) status is it one = let zero : status ≡ 0 = is.0 in cc
-  at_one Why (Err refusal) status is it one = (refusal, is.1, it)
+  pub at_one : (Runs : Result A R → Type 0) (done : Result A R) (status : ℕ) → IsStatus done status → Runs done → status ≡ 1
+      → (refusal : R) × Runs (Err refusal) × Told refusal
+  at_one Runs (Ok a) status is it one = let zero : status ≡ 0 = is.0 in cc
+  at_one Runs (Err refusal) status is it one = (refusal, it, is.1)
 
 -- words that are taken and order something are refused for want of memory alone
 stopped : {A M : Type 0} (takes : Bool) (found : Option A) (order : A) → M ⊎ ((takes ≡ false) ⊎ (found ≡ None)) → takes ≡ true → found ≡ Some order → M
@@ -61,5 +58,18 @@ memory_alone words order stop refused is (inr none, some) = unfaulted words orde
 pub same_order : {A : Type 0} (found : Option A) (x y : A) → found ≡ Some x → found ≡ Some y → x ≡ y
 same_order found x y a b = cc
 
-pub on_sift : (order : Order) (sift : SiftValues) (P : SiftValues → Type 0) → order ≡ Sift sift → OnSift order P → P sift
-on_sift order sift P e it = subst (λ o. OnSift o P) e it
+-- what is said of a want of memory, and of bad words
+module _ {Y S F D C P T R O E I L K A B M : Type 0} (dev : Devices S F I D C P L T R O E) (old new : World Y S F D C P T R O E I L K A B M) (status : ℕ) where
+  pub memory_said : (stop : OrderStop) → IsMemory stop → SaysStop dev old new stop status → (status ≡ 1) × TellsLast dev old new refusal.Memory
+  memory_said Memory is said = said
+  memory_said (Help text) is said = absurd is
+  memory_said (Words text) is said = absurd is
+
+  pub words_bad : (words : List (List ℕ)) (stop : OrderStop) → IsStopOf words stop
+      → IsMemory stop ⊎ ((takes archive_app words ≡ false) ⊎ (ordered words ≡ None)) → SaysStop dev old new stop status → status ≡ 2
+      → AreBad words × ((takes archive_app words ≡ false) ⊎ (ordered words ≡ None))
+  words_bad words Memory is why said two = let one : status ≡ 1 = said.0 in cc
+  words_bad words (Help text) is why (inl done) two = let zero : status ≡ 0 = done.0 in cc
+  words_bad words (Help text) is why (inr failed) two = let one : status ≡ 1 = failed.0 in cc
+  words_bad words (Words text) is (inl memory) said two = absurd memory
+  words_bad words (Words text) is (inr bad) said two = (is, bad)

@@ -1,21 +1,19 @@
 -- What becomes of a database that is opened by its name, and closed again.
-use Rattle.std.specs.Prelude.{ℕ, List, Result, Ok, Err}
+use Rattle.std.specs.Prelude.{ℕ, List, Ok, Err}
 use Rattle.archive_store.specs.declared.store.Store.{Store}
 use Rattle.archive_store.specs.declared.faults.StoreFault.{StoreFault}
+use Rattle.archive_run.specs.declared.databases.Databases.{Ghosts}
 
--- `opens` holds of a device before it is asked for the database of a name and after, and of the store that it gives; `closes`
--- of a device before it takes a store back and after, and of that store.
-module _ {S D : Type 0} (opens : D → D → List ℕ → Result (Store S) StoreFault → Type 0) (closes : D → D → Store S → Type 0)
-    (old new : D) (file : List ℕ) where
+module _ {S D : Type 0} (keeps : Ghosts D (Store S)) (old new : D) (file : List ℕ) where
   -- The database of this name was opened; this became of its store; and it was closed. Nothing else was asked of the device.
   pub record Works (Becomes : Store S → Store S → Type 0) : Type 0 where
     pub device : D
     pub before : Store S
     pub after : Store S
-    pub opened : opens old device file (Ok before)
+    pub opened : keeps.opens old device file (Ok before)
     pub becomes : Becomes before after
-    pub closed : closes device new after
+    pub closed : keeps.closes device new after
 
   -- It was not opened, for this fault.
   abbrev pub IsUnopened : StoreFault → Type 0
-  IsUnopened fault = opens old new file (Err fault)
+  IsUnopened fault = keeps.opens old new file (Err fault)

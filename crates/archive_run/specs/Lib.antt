@@ -1,9 +1,10 @@
 pub mod Sifting
-pub mod Stops
 pub mod Refusals
+pub mod World
 pub mod Running
 pub mod Databases
 pub mod Files
 pub mod Working
 pub mod Orders
 pub mod Serving
+pub mod Runs

@@ -1,15 +1,14 @@
 -- How refusals are told.
-use Rattle.std.specs.Prelude.{◌≡◌, ◌⊎◌, ◌&&◌, ◌++◌, nat_le, ℕ, List, map, codes, decimal, string_bytes, if◌then◌else◌}
+use Rattle.std.specs.Prelude.{◌≡◌, ◌≤◌, ◌⊎◌, ◌&&◌, ◌++◌, nat_le, ℕ, List, map, codes, decimal, string_bytes, if◌then◌else◌}
 use Rattle.mbox_core.specs.declared.faults.MboxFault.{MboxFault}
 use Rattle.mbox_core.specs.declared.faults.MboxFault.TheVariants as mbox
 use Rattle.policy_core.specs.declared.faults.PolicyFault.{PolicyFault}
 use Rattle.policy_core.specs.declared.faults.PolicyFault.TheVariants as policy
-use Rattle.archive_store.specs.declared.faults.StoreFault.{StoreFault}
-use Rattle.archive_store.specs.declared.faults.StoreFault.TheVariants as store
-use Rattle.archive_desk.specs.declared.faults.DeskFault.{DeskFault}
-use Rattle.archive_desk.specs.declared.faults.DeskFault.TheVariants as desk
+use Rattle.archive_store.specs.Names.{store_text}
+use Rattle.archive_desk.specs.Names.{desk_text}
 use Rattle.archive_desk.specs.declared.importing.ImportFault.{ImportFault}
 use Rattle.archive_desk.specs.declared.importing.ImportFault.TheVariants as taking
+use Rattle.archive_run.specs.World.{Noted}
 use Rattle.archive_run.specs.declared.faults.Refusal.{Refusal}
 use Rattle.archive_run.specs.declared.faults.Refusal.TheVariants.{Mbox, Policy, Store, Desk, Import, Damaged, Denied, Read, Write, Clock, Net, Memory}
 
@@ -28,31 +27,6 @@ policy_text (policy.DuplicateName rule) = codes "P5 DuplicateName in rule " ++ d
 policy_text (policy.BadValue rule) = codes "P6 BadValue in rule " ++ decimal rule
 policy_text policy.TooManyRules = codes "P7 TooManyRules"
 policy_text policy.Memory = codes "P8 Memory"
-
-abbrev pub store_text : StoreFault → List ℕ
-store_text store.BadName = codes "E1 BadName"
-store_text store.BadText = codes "E2 BadText"
-store_text store.ListExists = codes "E3 ListExists"
-store_text store.NoList = codes "E4 NoList"
-store_text store.PersonExists = codes "E5 PersonExists"
-store_text store.NoPerson = codes "E6 NoPerson"
-store_text store.TokenTaken = codes "E7 TokenTaken"
-store_text store.NoMessage = codes "E8 NoMessage"
-store_text store.AlreadyWithdrawn = codes "E9 AlreadyWithdrawn"
-store_text store.NotWithdrawn = codes "E10 NotWithdrawn"
-store_text store.BadDays = codes "E11 BadDays"
-store_text store.ListFull = codes "E12 ListFull"
-store_text store.TooLarge = codes "E13 TooLarge"
-store_text store.Memory = codes "E14 Memory"
-store_text store.Store = codes "E15 Store"
-
-abbrev pub desk_text : DeskFault → List ℕ
-desk_text desk.NoList = codes "G1 NoList"
-desk_text desk.NoPerson = codes "G2 NoPerson"
-desk_text desk.NotInView = codes "G3 NotInView"
-desk_text (desk.Store fault) = codes "G4 Store"
-desk_text desk.Memory = codes "G5 Memory"
-desk_text desk.Write = codes "G6 Write"
 
 abbrev pub import_text : ImportFault → List ℕ
 import_text (taking.Mbox fault) = mbox_text fault
@@ -97,3 +71,8 @@ fault_line refusal = codes "archive: " ++ refusal_text refusal ++ codes "\n"
 -- The line of the refusal was told, or the line that there was no memory for it.
 abbrev pub TellsOf : Refusal → List ℕ → List ℕ → Type 0
 TellsOf refusal old new = (new ≡ old ++ fault_line refusal) ⊎ (new ≡ old ++ fault_line Memory)
+
+-- One line told the refusal, where the stream of faults did not fail.
+abbrev pub Tells : Refusal → (before after : Noted) → Type 0
+Tells refusal before after =
+    (before.failures ≤ after.failures) × (after.failures ≡ before.failures → TellsOf refusal before.written after.written)

@@ -1,45 +1,52 @@
 -- What a run of an order to serve does, and why it is refused.
-use Rattle.std.specs.Prelude.{◌≡◌, ◌⊎◌, ◌<◌, ◌++◌, ℕ, ℤ, Bool, true, List, flat_map, length, Option, Some, None, Result, Ok, Err}
+use Rattle.std.specs.Prelude.{◌≡◌, ◌⊎◌, ◌<◌, ◌≤◌, ◌++◌, ℕ, ℤ, Bool, true, false, List, flat_map, length, Option, Some, Result, Ok, Err, ⊤, MatchResult}
 use Rattle.sqlite.specs.Store.{Ghosts}
+use Rattle.mbox_core.specs.declared.device.Sink.{Ghosts as Takes}
 use Rattle.policy_core.specs.Rules.{Rule}
 use Rattle.archive_store.specs.Told.{HasReturned, IsReady}
 use Rattle.archive_store.specs.declared.store.Store.{Store as Open}
-use Rattle.archive_store.specs.declared.faults.StoreFault.{StoreFault}
 use Rattle.archive_listen.specs.Connections.{Exchange, Outcome, outcome_line}
 use Rattle.archive_listen.specs.Serving.{Served, ServesEach, served}
 use Rattle.archive_listen.specs.declared.connections.Listening.{Listening}
+use Rattle.archive_listen.specs.declared.connections.Outgoing.{Ghosts as Passes}
 use Rattle.archive_listen.specs.declared.faults.AcceptFault.{AcceptFault}
 use Rattle.archive_listen.specs.declared.faults.AcceptFault.TheVariants as accepting
 use Rattle.archive_listen.specs.declared.faults.ListenFault.{ListenFault}
 use Rattle.archive_serve.specs.Announced.{listening_line}
-use Rattle.archive_serve.specs.Pages.{AnswersAs}
+use Rattle.archive_serve.specs.Pages.{AnswersAs, EndsAs}
 use Rattle.archive_words.specs.Values.{ServeValues}
 use Rattle.archive_run.specs.Databases.{Works}
-use Rattle.archive_run.specs.Running.{IsPolicyOf, IsPolicyCause, IsDayBy}
-use Rattle.archive_run.specs.Working.{Sent, sent, NotOpened}
+use Rattle.archive_run.specs.Orders.{ByPolicy, OnDay}
+use Rattle.archive_run.specs.Working.{NotOpened}
+use Rattle.archive_run.specs.World.{Noted, Sent, noted, sent}
+use Rattle.archive_run.specs.declared.clock.DayClock.{Ghosts as Tells}
+use Rattle.archive_run.specs.declared.databases.Databases.{Ghosts as Keeps}
 use Rattle.archive_run.specs.declared.faults.Refusal.{Refusal}
-use Rattle.archive_run.specs.declared.faults.Refusal.TheVariants.{Write, Clock, Net, Memory}
-use Rattle.archive_run.specs.declared.files.FileFault.{FileFault}
+use Rattle.archive_run.specs.declared.faults.Refusal.TheVariants.{Read, Write, Net, Memory}
+use Rattle.archive_run.specs.declared.files.ReadFiles.{Ghosts as Gives}
+use Rattle.archive_run.specs.declared.world.World.{World}
 
 -- what went out, and what was told of faults
 pub record Said : Type 0 where
   pub output : Sent
-  pub faults : Sent
+  pub faults : Noted
 
--- the same of two devices: what each told, and how often it failed
-abbrev pub said : List ℕ → ℕ → List ℕ → ℕ → Said
-said out out_failures faults faults_failures = record { output = sent out out_failures; faults = sent faults faults_failures }
+abbrev pub said : {O E : Type 0} → Takes O → Passes O → Takes E → O → E → Said
+said takes passes notes output faults = record { output = sent takes passes output; faults = noted notes faults }
 
 -- ---- an open store, and a listener that listens already
 
 -- `accepts` and `shuts` are what a listener says of a connection that it gives, or does not, and of one that it takes back.
 module _ {S L : Type 0} (g : Ghosts S) (accepts : L → L → Option AcceptFault → Type 0) (shuts : L → L → Exchange → Bool → Type 0)
     (rules : List Rule) (day : ℤ) (listening : Listening L) (old new : Open S) (before after : Said) where
-  -- The line that says where the archive listens went out; then connections were answered by these rules and on this day, with
-  -- these outcomes, where the store was ready; and each fault was told in one line, where the stream of faults did not fail.
+  -- The line that says where the archive listens went out, and was passed on; then connections were answered by these rules and on
+  -- this day, with these outcomes, where the store was ready, and each ended so whatever the store was; and each fault was told in
+  -- one line, where the stream of faults did not fail.
   pub record ServesThese (last : Served L (Open S)) (outcomes : List Outcome) : Type 0 where
     pub announced : after.output.written ≡ before.output.written ++ listening_line listening.port
+    pub passed : after.output.passed ≡ after.output.written
     pub serves : HasReturned g new → IsReady g old → ServesEach (AnswersAs g rules day) accepts shuts outcomes (served listening.listener old) last
+    pub ends : ServesEach (EndsAs g) accepts shuts outcomes (served listening.listener old) last
     pub told : after.faults.failures ≡ before.faults.failures → after.faults.written ≡ before.faults.written ++ flat_map outcome_line outcomes
 
   -- as many connections as were ordered
@@ -82,43 +89,50 @@ module _ {S L P : Type 0} (g : Ghosts S) (accepts : L → L → Option AcceptFau
 
 -- ---- an order
 
-module _ {S L P D : Type 0} (g : Ghosts S) (accepts : L → L → Option AcceptFault → Type 0) (shuts : L → L → Exchange → Bool → Type 0)
-    (listens : P → P → ℕ → Result (Listening L) ListenFault → Type 0)
-    (opens : D → D → List ℕ → Result (Open S) StoreFault → Type 0) (closes : D → D → Open S → Type 0)
-    (ports_old ports_new : P) (old new : D) (before after : Said) where
-  -- In the database of this name, by these rules and on this day.
-  abbrev pub FileServes : (file : List ℕ) (port count : ℕ) → List Rule → ℤ → Type 0
-  FileServes file port count rules day =
-      Works opens closes old new file (λ o c. PortServes g accepts shuts listens ports_old ports_new port count rules day o c before after)
+-- What a run is over before and after, and what the traits of its devices say.
+module _ {Y S F D C P T R O E I L K A B M : Type 0} (old new : World Y S F D C P T R O E I L K A B M) (takes : Takes O) (passes : Passes O) (notes : Takes E)
+    (pages : Ghosts S) (listens : P → P → ℕ → Result (Listening L) ListenFault → Type 0)
+    (accepts : L → L → Option AcceptFault → Type 0) (shuts : L → L → Exchange → Bool → Type 0) where
+  -- what was said before and after
+  abbrev pub before : Said
+  before = said takes passes notes old.output old.faults
 
-  -- The database was not opened (E14, E15), and nothing else was touched; or it was, and this came of it.
-  abbrev pub FileServesNot : (file : List ℕ) (port count : ℕ) → List Rule → ℤ → Refusal → Type 0
-  FileServesNot file port count rules day refusal =
-      (NotOpened opens closes old new file refusal × (ports_new ≡ ports_old) × (after ≡ before))
-      ⊎ Works opens closes old new file (λ o c. PortServesNot g accepts shuts listens ports_old ports_new port count rules day o c before after refusal)
+  abbrev pub after : Said
+  after = said takes passes notes new.output new.faults
 
-  module _ {C : Type 0} (tells : C → C → Option ℤ → Type 0) (clock_old clock_new : C) where
-    -- By these rules, on the day that was given or that the clock told.
-    abbrev pub IsServeBy : ServeValues → List Rule → Type 0
-    IsServeBy order rules = (day : ℤ) × IsDayBy tells order.day true clock_old clock_new (Some day)
-        × FileServes order.file order.port order.count rules day
+  -- The same of the port and the count of an order, out of an open store; nothing was touched but for the ports, the output and the
+  -- stream of faults.
+  abbrev pub ServesOpen : (store_old store_new : Open S) → ServeValues → List Rule → ℤ → Result ⊤ Refusal → Type 0
+  ServesOpen store_old store_new order rules day result = MatchResult result
+      (λ _. PortServes pages accepts shuts listens old.ports new.ports order.port order.count rules day store_old store_new before after)
+      (PortServesNot pages accepts shuts listens old.ports new.ports order.port order.count rules day store_old store_new before after)
+      × (new ≡ record old { ports = new.ports; output = new.output; faults = new.faults })
 
-    -- There is no day (F3), and nothing else was touched; or it failed on the day.
-    abbrev pub IsServeByCause : ServeValues → List Rule → Refusal → Type 0
-    IsServeByCause order rules refusal =
-        ((refusal ≡ Clock) × IsDayBy tells order.day true clock_old clock_new None
-        × (new ≡ old) × (ports_new ≡ ports_old) × (after ≡ before))
-        ⊎ ((day : ℤ) × IsDayBy tells order.day true clock_old clock_new (Some day)
-        × FileServesNot order.file order.port order.count rules day refusal)
+  module _ (keeps : Keeps D (Open S)) where
+    -- By these rules and on this day the database of the order was served, and nothing else was touched but for the databases. Or
+    -- it was not opened (E14, E15); or it was, and this came of it.
+    abbrev pub ServesIn : ServeValues → List Rule → ℤ → Result ⊤ Refusal → Type 0
+    ServesIn order rules day (Ok done) = Works keeps old.databases new.databases order.file
+        (λ o c. PortServes pages accepts shuts listens old.ports new.ports order.port order.count rules day o c before after)
+        × (new ≡ record old { databases = new.databases; ports = new.ports; output = new.output; faults = new.faults })
+    ServesIn order rules day (Err refusal) =
+        (NotOpened keeps old.databases new.databases order.file refusal × (new ≡ record old { databases = new.databases }))
+        ⊎ (Works keeps old.databases new.databases order.file
+        (λ o c. PortServesNot pages accepts shuts listens old.ports new.ports order.port order.count rules day o c before after refusal)
+        × (new ≡ record old { databases = new.databases; ports = new.ports; output = new.output; faults = new.faults }))
 
-    module _ {F : Type 0} (gives : F → List ℕ → Result (List ℕ) FileFault → Type 0) (files : F) where
-      -- The order was carried out by the rules of the named policy.
-      abbrev pub IsServeDone : ServeValues → Type 0
-      IsServeDone order = (rules : List Rule) × IsPolicyOf gives files (Some order.policy) rules × IsServeBy order rules
+module _ {Y S F D C P T R O E I L K A B M : Type 0} (old new : World Y S F D C P T R O E I L K A B M) (takes : Takes O) (passes : Passes O) (notes : Takes E)
+    (pages : Ghosts S) (listens : P → P → ℕ → Result (Listening L) ListenFault → Type 0)
+    (accepts : L → L → Option AcceptFault → Type 0) (shuts : L → L → Exchange → Bool → Type 0) (keeps : Keeps D (Open S)) (tells : Tells C) where
+  -- on the day of the order
+  abbrev pub ServesUnder : ServeValues → List Rule → Result ⊤ Refusal → Type 0
+  ServesUnder order rules = OnDay old new tells order.day
+      (λ asked day. ServesIn asked new takes passes notes pages listens accepts shuts keeps order rules day)
 
-      -- There are no rules (F1, P1 to P8), and nothing else was touched; or it failed by these rules.
-      abbrev pub IsServeCause : ServeValues → Refusal → Type 0
-      IsServeCause order refusal =
-          (IsPolicyCause gives files (Some order.policy) refusal × (clock_new ≡ clock_old)
-          × (new ≡ old) × (ports_new ≡ ports_old) × (after ≡ before))
-          ⊎ ((rules : List Rule) × IsPolicyOf gives files (Some order.policy) rules × IsServeByCause order rules refusal)
+  -- By the rules of the named policy, where there is what threads messages; the stream of faults may have failed more often by then.
+  -- Or there is none (F1), and nothing was touched. `makes` holds of whoever makes one, and of whether it was made.
+  abbrev pub RunsServe : Gives F → (makes : T → Bool → Type 0) → ServeValues → Result ⊤ Refusal → Type 0
+  RunsServe gives makes order result =
+      (makes old.threaders true × ByPolicy old new gives (Some order.policy) (ServesUnder order) result
+      × (notes.failures old.faults ≤ notes.failures new.faults))
+      ⊎ (makes old.threaders false × (result ≡ Err Read) × (new ≡ old))

@@ -1,6 +1,7 @@
 //! What the program says where it refuses.
-ghost use Rattle.std.specs.Prelude.{◌≡◌, ◌≤◌};
-ghost use Rattle.archive_run.specs.Refusals.{TellsOf, desk_text, store_text};
+ghost use Rattle.std.specs.Prelude.{◌≡◌};
+ghost use Rattle.archive_run.specs.Refusals.{Tells};
+ghost use Rattle.archive_run.specs.World.{noted};
 
 use archive_desk::{DeskFault, ImportFault, ImportStop};
 use archive_store::StoreFault;
@@ -27,7 +28,7 @@ pub enum Refusal {
     Damaged { list: String, key: String },
     /// The rule of this name denies a message.
     Denied(String),
-    /// F1: a file could not be read, or not be opened to be read piece by piece.
+    /// F1: a file could not be read, or not be opened to be read piece by piece; or what threads messages could not be made.
     Read,
     /// F2: standard output failed.
     Write,
@@ -83,43 +84,6 @@ impl fmt::Display for PolicyText {
     }
 }
 
-/// A refusal of the store, as it prints.
-fn store_name(fault: StoreFault) -> &'static str
-    ensures { result.now ≡ store_text fault }
-{
-    match fault {
-        StoreFault::BadName => "E1 BadName",
-        StoreFault::BadText => "E2 BadText",
-        StoreFault::ListExists => "E3 ListExists",
-        StoreFault::NoList => "E4 NoList",
-        StoreFault::PersonExists => "E5 PersonExists",
-        StoreFault::NoPerson => "E6 NoPerson",
-        StoreFault::TokenTaken => "E7 TokenTaken",
-        StoreFault::NoMessage => "E8 NoMessage",
-        StoreFault::AlreadyWithdrawn => "E9 AlreadyWithdrawn",
-        StoreFault::NotWithdrawn => "E10 NotWithdrawn",
-        StoreFault::BadDays => "E11 BadDays",
-        StoreFault::ListFull => "E12 ListFull",
-        StoreFault::TooLarge => "E13 TooLarge",
-        StoreFault::Memory => "E14 Memory",
-        StoreFault::Store => "E15 Store",
-    }
-}
-
-/// A refusal of the desk, as it prints.
-fn desk_name(fault: DeskFault) -> &'static str
-    ensures { result.now ≡ desk_text fault }
-{
-    match fault {
-        DeskFault::NoList => "G1 NoList",
-        DeskFault::NoPerson => "G2 NoPerson",
-        DeskFault::NotInView => "G3 NotInView",
-        DeskFault::Store(_) => "G4 Store",
-        DeskFault::Memory => "G5 Memory",
-        DeskFault::Write => "G6 Write",
-    }
-}
-
 /// Where an import stopped, as it prints.
 #[derive(Clone, Copy)]
 struct ImportText(ImportStop);
@@ -138,7 +102,7 @@ impl fmt::Display for ImportText {
                 write!(f, "{name} after {done}")
             }
             ImportFault::Store(fault) => {
-                let name = store_name(fault);
+                let name = fault.name();
                 write!(f, "{name} after {done}")
             }
         }
@@ -155,8 +119,8 @@ impl fmt::Display for Refusal {
         match self {
             Refusal::Mbox(fault) => MboxText(*fault).fmt(f),
             Refusal::Policy(fault) => PolicyText(*fault).fmt(f),
-            Refusal::Store(fault) => f.write_str(store_name(*fault)),
-            Refusal::Desk(fault) => f.write_str(desk_name(*fault)),
+            Refusal::Store(fault) => f.write_str(fault.name()),
+            Refusal::Desk(fault) => f.write_str(fault.name()),
             Refusal::Import(stop) => ImportText(*stop).fmt(f),
             Refusal::Damaged { list, key } => write!(f, "E16 Damaged {list} {key}"),
             Refusal::Denied(rule) => write!(f, "denied by {rule}"),
@@ -171,8 +135,7 @@ impl fmt::Display for Refusal {
 
 /// Writes a refusal as one line. Where that line fails there is nowhere left to say so.
 pub fn tell<E: Sink>(alloc: Global, faults: &mut E, refusal: &Refusal)
-    ensures told { E.failures faults.new ≡ E.failures faults.old → TellsOf refusal.now (E.told faults.old) (E.told faults.new) }
-    ensures failures { E.failures faults.old ≤ E.failures faults.new }
+    ensures { Tells refusal.now (noted E.Sink faults.old) (noted E.Sink faults.new) }
 {
     let _ = match format!(in alloc; "archive: {refusal}\n") {
         Ok(line) => write_bytes(faults, line.as_bytes()),

@@ -46,6 +46,7 @@ pub trait OpenFiles {
 /// The files of a system.
 #[derive(Drop)]
 pub struct SystemFiles<'a, R> {
+    /// The system whose files they are.
     pub rt: &'a R,
 }
 

@@ -1,83 +1,71 @@
 //! Orders over a database: what is read before it is opened, and what is written when it is closed.
-ghost use Rattle.std.specs.Prelude.{◌≡◌, ◌⊎◌, ℤ, true, List, Some, None, Ok, MatchResult, OnOk, IfErr};
-ghost use Rattle.policy_core.specs.Rules.{Rule};
+ghost use Rattle.std.specs.Prelude.{◌≡◌, ◌⊎◌, true, MatchResult};
 ghost use Rattle.archive_run.specs.Running.{IsDayBy};
-ghost use Rattle.archive_run.specs.Working.{IsDayCause, IsCheckCause, IsCheckDone, IsExportBy, IsExportCause, IsExportDone, IsExportFailed, IsGetBy, IsGetCause, IsGetDone, IsGetFailed, IsImportCause, IsImportDone, IsTableCause, IsTableDone, Sends, SendsPart, ask_by, report_line, sent};
+ghost use Rattle.archive_run.specs.Orders.{ExportsUnder, GetsUnder, RunsCheck, RunsExport, RunsGet, RunsImport, RunsTable, ask_by};
+ghost use Rattle.archive_run.specs.Working.{IsSent, SendsPart, Sends, report_line};
+ghost use Rattle.archive_run.specs.World.{sent};
 
 use crate::clock::DayClock;
-use crate::databases::Databases;
 use crate::faults::Refusal;
-use crate::files::{OpenFiles, ReadFiles};
 use crate::running::asked_policy;
 use crate::working::{work_check, work_export, work_get, work_import, work_table};
+use crate::world::{System, World};
 use archive_desk::Report;
+use archive_listen::Outgoing;
 use archive_results::{Ask, Reader};
-use archive_store::Store;
 use archive_words::{AskOrder, CheckOrder, GetOrder, ImportOrder, TableOrder};
 use civil_time::Day;
-use mbox_core::device::{Sink, write_bytes};
+use mbox_core::device::write_bytes;
 use policy_core::Policy;
-use sqlite::Alter;
 use std::alloc::Global;
 
-/// Writes a text to the output (F2).
-fn send<W: Sink>(output: &mut W, text: &[u8]) -> Result<(), Refusal>
-    ensures { MatchResult result
-        (λ _. Sends (sent (W.told output.old) (W.failures output.old)) (sent (W.told output.new) (W.failures output.new)) text.now)
-        (λ refusal. (refusal ≡ Refusal.Write)
-        × SendsPart (sent (W.told output.old) (W.failures output.old)) (sent (W.told output.new) (W.failures output.new)) text.now) }
+/// Writes a text to the output, and passes it on (F2).
+pub(crate) fn send<O: Outgoing>(output: &mut O, text: &[u8]) -> Result<(), Refusal>
+    ensures { IsSent (sent O.Sink O.Outgoing.own output.old) (sent O.Sink O.Outgoing.own output.new) text.now result }
 {
     match write_bytes(output, text) {
+        Ok(()) => {}
+        Err(_) => return Err(Refusal::Write),
+    }
+    match output.flush() {
         Ok(()) => Ok(()),
         Err(_) => Err(Refusal::Write),
     }
 }
 
 /// Carries a command out, and writes its word.
-pub(crate) fn run_table<S: Alter, D: Databases<Store<S>>, W: Sink>(
+pub(crate) fn run_table<Y: System>(
     alloc: Global,
-    databases: &mut D,
+    world: &mut World<Y>,
     order: &TableOrder<'_>,
-    output: &mut W,
 ) -> Result<(), Refusal>
-    ensures done { OnOk result (IsTableDone S.Store D.opens D.closes databases.old databases.new
-        (sent (W.told output.old) (W.failures output.old)) (sent (W.told output.new) (W.failures output.new)) order.now) }
-    ensures cause { IfErr result (λ refusal. IsTableCause S.Store D.opens D.closes databases.old databases.new
-        (sent (W.told output.old) (W.failures output.old)) (sent (W.told output.new) (W.failures output.new)) order.now refusal) }
+    ensures { RunsTable world.old world.new Y.Output.Sink Y.Output.Outgoing.own Y.Pages.Store Y.Databases.Databases order.now result }
 {
-    match work_table(alloc, databases, order) {
-        Ok(answer) => send(output, answer.line().as_bytes()),
+    match work_table(alloc, &mut world.databases, order) {
+        Ok(answer) => send(&mut world.output, answer.line().as_bytes()),
         Err(fault) => Err(Refusal::Store(fault)),
     }
 }
 
 /// Takes the messages of a file into a list, and writes how many they were.
-pub(crate) fn run_import<S: Alter, D: Databases<Store<S>>, F: OpenFiles, W: Sink>(
+pub(crate) fn run_import<Y: System>(
     alloc: Global,
-    databases: &mut D,
-    files: &F,
+    world: &mut World<Y>,
     order: &ImportOrder<'_>,
-    output: &mut W,
 ) -> Result<(), Refusal>
-    ensures done { OnOk result (IsImportDone S.Store D.opens D.closes databases.old databases.new
-        (sent (W.told output.old) (W.failures output.old)) (sent (W.told output.new) (W.failures output.new))
-        F.inputs F.Input.told F.Input.ends F.Input.failures files.now order.now) }
-    ensures cause { IfErr result (λ refusal. IsImportCause S.Store D.opens D.closes databases.old databases.new
-        (sent (W.told output.old) (W.failures output.old)) (sent (W.told output.new) (W.failures output.new))
-        F.inputs F.Input.told F.Input.ends F.Input.failures files.now order.now refusal) }
+    ensures { RunsImport world.old world.new Y.Output.Sink Y.Output.Outgoing.own Y.Pages.Store Y.Databases.Databases
+        Y.Files.OpenFiles Y.Files.Input.Source order.now result }
 {
-    match work_import(alloc, databases, files, order) {
-        Ok(report) => send_report(alloc, output, report),
+    match work_import(alloc, &mut world.databases, &world.files, order) {
+        Ok(report) => send_report(alloc, &mut world.output, report),
         Err(refusal) => Err(refusal),
     }
 }
 
 /// Writes how many messages an import took in (F2). F5: there was no memory for the line.
-fn send_report<W: Sink>(alloc: Global, output: &mut W, report: Report) -> Result<(), Refusal>
-    ensures { MatchResult result
-        (λ _. Sends (sent (W.told output.old) (W.failures output.old)) (sent (W.told output.new) (W.failures output.new)) (report_line report))
-        (λ refusal. ((refusal ≡ Refusal.Memory) × (output.new ≡ output.old)) ⊎ ((refusal ≡ Refusal.Write)
-        × SendsPart (sent (W.told output.old) (W.failures output.old)) (sent (W.told output.new) (W.failures output.new)) (report_line report))) }
+fn send_report<O: Outgoing>(alloc: Global, output: &mut O, report: Report) -> Result<(), Refusal>
+    ensures { ((result ≡ Err Refusal.Memory) × (output.new ≡ output.old))
+        ⊎ IsSent (sent O.Sink O.Outgoing.own output.old) (sent O.Sink O.Outgoing.own output.new) (report_line report) result }
 {
     let Report {
         new,
@@ -87,33 +75,26 @@ fn send_report<W: Sink>(alloc: Global, output: &mut W, report: Report) -> Result
     let Ok(line) = format!(in alloc; "new {new} known {known} too-large {too_large}\n") else {
         return Err(Refusal::Memory);
     };
-    match send(output, line.as_bytes()) {
-        Ok(()) => Ok(()),
-        Err(refusal) => Err(refusal),
-    }
+    send(output, line.as_bytes())
 }
 
 /// Looks whether a database is whole, and says so.
-pub(crate) fn run_check<S: Alter, D: Databases<Store<S>>, W: Sink>(
+pub(crate) fn run_check<Y: System>(
     alloc: Global,
-    databases: &mut D,
+    world: &mut World<Y>,
     order: &CheckOrder<'_>,
-    output: &mut W,
 ) -> Result<(), Refusal>
-    ensures done { OnOk result (IsCheckDone S.Store D.opens D.closes databases.old databases.new
-        (sent (W.told output.old) (W.failures output.old)) (sent (W.told output.new) (W.failures output.new)) order.now) }
-    ensures cause { IfErr result (λ refusal. IsCheckCause S.Store D.opens D.closes databases.old databases.new
-        (sent (W.told output.old) (W.failures output.old)) (sent (W.told output.new) (W.failures output.new)) order.now refusal) }
+    ensures { RunsCheck world.old world.new Y.Output.Sink Y.Output.Outgoing.own Y.Pages.Store Y.Databases.Databases order.now result }
 {
-    match work_check(alloc, databases, order) {
-        Ok(()) => send(output, b"ok\n"),
+    match work_check(alloc, &mut world.databases, order) {
+        Ok(()) => send(&mut world.output, b"ok\n"),
         Err(refusal) => Err(refusal),
     }
 }
 
 /// The day that was given, or the clock's.
 pub(crate) fn asking_day<C: DayClock>(given: Option<Day>, clock: &mut C) -> Option<Day>
-    ensures { IsDayBy C.gives given true clock.old clock.new result }
+    ensures { IsDayBy C.DayClock given true clock.old clock.new result }
 {
     match given {
         Some(day) => Some(day),
@@ -137,90 +118,74 @@ fn ask_of<'a>(order: &AskOrder<'a>, policy: &'a Policy, day: Day) -> Ask<'a>
 }
 
 /// Writes what the reader gets of a message under a policy, on the day of the order.
-fn get_by<S: Alter, D: Databases<Store<S>>, C: DayClock, W: Sink>(
+fn get_by<Y: System>(
     alloc: Global,
-    databases: &mut D,
+    world: &mut World<Y>,
     policy: &Policy,
     order: &GetOrder<'_>,
-    clock: &mut C,
-    output: &mut W,
 ) -> Result<(), Refusal>
-    ensures done { OnOk result (IsGetBy S.Store D.opens D.closes databases.old databases.new
-        (sent (W.told output.old) (W.failures output.old)) (sent (W.told output.new) (W.failures output.new)) C.gives clock.old clock.new
-        order.now policy.now) }
-    ensures cause { IfErr result (λ refusal. IsDayCause S.Store D.opens D.closes databases.old databases.new
-        (sent (W.told output.old) (W.failures output.old)) (sent (W.told output.new) (W.failures output.new)) C.gives clock.old clock.new
-        order.now.asked (IsGetFailed S.Store D.opens D.closes databases.old databases.new
-        (sent (W.told output.old) (W.failures output.old)) (sent (W.told output.new) (W.failures output.new)) order.now) policy.now refusal) }
+    ensures { GetsUnder world.old world.new Y.Output.Sink Y.Output.Outgoing.own Y.Pages.Store Y.Databases.Databases
+        Y.Clock.DayClock order.now policy.now result }
 {
-    let Some(day) = asking_day(order.asked.day, clock) else {
+    let Some(day) = asking_day(order.asked.day, &mut world.clock) else {
         return Err(Refusal::Clock);
     };
     let ask = ask_of(&order.asked, policy, day);
-    let text = work_get(alloc, databases, order.asked.file, &ask, order.key)?;
-    send(output, &text)
+    let text = work_get(
+        alloc,
+        &mut world.databases,
+        order.asked.file,
+        &ask,
+        order.key,
+    )?;
+    send(&mut world.output, &text)
 }
 
 /// Reads the policy, asks the day, and then writes what the reader gets of a message.
-pub(crate) fn run_get<S: Alter, D: Databases<Store<S>>, F: ReadFiles, C: DayClock, W: Sink>(
+pub(crate) fn run_get<Y: System>(
     alloc: Global,
-    databases: &mut D,
-    files: &F,
+    world: &mut World<Y>,
     order: &GetOrder<'_>,
-    clock: &mut C,
-    output: &mut W,
 ) -> Result<(), Refusal>
-    ensures done { OnOk result (IsGetDone S.Store D.opens D.closes databases.old databases.new
-        (sent (W.told output.old) (W.failures output.old)) (sent (W.told output.new) (W.failures output.new)) C.gives clock.old clock.new
-        F.gives files.now order.now) }
-    ensures cause { IfErr result (λ refusal. IsGetCause S.Store D.opens D.closes databases.old databases.new
-        (sent (W.told output.old) (W.failures output.old)) (sent (W.told output.new) (W.failures output.new)) C.gives clock.old clock.new
-        F.gives files.now order.now refusal) }
+    ensures { RunsGet world.old world.new Y.Output.Sink Y.Output.Outgoing.own Y.Pages.Store Y.Databases.Databases
+        Y.Clock.DayClock Y.Files.ReadFiles order.now result }
 {
-    let policy = asked_policy(alloc, files, Some(order.asked.policy))?;
-    get_by(alloc, databases, &policy, order, clock, output)
+    let policy = asked_policy(alloc, &world.files, Some(order.asked.policy))?;
+    get_by(alloc, world, &policy, order)
 }
 
 /// Writes the messages that the reader may see under a policy, on the day of the order.
-fn export_by<S: Alter, D: Databases<Store<S>>, C: DayClock, W: Sink>(
+fn export_by<Y: System>(
     alloc: Global,
-    databases: &mut D,
+    world: &mut World<Y>,
     policy: &Policy,
     order: &AskOrder<'_>,
-    clock: &mut C,
-    output: &mut W,
 ) -> Result<(), Refusal>
-    ensures done { OnOk result (IsExportBy S.Store D.opens D.closes databases.old databases.new
-        (sent (W.told output.old) (W.failures output.old)) (sent (W.told output.new) (W.failures output.new)) C.gives clock.old clock.new
-        order.now policy.now) }
-    ensures cause { IfErr result (λ refusal. IsDayCause S.Store D.opens D.closes databases.old databases.new
-        (sent (W.told output.old) (W.failures output.old)) (sent (W.told output.new) (W.failures output.new)) C.gives clock.old clock.new
-        order.now (IsExportFailed S.Store D.opens D.closes databases.old databases.new
-        (sent (W.told output.old) (W.failures output.old)) (sent (W.told output.new) (W.failures output.new)) order.now) policy.now refusal) }
+    ensures { ExportsUnder world.old world.new Y.Output.Sink Y.Output.Outgoing.own Y.Pages.Store Y.Databases.Databases
+        Y.Clock.DayClock order.now policy.now result }
 {
-    let Some(day) = asking_day(order.day, clock) else {
+    let Some(day) = asking_day(order.day, &mut world.clock) else {
         return Err(Refusal::Clock);
     };
     let ask = ask_of(order, policy, day);
-    work_export(alloc, databases, order.file, &ask, output)
+    work_export(
+        alloc,
+        &mut world.databases,
+        order.file,
+        &ask,
+        &mut world.output,
+    )
 }
 
 /// Reads the policy, asks the day, and then writes the messages that the reader may see.
-pub(crate) fn run_export<S: Alter, D: Databases<Store<S>>, F: ReadFiles, C: DayClock, W: Sink>(
+pub(crate) fn run_export<Y: System>(
     alloc: Global,
-    databases: &mut D,
-    files: &F,
+    world: &mut World<Y>,
     order: &AskOrder<'_>,
-    clock: &mut C,
-    output: &mut W,
 ) -> Result<(), Refusal>
-    ensures done { OnOk result (IsExportDone S.Store D.opens D.closes databases.old databases.new
-        (sent (W.told output.old) (W.failures output.old)) (sent (W.told output.new) (W.failures output.new)) C.gives clock.old clock.new
-        F.gives files.now order.now) }
-    ensures cause { IfErr result (λ refusal. IsExportCause S.Store D.opens D.closes databases.old databases.new
-        (sent (W.told output.old) (W.failures output.old)) (sent (W.told output.new) (W.failures output.new)) C.gives clock.old clock.new
-        F.gives files.now order.now refusal) }
+    ensures { RunsExport world.old world.new Y.Output.Sink Y.Output.Outgoing.own Y.Pages.Store Y.Databases.Databases
+        Y.Clock.DayClock Y.Files.ReadFiles order.now result }
 {
-    let policy = asked_policy(alloc, files, Some(order.policy))?;
-    export_by(alloc, databases, &policy, order, clock, output)
+    let policy = asked_policy(alloc, &world.files, Some(order.policy))?;
+    export_by(alloc, world, &policy, order)
 }

@@ -1,32 +1,29 @@
 //! Running the order that words give.
-ghost use Rattle.std.specs.Prelude.{◌≡◌, ◌≤◌, ◌⊎◌, ◌+◌, List, map, option_map, string_bytes, true, false, Some, None, Ok, IfOk, IfErr, OnOk, MatchResult};
-ghost use Rattle.policy_core.specs.Rules.{Rule};
+ghost use Rattle.std.specs.Prelude.{◌≡◌, ◌≤◌, ◌⊎◌, map, option_map, string_bytes, true, false, Some, None, Ok, Err, IfOk, IfErr, MatchResult};
 ghost use Rattle.policy_core.specs.Written.{written_policy};
 ghost use Rattle.clap.specs.Words.{takes};
 ghost use Rattle.archive_words.specs.Program.{archive_app};
-ghost use Rattle.archive_words.specs.Orders.{AreBad, IsMemory, IsStopOf, ordered};
+ghost use Rattle.archive_words.specs.Orders.{AreBad, IsStopOf, ordered};
 ghost use Rattle.archive_words.specs.declared.orders.OrderStop.{OrderStop};
 ghost use Rattle.archive_words.specs.declared.orders.Order.{Order};
-ghost use Rattle.archive_words.specs.Values.{SiftValues};
-ghost use Rattle.archive_run.specs.Refusals.{TellsOf};
-ghost use Rattle.archive_run.specs.Orders.{IsOrderDone, IsOrderCause, OnSift};
-ghost use Rattle.archive_run.specs.Serving.{said};
-ghost use Rattle.archive_run.specs.Stops.{SaysStop};
-ghost use Rattle.archive_run.specs.Working.{sent};
-ghost use Rattle.archive_run.specs.Running.{IsPolicyRefusal, IsPolicyOf, IsPolicyCause, GiveOrder, IsDayBy, needs_day, streams, SiftsBy, IsSiftCause, IsRunSiftDone, IsRunSiftCause};
+ghost use Rattle.archive_run.specs.Orders.{RunsSift, SiftsUnder};
+ghost use Rattle.archive_run.specs.Refusals.{Tells};
+ghost use Rattle.archive_run.specs.Running.{IsPolicyRefusal, IsPolicyOf, IsPolicyCause, GiveOrder, IsDayBy, needs_day};
+ghost use Rattle.archive_run.specs.Runs.{IsRefused, Runs, SaysStop};
+ghost use Rattle.archive_run.specs.World.{devices, noted};
 
 use crate::clock::DayClock;
-use crate::databases::Databases;
 use crate::faults::{Refusal, tell};
-use crate::files::{FileFault, OpenFiles, ReadFiles};
-use crate::ordering::{run_check, run_export, run_get, run_import, run_table};
+use crate::files::{FileFault, ReadFiles};
+use crate::ordering::{run_check, run_export, run_get, run_import, run_table, send};
+use crate::serving::run_serve;
 use crate::sifting::{SiftFault, SiftWords, sift};
-use archive_store::Store;
+use crate::world::{System, World};
+use archive_listen::Outgoing;
 use archive_words::{Order, OrderStop, SiftOrder, order};
 use civil_time::Day;
-use mbox_core::device::{Sink, Source, write_bytes};
+use mbox_core::device::{Sink, write_bytes};
 use policy_core::{Policy, PolicyFault};
-use sqlite::Alter;
 use std::alloc::Global;
 
 /// Exit status: the order was carried out.
@@ -42,7 +39,7 @@ pub const BAD_WORDS: u8 = 2;
 /// UTF-8 (P1). Memory: there was no memory to hold it (F5).
 fn read_text<F: ReadFiles>(alloc: Global, files: &F, name: &str) -> Result<String, Refusal>
     ensures ok { IfOk result (λ text. F.gives files.now name.now (Ok (string_bytes text))) }
-    ensures refused { IfErr result (IsPolicyCause F.gives files.now (Some name.now)) }
+    ensures refused { IfErr result (IsPolicyCause F.ReadFiles files.now (Some name.now)) }
 {
     let bytes = match files.read_file(alloc, name) {
         Ok(bytes) => bytes,
@@ -72,8 +69,8 @@ pub(crate) fn asked_policy<F: ReadFiles>(
     files: &F,
     name: Option<&str>,
 ) -> Result<Policy, Refusal>
-    ensures ok { IfOk result (IsPolicyOf F.gives files.now (option_map (λ n. n.now) name.entry)) }
-    ensures refused { IfErr result (IsPolicyCause F.gives files.now (option_map (λ n. n.now) name.entry)) }
+    ensures ok { IfOk result (IsPolicyOf F.ReadFiles files.now (option_map (λ n. n.now) name.entry)) }
+    ensures refused { IfErr result (IsPolicyCause F.ReadFiles files.now (option_map (λ n. n.now) name.entry)) }
 {
     let Some(name) = name else {
         return Ok(Policy::open());
@@ -84,7 +81,7 @@ pub(crate) fn asked_policy<F: ReadFiles>(
 
 /// The reading day: as asked for, or the clock's where an age or a policy is asked for. Else no rule looks at it.
 fn reading_day<C: DayClock>(asked: &SiftOrder, clock: &mut C) -> Option<Day>
-    ensures { IsDayBy C.gives asked.now.day (needs_day asked.now) clock.old clock.new result }
+    ensures { IsDayBy C.DayClock asked.now.day (needs_day asked.now) clock.old clock.new result }
 {
     if asked.day.is_some() {
         asked.day
@@ -95,24 +92,17 @@ fn reading_day<C: DayClock>(asked: &SiftOrder, clock: &mut C) -> Option<Day>
     }
 }
 
-/// Sifts by a policy, on the day that is asked for.
-fn sift_by<C: DayClock, R: Source, W: Sink>(
+/// Sifts by a policy, on the day that is asked for, and passes on what went out (F2).
+fn sift_by<Y: System>(
     alloc: Global,
+    world: &mut World<Y>,
     policy: &Policy,
-    asked: &SiftOrder,
-    clock: &mut C,
-    input: &mut R,
-    output: &mut W,
+    asked: &SiftOrder<'_>,
 ) -> Result<(), Refusal>
-    ensures ok { OnOk result (SiftsBy C.gives asked.now clock.old clock.new
-        (streams (R.told input.old) (R.failures input.old) (W.told output.old) (W.failures output.old))
-        (streams (R.told input.new) (R.failures input.new) (W.told output.new) (W.failures output.new)) policy.now) }
-    ensures end { OnOk result (R.ends input.new ≡ R.ends input.old + 1) }
-    ensures cause { IfErr result (IsSiftCause C.gives asked.now clock.old clock.new
-        (streams (R.told input.old) (R.failures input.old) (W.told output.old) (W.failures output.old))
-        (streams (R.told input.new) (R.failures input.new) (W.told output.new) (W.failures output.new)) policy.now) }
+    ensures { SiftsUnder world.old world.new Y.Output.Sink Y.Output.Outgoing.own Y.Files.ReadFiles Y.Clock.DayClock Y.Input.Source
+        asked.now policy.now result }
 {
-    let Some(day) = reading_day(asked, clock) else {
+    let Some(day) = reading_day(asked, &mut world.clock) else {
         return Err(Refusal::Clock);
     };
     let words = SiftWords {
@@ -121,81 +111,55 @@ fn sift_by<C: DayClock, R: Source, W: Sink>(
         day,
         min_age: asked.min_age,
     };
-    match sift(alloc, policy, &words, input, output) {
+    match sift(alloc, policy, &words, &mut world.input, &mut world.output) {
+        Ok(()) => {}
+        Err(SiftFault::Mbox(fault)) => return Err(Refusal::Mbox(fault)),
+        Err(SiftFault::Write { .. }) => return Err(Refusal::Write),
+    }
+    match world.output.flush() {
         Ok(()) => Ok(()),
-        Err(SiftFault::Mbox(fault)) => Err(Refusal::Mbox(fault)),
-        Err(SiftFault::Write { .. }) => Err(Refusal::Write),
+        Err(_) => Err(Refusal::Write),
     }
 }
 
 /// Reads the policy, asks the day, and then sifts.
-fn run_sift<F: ReadFiles, C: DayClock, R: Source, W: Sink>(
+fn run_sift<Y: System>(
     alloc: Global,
-    files: &F,
-    asked: &SiftOrder,
-    clock: &mut C,
-    input: &mut R,
-    output: &mut W,
+    world: &mut World<Y>,
+    asked: &SiftOrder<'_>,
 ) -> Result<(), Refusal>
-    ensures ok { OnOk result (IsRunSiftDone F.gives files.now C.gives asked.now clock.old clock.new
-        (streams (R.told input.old) (R.failures input.old) (W.told output.old) (W.failures output.old))
-        (streams (R.told input.new) (R.failures input.new) (W.told output.new) (W.failures output.new))) }
-    ensures end { OnOk result (R.ends input.new ≡ R.ends input.old + 1) }
-    ensures cause { IfErr result (IsRunSiftCause F.gives files.now C.gives asked.now clock.old clock.new
-        (streams (R.told input.old) (R.failures input.old) (W.told output.old) (W.failures output.old))
-        (streams (R.told input.new) (R.failures input.new) (W.told output.new) (W.failures output.new))) }
+    ensures { RunsSift world.old world.new Y.Output.Sink Y.Output.Outgoing.own Y.Files.ReadFiles Y.Clock.DayClock Y.Input.Source
+        asked.now result }
 {
-    let policy = asked_policy(alloc, files, asked.policy)?;
-    sift_by(alloc, &policy, asked, clock, input, output)
+    let policy = asked_policy(alloc, &world.files, asked.policy)?;
+    sift_by(alloc, world, &policy, asked)
 }
 
 /// Carries out an order.
-fn run_order<
-    F: ReadFiles + OpenFiles,
-    S: Alter,
-    D: Databases<Store<S>>,
-    C: DayClock,
-    R: Source,
-    W: Sink,
->(
+fn run_order<Y: System>(
     alloc: Global,
-    files: &F,
-    databases: &mut D,
+    world: &mut World<Y>,
     asked: &Order<'_>,
-    clock: &mut C,
-    input: &mut R,
-    output: &mut W,
 ) -> Result<(), Refusal>
-    ensures sifted { OnOk result (OnSift asked.now (λ order. IsRunSiftDone F.gives files.now C.gives order clock.old clock.new
-        (streams (R.told input.old) (R.failures input.old) (W.told output.old) (W.failures output.old))
-        (streams (R.told input.new) (R.failures input.new) (W.told output.new) (W.failures output.new))
-        × (R.ends input.new ≡ R.ends input.old + 1))) }
-    ensures not_sifted { IfErr result (λ refusal. OnSift asked.now (λ order. IsRunSiftCause F.gives files.now C.gives order clock.old clock.new
-        (streams (R.told input.old) (R.failures input.old) (W.told output.old) (W.failures output.old))
-        (streams (R.told input.new) (R.failures input.new) (W.told output.new) (W.failures output.new)) refusal)) }
-    ensures done { OnOk result (IsOrderDone F.gives F.inputs F.Input.told F.Input.ends F.Input.failures files.now
-        C.gives S.Store D.opens D.closes clock.old clock.new databases.old databases.new
-        input.old input.new (sent (W.told output.old) (W.failures output.old)) (sent (W.told output.new) (W.failures output.new)) asked.now) }
-    ensures why { IfErr result (λ refusal. IsOrderCause F.gives F.inputs F.Input.told F.Input.ends F.Input.failures files.now
-        C.gives S.Store D.opens D.closes clock.old clock.new databases.old databases.new
-        input.old input.new (sent (W.told output.old) (W.failures output.old)) (sent (W.told output.new) (W.failures output.new)) asked.now refusal) }
+    ensures { Runs (devices Y.Pages.Store Y.Files.ReadFiles Y.Files.OpenFiles Y.Files.Input.Source Y.Databases.Databases Y.Clock.DayClock
+        Y.Ports.listens Y.Ports.Listener.accepts Y.Ports.Listener.closes Y.Threaders.makes Y.Input.Source Y.Output.Sink Y.Output.Outgoing.own Y.Faults.Sink)
+        world.old world.new asked.now result }
 {
     match asked {
-        Order::Sift(asked) => run_sift(alloc, files, asked, clock, input, output),
-        Order::Table(asked) => run_table(alloc, databases, asked, output),
-        Order::Import(asked) => run_import(alloc, databases, files, asked, output),
-        Order::Get(asked) => run_get(alloc, databases, files, asked, clock, output),
-        Order::Export(asked) => run_export(alloc, databases, files, asked, clock, output),
-        Order::Check(asked) => run_check(alloc, databases, asked, output),
-        Order::Serve(_) => Err(Refusal::Net),
+        Order::Sift(asked) => run_sift(alloc, world, asked),
+        Order::Table(asked) => run_table(alloc, world, asked),
+        Order::Import(asked) => run_import(alloc, world, asked),
+        Order::Get(asked) => run_get(alloc, world, asked),
+        Order::Export(asked) => run_export(alloc, world, asked),
+        Order::Check(asked) => run_check(alloc, world, asked),
+        Order::Serve(asked) => run_serve(alloc, world, asked),
     }
 }
 
 /// The exit status, with a line where there is a refusal.
-pub(crate) fn finish<E: Sink>(alloc: Global, faults: &mut E, done: &Result<(), Refusal>) -> u8
-    ensures status { MatchResult done.now (λ _. (result ≡ 0) × (faults.new ≡ faults.old))
-        (λ refusal. (result ≡ 1) × (E.failures faults.new ≡ E.failures faults.old → TellsOf refusal (E.told faults.old) (E.told faults.new))) }
-    ensures failures { E.failures faults.old ≤ E.failures faults.new }
+fn finish<E: Sink>(alloc: Global, faults: &mut E, done: &Result<(), Refusal>) -> u8
+    ensures { MatchResult done.now (λ _. (result ≡ 0) × (faults.new ≡ faults.old))
+        (λ refusal. (result ≡ 1) × Tells refusal (noted E.Sink faults.old) (noted E.Sink faults.new)) }
 {
     match done {
         Ok(()) => DONE,
@@ -206,76 +170,23 @@ pub(crate) fn finish<E: Sink>(alloc: Global, faults: &mut E, done: &Result<(), R
     }
 }
 
-/// Carries out an order, and answers the exit status: 0 done, 1 refused, which one line to `faults` tells.
-fn run_asked<
-    F: ReadFiles + OpenFiles,
-    S: Alter,
-    D: Databases<Store<S>>,
-    C: DayClock,
-    R: Source,
-    W: Sink,
-    E: Sink,
->(
-    alloc: Global,
-    files: &F,
-    databases: &mut D,
-    asked: &Order<'_>,
-    clock: &mut C,
-    input: &mut R,
-    output: &mut W,
-    faults: &mut E,
-) -> u8
-    ensures status { result ≤ 1 }
-    ensures silent { result ≡ 0 → E.told faults.new ≡ E.told faults.old }
-    ensures sifted { result ≡ 0 → OnSift asked.now (λ order. IsRunSiftDone F.gives files.now C.gives order clock.old clock.new
-        (streams (R.told input.old) (R.failures input.old) (W.told output.old) (W.failures output.old))
-        (streams (R.told input.new) (R.failures input.new) (W.told output.new) (W.failures output.new))
-        × (R.ends input.new ≡ R.ends input.old + 1)) }
-    ensures not_sifted { result ≡ 1 → (refusal : Refusal)
-        × (E.failures faults.new ≡ E.failures faults.old → TellsOf refusal (E.told faults.old) (E.told faults.new))
-        × OnSift asked.now (λ order. IsRunSiftCause F.gives files.now C.gives order clock.old clock.new
-        (streams (R.told input.old) (R.failures input.old) (W.told output.old) (W.failures output.old))
-        (streams (R.told input.new) (R.failures input.new) (W.told output.new) (W.failures output.new)) refusal) }
-    ensures done { result ≡ 0 → IsOrderDone F.gives F.inputs F.Input.told F.Input.ends F.Input.failures files.now
-        C.gives S.Store D.opens D.closes clock.old clock.new databases.old databases.new
-        input.old input.new (sent (W.told output.old) (W.failures output.old)) (sent (W.told output.new) (W.failures output.new)) asked.now }
-    ensures why { result ≡ 1 → (refusal : Refusal)
-        × (E.failures faults.new ≡ E.failures faults.old → TellsOf refusal (E.told faults.old) (E.told faults.new))
-        × IsOrderCause F.gives F.inputs F.Input.told F.Input.ends F.Input.failures files.now
-        C.gives S.Store D.opens D.closes clock.old clock.new databases.old databases.new
-        input.old input.new (sent (W.told output.old) (W.failures output.old)) (sent (W.told output.new) (W.failures output.new)) asked.now refusal }
-{
-    let done = run_order(alloc, files, databases, asked, clock, input, output);
-    finish(alloc, faults, &done)
-}
-
 /// What is said where the words gave no order, and the exit status.
-fn say_stop<W: Sink, E: Sink>(alloc: Global, stop: &OrderStop, output: &mut W, faults: &mut E) -> u8
-    ensures status { result ≤ 2 }
-    ensures said { SaysStop stop.now result
-        (said (W.told output.old) (W.failures output.old) (E.told faults.old) (E.failures faults.old))
-        (said (W.told output.new) (W.failures output.new) (E.told faults.new) (E.failures faults.new)) }
-    ensures silent { result ≡ 0 → E.told faults.new ≡ E.told faults.old }
-    ensures refused { result ≡ 1 → (refusal : Refusal)
-        × (E.failures faults.new ≡ E.failures faults.old → TellsOf refusal (E.told faults.old) (E.told faults.new)) }
-    ensures memory { IsMemory stop.now → (result ≡ 1) × (output.new ≡ output.old)
-        × (E.failures faults.new ≡ E.failures faults.old → TellsOf Refusal.Memory (E.told faults.old) (E.told faults.new)) }
-    ensures untouched { result ≡ 2 → output.new ≡ output.old }
+fn say_stop<Y: System>(alloc: Global, world: &mut World<Y>, stop: &OrderStop) -> u8
+    ensures { SaysStop (devices Y.Pages.Store Y.Files.ReadFiles Y.Files.OpenFiles Y.Files.Input.Source Y.Databases.Databases Y.Clock.DayClock
+        Y.Ports.listens Y.Ports.Listener.accepts Y.Ports.Listener.closes Y.Threaders.makes Y.Input.Source Y.Output.Sink Y.Output.Outgoing.own Y.Faults.Sink)
+        world.old world.new stop.now result }
 {
     match stop {
-        OrderStop::Help(text) => match write_bytes(output, text.as_bytes()) {
-            Ok(()) => DONE,
-            Err(_) => {
-                tell(alloc, faults, &Refusal::Write);
-                REFUSED
-            }
-        },
+        OrderStop::Help(text) => {
+            let said = send(&mut world.output, text.as_bytes());
+            finish(alloc, &mut world.faults, &said)
+        }
         OrderStop::Words(text) => {
-            let _ = write_bytes(faults, text.as_bytes());
+            let _ = write_bytes(&mut world.faults, text.as_bytes());
             BAD_WORDS
         }
         OrderStop::Memory => {
-            tell(alloc, faults, &Refusal::Memory);
+            tell(alloc, &mut world.faults, &Refusal::Memory);
             REFUSED
         }
     }
@@ -283,75 +194,38 @@ fn say_stop<W: Sink, E: Sink>(alloc: Global, stop: &OrderStop, output: &mut W, f
 
 /// Carries out what the words order, which do not begin with the program's name, and answers the exit status: 0 done,
 /// 1 refused, 2 bad words. Help and the version go to the output; a refusal is one line, and what is wrong with bad
-/// words is a text, both to `faults`.
-pub fn run<
-    F: ReadFiles + OpenFiles,
-    S: Alter,
-    D: Databases<Store<S>>,
-    C: DayClock,
-    R: Source,
-    W: Sink,
-    E: Sink,
->(
-    alloc: Global,
-    files: &F,
-    databases: &mut D,
-    words: &[&str],
-    clock: &mut C,
-    input: &mut R,
-    output: &mut W,
-    faults: &mut E,
-) -> u8
-    ensures status { result ≤ 2 }
-
-    // At 0 an order to sift is carried out, whole: by the rules of the named file, on the day that was given or told.
-    ensures sifted { (asked : SiftValues) → GiveOrder (map (λ w. w.now) words.now) (Order.Sift asked) → result ≡ 0
-        → IsRunSiftDone F.gives files.now C.gives asked clock.old clock.new
-        (streams (R.told input.old) (R.failures input.old) (W.told output.old) (W.failures output.old))
-        (streams (R.told input.new) (R.failures input.new) (W.told output.new) (W.failures output.new))
-        × (R.ends input.new ≡ R.ends input.old + 1) }
-    ensures silent { result ≡ 0 → E.told faults.new ≡ E.told faults.old }
-
-    // At 1 one line tells the refusal, which has its cause; or there was no memory to read the words.
-    ensures refused { result ≡ 1 → (refusal : Refusal)
-        × (E.failures faults.new ≡ E.failures faults.old → TellsOf refusal (E.told faults.old) (E.told faults.new)) }
-    ensures cause { (asked : SiftValues) → GiveOrder (map (λ w. w.now) words.now) (Order.Sift asked) → result ≡ 1 → (refusal : Refusal)
-        × (E.failures faults.new ≡ E.failures faults.old → TellsOf refusal (E.told faults.old) (E.told faults.new))
-        × (((refusal ≡ Refusal.Memory) × (clock.new ≡ clock.old) × (input.new ≡ input.old) × (output.new ≡ output.old))
-        ⊎ IsRunSiftCause F.gives files.now C.gives asked clock.old clock.new
-        (streams (R.told input.old) (R.failures input.old) (W.told output.old) (W.failures output.old))
-        (streams (R.told input.new) (R.failures input.new) (W.told output.new) (W.failures output.new)) refusal) }
-
-    // The same of every order, over the databases: what was done, and why it was not.
+/// words is a text, both to the stream of faults. At 0 all that went out was passed on; what an order that is refused left in the
+/// output the caller passes on.
+pub fn run<Y: System>(alloc: Global, world: &mut World<Y>, words: &[&str]) -> u8
+    // At 0 an order is carried out, whole.
     ensures done { (order : Order) → GiveOrder (map (λ w. w.now) words.now) order → result ≡ 0
-        → IsOrderDone F.gives F.inputs F.Input.told F.Input.ends F.Input.failures files.now
-        C.gives S.Store D.opens D.closes clock.old clock.new databases.old databases.new input.old input.new
-        (sent (W.told output.old) (W.failures output.old)) (sent (W.told output.new) (W.failures output.new)) order }
-    ensures why { (order : Order) → GiveOrder (map (λ w. w.now) words.now) order → result ≡ 1 → (refusal : Refusal)
-        × (E.failures faults.new ≡ E.failures faults.old → TellsOf refusal (E.told faults.old) (E.told faults.new))
-        × (((refusal ≡ Refusal.Memory) × (clock.new ≡ clock.old) × (input.new ≡ input.old) × (output.new ≡ output.old) × (databases.new ≡ databases.old))
-        ⊎ IsOrderCause F.gives F.inputs F.Input.told F.Input.ends F.Input.failures files.now
-        C.gives S.Store D.opens D.closes clock.old clock.new databases.old databases.new input.old input.new
-        (sent (W.told output.old) (W.failures output.old)) (sent (W.told output.new) (W.failures output.new)) order refusal) }
+        → Runs (devices Y.Pages.Store Y.Files.ReadFiles Y.Files.OpenFiles Y.Files.Input.Source Y.Databases.Databases Y.Clock.DayClock
+        Y.Ports.listens Y.Ports.Listener.accepts Y.Ports.Listener.closes Y.Threaders.makes Y.Input.Source Y.Output.Sink Y.Output.Outgoing.own Y.Faults.Sink)
+        world.old world.new order (Ok tt) }
 
-    // At 2 the words order nothing, for they are bad, and nothing is touched.
-    ensures bad { result ≡ 2 → (takes archive_app (map (λ w. w.now) words.now) ≡ false)
-        ⊎ (ordered (map (λ w. w.now) words.now) ≡ None) }
-    ensures are_bad { result ≡ 2 → AreBad (map (λ w. w.now) words.now) }
-    ensures untouched { result ≡ 2 → (clock.new ≡ clock.old) × (input.new ≡ input.old) × (output.new ≡ output.old) × (databases.new ≡ databases.old) }
+    // At 1 it is refused: for a reason that holds, or for want of memory to read the words. One line tells the refusal.
+    ensures refused { (order : Order) → GiveOrder (map (λ w. w.now) words.now) order → result ≡ 1
+        → IsRefused (devices Y.Pages.Store Y.Files.ReadFiles Y.Files.OpenFiles Y.Files.Input.Source Y.Databases.Databases Y.Clock.DayClock
+        Y.Ports.listens Y.Ports.Listener.accepts Y.Ports.Listener.closes Y.Threaders.makes Y.Input.Source Y.Output.Sink Y.Output.Outgoing.own Y.Faults.Sink)
+        world.old world.new order }
 
-    // Words order something; or they order nothing, which has a cause, and then that alone is said of which the cause is, with its
-    // status: help 0, bad words 2, want of memory 1.
-    ensures stopped { ((order : Order) × GiveOrder (map (λ w. w.now) words.now) order)
-        ⊎ ((stop : OrderStop) × IsStopOf (map (λ w. w.now) words.now) stop × SaysStop stop result
-        (said (W.told output.old) (W.failures output.old) (E.told faults.old) (E.failures faults.old))
-        (said (W.told output.new) (W.failures output.new) (E.told faults.new) (E.failures faults.new))
-        × (clock.new ≡ clock.old) × (input.new ≡ input.old) × (databases.new ≡ databases.old)) }
+    // At 2 the words order nothing, for they are bad.
+    ensures bad { result ≡ 2 → AreBad (map (λ w. w.now) words.now)
+        × ((takes archive_app (map (λ w. w.now) words.now) ≡ false) ⊎ (ordered (map (λ w. w.now) words.now) ≡ None)) }
+
+    // Words order something, and the status is 0 or 1. Or they order nothing, which has a cause, and then that alone is said of which
+    // the cause is, with its status: help 0, bad words 2, want of memory 1.
+    ensures stopped { ((order : Order) × GiveOrder (map (λ w. w.now) words.now) order × (result ≤ 1))
+        ⊎ ((stop : OrderStop) × IsStopOf (map (λ w. w.now) words.now) stop
+        × SaysStop (devices Y.Pages.Store Y.Files.ReadFiles Y.Files.OpenFiles Y.Files.Input.Source Y.Databases.Databases Y.Clock.DayClock
+        Y.Ports.listens Y.Ports.Listener.accepts Y.Ports.Listener.closes Y.Threaders.makes Y.Input.Source Y.Output.Sink Y.Output.Outgoing.own Y.Faults.Sink)
+        world.old world.new stop result) }
 {
     match order(alloc, words) {
-        Ok(asked) => run_asked(
-            alloc, files, databases, &asked, clock, input, output, faults,
-        ),
-        Err(stop) => say_stop(alloc, &stop, output, faults),
+        Ok(asked) => {
+            let done = run_order(alloc, world, &asked);
+            finish(alloc, &mut world.faults, &done)
+        }
+        Err(stop) => say_stop(alloc, world, &stop),
     }
 }

@@ -1,17 +1,17 @@
 //! Serving an archive: the policy is read, the day asked and the database opened once, and then connections are answered.
-ghost use Rattle.std.specs.Prelude.{◌≡◌, ◌≤◌, ℕ, List, Ok, Err, IfOk, IfErr, OnOk};
+ghost use Rattle.std.specs.Prelude.{◌≡◌, ◌≤◌, Ok, Err, MatchResult};
 ghost use Rattle.archive_listen.specs.declared.faults.ListenFault.{ListenFault};
-ghost use Rattle.archive_run.specs.Refusals.{TellsOf};
-ghost use Rattle.archive_run.specs.Serving.{FileServes, FileServesNot, IsServeBy, IsServeByCause, IsServeCause, IsServeDone, PortServes, PortServesNot, ServesAll, ServesNot, said};
+ghost use Rattle.archive_run.specs.Serving.{RunsServe, ServesAll, ServesIn, ServesNot, ServesOpen, ServesUnder, said};
 
-use crate::clock::DayClock;
 use crate::databases::Databases;
 use crate::faults::Refusal;
-use crate::files::ReadFiles;
 use crate::ordering::asking_day;
-use crate::running::{asked_policy, finish};
-use archive_listen::{Listener, Listening, Ports};
-use archive_serve::{ServeStop, serve};
+use crate::running::asked_policy;
+use crate::threaders::Threaders;
+use crate::world::{System, World};
+use archive_listen::{Listener, Listening, Outgoing, Ports};
+use archive_pages::Pages;
+use archive_serve::{PageService, ServeStop, serve};
 use archive_store::Store;
 use archive_words::ServeOrder;
 use civil_time::Day;
@@ -26,9 +26,8 @@ const KEPT_BYTES: usize = 256 << 20;
 
 /// Listens on a port. F4: it cannot be had.
 fn listen_on<P: Ports>(ports: &mut P, port: u16) -> Result<Listening<P::Listener>, Refusal>
-    ensures ok { IfOk result (λ listening. P.listens ports.old ports.new port (Ok listening)) }
-    ensures refused { IfErr result (λ refusal. (refusal ≡ Refusal.Net)
-        × (fault : ListenFault) × P.listens ports.old ports.new port (Err fault)) }
+    ensures { MatchResult result (λ listening. P.listens ports.old ports.new port (Ok listening))
+        (λ refusal. (refusal ≡ Refusal.Net) × (fault : ListenFault) × P.listens ports.old ports.new port (Err fault)) }
 {
     match ports.listen(port) {
         Ok(listening) => Ok(listening),
@@ -38,7 +37,7 @@ fn listen_on<P: Ports>(ports: &mut P, port: u16) -> Result<Listening<P::Listener
 
 /// Says where a listener listens, and answers so many of its connections out of an open store. F4: no more connections come.
 /// F2, F5: it could not be said where.
-fn serve_listening<T: Threader, S: Alter, L: Listener + Drop, W: Sink, E: Sink>(
+fn serve_listening<T: Threader, S: Alter, L: Listener + Drop, O: Outgoing, E: Sink>(
     alloc: Global,
     store: &mut Store<S>,
     policy: &Policy,
@@ -46,26 +45,22 @@ fn serve_listening<T: Threader, S: Alter, L: Listener + Drop, W: Sink, E: Sink>(
     day: Day,
     listening: Listening<L>,
     count: u32,
-    output: &mut W,
+    output: &mut O,
     faults: &mut E,
 ) -> Result<(), Refusal>
-    ensures done { OnOk result (ServesAll S.Store L.accepts L.closes policy.now day listening store.old store.new
-        (said (W.told output.old) (W.failures output.old) (E.told faults.old) (E.failures faults.old))
-        (said (W.told output.new) (W.failures output.new) (E.told faults.new) (E.failures faults.new)) count) }
-    ensures cause { IfErr result (ServesNot S.Store L.accepts L.closes policy.now day listening store.old store.new
-        (said (W.told output.old) (W.failures output.old) (E.told faults.old) (E.failures faults.old))
-        (said (W.told output.new) (W.failures output.new) (E.told faults.new) (E.failures faults.new)) count) }
+    ensures served { MatchResult result
+        (λ _. ServesAll S.Store L.accepts L.closes policy.now day listening store.old store.new
+        (said O.Sink O.Outgoing.own E.Sink output.old faults.old) (said O.Sink O.Outgoing.own E.Sink output.new faults.new) count)
+        (ServesNot S.Store L.accepts L.closes policy.now day listening store.old store.new
+        (said O.Sink O.Outgoing.own E.Sink output.old faults.old) (said O.Sink O.Outgoing.own E.Sink output.new faults.new) count) }
     ensures failures { E.failures faults.old ≤ E.failures faults.new }
 {
     let Listening { listener, port } = listening;
     let mut listener = listener;
+    let mut pages = PageService::new(Pages::new(alloc, policy, threader, day, KEPT_BYTES));
     match serve(
-        alloc,
         store,
-        policy,
-        threader,
-        day,
-        KEPT_BYTES,
+        &mut pages,
         &mut listener,
         port,
         count,
@@ -79,198 +74,87 @@ fn serve_listening<T: Threader, S: Alter, L: Listener + Drop, W: Sink, E: Sink>(
     }
 }
 
-/// Listens on a port, and serves so many connections out of an open store.
-fn serve_store<T: Threader, S: Alter, P: Ports, W: Sink, E: Sink>(
+/// Listens on the port of an order, and serves so many connections out of an open store.
+fn serve_store<Y: System, T: Threader>(
     alloc: Global,
-    store: &mut Store<S>,
+    world: &mut World<Y>,
+    store: &mut Store<Y::Pages>,
     policy: &Policy,
     threader: &T,
     day: Day,
-    ports: &mut P,
-    port: u16,
-    count: u32,
-    output: &mut W,
-    faults: &mut E,
+    order: &ServeOrder<'_>,
 ) -> Result<(), Refusal>
-    ensures done { OnOk result (PortServes S.Store P.Listener.accepts P.Listener.closes P.listens ports.old ports.new port count
-        policy.now day store.old store.new
-        (said (W.told output.old) (W.failures output.old) (E.told faults.old) (E.failures faults.old))
-        (said (W.told output.new) (W.failures output.new) (E.told faults.new) (E.failures faults.new))) }
-    ensures cause { IfErr result (PortServesNot S.Store P.Listener.accepts P.Listener.closes P.listens ports.old ports.new port count
-        policy.now day store.old store.new
-        (said (W.told output.old) (W.failures output.old) (E.told faults.old) (E.failures faults.old))
-        (said (W.told output.new) (W.failures output.new) (E.told faults.new) (E.failures faults.new))) }
-    ensures failures { E.failures faults.old ≤ E.failures faults.new }
+    ensures served { ServesOpen world.old world.new Y.Output.Sink Y.Output.Outgoing.own Y.Faults.Sink Y.Pages.Store
+        Y.Ports.listens Y.Ports.Listener.accepts Y.Ports.Listener.closes store.old store.new order.now policy.now day result }
+    ensures failures { Y.Faults.failures world.old.faults ≤ Y.Faults.failures world.new.faults }
 {
-    let listening = listen_on(ports, port)?;
+    let listening = listen_on(&mut world.ports, order.port)?;
     serve_listening(
-        alloc, store, policy, threader, day, listening, count, output, faults,
+        alloc,
+        store,
+        policy,
+        threader,
+        day,
+        listening,
+        order.count,
+        &mut world.output,
+        &mut world.faults,
     )
 }
 
-/// Serves the database of this name: opens it, listens on a port, answers so many connections, and closes it.
-fn work_serve<T: Threader, S: Alter, D: Databases<Store<S>>, P: Ports, W: Sink, E: Sink>(
+/// Serves the database of an order: opens it, listens on the port, answers so many connections, and closes it.
+fn work_serve<Y: System, T: Threader>(
     alloc: Global,
-    databases: &mut D,
-    file: &str,
+    world: &mut World<Y>,
     policy: &Policy,
     threader: &T,
     day: Day,
-    ports: &mut P,
-    port: u16,
-    count: u32,
-    output: &mut W,
-    faults: &mut E,
+    order: &ServeOrder<'_>,
 ) -> Result<(), Refusal>
-    ensures done { OnOk result (FileServes S.Store P.Listener.accepts P.Listener.closes P.listens D.opens D.closes ports.old ports.new
-        databases.old databases.new
-        (said (W.told output.old) (W.failures output.old) (E.told faults.old) (E.failures faults.old))
-        (said (W.told output.new) (W.failures output.new) (E.told faults.new) (E.failures faults.new))
-        file.now port count policy.now day) }
-    ensures cause { IfErr result (FileServesNot S.Store P.Listener.accepts P.Listener.closes P.listens D.opens D.closes ports.old ports.new
-        databases.old databases.new
-        (said (W.told output.old) (W.failures output.old) (E.told faults.old) (E.failures faults.old))
-        (said (W.told output.new) (W.failures output.new) (E.told faults.new) (E.failures faults.new))
-        file.now port count policy.now day) }
-    ensures failures { E.failures faults.old ≤ E.failures faults.new }
+    ensures served { ServesIn world.old world.new Y.Output.Sink Y.Output.Outgoing.own Y.Faults.Sink Y.Pages.Store
+        Y.Ports.listens Y.Ports.Listener.accepts Y.Ports.Listener.closes Y.Databases.Databases order.now policy.now day result }
+    ensures failures { Y.Faults.failures world.old.faults ≤ Y.Faults.failures world.new.faults }
 {
-    let mut store = match databases.open(alloc, file) {
+    let mut store = match world.databases.open(alloc, order.file) {
         Ok(store) => store,
         Err(fault) => return Err(Refusal::Store(fault)),
     };
-    let served = serve_store(
-        alloc, &mut store, policy, threader, day, ports, port, count, output, faults,
-    );
-    databases.close(store);
+    let served = serve_store(alloc, world, &mut store, policy, threader, day, order);
+    world.databases.close(store);
     served
 }
 
 /// Serves under a policy, on the day of the order.
-fn serve_by<T: Threader, S: Alter, D: Databases<Store<S>>, C: DayClock, P: Ports, W: Sink, E: Sink>(
+fn serve_by<Y: System, T: Threader>(
     alloc: Global,
-    databases: &mut D,
+    world: &mut World<Y>,
     policy: &Policy,
     threader: &T,
-    clock: &mut C,
-    ports: &mut P,
     order: &ServeOrder<'_>,
-    output: &mut W,
-    faults: &mut E,
 ) -> Result<(), Refusal>
-    ensures done { OnOk result (IsServeBy S.Store P.Listener.accepts P.Listener.closes P.listens D.opens D.closes ports.old ports.new
-        databases.old databases.new
-        (said (W.told output.old) (W.failures output.old) (E.told faults.old) (E.failures faults.old))
-        (said (W.told output.new) (W.failures output.new) (E.told faults.new) (E.failures faults.new))
-        C.gives clock.old clock.new order.now policy.now) }
-    ensures cause { IfErr result (IsServeByCause S.Store P.Listener.accepts P.Listener.closes P.listens D.opens D.closes ports.old ports.new
-        databases.old databases.new
-        (said (W.told output.old) (W.failures output.old) (E.told faults.old) (E.failures faults.old))
-        (said (W.told output.new) (W.failures output.new) (E.told faults.new) (E.failures faults.new))
-        C.gives clock.old clock.new order.now policy.now) }
-    ensures failures { E.failures faults.old ≤ E.failures faults.new }
+    ensures served { ServesUnder world.old world.new Y.Output.Sink Y.Output.Outgoing.own Y.Faults.Sink Y.Pages.Store Y.Ports.listens
+        Y.Ports.Listener.accepts Y.Ports.Listener.closes Y.Databases.Databases Y.Clock.DayClock order.now policy.now result }
+    ensures failures { Y.Faults.failures world.old.faults ≤ Y.Faults.failures world.new.faults }
 {
-    let Some(day) = asking_day(order.day, clock) else {
+    let Some(day) = asking_day(order.day, &mut world.clock) else {
         return Err(Refusal::Clock);
     };
-    work_serve(
-        alloc,
-        databases,
-        order.file,
-        policy,
-        threader,
-        day,
-        ports,
-        order.port,
-        order.count,
-        output,
-        faults,
-    )
+    work_serve(alloc, world, policy, threader, day, order)
 }
 
-/// Reads the policy, asks the day, and then serves.
-fn serve_ordered<
-    F: ReadFiles,
-    T: Threader,
-    S: Alter,
-    D: Databases<Store<S>>,
-    C: DayClock,
-    P: Ports,
-    W: Sink,
-    E: Sink,
->(
+/// Serves an archive: sees to what threads messages (F1), reads the policy, asks the day, opens the database, listens, says where,
+/// and answers so many connections, each that fails in one line to the stream of faults.
+pub(crate) fn run_serve<Y: System>(
     alloc: Global,
-    files: &F,
-    databases: &mut D,
-    threader: &T,
-    clock: &mut C,
-    ports: &mut P,
+    world: &mut World<Y>,
     order: &ServeOrder<'_>,
-    output: &mut W,
-    faults: &mut E,
 ) -> Result<(), Refusal>
-    ensures done { OnOk result (IsServeDone S.Store P.Listener.accepts P.Listener.closes P.listens D.opens D.closes ports.old ports.new
-        databases.old databases.new
-        (said (W.told output.old) (W.failures output.old) (E.told faults.old) (E.failures faults.old))
-        (said (W.told output.new) (W.failures output.new) (E.told faults.new) (E.failures faults.new))
-        C.gives clock.old clock.new F.gives files.now order.now) }
-    ensures cause { IfErr result (IsServeCause S.Store P.Listener.accepts P.Listener.closes P.listens D.opens D.closes ports.old ports.new
-        databases.old databases.new
-        (said (W.told output.old) (W.failures output.old) (E.told faults.old) (E.failures faults.old))
-        (said (W.told output.new) (W.failures output.new) (E.told faults.new) (E.failures faults.new))
-        C.gives clock.old clock.new F.gives files.now order.now) }
-    ensures failures { E.failures faults.old ≤ E.failures faults.new }
+    ensures { RunsServe world.old world.new Y.Output.Sink Y.Output.Outgoing.own Y.Faults.Sink Y.Pages.Store Y.Ports.listens
+        Y.Ports.Listener.accepts Y.Ports.Listener.closes Y.Databases.Databases Y.Clock.DayClock Y.Files.ReadFiles Y.Threaders.makes order.now result }
 {
-    let policy = asked_policy(alloc, files, Some(order.policy))?;
-    serve_by(
-        alloc, databases, &policy, threader, clock, ports, order, output, faults,
-    )
-}
-
-/// Serves an archive: reads the policy, asks the day, opens the database, listens, says where, and answers so many connections,
-/// each that fails in one line to `faults`. It answers the exit status: 0 done, 1 refused, which one line to `faults` tells.
-pub fn run_serve<
-    F: ReadFiles,
-    T: Threader,
-    S: Alter,
-    D: Databases<Store<S>>,
-    C: DayClock,
-    P: Ports,
-    W: Sink,
-    E: Sink,
->(
-    alloc: Global,
-    files: &F,
-    databases: &mut D,
-    threader: &T,
-    clock: &mut C,
-    ports: &mut P,
-    order: &ServeOrder<'_>,
-    output: &mut W,
-    faults: &mut E,
-) -> u8
-    ensures status { result ≤ 1 }
-
-    // At 0 the named policy was read, the day is the one that was given or told, and the database of the name was served.
-    ensures done { result ≡ 0 → IsServeDone S.Store P.Listener.accepts P.Listener.closes P.listens D.opens D.closes ports.old ports.new
-        databases.old databases.new
-        (said (W.told output.old) (W.failures output.old) (E.told faults.old) (E.failures faults.old))
-        (said (W.told output.new) (W.failures output.new) (E.told faults.new) (E.failures faults.new))
-        C.gives clock.old clock.new F.gives files.now order.now }
-
-    // At 1 one line tells the refusal, behind those of connections: `told` and `failures` are what the stream of faults had told
-    // and how often it had failed before that line. The refusal has its cause, and what comes after that was not touched.
-    ensures why { result ≡ 1 → (told : List ℕ) × (failures : ℕ) × (refusal : Refusal)
-        × (E.failures faults.old ≤ failures) × (failures ≤ E.failures faults.new)
-        × (E.failures faults.new ≡ failures → TellsOf refusal told (E.told faults.new))
-        × IsServeCause S.Store P.Listener.accepts P.Listener.closes P.listens D.opens D.closes ports.old ports.new
-        databases.old databases.new
-        (said (W.told output.old) (W.failures output.old) (E.told faults.old) (E.failures faults.old))
-        (said (W.told output.new) (W.failures output.new) told failures)
-        C.gives clock.old clock.new F.gives files.now order.now refusal }
-    ensures failures { E.failures faults.old ≤ E.failures faults.new }
-{
-    let done = serve_ordered(
-        alloc, files, databases, threader, clock, ports, order, output, faults,
-    );
-    finish(alloc, faults, &done)
+    let Some(threader) = world.threaders.threader() else {
+        return Err(Refusal::Read);
+    };
+    let policy = asked_policy(alloc, &world.files, Some(order.policy))?;
+    serve_by(alloc, world, &policy, &threader, order)
 }

@@ -181,9 +181,8 @@ pub fn sift<R: Source, W: Sink>(
     input: &mut R,
     output: &mut W,
 ) -> Result<(), SiftFault>
-    ensures ok { OnOk result (SiftsTold policy.now words.now (R.told input.old) (R.told input.new) (W.told output.old) (W.told output.new)) }
-    ensures end { OnOk result (R.ends input.new ≡ R.ends input.old + 1) }
-    ensures quiet { OnOk result ((R.failures input.new ≡ R.failures input.old) × (W.failures output.new ≡ W.failures output.old)) }
+    ensures done { OnOk result (SiftsTold policy.now words.now (R.told input.old) (R.told input.new) (W.told output.old) (W.told output.new)
+        × (R.ends input.new ≡ R.ends input.old + 1) × (R.failures input.new ≡ R.failures input.old) × (W.failures output.new ≡ W.failures output.old)) }
 
     ensures unread { IfErr result (IsUnread policy.now words.now (R.told input.old) (R.told input.new) (W.told output.old) (W.told output.new)) }
     ensures read { result ≡ Err (SiftFault.Mbox MboxFault.Read) → R.failures input.old < R.failures input.new }

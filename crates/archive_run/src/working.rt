@@ -1,21 +1,22 @@
 //! Orders over a database: each opens the database of the name, does one thing, and closes it.
-ghost use Rattle.std.specs.Prelude.{◌≡◌, ◌⊎◌, ◌++◌, ℕ, Ok, Err, MatchResult, IfOk, IfErr, OnOk, string_bytes};
-ghost use Rattle.archive_work.specs.Working.{Carries, Exports, Gets};
+ghost use Rattle.std.specs.Prelude.{◌≡◌, ◌⊎◌, Ok, Err, MatchResult, IfOk, string_bytes};
+ghost use Rattle.archive_work.specs.Working.{Carries, Gets};
 ghost use Rattle.archive_run.specs.Databases.{Works, IsUnopened};
 ghost use Rattle.archive_run.specs.Refusals.{ShowsDamage, visible, visible_byte};
-ghost use Rattle.archive_run.specs.Working.{ChecksNot, ExportsNot, Fails, GetsNot, ImportsFile, ImportsNot, NotOpened, sent};
+ghost use Rattle.archive_run.specs.Working.{Answers, ChecksNot, ExportsNot, GetsNot, ImportsFile, ImportsNot, IsExported, NotOpened};
+ghost use Rattle.archive_run.specs.World.{sent};
 ghost use Rattle.archive_store.specs.Checking.{Checks};
 
 use crate::databases::Databases;
 use crate::faults::Refusal;
 use crate::files::{FileFault, OpenFiles};
-use archive_desk::{Report, export};
+use archive_desk::{DeskFault, Report, export};
 use archive_import::import_from;
+use archive_listen::Outgoing;
 use archive_results::Ask;
 use archive_store::{CheckStop, Store, StoreFault};
 use archive_words::{CheckOrder, ImportOrder, TableOrder};
 use archive_work::{Answer, GetStop, carry_out, get};
-use mbox_core::device::Sink;
 use sqlite::Alter;
 use std::alloc::{AllocError, Global};
 
@@ -26,9 +27,9 @@ pub(crate) fn work_table<S: Alter, D: Databases<Store<S>>>(
     order: &TableOrder<'_>,
 ) -> Result<Answer, StoreFault>
     ensures worked { MatchResult result
-        (λ answer. Works D.opens D.closes databases.old databases.new order.now.file (λ o c. Carries S.Store o c order.now.command (Ok answer)))
-        (λ fault. IsUnopened D.opens D.closes databases.old databases.new order.now.file fault
-        ⊎ Works D.opens D.closes databases.old databases.new order.now.file (λ o c. Carries S.Store o c order.now.command (Err fault))) }
+        (λ answer. Works D.Databases databases.old databases.new order.now.file (λ o c. Carries S.Store o c order.now.command (Ok answer)))
+        (λ fault. IsUnopened D.Databases databases.old databases.new order.now.file fault
+        ⊎ Works D.Databases databases.old databases.new order.now.file (λ o c. Carries S.Store o c order.now.command (Err fault))) }
 {
     let mut store = databases.open(alloc, order.file)?;
     let answer = carry_out(&mut store, alloc, &order.command);
@@ -46,8 +47,8 @@ fn import_file<S: Alter, F: OpenFiles>(
     name: &str,
 ) -> Result<Report, Refusal>
     ensures imported { MatchResult result
-        (λ report. ImportsFile S.Store store.old store.new F.inputs F.Input.told F.Input.ends F.Input.failures files.now list.now name.now report)
-        (λ refusal. ImportsNot S.Store store.old store.new F.inputs F.Input.told F.Input.ends F.Input.failures files.now list.now name.now refusal) }
+        (λ report. ImportsFile S.Store store.old store.new F.OpenFiles F.Input.Source files.now list.now name.now report)
+        (λ refusal. ImportsNot S.Store store.old store.new F.OpenFiles F.Input.Source files.now list.now name.now refusal) }
 {
     let mut input = match files.open_file(alloc, name) {
         Ok(input) => input,
@@ -67,11 +68,9 @@ pub(crate) fn work_import<S: Alter, D: Databases<Store<S>>, F: OpenFiles>(
     files: &F,
     order: &ImportOrder<'_>,
 ) -> Result<Report, Refusal>
-    ensures worked { MatchResult result
-        (λ report. Works D.opens D.closes databases.old databases.new order.now.file
-        (λ o c. ImportsFile S.Store o c F.inputs F.Input.told F.Input.ends F.Input.failures files.now order.now.list order.now.mbox report))
-        (λ refusal. Fails D.opens D.closes databases.old databases.new order.now.file
-        (λ o c. ImportsNot S.Store o c F.inputs F.Input.told F.Input.ends F.Input.failures files.now order.now.list order.now.mbox) refusal) }
+    ensures { Answers D.Databases databases.old databases.new order.now.file result
+        (λ report o c. ImportsFile S.Store o c F.OpenFiles F.Input.Source files.now order.now.list order.now.mbox report)
+        (λ o c. ImportsNot S.Store o c F.OpenFiles F.Input.Source files.now order.now.list order.now.mbox) }
 {
     let mut store = match databases.open(alloc, order.file) {
         Ok(store) => store,
@@ -112,9 +111,8 @@ pub(crate) fn work_get<S: Alter, D: Databases<Store<S>>>(
     ask: &Ask<'_>,
     key: &str,
 ) -> Result<Vec<u8>, Refusal>
-    ensures worked { MatchResult result
-        (λ text. Works D.opens D.closes databases.old databases.new file.now (λ o c. Gets S.Store o c ask.now key.now (Ok text)))
-        (λ refusal. Fails D.opens D.closes databases.old databases.new file.now (λ o c. GetsNot S.Store o c ask.now key.now) refusal) }
+    ensures { Answers D.Databases databases.old databases.new file.now result
+        (λ text o c. Gets S.Store o c ask.now key.now (Ok text)) (λ o c. GetsNot S.Store o c ask.now key.now) }
 {
     let mut store = match databases.open(alloc, file) {
         Ok(store) => store,
@@ -178,9 +176,7 @@ pub(crate) fn work_check<S: Alter, D: Databases<Store<S>>>(
     databases: &mut D,
     order: &CheckOrder<'_>,
 ) -> Result<(), Refusal>
-    ensures worked { MatchResult result
-        (λ _. Works D.opens D.closes databases.old databases.new order.now.file (λ o c. Checks S.Store o c (Ok tt)))
-        (λ refusal. Fails D.opens D.closes databases.old databases.new order.now.file (λ o c. ChecksNot S.Store o c) refusal) }
+    ensures { Answers D.Databases databases.old databases.new order.now.file result (λ _ o c. Checks S.Store o c (Ok tt)) (λ o c. ChecksNot S.Store o c) }
 {
     let mut store = match databases.open(alloc, order.file) {
         Ok(store) => store,
@@ -191,29 +187,47 @@ pub(crate) fn work_check<S: Alter, D: Databases<Store<S>>>(
     checked
 }
 
-/// Writes the messages of a list of the database of this name that the reader may see.
-pub(crate) fn work_export<S: Alter, D: Databases<Store<S>>, W: Sink>(
+/// Writes the messages of a list of an open store that the reader may see, and passes them on (G6).
+fn export_text<S: Alter, O: Outgoing>(
+    store: &mut Store<S>,
+    alloc: Global,
+    ask: &Ask<'_>,
+    output: &mut O,
+) -> Result<(), Refusal>
+    ensures { MatchResult result
+        (λ _. IsExported S.Store store.old store.new ask.now (sent O.Sink O.Outgoing.own output.old) (sent O.Sink O.Outgoing.own output.new))
+        (ExportsNot S.Store store.old store.new ask.now (sent O.Sink O.Outgoing.own output.old) (sent O.Sink O.Outgoing.own output.new)) }
+{
+    match export(store, alloc, ask, output) {
+        Ok(_count) => {}
+        Err(stop) => return Err(Refusal::Desk(stop.fault)),
+    }
+    match output.flush() {
+        Ok(()) => Ok(()),
+        Err(_) => Err(Refusal::Desk(DeskFault::Write)),
+    }
+}
+
+/// Writes the messages of a list of the database of this name that the reader may see, and passes them on (G6).
+pub(crate) fn work_export<S: Alter, D: Databases<Store<S>>, O: Outgoing>(
     alloc: Global,
     databases: &mut D,
     file: &str,
     ask: &Ask<'_>,
-    output: &mut W,
+    output: &mut O,
 ) -> Result<(), Refusal>
-    ensures done { OnOk result ((count : ℕ) × Works D.opens D.closes databases.old databases.new file.now
-        (λ o c. Exports S.Store o c ask.now (W.told output.old) (W.told output.new) (Ok count))) }
-    ensures quiet { OnOk result (W.failures output.new ≡ W.failures output.old) }
-    ensures failed { IfErr result (λ refusal. (NotOpened D.opens D.closes databases.old databases.new file.now refusal × (output.new ≡ output.old))
-        ⊎ Works D.opens D.closes databases.old databases.new file.now (λ o c. ExportsNot S.Store o c ask.now
-        (sent (W.told output.old) (W.failures output.old)) (sent (W.told output.new) (W.failures output.new)) refusal)) }
+    ensures { MatchResult result
+        (λ _. Works D.Databases databases.old databases.new file.now (λ o c. IsExported S.Store o c ask.now
+        (sent O.Sink O.Outgoing.own output.old) (sent O.Sink O.Outgoing.own output.new)))
+        (λ refusal. (NotOpened D.Databases databases.old databases.new file.now refusal × (output.new ≡ output.old))
+        ⊎ Works D.Databases databases.old databases.new file.now (λ o c. ExportsNot S.Store o c ask.now
+        (sent O.Sink O.Outgoing.own output.old) (sent O.Sink O.Outgoing.own output.new) refusal)) }
 {
     let mut store = match databases.open(alloc, file) {
         Ok(store) => store,
         Err(fault) => return Err(Refusal::Store(fault)),
     };
-    let exported = export(&mut store, alloc, ask, output);
+    let exported = export_text(&mut store, alloc, ask, output);
     databases.close(store);
-    match exported {
-        Ok(_count) => Ok(()),
-        Err(stop) => Err(Refusal::Desk(stop.fault)),
-    }
+    exported
 }

@@ -17,31 +17,24 @@
 //! not there, and kept.
 #![tactic(auto)]
 
+mod devices;
 mod shelf;
 mod short_files;
 
 use anyhow::{Context, bail};
-use archive_run::{DayClock, SystemFiles, run};
+use archive_listen::{Gathered, Outgoing};
+use archive_run::{SystemFiles, World, run};
 use civil_time::Day;
+use devices::{NoPorts, NoThreaders, Stand, Still};
 use mbox_core::device::{Counted, Tap, read_all, write_bytes};
 use shelf::Shelf;
 use short_files::ShortFiles;
 use std::alloc::{AllocError, AllocGlobal, Global};
 use std::rt::Files;
-use std::{fs, io};
+use std::{fs, io, mem};
 
 /// More bytes than any run here reads or writes.
 const ROOM: usize = 65_536;
-
-/// A clock that stands still, or tells nothing.
-#[derive(Drop)]
-struct Still(Option<Day>);
-
-impl DayClock for Still {
-    fn today(&mut self) -> Option<Day> {
-        self.0
-    }
-}
 
 /// What the runs are over.
 #[derive(Drop)]
@@ -76,27 +69,35 @@ impl Stage {
         room: usize,
     ) -> anyhow::Result<Ran> {
         let alloc = rt.alloc();
-        let mut clock = Still(self.today);
-        let mut input = Tap::new(alloc, &self.input, passes)?;
-        let mut output = Tap::new(alloc, b"", room)?;
-        let mut faults = Tap::new(alloc, b"", ROOM)?;
-        let files = ShortFiles {
-            files: SystemFiles { rt },
-            passes,
+        let input = Tap::new(alloc, &self.input, passes)?;
+        let output = Gathered::new(Tap::new(alloc, b"", room)?);
+        let faults = Tap::new(alloc, b"", ROOM)?;
+        let databases = mem::replace(&mut self.databases, Shelf::new(alloc));
+        let mut world: World<Stand<'_, RT>> = World {
+            files: ShortFiles {
+                files: SystemFiles { rt },
+                passes,
+            },
+            databases,
+            clock: Still(self.today),
+            ports: NoPorts,
+            threaders: NoThreaders,
+            input,
+            output,
+            faults,
         };
-        let status = run(
-            alloc,
-            &files,
-            &mut self.databases,
-            words,
-            &mut clock,
-            &mut input,
-            &mut output,
-            &mut faults,
-        );
+        let status = run(alloc, &mut world, words);
+        let _ = world.output.flush();
+        let World {
+            databases,
+            output,
+            faults,
+            ..
+        } = world;
+        self.databases = databases;
         Ok(Ran {
             status,
-            output,
+            output: output.into_inner(),
             faults,
         })
     }

@@ -31,7 +31,9 @@ impl<I: Source> Read for Short<I> {
 /// The files of a system. The inputs that are opened fail after `passes` bytes.
 #[derive(Drop)]
 pub struct ShortFiles<'a, R> {
+    /// The files that fail.
     pub files: SystemFiles<'a, R>,
+    /// How many bytes they give before.
     pub passes: usize,
 }
 

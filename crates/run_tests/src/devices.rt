@@ -1,13 +1,16 @@
-//! Files, databases, a clock and ports of memory.
+//! Files, databases, a clock, ports and threaders of memory.
 ghost use Rattle.std.specs.Prelude.{⊤};
 
-use archive_listen::{AcceptFault, Connection, Gathered, ListenFault, Listener, Listening, Ports};
-use archive_run::{Databases, DayClock, FileFault, OpenFiles, ReadFiles};
+use archive_listen::{
+    AcceptFault, Connection, Gathered, ListenFault, Listener, Listening, Ports, ROOM,
+};
+use archive_run::{Databases, DayClock, FileFault, OpenFiles, ReadFiles, System, Threaders};
 use archive_store::{Store, StoreFault};
 use civil_time::Day;
 use mbox_core::device::Tap;
 use sqlite::MemStore;
 use std::alloc::Global;
+use thread_core::NodeThreader;
 
 /// A file that writes a policy.
 pub const POLICY: &str = "policy.toml";
@@ -35,7 +38,7 @@ const SECOND: usize = 145;
 pub const ARCHIVE: &str = "archive.db";
 
 /// A port that is taken.
-pub const TAKEN: u16 = 22;
+const TAKEN: u16 = 22;
 
 /// What port 0 stands for.
 const PICKED: u16 = 49152;
@@ -76,11 +79,26 @@ impl OpenFiles for KnownFiles {
     }
 }
 
-/// One database, which is empty each time; how often it was opened, and closed.
+/// One database, which is empty at first, and kept where it is closed; how often it was opened, and closed.
 #[derive(Drop)]
 pub struct Shelf {
+    /// The database, while it is closed.
+    pub store: Option<Store<MemStore>>,
+    /// How often it was opened.
     pub opened: u32,
+    /// How often it was closed.
     pub closed: u32,
+}
+
+impl Shelf {
+    /// It was not opened yet.
+    pub fn new() -> Shelf {
+        Shelf {
+            store: None,
+            opened: 0,
+            closed: 0,
+        }
+    }
 }
 
 impl Databases<Store<MemStore>> for Shelf {
@@ -88,7 +106,10 @@ impl Databases<Store<MemStore>> for Shelf {
         if name != ARCHIVE {
             return Err(StoreFault::Store);
         }
-        let store = Store::open_in_memory(alloc)?;
+        let store = match self.store.take() {
+            Some(store) => store,
+            None => Store::open_in_memory(alloc)?,
+        };
         self.opened = self.opened.saturating_add(1);
         Ok(store)
     }
@@ -96,30 +117,8 @@ impl Databases<Store<MemStore>> for Shelf {
     fn close(&mut self, store: Store<MemStore>)
         ensures { ⊤ }
     {
-        let _connection = store.into_connection();
+        self.store = Some(store);
         self.closed = self.closed.saturating_add(1);
-    }
-}
-
-/// One database, which is empty at first, and kept where it is closed.
-#[derive(Drop)]
-pub struct Drawer(pub Option<Store<MemStore>>);
-
-impl Databases<Store<MemStore>> for Drawer {
-    fn open(&mut self, alloc: Global, name: &str) -> Result<Store<MemStore>, StoreFault> {
-        if name != ARCHIVE {
-            return Err(StoreFault::Store);
-        }
-        match self.0.take() {
-            Some(store) => Ok(store),
-            None => Ok(Store::open_in_memory(alloc)?),
-        }
-    }
-
-    fn close(&mut self, store: Store<MemStore>)
-        ensures { ⊤ }
-    {
-        self.0 = Some(store);
     }
 }
 
@@ -129,6 +128,18 @@ pub struct Still(pub Option<Day>);
 
 impl DayClock for Still {
     fn today(&mut self) -> Option<Day> {
+        self.0
+    }
+}
+
+/// One threader, or none.
+#[derive(Drop)]
+pub struct Nodes(pub Option<NodeThreader>);
+
+impl Threaders for Nodes {
+    type Threader = NodeThreader;
+
+    fn threader(&self) -> Option<NodeThreader> {
         self.0
     }
 }
@@ -152,9 +163,9 @@ pub struct Peers {
 impl Listener for Peers {
     type Input = Tap;
 
-    type Output = Gathered<Tap>;
+    type Output = Gathered<Tap, ROOM>;
 
-    fn accept(&mut self) -> Result<Connection<Tap, Gathered<Tap>>, AcceptFault> {
+    fn accept(&mut self) -> Result<Connection<Tap, Gathered<Tap, ROOM>>, AcceptFault> {
         let Some((first, rest)) = self.peers.split_first() else {
             return Err(AcceptFault::Listener);
         };
@@ -174,7 +185,7 @@ impl Listener for Peers {
         })
     }
 
-    fn close(&mut self, connection: Connection<Tap, Gathered<Tap>>, lingers: bool)
+    fn close(&mut self, connection: Connection<Tap, Gathered<Tap, ROOM>>, lingers: bool)
         ensures closes { ⊤ }
     {
         let _connection = connection;
@@ -185,7 +196,9 @@ impl Listener for Peers {
 /// Ports, at all of which the same peers come, but the one that is taken.
 #[derive(Drop)]
 pub struct Quay {
+    /// Where what they get is kept.
     pub alloc: Global,
+    /// The peers of each port.
     pub peers: &'static [Peer],
 }
 
@@ -204,4 +217,27 @@ impl Ports for Quay {
             port: if port == 0 { PICKED } else { port },
         })
     }
+}
+
+/// The kinds of devices of memory.
+pub struct Desk;
+
+impl System for Desk {
+    type Pages = MemStore;
+
+    type Files = KnownFiles;
+
+    type Databases = Shelf;
+
+    type Clock = Still;
+
+    type Ports = Quay;
+
+    type Threaders = Nodes;
+
+    type Input = Tap;
+
+    type Output = Gathered<Tap, ROOM>;
+
+    type Faults = Tap;
 }

@@ -1,6 +1,9 @@
 //! What orders to import come to.
-use crate::devices::{ARCHIVE, BROKEN, Drawer, KnownFiles, MBOX, NO_MEMORY, Still};
-use archive_run::run;
+use crate::devices::{
+    ARCHIVE, BROKEN, Desk, KnownFiles, MBOX, NO_MEMORY, Nodes, Quay, Shelf, Still,
+};
+use archive_listen::Gathered;
+use archive_run::{World, run};
 use mbox_core::device::Tap;
 use std::alloc::Global;
 use std::process::Abort;
@@ -61,46 +64,43 @@ const CASES: [Case; 7] = [
     FAILS,
 ];
 
-/// Runs over one database, and compares what went out and what was told.
+/// Runs over one database, compares what went out and what was told, and gives the database back.
 fn comes(
     rt: &impl Abort,
     alloc: Global,
-    databases: &mut Drawer,
+    databases: Shelf,
     words: &[&str],
     case: &Case,
-) -> Result<(), Fail> {
-    let mut input = Tap::new(alloc, b"", 0)?;
-    let mut output = Tap::new(alloc, b"", 100)?;
-    let mut faults = Tap::new(alloc, b"", 100)?;
-    let status = run(
-        alloc,
-        &KnownFiles,
+) -> Result<Shelf, Fail> {
+    let mut world: World<Desk> = World {
+        files: KnownFiles,
         databases,
-        words,
-        &mut Still(None),
-        &mut input,
-        &mut output,
-        &mut faults,
-    );
-    assert_eq!(rt; faults.bytes(), case.told);
-    assert_eq!(rt; output.bytes(), case.said);
+        clock: Still(None),
+        ports: Quay { alloc, peers: &[] },
+        threaders: Nodes(None),
+        input: Tap::new(alloc, b"", 0)?,
+        output: Gathered::new(Tap::new(alloc, b"", 100)?),
+        faults: Tap::new(alloc, b"", 100)?,
+    };
+    let status = run(alloc, &mut world, words);
+    assert_eq!(rt; world.faults.bytes(), case.told);
+    assert_eq!(rt; world.output.into_inner().bytes(), case.said);
     assert_eq!(rt; status, case.status);
-    Ok(())
+    Ok(world.databases)
 }
 
 #[test]
 fn a_file_is_imported_as_far_as_it_is_read(rt: HostRuntime) -> Result<(), Fail> {
     let alloc = rt.alloc();
-    let mut databases = Drawer(None);
     let added = Case {
         said: b"added\n",
         ..REST
     };
     let words = ["list-add", "--db", ARCHIVE, "soc"];
-    comes(&rt, alloc, &mut databases, &words, &added)?;
+    let mut databases = comes(&rt, alloc, Shelf::new(), &words, &added)?;
     for case in &CASES {
         let words = ["import", "--db", ARCHIVE, case.list, case.mbox];
-        comes(&rt, alloc, &mut databases, &words, case)?;
+        databases = comes(&rt, alloc, databases, &words, case)?;
     }
     Ok(())
 }

@@ -1,13 +1,16 @@
 //! What orders to serve come to.
-use crate::devices::{ARCHIVE, KnownFiles, NO_POLICY, POLICY, Peer, Quay, Shelf, Still, TAKEN};
-use archive_run::run_serve;
-use archive_words::ServeOrder;
+use crate::devices::{
+    ARCHIVE, Desk, KnownFiles, NO_POLICY, Nodes, POLICY, Peer, Quay, Shelf, Still,
+};
+use archive_listen::Gathered;
+use archive_run::{World, run};
 use civil_time::Day;
 use mbox_core::device::Tap;
 use std::alloc::Global;
+use std::hash::RandomState;
 use std::process::Abort;
 use std::test::Fail;
-use thread_core::PlainThreader;
+use thread_core::NodeThreader;
 
 /// An order, what it meets, and what comes of it.
 #[derive(Clone, Copy)]
@@ -15,8 +18,9 @@ struct Case {
     file: &'static str,
     policy: &'static str,
     tells_day: bool,
-    port: u16,
-    count: u32,
+    threads: bool,
+    port: &'static str,
+    count: &'static str,
     room: usize,
     status: u8,
     said: &'static [u8],
@@ -32,8 +36,9 @@ const WELL: Case = Case {
     file: ARCHIVE,
     policy: POLICY,
     tells_day: true,
-    port: 8080,
-    count: 3,
+    threads: true,
+    port: "8080",
+    count: "3",
     room: 100,
     status: 0,
     said: b"listening on 127.0.0.1:8080\n",
@@ -41,24 +46,32 @@ const WELL: Case = Case {
     opened: 1,
 };
 
-const CASES: [Case; 11] = [
+const CASES: [Case; 12] = [
     WELL,
     Case {
-        count: 0,
+        count: "0",
         told: b"",
         ..WELL
     },
     Case {
-        count: 1,
-        port: 0,
+        count: "1",
+        port: "0",
         said: b"listening on 127.0.0.1:49152\n",
         told: b"",
         ..WELL
     },
     Case {
-        count: 4,
+        count: "4",
         status: 1,
         told: b"archive: S1 Read\narchive: F4 Net\n",
+        ..WELL
+    },
+    Case {
+        threads: false,
+        status: 1,
+        said: b"",
+        told: b"archive: F1 Read\n",
+        opened: 0,
         ..WELL
     },
     Case {
@@ -94,7 +107,7 @@ const CASES: [Case; 11] = [
         ..WELL
     },
     Case {
-        port: TAKEN,
+        port: "22",
         status: 1,
         said: b"",
         told: b"archive: F4 Net\n",
@@ -109,7 +122,7 @@ const CASES: [Case; 11] = [
     },
     Case {
         room: 0,
-        count: 0,
+        count: "0",
         status: 1,
         said: b"",
         told: b"archive: F2 Write\n",
@@ -117,52 +130,57 @@ const CASES: [Case; 11] = [
     },
 ];
 
-fn comes(rt: &impl Abort, alloc: Global, case: &Case) -> Result<(), Fail> {
-    let mut databases = Shelf {
-        opened: 0,
-        closed: 0,
-    };
-    let mut clock = Still(if case.tells_day {
+/// The devices that an order meets.
+fn world_of(alloc: Global, threader: NodeThreader, case: &Case) -> Result<World<Desk>, Fail> {
+    let today = if case.tells_day {
         Day::of(2024, 3, 20)
     } else {
         None
-    });
-    let mut ports = Quay {
+    };
+    let threader = if case.threads { Some(threader) } else { None };
+    let ports = Quay {
         alloc,
         peers: &PEERS,
     };
-    let order = ServeOrder {
-        file: case.file,
-        policy: case.policy,
-        day: None,
-        port: case.port,
-        count: case.count,
-    };
-    let mut output = Tap::new(alloc, b"", case.room)?;
-    let mut faults = Tap::new(alloc, b"", 1000)?;
-    let status = run_serve(
-        alloc,
-        &KnownFiles,
-        &mut databases,
-        &PlainThreader,
-        &mut clock,
-        &mut ports,
-        &order,
-        &mut output,
-        &mut faults,
-    );
+    Ok(World {
+        files: KnownFiles,
+        databases: Shelf::new(),
+        clock: Still(today),
+        ports,
+        threaders: Nodes(threader),
+        input: Tap::new(alloc, b"", 0)?,
+        output: Gathered::new(Tap::new(alloc, b"", case.room)?),
+        faults: Tap::new(alloc, b"", 1000)?,
+    })
+}
+
+fn comes(rt: &impl Abort, alloc: Global, threader: NodeThreader, case: &Case) -> Result<(), Fail> {
+    let mut world = world_of(alloc, threader, case)?;
+    let words = [
+        "serve",
+        "--db",
+        case.file,
+        "--policy",
+        case.policy,
+        "--port",
+        case.port,
+        "--count",
+        case.count,
+    ];
+    let status = run(alloc, &mut world, &words);
     assert_eq!(rt; status, case.status);
-    assert_eq!(rt; output.bytes(), case.said);
-    assert_eq!(rt; faults.bytes(), case.told);
-    assert_eq!(rt; databases.opened, case.opened);
-    assert_eq!(rt; databases.closed, case.opened);
+    assert_eq!(rt; world.output.into_inner().bytes(), case.said);
+    assert_eq!(rt; world.faults.bytes(), case.told);
+    assert_eq!(rt; world.databases.opened, case.opened);
+    assert_eq!(rt; world.databases.closed, case.opened);
     Ok(())
 }
 
 #[test]
 fn each_order_comes_to_its_status(rt: HostRuntime) -> Result<(), Fail> {
+    let threader = NodeThreader::new(RandomState::new(&rt)?);
     for case in &CASES {
-        comes(&rt, rt.alloc(), case)?;
+        comes(&rt, rt.alloc(), threader, case)?;
     }
     Ok(())
 }

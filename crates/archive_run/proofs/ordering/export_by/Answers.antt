@@ -1,28 +1,53 @@
-use Rattle.std.proofs.Common.{◌≡◌, ap}
+use Rattle.std.proofs.Common.{◌≡◌, ap, inl, inr, refl, true, List, ℕ, Some}
+use Rattle.archive_results.specs.Access.{Ask}
 use Rattle.archive_words.specs.Values.{AskValues}
-use Rattle.archive_run.specs.Working.{sent}
-use Rattle.archive_run.proofs.OrderLemmas.{exports_done, exports_failed}
+use Rattle.archive_run.specs.Databases.{Works}
+use Rattle.archive_run.specs.Orders.{ExportsUnder}
+use Rattle.archive_run.specs.Running.{IsDayBy}
+use Rattle.archive_run.specs.World.{sent}
+use Rattle.archive_run.specs.Working.{ExportsNot, IsExported, NotOpened}
+use Rattle.archive_run.proofs.ResultLemmas.{at_two, by_result}
 use Rattle.archive_run.proofs.ordering.export_by.Goals as goal
 
-pub returns-clause-done : goal.returns-clause-done
-returns-clause-done g c =
-    let out = c.args.output.now in
+pub returns : goal.returns
+returns g c =
+    let old = c.args.world.now in
+    let order = c.args.order.now in
+    let clock = c.asking_day.new.clock in
+    let day = c.in-Some.day in
     let end = c.work_export.new.output in
-    exports_done g.S.Store g.D.Databases.opens g.D.Databases.closes c.args.databases.now c.work_export.new.databases
-    (sent (g.W.Sink.told out) (g.W.Sink.failures out)) (sent (g.W.Sink.told end) (g.W.Sink.failures end))
-    g.C.DayClock.gives c.args.clock.now c.asking_day.new.clock c.args.policy.now c.in-Some.day
-    c.args.order.now c.order.inside.file.now c.order.inside.day c.ask_of-ask.result
-    (ap (λ (o : AskValues). o.file) c.order.view_is) (ap (λ (o : AskValues). o.day) c.order.view_is) c.in-Some.ensures c.ask_of-ask.ensures
-    c.work_export.result c.work_export.ensures.done c.work_export.ensures.quiet
-
-pub returns-clause-cause : goal.returns-clause-cause
-returns-clause-cause g c =
-    let out = c.args.output.now in
-    let end = c.work_export.new.output in
-    exports_failed g.S.Store g.D.Databases.opens g.D.Databases.closes c.args.databases.now c.work_export.new.databases
-    (sent (g.W.Sink.told out) (g.W.Sink.failures out)) (sent (g.W.Sink.told end) (g.W.Sink.failures end))
-    g.C.DayClock.gives c.args.clock.now c.asking_day.new.clock c.args.policy.now c.in-Some.day
-    c.args.order.now c.order.inside.file.now c.order.inside.day c.ask_of-ask.result
-    (ap (λ (o : AskValues). o.file) c.order.view_is) (ap (λ (o : AskValues). o.day) c.order.view_is) c.in-Some.ensures c.ask_of-ask.ensures
-    (end ≡ out) (ap (λ o. sent (g.W.Sink.told o) (g.W.Sink.failures o)))
-    c.work_export.result c.work_export.ensures.failed
+    let new = record old { clock = clock; databases = c.work_export.new.databases; output = end } in
+    let before = sent g.Y.Output.Sink g.Y.Output.Outgoing old.output in
+    let after = sent g.Y.Output.Sink g.Y.Output.Outgoing end in
+    let is_file : c.order.inside.file.now ≡ order.file = ap (λ (o : AskValues). o.file) c.order.view_is in
+    let is_day : c.order.inside.day ≡ order.day = ap (λ (o : AskValues). o.day) c.order.view_is in
+    let is_ask = c.ask_of-ask.ensures in
+    let given : IsDayBy g.Y.Clock.DayClock order.day true old.clock clock (Some day) = rw is_day at c.in-Some.ensures in
+    by_result (ExportsUnder old new g.Y.Output.Sink g.Y.Output.Outgoing g.Y.Pages.Store g.Y-Databases-Databases g.Y.Clock.DayClock order c.args.policy.now) _ _
+    c.work_export.result c.work_export.ensures
+    (λ u done. (
+      clock,
+      day,
+      given,
+      (
+        at_two (λ (f : List ℕ) (a : Ask). Works g.Y-Databases-Databases old.databases new.databases f (λ o x. IsExported g.Y.Pages.Store o x a before after))
+            _ _ _ _ is_file is_ask done,
+        refl,
+      ),
+    ))
+    (λ e failed. inr (
+      clock,
+      day,
+      given,
+      elim failed [
+        | inl closed ↦ inl (
+          at_two (λ (f : List ℕ) (a : Ask). NotOpened g.Y-Databases-Databases old.databases new.databases f e) _ _ _ _ is_file is_ask closed.0,
+          ap (λ o. record new { output = o }) closed.1,
+        )
+        | inr stopped ↦ inr (
+          at_two (λ (f : List ℕ) (a : Ask). Works g.Y-Databases-Databases old.databases new.databases f (λ o x. ExportsNot g.Y.Pages.Store o x a before after e))
+              _ _ _ _ is_file is_ask stopped,
+          refl,
+        )
+      ],
+    ))

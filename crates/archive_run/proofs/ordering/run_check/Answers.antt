@@ -1,11 +1,13 @@
-use Rattle.archive_run.specs.Working.{sent}
-use Rattle.archive_run.proofs.OrderLemmas.{checks_done}
+use Rattle.std.proofs.Common.{inr, refl}
+use Rattle.archive_run.specs.Orders.{RunsCheck}
+use Rattle.archive_run.proofs.ResultLemmas.{by_result}
 use Rattle.archive_run.proofs.ordering.run_check.Goals as goal
 
-pub returns-in-Ok-clause-done : goal.returns-in-Ok-clause-done
-returns-in-Ok-clause-done g c =
-    let out = c.args.output.now in
-    let end = c.send.new.output in
-    checks_done g.S.Store g.D.Databases.opens g.D.Databases.closes c.args.databases.now c.work_check.new.databases
-    (sent (g.W.Sink.told out) (g.W.Sink.failures out)) (sent (g.W.Sink.told end) (g.W.Sink.failures end))
-    c.args.order.now c.in-Ok.ensures.worked c.send.result c.send.ensures
+pub returns-in-Ok : goal.returns-in-Ok
+returns-in-Ok g c =
+    let old = c.args.world.now in
+    let new = record old { databases = c.work_check.new.databases; output = c.send.new.output } in
+    let worked = c.in-Ok.ensures in
+    by_result (RunsCheck old new g.Y.Output.Sink g.Y.Output.Outgoing g.Y.Pages.Store g.Y-Databases-Databases c.args.order.now) _ _ c.send.result c.send.ensures
+    (λ u sends. (worked, (sends, refl)))
+    (λ e part. inr (worked, (part.0, part.1, refl)))

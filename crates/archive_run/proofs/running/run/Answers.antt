@@ -1,29 +1,67 @@
-use Rattle.std.proofs.Common.{inl, inr, refl}
+use Rattle.std.proofs.Common.{inl, inr, refl, sym, subst, arith, Ok, Err}
+use Rattle.archive_words.specs.declared.orders.Order.{Order}
+use Rattle.archive_run.specs.Runs.{Runs}
+use Rattle.archive_run.specs.World.{devices}
 use Rattle.archive_run.specs.declared.faults.Refusal.TheVariants.{Memory}
-use Rattle.archive_run.proofs.StatusLemmas.{memory_alone, same_order, on_sift}
+use Rattle.archive_run.proofs.StatusLemmas.{at_most_one, at_one, at_zero, memory_alone, memory_said, same_order, words_bad}
 use Rattle.archive_run.proofs.running.run.Goals as goal
 
-pub returns-in-Ok-clause-cause : goal.returns-in-Ok-clause-cause
-returns-in-Ok-clause-cause g c =
-    λ asked given one.
-    let refused = c.run_asked.ensures.not_sifted one in
-    let cause = on_sift _ _ _ (same_order _ _ _ c.in-Ok.ensures.ok given.1) refused.2 in
-    (refused.0, refused.1, inr cause)
+pub returns-in-Ok-clause-done : goal.returns-in-Ok-clause-done
+returns-in-Ok-clause-done g c =
+    λ order given zero.
+    let dev = devices g.Y.Pages.Store g.Y.Files.ReadFiles g.Y.Files.OpenFiles g.Y.Files.Input.Source g.Y-Databases-Databases g.Y.Clock.DayClock
+    g.Y.Ports.Ports.listens g.Y.Ports.Listener.Listener.accepts g.Y.Ports.Listener.Listener.closes g.Y.Threaders.Threaders.makes g.Y.Input.Source g.Y.Output.Sink g.Y.Output.Outgoing g.Y.Faults.Sink in
+    let old = c.args.world.now in
+    let mid = c.run_order-done.new.world in
+    let it = at_zero _ _ (Runs dev old mid c.in-Ok.asked) c.run_order-done.result c.finish.result c.finish.ensures c.run_order-done.ensures zero in
+    let P : Order → Type 0 = λ o. Runs dev old mid o (Ok tt) in
+    let Q : g.row.Y-Faults.Denot → Type 0 = λ f. Runs dev old (record mid { faults = f }) order (Ok tt) in
+    subst Q (sym it.2) (subst P (same_order _ _ _ c.in-Ok.ensures.ok given.1) it.1)
 
-pub returns-in-Err-clause-cause : goal.returns-in-Err-clause-cause
-returns-in-Err-clause-cause g c =
-    λ asked given one.
-    let said = c.say_stop.ensures.memory (memory_alone _ _ _ c.in-Err.ensures.refused c.in-Err.ensures.stopped given) in
-    (Memory, said.2, inl (refl, refl, refl, said.1))
-
-pub returns-in-Err-clause-why : goal.returns-in-Err-clause-why
-returns-in-Err-clause-why g c =
+pub returns-in-Ok-clause-refused : goal.returns-in-Ok-clause-refused
+returns-in-Ok-clause-refused g c =
     λ order given one.
-    let said = c.say_stop.ensures.memory (memory_alone _ _ _ c.in-Err.ensures.refused c.in-Err.ensures.stopped given) in
-    (Memory, said.2, inl (refl, refl, refl, said.1, refl))
+    let dev = devices g.Y.Pages.Store g.Y.Files.ReadFiles g.Y.Files.OpenFiles g.Y.Files.Input.Source g.Y-Databases-Databases g.Y.Clock.DayClock
+    g.Y.Ports.Ports.listens g.Y.Ports.Listener.Listener.accepts g.Y.Ports.Listener.Listener.closes g.Y.Threaders.Threaders.makes g.Y.Input.Source g.Y.Output.Sink g.Y.Output.Outgoing g.Y.Faults.Sink in
+    let old = c.args.world.now in
+    let mid = c.run_order-done.new.world in
+    let it = at_one _ _ (Runs dev old mid c.in-Ok.asked) c.run_order-done.result c.finish.result c.finish.ensures c.run_order-done.ensures one in
+    let P : Order → Type 0 = λ o. Runs dev old mid o (Err it.0) in
+    record { refusal = it.0; stopped = mid; cause = inr (subst P (same_order _ _ _ c.in-Ok.ensures.ok given.1) it.1); told = (it.2, refl) }
+
+pub returns-in-Ok-clause-bad : goal.returns-in-Ok-clause-bad
+returns-in-Ok-clause-bad g c =
+    λ two.
+    let most = at_most_one _ _ c.run_order-done.result c.finish.result c.finish.ensures in
+    absurd (omega (arith, most, two))
 
 pub returns-in-Ok-clause-stopped : goal.returns-in-Ok-clause-stopped
-returns-in-Ok-clause-stopped g c = inl (_, (inr c.in-Ok.ensures.taken, c.in-Ok.ensures.ok))
+returns-in-Ok-clause-stopped g c =
+    inl (_, (inr c.in-Ok.ensures.taken, c.in-Ok.ensures.ok), at_most_one _ _ c.run_order-done.result c.finish.result c.finish.ensures)
+
+pub returns-in-Err-clause-done : goal.returns-in-Err-clause-done
+returns-in-Err-clause-done g c =
+    λ order given zero.
+    let dev = devices g.Y.Pages.Store g.Y.Files.ReadFiles g.Y.Files.OpenFiles g.Y.Files.Input.Source g.Y-Databases-Databases g.Y.Clock.DayClock
+    g.Y.Ports.Ports.listens g.Y.Ports.Listener.Listener.accepts g.Y.Ports.Listener.Listener.closes g.Y.Threaders.Threaders.makes g.Y.Input.Source g.Y.Output.Sink g.Y.Output.Outgoing g.Y.Faults.Sink in
+    let said = memory_said dev c.args.world.now c.say_stop.new.world c.say_stop.result _ (memory_alone _ _ _ c.in-Err.ensures.refused c.in-Err.ensures.stopped given) c.say_stop.ensures in
+    let one = said.0 in
+    absurd (omega (arith, zero, one))
+
+pub returns-in-Err-clause-refused : goal.returns-in-Err-clause-refused
+returns-in-Err-clause-refused g c =
+    λ order given one.
+    let dev = devices g.Y.Pages.Store g.Y.Files.ReadFiles g.Y.Files.OpenFiles g.Y.Files.Input.Source g.Y-Databases-Databases g.Y.Clock.DayClock
+    g.Y.Ports.Ports.listens g.Y.Ports.Listener.Listener.accepts g.Y.Ports.Listener.Listener.closes g.Y.Threaders.Threaders.makes g.Y.Input.Source g.Y.Output.Sink g.Y.Output.Outgoing g.Y.Faults.Sink in
+    let said = memory_said dev c.args.world.now c.say_stop.new.world c.say_stop.result _ (memory_alone _ _ _ c.in-Err.ensures.refused c.in-Err.ensures.stopped given) c.say_stop.ensures in
+    record { refusal = Memory; stopped = c.args.world.now; cause = inl (refl, refl); told = said.1 }
+
+pub returns-in-Err-clause-bad : goal.returns-in-Err-clause-bad
+returns-in-Err-clause-bad g c =
+    λ two.
+    let dev = devices g.Y.Pages.Store g.Y.Files.ReadFiles g.Y.Files.OpenFiles g.Y.Files.Input.Source g.Y-Databases-Databases g.Y.Clock.DayClock
+    g.Y.Ports.Ports.listens g.Y.Ports.Listener.Listener.accepts g.Y.Ports.Listener.Listener.closes g.Y.Threaders.Threaders.makes g.Y.Input.Source g.Y.Output.Sink g.Y.Output.Outgoing g.Y.Faults.Sink in
+    words_bad dev c.args.world.now c.say_stop.new.world c.say_stop.result _ _ c.in-Err.ensures.stopped c.in-Err.ensures.refused c.say_stop.ensures two
 
 pub returns-in-Err-clause-stopped : goal.returns-in-Err-clause-stopped
-returns-in-Err-clause-stopped g c = inr (_, c.in-Err.ensures.stopped, c.say_stop.ensures.said, refl, refl, refl)
+returns-in-Err-clause-stopped g c = inr (_, c.in-Err.ensures.stopped, c.say_stop.ensures)

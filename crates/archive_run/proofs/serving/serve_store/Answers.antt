@@ -1,13 +1,36 @@
-use Rattle.std.proofs.Common.{inr}
-use Rattle.archive_run.proofs.ServeLemmas.{on_ok, if_err}
+use Rattle.std.proofs.Common.{◌≡◌, ap, inr, refl, subst, ℕ, Result, Ok}
+use Rattle.std.specs.Prelude.{MatchResult, ⊤}
+use Rattle.archive_words.specs.Values.{ServeValues}
+use Rattle.archive_run.specs.Serving.{PortServes, PortServesNot, ServesAll, ServesNot, said}
+use Rattle.archive_run.specs.declared.faults.Refusal.{Refusal}
+use Rattle.archive_run.proofs.ResultLemmas.{by_result}
 use Rattle.archive_run.proofs.serving.serve_store.Goals as goal
 
-pub returns-clause-done : goal.returns-clause-done
-returns-clause-done g c =
+pub returns-clause-served : goal.returns-clause-served
+returns-clause-served g c =
+    let old = c.args.world.now in
+    let order = c.args.order.now in
+    let done = c.serve_listening in
+    let ports = c.listen_on.new.ports in
     let listening = c.in_ok-listening.listening in
-    on_ok c.serve_listening.result (λ served. (listening, c.in_ok-listening.ensures.ok, served)) c.serve_listening.ensures.done
-
-pub returns-clause-cause : goal.returns-clause-cause
-returns-clause-cause g c =
-    let listening = c.in_ok-listening.listening in
-    if_err c.serve_listening.result (λ refusal why. inr (listening, c.in_ok-listening.ensures.ok, why)) c.serve_listening.ensures.cause
+    let before = said g.Y.Output.Sink g.Y.Output.Outgoing g.Y.Faults.Sink old.output old.faults in
+    let after = said g.Y.Output.Sink g.Y.Output.Outgoing g.Y.Faults.Sink done.new.output done.new.faults in
+    let open_old = c.args.store.now in
+    let open_new = done.new.store in
+    let accepts = g.Y.Ports.Listener.Listener.accepts in
+    let closes = g.Y.Ports.Listener.Listener.closes in
+    let is_port : c.order.inside.port ≡ order.port = ap (λ (o : ServeValues). o.port) c.order.view_is in
+    let is_count : c.order.inside.count ≡ order.count = ap (λ (o : ServeValues). o.count) c.order.view_is in
+    let P : ℕ → Type 0 = λ p. g.Y.Ports.Ports.listens old.ports ports p (Ok listening) in
+    let Q : ℕ → Type 0 = λ n. MatchResult done.result
+    (λ _. ServesAll g.Y.Pages.Store accepts closes c.args.policy.now c.args.day listening open_old open_new before after n)
+    (ServesNot g.Y.Pages.Store accepts closes c.args.policy.now c.args.day listening open_old open_new before after n) in
+    let had = subst P is_port c.in_ok-listening.ensures in
+    let R : Result ⊤ Refusal → Type 0 = λ r. MatchResult r
+    (λ _. PortServes g.Y.Pages.Store accepts closes g.Y.Ports.Ports.listens old.ports ports order.port order.count c.args.policy.now c.args.day open_old open_new before after)
+    (PortServesNot g.Y.Pages.Store accepts closes g.Y.Ports.Ports.listens old.ports ports order.port order.count c.args.policy.now c.args.day open_old open_new before after) in (
+      by_result R _ _ done.result (subst Q is_count done.ensures.served)
+          (λ u served. (listening, had, served))
+          (λ e why. inr (listening, had, why)),
+      refl,
+    )

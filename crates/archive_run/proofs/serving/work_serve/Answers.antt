@@ -1,25 +1,40 @@
-use Rattle.std.proofs.Common.{inr}
-use Rattle.archive_run.specs.Serving.{PortServes, PortServesNot, said}
+use Rattle.std.proofs.Common.{◌≡◌, ap, inr, subst, ℕ, List, Ok}
+use Rattle.archive_words.specs.Values.{ServeValues}
+use Rattle.archive_run.specs.Serving.{PortServes, PortServesNot, ServesIn, said}
+use Rattle.archive_run.proofs.OrderLemmas.{databases_of, with_databases}
+use Rattle.archive_run.proofs.ResultLemmas.{by_result}
 use Rattle.archive_run.proofs.WorkLemmas.{works}
-use Rattle.archive_run.proofs.ServeLemmas.{on_ok, if_err}
 use Rattle.archive_run.proofs.serving.work_serve.Goals as goal
 
-pub returns-clause-done : goal.returns-clause-done
-returns-clause-done g c =
+pub returns-clause-served : goal.returns-clause-served
+returns-clause-served g c =
+    let old = c.args.world.now in
+    let order = c.args.order.now in
     let done = c.serve_store-served in
-    let old = said (g.W.Sink.told c.args.output.now) (g.W.Sink.failures c.args.output.now) (g.E.Sink.told c.args.faults.now) (g.E.Sink.failures c.args.faults.now) in
-    let new = said (g.W.Sink.told done.new.output) (g.W.Sink.failures done.new.output) (g.E.Sink.told done.new.faults) (g.E.Sink.failures done.new.faults) in
-    on_ok done.result (works g.D.Databases.opens g.D.Databases.closes c.args.databases.now c.open.new.self c.close.new.self c.args.file.now c.in-Ok.store
-    done.new.store c.in-Ok.ensures.opened c.close.ensures
-    (λ o x. PortServes g.S.Store g.P.Listener.Listener.accepts g.P.Listener.Listener.closes g.P.Ports.listens c.args.ports.now done.new.ports
-    c.args.port c.args.count c.args.policy.now c.args.day o x old new)) done.ensures.done
-
-pub returns-clause-cause : goal.returns-clause-cause
-returns-clause-cause g c =
-    let done = c.serve_store-served in
-    let old = said (g.W.Sink.told c.args.output.now) (g.W.Sink.failures c.args.output.now) (g.E.Sink.told c.args.faults.now) (g.E.Sink.failures c.args.faults.now) in
-    let new = said (g.W.Sink.told done.new.output) (g.W.Sink.failures done.new.output) (g.E.Sink.told done.new.faults) (g.E.Sink.failures done.new.faults) in
-    if_err done.result (λ refusal why. inr (works g.D.Databases.opens g.D.Databases.closes c.args.databases.now c.open.new.self c.close.new.self c.args.file.now c.in-Ok.store
-    done.new.store c.in-Ok.ensures.opened c.close.ensures
-    (λ o x. PortServesNot g.S.Store g.P.Listener.Listener.accepts g.P.Listener.Listener.closes g.P.Ports.listens c.args.ports.now done.new.ports
-    c.args.port c.args.count c.args.policy.now c.args.day o x old new refusal) why)) done.ensures.cause
+    let mid = done.new.world in
+    let new = record mid { databases = c.close.new.self } in
+    let keeps = g.Y-Databases-Databases in
+    let accepts = g.Y.Ports.Listener.Listener.accepts in
+    let closes = g.Y.Ports.Listener.Listener.closes in
+    let before = said g.Y.Output.Sink g.Y.Output.Outgoing g.Y.Faults.Sink old.output old.faults in
+    let after = said g.Y.Output.Sink g.Y.Output.Outgoing g.Y.Faults.Sink new.output new.faults in
+    let served = done.ensures.served.0 in
+    let kept = done.ensures.served.1 in
+    let frame = with_databases _ _ c.close.new.self kept in
+    let is_file : c.order.inside.file.now ≡ order.file = ap (λ (o : ServeValues). o.file) c.order.view_is in
+    let P : List ℕ → Type 0 = λ f. keeps.opens old.databases c.open.new.self f (Ok c.in-Ok.store) in
+    let opened = subst P is_file c.in-Ok.ensures.opened in
+    let C : g.row.Y-Databases.Denot → Type 0 = λ d. keeps.closes d c.close.new.self done.new.store in
+    let closed = subst C (databases_of _ _ kept) c.close.ensures in
+    by_result (ServesIn old new g.Y.Output.Sink g.Y.Output.Outgoing g.Y.Faults.Sink g.Y.Pages.Store g.Y.Ports.Ports.listens accepts closes keeps order c.args.policy.now c.args.day) _ _
+    done.result served
+    (λ u it. (
+      works keeps old.databases c.open.new.self c.close.new.self order.file c.in-Ok.store done.new.store opened closed
+          (λ o x. PortServes g.Y.Pages.Store accepts closes g.Y.Ports.Ports.listens old.ports new.ports order.port order.count c.args.policy.now c.args.day o x before after) it,
+      frame,
+    ))
+    (λ e it. inr (
+      works keeps old.databases c.open.new.self c.close.new.self order.file c.in-Ok.store done.new.store opened closed
+          (λ o x. PortServesNot g.Y.Pages.Store accepts closes g.Y.Ports.Ports.listens old.ports new.ports order.port order.count c.args.policy.now c.args.day o x before after e) it,
+      frame,
+    ))

@@ -7,11 +7,9 @@ use Rattle.archive_run.proofs.working.work_check.Goals as goal
 pub returns : goal.returns
 returns g c =
     let done = c.check_store-checked in
-    record {
-      worked = rw (← c.order.view_is) (worked g.D.Databases.opens g.D.Databases.closes c.args.databases.now c.open.new.self c.close.new.self c.order.inside.file.now c.in-Ok.store
-          done.new.store c.in-Ok.ensures.opened c.close.ensures done.result
-          (λ _ o x. Checks g.S.Store o x (Ok tt))
-          (λ refusal o x. ChecksNot g.S.Store o x refusal)
-          (λ refusal. NotOpened g.D.Databases.opens g.D.Databases.closes c.args.databases.now c.close.new.self c.order.inside.file.now refusal)
-          done.ensures.checked);
-    }
+    rw (← c.order.view_is) (worked g.D.Databases c.args.databases.now c.open.new.self c.close.new.self c.order.inside.file.now c.in-Ok.store
+    done.new.store c.in-Ok.ensures.opened c.close.ensures done.result
+    (λ _ o x. Checks g.S.Store o x (Ok tt))
+    (λ refusal o x. ChecksNot g.S.Store o x refusal)
+    (λ refusal. NotOpened g.D.Databases c.args.databases.now c.close.new.self c.order.inside.file.now refusal)
+    done.ensures.checked)

@@ -7,11 +7,9 @@ use Rattle.archive_run.proofs.working.work_get.Goals as goal
 pub returns : goal.returns
 returns g c =
     let done = c.get_text-text in
-    record {
-      worked = worked g.D.Databases.opens g.D.Databases.closes c.args.databases.now c.open.new.self c.close.new.self c.args.file.now c.in-Ok.store
-          done.new.store c.in-Ok.ensures.opened c.close.ensures done.result
-          (λ text o x. Gets g.S.Store o x c.args.ask.now c.args.key.now (Ok text))
-          (λ refusal o x. GetsNot g.S.Store o x c.args.ask.now c.args.key.now refusal)
-          (λ refusal. NotOpened g.D.Databases.opens g.D.Databases.closes c.args.databases.now c.close.new.self c.args.file.now refusal)
-          done.ensures.got;
-    }
+    worked g.D.Databases c.args.databases.now c.open.new.self c.close.new.self c.args.file.now c.in-Ok.store
+    done.new.store c.in-Ok.ensures.opened c.close.ensures done.result
+    (λ text o x. Gets g.S.Store o x c.args.ask.now c.args.key.now (Ok text))
+    (λ refusal o x. GetsNot g.S.Store o x c.args.ask.now c.args.key.now refusal)
+    (λ refusal. NotOpened g.D.Databases c.args.databases.now c.close.new.self c.args.file.now refusal)
+    done.ensures.got

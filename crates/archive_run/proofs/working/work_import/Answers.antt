@@ -6,11 +6,9 @@ pub returns : goal.returns
 returns g c =
     let order = c.order.inside in
     let done = c.import_file-imported in
-    record {
-      worked = rw (← c.order.view_is) (worked g.D.Databases.opens g.D.Databases.closes c.args.databases.now c.open.new.self c.close.new.self order.file.now c.in-Ok.store
-          done.new.store c.in-Ok.ensures.opened c.close.ensures done.result
-          (λ report o x. ImportsFile g.S.Store o x g.F.OpenFiles.inputs g.F.Input.Source.told g.F.Input.Source.ends g.F.Input.Source.failures c.args.files.now order.list.now order.mbox.now report)
-          (λ refusal o x. ImportsNot g.S.Store o x g.F.OpenFiles.inputs g.F.Input.Source.told g.F.Input.Source.ends g.F.Input.Source.failures c.args.files.now order.list.now order.mbox.now refusal)
-          (λ refusal. NotOpened g.D.Databases.opens g.D.Databases.closes c.args.databases.now c.close.new.self order.file.now refusal)
-          done.ensures.imported);
-    }
+    rw (← c.order.view_is) (worked g.D.Databases c.args.databases.now c.open.new.self c.close.new.self order.file.now c.in-Ok.store
+    done.new.store c.in-Ok.ensures.opened c.close.ensures done.result
+    (λ report o x. ImportsFile g.S.Store o x g.F.OpenFiles g.F.Input.Source c.args.files.now order.list.now order.mbox.now report)
+    (λ refusal o x. ImportsNot g.S.Store o x g.F.OpenFiles g.F.Input.Source c.args.files.now order.list.now order.mbox.now refusal)
+    (λ refusal. NotOpened g.D.Databases c.args.databases.now c.close.new.self order.file.now refusal)
+    done.ensures.imported)

@@ -1,0 +1,19 @@
+use Rattle.std.proofs.Common.{ap, inl, inr, refl}
+use Rattle.archive_run.specs.Orders.{RunsImport}
+use Rattle.archive_run.proofs.ResultLemmas.{by_result}
+use Rattle.archive_run.proofs.ordering.run_import.Goals as goal
+
+pub returns-in-Ok : goal.returns-in-Ok
+returns-in-Ok g c =
+    let old = c.args.world.now in
+    let end = c.send_report.new.output in
+    let new = record old { databases = c.work_import.new.databases; output = end } in
+    let report = c.in-Ok.report in
+    let taken = c.in-Ok.ensures in
+    elim c.send_report.ensures [
+      | inl memory ↦ rw memory.0 (inr (report, taken, inl (refl, ap (λ o. record new { output = o }) memory.1)))
+      | inr sent ↦ by_result (RunsImport old new g.Y.Output.Sink g.Y.Output.Outgoing g.Y.Pages.Store g.Y-Databases-Databases g.Y.Files.OpenFiles g.Y.Files.Input.Source c.args.order.now)
+          _ _ c.send_report.result sent
+          (λ u sends. (report, taken, (sends, refl)))
+          (λ e part. inr (report, taken, inr (part.0, part.1, refl)))
+    ]

@@ -1,0 +1,55 @@
+//! What a run is over: one device of each kind.
+use crate::clock::DayClock;
+use crate::databases::Databases;
+use crate::files::{OpenFiles, ReadFiles};
+use crate::threaders::Threaders;
+use archive_listen::{Outgoing, Ports};
+use archive_store::Store;
+use mbox_core::device::{Sink, Source};
+use sqlite::Alter;
+
+/// The kinds of devices that a run is over. No value of it is ever made.
+pub trait System {
+    /// What the pages of a database lie in.
+    type Pages: Alter;
+
+    /// The files of policies, which are read whole, and of mboxes, which are read piece by piece.
+    type Files: ReadFiles + OpenFiles + Drop;
+
+    type Databases: Databases<Store<Self::Pages>> + Drop;
+
+    type Clock: DayClock + Drop;
+
+    type Ports: Ports + Drop;
+
+    type Threaders: Threaders + Drop;
+
+    type Input: Source + Drop;
+
+    /// It may hold back what it is given: an order that is carried out passes it on.
+    type Output: Outgoing + Drop;
+
+    /// Each line that is written to it goes out at once.
+    type Faults: Sink + Drop;
+}
+
+/// What a run is over.
+#[derive(Drop)]
+pub struct World<Y: System> {
+    /// Policies and mboxes.
+    pub files: Y::Files,
+    /// The archives.
+    pub databases: Y::Databases,
+    /// It is asked where an order needs a day and gives none.
+    pub clock: Y::Clock,
+    /// Where `serve` listens.
+    pub ports: Y::Ports,
+    /// Makes what threads messages for `serve`.
+    pub threaders: Y::Threaders,
+    /// Standard input: what `sift` reads.
+    pub input: Y::Input,
+    /// Standard output.
+    pub output: Y::Output,
+    /// Standard error: refusals, and what is wrong with bad words.
+    pub faults: Y::Faults,
+}
