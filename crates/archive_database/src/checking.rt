@@ -20,7 +20,9 @@ use std::alloc::Global;
 /// The list and the key of a message that is not sound, as its row has them.
 #[derive(Debug, Drop)]
 pub struct Damage {
+    /// The list's name, which need not be UTF-8.
     pub list: Vec<u8>,
+    /// The message's key, which need not be one.
     pub key: Vec<u8>,
 }
 

@@ -11,8 +11,11 @@ use std::alloc::Global;
 /// plus month less 1; and its author key.
 #[derive(Drop)]
 pub struct Filing {
+    /// The sent date, in seconds since 1970-01-01 00:00:00 UTC (RFC 5256, section 2.2).
     pub sent: i64,
+    /// The month of that, as year times 12 plus month less 1.
     pub month: i64,
+    /// The author key, in ASCII lower case; empty where there is no From field.
     pub author: Vec<u8>,
 }
 

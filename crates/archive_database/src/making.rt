@@ -7,7 +7,7 @@ ghost use Rattle.archive_machine.specs.Records.{Archive};
 ghost use Rattle.archive_tables.specs.Schema.{no_schema, with_person, with_message, schema_1, schema_2, schema_of};
 ghost use Rattle.archive_tables.specs.Tables.{IsHeldAs, IsKept, IsKnown, IsOfArchive, HasForm, IsOfVersion, newest_number, form_of, archive_by, archive_of};
 ghost use Rattle.archive_tables.specs.Calls.{Rests, WasClean, Lasts, AnswersOpen};
-ghost use Rattle.archive_tables.specs.Making.{IsMaking, IsWithin, IsMoving, IsMade, IsUndone, IsIdle, IsBackTo, IsStopped, empty_archive};
+ghost use Rattle.archive_tables.specs.Making.{IsMaking, IsWithin, IsMoving, IsMade, Makes, UndoesFrom, StopsFrom, IsUndone, IsIdle, IsBackTo, IsStopped, empty_archive};
 ghost use Rattle.archive_database.specs.Adopting.{HasObjects, HasAsManyObjects, MayBeTaken, IsOlder};
 
 use crate::faults::Fault;
@@ -201,10 +201,8 @@ pub fn make_tables<S: Alter>(conn: &mut Connection<S>) -> Result<(), Fault>
 fn fill<S: Alter>(conn: &mut Connection<S>) -> Result<(), Error>
     ensures kept { HasCleanDisk (state S.Store conn.new) → (before : _) → IsMaking (state S.Store conn.old) no_schema before
         → OnOk result (IsKept (state S.Store conn.new) × (archive_of (state S.Store conn.new) ≡ empty_archive)) }
-    ensures undone { HasCleanDisk (state S.Store conn.new) → (before : _) → IsMaking (state S.Store conn.old) no_schema before
-        → OnErr result (IsUndone (state S.Store conn.new) before) }
-    ensures stopped { HasCleanDisk (state S.Store conn.new) → (before : _) → IsMaking (state S.Store conn.old) no_schema before
-        → OnErr result (IsStopped (state S.Store conn.new) before) }
+    ensures undone { UndoesFrom S.Store conn.old conn.new result no_schema }
+    ensures stopped { StopsFrom S.Store conn.old conn.new result no_schema }
     ensures clean { WasClean S.Store conn.old conn.new }
     ensures lasts { Lasts (state S.Store conn.old) (state S.Store conn.new) }
 {
@@ -217,12 +215,9 @@ fn fill<S: Alter>(conn: &mut Connection<S>) -> Result<(), Error>
 }
 
 fn make_first<S: Alter>(conn: &mut Connection<S>) -> Result<(), Error>
-    ensures made { HasCleanDisk (state S.Store conn.new) → (before : _) → IsMaking (state S.Store conn.old) no_schema before
-        → OnOk result (IsMaking (state S.Store conn.new) with_person before) }
-    ensures undone { HasCleanDisk (state S.Store conn.new) → (before : _) → IsMaking (state S.Store conn.old) no_schema before
-        → OnErr result (IsUndone (state S.Store conn.new) before) }
-    ensures stopped { HasCleanDisk (state S.Store conn.new) → (before : _) → IsMaking (state S.Store conn.old) no_schema before
-        → OnErr result (IsStopped (state S.Store conn.new) before) }
+    ensures made { Makes S.Store conn.old conn.new result no_schema with_person }
+    ensures undone { UndoesFrom S.Store conn.old conn.new result no_schema }
+    ensures stopped { StopsFrom S.Store conn.old conn.new result no_schema }
     ensures clean { WasClean S.Store conn.old conn.new }
     ensures lasts { Lasts (state S.Store conn.old) (state S.Store conn.new) }
 {
@@ -233,12 +228,9 @@ fn make_first<S: Alter>(conn: &mut Connection<S>) -> Result<(), Error>
 }
 
 fn make_last<S: Alter>(conn: &mut Connection<S>) -> Result<(), Error>
-    ensures made { HasCleanDisk (state S.Store conn.new) → (before : _) → IsMaking (state S.Store conn.old) with_person before
-        → OnOk result (IsMaking (state S.Store conn.new) with_message before) }
-    ensures undone { HasCleanDisk (state S.Store conn.new) → (before : _) → IsMaking (state S.Store conn.old) with_person before
-        → OnErr result (IsUndone (state S.Store conn.new) before) }
-    ensures stopped { HasCleanDisk (state S.Store conn.new) → (before : _) → IsMaking (state S.Store conn.old) with_person before
-        → OnErr result (IsStopped (state S.Store conn.new) before) }
+    ensures made { Makes S.Store conn.old conn.new result with_person with_message }
+    ensures undone { UndoesFrom S.Store conn.old conn.new result with_person }
+    ensures stopped { StopsFrom S.Store conn.old conn.new result with_person }
     ensures clean { WasClean S.Store conn.old conn.new }
     ensures lasts { Lasts (state S.Store conn.old) (state S.Store conn.new) }
 {
@@ -248,12 +240,9 @@ fn make_last<S: Alter>(conn: &mut Connection<S>) -> Result<(), Error>
 }
 
 fn make_indexes<S: Alter>(conn: &mut Connection<S>) -> Result<(), Error>
-    ensures made { HasCleanDisk (state S.Store conn.new) → (before : _) → IsMaking (state S.Store conn.old) with_message before
-        → OnOk result (IsMaking (state S.Store conn.new) schema_1 before) }
-    ensures undone { HasCleanDisk (state S.Store conn.new) → (before : _) → IsMaking (state S.Store conn.old) with_message before
-        → OnErr result (IsUndone (state S.Store conn.new) before) }
-    ensures stopped { HasCleanDisk (state S.Store conn.new) → (before : _) → IsMaking (state S.Store conn.old) with_message before
-        → OnErr result (IsStopped (state S.Store conn.new) before) }
+    ensures made { Makes S.Store conn.old conn.new result with_message schema_1 }
+    ensures undone { UndoesFrom S.Store conn.old conn.new result with_message }
+    ensures stopped { StopsFrom S.Store conn.old conn.new result with_message }
     ensures clean { WasClean S.Store conn.old conn.new }
     ensures lasts { Lasts (state S.Store conn.old) (state S.Store conn.new) }
 {
@@ -266,10 +255,8 @@ fn make_indexes<S: Alter>(conn: &mut Connection<S>) -> Result<(), Error>
 fn make_later<S: Alter>(conn: &mut Connection<S>) -> Result<(), Error>
     ensures made { HasCleanDisk (state S.Store conn.new) → (before : _) → IsMaking (state S.Store conn.old) schema_1 before
         → OnOk result (IsMade (state S.Store conn.new) before empty_archive) }
-    ensures undone { HasCleanDisk (state S.Store conn.new) → (before : _) → IsMaking (state S.Store conn.old) schema_1 before
-        → OnErr result (IsUndone (state S.Store conn.new) before) }
-    ensures stopped { HasCleanDisk (state S.Store conn.new) → (before : _) → IsMaking (state S.Store conn.old) schema_1 before
-        → OnErr result (IsStopped (state S.Store conn.new) before) }
+    ensures undone { UndoesFrom S.Store conn.old conn.new result schema_1 }
+    ensures stopped { StopsFrom S.Store conn.old conn.new result schema_1 }
     ensures clean { WasClean S.Store conn.old conn.new }
     ensures lasts { Lasts (state S.Store conn.old) (state S.Store conn.new) }
 {

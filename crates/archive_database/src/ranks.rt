@@ -1,4 +1,4 @@
-//! Ranks of grants.
+//! The rank that a person has on a day: the highest of the grants that hold on it.
 ghost use Rattle.std.specs.Prelude.{◌≡◌, ◌&&◌, int_le, List, map, IfOk, IfErr};
 ghost use Rattle.std.specs.Int.{int_max};
 ghost use Rattle.archive_machine.specs.Records.{Grant};

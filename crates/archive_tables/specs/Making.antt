@@ -1,5 +1,5 @@
 -- How the tables are made: all within one transaction, so that all of them are there or none.
-use Rattle.std.specs.Prelude.{◌≡◌, ◌⊎◌, ℕ, ℤ, true, false, [], IsTrue, Result, OnErr}
+use Rattle.std.specs.Prelude.{◌≡◌, ◌⊎◌, ℕ, ℤ, true, false, [], IsTrue, Result, OnOk, OnErr}
 use Rattle.std.specs.List.{AllByRecursion}
 use Rattle.sqlite.specs.declared.error.Error.{Error}
 use Rattle.sqlite.specs.Effect.{Database}
@@ -58,6 +58,15 @@ pub record IsIdle (s : State) : Type 0 where
   pub autocommit : s.in_transaction ≡ false
   pub settled : s.committed ≡ s.now
 
+-- in a transaction over the tables of one schema, without rows, it makes those of the other
+abbrev pub Makes : {S A : Type 0} → Ghosts S → Held S → Held S → Result A Error → (from to : Schema) → Type 0
+Makes g old new result from to = HasCleanDisk (state g new) → (before : Database) → IsMaking (state g old) from before → OnOk result (IsMaking (state g new) to before)
+
+-- a transaction over one schema, whatever the rows are, becomes one over the other
+abbrev pub MovesWithin : {S A : Type 0} → Ghosts S → Held S → Held S → Result A Error → (from to : Schema) → Type 0
+MovesWithin g old new result from to =
+    HasCleanDisk (state g new) → (before : Database) → IsWithin (state g old) before from → OnOk result (IsWithin (state g new) before to)
+
 -- outside a transaction, this is there now and is committed, if the connection is still open
 abbrev pub IsBackTo : State → Database → Type 0
 IsBackTo s before = IsTrue s.is_open → (s.now ≡ before) × (s.committed ≡ before) × (s.in_transaction ≡ false)
@@ -65,3 +74,13 @@ IsBackTo s before = IsTrue s.is_open → (s.now ≡ before) × (s.committed ≡ 
 -- a transaction that goes back to this, or is over and has, if the connection is still open
 abbrev pub IsStopped : State → Database → Type 0
 IsStopped s before = IsTrue s.is_open → (s.committed ≡ before) × ((s.in_transaction ≡ true) ⊎ ((s.now ≡ before) × (s.in_transaction ≡ false)))
+
+-- where the making of tables over this schema fails, what is committed is what was there before, if the connection is still open
+abbrev pub UndoesFrom : {S A : Type 0} → Ghosts S → Held S → Held S → Result A Error → Schema → Type 0
+UndoesFrom g old new result from =
+    HasCleanDisk (state g new) → (before : Database) → IsMaking (state g old) from before → OnErr result (IsUndone (state g new) before)
+
+-- and the transaction goes on, or it is over and goes back
+abbrev pub StopsFrom : {S A : Type 0} → Ghosts S → Held S → Held S → Result A Error → Schema → Type 0
+StopsFrom g old new result from =
+    HasCleanDisk (state g new) → (before : Database) → IsMaking (state g old) from before → OnErr result (IsStopped (state g new) before)

@@ -12,13 +12,21 @@ use sqlite::types::ValueRef;
 /// arrival and the sent date are in seconds since 1970-01-01 00:00:00 UTC, and the month is year times 12 plus month less 1.
 #[derive(Clone, Copy)]
 pub struct FiledRow<'a> {
+    /// The list's name.
     pub list: &'a [u8],
+    /// The text's key, in hexadecimal.
     pub key: &'a [u8],
+    /// The sender of the envelope.
     pub sender: &'a [u8],
+    /// When it came, in seconds.
     pub arrival: i64,
+    /// The whole text.
     pub text: &'a [u8],
+    /// The sent date, in seconds.
     pub sent: i64,
+    /// The month of the sent date.
     pub month: i64,
+    /// The author key.
     pub author: &'a [u8],
 }
 

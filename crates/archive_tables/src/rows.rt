@@ -1,4 +1,4 @@
-//! Rows as values.
+//! Rows of the tables as values, each read column by column.
 
 ghost use Rattle.std.specs.Prelude.{◌≡◌, ◌∷◌, string_bytes, IfOk, IfErr};
 ghost use Rattle.archive_machine.specs.Records.{Grant, Message, ListOption};
@@ -10,26 +10,37 @@ use sqlite::{Error, Row};
 /// since 1970-01-01 00:00:00 UTC, and the embargo the day up to which it is held back, counted from 1970-01-01.
 #[derive(Debug, Drop)]
 pub struct MessageRow {
+    /// The text's key, in hexadecimal.
     pub key: String,
+    /// The sender of the envelope.
     pub sender: Vec<u8>,
+    /// When it came, in seconds.
     pub arrival: i64,
+    /// The whole text.
     pub text: Vec<u8>,
+    /// 0, 1 or 2.
     pub withdrawn: i64,
+    /// A day; `None` where nothing holds it back.
     pub embargo: Option<i64>,
 }
 
 /// The two marks of a message, as in `MessageRow`.
 #[derive(Clone, Copy, Debug, PartialEq, Eq)]
 pub struct MarksRow {
+    /// 0, 1 or 2.
     pub withdrawn: i64,
+    /// A day; `None` where nothing holds the message back.
     pub embargo: Option<i64>,
 }
 
 /// A grant without its person and list: its rank, 1 to 3, and its first and last day, counted from 1970-01-01.
 #[derive(Clone, Copy, Debug, PartialEq, Eq)]
 pub struct GrantRow {
+    /// 1 to 3.
     pub rank: i64,
+    /// The first day on which it holds.
     pub from_day: i64,
+    /// The last one.
     pub until_day: i64,
 }
 

@@ -8,7 +8,7 @@ ghost use Rattle.archive_tables.specs.Schema.{no_schema, with_version, with_list
 ghost use Rattle.archive_tables.specs.Tables.{IsHeld, IsHeldAs, IsKept, IsKnown, HasForm, form_of, newest_number, archive_by, archive_of};
 ghost use Rattle.archive_machine.specs.Records.{Archive};
 ghost use Rattle.archive_tables.specs.Rows.{versions_shown};
-ghost use Rattle.archive_tables.specs.Making.{IsMaking, IsWithin, IsMoving, IsMade, Stops, IsBackTo, IsStopped, empty_archive};
+ghost use Rattle.archive_tables.specs.Making.{IsMaking, IsWithin, IsMoving, IsMade, Makes, MovesWithin, Stops, IsBackTo, IsStopped, empty_archive};
 ghost use Rattle.archive_tables.specs.Calls.{StaysOver, RestsOver, Rests, IsBackAt, IsHeldOrBack, Finds, Leaves, IsUp, WasClean, Lasts, AnswersOpen, FailsByFault};
 
 use sqlite::{Alter, Connection, Error, Row, params};
@@ -37,7 +37,7 @@ pub fn begin<S: Alter>(conn: &mut Connection<S>) -> Result<usize, Error>
 
 /// Makes the table `version`.
 pub fn create_version<S: Alter>(conn: &mut Connection<S>) -> Result<usize, Error>
-    ensures made { HasCleanDisk (state S.Store conn.new) → (before : _) → IsMaking (state S.Store conn.old) no_schema before → OnOk result (IsMaking (state S.Store conn.new) with_version before) }
+    ensures made { Makes S.Store conn.old conn.new result no_schema with_version }
     ensures stopped { Stops S.Store conn.old conn.new result }
     ensures clean { WasClean S.Store conn.old conn.new }
     ensures lasts { Lasts (state S.Store conn.old) (state S.Store conn.new) }
@@ -48,7 +48,7 @@ pub fn create_version<S: Alter>(conn: &mut Connection<S>) -> Result<usize, Error
 
 /// Makes the table `list`.
 pub fn create_list<S: Alter>(conn: &mut Connection<S>) -> Result<usize, Error>
-    ensures made { HasCleanDisk (state S.Store conn.new) → (before : _) → IsMaking (state S.Store conn.old) with_version before → OnOk result (IsMaking (state S.Store conn.new) with_list before) }
+    ensures made { Makes S.Store conn.old conn.new result with_version with_list }
     ensures stopped { Stops S.Store conn.old conn.new result }
     ensures clean { WasClean S.Store conn.old conn.new }
     ensures lasts { Lasts (state S.Store conn.old) (state S.Store conn.new) }
@@ -62,7 +62,7 @@ pub fn create_list<S: Alter>(conn: &mut Connection<S>) -> Result<usize, Error>
 
 /// Makes the table `person`.
 pub fn create_person<S: Alter>(conn: &mut Connection<S>) -> Result<usize, Error>
-    ensures made { HasCleanDisk (state S.Store conn.new) → (before : _) → IsMaking (state S.Store conn.old) with_list before → OnOk result (IsMaking (state S.Store conn.new) with_person before) }
+    ensures made { Makes S.Store conn.old conn.new result with_list with_person }
     ensures stopped { Stops S.Store conn.old conn.new result }
     ensures clean { WasClean S.Store conn.old conn.new }
     ensures lasts { Lasts (state S.Store conn.old) (state S.Store conn.new) }
@@ -76,7 +76,7 @@ pub fn create_person<S: Alter>(conn: &mut Connection<S>) -> Result<usize, Error>
 
 /// Makes the table `grant_row`.
 pub fn create_grant<S: Alter>(conn: &mut Connection<S>) -> Result<usize, Error>
-    ensures made { HasCleanDisk (state S.Store conn.new) → (before : _) → IsMaking (state S.Store conn.old) with_person before → OnOk result (IsMaking (state S.Store conn.new) with_grant before) }
+    ensures made { Makes S.Store conn.old conn.new result with_person with_grant }
     ensures stopped { Stops S.Store conn.old conn.new result }
     ensures clean { WasClean S.Store conn.old conn.new }
     ensures lasts { Lasts (state S.Store conn.old) (state S.Store conn.new) }
@@ -90,7 +90,7 @@ pub fn create_grant<S: Alter>(conn: &mut Connection<S>) -> Result<usize, Error>
 
 /// Makes the table `message`, and with it the one in which AUTOINCREMENT counts.
 pub fn create_message<S: Alter>(conn: &mut Connection<S>) -> Result<usize, Error>
-    ensures made { HasCleanDisk (state S.Store conn.new) → (before : _) → IsMaking (state S.Store conn.old) with_grant before → OnOk result (IsMaking (state S.Store conn.new) with_message before) }
+    ensures made { Makes S.Store conn.old conn.new result with_grant with_message }
     ensures stopped { Stops S.Store conn.old conn.new result }
     ensures clean { WasClean S.Store conn.old conn.new }
     ensures lasts { Lasts (state S.Store conn.old) (state S.Store conn.new) }
@@ -104,7 +104,7 @@ pub fn create_message<S: Alter>(conn: &mut Connection<S>) -> Result<usize, Error
 
 /// Makes the index of `message` by month.
 pub fn create_month_index<S: Alter>(conn: &mut Connection<S>) -> Result<usize, Error>
-    ensures made { HasCleanDisk (state S.Store conn.new) → (before : _) → IsMaking (state S.Store conn.old) with_message before → OnOk result (IsMaking (state S.Store conn.new) with_month_index before) }
+    ensures made { Makes S.Store conn.old conn.new result with_message with_month_index }
     ensures stopped { Stops S.Store conn.old conn.new result }
     ensures clean { WasClean S.Store conn.old conn.new }
     ensures lasts { Lasts (state S.Store conn.old) (state S.Store conn.new) }
@@ -118,7 +118,7 @@ pub fn create_month_index<S: Alter>(conn: &mut Connection<S>) -> Result<usize, E
 
 /// Makes the index of `message` by author key.
 pub fn create_author_index<S: Alter>(conn: &mut Connection<S>) -> Result<usize, Error>
-    ensures made { HasCleanDisk (state S.Store conn.new) → (before : _) → IsMaking (state S.Store conn.old) with_month_index before → OnOk result (IsMaking (state S.Store conn.new) schema_1 before) }
+    ensures made { Makes S.Store conn.old conn.new result with_month_index schema_1 }
     ensures stopped { Stops S.Store conn.old conn.new result }
     ensures clean { WasClean S.Store conn.old conn.new }
     ensures lasts { Lasts (state S.Store conn.old) (state S.Store conn.new) }
@@ -132,10 +132,10 @@ pub fn create_author_index<S: Alter>(conn: &mut Connection<S>) -> Result<usize, 
 
 /// Makes the table `list_option`: the first of version 2.
 pub fn create_option<S: Alter>(conn: &mut Connection<S>) -> Result<usize, Error>
-    ensures made { HasCleanDisk (state S.Store conn.new) → (before : _) → IsMaking (state S.Store conn.old) schema_1 before → OnOk result (IsMaking (state S.Store conn.new) schema_2 before) }
+    ensures made { Makes S.Store conn.old conn.new result schema_1 schema_2 }
     ensures moved { HasCleanDisk (state S.Store conn.new) → (before : _) (said : _) (archive : Archive) → IsMoving (state S.Store conn.old) before schema_1 said 1 archive
         → OnOk result (IsMoving (state S.Store conn.new) before schema_2 said 1 archive × ((state S.Store conn.new).now.trees 13 ≡ [])) }
-    ensures within { HasCleanDisk (state S.Store conn.new) → (before : _) → IsWithin (state S.Store conn.old) before schema_1 → OnOk result (IsWithin (state S.Store conn.new) before schema_2) }
+    ensures within { MovesWithin S.Store conn.old conn.new result schema_1 schema_2 }
     ensures stopped { Stops S.Store conn.old conn.new result }
     ensures clean { WasClean S.Store conn.old conn.new }
     ensures lasts { Lasts (state S.Store conn.old) (state S.Store conn.new) }
@@ -149,10 +149,10 @@ pub fn create_option<S: Alter>(conn: &mut Connection<S>) -> Result<usize, Error>
 
 /// Makes the table `address`: the first of version 3.
 pub fn create_address<S: Alter>(conn: &mut Connection<S>) -> Result<usize, Error>
-    ensures made { HasCleanDisk (state S.Store conn.new) → (before : _) → IsMaking (state S.Store conn.old) schema_2 before → OnOk result (IsMaking (state S.Store conn.new) archive_schema before) }
+    ensures made { Makes S.Store conn.old conn.new result schema_2 archive_schema }
     ensures moved { HasCleanDisk (state S.Store conn.new) → (before : _) (said : _) (archive : Archive) → IsMoving (state S.Store conn.old) before schema_2 said 2 archive
         → OnOk result (IsMoving (state S.Store conn.new) before archive_schema said newest_number archive) }
-    ensures within { HasCleanDisk (state S.Store conn.new) → (before : _) → IsWithin (state S.Store conn.old) before schema_2 → OnOk result (IsWithin (state S.Store conn.new) before archive_schema) }
+    ensures within { MovesWithin S.Store conn.old conn.new result schema_2 archive_schema }
     ensures stopped { Stops S.Store conn.old conn.new result }
     ensures clean { WasClean S.Store conn.old conn.new }
     ensures lasts { Lasts (state S.Store conn.old) (state S.Store conn.new) }
@@ -166,7 +166,8 @@ pub fn create_address<S: Alter>(conn: &mut Connection<S>) -> Result<usize, Error
 
 /// Writes the version down.
 pub fn add_version<S: Alter>(conn: &mut Connection<S>) -> Result<usize, Error>
-    ensures made { HasCleanDisk (state S.Store conn.new) → (before : _) → IsMaking (state S.Store conn.old) archive_schema before → OnOk result (IsMade (state S.Store conn.new) before empty_archive) }
+    ensures made { HasCleanDisk (state S.Store conn.new) → (before : _) → IsMaking (state S.Store conn.old) archive_schema before
+        → OnOk result (IsMade (state S.Store conn.new) before empty_archive) }
     ensures stopped { Stops S.Store conn.old conn.new result }
     ensures clean { WasClean S.Store conn.old conn.new }
     ensures lasts { Lasts (state S.Store conn.old) (state S.Store conn.new) }
@@ -179,7 +180,7 @@ pub fn add_version<S: Alter>(conn: &mut Connection<S>) -> Result<usize, Error>
 pub fn set_version<S: Alter>(conn: &mut Connection<S>) -> Result<usize, Error>
     ensures moved { HasCleanDisk (state S.Store conn.new) → (before : _) (said : _) (archive : Archive)
         → IsMoving (state S.Store conn.old) before archive_schema said newest_number archive → OnOk result (IsMade (state S.Store conn.new) before archive) }
-    ensures within { HasCleanDisk (state S.Store conn.new) → (before : _) → IsWithin (state S.Store conn.old) before archive_schema → OnOk result (IsWithin (state S.Store conn.new) before archive_schema) }
+    ensures within { MovesWithin S.Store conn.old conn.new result archive_schema archive_schema }
     ensures stopped { Stops S.Store conn.old conn.new result }
     ensures clean { WasClean S.Store conn.old conn.new }
     ensures lasts { Lasts (state S.Store conn.old) (state S.Store conn.new) }
