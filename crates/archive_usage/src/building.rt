@@ -2,9 +2,12 @@
 ghost use Rattle.std.specs.Prelude.{◌≡◌, false, IfOk};
 ghost use Rattle.clap.specs.Words.{App, app_of, new_app, rule_of, with_rule, with_subcommand};
 ghost use Rattle.clap.specs.declared.builder.Command.TheViews.{out-Command};
-ghost use Rattle.archive_usage.specs.Program.{IsCommand, with_word, option_rule, needed_rule, word_rule, table_app, message_app, grant_of_app, dated_app, sift_app, list_add_app, merge_app, person_add_app, person_address_app, grant_app, revoke_app, import_app, withdraw_app, restore_app, embargo_app, lift_app, ruled_app, ask_app, get_app, export_app, check_app, serve_app, versioned, bare_app, list_app, person_app, mail_app, archive_app, app_named};
+ghost use Rattle.archive_usage.specs.Program.{IsCommand, with_word, option_rule, needed_rule, word_rule, table_app, message_app, grant_of_app, dated_app};
+ghost use Rattle.archive_usage.specs.Program.{sift_app, list_add_app, merge_app, person_add_app};
+ghost use Rattle.archive_usage.specs.Program.{person_address_app, grant_app, revoke_app, import_app, withdraw_app, restore_app, embargo_app, lift_app};
+ghost use Rattle.archive_usage.specs.Program.{ruled_app, ask_app, get_app, export_app, check_app, serve_app, versioned, bare_app, list_app, person_app, mail_app, archive_app, app_named};
 
-use crate::help;
+use crate::help::{self, Help};
 use clap::{Arg, Command};
 use std::alloc::{AllocError, Global};
 
@@ -64,18 +67,18 @@ fn with_word<'a>(
 
 /// The command with its line in the help and what stands at the end of its help, which change nothing in how words are
 /// read.
-fn described<'a>(command: Command<'a>, about: &'a str, end: &'a str) -> Command<'a>
+fn described<'a>(command: Command<'a>, help: Help) -> Command<'a>
     ensures app { app_of result ≡ app_of command.entry }
     ensures local { (out-Command result).has_globals ≡ (out-Command command.entry).has_globals }
 {
-    command.about(about).after_help(end)
+    command.about(help.about).after_help(help.end)
 }
 
 /// A command with no argument yet.
-fn new_command<'a>(alloc: Global, name: &'a str, about: &'a str, end: &'a str) -> Command<'a>
+fn new_command<'a>(alloc: Global, name: &'a str, help: Help) -> Command<'a>
     ensures { IsCommand (new_app name.entry.now) result }
 {
-    described(Command::new(alloc, name), about, end)
+    described(Command::new(alloc, name), help)
 }
 
 /// The command with an option more.
@@ -105,42 +108,27 @@ fn with_needed<'a>(
 }
 
 /// A command over the tables of a database.
-fn table_command<'a>(
-    alloc: Global,
-    name: &'a str,
-    about: &'a str,
-    end: &'a str,
-) -> Result<Command<'a>, AllocError>
+fn table_command<'a>(alloc: Global, name: &'a str, help: Help) -> Result<Command<'a>, AllocError>
     ensures { IfOk result (IsCommand (table_app name.entry.now)) }
 {
-    let command = new_command(alloc, name, about, end);
+    let command = new_command(alloc, name, help);
     with_needed(alloc, command, "db", "FILE", help::DATABASE)
 }
 
 /// A command on a message.
-fn message_command<'a>(
-    alloc: Global,
-    name: &'a str,
-    about: &'a str,
-    end: &'a str,
-) -> Result<Command<'a>, AllocError>
+fn message_command<'a>(alloc: Global, name: &'a str, help: Help) -> Result<Command<'a>, AllocError>
     ensures { IfOk result (IsCommand (message_app name.entry.now)) }
 {
-    let command = table_command(alloc, name, about, end)?;
+    let command = table_command(alloc, name, help)?;
     let listed = with_word(alloc, command, "list", "LIST", help::LIST)?;
     with_word(alloc, listed, "key", "KEY", help::KEY)
 }
 
 /// A command on what a person is granted on a list.
-fn grant_of_command<'a>(
-    alloc: Global,
-    name: &'a str,
-    about: &'a str,
-    end: &'a str,
-) -> Result<Command<'a>, AllocError>
+fn grant_of_command<'a>(alloc: Global, name: &'a str, help: Help) -> Result<Command<'a>, AllocError>
     ensures { IfOk result (IsCommand (grant_of_app name.entry.now)) }
 {
-    let command = table_command(alloc, name, about, end)?;
+    let command = table_command(alloc, name, help)?;
     let named = with_word(alloc, command, "person", "PERSON", help::PERSON)?;
     let listed = with_word(alloc, named, "list", "LIST", help::LIST)?;
     with_word(alloc, listed, "kind", "KIND", help::KIND)
@@ -151,7 +139,7 @@ fn grant_of_command<'a>(
 fn dated_command<'a>(alloc: Global) -> Result<Command<'a>, AllocError>
     ensures { IfOk result (IsCommand dated_app) }
 {
-    let command = new_command(alloc, "sift", help::SIFT, help::SIFT_END);
+    let command = new_command(alloc, "sift", help::SIFT);
     let dated = with_option(alloc, command, "day", "DAY", help::DAY)?;
     with_option(alloc, dated, "min-age", "DAYS", help::MIN_AGE)
 }
@@ -170,7 +158,7 @@ fn sift_command<'a>(alloc: Global) -> Result<Command<'a>, AllocError>
 fn list_add_command<'a>(alloc: Global) -> Result<Command<'a>, AllocError>
     ensures { IfOk result (IsCommand list_add_app) }
 {
-    let command = table_command(alloc, "list-add", help::LIST_ADD, help::LIST_ADD_END)?;
+    let command = table_command(alloc, "list-add", help::LIST_ADD)?;
     with_word(alloc, command, "name", "NAME", help::NAME)
 }
 
@@ -178,7 +166,7 @@ fn list_add_command<'a>(alloc: Global) -> Result<Command<'a>, AllocError>
 fn merge_command<'a>(alloc: Global) -> Result<Command<'a>, AllocError>
     ensures { IfOk result (IsCommand merge_app) }
 {
-    let command = table_command(alloc, "merge", help::MERGE, help::MERGE_END)?;
+    let command = table_command(alloc, "merge", help::MERGE)?;
     let listed = with_word(alloc, command, "list", "LIST", help::LIST)?;
     with_word(alloc, listed, "merge", "MERGE", help::MERGED)
 }
@@ -187,7 +175,7 @@ fn merge_command<'a>(alloc: Global) -> Result<Command<'a>, AllocError>
 fn person_add_command<'a>(alloc: Global) -> Result<Command<'a>, AllocError>
     ensures { IfOk result (IsCommand person_add_app) }
 {
-    let command = table_command(alloc, "person-add", help::PERSON_ADD, help::PERSON_ADD_END)?;
+    let command = table_command(alloc, "person-add", help::PERSON_ADD)?;
     let named = with_word(alloc, command, "name", "NAME", help::NAME)?;
     with_word(alloc, named, "token", "TOKEN", help::TOKEN)
 }
@@ -196,12 +184,7 @@ fn person_add_command<'a>(alloc: Global) -> Result<Command<'a>, AllocError>
 fn person_address_command<'a>(alloc: Global) -> Result<Command<'a>, AllocError>
     ensures { IfOk result (IsCommand person_address_app) }
 {
-    let command = table_command(
-        alloc,
-        "person-address",
-        help::PERSON_ADDRESS,
-        help::PERSON_ADDRESS_END,
-    )?;
+    let command = table_command(alloc, "person-address", help::PERSON_ADDRESS)?;
     let named = with_word(alloc, command, "person", "PERSON", help::PERSON)?;
     with_word(alloc, named, "address", "ADDRESS", help::ADDRESS)
 }
@@ -210,7 +193,7 @@ fn person_address_command<'a>(alloc: Global) -> Result<Command<'a>, AllocError>
 fn grant_command<'a>(alloc: Global) -> Result<Command<'a>, AllocError>
     ensures { IfOk result (IsCommand grant_app) }
 {
-    let command = grant_of_command(alloc, "grant", help::GRANT, help::GRANT_END)?;
+    let command = grant_of_command(alloc, "grant", help::GRANT)?;
     let from = with_word(alloc, command, "from", "FROM", help::FROM)?;
     with_word(alloc, from, "until", "UNTIL", help::GRANT_UNTIL)
 }
@@ -219,14 +202,14 @@ fn grant_command<'a>(alloc: Global) -> Result<Command<'a>, AllocError>
 fn revoke_command<'a>(alloc: Global) -> Result<Command<'a>, AllocError>
     ensures { IfOk result (IsCommand revoke_app) }
 {
-    grant_of_command(alloc, "revoke", help::REVOKE, help::REVOKE_END)
+    grant_of_command(alloc, "revoke", help::REVOKE)
 }
 
 #[tactic(auto, unfolding(crate::specs::Program::import_app))]
 fn import_command<'a>(alloc: Global) -> Result<Command<'a>, AllocError>
     ensures { IfOk result (IsCommand import_app) }
 {
-    let command = table_command(alloc, "import", help::IMPORT, help::IMPORT_END)?;
+    let command = table_command(alloc, "import", help::IMPORT)?;
     let listed = with_word(alloc, command, "list", "LIST", help::LIST)?;
     with_word(alloc, listed, "mbox", "MBOX", help::MBOX)
 }
@@ -235,7 +218,7 @@ fn import_command<'a>(alloc: Global) -> Result<Command<'a>, AllocError>
 fn withdraw_command<'a>(alloc: Global) -> Result<Command<'a>, AllocError>
     ensures { IfOk result (IsCommand withdraw_app) }
 {
-    let command = message_command(alloc, "withdraw", help::WITHDRAW, help::WITHDRAW_END)?;
+    let command = message_command(alloc, "withdraw", help::WITHDRAW)?;
     with_word(alloc, command, "by", "BY", help::BY)
 }
 
@@ -243,14 +226,14 @@ fn withdraw_command<'a>(alloc: Global) -> Result<Command<'a>, AllocError>
 fn restore_command<'a>(alloc: Global) -> Result<Command<'a>, AllocError>
     ensures { IfOk result (IsCommand restore_app) }
 {
-    message_command(alloc, "restore", help::RESTORE, help::RESTORE_END)
+    message_command(alloc, "restore", help::RESTORE)
 }
 
 #[tactic(auto, unfolding(crate::specs::Program::embargo_app))]
 fn embargo_command<'a>(alloc: Global) -> Result<Command<'a>, AllocError>
     ensures { IfOk result (IsCommand embargo_app) }
 {
-    let command = message_command(alloc, "embargo", help::EMBARGO, help::EMBARGO_END)?;
+    let command = message_command(alloc, "embargo", help::EMBARGO)?;
     with_word(alloc, command, "until", "UNTIL", help::EMBARGO_UNTIL)
 }
 
@@ -258,33 +241,23 @@ fn embargo_command<'a>(alloc: Global) -> Result<Command<'a>, AllocError>
 fn lift_command<'a>(alloc: Global) -> Result<Command<'a>, AllocError>
     ensures { IfOk result (IsCommand lift_app) }
 {
-    message_command(alloc, "lift", help::LIFT, help::LIFT_END)
+    message_command(alloc, "lift", help::LIFT)
 }
 
 /// A command over a database by a policy, on a day.
-fn ruled_command<'a>(
-    alloc: Global,
-    name: &'a str,
-    about: &'a str,
-    end: &'a str,
-) -> Result<Command<'a>, AllocError>
+fn ruled_command<'a>(alloc: Global, name: &'a str, help: Help) -> Result<Command<'a>, AllocError>
     ensures { IfOk result (IsCommand (ruled_app name.entry.now)) }
 {
-    let command = table_command(alloc, name, about, end)?;
+    let command = table_command(alloc, name, help)?;
     let ruled = with_needed(alloc, command, "policy", "POLICY", help::RULES)?;
     with_option(alloc, ruled, "day", "DAY", help::TODAY)
 }
 
 /// A question of a reader on a list.
-fn ask_command<'a>(
-    alloc: Global,
-    name: &'a str,
-    about: &'a str,
-    end: &'a str,
-) -> Result<Command<'a>, AllocError>
+fn ask_command<'a>(alloc: Global, name: &'a str, help: Help) -> Result<Command<'a>, AllocError>
     ensures { IfOk result (IsCommand (ask_app name.entry.now)) }
 {
-    let command = ruled_command(alloc, name, about, end)?;
+    let command = ruled_command(alloc, name, help)?;
     let asked = with_option(alloc, command, "person", "PERSON", help::ASKING)?;
     with_word(alloc, asked, "list", "LIST", help::LIST)
 }
@@ -293,7 +266,7 @@ fn ask_command<'a>(
 fn get_command<'a>(alloc: Global) -> Result<Command<'a>, AllocError>
     ensures { IfOk result (IsCommand get_app) }
 {
-    let command = ask_command(alloc, "get", help::GET, help::GET_END)?;
+    let command = ask_command(alloc, "get", help::GET)?;
     with_word(alloc, command, "key", "KEY", help::KEY)
 }
 
@@ -301,21 +274,21 @@ fn get_command<'a>(alloc: Global) -> Result<Command<'a>, AllocError>
 fn export_command<'a>(alloc: Global) -> Result<Command<'a>, AllocError>
     ensures { IfOk result (IsCommand export_app) }
 {
-    ask_command(alloc, "export", help::EXPORT, help::EXPORT_END)
+    ask_command(alloc, "export", help::EXPORT)
 }
 
 #[tactic(auto, unfolding(crate::specs::Program::check_app))]
 fn check_command<'a>(alloc: Global) -> Result<Command<'a>, AllocError>
     ensures { IfOk result (IsCommand check_app) }
 {
-    table_command(alloc, "check", help::CHECK, help::CHECK_END)
+    table_command(alloc, "check", help::CHECK)
 }
 
 #[tactic(auto, unfolding(crate::specs::Program::serve_app))]
 fn serve_command<'a>(alloc: Global) -> Result<Command<'a>, AllocError>
     ensures { IfOk result (IsCommand serve_app) }
 {
-    let command = ruled_command(alloc, "serve", help::SERVE, help::SERVE_END)?;
+    let command = ruled_command(alloc, "serve", help::SERVE)?;
     let ported = with_needed(alloc, command, "port", "PORT", help::PORT)?;
     with_needed(alloc, ported, "count", "COUNT", help::COUNT)
 }
@@ -350,11 +323,7 @@ fn named<'a>(command: Command<'a>, name: &'a str) -> Result<Command<'a>, AllocEr
 fn bare_program<'a>(alloc: Global) -> Result<Command<'a>, AllocError>
     ensures { IfOk result (IsCommand bare_app) }
 {
-    let command = described(
-        Command::new(alloc, "archive"),
-        help::ARCHIVE,
-        help::ARCHIVE_END,
-    );
+    let command = described(Command::new(alloc, "archive"), help::ARCHIVE);
     named(versioned(command), "archive")
 }
 

@@ -1,8 +1,17 @@
-//! The texts of the help.
+//! The texts of the help: what it says of each command, and the line of each argument.
 
-pub const ARCHIVE: &str = "Keeps mailing lists, and shows each reader what a policy lets them see";
+/// What the help says of a command: its line in the list of commands, and the end of its own help.
+#[derive(Clone, Copy)]
+pub(crate) struct Help {
+    /// The line.
+    pub about: &'static str,
+    /// The end.
+    pub end: &'static str,
+}
 
-pub const ARCHIVE_END: &str = "\
+pub(crate) const ARCHIVE: Help = Help {
+    about: "Keeps mailing lists, and shows each reader what a policy lets them see",
+    end: "\
 Without a command it is `sift`, and every message passes.
 
 FILE is the database. A command makes it where it is empty or not there.
@@ -15,12 +24,12 @@ a number and a name; 2 bad words, and nothing was touched.
 Example:
   archive list-add --db archive.db soc
   archive import --db archive.db soc soc.mbox
-  archive serve --db archive.db --policy policy.toml --port 8080 --count 1000";
+  archive serve --db archive.db --policy policy.toml --port 8080 --count 1000",
+};
 
-pub const SIFT: &str =
-    "Write those messages of an mbox that pass, from standard input to standard output";
-
-pub const SIFT_END: &str = "\
+pub(crate) const SIFT: Help = Help {
+    about: "Write those messages of an mbox that pass, from standard input to standard output",
+    end: "\
 The policy is read first; then the clock is asked, where an age or a policy is
 given and no day; then standard input is read to its end.
 
@@ -28,11 +37,12 @@ Status: 0 done; 1 refused, with one line on standard error; 2 bad words.
 Refusals: F1 FILE cannot be read, P1 to P8 it is no policy, F3 the clock,
 M1 the input is no mbox, M2 it was not read, M3 no memory, F2 the output.
 
-Example: archive sift --day 2003-03-20 --min-age 10 --policy policy.toml < list.mbox";
+Example: archive sift --day 2003-03-20 --min-age 10 --policy policy.toml < list.mbox",
+};
 
-pub const LIST_ADD: &str = "Add a list";
-
-pub const LIST_ADD_END: &str = "\
+pub(crate) const LIST_ADD: Help = Help {
+    about: "Add a list",
+    end: "\
 Reads FILE, and makes it where it is empty or not there.
 
 Prints `added`.
@@ -40,11 +50,12 @@ Prints `added`.
 Status: 0 done; 1 refused, with one line on standard error; 2 bad words.
 Refusals: E1 NAME is no name, E3 the list is there, E14 no memory, E15 the database.
 
-Example: archive list-add --db archive.db soc";
+Example: archive list-add --db archive.db soc",
+};
 
-pub const MERGE: &str = "Say whether a list's threads are joined by their subject";
-
-pub const MERGE_END: &str = "\
+pub(crate) const MERGE: Help = Help {
+    about: "Say whether a list's threads are joined by their subject",
+    end: "\
 Reads FILE, and makes it where it is empty or not there.
 
 Prints `merge on` or `merge off`. With `yes`, as every list begins, threads of one
@@ -55,11 +66,12 @@ References or In-Reply-To say so. No message changes, and it can be said anew.
 Status: 0 done; 1 refused, with one line on standard error; 2 bad words.
 Refusals: E4 no list, E14 no memory, E15 the database.
 
-Example: archive merge --db archive.db minutes no";
+Example: archive merge --db archive.db minutes no",
+};
 
-pub const PERSON_ADD: &str = "Add a person, with the token by which requests show who asks";
-
-pub const PERSON_ADD_END: &str = "\
+pub(crate) const PERSON_ADD: Help = Help {
+    about: "Add a person, with the token by which requests show who asks",
+    end: "\
 Reads FILE, and makes it where it is empty or not there.
 
 Prints `added`. The database keeps the token as it is: FILE is for its owner
@@ -69,11 +81,12 @@ Status: 0 done; 1 refused, with one line on standard error; 2 bad words.
 Refusals: E1 NAME is no name, E2 TOKEN is no token, E5 the person is there,
 E7 the token is another's, E14 no memory, E15 the database.
 
-Example: archive person-add --db archive.db anna 5fW2xkQ0aTz7uYp1";
+Example: archive person-add --db archive.db anna 5fW2xkQ0aTz7uYp1",
+};
 
-pub const PERSON_ADDRESS: &str = "Say by which address a person's own messages are known";
-
-pub const PERSON_ADDRESS_END: &str = "\
+pub(crate) const PERSON_ADDRESS: Help = Help {
+    about: "Say by which address a person's own messages are known",
+    end: "\
 Reads FILE, and makes it where it is empty or not there.
 
 Prints `address set`. An earlier address is replaced. A message is the person's own
@@ -84,11 +97,12 @@ theirs: it is for FILE's owner to know.
 Status: 0 done; 1 refused, with one line on standard error; 2 bad words.
 Refusals: E6 no person, E2 ADDRESS is no address, E14 no memory, E15 the database.
 
-Example: archive person-address --db archive.db anna anna@example.org";
+Example: archive person-address --db archive.db anna anna@example.org",
+};
 
-pub const GRANT: &str = "Make a person a member, subscriber or moderator of a list";
-
-pub const GRANT_END: &str = "\
+pub(crate) const GRANT: Help = Help {
+    about: "Make a person a member, subscriber or moderator of a list",
+    end: "\
 Reads FILE, and makes it where it is empty or not there.
 
 Prints `granted`. A grant of the same kind is replaced. It holds from its first
@@ -98,11 +112,12 @@ Status: 0 done; 1 refused, with one line on standard error; 2 bad words.
 Refusals: E6 no person, E4 no list, E11 UNTIL lies before FROM,
 E14 no memory, E15 the database.
 
-Example: archive grant --db archive.db anna soc member 2003-01-01 2003-12-31";
+Example: archive grant --db archive.db anna soc member 2003-01-01 2003-12-31",
+};
 
-pub const REVOKE: &str = "Take a grant away";
-
-pub const REVOKE_END: &str = "\
+pub(crate) const REVOKE: Help = Help {
+    about: "Take a grant away",
+    end: "\
 Reads FILE, and makes it where it is empty or not there.
 
 Prints `revoked`, or `no grant` where there was none.
@@ -110,11 +125,12 @@ Prints `revoked`, or `no grant` where there was none.
 Status: 0 done; 1 refused, with one line on standard error; 2 bad words.
 Refusals: E6 no person, E4 no list, E14 no memory, E15 the database.
 
-Example: archive revoke --db archive.db anna soc member";
+Example: archive revoke --db archive.db anna soc member",
+};
 
-pub const IMPORT: &str = "Take the messages of an mbox into a list";
-
-pub const IMPORT_END: &str = "\
+pub(crate) const IMPORT: Help = Help {
+    about: "Take the messages of an mbox into a list",
+    end: "\
 FILE is opened first, and made where it is empty or not there; then MBOX is
 opened, and read piece by piece.
 
@@ -128,11 +144,12 @@ failed, M3 and E14 no memory, E12 the list is full, E15 the database. Where an
 import stops, ` after N` tells how many messages were done. They stay, and the
 same import again takes in the rest.
 
-Example: archive import --db archive.db soc soc.mbox";
+Example: archive import --db archive.db soc soc.mbox",
+};
 
-pub const WITHDRAW: &str = "Withdraw a message";
-
-pub const WITHDRAW_END: &str = "\
+pub(crate) const WITHDRAW: Help = Help {
+    about: "Withdraw a message",
+    end: "\
 Reads FILE, and makes it where it is empty or not there.
 
 Prints `withdrawn`. Who may still read the message is the policy's to say.
@@ -141,11 +158,12 @@ Status: 0 done; 1 refused, with one line on standard error; 2 bad words.
 Refusals: E8 no key or no such message, E4 no list, E9 it is withdrawn,
 E14 no memory, E15 the database.
 
-Example: archive withdraw --db archive.db soc KEY author";
+Example: archive withdraw --db archive.db soc KEY author",
+};
 
-pub const RESTORE: &str = "Take the withdrawal of a message back";
-
-pub const RESTORE_END: &str = "\
+pub(crate) const RESTORE: Help = Help {
+    about: "Take the withdrawal of a message back",
+    end: "\
 Reads FILE, and makes it where it is empty or not there.
 
 Prints `restored`.
@@ -154,11 +172,12 @@ Status: 0 done; 1 refused, with one line on standard error; 2 bad words.
 Refusals: E8 no key or no such message, E4 no list, E10 it is not withdrawn,
 E14 no memory, E15 the database.
 
-Example: archive restore --db archive.db soc KEY";
+Example: archive restore --db archive.db soc KEY",
+};
 
-pub const EMBARGO: &str = "Hold a message back on the days before a day";
-
-pub const EMBARGO_END: &str = "\
+pub(crate) const EMBARGO: Help = Help {
+    about: "Hold a message back on the days before a day",
+    end: "\
 Reads FILE, and makes it where it is empty or not there.
 
 Prints `embargoed`. An earlier embargo is replaced. Who may still read the
@@ -167,11 +186,12 @@ message is the policy's to say.
 Status: 0 done; 1 refused, with one line on standard error; 2 bad words.
 Refusals: E8 no key or no such message, E4 no list, E14 no memory, E15 the database.
 
-Example: archive embargo --db archive.db soc KEY 2003-06-01";
+Example: archive embargo --db archive.db soc KEY 2003-06-01",
+};
 
-pub const LIFT: &str = "Take the embargo of a message away";
-
-pub const LIFT_END: &str = "\
+pub(crate) const LIFT: Help = Help {
+    about: "Take the embargo of a message away",
+    end: "\
 Reads FILE, and makes it where it is empty or not there.
 
 Prints `lifted`, or `no embargo` where there was none.
@@ -179,11 +199,12 @@ Prints `lifted`, or `no embargo` where there was none.
 Status: 0 done; 1 refused, with one line on standard error; 2 bad words.
 Refusals: E8 no key or no such message, E4 no list, E14 no memory, E15 the database.
 
-Example: archive lift --db archive.db soc KEY";
+Example: archive lift --db archive.db soc KEY",
+};
 
-pub const GET: &str = "Write a message, if the policy lets the reader read it";
-
-pub const GET_END: &str = "\
+pub(crate) const GET: Help = Help {
+    about: "Write a message, if the policy lets the reader read it",
+    end: "\
 The policy is read first; then the clock is asked, where no day is given;
 then FILE is opened.
 
@@ -192,15 +213,15 @@ the line is `archive: denied by RULE`.
 
 Status: 0 done; 1 refused, with one line on standard error; 2 bad words.
 Refusals: F1 POLICY cannot be read, P1 to P8 it is no policy, F3 the clock,
-E14, E15 or G4 the database, E8 no key or no such message, G1 no list, G2 no person,
-F2 the output.
+E14 or G5 no memory, E15 or G4 the database, E8 no key or no such message,
+G1 no list, G2 no person, F2 the output.
 
-Example: archive get --db archive.db --policy policy.toml --person anna soc KEY";
+Example: archive get --db archive.db --policy policy.toml --person anna soc KEY",
+};
 
-pub const EXPORT: &str =
-    "Write those messages of a list as an mbox that the policy lets the reader read";
-
-pub const EXPORT_END: &str = "\
+pub(crate) const EXPORT: Help = Help {
+    about: "Write those messages of a list as an mbox that the policy lets the reader read",
+    end: "\
 The policy is read first; then the clock is asked, where no day is given;
 then FILE is opened.
 
@@ -208,13 +229,15 @@ Writes an mbox, in the order of the list.
 
 Status: 0 done; 1 refused, with one line on standard error; 2 bad words.
 Refusals: F1 POLICY cannot be read, P1 to P8 it is no policy, F3 the clock,
-E14, E15 or G4 the database, G1 no list, G2 no person, G6 the output.
+E14 or G5 no memory, E15 or G4 the database, G1 no list, G2 no person,
+G6 the output.
 
-Example: archive export --db archive.db --policy policy.toml soc > soc.mbox";
+Example: archive export --db archive.db --policy policy.toml soc > soc.mbox",
+};
 
-pub const CHECK: &str = "Look whether the database is whole";
-
-pub const CHECK_END: &str = "\
+pub(crate) const CHECK: Help = Help {
+    about: "Look whether the database is whole",
+    end: "\
 Reads FILE, and makes it where it is empty or not there.
 
 Looks at every message: whether its sender, arrival and text make a complete
@@ -226,11 +249,12 @@ Refusals: E16 a message is damaged: the first, lists by name and then in the
 order of the list, with its list and its key, each byte that is not visible as
 `?`; E14 no memory, E15 the database, F2 the output.
 
-Example: archive check --db archive.db";
+Example: archive check --db archive.db",
+};
 
-pub const SERVE: &str = "Answer requests over HTTP, on this machine alone";
-
-pub const SERVE_END: &str = "\
+pub(crate) const SERVE: Help = Help {
+    about: "Answer requests over HTTP, on this machine alone",
+    end: "\
 The policy is read first; then the clock is asked, where no day is given;
 then FILE is opened. It stays locked until the end, and the day stays the
 same.
@@ -241,58 +265,60 @@ not read, S2 it was not written, S3 its mbox broke off), and the next follows.
 
 Status: 0 done; 1 refused, with one line on standard error; 2 bad words.
 Refusals: F1 POLICY cannot be read, P1 to P8 it is no policy, F3 the clock,
-E14 or E15 the database, F4 the port.
+E14 or F5 no memory, E15 the database, F2 the output, F4 the port.
 
-Example: archive serve --db archive.db --policy policy.toml --port 8080 --count 1000";
+Example: archive serve --db archive.db --policy policy.toml --port 8080 --count 1000",
+};
 
-pub const DAY: &str =
+pub(crate) const DAY: &str =
     "The reading day, yyyy-mm-dd [default: today in UTC, where an age or a policy is asked for]";
 
-pub const MIN_AGE: &str =
+pub(crate) const MIN_AGE: &str =
     "Only messages that arrived at least this many days before the reading day";
 
-pub const POLICY: &str = "The file with the policy [default: everybody may read everything]";
+pub(crate) const POLICY: &str = "The file with the policy [default: everybody may read everything]";
 
-pub const SIFT_LIST: &str = "The list that the messages are taken to be of [default: inbox]";
+pub(crate) const SIFT_LIST: &str = "The list that the messages are taken to be of [default: inbox]";
 
-pub const STANDING: &str =
+pub(crate) const STANDING: &str =
     "The reader's standing: public, member, subscriber or moderator [default: public]";
 
-pub const RULES: &str = "The file with the policy";
+pub(crate) const RULES: &str = "The file with the policy";
 
-pub const TODAY: &str = "The reading day, yyyy-mm-dd [default: today in UTC]";
+pub(crate) const TODAY: &str = "The reading day, yyyy-mm-dd [default: today in UTC]";
 
-pub const ASKING: &str = "The name of the person who asks [default: nobody]";
+pub(crate) const ASKING: &str = "The name of the person who asks [default: nobody]";
 
-pub const PORT: &str = "The port, 0 to 65535; 0 takes a free one";
+pub(crate) const PORT: &str = "The port, 0 to 65535; 0 takes a free one";
 
-pub const COUNT: &str = "How many connections are answered, 0 to 1000000";
+pub(crate) const COUNT: &str = "How many connections are answered, 0 to 1000000";
 
-pub const DATABASE: &str = "The file of the database";
+pub(crate) const DATABASE: &str = "The file of the database";
 
-pub const NAME: &str = "A name: 1 to 40 of a to z, 0 to 9 and -, beginning with a letter";
+pub(crate) const NAME: &str = "A name: 1 to 40 of a to z, 0 to 9 and -, beginning with a letter";
 
-pub const TOKEN: &str = "A token (RFC 6750): 16 to 64 bytes, letters, digits or -._~+/, then any =";
+pub(crate) const TOKEN: &str =
+    "A token (RFC 6750): 16 to 64 bytes, letters, digits or -._~+/, then any =";
 
-pub const PERSON: &str = "The person's name";
+pub(crate) const PERSON: &str = "The person's name";
 
-pub const ADDRESS: &str = "An address: 1 to 254 bytes, each visible ASCII";
+pub(crate) const ADDRESS: &str = "An address: 1 to 254 bytes, each visible ASCII";
 
-pub const LIST: &str = "The list's name";
+pub(crate) const LIST: &str = "The list's name";
 
-pub const MERGED: &str = "yes or no";
+pub(crate) const MERGED: &str = "yes or no";
 
-pub const MBOX: &str = "The file with the messages, an mbox (RFC 4155)";
+pub(crate) const MBOX: &str = "The file with the messages, an mbox (RFC 4155)";
 
-pub const KIND: &str = "member, subscriber or moderator";
+pub(crate) const KIND: &str = "member, subscriber or moderator";
 
-pub const FROM: &str = "The first day, yyyy-mm-dd";
+pub(crate) const FROM: &str = "The first day, yyyy-mm-dd";
 
-pub const GRANT_UNTIL: &str = "The last day, yyyy-mm-dd";
+pub(crate) const GRANT_UNTIL: &str = "The last day, yyyy-mm-dd";
 
-pub const KEY: &str =
+pub(crate) const KEY: &str =
     "The message's key: the SHA-256 of its text, 64 hexadecimal digits in lower case";
 
-pub const BY: &str = "author or board";
+pub(crate) const BY: &str = "author or board";
 
-pub const EMBARGO_UNTIL: &str = "The first day on which it is not held back, yyyy-mm-dd";
+pub(crate) const EMBARGO_UNTIL: &str = "The first day on which it is not held back, yyyy-mm-dd";

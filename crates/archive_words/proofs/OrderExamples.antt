@@ -133,7 +133,8 @@ serves : ordered (codes "serve" ∷ codes "--db" ∷ codes "f" ∷ codes "--poli
 unfolding archive_on_literals number_up_to
 serves = refl
 
-serves_at_the_ends : ordered (codes "serve" ∷ codes "--db" ∷ codes "f" ∷ codes "--policy" ∷ codes "p" ∷ codes "--day" ∷ codes "2003-03-20" ∷ codes "--port" ∷ codes "65535" ∷ codes "--count" ∷ codes "0" ∷ [])
+serves_at_the_ends : ordered (codes "serve" ∷ codes "--db" ∷ codes "f" ∷ codes "--policy" ∷ codes "p" ∷ codes "--day" ∷ codes "2003-03-20"
+    ∷ codes "--port" ∷ codes "65535" ∷ codes "--count" ∷ codes "0" ∷ [])
     ≡ Some (Serve (record { file = codes "f"; policy = codes "p"; day = Some (pos 12131); port = 65535; count = 0 }))
 unfolding archive_on_literals days_before_year days_of_months number_up_to
 serves_at_the_ends = refl

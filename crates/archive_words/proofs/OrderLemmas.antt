@@ -1,8 +1,7 @@
 -- How the words' matches become an order.
-use Rattle.std.proofs.Common.{◌≡◌, ◌≢◌, ℕ, ◌<◌, ◌≤◌, nat_le, ◌&&◌, List, [], ◌∷◌, length, Bool, true, false, Option, Some, None, Result, Ok, Err, option_map, refl, ◌∙◌, ap, arith, inl, inr}
+use Rattle.std.proofs.Common.{◌≡◌, ◌≢◌, ℕ, ◌<◌, ◌≤◌, nat_le, List, [], ◌∷◌, length, true, false, Option, Some, None, Result, Ok, Err, option_map, refl, ◌∙◌, ap, arith, inl, inr}
 use Rattle.std.proofs.lemmas.Option.{same_Some}
-use Rattle.std.proofs.lemmas.Bool.{le-leb}
-use Rattle.std.proofs.lemmas.Bool.Decides.{nat_tests}
+use Rattle.std.proofs.lemmas.Bool.{and_parts, false_from_ne_true, le-leb, leb-true}
 use Rattle.std.proofs.lemmas.Result.{OkIff-at_ok, OkIff-at_err}
 use Rattle.std.proofs.lemmas.Str.{digit_value_digit}
 use Rattle.std.proofs.lemmas.Str.Parse.{without_leading_plus_none}
@@ -17,10 +16,6 @@ use Rattle.archive_words.specs.declared.orders.OrderStop.TheVariants.{Help, Word
 use Rattle.archive_words.specs.Program.{archive_app}
 use Rattle.archive_words.specs.Orders.{is_decimal, number_up_to, IsStopBy, IsStopOf}
 
-pub not_true : (b : Bool) → (b ≡ true → ⊥) → b ≡ false
-not_true true h = absurd (h refl)
-not_true false h = refl
-
 -- the name and the matches of a subcommand, from each of the two
 pub pair_up : {B N R : Type 0} (f : B → N × R) (o : Option B) (n : N) (r : R)
     → Some n ≡ option_map (λ b. (f b).0) o → Some r ≡ option_map (λ p. p.1) (option_map f o) → option_map f o ≡ Some (n, r)
@@ -34,21 +29,13 @@ found f o n rs e = ap f e
 
 -- ---- numbers
 
-both : (b c : Bool) → (b && c) ≡ true → (b ≡ true) × (c ≡ true)
-both true true h = (refl, refl)
-both true false h = cc
-both false c h = cc
-
-leb-le : (a b : ℕ) → nat_le a b ≡ true → a ≤ b
-leb-le a b h = grind (arith, nat_tests)
-
 in_digits : (c : ℕ) → is_ascii_digit c ≡ true → IsInRange 48 57 c
-in_digits c h = let split = both (nat_le 48 c) (nat_le c 57) h in (leb-le 48 c split.0, leb-le c 57 split.1)
+in_digits c h = let split = and_parts (nat_le 48 c) (nat_le c 57) h in (leb-true 48 c split.0, leb-true c 57 split.1)
 
 digits : (text : List ℕ) → list_all is_ascii_digit text ≡ true → AllDigits 10 text
 digits [] h = tt
 digits (c ∷ cs) h =
-    let split = both (is_ascii_digit c) (list_all is_ascii_digit cs) h in
+    let split = and_parts (is_ascii_digit c) (list_all is_ascii_digit cs) h in
     (omega (arith, digit_value_digit c (in_digits c split.0), (in_digits c split.0)), digits cs split.1)
 
 all_digits : (text : List ℕ) → is_decimal text ≡ true → list_all is_ascii_digit text ≡ true
@@ -63,7 +50,7 @@ some_decimal (c ∷ cs) h = refl
 unsigned : (text : List ℕ) → is_decimal text ≡ true → without_leading_plus text ≡ text
 unsigned [] h = refl
 unsigned (c ∷ cs) h =
-    let range = in_digits c (both (is_ascii_digit c) (list_all is_ascii_digit cs) h).0 in
+    let range = in_digits c (and_parts (is_ascii_digit c) (list_all is_ascii_digit cs) h).0 in
     without_leading_plus_none (c ∷ cs) (λ e. absurd (omega (arith, range, e)))
 
 short : (text : List ℕ) → is_decimal text ≡ true → 0 < length text
@@ -94,7 +81,7 @@ pub number-too_great : {E : Type 0} (greatest : ℕ) (text : List ℕ) (r : Resu
 unfolding number_up_to
 number-too_great greatest text r n p h e high =
     let v = value_ok text r n p h e in
-    rw (h, not_true (nat_le (digits_value 10 text) greatest) (λ t. absurd (omega (arith, v, high, leb-le (digits_value 10 text) greatest t)))) refl
+    rw (h, false_from_ne_true (nat_le (digits_value 10 text) greatest) (λ t. absurd (omega (arith, v, high, leb-true (digits_value 10 text) greatest t)))) refl
 
 -- a decimal text that does not fit 32 bits
 pub number-too_long : {E : Type 0} (greatest : ℕ) (text : List ℕ) (r : Result ℕ E) (e : E) → greatest < 4294967296 → ParsesUnsigned 32 10 text r → is_decimal text ≡ true
@@ -103,9 +90,9 @@ unfolding number_up_to
 number-too_long greatest text r e room p h is =
     rw (
       h,
-      not_true (nat_le (digits_value 10 text) greatest) (λ t. OkIff-at_err r _ _ e p is (
+      false_from_ne_true (nat_le (digits_value 10 text) greatest) (λ t. OkIff-at_err r _ _ e p is (
         numeral text h,
-        rw (unsigned text h) (let low : digits_value 10 text ≤ greatest = leb-le (digits_value 10 text) greatest t in omega (arith, low, room)),
+        rw (unsigned text h) (let low : digits_value 10 text ≤ greatest = leb-true (digits_value 10 text) greatest t in omega (arith, low, room)),
       )),
     ) refl
 

@@ -52,6 +52,7 @@ impl<'a> Model for SiftOrder<'a> {
 pub struct TableOrder<'a> {
     /// The name of the database's file.
     pub file: &'a str,
+    /// The command, with its values.
     pub command: TableCommand<'a>,
 }
 
@@ -109,6 +110,7 @@ impl<'a> Model for AskOrder<'a> {
 /// The values of `get`: a question for one message.
 #[derive(Debug, Drop)]
 pub struct GetOrder<'a> {
+    /// The question, without the message.
     pub asked: AskOrder<'a>,
     /// The key of the message, as it was given.
     pub key: &'a str,

@@ -14,6 +14,7 @@ use std::alloc::{AllocError, Global};
 pub(crate) struct BadValue<'a> {
     /// The argument, as the usage shows it.
     pub option: &'a str,
+    /// The value, as it was given.
     pub text: &'a str,
     /// What its values are.
     pub wanted: &'a str,

@@ -15,8 +15,6 @@ const MOST_CONNECTIONS: u32 = 1_000_000;
 
 pub(crate) const DEFAULT_LIST: &str = "inbox";
 
-const A_DAY: &str = "a day of the calendar is yyyy-mm-dd, from 1900-01-01 to 9998-12-31";
-
 /// The text of an argument.
 pub(crate) fn text_of<'a>(inner: &ArgMatches<'a>, name: &str) -> Option<&'a str>
     ensures { option_map (λ t. t.now) result ≡ first_of name.now (rows_of (found_of inner.now)) }
@@ -30,14 +28,11 @@ pub(crate) fn needed<'a>(inner: &ArgMatches<'a>, name: &'a str) -> Result<&'a st
         (λ text. first_of name.entry.now (rows_of (found_of inner.now)) ≡ Some text.now)
         (λ _. first_of name.entry.now (rows_of (found_of inner.now)) ≡ None) }
 {
-    match text_of(inner, name) {
-        Some(text) => Ok(text),
-        None => Err(BadValue {
-            option: name,
-            text: "",
-            wanted: "a value has to be given",
-        }),
-    }
+    text_of(inner, name).ok_or(BadValue {
+        option: name,
+        text: "",
+        wanted: "a value has to be given",
+    })
 }
 
 /// A number in decimal digits, 0 to the greatest.
@@ -70,6 +65,19 @@ fn is_decimal(text: &[u8]) -> bool
     text.iter().all(|b| b.is_ascii_digit())
 }
 
+/// The day that a text writes; the option is named where it writes none.
+fn read_day<'a>(text: &'a str, option: &'a str) -> Result<Day, BadValue<'a>>
+    ensures { MatchResult result
+        (λ day. day_of_text text.entry.now ≡ Some day)
+        (λ _. day_of_text text.entry.now ≡ None) }
+{
+    Day::read(text.as_bytes()).ok_or(BadValue {
+        option,
+        text,
+        wanted: "a day of the calendar is yyyy-mm-dd, from 1900-01-01 to 9998-12-31",
+    })
+}
+
 /// The day of an option, where it is given.
 pub(crate) fn given_day<'a>(text: Option<&'a str>) -> Result<Option<Day>, BadValue<'a>>
     ensures { MatchResult result
@@ -79,14 +87,8 @@ pub(crate) fn given_day<'a>(text: Option<&'a str>) -> Result<Option<Day>, BadVal
     let Some(text) = text else {
         return Ok(None);
     };
-    match Day::read(text.as_bytes()) {
-        Some(day) => Ok(Some(day)),
-        None => Err(BadValue {
-            option: "--day <DAY>",
-            text,
-            wanted: A_DAY,
-        }),
-    }
+    let day = read_day(text, "--day <DAY>")?;
+    Ok(Some(day))
 }
 
 /// The age of an option, where it is given.
@@ -98,14 +100,12 @@ pub(crate) fn given_age<'a>(text: Option<&'a str>) -> Result<Option<u32>, BadVal
     let Some(text) = text else {
         return Ok(None);
     };
-    match read_number(text, MOST_DAYS as u32) {
-        Some(age) => Ok(Some(age)),
-        None => Err(BadValue {
-            option: "--min-age <DAYS>",
-            text,
-            wanted: "an age is a number of days, 0 to 36500",
-        }),
-    }
+    let age = read_number(text, MOST_DAYS as u32).ok_or(BadValue {
+        option: "--min-age <DAYS>",
+        text,
+        wanted: "an age is a number of days, 0 to 36500",
+    })?;
+    Ok(Some(age))
 }
 
 pub(crate) fn given_standing<'a>(word: Option<&'a str>) -> Result<Standing, BadValue<'a>>
@@ -116,24 +116,18 @@ pub(crate) fn given_standing<'a>(word: Option<&'a str>) -> Result<Standing, BadV
     let Some(text) = word else {
         return Ok(Standing::Public);
     };
-    match Standing::read(text) {
-        Some(standing) => Ok(standing),
-        None => Err(BadValue {
-            option: "--standing <STANDING>",
-            text,
-            wanted: "a standing is public, member, subscriber or moderator",
-        }),
-    }
+    Standing::read(text).ok_or(BadValue {
+        option: "--standing <STANDING>",
+        text,
+        wanted: "a standing is public, member, subscriber or moderator",
+    })
 }
 
 /// The list that the messages are taken to be of. Any text is the name of one.
 pub(crate) fn given_list<'a>(name: Option<&'a str>) -> &'a str
     ensures { result.now ≡ list_of (option_map (λ t. t.now) name.entry) }
 {
-    match name {
-        Some(name) => name,
-        None => DEFAULT_LIST,
-    }
+    name.unwrap_or(DEFAULT_LIST)
 }
 
 /// The day of an argument.
@@ -147,14 +141,7 @@ pub(crate) fn day_of<'a>(
         (λ _. read_in day_of_text name.entry.now (rows_of (found_of inner.now)) ≡ None) }
 {
     let text = needed(inner, name)?;
-    match Day::read(text.as_bytes()) {
-        Some(day) => Ok(day),
-        None => Err(BadValue {
-            option,
-            text,
-            wanted: A_DAY,
-        }),
-    }
+    read_day(text, option)
 }
 
 /// What the word of a kind means.
@@ -176,14 +163,11 @@ pub(crate) fn kind_of_grant<'a>(inner: &ArgMatches<'a>) -> Result<GrantKind, Bad
         (λ _. read_in kind_named (codes "kind") (rows_of (found_of inner.now)) ≡ None) }
 {
     let text = needed(inner, "kind")?;
-    match read_kind(text) {
-        Some(kind) => Ok(kind),
-        None => Err(BadValue {
-            option: "<KIND>",
-            text,
-            wanted: "a kind is member, subscriber or moderator",
-        }),
-    }
+    read_kind(text).ok_or(BadValue {
+        option: "<KIND>",
+        text,
+        wanted: "a kind is member, subscriber or moderator",
+    })
 }
 
 /// What the word of a party means.
@@ -204,14 +188,11 @@ pub(crate) fn party_of_withdrawal<'a>(inner: &ArgMatches<'a>) -> Result<Withdraw
         (λ _. read_in party_named (codes "by") (rows_of (found_of inner.now)) ≡ None) }
 {
     let text = needed(inner, "by")?;
-    match read_party(text) {
-        Some(by) => Ok(by),
-        None => Err(BadValue {
-            option: "<BY>",
-            text,
-            wanted: "a message is withdrawn by author or board",
-        }),
-    }
+    read_party(text).ok_or(BadValue {
+        option: "<BY>",
+        text,
+        wanted: "a message is withdrawn by author or board",
+    })
 }
 
 /// What `yes` and `no` mean.
@@ -232,14 +213,11 @@ pub(crate) fn is_merged<'a>(inner: &ArgMatches<'a>) -> Result<bool, BadValue<'a>
         (λ _. read_in yes_or_no (codes "merge") (rows_of (found_of inner.now)) ≡ None) }
 {
     let text = needed(inner, "merge")?;
-    match read_yes_or_no(text) {
-        Some(merged) => Ok(merged),
-        None => Err(BadValue {
-            option: "<MERGE>",
-            text,
-            wanted: "merge is yes or no",
-        }),
-    }
+    read_yes_or_no(text).ok_or(BadValue {
+        option: "<MERGE>",
+        text,
+        wanted: "merge is yes or no",
+    })
 }
 
 /// The argument PORT.
@@ -266,12 +244,9 @@ pub(crate) fn count_of<'a>(inner: &ArgMatches<'a>) -> Result<u32, BadValue<'a>>
         (λ _. read_in count_of_text (codes "count") (rows_of (found_of inner.now)) ≡ None) }
 {
     let text = needed(inner, "count")?;
-    match read_number(text, MOST_CONNECTIONS) {
-        Some(count) => Ok(count),
-        None => Err(BadValue {
-            option: "--count <COUNT>",
-            text,
-            wanted: "a count is a number, 0 to 1000000",
-        }),
-    }
+    read_number(text, MOST_CONNECTIONS).ok_or(BadValue {
+        option: "--count <COUNT>",
+        text,
+        wanted: "a count is a number, 0 to 1000000",
+    })
 }

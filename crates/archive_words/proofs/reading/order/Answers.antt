@@ -1,15 +1,16 @@
 use Rattle.std.proofs.Common.{◌∙◌, ap, ap₂, refl, sym, inl, inr}
+use Rattle.std.proofs.lemmas.Bool.{false_from_ne_true}
 use Rattle.clap.specs.Words.{fault_of, is_simple, is_simple_and_free, subcommand_of, takes}
 use Rattle.archive_usage.proofs.UsageLaws.{simple, free}
 use Rattle.archive_words.specs.Orders.{order_of}
-use Rattle.archive_words.proofs.OrderLemmas.{not_true, same_kinds, stop_of_fault}
+use Rattle.archive_words.proofs.OrderLemmas.{same_kinds, stop_of_fault}
 use Rattle.archive_words.proofs.reading.order.Goals as goal
 
 pub returns-in-Err-clause-refused : goal.returns-in-Err-clause-refused
 returns-in-Err-clause-refused c =
     elim c.stop_of.ensures.memory [
       | inl no_memory ↦ inl no_memory
-      | inr other ↦ inr (inl (not_true _ (λ t. other (c.in-Err.ensures.passes (ap₂ takes c.in-Ok.ensures.0 refl ∙ t)))))
+      | inr other ↦ inr (inl (false_from_ne_true _ (λ t. other (c.in-Err.ensures.passes (ap₂ takes c.in-Ok.ensures.0 refl ∙ t)))))
     ]
 
 pub returns-in-Err-clause-stopped : goal.returns-in-Err-clause-stopped
