@@ -1,12 +1,14 @@
 -- Worked examples of views. Day 12115 is 2003-03-04, and day 12143 is 2003-04-01.
-use Rattle.std.proofs.Common.{◌≡◌, ℕ, ℤ, pos, List, [], ◌∷◌, map, Option, Some, None, true, false, refl, codes}
+use Rattle.std.proofs.Common.{◌≡◌, ℕ, ℤ, pos, List, [], ◌∷◌, map, Option, Some, None, true, false, refl, codes, ◌≢◌}
 use Rattle.policy_core.specs.declared.access.Standing.TheVariants.{Public, Member, Moderator}
+use Rattle.policy_core.specs.declared.access.Withdrawn.{Withdrawn}
 use Rattle.policy_core.specs.declared.access.Withdrawn.TheVariants.{No, Author, Board}
 use Rattle.policy_core.specs.Rules.{Rule, open_rule}
 use Rattle.mail_core.specs.Fields.{fields_of, header_blocks, unfolded}
 use Rattle.mail_core.specs.Lines.{lines, is_empty_line, content}
 use Rattle.archive_machine.specs.Records.{Message, Archive}
-use Rattle.archive_results.specs.Access.{Ask, view_of, reader_standing, own_of, marks_of, facts_of, ruling_on, asked_of, served, denied_by, absent, ask_refusal, no_list, no_person}
+use Rattle.archive_results.specs.Promise.{DeniesWithdrawn}
+use Rattle.archive_results.specs.Access.{Ask, allows, view_of, reader_standing, own_of, marks_of, facts_of, ruling_on, asked_of, served, denied_by, absent, ask_refusal, no_list, no_person}
 
 -- arrived on 2003-03-04, and withdrawn by its author
 abbrev first : Message
@@ -215,3 +217,21 @@ then_the_person = refl
 
 nobody_is_no_unknown_person : ask_refusal archive (by [] None (pos 0)) ≡ None
 nobody_is_no_unknown_person = refl
+
+-- ---- what is promised of withdrawn messages
+
+-- the rules of `samples/seeds.toml`
+abbrev seeds_rules : List Rule
+seeds_rules = record open_rule { name = codes "moderators"; standings = Some (Moderator ∷ []) }
+    ∷ record open_rule { name = codes "withdrawn"; allows = false; withdrawn = Some (Author ∷ Board ∷ []) }
+    ∷ embargo_rule ∷ record open_rule { name = codes "open" } ∷ []
+
+-- they deny each withdrawn message to the public, whoever withdrew it, and whenever it came
+to_the_public : DeniesWithdrawn (by seeds_rules None (pos 19802)) (record { standing = Public; address = None })
+unfolding ruling_on
+to_the_public marks some other = by_whom marks.withdrawn some
+  where
+    by_whom : (who : Withdrawn) → who ≢ No → allows (by seeds_rules None (pos 19802)) (record { standing = Public; address = None }) (record marks { withdrawn = who }) ≡ false
+    by_whom No none = absurd (none refl)
+    by_whom Author none = refl
+    by_whom Board none = refl

@@ -15,6 +15,7 @@ use std::marker::Model;
 /// What a policy asks of a reader: the standing on the list and the day, and the address of a person who has one.
 #[derive(Drop)]
 pub struct ReaderMarks {
+    /// On the list, on the day.
     pub standing: Standing,
     /// In ASCII lower case. `None` for nobody in particular, and for a person without one.
     pub address: Option<String>,
@@ -33,9 +34,13 @@ impl Model for ReaderMarks {
 /// reader's own.
 #[derive(Clone, Copy)]
 pub struct Marks {
+    /// When it came.
     pub arrival: Instant,
+    /// Who withdrew it.
     pub withdrawn: Withdrawn,
+    /// The day up to which it is held back.
     pub embargo_until: Option<Day>,
+    /// Whether the reader wrote it.
     pub own: bool,
 }
 

@@ -13,9 +13,13 @@ pub enum Reader<'a> {
 /// What is asked: under this policy, by this reader, of the list of this name, on this day.
 #[derive(Drop)]
 pub struct Ask<'a> {
+    /// Decides what the reader is shown.
     pub policy: &'a Policy,
+    /// Who asks.
     pub reader: Reader<'a>,
+    /// The list's name, as it was asked for.
     pub list: &'a str,
+    /// The day that the policy is asked about, in UTC.
     pub day: Day,
 }
 

@@ -1,4 +1,4 @@
-//! Messages without their texts.
+//! What lists and threads ask of a message, without its text.
 ghost use Rattle.std.specs.Prelude.{◌≡◌, ℕ, List, IfOk};
 ghost use Rattle.archive_machine.specs.Messages.{remembered};
 ghost use Rattle.archive_results.specs.Index.{header_of};
@@ -14,7 +14,9 @@ use thread_core::Entry;
 /// A message without its text: its line, and what it says about threads.
 #[derive(Drop)]
 pub struct Header {
+    /// What a list shows of it.
     pub line: Line,
+    /// What a threader asks of it.
     pub entry: Entry,
 }
 

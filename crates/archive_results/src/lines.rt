@@ -1,4 +1,4 @@
-//! Lines of messages.
+//! What a list shows of one message, and a row of a thread.
 use archive_machine::Key;
 use civil_time::Instant;
 use std::marker::Model;
@@ -6,6 +6,7 @@ use std::marker::Model;
 /// A message in a list.
 #[derive(Drop)]
 pub struct Line {
+    /// The message's key, under which its page stands.
     pub key: Key,
     /// The sent date (RFC 5256, section 2.2).
     pub sent: Instant,
@@ -26,7 +27,9 @@ impl Model for Line {
 /// A row of a thread: how deep it stands, 0 at the top, and its message's line. `None` stands for a message that is missing.
 #[derive(Drop)]
 pub struct TreeLine {
+    /// 0 at the top.
     pub depth: usize,
+    /// `None`: the message is missing.
     pub line: Option<Line>,
 }
 

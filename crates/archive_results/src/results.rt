@@ -1,4 +1,4 @@
-//! The lines of messages.
+//! From the headers of a view to its lines.
 ghost use Rattle.std.specs.Prelude.{◌≡◌, IfOk, map};
 ghost use Rattle.archive_results.specs.Shown.{shown_of};
 ghost use Rattle.archive_results.specs.Results.{lines_of};
