@@ -1,4 +1,4 @@
-//! Links between pages.
+//! Links between pages, percent-encoded (RFC 3986, section 2.1).
 ghost use Rattle.std.specs.Prelude.{◌≡◌, ◌++◌, OnOk, codes};
 ghost use Rattle.archive_html.specs.Links.{month_link, author_link, subject_text, message_link, thread_link};
 

@@ -1,4 +1,4 @@
-//! Whole pages.
+//! Whole pages, from head to foot, one function each.
 ghost use Rattle.std.specs.Prelude.{◌≡◌, ◌++◌, OnOk, IfOk, map, flat_map, codes, string_bytes};
 ghost use Rattle.archive_html.specs.Rows.{list_row, message_row, tree_row};
 ghost use Rattle.archive_html.specs.Pages.{page, page_head, page_foot, titled, lists_page, month_page, author_page, threads_page, thread_page};

@@ -1,4 +1,4 @@
-//! The keys of messages.
+//! The key of a message: the SHA-256 of its whole text, in hexadecimal.
 ghost use Rattle.std.specs.Prelude.{◌≡◌, true};
 ghost use Rattle.std.specs.List.{list_all};
 ghost use Rattle.hex.specs.Hex.{encode_lower};

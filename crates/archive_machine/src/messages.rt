@@ -7,8 +7,11 @@ use policy_core::Withdrawn;
 /// A message of a list. Its item's text is the whole text. What it means is `remembered`.
 #[derive(Drop)]
 pub struct Message {
+    /// The text's key, under which the list holds it.
     pub key: Key,
+    /// The envelope and the text.
     pub item: OwnedItem,
+    /// Who withdrew it.
     pub withdrawn: Withdrawn,
     /// The day up to which it is held back.
     pub embargo_until: Option<Day>,

@@ -1,4 +1,4 @@
-//! Bearer tokens.
+//! What a bearer token is made of (RFC 6750, section 2.1).
 ghost use Rattle.std.specs.Prelude.{◌≡◌};
 ghost use Rattle.archive_machine.specs.Tokens.{is_token, is_b64token, is_padded, is_padding, is_token_byte};
 

@@ -15,6 +15,7 @@ pub const MOST_BYTES: usize = 8192;
 /// A head, as offsets into the bytes that were read.
 #[derive(Clone, Copy, Drop)]
 pub(crate) struct Head {
+    /// Where its method, its target and its fields lie.
     pub spans: RequestSpans,
     /// The first of them, as many as `spans.headers` says, are the head's fields.
     pub fields: [HeaderSpan; MOST_FIELDS],

@@ -1,4 +1,4 @@
-//! The civil calendar.
+//! The Gregorian calendar: from year, month and day to the number of the day.
 ghost use Rattle.std.specs.Prelude.{◌≡◌};
 ghost use Rattle.civil_time.specs.Calendar.{day_number_of};
 

@@ -1,4 +1,4 @@
-//! Times of day.
+//! Times of day, as seconds since 00:00:00.
 ghost use Rattle.std.specs.Prelude.{◌≡◌, ◌<◌, IfSome};
 ghost use Rattle.civil_time.specs.Clock.{clock_seconds};
 

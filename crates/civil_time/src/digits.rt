@@ -1,4 +1,4 @@
-//! Decimal digits.
+//! Decimal digits, one, two and four of them, to numbers and back.
 ghost use Rattle.std.specs.Prelude.{◌≡◌, ◌<◌, ◌≤◌, IfSome};
 ghost use Rattle.civil_time.specs.Digits.{one_digit, two_digits, four_digits, one_or_two, just_two, just_four, as_two_digits};
 

@@ -1,4 +1,4 @@
-//! A message.
+//! A message of an mbox: an envelope and a text.
 ghost use Rattle.std.specs.Prelude.{◌≡◌, ◌≤◌, ◌++◌, length, IfSome, IfNone};
 ghost use Rattle.mail_core.specs.Lines.{lines};
 ghost use Rattle.mbox_core.specs.Division.{NoneSeparates, is_whole, whole};
@@ -12,8 +12,11 @@ use std::marker::Model;
 /// of the whole text is a separator line that follows an empty line.
 #[derive(Drop)]
 pub struct Item<'a> {
+    /// What its separator line says.
     pub envelope: Envelope<'a>,
+    /// Without the empty line that ends it.
     pub text: &'a [u8],
+    /// Whether the text is the whole text.
     pub complete: bool,
 }
 

@@ -1,4 +1,4 @@
-//! Senders.
+//! Senders that a separator line can name (RFC 4155, appendix A).
 ghost use Rattle.std.specs.Prelude.{◌≡◌, ◌∷◌, [], ℕ, List, true, IfSome, IfNone, codes};
 ghost use Rattle.mbox_core.specs.Separator.{IsSenderText, is_sender_token as sender_test, spaced};
 ghost use Rattle.mbox_core.specs.Senders.{IsSender, sender_text};

@@ -1,4 +1,4 @@
-//! Separator lines.
+//! Separator lines, `From `, a sender and a time (RFC 4155, appendix A).
 ghost use Rattle.std.specs.Prelude.{◌≡◌, ◌∷◌, ◌<◌, ◌≤◌, [], length, Some, None, IfSome, IfNone};
 ghost use Rattle.mbox_core.specs.Separator.{tokens, separator_of, envelope_of, arrival_of, sent_by_one, sent_by_two, IsSeparator, Envelope as Said};
 
@@ -12,7 +12,9 @@ use std::marker::Model;
 /// What a separator line says: who sent the message, and when it came. Its sender is one that can be written.
 #[derive(Drop)]
 pub struct Envelope<'a> {
+    /// Who sent it.
     pub sender: Sender<'a>,
+    /// When it came, in UTC.
     pub arrival: Instant,
 }
 

@@ -1,4 +1,4 @@
-//! Names.
+//! What a name of a list or of a rule is made of.
 ghost use Rattle.std.specs.Prelude.{◌≡◌};
 ghost use Rattle.std.specs.List.{list_all};
 ghost use Rattle.policy_core.specs.Names.{is_name, is_name_byte};

@@ -1,4 +1,4 @@
-//! Policies and their verdicts.
+//! Policies, and what their rules say of a reader and a message.
 ghost use Rattle.std.specs.Prelude.{◌≡◌, ◌≢◌, ◌∷◌, [], ◌&&◌, pos, int_le, bytes_eq, codes, Bool, false, Ok, Err, None, is_some, IfOk, IfErr, IsErr};
 ghost use Rattle.std.specs.List.{list_any, AllByRecursion};
 ghost use Rattle.toml.specs.Parse.{parse_document};

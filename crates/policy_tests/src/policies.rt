@@ -1,3 +1,4 @@
+//! What a policy says of a message, and why a text is no policy.
 use civil_time::Day;
 use policy_core::{Facts, Policy, PolicyFault, Standing, Verdict, Withdrawn, is_name};
 use std::alloc::{AllocError, Global};

@@ -19,7 +19,9 @@ use thread_links::Entry;
 /// The top trees, and the (child, parent) links of messages that were taken from the top.
 #[derive(Drop)]
 pub struct Merged {
+    /// At the top, in their order.
     pub trees: Vec<Tree>,
+    /// Each of a child and its parent, by place in the mailbox.
     pub links: Vec<(usize, usize)>,
 }
 
@@ -62,7 +64,9 @@ impl Merged {
 /// The messages of one subject at the top.
 #[derive(Drop)]
 pub struct Group {
+    /// Whether a dummy stands above them.
     pub dummy: bool,
+    /// By place in the mailbox.
     pub messages: Vec<usize>,
 }
 

@@ -1,4 +1,4 @@
-//! The plain threader.
+//! The plain threader: RFC 5256 as the definitions have it, by lists of pairs, for short lists.
 
 ghost use Rattle.std.specs.Prelude.{◌≡◌, ◌≤◌, IfOk, length};
 ghost use Rattle.thread_links.specs.Links.{parent_of};

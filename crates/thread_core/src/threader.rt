@@ -1,4 +1,4 @@
-//! Threaders.
+//! What a threader is, and `threads`, which asks one and makes the rows.
 
 ghost use Rattle.std.specs.Prelude.{◌≡◌, ◌≤◌, ◌<◌, IfOk, length};
 ghost use Rattle.thread_links.specs.Containers.{count_of};

@@ -1,4 +1,4 @@
-//! The numbers of containers.
+//! The number of each id: the place of the message that owns it, or that of a dummy behind the messages.
 
 ghost use Rattle.std.specs.Prelude.{◌≡◌, ◌≤◌, ◌<◌, ◌∷◌, ◌++◌, not, length, filter, OnOk, IfOk, IfSome, false};
 ghost use Rattle.std.specs.Option.{option_map_or};

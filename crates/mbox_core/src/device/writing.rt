@@ -6,6 +6,7 @@ use super::Sink;
 /// A writer failed, and this many bytes of what was to be written went out.
 #[derive(Debug, Clone, Copy, PartialEq, Eq, Drop)]
 pub struct WriteFault {
+    /// How many bytes went out.
     pub written: u64,
 }
 
