@@ -58,6 +58,15 @@ def lines(page):
     return found
 
 
+def named_by_module(page):
+    """Returns the names that the lines of the page's tables name, by crate and module."""
+    found = collections.defaultdict(set)
+    for crate, modules, names in lines(page):
+        for module in modules:
+            found[f"{crate}::{module}"].update(names)
+    return found
+
+
 def made(crate, modules):
     """Returns the names that some modules of a crate's specs make, or None where one of them is not there."""
     files = [CRATES / crate / "specs" / f"{it}.antt" for it in modules]
@@ -68,9 +77,13 @@ def made(crate, modules):
 
 def faults(page):
     """Returns what the page lacks, and what it names that is not there."""
-    named, found = set(QUOTED.findall(page)), []
+    named, found = named_by_module(page), []
+    anywhere = set().union(*named.values())
     for where, names in sorted(cited().items()):
-        if lacking := sorted(names - named):
+        # (what a module hands on is named where it is made)
+        crate, module = where.split("::")
+        handed_on = anywhere - (made(crate, [module]) or set())
+        if lacking := sorted(names - named[where] - handed_on):
             found.append(f"{where}: contracts cite {', '.join(lacking)}, which no line names")
     seen = collections.Counter((crate, *modules, name) for crate, modules, names in lines(page) for name in names)
     found += [f"{crate}::{', '.join(modules)}: {name} stands in {count} lines" for (crate, *modules, name), count in seen.items() if count > 1]

@@ -1,8 +1,8 @@
 """Which crates' wrong bodies are due: those of each crate whose text differs from the one over which they were last all refused,
 and of every tenth other crate, picked by the commit, so that no record is believed for long.
 
-The record stands in `tools/refused.txt`, a line for each crate: its name, and the digest of its text and of the toolchain's
-version.
+The record stands in `tools/refused.txt`, a line for each crate: its name, and the digest of its text, less the lines that are
+comments, and of the toolchain's version.
 """
 import hashlib, subprocess
 
@@ -11,13 +11,21 @@ import part
 RECORD = part.ROOT / "tools" / "refused.txt"
 PARTS = ("src", "specs", "proofs", "must-fail")
 TENTH = 10
+# How a line begins that is a comment: the prover reads none. One that makes a wrong body fit twice is found by edits.py.
+COMMENT = {".rt": b"//", ".antt": b"--"}
+
+
+def without_comments(file):
+    """Returns what a file holds, less each line that is a comment."""
+    text, mark = file.read_bytes(), COMMENT.get(file.suffix)
+    return text if mark is None else b"".join(it for it in text.splitlines(keepends=True) if not it.lstrip().startswith(mark))
 
 
 def digest(name, version):
     """Returns the digest of a crate's text, by the toolchain of this version."""
     own, folder = hashlib.sha256(version.encode()), part.CRATES / name
     for file in sorted(it for of in PARTS for it in (folder / of).rglob("*") if it.is_file()):
-        own.update(repr((str(file.relative_to(folder)), file.read_bytes())).encode())
+        own.update(repr((str(file.relative_to(folder)), without_comments(file))).encode())
     return own.hexdigest()
 
 

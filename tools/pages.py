@@ -4,13 +4,22 @@
   - A link of a page leads to no file of the repository.
   - The README has no link to a page of docs.
   - The README has 150 lines or more, or a point of more than 25 words.
+  - A page of what is there names in backticks a word of two parts, as `read_row` or `ReadRow`, that stands in no source.
+  - README.md or docs/ARCHITECTURE.md does not name a crate of the program.
   - docs/archive.1 or CHANGELOG.md has another number of the program, or CHANGELOG.md another number of the tables, than the sources.
 """
 import pathlib, re, sys
 
+import part
+
 ROOT = pathlib.Path(__file__).resolve().parent.parent
 MOST_LINES, MOST_WORDS = 150, 25
 LINK = re.compile(r"\]\(([^)\s]+)\)")
+QUOTED = re.compile(r"`([^`\n]+)`")
+TWO_PARTS = re.compile(r"\b(?:[A-Za-z][A-Za-z0-9]*_\w*[A-Za-z0-9]|[A-Z][a-z0-9]+[A-Z]\w*)\b")
+# Pages of what was, and names of the toolchain that no source of the repository has.
+OF_BEFORE, OF_THE_TOOLCHAIN = ("CHANGELOG.md", "FIGURES.md"), {"open_trusted"}
+SOURCES = ("crates/*/src", "crates/*/specs", "crates/*/proofs", "crates/*/must-fail", "tools", "trials", "samples", "bench")
 PROGRAM = ("crates/archive_usage/src/building.rt", r'const VERSION: &str = "([^"]+)"')
 TABLES = ("crates/archive_tables/src/texts/schema.rt", r"const VERSION: i64 = (\d+)")
 
@@ -45,6 +54,26 @@ def too_long():
     return [f"README.md has {len(lines)} lines"] * (len(lines) >= MOST_LINES) + [f"README.md has a long point: {it[:60]} .." for it in points]
 
 
+def words_of(text):
+    return {*TWO_PARTS.findall(text)}
+
+
+def without_source():
+    """Returns what pages name that stands in no source."""
+    files = [it for folder in SOURCES for it in ROOT.glob(f"{folder}/**/*") if it.is_file() and it.suffix != ".md"]
+    there = {*part.lines(), *OF_THE_TOOLCHAIN}.union(*(words_of(f"{it.parent.name} {it.stem} {it.read_text('utf-8', 'replace')}") for it in files))
+    found = [(page, word) for page in pages() if page.name not in OF_BEFORE
+             for quoted in QUOTED.findall(page.read_text(encoding="utf-8")) for word in sorted(words_of(quoted) - there)]
+    return [f"{page.relative_to(ROOT)} names {word}, which stands in no source" for page, word in dict.fromkeys(found)]
+
+
+def without_room():
+    """Returns the crates of the program that a page which shows the whole does not name."""
+    wanted = part.with_those_below("archive")
+    shown = {it: (ROOT / it).read_text(encoding="utf-8") for it in ("README.md", "docs/ARCHITECTURE.md")}
+    return [f"{page} does not name {name}" for page, text in shown.items() for name in wanted if not re.search(rf"\b{name}\b", text)]
+
+
 def number(where):
     """Returns a number that a source names."""
     file, form = where
@@ -62,7 +91,7 @@ def other_numbers():
 
 
 def main():
-    found = dead_links() + without_link() + too_long() + other_numbers()
+    found = dead_links() + without_link() + too_long() + without_source() + without_room() + other_numbers()
     for it in found:
         print(f"pages: {it}")
     return 1 if found else 0

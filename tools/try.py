@@ -182,7 +182,8 @@ def recorded(names, version="kit of today", **changed):
     for name in names:
         own, folder = hashlib.sha256(version.encode()), f"crates/{name}/"
         for file in sorted(it for it in WITH_EDITS if it.startswith(folder)):
-            own.update(repr((file.removeprefix(folder), WITH_EDITS[file].encode())).encode())
+            text = "".join(it for it in WITH_EDITS[file].splitlines(keepends=True) if not (file.endswith(".rt") and it.startswith("//")))
+            own.update(repr((file.removeprefix(folder), text.encode())).encode())
         lines.append(f"{name} {own.hexdigest()}\n")
     return {**WITH_EDITS, "tools/refused.txt": "".join(lines), **changed}
 
@@ -269,7 +270,10 @@ GATE = {
     "it says what it leaves": says("gate.py", [], recorded(["low"]), 1,
         *([] if picked(["low"]) else ["check: left the 2 wrong bodies of low, whose text is as recorded"])),
     "--all leaves nothing": asks("gate.py", ["--all"], recorded(["low", "middle"]), EDITS, []),
-    "a crate whose code changed is due": asks("gate.py", [], recorded(["low"], **{"crates/low/src/lib.rt": "// new\n"}), EDITS, []),
+    "a crate whose code changed is due": asks("gate.py", [], recorded(["low"], **{"crates/low/src/lib.rt": "// low\nfn f() {}\n"}), EDITS, []),
+    "a comment makes nothing due": asks("gate.py", [], recorded(["low"], **{"crates/low/src/lib.rt": "// low\n/// new\n"}),
+        EDITS if picked(["low"]) else [], [] if picked(["low"]) else EDITS),
+    "one behind code does": asks("gate.py", [], recorded(["low"], **{"crates/low/src/lib.rt": "use low; // new\n"}), EDITS, []),
     "a crate whose definitions changed is due": asks("gate.py", [], recorded(["low"], **{"crates/low/specs/A.antt": ""}), EDITS, []),
     "a crate whose proofs changed is due": asks("gate.py", [], recorded(["low"], **{"crates/low/proofs/f/A.antt": ""}), EDITS, []),
     "a crate with a wrong body more is due": asks("gate.py", [], recorded(["low"], **{"crates/low/must-fail/n.edit": ""}), EDITS, []),
@@ -282,8 +286,29 @@ GATE = {
         ALL_REFUSED.replace("middle/h.counts_one_more.edit: refused, as it must be", "middle/h.counts_one_more.edit: NOT REFUSED"), ["low"]),
     "a crate that was recorded loses its line": records_what_was_refused(
         ALL_REFUSED.replace("low/g.drops_it.edit: refused, as it must be", "low/g.drops_it.edit: NOT REFUSED"), ["middle"],
-        recorded(["low"], **{"crates/low/src/lib.rt": "// new\n"})),
+        recorded(["low"], **{"crates/low/src/lib.rt": "fn f() {}\n"})),
     "the record's digest": record_is_believed,
+}
+
+
+# ---- edits.py
+
+def with_edit(edit, **changed):
+    """A repository with one wrong body more."""
+    return {**CHAIN, "crates/low/src/lib.rt": "fn f() {}\nfn g() {}\nfn h() {}\n", "crates/low/must-fail/f.turns_it.edit": edit, **changed}
+
+
+SAYS = "edits: low/must-fail/f.turns_it.edit: {}"
+FITS = {
+    "all fit": is_silent("edits.py", with_edit("file: src/lib.rt\nold: fn f() {}\nnew: fn f() { loop {} }\n")),
+    "of two files": is_silent("edits.py", with_edit("file: src/lib.rt\nold: fn g\nnew: fn i\nfile: src/low.rt\nold: a\nnew: b\n", **{"crates/low/src/low.rt": "a\n"})),
+    "it stands nowhere": says("edits.py", [], with_edit("file: src/lib.rt\nold: fn i() {}\nnew: \n"), 1, SAYS.format("this stands 0 times in src/lib.rt: fn i() {}")),
+    "it stands twice and more": says("edits.py", [], with_edit("file: src/lib.rt\nold: () {}\nnew: \n"), 1, SAYS.format("this stands 3 times in src/lib.rt: () {}")),
+    "the second text of two": says("edits.py", [], with_edit("file: src/lib.rt\nold: fn g\nnew: fn i\nold: fn j\nnew: fn k\n"), 1, SAYS.format("this stands 0 times in src/lib.rt: fn j")),
+    "no such file": says("edits.py", [], with_edit("file: src/low.rt\nold: a\nnew: b\n"), 1, SAYS.format("there is no src/low.rt")),
+    "no file is named": says("edits.py", [], with_edit("old: a\nnew: b\n"), 1, SAYS.format("it names no file first")),
+    "it takes nothing away": says("edits.py", [], with_edit("file: src/lib.rt\n"), 1, SAYS.format("it has no line 'old:'")),
+    "an unknown word": says("edits.py", ["low"], CHAIN, 1, faults="edits.py"),
 }
 
 
@@ -297,7 +322,8 @@ def rows(wanted, *lines, library=True, **changed):
     return says("refused.py", ["--program", "./rows", *(["--library", "none"] if library else [])], {"rows": text}, *wanted, *lines)
 
 
-NAMES = {"refused": "sift: Memory, exact true, then answer", "base": "base: Memory, then answer", "base_call": 'echo "base: Memory, then answer"; ', "at_first": "sift: answer, exact true, then answer",
+NAMES = {"refused": "sift: Memory, exact true, then answer", "base": "base: Memory, then answer", "base_call": 'echo "base: Memory, then answer"; ',
+         "at_first": "sift: answer, exact true, then answer",
          "end": "1 1 >&9", "none_left": "1 0 >&9"}
 # an import of two new messages: what it says where a growth is refused
 IMPORTED = "import: Ok(Report { new: 2, known: 0, too_large: 0 }), 2 held, then Ok(Report { new: 0, known: 2, too_large: 0 })"
@@ -369,6 +395,12 @@ DEFINITIONS = {
         "crates/low/src/lib.rt": DEFINED["crates/low/src/lib.rt"].replace("Fits", "Suits"),
         "crates/low/specs/Rules.antt": DEFINED["crates/low/specs/Rules.antt"] + "Suits = T\n"}, 1,
         "definitions: low::Rules: contracts cite Suits, which no line names"),
+    "one that another module's line names": says("definitions.py", [], {**DEFINED,
+        "crates/low/src/lib.rt": DEFINED["crates/low/src/lib.rt"].replace("Rules", "Other"),
+        "crates/low/specs/Other.antt": "Fits = T\n"}, 1, "definitions: low::Other: contracts cite Fits, which no line names"),
+    "one that another module hands on": is_silent("definitions.py", {**DEFINED,
+        "crates/low/src/lib.rt": DEFINED["crates/low/src/lib.rt"].replace("Rules", "Other"),
+        "crates/low/specs/Other.antt": "pub use Rattle.low.specs.Rules.{Fits}\n"}),
     "one that is cited under another name": is_silent("definitions.py", {**DEFINED, "crates/low/src/lib.rt": RENAMED}),
     "one that a private function cites": is_silent("definitions.py", {**DEFINED, "crates/low/src/lib.rt": PRIVATE}),
     "one that stands in two lines": says("definitions.py", [], {**DEFINED,
@@ -385,8 +417,10 @@ DEFINITIONS = {
 # ---- pages.py
 
 PAGES_FILES = {
-    "README.md": "[a](docs/A.md) [out](https://example.org/x) [here](#here)\n",
+    "crates.txt": "low: memchr\nbeside: low\narchive: low\n",
+    "README.md": "[a](docs/A.md) [whole](docs/ARCHITECTURE.md) [out](https://example.org/x) [here](#here) `low`, `archive`\n",
     "docs/A.md": "[back](../README.md#top)\n",
+    "docs/ARCHITECTURE.md": "archive: low\n",
     "docs/archive.1": '.TH ARCHIVE 1 "" "archive 0.2.0" "User Commands"\n',
     "CHANGELOG.md": "# Changes\n\n## Program 0.2.0, tables 3\n\n## Program 0.1.0, tables 0\n",
     "crates/archive_usage/src/building.rt": 'const VERSION: &str = "0.2.0";\n',
@@ -399,6 +433,13 @@ PAGES = {
     "another number of the program": says("pages.py", [],
         {**PAGES_FILES, "crates/archive_usage/src/building.rt": 'const VERSION: &str = "0.3.0";\n'}, 1,
         "pages: docs/archive.1 is not of the program 0.3.0", "pages: CHANGELOG.md does not begin with 'Program 0.3.0, tables 3'"),
+    "words that sources have": is_silent("pages.py", {**PAGES_FILES, "docs/A.md": "`low::eat_row`, `EatRow`, `count.adds_one.edit`, `find_..`, `fits_*`, no_word, `archive`",
+        "crates/low/src/lib.rt": "fn eat_row() -> EatRow {}", "crates/low/must-fail/count.adds_one.edit": ""}),
+    "a word that no source has": says("pages.py", [], {**PAGES_FILES, "docs/A.md": "`low::eat_row(EatRow)`, `eat_row`"}, 1,
+        "pages: docs/A.md names EatRow, which stands in no source", "pages: docs/A.md names eat_row, which stands in no source"),
+    "a word of a page of what was": is_silent("pages.py", {**PAGES_FILES, "CHANGELOG.md": PAGES_FILES["CHANGELOG.md"] + "`eat_row`\n"}),
+    "a crate of the program that no page shows": says("pages.py", [], {**PAGES_FILES, "docs/ARCHITECTURE.md": "archive: lower\n"}, 1,
+        "pages: docs/ARCHITECTURE.md does not name low"),
     "a README of many lines": says("pages.py", [], {**PAGES_FILES, "README.md": PAGES_FILES["README.md"] + "line\n" * 149}, 1, "pages: README.md has 150 lines"),
     "a point of many words": says("pages.py", [], {**PAGES_FILES, "README.md": PAGES_FILES["README.md"] + f"- {'of ' * 26}\n2. {'of ' * 25}\n"}, 1,
         "pages: README.md has a long point: - of of of of of of of of of of of of of of of of of of of o .."),
@@ -408,7 +449,7 @@ PAGES = {
         "pages: CHANGELOG.md does not begin with 'Program 0.2.0, tables 4'"),
 }
 
-TABLES = {"part.py": PART, "build.py": BUILD, "gate.py": GATE, "refused.py": ROWS_CASES, "cases.py": CASES, "definitions.py": DEFINITIONS, "pages.py": PAGES}
+TABLES = {"part.py": PART, "build.py": BUILD, "gate.py": GATE, "edits.py": FITS, "refused.py": ROWS_CASES, "cases.py": CASES, "definitions.py": DEFINITIONS, "pages.py": PAGES}
 
 
 def main(words):
