@@ -1,6 +1,6 @@
 -- What a row says of a message: what is written of it, what is filed of it, and whether it is sound.
 use Rattle.std.specs.Prelude.{◌≡◌, Option, MatchOption}
-use Rattle.mbox_core.specs.Division.{Item}
+use Rattle.mbox_items.specs.Division.{Item}
 use Rattle.archive_machine.specs.Records.{Filing}
 use Rattle.archive_machine.specs.Filing.{Filed}
 use Rattle.archive_machine.specs.Damage.{IsSoundFiled}

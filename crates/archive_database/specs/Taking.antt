@@ -5,25 +5,17 @@ use Rattle.sqlite.specs.Effect.{Database}
 use Rattle.sqlite.specs.Store.{Ghosts}
 use Rattle.sqlite.specs.Held.{Held, state}
 use Rattle.sqlite.specs.State.{HasCleanDisk}
-use Rattle.mbox_core.specs.Division.{Item}
+use Rattle.mbox_items.specs.Division.{Item}
 use Rattle.archive_machine.specs.Questions.{is_message}
 use Rattle.archive_machine.specs.Machine.{with_keyed}
-use Rattle.archive_tables.specs.Tables.{IsHeld, IsKept, archive_of}
-use Rattle.archive_tables.specs.Calls.{Changes, ChangesOver, Rests, RestsOver}
+use Rattle.archive_tables.specs.Tables.{IsHeld, archive_of}
+use Rattle.archive_tables.specs.Calls.{ChangesOver, RestsOver}
 use Rattle.archive_database.specs.declared.faults.Fault.{Fault}
 
-module _ {S : Type 0} (g : Ghosts S) (old new : Held S) where
-  -- outside a transaction
-  abbrev pub TakesIn : Result (Unit {0}) Fault → List ℕ → List ℕ → Item → Type 0
-  TakesIn result list key item = HasCleanDisk (state g new) → IsKept (state g old) →
-      MatchResult result
-      (λ _. list_any (is_message list key) (archive_of (state g old)).messages ≡ false
-      → Changes (state g old) (state g new) (λ a. with_keyed a list key item))
-      (λ _. Rests (state g old) (state g new))
-
-  -- outside a transaction or within one
-  abbrev pub TakesInOver : Result (Unit {0}) Fault → List ℕ → List ℕ → Item → Type 0
-  TakesInOver result list key item = HasCleanDisk (state g new) → (behind : Option Database) → IsHeld behind (state g old)
-      → list_any (is_message list key) (archive_of (state g old)).messages ≡ false
-      → MatchResult result (λ _. ChangesOver behind (state g old) (state g new) (λ a. with_keyed a list key item))
-      (λ _. RestsOver behind (state g old) (state g new))
+-- outside a transaction or within one
+abbrev pub TakesIn : {S : Type 0} → Ghosts S → Held S → Held S → Result (Unit {0}) Fault → List ℕ → List ℕ → Item → Type 0
+TakesIn g old new result list key item = HasCleanDisk (state g new) → (behind : Option Database) → IsHeld behind (state g old)
+    → MatchResult result
+    (λ _. list_any (is_message list key) (archive_of (state g old)).messages ≡ false
+    → ChangesOver behind (state g old) (state g new) (λ a. with_keyed a list key item))
+    (λ _. RestsOver behind (state g old) (state g new))

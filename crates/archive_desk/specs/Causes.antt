@@ -31,7 +31,7 @@ IsOwnWant fault = fault ≡ Memory
 abbrev pub IsStoreWanting : DeskFault → Type 0
 IsStoreWanting fault = fault ≡ Stored faults.Memory
 
--- either
+-- memory was refused: G5, or G4 that carries E14
 abbrev pub IsWanting : DeskFault → Type 0
 IsWanting fault = IsOwnWant fault ⊎ IsStoreWanting fault
 
@@ -57,7 +57,7 @@ IsAddressUnreadable archive person = IsSomeAnd (address_of archive person) (λ a
 abbrev pub IsPersonUnreadable : Archive → Ask → (person : List ℕ) → Type 0
 IsPersonUnreadable archive ask person = IsRankUnknown archive ask person ⊎ ((asks_own ask.rules ≡ true) × IsAddressUnreadable archive person)
 
--- the same of who asks, if it is a person
+-- what is asked of a reader who is a person cannot be read
 abbrev pub IsReaderUnreadable : Archive → Ask → Type 0
 IsReaderUnreadable archive ask = IsSomeAnd ask.reader (IsPersonUnreadable archive ask)
 

@@ -3,6 +3,7 @@ use Rattle.std.specs.Prelude.{ℕ, List, codes}
 use Rattle.archive_desk.specs.declared.faults.DeskFault.{DeskFault}
 use Rattle.archive_desk.specs.declared.faults.DeskFault.TheVariants as desk
 
+-- the number and the name of a refusal of the desk, as it is told
 abbrev pub desk_text : DeskFault → List ℕ
 desk_text desk.NoList = codes "G1 NoList"
 desk_text desk.NoPerson = codes "G2 NoPerson"

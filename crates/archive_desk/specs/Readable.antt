@@ -12,12 +12,13 @@ use Rattle.archive_machine.specs.Filing.{in_month, by_author}
 use Rattle.archive_machine.specs.Questions.{messages_in, person_of_token}
 use Rattle.archive_database.specs.Messages.{IsReadable}
 use Rattle.archive_store.specs.Told.{CausedOr as StoreCausedOr, HasFailed, HasNoLimit, HasReturned, HoldsTables, archive_in}
-use Rattle.archive_store.specs.Words.{party_of, rank_of, standing_rank}
+use Rattle.archive_store.specs.Words.{standing_rank}
+use Rattle.policy_core.specs.Numbers.{party_number, kind_rank}
 use Rattle.archive_store.specs.declared.faults.StoreFault.{StoreFault}
 use Rattle.archive_store.specs.declared.faults.StoreFault.TheVariants as faults
 use Rattle.archive_store.specs.declared.store.Store.{Store}
-use Rattle.archive_store.specs.declared.words.Kind.{Kind}
-use Rattle.archive_store.specs.declared.words.Party.{Party}
+use Rattle.policy_core.specs.declared.access.Kind.{Kind}
+use Rattle.policy_core.specs.declared.access.Party.{Party}
 use Rattle.archive_results.specs.Access.{Ask}
 use Rattle.archive_desk.specs.Causes.{CausedOr, HasCause, IsBroken, IsMessageUnreadable, IsReaderUnreadable, IsUnreadable}
 use Rattle.archive_desk.specs.declared.exporting.ExportStop.{ExportStop}
@@ -38,9 +39,9 @@ pub record CanBeRead (archive : Archive) : Type 0 where
 -- What each command of the code has: what it adds is a message that can be written, what it grants is of rank 1 to 3, it withdraws
 -- for the author or the board, and holds back up to a day.
 abbrev pub IsSaid : Command → Type 0
-IsSaid (grant person list rank from_day until_day) = (kind : Kind) × (rank_of kind ≡ rank)
+IsSaid (grant person list rank from_day until_day) = (kind : Kind) × (kind_rank kind ≡ rank)
 IsSaid (add list item) = IsItem item
-IsSaid (withdraw list key party) = (by : Party) × (party_of by ≡ party)
+IsSaid (withdraw list key party) = (by : Party) × (party_number by ≡ party)
 IsSaid (embargo list key until_day) = is_day until_day ≡ true
 IsSaid command = ⊤
 

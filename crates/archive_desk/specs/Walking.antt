@@ -1,12 +1,14 @@
 -- Reading and writing the messages of a walk, one after the other.
-use Rattle.std.specs.Prelude.{◌≡◌, ◌⊎◌, ◌+◌, ◌<◌, ◌^◌, ◌-◌, ◌++◌, ℕ, List, [], length, filter, min, None, Result, MatchResult, MatchOption, Vec}
+use Rattle.std.specs.Prelude.{◌≡◌, ◌⊎◌, ◌+◌, ◌<◌, ◌≤◌, ◌^◌, ◌-◌, ◌++◌, ℕ, Bool, true, List, [], length, filter, min, None, Result, IfErr, IfOk, MatchResult, MatchOption, Vec}
 use Rattle.std.specs.declared.alloc.Global.{Global}
 use Rattle.sqlite.specs.Store.{Ghosts}
 use Rattle.mbox_core.specs.Written.{IsCutShort}
 use Rattle.archive_machine.specs.Records.{Archive, Message as Remembered}
 use Rattle.archive_store.specs.Replies.{refusal}
 use Rattle.archive_store.specs.Told.{HasFailed, HasNoLimit, HasReturned, HoldsTables, IsOpen, archive_in}
-use Rattle.archive_store.specs.Walking.{Walk, WalksOver}
+use Rattle.archive_store.specs.Walking.{Walk, WalksOver, left_of}
+use Rattle.archive_store.specs.declared.faults.StoreFault.{StoreFault}
+use Rattle.archive_store.specs.declared.faults.StoreFault.TheVariants as faults
 use Rattle.archive_results.specs.Access.{Ask, ReaderMarks, is_shown}
 use Rattle.archive_desk.specs.Causes.{AreUnreadable}
 use Rattle.archive_desk.specs.Exporting.{HasWritten, shown_text}
@@ -61,7 +63,29 @@ module _ {S : Type 0} (g : Ghosts S) where
   HasWalkCause old new ask = HasReturned g new.store.now → HasNoLimit g old.store.now → (all : List Remembered) (a : Archive)
       → WalksOver g ask.list all a [] old → HasFailed g old.store.now new.store.now ⊎ AreUnreadable all
 
+  -- the disk failed, or one of the messages cannot be read
+  abbrev pub StopsPassing : {A : Type 0} → Walk S → Walk S → Ask → Result A StoreFault → Type 0
+  StopsPassing old new ask result = HasReturned g new.store.now → (all : List Remembered) (a : Archive) (given : List Remembered)
+      → WalksOver g ask.list all a given old → HasNoLimit g old.store.now
+      → IfErr result (λ fault. fault ≡ faults.Store → HasFailed g old.store.now new.store.now ⊎ AreUnreadable all)
+
   module _ (old new : Walk S) (ask : Ask) (reader : ReaderMarks) where
+    -- messages were passed by, as if they were given, that the policy does not show
+    abbrev pub HasPassed : List Remembered → Archive → List Remembered → Type 0
+    HasPassed all a given = (past : List Remembered) × WalksOver g ask.list all a (given ++ past) new × (filter (is_shown ask reader) past ≡ [])
+
+    -- A walk over messages of the list passed some by, and left the archive. After a fault so, if the connection is still open.
+    pub record PassesWithheld {A : Type 0} (result : Result A StoreFault) : Type 0 where
+      pub passed : HasReturned g new.store.now → (all : List Remembered) (a : Archive) (given : List Remembered) → WalksOver g ask.list all a given old
+          → MatchResult result (λ _. HasPassed all a given) (λ _. IsOpen g new.store.now → HasPassed all a given)
+      pub left : left_of new ≤ left_of old
+      pub fault : IfErr result (λ fault. refusal fault ≡ None)
+
+    -- One message at most was passed by: whether one was, and then fewer are left.
+    pub record PassesOne (result : Result Bool StoreFault) : Type 0 where
+      pub passes : PassesWithheld result
+      pub fewer : IfOk result (λ passed. passed ≡ true → left_of new < left_of old)
+
     -- A walk over messages of the list that gave none yet: this was made of them, as far as the policy shows them.
     abbrev pub ListsRows : {X : Type 0} → (made : List Remembered → List X) → Result (Vec X Global) DeskFault → Type 0
     ListsRows made result = HasReturned g new.store.now → (all : List Remembered) (a : Archive) → WalksOver g ask.list all a [] old → MatchResult result

@@ -18,6 +18,7 @@ IsByte b = b < 256
 abbrev pub ShownIsInert : Type 0
 ShownIsInert = (text : List ℕ) → list_all is_inert (shown_text text) ≡ true
 
+-- nor does an escaped text break out
 abbrev pub EscapedIsInert : Type 0
 EscapedIsInert = (text : List ℕ) → All IsByte text → list_all is_inert (escaped text) ≡ true
 

@@ -15,6 +15,7 @@ page_head title =
 unfoldable pub page_foot : List ℕ
 page_foot = codes "</body></html>\n"
 
+-- a page of this title and these rows
 abbrev pub page : (title rows : List ℕ) → List ℕ
 page title rows = page_head title ++ (rows ++ page_foot)
 
@@ -38,5 +39,6 @@ author_page list author lines = page (titled list (codes "by " ++ shown_text aut
 abbrev pub threads_page : (list : List ℕ) → List TreeLine → List ℕ
 threads_page list rows = page (titled list (codes "threads")) (flat_map (tree_row list) rows)
 
+-- the page of one thread
 abbrev pub thread_page : (list : List ℕ) → List TreeLine → List ℕ
 thread_page list rows = page (titled list (codes "thread")) (flat_map (tree_row list) rows)

@@ -1,7 +1,7 @@
 -- The rows of pages, one a line. (profile)
 use Rattle.std.specs.Prelude.{ℕ, min, decimal, List, [], ◌∷◌, ◌++◌, codes}
 use Rattle.std.specs.Option.{option_map_or}
-use Rattle.mbox_core.specs.Separator.{spaced}
+use Rattle.mbox_items.specs.Separator.{spaced}
 use Rattle.archive_results.specs.Shown.{Line}
 use Rattle.archive_results.specs.Results.{TreeLine}
 use Rattle.archive_html.specs.Links.{link, list_path, month_link, author_link, message_link, thread_link}

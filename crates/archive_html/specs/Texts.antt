@@ -1,6 +1,6 @@
 -- Texts as a page shows them. (HTML, section 13.1.4, for the references; profile: a page is ASCII, and any other byte is shown
 -- as `?`)
-use Rattle.std.specs.Prelude.{ℕ, ◌==◌, nat_lt, ◌||◌, if◌then◌else◌, List, [], ◌∷◌, flat_map, codes}
+use Rattle.std.specs.Prelude.{ℕ, ◌==◌, nat_lt, Bool, not, ◌&&◌, ◌||◌, if◌then◌else◌, List, [], ◌∷◌, flat_map, codes}
 
 -- a byte as it is shown: `?` for one outside 32 to 126, a reference for `&`, `<`, `>` and `"`, any other as it is
 abbrev pub shown_byte : ℕ → List ℕ
@@ -11,6 +11,10 @@ shown_byte b =
     else if b == 62 then codes "&gt;"
     else if b == 34 then codes "&quot;"
     else b ∷ []
+
+-- a byte that is shown as it is
+abbrev pub is_plain : ℕ → Bool
+is_plain b = not (nat_lt b 32 || nat_lt 126 b) && (not (b == 38) && (not (b == 60) && (not (b == 62) && not (b == 34))))
 
 abbrev pub shown_text : List ℕ → List ℕ
 shown_text text = flat_map shown_byte text

@@ -57,6 +57,7 @@ FailedBy (Mbox Memory) n = n ≡ 0
 FailedBy (Mbox Failed) n = n ≡ 0
 FailedBy (Store fault) n = n ≤ 1
 
+-- so many reads of the input failed, by the answer
 abbrev pub HasFailed : {A : Type 0} → Result A ImportStop → ℕ → Type 0
 HasFailed (Ok answer) n = n ≡ 0
 HasFailed (Err stop) n = FailedBy stop.fault n

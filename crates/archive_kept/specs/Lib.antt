@@ -1,3 +1,4 @@
+pub mod Parts
 pub mod Outlines
 pub mod Keyed
 pub mod Threaded

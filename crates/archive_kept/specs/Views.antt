@@ -1,15 +1,17 @@
 -- What is kept of views: the outlines, how one is looked for, and how many bytes they take, about.
-use Rattle.std.specs.Prelude.{◌≡◌, ◌==◌, ◌&&◌, ◌⊎◌, ◌+◌, ◌*◌, ◌≤◌, ℕ, Bool, true, false, List, [], length, drop, sum_by, slice_get, bytes_eq, Option, None, Some, option_map}
+use Rattle.std.specs.Prelude.{◌≡◌, ◌==◌, ◌&&◌, ◌⊎◌, ◌+◌, ◌*◌, ◌≤◌, ℕ, Bool, true, false, List, [], length, drop, position, sum_by, slice_get, bytes_eq, Option, None, Some, option_map}
 use Rattle.std.specs.Option.{option_map_or}
 use Rattle.policy_core.specs.Facts.{rank_of}
 use Rattle.archive_results.specs.Access.{ReaderMarks}
 use Rattle.archive_results.specs.Shown.{Line}
 use Rattle.archive_kept.specs.Outlines.{Outline}
+use Rattle.archive_kept.specs.Parts.{Part, whole, month, author, part_weight, same_part}
 
--- The outline of what the readers of these marks are shown of a list.
+-- The outline of a part of what the readers of these marks are shown of a list.
 pub record KeptView : Type 0 where
   pub list : List ℕ
   pub reader : ReaderMarks
+  pub part : Part
   pub outline : Outline
 
 -- all that is kept, and how many bytes that may be
@@ -17,6 +19,7 @@ pub record Keeping : Type 0 where
   pub most : ℕ
   pub views : List KeptView
 
+-- nothing is kept, of at most so many bytes
 abbrev pub nothing_kept : (most : ℕ) → Keeping
 nothing_kept most = record { most = most; views = [] }
 
@@ -31,9 +34,10 @@ same_address (Some a) None = false
 abbrev pub same_reader : ReaderMarks → ReaderMarks → Bool
 same_reader a b = (rank_of a.standing == rank_of b.standing) && same_address a.address b.address
 
-abbrev pub is_view_of : (list : List ℕ) → ReaderMarks → KeptView → Bool
-is_view_of list reader view = bytes_eq view.list list && same_reader view.reader reader
+abbrev pub is_view_of : (list : List ℕ) → ReaderMarks → Part → KeptView → Bool
+is_view_of list reader part view = same_part view.part part && (bytes_eq view.list list && same_reader view.reader reader)
 
+-- the outline at this place of what is kept
 abbrev pub outline_at : Keeping → (place : ℕ) → Option Outline
 outline_at kept place = option_map (λ v. v.outline) (slice_get kept.views place)
 
@@ -48,9 +52,9 @@ line_weight line = 192 + length line.author + length line.subject
 abbrev pub outline_weight : Outline → ℕ
 outline_weight outline = sum_by line_weight outline.lines + 24 * length outline.rows
 
--- A view counts the bytes of its list's name and its reader's address too, and 1,024, so that there are few of them.
+-- A view counts the bytes of its list's name, its reader's address and its author key too, and 16,384, so that there are few of them.
 abbrev pub view_weight : KeptView → ℕ
-view_weight view = 1024 + length view.list + option_map_or length view.reader.address 0 + outline_weight view.outline
+view_weight view = 16384 + length view.list + option_map_or length view.reader.address 0 + part_weight view.part + outline_weight view.outline
 
 abbrev pub weight_of : List KeptView → ℕ
 weight_of views = sum_by view_weight views
@@ -59,6 +63,22 @@ weight_of views = sum_by view_weight views
 abbrev pub IsBounded : Keeping → Type 0
 IsBounded kept = (weight_of kept.views ≤ kept.most) ⊎ (length kept.views ≡ 1)
 
--- the oldest are let go, or none
+-- ---- in which order
+
+-- whether it is of a whole list
+abbrev pub is_whole : KeptView → Bool
+is_whole view = same_part whole view.part
+
+-- the place of the first that is, or the end
+abbrev pub first_whole : List KeptView → ℕ
+first_whole views = option_map_or (λ place. place) (position is_whole views) (length views)
+
+-- Where a view of a part is put: a whole list behind all, a month or an author before the whole lists, so that these are let go last.
+abbrev pub put_place : Part → List KeptView → ℕ
+put_place whole views = length views
+put_place (month m) views = first_whole views
+put_place (author key) views = first_whole views
+
+-- the first are let go, or none
 abbrev pub DropsOldest : (old new : List KeptView) → Type 0
 DropsOldest old new = (n : ℕ) × (new ≡ drop n old)

@@ -1,5 +1,6 @@
 -- What goes over a connection, and what becomes of it.
-use Rattle.std.specs.Prelude.{◌≡◌, ℕ, Bool, false, not, List, [], ◌++◌, ◌==◌, codes, Result, Ok, Err}
+use Rattle.std.specs.Prelude.{◌≡◌, ℕ, Bool, true, false, List, [], ◌++◌, codes, flat_map, Result, Ok, Err}
+use Rattle.byte_device.specs.declared.devices.Sink.{Ghosts as Takes}
 use Rattle.archive_listen.specs.declared.faults.ConnectionFault.{ConnectionFault}
 use Rattle.archive_listen.specs.declared.faults.ConnectionFault.TheVariants.{Read, Write, Broken}
 
@@ -52,11 +53,13 @@ Reaches (Ok status) (Err Broken) written failed sent = ⊥
 Reaches (Err fault) (Err told) written failed sent = (told ≡ fault) × Begins sent written
 Reaches (Err fault) (Ok told) written failed sent = ⊥
 
--- A connection is read on a while before it is closed where its reply is not 200, since a peer that is still sending would
--- else lose the reply. (Behind a 200 the listener looks whether something waits; no clause says what waits on a socket.)
-abbrev pub lingers : Outcome → Bool
-lingers (Ok status) = not (status == 200)
-lingers (Err fault) = false
+-- A reply broke off where it could not be written, or not be finished. Without a length it would look whole if its connection
+-- ended in order (RFC 9112, section 6.3), so this one does not.
+abbrev pub breaks_off : Outcome → Bool
+breaks_off (Ok status) = false
+breaks_off (Err Read) = false
+breaks_off (Err Write) = true
+breaks_off (Err Broken) = true
 
 -- the line that tells of a fault
 abbrev pub fault_line : ConnectionFault → List ℕ
@@ -68,3 +71,18 @@ fault_line Broken = codes "archive: S3 Broken\n"
 abbrev pub outcome_line : Outcome → List ℕ
 outcome_line (Ok status) = []
 outcome_line (Err fault) = fault_line fault
+
+-- ---- the stream of faults
+
+-- what a stream of faults told, and how often it failed
+pub record Noted : Type 0 where
+  pub written : List ℕ
+  pub failures : ℕ
+
+-- a stream of faults so far, as contracts see it: what it told, and its failures
+abbrev pub noted : {E : Type 0} → Takes E → E → Noted
+noted takes faults = record { written = takes.told faults; failures = takes.failures faults }
+
+-- each fault of these connections was told in its line, unless the stream failed meanwhile
+abbrev pub AreTold : List Outcome → (before after : Noted) → Type 0
+AreTold outcomes before after = after.failures ≡ before.failures → after.written ≡ before.written ++ flat_map outcome_line outcomes

@@ -1,15 +1,16 @@
 -- Connections one after the other.
-use Rattle.std.specs.Prelude.{◌≡◌, ◌<◌, ◌⊎◌, ℕ, List, [], ◌∷◌, Bool, Option, Some, None, Err}
-use Rattle.archive_listen.specs.Connections.{Telling, untold, Exchange, Outcome, Reaches, lingers}
+use Rattle.std.specs.Prelude.{◌≡◌, ◌<◌, ◌⊎◌, ℕ, List, [], ◌∷◌, length, Bool, Option, Some, None, Err}
+use Rattle.archive_listen.specs.Connections.{Telling, untold, Exchange, Outcome, Reaches, breaks_off, Noted, AreTold}
 use Rattle.archive_listen.specs.declared.faults.ConnectionFault.TheVariants.{Read}
 use Rattle.archive_listen.specs.declared.faults.AcceptFault.{AcceptFault}
-use Rattle.archive_listen.specs.declared.faults.AcceptFault.TheVariants.{Peer}
+use Rattle.archive_listen.specs.declared.faults.AcceptFault.TheVariants.{Peer, Listener}
 
 -- what listens, and what the answers come from
 pub record Served (L St : Type 0) : Type 0 where
   pub listener : L
   pub state : St
 
+-- the two, as one value
 abbrev pub served : {L St : Type 0} → L → St → Served L St
 served listener state = record { listener = listener; state = state }
 
@@ -18,6 +19,7 @@ pub record AtWork (V St : Type 0) : Type 0 where
   pub service : V
   pub state : St
 
+-- the two, as one value
 abbrev pub at_work : {V St : Type 0} → V → St → AtWork V St
 at_work service state = record { service = service; state = state }
 
@@ -47,7 +49,7 @@ module _ {St : Type 0} (answers : St → St → Telling → Telling → Outcome 
       pub told : Telling
       pub sent : List ℕ
       pub answered : Answers before.state after.state untold told sent outcome
-      pub closed : closes listening after.listener (record { read = told.read; sent = sent }) (lingers outcome)
+      pub closed : closes listening after.listener (record { read = told.read; sent = sent }) (breaks_off outcome)
 
     -- Its peer was gone before it was taken: nothing was read, which is S1, and nothing was answered.
     pub record Misses (before after : Served L St) (outcome : Outcome) : Type 0 where
@@ -63,3 +65,18 @@ module _ {St : Type 0} (answers : St → St → Telling → Telling → Outcome 
     ServesEach [] before after = after ≡ before
     ServesEach (outcome ∷ outcomes) before after =
         (between : Served L St) × ServesOne outcome before between × ServesEach outcomes between after
+
+    module _ (first : Served L St) (before after : Noted) where
+      -- A run of connections: each in its turn, with how it ended, and each fault told.
+      pub record ServesRun (outcomes : List Outcome) (last : Served L St) : Type 0 where
+        pub each : ServesEach outcomes first last
+        pub told : AreTold outcomes before after
+
+      -- as many connections as were wanted
+      abbrev pub ServesAll : (count : ℕ) → (last : Served L St) → Type 0
+      ServesAll count last = (outcomes : List Outcome) × (length outcomes ≡ count) × ServesRun outcomes last
+
+      -- fewer, and then the listener gave no more, for a reason of its own
+      abbrev pub ServesFewer : (count : ℕ) → (end : Served L St) → Type 0
+      ServesFewer count end = (outcomes : List Outcome) × (last : Served L St) × (length outcomes < count)
+          × ServesRun outcomes last × (end.state ≡ last.state) × accepts last.listener end.listener (Some Listener)

@@ -1,6 +1,6 @@
 -- What the archive is told, and what it answers.
 use Rattle.std.specs.Prelude.{ℕ, ℤ, List, Bool}
-use Rattle.mbox_core.specs.Division.{Item}
+use Rattle.mbox_items.specs.Division.{Item}
 
 -- The eleven commands. Persons, lists and messages are given by name, name and key; a rank is 1 to 3 as a grant's, a party
 -- is 1 for the author and 2 for the board.

@@ -12,6 +12,7 @@ pub record IsSoundFiled (f : Filed) : Type 0 where
   pub message : IsSoundMessage f.0
   pub filing : f.1 ≡ message_filing f.0
 
+-- every message is undamaged: it can be written, its key is its text's, and it is filed by what its text says
 abbrev pub IsWhole : Archive → Type 0
 IsWhole archive = All IsSoundFiled (filed archive)
 
@@ -32,6 +33,8 @@ by_list (f ∷ fs) = with_listed f (by_list fs)
 
 -- ---- the first that is not sound, lists by name and then in mailbox order, is of this list and key
 
+-- Profile: a check names this message of all damaged ones: the first, lists in the byte order of their names, each list in
+-- mailbox order.
 pub record IsFirstDamaged (archive : Archive) (list key : List ℕ) : Type 0 where
   pub before : List Filed
   pub it : Filed

@@ -4,7 +4,7 @@ use Rattle.std.specs.Ordering.{int_eq}
 use Rattle.civil_time.specs.Calendar.{month_of_instant}
 use Rattle.mail_core.specs.Author.{author_of}
 use Rattle.mail_core.specs.Headers.{sent_date_of}
-use Rattle.mbox_core.specs.Division.{Item, whole}
+use Rattle.mbox_items.specs.Division.{Item, whole}
 use Rattle.archive_machine.specs.Records.{Message, Filing, Archive}
 
 -- ---- what is filed of a text
@@ -29,6 +29,7 @@ message_filing m = filing_of m.text m.arrival
 abbrev pub Filed : Type 0
 Filed = Message × Filing
 
+-- each message with the sent date, month and author key that it is found by, in the order in which they came
 abbrev pub filed : Archive → List Filed
 filed archive = zip archive.messages archive.filings
 

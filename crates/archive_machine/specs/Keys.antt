@@ -3,7 +3,7 @@ use Rattle.std.specs.Prelude.{ℕ, List, length, nat_le, ◌==◌, Bool, ◌&&�
 use Rattle.std.specs.List.{list_all}
 use Rattle.sha2.specs.Sha256.{sha256}
 use Rattle.hex.specs.Hex.{encode_lower}
-use Rattle.mbox_core.specs.Division.{Item, whole}
+use Rattle.mbox_items.specs.Division.{Item, whole}
 
 abbrev pub key_of : List ℕ → List ℕ
 key_of text = encode_lower (sha256 text)

@@ -11,3 +11,4 @@ pub mod Sound
 pub mod Damage
 pub mod Messages
 pub mod Firsts
+pub mod Lasting

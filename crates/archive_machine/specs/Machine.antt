@@ -2,7 +2,7 @@
 -- cases; a refusal leaves the archive as it was.
 use Rattle.std.specs.Prelude.{ℕ, ℤ, pos, Bool, true, int_lt, nat_lt, nat_le, List, [], ◌∷◌, ◌++◌, length, map, filter, not, if◌then◌else◌, Option, Some, None}
 use Rattle.policy_core.specs.Names.{is_name}
-use Rattle.mbox_core.specs.Division.{Item, whole}
+use Rattle.mbox_items.specs.Division.{Item, whole}
 use Rattle.archive_machine.specs.Records.{Grant, Message, ListOption, Address, Archive}
 use Rattle.archive_machine.specs.Commands.{Command, list_add, person_add, grant, revoke, add, withdraw, restore, embargo, lift, merge_set, address_set, Refusal, bad_name, bad_text, list_exists, no_list, person_exists, no_person, token_taken, no_message, already_withdrawn, not_withdrawn, bad_days, list_full, too_large, Reply, done, was_there, taken_in, already_known, refused}
 use Rattle.archive_machine.specs.Tokens.{is_token}
@@ -24,12 +24,14 @@ refuse archive refusal = (archive, refused refusal)
 abbrev pub merging : List ℕ → ListOption
 merging list = record { list = list; merge = true }
 
+-- A new list is empty, and gathers its threads by subject (RFC 5256, THREAD=REFERENCES, step 5). Profile: a name is taken once.
 abbrev pub list_added : Archive → List ℕ → Outcome
 list_added archive name =
     if not (is_name name) then refuse archive bad_name
     else if has_list archive name then refuse archive list_exists
     else (record archive { lists = archive.lists ++ name ∷ []; options = archive.options ++ merging name ∷ [] }, done)
 
+-- A new person holds no grant and no address. Profile: no two persons share a name or a bearer token (RFC 6750).
 abbrev pub person_added : Archive → List ℕ → List ℕ → Outcome
 person_added archive name token =
     if not (is_name name) then refuse archive bad_name
@@ -42,6 +44,7 @@ person_added archive name token =
 abbrev pub with_merge : List ℕ → Bool → ListOption → ListOption
 with_merge list merge o = if is_option_of list o then record o { merge = merge } else o
 
+-- whether the threads of a list are gathered by subject (RFC 5256, THREAD=REFERENCES, step 5) from now on
 abbrev pub merge_chosen : Archive → List ℕ → Bool → Outcome
 merge_chosen archive list merge =
     if not (has_list archive list) then refuse archive no_list
@@ -56,6 +59,8 @@ abbrev pub with_address : Archive → Address → List Address
 with_address archive a =
     if has_address archive a.person then map (readdressed a) archive.addresses else archive.addresses ++ a ∷ []
 
+-- Profile: a person has at most one address, in ASCII lower case as author keys are; a new one replaces it, and two persons may
+-- have the same.
 abbrev pub address_given : Archive → List ℕ → List ℕ → Outcome
 address_given archive person address =
     if not (has_person archive person) then refuse archive no_person
@@ -74,6 +79,8 @@ abbrev pub with_grant : Archive → Grant → List Grant
 with_grant archive g =
     if has_grant archive g.person g.list g.rank then map (with_days_of g) archive.grants else archive.grants ++ g ∷ []
 
+-- A grant holds from its first day to its last, both within, counted from 1970-01-01. Profile: on one list a person has one grant
+-- of a rank, and a second takes its place.
 abbrev pub granted : Archive → Grant → Outcome
 granted archive g =
     if not (has_person archive g.person) then refuse archive no_person
@@ -81,6 +88,7 @@ granted archive g =
     else if int_lt g.until_day g.from_day then refuse archive bad_days
     else (record archive { grants = with_grant archive g }, done)
 
+-- ends the grant of this rank, whatever its days are, and answers whether there was one
 abbrev pub revoked : Archive → List ℕ → List ℕ → ℤ → Outcome
 revoked archive person list rank =
     if not (has_person archive person) then refuse archive no_person
@@ -132,6 +140,7 @@ added_within limit archive list item =
     else if nat_le limit (length (messages_in archive list)) then refuse archive list_full
     else (with_message archive list item, taken_in)
 
+-- Profile: a list holds this many messages at most.
 abbrev pub message_limit : ℕ
 message_limit = 50000
 
@@ -148,6 +157,8 @@ withdrawn_by party m = record m { withdrawn = party }
 abbrev pub embargoed : Option ℤ → Message → Message
 embargoed until m = record m { embargo = until }
 
+-- The author (1) or the board (2) withdraws a message, which the archive keeps. Profile: the first withdrawal stands, and a second
+-- is refused.
 abbrev pub withdrawal : Archive → List ℕ → List ℕ → ℤ → Outcome
 withdrawal archive list key party =
     if not (has_list archive list) then refuse archive no_list
@@ -155,6 +166,7 @@ withdrawal archive list key party =
     else if is_withdrawn (message_of archive list key) then refuse archive already_withdrawn
     else (with_change archive list key (withdrawn_by party), done)
 
+-- ends a withdrawal, whoever made it; a message that is not withdrawn is refused
 abbrev pub restored : Archive → List ℕ → List ℕ → Outcome
 restored archive list key =
     if not (has_list archive list) then refuse archive no_list
@@ -162,12 +174,14 @@ restored archive list key =
     else if not (is_withdrawn (message_of archive list key)) then refuse archive not_withdrawn
     else (with_change archive list key (withdrawn_by (pos 0)), done)
 
+-- sets the day before which a message has its embargo on, counted from 1970-01-01, in place of any that it had
 abbrev pub held_back : Archive → List ℕ → List ℕ → ℤ → Outcome
 held_back archive list key until =
     if not (has_list archive list) then refuse archive no_list
     else if not (has_message archive list key) then refuse archive no_message
     else (with_change archive list key (embargoed (Some until)), done)
 
+-- ends an embargo, whatever its day is, and answers whether there was one
 abbrev pub lifted : Archive → List ℕ → List ℕ → Outcome
 lifted archive list key =
     if not (has_list archive list) then refuse archive no_list
@@ -176,6 +190,7 @@ lifted archive list key =
 
 -- ---- the machine
 
+-- One command, carried out whole or refused: the archive afterwards, and the answer. (Profile)
 abbrev pub step : Archive → Command → Outcome
 step archive (list_add name) = list_added archive name
 step archive (person_add name token) = person_added archive name token

@@ -5,6 +5,7 @@ use Rattle.policy_core.specs.declared.access.Withdrawn.TheVariants.{No, Author, 
 use Rattle.archive_machine.specs.Records.{Message as Remembered}
 use Rattle.archive_machine.specs.declared.messages.Message.{Message}
 
+-- who withdrew a message, as records and rows have it: 0 nobody, 1 its author, 2 the board (Profile)
 abbrev pub number_of : Withdrawn → ℤ
 number_of No = pos 0
 number_of Author = pos 1

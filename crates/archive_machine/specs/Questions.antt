@@ -10,6 +10,7 @@ use Rattle.archive_machine.specs.Commands.{Refusal, no_list, no_person}
 
 -- ---- lists and persons
 
+-- the archive knows a list by this name, compared byte by byte
 abbrev pub has_list : Archive → List ℕ → Bool
 has_list archive name = list_any (λ known. bytes_eq known name) archive.lists
 
@@ -43,6 +44,7 @@ person_of_token archive token = option_map (λ p. p.name) (find (λ p. bytes_eq 
 
 -- ---- what is told of lists and persons
 
+-- this option says how the threads of the list are made
 abbrev pub is_option_of : List ℕ → ListOption → Bool
 is_option_of list o = bytes_eq o.list list
 
@@ -50,6 +52,7 @@ is_option_of list o = bytes_eq o.list list
 abbrev pub merge_of : Archive → List ℕ → Bool
 merge_of archive list = option_map_or (λ (o : ListOption). o.merge) (find (is_option_of list) archive.options) true
 
+-- this is the address by which the person's own messages are known
 abbrev pub is_address_of : List ℕ → Address → Bool
 is_address_of person a = bytes_eq a.person person
 
@@ -112,6 +115,7 @@ messages_in archive list = filter (λ m. bytes_eq m.list list) archive.messages
 abbrev pub is_message : List ℕ → List ℕ → Message → Bool
 is_message list key m = bytes_eq m.list list && bytes_eq m.key key
 
+-- the message that the list holds under this key, be it withdrawn or under embargo
 abbrev pub message_of : Archive → List ℕ → List ℕ → Option Message
 message_of archive list key = find (is_message list key) archive.messages
 

@@ -1,6 +1,6 @@
 -- Commands one after the other.
 use Rattle.std.specs.Prelude.{ℕ, Bool, true, false, length, filter, List, [], ◌∷◌, map}
-use Rattle.mbox_core.specs.Division.{Item}
+use Rattle.mbox_items.specs.Division.{Item}
 use Rattle.archive_machine.specs.Records.{Archive}
 use Rattle.archive_machine.specs.Commands.{Command, add, Reply, taken_in, already_known, refused, too_large}
 use Rattle.archive_machine.specs.Machine.{step}
@@ -13,6 +13,7 @@ pub record Run : Type 0 where
 abbrev pub answering : Reply → Run → Run
 answering reply run = record run { replies = reply ∷ run.replies }
 
+-- Commands in their order, with one answer each; a refused one does not stop those behind it.
 unfoldable pub run : Archive → List Command → Run
 run archive [] = record { archive = archive; replies = [] }
 run archive (command ∷ commands) = answering (step archive command).1 (run (step archive command).0 commands)

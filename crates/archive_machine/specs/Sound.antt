@@ -2,8 +2,8 @@
 use Rattle.std.specs.Prelude.{◌≡◌, ◌≢◌, ℕ, ℤ, List, map, true, ⊤}
 use Rattle.std.specs.List.{All, AllPairs}
 use Rattle.policy_core.specs.Names.{is_name}
-use Rattle.mbox_core.specs.Division.{Item, is_whole}
-use Rattle.mbox_core.specs.Written.{IsItem}
+use Rattle.mbox_items.specs.Division.{Item, is_whole}
+use Rattle.mbox_items.specs.Written.{IsItem}
 use Rattle.archive_machine.specs.Records.{Grant, Message, ListOption, Address, Archive}
 use Rattle.archive_machine.specs.Commands.{Command, add}
 use Rattle.archive_machine.specs.Tokens.{is_token}
@@ -21,6 +21,7 @@ pub record IsSoundMessage (m : Message) : Type 0 where
   pub item : IsItem (item_of m)
   pub key : m.key ≡ key_of m.text
 
+-- every message can be written to an mbox (RFC 4155) as it is, and its key is that of its text
 abbrev pub IsSound : Archive → Type 0
 IsSound archive = All IsSoundMessage archive.messages
 

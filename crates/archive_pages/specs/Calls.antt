@@ -1,14 +1,15 @@
 -- What calls say of pages, of a store, and of what they read and write, each before and after.
 use Rattle.std.specs.Prelude.{◌≡◌, ◌≢◌, ℕ, ℤ, List, Option, None, Some, Result, OnOk, IfErr, IfOk, IfSome}
 use Rattle.sqlite.specs.Store.{Ghosts}
-use Rattle.mbox_core.specs.declared.device.Sink.{Ghosts as Takes}
-use Rattle.mbox_core.specs.declared.device.Source.{Ghosts as Gives}
+use Rattle.byte_device.specs.declared.devices.Sink.{Ghosts as Takes}
+use Rattle.byte_device.specs.declared.devices.Source.{Ghosts as Gives}
 use Rattle.policy_core.specs.Rules.{Rule}
 use Rattle.archive_machine.specs.Records.{Archive}
 use Rattle.archive_store.specs.declared.store.Store.{Store}
 use Rattle.archive_results.specs.Access.{Ask, no_list}
 use Rattle.archive_desk.specs.Faults.{ask_reason, refused}
 use Rattle.archive_kept.specs.Outlines.{outline_for}
+use Rattle.archive_kept.specs.Parts.{Part}
 use Rattle.archive_kept.specs.Views.{Keeping, outline_at}
 use Rattle.archive_kept.specs.Kept.{AreOf, Keeps}
 use Rattle.archive_pages.specs.Causes.{FindsOr, SendsOr, ServesOr}
@@ -39,10 +40,10 @@ pub record KeepsOn {S T : Type 0} (g : Ghosts S) (old new : Store S) (pages late
 
 -- ---- what is found
 
--- Where the outline of what is asked for stands among what is kept. None: there is no such list.
-abbrev pub IsPlace : Archive → Ask → Keeping → Option ℕ → Type 0
-IsPlace archive ask kept None = ask_reason archive ask ≡ Some (refused no_list)
-IsPlace archive ask kept (Some place) = (ask_reason archive ask ≡ None) × (outline_at kept place ≡ Some (outline_for archive ask))
+-- Where the outline of what is asked for, of this part of it, stands among what is kept. None: there is no such list.
+abbrev pub IsPlace : Archive → Ask → Keeping → Part → Option ℕ → Type 0
+IsPlace archive ask kept part None = ask_reason archive ask ≡ Some (refused no_list)
+IsPlace archive ask kept part (Some place) = (ask_reason archive ask ≡ None) × (outline_at kept place ≡ Some (outline_for archive ask part))
 
 module _ {S F : Type 0} (g : Ghosts S) (old new : Store S) (result : Result Made F) where
   -- the reply that is made so of what the store remembers

@@ -8,13 +8,15 @@ use Rattle.policy_core.specs.Rules.{Rule, fits}
 use Rattle.policy_core.specs.declared.access.Withdrawn.{Withdrawn}
 use Rattle.policy_core.specs.declared.access.Withdrawn.TheVariants.{No}
 use Rattle.archive_machine.specs.Records.{Archive, Message}
-use Rattle.archive_machine.specs.Commands.{withdraw, done}
+use Rattle.archive_machine.specs.Commands.{Command, withdraw, embargo, done}
+use Rattle.archive_machine.specs.Lasting.{NoneOf, ends_withdrawal, sets_embargo}
 use Rattle.archive_machine.specs.Machine.{step}
 use Rattle.archive_machine.specs.Messages.{number_of}
 use Rattle.archive_machine.specs.Questions.{has_list, list_names, merge_of, message_of}
 use Rattle.archive_machine.specs.Keys.{is_key}
-use Rattle.archive_results.specs.Access.{Ask, facts_of, marks_of, reader_marks, is_shown}
-use Rattle.archive_results.specs.Promise.{without, IsOfAnother, DeniesWithdrawn}
+use Rattle.archive_machine.specs.Runs.{run}
+use Rattle.archive_results.specs.Access.{Ask, ReaderMarks, facts_of, marks_of, reader_marks, is_shown}
+use Rattle.archive_results.specs.Promise.{without, IsWithheld, IsOfAnother, DeniesWithdrawnBy, DeniesHeldBack}
 use Rattle.archive_results.specs.Results.{TreeLine, month_lines, author_lines, tree_lines, thread_lines, export_text}
 use Rattle.archive_html.specs.Pages.{month_page, author_page, threads_page, thread_page}
 use Rattle.archive_requests.specs.Requests.{asks, request_of}
@@ -159,15 +161,44 @@ abbrev pub AsksForNoMessage : RequestHead → Type 0
 AsksForNoMessage head = (token : Option (List ℕ)) (path : List ℕ) (route : Route) → request_of head ≡ asks token path → route_of path ≡ Some route
     → is_of_message route ≡ false
 
--- Whoever asks did not write the message, and to them the policy denies what is withdrawn on the list that they ask for.
-abbrev pub IsAskedByOthers : Archive → List Rule → (day : ℤ) → RequestHead → (list key : List ℕ) → Type 0
-IsAskedByOthers archive rules day head list key = (reader : Option (List ℕ)) (route : Route) (asked : List ℕ) → AsksFor archive head reader route
+-- Whoever asks is not shown the message, by these rules and on this day.
+abbrev pub IsWithheldFromAskers : Archive → List Rule → (day : ℤ) → RequestHead → (list key : List ℕ) → Type 0
+IsWithheldFromAskers archive rules day head list key = (reader : Option (List ℕ)) (route : Route) (asked : List ℕ) → AsksFor archive head reader route
+    → list_of route ≡ Some asked → IsWithheld archive (asking rules day reader asked) list key
+
+-- The reply to such a request is that of the archive in which the message never came: out of every archive, so at any time, and
+-- whatever hides the message, be it a withdrawal, an embargo or anything else that rules ask for.
+abbrev pub LeavesNoTrace : Type 0
+LeavesNoTrace = (archive : Archive) (rules : List Rule) (day : ℤ) (head : RequestHead) (list key : List ℕ) → AsksForNoMessage head
+    → IsWithheldFromAskers archive rules day head list key → reply_of archive rules day head ≡ reply_of (without archive list key) rules day head
+
+-- Whoever asks did not write the message, and to them the policy denies such messages on the list that they ask for.
+abbrev pub IsAskedByOthers : (Ask → ReaderMarks → Type 0) → Archive → List Rule → (day : ℤ) → RequestHead → (list key : List ℕ) → Type 0
+IsAskedByOthers Denies archive rules day head list key = (reader : Option (List ℕ)) (route : Route) (asked : List ℕ) → AsksFor archive head reader route
     → list_of route ≡ Some asked
     → IsOfAnother archive (asking rules day reader asked) list key
-    × DeniesWithdrawn (asking rules day reader asked) (reader_marks archive (asking rules day reader asked))
+    × Denies (asking rules day reader asked) (reader_marks archive (asking rules day reader asked))
 
 -- Once the message is withdrawn, by its author or the board, the reply to such a request is that of the archive in which it never came.
 abbrev pub IsAsIfItNeverCame : Type 0
 IsAsIfItNeverCame = (archive : Archive) (rules : List Rule) (day : ℤ) (head : RequestHead) (list key : List ℕ) (by : Withdrawn) → by ≢ No
-    → (step archive (withdraw list key (number_of by))).1 ≡ done → AsksForNoMessage head → IsAskedByOthers archive rules day head list key
+    → (step archive (withdraw list key (number_of by))).1 ≡ done → AsksForNoMessage head
+    → IsAskedByOthers (DeniesWithdrawnBy by) archive rules day head list key
     → reply_of (step archive (withdraw list key (number_of by))).0 rules day head ≡ reply_of (without archive list key) rules day head
+
+-- The same of a request to a later archive, where the message is hidden by what the policy denies.
+abbrev pub IsHiddenIn : (Ask → ReaderMarks → Type 0) → Archive → (list key : List ℕ) → Type 0
+IsHiddenIn Denies archive list key = (rules : List Rule) (day : ℤ) (head : RequestHead) → AsksForNoMessage head
+    → IsAskedByOthers Denies archive rules day head list key → reply_of archive rules day head ≡ reply_of (without archive list key) rules day head
+
+-- It stays so, whatever is commanded but to restore the message;
+abbrev pub StaysAsIfItNeverCame : Type 0
+StaysAsIfItNeverCame = (archive : Archive) (list key : List ℕ) (by : Withdrawn) (commands : List Command) → by ≢ No
+    → (step archive (withdraw list key (number_of by))).1 ≡ done → NoneOf (ends_withdrawal list key) commands
+    → IsHiddenIn (DeniesWithdrawnBy by) (run (step archive (withdraw list key (number_of by))).0 commands).archive list key
+
+-- and so it is of one that is held back up to a day, whatever is commanded but to set its embargo anew or to lift it.
+abbrev pub StaysHeldBack : Type 0
+StaysHeldBack = (archive : Archive) (list key : List ℕ) (until : ℤ) (commands : List Command)
+    → (step archive (embargo list key until)).1 ≡ done → NoneOf (sets_embargo list key) commands
+    → IsHiddenIn (DeniesHeldBack until) (run (step archive (embargo list key until)).0 commands).archive list key

@@ -50,5 +50,7 @@ route_of_segments ([] ∷ [] ∷ []) = Some lists
 route_of_segments ([] ∷ word ∷ list ∷ rest) = if_listed word list (list_route list rest)
 route_of_segments _ = None
 
+-- Profile: the form of a path alone says which page is asked for, whether or not its list or message is there; an empty list name
+-- or parameter names no page.
 abbrev pub route_of : (path : List ℕ) → Option Route
 route_of path = route_of_segments (segments path)

@@ -54,6 +54,7 @@ pub record ReaderMarks : Type 0 where
   pub standing : Standing
   pub address : Option (List ℕ)
 
+-- who asks, as the archive knows it on the list and day of the question; nobody is the public, and has no address
 abbrev pub reader_marks : Archive → Ask → ReaderMarks
 reader_marks archive ask =
     record { standing = reader_standing archive ask; address = option_and_then (address_of archive) ask.reader }
@@ -70,6 +71,7 @@ pub record Marks : Type 0 where
   pub embargo_until : Option ℤ
   pub own : Bool
 
+-- the facts of a message that a policy weighs, for a reader of this address; without one, no message is the reader's own
 unfoldable pub marks_of : (address : Option (List ℕ)) → Message → Marks
 marks_of address m = record {
   arrival = m.arrival;
@@ -100,12 +102,17 @@ is_allowance (denied rule) = false
 abbrev pub allows : Ask → ReaderMarks → Marks → Bool
 allows ask reader marks = is_allowance (ruling_on ask reader marks)
 
+-- the policy allows the reader this message; the view has such messages alone
 abbrev pub is_shown : Ask → ReaderMarks → Message → Bool
 is_shown ask reader m = allows ask reader (marks_of reader.address m)
 
 -- who wrote a message matters: a rule asks whether it is the reader's own, and the reader has an address
 abbrev pub asks_author : Ask → ReaderMarks → Bool
 asks_author ask reader = asks_own ask.rules && is_some reader.address
+
+-- the policy denies the reader this message, and says so by its marks alone, whatever its text is
+abbrev pub is_withheld : Ask → ReaderMarks → Message → Bool
+is_withheld ask reader m = not (asks_author ask reader) && not (is_shown ask reader m)
 
 -- ---- own messages, in words
 
@@ -135,6 +142,8 @@ asked_by m (denied rule) = denied_by rule
 abbrev pub asked_on : Ask → ReaderMarks → Option Message → Asked
 asked_on ask reader held = option_map_or (λ m. asked_by m (ruling_on ask reader (marks_of reader.address m))) held absent
 
+-- The answer to a reader who asks for a message by its key. Profile: a denial names its rule, and so tells that the list holds the
+-- message.
 abbrev pub asked_of : Archive → Ask → (key : List ℕ) → Asked
 asked_of archive ask key = asked_on ask (reader_marks archive ask) (message_of archive ask.list key)
 

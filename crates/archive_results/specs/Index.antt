@@ -10,6 +10,7 @@ pub record Header : Type 0 where
   pub line : Line
   pub entry : Entry
 
+-- what lists of messages and threads (RFC 5256, THREAD=REFERENCES) need of a message once its text is let go
 abbrev pub header_of : Message → Header
 header_of m = record { line = line_of (shown_of m); entry = entry_of (item_of m) }
 

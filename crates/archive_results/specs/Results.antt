@@ -3,7 +3,7 @@ use Rattle.std.specs.Prelude.{ℕ, ◌-◌, ◌==◌, int_lt, Bool, List, [], �
 use Rattle.std.specs.List.{list_any}
 use Rattle.std.specs.Option.{option_and_then}
 use Rattle.civil_time.specs.Calendar.{month_of_instant}
-use Rattle.mbox_core.specs.Written.{written}
+use Rattle.mbox_items.specs.Written.{written}
 use Rattle.thread_core.specs.Threads.{threads_of}
 use Rattle.thread_core.specs.TopThread.{top_thread_of}
 use Rattle.thread_core.specs.declared.row.Row.{Row}

@@ -2,7 +2,7 @@
 use Rattle.std.specs.Prelude.{ℕ, ℤ, List}
 use Rattle.mail_core.specs.Author.{author_of}
 use Rattle.mail_core.specs.Headers.{own_id_of, references_of, sent_date_of, unfolded_subject_of, subject_line_of}
-use Rattle.mbox_core.specs.Division.{Item}
+use Rattle.mbox_items.specs.Division.{Item}
 use Rattle.subject_core.specs.BaseSubject.{base_of, is_reply}
 use Rattle.thread_links.specs.declared.entry.Entry.{Entry}
 use Rattle.archive_machine.specs.Records.{Message}
@@ -13,6 +13,7 @@ pub record Shown : Type 0 where
   pub key : List ℕ
   pub item : Item
 
+-- a message without its marks: a page knows neither who withdrew it nor its embargo
 abbrev pub shown_of : Message → Shown
 shown_of m = record { key = m.key; item = item_of m }
 
@@ -35,6 +36,8 @@ pub record Line : Type 0 where
   pub author : List ℕ
   pub subject : List ℕ
 
+-- A message on one line. It is dated by its Date field (RFC 5322 section 3.6.1), and by its arrival where that is missing or not
+-- valid; its subject is unfolded (section 2.2.3).
 abbrev pub line_of : Shown → Line
 line_of s = record {
   key = s.key;

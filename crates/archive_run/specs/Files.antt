@@ -1,8 +1,8 @@
 -- What is read of a file that is opened by its name.
 use Rattle.std.specs.Prelude.{◌≡◌, ◌+◌, ◌++◌, ℕ, List, Ok, Err}
-use Rattle.mbox_core.specs.declared.device.Source.{Ghosts as Reads}
-use Rattle.archive_run.specs.declared.files.FileFault.{FileFault}
-use Rattle.archive_run.specs.declared.files.OpenFiles.{Ghosts}
+use Rattle.byte_device.specs.declared.devices.Source.{Ghosts as Reads}
+use Rattle.sift_run.specs.declared.files.FileFault.{FileFault}
+use Rattle.sift_run.specs.declared.files.OpenFiles.{Ghosts}
 
 module _ {F I : Type 0} (opens : Ghosts F I) (reads : Reads I) (files : F) (name : List ℕ) where
   -- The file of this name gave an input. From there on this text was read of it, it met its end so often, and failed so often;

@@ -1,7 +1,5 @@
-pub mod Sifting
 pub mod Refusals
 pub mod World
-pub mod Running
 pub mod Databases
 pub mod Files
 pub mod Working

@@ -1,10 +1,10 @@
 -- What a run of an order does, and why it is refused. Each relation holds of what a run is over before and after, of what the
 -- traits of its devices say, of the order and of the result; and it says of all devices which were touched.
-use Rattle.std.specs.Prelude.{◌≡◌, ◌⊎◌, ℕ, ℤ, true, List, codes, Option, Some, None, Result, Ok, Err, Vec, ⊤}
+use Rattle.std.specs.Prelude.{◌≡◌, ◌⊎◌, ℕ, ℤ, true, List, codes, Option, Some, None, Result, Ok, Err, Vec, ⊤, MatchResult}
 use Rattle.std.specs.declared.alloc.Global.{Global}
 use Rattle.sqlite.specs.Store.{Ghosts as Pages}
-use Rattle.mbox_core.specs.declared.device.Sink.{Ghosts as Takes}
-use Rattle.mbox_core.specs.declared.device.Source.{Ghosts as Reads}
+use Rattle.byte_device.specs.declared.devices.Sink.{Ghosts as Takes}
+use Rattle.byte_device.specs.declared.devices.Source.{Ghosts as Reads}
 use Rattle.policy_core.specs.Rules.{Rule}
 use Rattle.archive_store.specs.declared.store.Store.{Store as Open}
 use Rattle.archive_store.specs.Checking.{Checks}
@@ -15,16 +15,19 @@ use Rattle.archive_words.specs.Values.{AskValues, CheckValues, GetValues, Import
 use Rattle.archive_work.specs.Commands.{answer_line}
 use Rattle.archive_work.specs.Working.{Carries, Gets}
 use Rattle.archive_work.specs.declared.commands.Answer.{Answer}
-use Rattle.archive_run.specs.World.{Sent, heard, sent}
+use Rattle.sift_run.specs.Running.{IsPolicyOf, IsPolicyCause, IsDayBy, SiftsByPolicy}
+use Rattle.sift_run.specs.Streams.{Sends, SendsPart, Sent, sent}
+use Rattle.sift_run.specs.declared.clock.DayClock.{Ghosts as Tells}
+use Rattle.sift_run.specs.declared.faults.RunFault.{RunFault}
+use Rattle.sift_run.specs.declared.faults.RunFault.TheVariants.{Write, Clock, Memory}
+use Rattle.sift_run.specs.declared.files.OpenFiles.{Ghosts as Opens}
+use Rattle.sift_run.specs.declared.files.ReadFiles.{Ghosts as Gives}
 use Rattle.archive_run.specs.Databases.{Works}
-use Rattle.archive_run.specs.Running.{IsPolicyOf, IsPolicyCause, IsDayBy, IsSiftCause, SiftsBy}
-use Rattle.archive_run.specs.Working.{CarriesNot, ChecksNot, ExportsNot, Fails, GetsNot, ImportsFile, ImportsNot, IsExported, NotOpened, Sends, SendsPart, report_line}
-use Rattle.archive_run.specs.declared.clock.DayClock.{Ghosts as Tells}
+use Rattle.archive_run.specs.Refusals.{OfRun}
+use Rattle.archive_run.specs.Working.{CarriesNot, ChecksNot, ExportsNot, Fails, GetsNot, ImportsFile, ImportsNot, IsExported, NotOpened, report_line}
 use Rattle.archive_run.specs.declared.databases.Databases.{Ghosts as Keeps}
 use Rattle.archive_run.specs.declared.faults.Refusal.{Refusal}
-use Rattle.archive_run.specs.declared.faults.Refusal.TheVariants.{Write, Clock, Memory}
-use Rattle.archive_run.specs.declared.files.OpenFiles.{Ghosts as Opens}
-use Rattle.archive_run.specs.declared.files.ReadFiles.{Ghosts as Gives}
+use Rattle.archive_run.specs.declared.faults.Refusal.TheVariants.{Run}
 use Rattle.archive_run.specs.declared.world.World.{World}
 
 -- what is asked under these rules on this day
@@ -37,7 +40,7 @@ module _ {Y S F D C P T R O E I L K A B M : Type 0} (old new : World Y S F D C P
   -- By the rules that the named policy writes this came of it. Or there are no rules, and nothing was touched.
   abbrev pub ByPolicy : Gives F → Option (List ℕ) → (List Rule → Result ⊤ Refusal → Type 0) → Result ⊤ Refusal → Type 0
   ByPolicy gives policy Runs (Ok done) = (rules : List Rule) × IsPolicyOf gives old.files policy rules × Runs rules (Ok done)
-  ByPolicy gives policy Runs (Err refusal) = (IsPolicyCause gives old.files policy refusal × (new ≡ old))
+  ByPolicy gives policy Runs (Err refusal) = (OfRun (IsPolicyCause gives old.files policy) refusal × (new ≡ old))
       ⊎ ((rules : List Rule) × IsPolicyOf gives old.files policy rules × Runs rules (Err refusal))
 
   -- On the day that was given, or that the clock told, this came of it from there on. Or there is no day (F3), and but for the clock
@@ -46,7 +49,7 @@ module _ {Y S F D C P T R O E I L K A B M : Type 0} (old new : World Y S F D C P
   OnDay tells given Runs (Ok done) = (clock : C) × (day : ℤ) × IsDayBy tells given true old.clock clock (Some day)
       × Runs (record old { clock = clock }) day (Ok done)
   OnDay tells given Runs (Err refusal) =
-      ((refusal ≡ Clock) × IsDayBy tells given true old.clock new.clock None × (new ≡ record old { clock = new.clock }))
+      ((refusal ≡ Run Clock) × IsDayBy tells given true old.clock new.clock None × (new ≡ record old { clock = new.clock }))
       ⊎ ((clock : C) × (day : ℤ) × IsDayBy tells given true old.clock clock (Some day)
       × Runs (record old { clock = clock }) day (Err refusal))
 
@@ -61,17 +64,13 @@ module _ {Y S F D C P T R O E I L K A B M : Type 0} (old new : World Y S F D C P
     -- ---- a sift
 
     module _ (gives : Gives F) (tells : Tells C) (reads : Reads R) where
-      -- by some rules
-      abbrev pub SiftsUnder : SiftValues → List Rule → Result ⊤ Refusal → Type 0
-      SiftsUnder order rules (Ok done) =
-          SiftsBy tells order old.clock new.clock (heard reads old.input) (heard reads new.input) before after rules
-          × (new ≡ record old { clock = new.clock; input = new.input; output = new.output })
-      SiftsUnder order rules (Err refusal) =
-          IsSiftCause tells order old.clock new.clock (heard reads old.input) (heard reads new.input) before after rules refusal
-          × (new ≡ record old { clock = new.clock; input = new.input; output = new.output })
+      abbrev Sifted : SiftValues → Result ⊤ RunFault → Type 0
+      Sifted = SiftsByPolicy tells reads takes passes old.clock new.clock old.input new.input old.output new.output gives old.files
 
+      -- It was carried out, or stopped for a cause, and nothing else was touched.
       abbrev pub RunsSift : SiftValues → Result ⊤ Refusal → Type 0
-      RunsSift order = ByPolicy gives order.policy (SiftsUnder order)
+      RunsSift order result = MatchResult result (λ done. Sifted order (Ok done)) (OfRun (λ fault. Sifted order (Err fault)))
+          × (new ≡ record old { clock = new.clock; input = new.input; output = new.output })
 
     -- ---- orders over the database of a name
 
@@ -92,7 +91,7 @@ module _ {Y S F D C P T R O E I L K A B M : Type 0} (old new : World Y S F D C P
       -- the output failed (F2) at this text, and nothing else was touched but for the databases
       abbrev pub SendsPartIn : (text : List ℕ) → Refusal → Type 0
       SendsPartIn text refusal =
-          (refusal ≡ Write) × SendsPart before after text × (new ≡ record old { databases = new.databases; output = new.output })
+          (refusal ≡ Run Write) × SendsPart before after text × (new ≡ record old { databases = new.databases; output = new.output })
 
       -- The command was carried out, and its word went out as one line. Or it was refused, and nothing went out; or it was carried
       -- out, and the output failed.
@@ -121,7 +120,7 @@ module _ {Y S F D C P T R O E I L K A B M : Type 0} (old new : World Y S F D C P
         RunsImport order (Err refusal) =
             FailsIn order.file (λ o c. ImportsNot pages o c opens reads old.files order.list order.mbox) refusal
             ⊎ ((report : Report) × TakesIn order report
-            × (((refusal ≡ Memory) × (new ≡ record old { databases = new.databases })) ⊎ SendsPartIn (report_line report) refusal))
+            × (((refusal ≡ Run Memory) × (new ≡ record old { databases = new.databases })) ⊎ SendsPartIn (report_line report) refusal))
 
       -- ---- questions of a reader
 

@@ -1,16 +1,17 @@
 -- What a run of any order does, and what is said where words order nothing.
-use Rattle.std.specs.Prelude.{◌≡◌, ◌⊎◌, ◌++◌, ℕ, string_bytes, Result, Err, ⊤}
+use Rattle.std.specs.Prelude.{◌≡◌, ◌⊎◌, ℕ, Result, Err, ⊤}
 use Rattle.archive_words.specs.declared.orders.Order.{Order}
 use Rattle.archive_words.specs.declared.orders.Order.TheVariants.{Sift, Table, Import, Get, Export, Check, Serve}
 use Rattle.archive_words.specs.declared.orders.OrderStop.{OrderStop}
-use Rattle.archive_words.specs.declared.orders.OrderStop.TheVariants as stop
-use Rattle.archive_run.specs.World.{Devices, noted, sent}
+use Rattle.sift_run.specs.Refusals.{SaysStop, Tells}
+use Rattle.archive_listen.specs.Connections.{noted}
+use Rattle.sift_run.specs.declared.faults.RunFault.TheVariants.{Memory}
+use Rattle.archive_run.specs.World.{Devices}
 use Rattle.archive_run.specs.Orders.{RunsCheck, RunsExport, RunsGet, RunsImport, RunsSift, RunsTable}
-use Rattle.archive_run.specs.Refusals.{Tells}
+use Rattle.archive_run.specs.Refusals.{refusal_text}
 use Rattle.archive_run.specs.Serving.{RunsServe}
-use Rattle.archive_run.specs.Working.{Sends, SendsPart}
 use Rattle.archive_run.specs.declared.faults.Refusal.{Refusal}
-use Rattle.archive_run.specs.declared.faults.Refusal.TheVariants.{Memory, Write}
+use Rattle.archive_run.specs.declared.faults.Refusal.TheVariants.{Run}
 use Rattle.archive_run.specs.declared.world.World.{World}
 
 module _ {Y S F D C P T R O E I L K A B M : Type 0} (dev : Devices S F I D C P L T R O E) where
@@ -28,25 +29,17 @@ module _ {Y S F D C P T R O E I L K A B M : Type 0} (dev : Devices S F I D C P L
   -- One line told the refusal, and nothing else was touched.
   abbrev pub TellsLast : (old new : World Y S F D C P T R O E I L K A B M) → Refusal → Type 0
   TellsLast old new refusal =
-      Tells refusal (noted dev.notes old.faults) (noted dev.notes new.faults) × (new ≡ record old { faults = new.faults })
+      Tells (refusal_text refusal) (noted dev.notes old.faults) (noted dev.notes new.faults) × (new ≡ record old { faults = new.faults })
 
   -- The order was refused for a reason that holds; or there was no memory to read the words, and nothing was touched. Then one line
   -- told the refusal.
   pub record IsRefused (old new : World Y S F D C P T R O E I L K A B M) (order : Order) : Type 0 where
     pub refusal : Refusal
     pub stopped : World Y S F D C P T R O E I L K A B M
-    pub cause : ((refusal ≡ Memory) × (stopped ≡ old)) ⊎ Runs old stopped order (Err refusal)
+    pub cause : ((refusal ≡ Run Memory) × (stopped ≡ old)) ⊎ Runs old stopped order (Err refusal)
     pub told : TellsLast stopped new refusal
 
-  -- By why the words order nothing. Help goes out whole and is passed on; or the output failed, a beginning of it went out, and the
-  -- line of F2 is told. What is wrong with bad words is told, whole, where the stream of faults did not fail. And of want of memory
-  -- the line of F5. Nothing else is touched.
-  abbrev pub SaysStop : (old new : World Y S F D C P T R O E I L K A B M) → OrderStop → (status : ℕ) → Type 0
-  SaysStop old new (stop.Help text) status =
-      ((status ≡ 0) × Sends (sent dev.takes dev.passes old.output) (sent dev.takes dev.passes new.output) (string_bytes text)
-      × (new ≡ record old { output = new.output }))
-      ⊎ ((status ≡ 1) × SendsPart (sent dev.takes dev.passes old.output) (sent dev.takes dev.passes new.output) (string_bytes text)
-      × TellsLast (record old { output = new.output }) new Write)
-  SaysStop old new (stop.Words text) status = (status ≡ 2) × (new ≡ record old { faults = new.faults })
-      × (dev.notes.failures new.faults ≡ dev.notes.failures old.faults → dev.notes.told new.faults ≡ dev.notes.told old.faults ++ string_bytes text)
-  SaysStop old new stop.Memory status = (status ≡ 1) × TellsLast old new Memory
+  -- What is said where the words order nothing, by why they do not; and nothing else was touched.
+  abbrev pub RunSaysStop : (old new : World Y S F D C P T R O E I L K A B M) → OrderStop → (status : ℕ) → Type 0
+  RunSaysStop old new stop status = SaysStop dev.takes dev.passes dev.notes old.output new.output old.faults new.faults stop status
+      × (new ≡ record old { output = new.output; faults = new.faults })

@@ -1,29 +1,29 @@
 -- What a run of an order to serve does, and why it is refused.
-use Rattle.std.specs.Prelude.{◌≡◌, ◌⊎◌, ◌<◌, ◌≤◌, ◌++◌, ℕ, ℤ, Bool, true, false, List, flat_map, length, Option, Some, Result, Ok, Err, ⊤, MatchResult}
+use Rattle.std.specs.Prelude.{◌≡◌, ◌⊎◌, ◌<◌, ◌≤◌, ℕ, ℤ, Bool, true, false, List, Option, Some, Result, Ok, Err, ⊤, MatchResult}
 use Rattle.sqlite.specs.Store.{Ghosts}
-use Rattle.mbox_core.specs.declared.device.Sink.{Ghosts as Takes}
+use Rattle.byte_device.specs.declared.devices.Sink.{Ghosts as Takes}
 use Rattle.policy_core.specs.Rules.{Rule}
-use Rattle.archive_store.specs.Told.{HasReturned, IsReady}
+use Rattle.archive_store.specs.Told.{HasReturned, IsReady, archive_in}
 use Rattle.archive_store.specs.declared.store.Store.{Store as Open}
-use Rattle.archive_listen.specs.Connections.{Exchange, Outcome, outcome_line}
-use Rattle.archive_listen.specs.Serving.{Served, ServesEach, served}
+use Rattle.archive_listen.specs.Connections.{Exchange, Noted, Outcome, Telling, noted}
+use Rattle.archive_listen.specs.Serving.{Served, ServesAll, ServesFewer, served}
 use Rattle.archive_listen.specs.declared.connections.Listening.{Listening}
 use Rattle.archive_listen.specs.declared.connections.Outgoing.{Ghosts as Passes}
 use Rattle.archive_listen.specs.declared.faults.AcceptFault.{AcceptFault}
-use Rattle.archive_listen.specs.declared.faults.AcceptFault.TheVariants as accepting
 use Rattle.archive_listen.specs.declared.faults.ListenFault.{ListenFault}
-use Rattle.archive_serve.specs.Announced.{listening_line}
-use Rattle.archive_serve.specs.Pages.{AnswersAs, EndsAs}
+use Rattle.archive_serve.specs.Announced.{IsAnnounced}
+use Rattle.archive_serve.specs.Runs.{AnswersIn}
 use Rattle.archive_words.specs.Values.{ServeValues}
 use Rattle.archive_run.specs.Databases.{Works}
 use Rattle.archive_run.specs.Orders.{ByPolicy, OnDay}
 use Rattle.archive_run.specs.Working.{NotOpened}
-use Rattle.archive_run.specs.World.{Noted, Sent, noted, sent}
-use Rattle.archive_run.specs.declared.clock.DayClock.{Ghosts as Tells}
+use Rattle.sift_run.specs.Streams.{Sent, sent}
+use Rattle.sift_run.specs.declared.clock.DayClock.{Ghosts as Tells}
 use Rattle.archive_run.specs.declared.databases.Databases.{Ghosts as Keeps}
 use Rattle.archive_run.specs.declared.faults.Refusal.{Refusal}
-use Rattle.archive_run.specs.declared.faults.Refusal.TheVariants.{Read, Write, Net, Memory}
-use Rattle.archive_run.specs.declared.files.ReadFiles.{Ghosts as Gives}
+use Rattle.archive_run.specs.declared.faults.Refusal.TheVariants.{Run, Net}
+use Rattle.sift_run.specs.declared.faults.RunFault.TheVariants.{Read, Write, Memory}
+use Rattle.sift_run.specs.declared.files.ReadFiles.{Ghosts as Gives}
 use Rattle.archive_run.specs.declared.world.World.{World}
 
 -- what went out, and what was told of faults
@@ -39,24 +39,22 @@ said takes passes notes output faults = record { output = sent takes passes outp
 -- `accepts` and `shuts` are what a listener says of a connection that it gives, or does not, and of one that it takes back.
 module _ {S L : Type 0} (g : Ghosts S) (accepts : L → L → Option AcceptFault → Type 0) (shuts : L → L → Exchange → Bool → Type 0)
     (rules : List Rule) (day : ℤ) (listening : Listening L) (old new : Open S) (before after : Said) where
-  -- The line that says where the archive listens went out, and was passed on; then connections were answered by these rules and on
-  -- this day, with these outcomes, where the store was ready, and each ended so whatever the store was; and each fault was told in
-  -- one line, where the stream of faults did not fail.
-  pub record ServesThese (last : Served L (Open S)) (outcomes : List Outcome) : Type 0 where
-    pub announced : after.output.written ≡ before.output.written ++ listening_line listening.port
-    pub passed : after.output.passed ≡ after.output.written
-    pub serves : HasReturned g new → IsReady g old → ServesEach (AnswersAs g rules day) accepts shuts outcomes (served listening.listener old) last
-    pub ends : ServesEach (EndsAs g) accepts shuts outcomes (served listening.listener old) last
-    pub told : after.faults.failures ≡ before.faults.failures → after.faults.written ≡ before.faults.written ++ flat_map outcome_line outcomes
+  -- how each connection is answered, where the store was ready and the disk has returned what was written to it
+  abbrev pub AnswersEach : (first last : Open S) → (before after : Telling) → Outcome → Type 0
+  AnswersEach = AnswersIn g (HasReturned g new × IsReady g old) (archive_in g old) rules day
+
+  -- The line that says where the archive listens went out, and then this is so of a run of connections, by how each is answered, where
+  -- it begins, and what was told of faults; and of what listens and the store at its end.
+  abbrev pub AnnouncesAnd : (Served L (Open S) → Type 0) → Type 0
+  AnnouncesAnd Serves = IsAnnounced listening.port before.output.written after.output.written after.output.passed × (end : L) × Serves (served end new)
 
   -- as many connections as were ordered
-  abbrev pub ServesAll : (count : ℕ) → Type 0
-  ServesAll count = (outcomes : List Outcome) × (end : L) × (length outcomes ≡ count) × ServesThese (served end new) outcomes
+  abbrev pub AnswersAll : (count : ℕ) → Type 0
+  AnswersAll count = AnnouncesAnd (ServesAll AnswersEach accepts shuts (served listening.listener old) before.faults after.faults count)
 
   -- fewer, and then the listener gave no more, for a reason of its own
-  abbrev pub ServesFewer : (count : ℕ) → Type 0
-  ServesFewer count = (outcomes : List Outcome) × (last : Served L (Open S)) × (end : L) × (length outcomes < count)
-      × ServesThese last outcomes × (new ≡ last.state) × accepts last.listener end (Some accepting.Listener)
+  abbrev pub AnswersFewer : (count : ℕ) → Type 0
+  AnswersFewer count = AnnouncesAnd (ServesFewer AnswersEach accepts shuts (served listening.listener old) before.faults after.faults count)
 
   -- none: the store is as before, and no fault was told
   abbrev pub ServesNone : Type 0
@@ -64,9 +62,9 @@ module _ {S L : Type 0} (g : Ghosts S) (accepts : L → L → Option AcceptFault
 
   -- Why it was refused: no more connections came (F4), or it could not be said where it listens (F2, F5).
   abbrev pub ServesNot : (count : ℕ) → Refusal → Type 0
-  ServesNot count Net = ServesFewer count
-  ServesNot count Write = ServesNone × (before.output.failures < after.output.failures)
-  ServesNot count Memory = ServesNone
+  ServesNot count Net = AnswersFewer count
+  ServesNot count (Run Write) = ServesNone × (before.output.failures < after.output.failures)
+  ServesNot count (Run Memory) = ServesNone
   ServesNot count _ = ⊥
 
 -- ---- an open store, and a device of ports before and after
@@ -78,7 +76,7 @@ module _ {S L P : Type 0} (g : Ghosts S) (accepts : L → L → Option AcceptFau
   -- The port of the order was had, and so many connections were served.
   abbrev pub PortServes : Type 0
   PortServes = (listening : Listening L) × listens ports_old ports_new port (Ok listening)
-      × ServesAll g accepts shuts rules day listening old new before after count
+      × AnswersAll g accepts shuts rules day listening old new before after count
 
   -- It was not had (F4), and nothing else was touched; or it was, and serving was refused.
   abbrev pub PortServesNot : Refusal → Type 0
@@ -135,4 +133,4 @@ module _ {Y S F D C P T R O E I L K A B M : Type 0} (old new : World Y S F D C P
   RunsServe gives makes order result =
       (makes old.threaders true × ByPolicy old new gives (Some order.policy) (ServesUnder order) result
       × (notes.failures old.faults ≤ notes.failures new.faults))
-      ⊎ (makes old.threaders false × (result ≡ Err Read) × (new ≡ old))
+      ⊎ (makes old.threaders false × (result ≡ Err (Run Read)) × (new ≡ old))

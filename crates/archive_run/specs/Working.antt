@@ -1,9 +1,8 @@
 -- What becomes of an open store by an order, and what goes out.
-use Rattle.std.specs.Prelude.{◌≡◌, ◌⊎◌, ◌<◌, ◌++◌, ℕ, List, codes, decimal, string_bytes, Result, Ok, Err, Vec, ⊤, MatchResult}
+use Rattle.std.specs.Prelude.{◌≡◌, ◌⊎◌, ◌++◌, ℕ, List, codes, decimal, string_bytes, Result, Ok, Err, Vec, MatchResult}
 use Rattle.std.specs.declared.alloc.Global.{Global}
 use Rattle.sqlite.specs.Store.{Ghosts}
-use Rattle.mbox_core.specs.Written.{IsCutShort}
-use Rattle.mbox_core.specs.declared.device.Source.{Ghosts as Reads}
+use Rattle.byte_device.specs.declared.devices.Source.{Ghosts as Reads}
 use Rattle.archive_store.specs.declared.store.Store.{Store as Open}
 use Rattle.archive_store.specs.declared.faults.StoreFault.TheVariants as store
 use Rattle.archive_store.specs.Checking.{Checks}
@@ -15,29 +14,16 @@ use Rattle.archive_words.specs.Values.{TableCommand}
 use Rattle.archive_import.specs.Streaming.{FailedBy, Imports}
 use Rattle.archive_work.specs.Working.{Carries, Exports, Gets}
 use Rattle.archive_work.specs.declared.getting.GetStop.TheVariants as got
-use Rattle.archive_run.specs.World.{Sent}
+use Rattle.sift_run.specs.Streams.{Sent}
+use Rattle.sift_run.specs.declared.faults.RunFault.TheVariants.{Read, Memory}
+use Rattle.sift_run.specs.declared.files.FileFault.TheVariants as file
+use Rattle.sift_run.specs.declared.files.OpenFiles.{Ghosts as Opens}
 use Rattle.archive_run.specs.Databases.{Works, IsUnopened}
 use Rattle.archive_run.specs.Files.{FileTells, GivesNone}
 use Rattle.archive_run.specs.Refusals.{visible}
 use Rattle.archive_run.specs.declared.databases.Databases.{Ghosts as Keeps}
 use Rattle.archive_run.specs.declared.faults.Refusal.{Refusal}
-use Rattle.archive_run.specs.declared.faults.Refusal.TheVariants.{Store, Desk, Import, Damaged, Denied, Read, Write, Memory}
-use Rattle.archive_run.specs.declared.files.FileFault.TheVariants as file
-use Rattle.archive_run.specs.declared.files.OpenFiles.{Ghosts as Opens}
-
--- ---- what goes out
-
--- this text went out, whole, and was passed on
-abbrev pub Sends : (before after : Sent) → (text : List ℕ) → Type 0
-Sends before after text = (after.written ≡ before.written ++ text) × (after.failures ≡ before.failures) × (after.passed ≡ after.written)
-
--- the output failed, and a beginning of the text went out
-abbrev pub SendsPart : (before after : Sent) → (text : List ℕ) → Type 0
-SendsPart before after text = (count : ℕ) × IsCutShort before.written after.written text count × (before.failures < after.failures)
-
--- it went out, or the output failed (F2)
-abbrev pub IsSent : (before after : Sent) → (text : List ℕ) → Result ⊤ Refusal → Type 0
-IsSent before after text result = MatchResult result (λ _. Sends before after text) (λ refusal. (refusal ≡ Write) × SendsPart before after text)
+use Rattle.archive_run.specs.declared.faults.Refusal.TheVariants.{Run, Store, Desk, Import, Damaged, Denied}
 
 -- the line of an import's report
 abbrev pub report_line : Report → List ℕ
@@ -63,8 +49,8 @@ module _ {S : Type 0} (g : Ghosts S) (old new : Open S) where
     -- the import stopped: no such list, and nothing was read (E4); no mbox (M1); a failed read, after all messages that were
     -- settled by then (M2); no memory (M3); a full list (E12); or the database, or its memory (E15, E14).
     abbrev pub ImportsNot : Refusal → Type 0
-    ImportsNot Read = GivesNone opens reads files mbox file.Read × (new ≡ old)
-    ImportsNot Memory = GivesNone opens reads files mbox file.Memory × (new ≡ old)
+    ImportsNot (Run Read) = GivesNone opens reads files mbox file.Read × (new ≡ old)
+    ImportsNot (Run Memory) = GivesNone opens reads files mbox file.Memory × (new ≡ old)
     ImportsNot (Import stop) = FileTells opens reads files mbox
         (λ text ended failed. FailedBy stop.fault failed × Imports g old new list text ended (Err stop))
     ImportsNot _ = ⊥
@@ -74,7 +60,7 @@ module _ {S : Type 0} (g : Ghosts S) (old new : Open S) where
   GetsNot ask key (Store fault) = (fault ≡ store.NoMessage) × Gets g old new ask key (Err got.NoMessage)
   GetsNot ask key (Desk fault) = Gets g old new ask key (Err (got.Fault fault))
   GetsNot ask key (Denied rule) = (name : _) × (name.now ≡ string_bytes rule) × Gets g old new ask key (Err (got.Denied name))
-  GetsNot ask key Memory = (name : _) × Gets g old new ask key (Err (got.Denied name))
+  GetsNot ask key (Run Memory) = (name : _) × Gets g old new ask key (Err (got.Denied name))
   GetsNot ask key _ = ⊥
 
   -- a check that says E16 of a message
@@ -85,7 +71,7 @@ module _ {S : Type 0} (g : Ghosts S) (old new : Open S) where
   abbrev pub ChecksNot : Refusal → Type 0
   ChecksNot (Store fault) = Checks g old new (Err (check.Failed fault))
   ChecksNot (Damaged list key) = FindsDamage (string_bytes list) (string_bytes key)
-  ChecksNot Memory = (list : List ℕ) × (key : List ℕ) × FindsDamage list key
+  ChecksNot (Run Memory) = (list : List ℕ) × (key : List ℕ) × FindsDamage list key
   ChecksNot _ = ⊥
 
   -- an export: its text went out, whole, and was passed on

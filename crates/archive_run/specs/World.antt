@@ -1,48 +1,18 @@
--- What a run is over: what its devices told, and what their traits say of them.
-use Rattle.std.specs.Prelude.{ℕ, List, Bool, Option, Result}
+-- What the traits of all devices of a run say.
+use Rattle.std.specs.Prelude.{ℕ, Bool, Option, Result}
 use Rattle.sqlite.specs.Store.{Ghosts as Pages}
-use Rattle.mbox_core.specs.declared.device.Source.{Ghosts as Reads}
-use Rattle.mbox_core.specs.declared.device.Sink.{Ghosts as Takes}
+use Rattle.byte_device.specs.declared.devices.Source.{Ghosts as Reads}
+use Rattle.byte_device.specs.declared.devices.Sink.{Ghosts as Takes}
 use Rattle.archive_store.specs.declared.store.Store.{Store}
 use Rattle.archive_listen.specs.Connections.{Exchange}
 use Rattle.archive_listen.specs.declared.connections.Listening.{Listening}
 use Rattle.archive_listen.specs.declared.connections.Outgoing.{Ghosts as Passes}
 use Rattle.archive_listen.specs.declared.faults.AcceptFault.{AcceptFault}
 use Rattle.archive_listen.specs.declared.faults.ListenFault.{ListenFault}
-use Rattle.archive_run.specs.declared.clock.DayClock.{Ghosts as Tells}
+use Rattle.sift_run.specs.declared.clock.DayClock.{Ghosts as Tells}
 use Rattle.archive_run.specs.declared.databases.Databases.{Ghosts as Keeps}
-use Rattle.archive_run.specs.declared.files.ReadFiles.{Ghosts as Gives}
-use Rattle.archive_run.specs.declared.files.OpenFiles.{Ghosts as Opens}
-
--- ---- what devices told
-
--- what an input told, how often its end was met, and how often a read failed
-pub record Heard : Type 0 where
-  pub read : List ℕ
-  pub ends : ℕ
-  pub failures : ℕ
-
-abbrev pub heard : {R : Type 0} → Reads R → R → Heard
-heard reads input = record { read = reads.told input; ends = reads.ends input; failures = reads.failures input }
-
--- what an output told, what of it was passed on, and how often it failed
-pub record Sent : Type 0 where
-  pub written : List ℕ
-  pub passed : List ℕ
-  pub failures : ℕ
-
-abbrev pub sent : {O : Type 0} → Takes O → Passes O → O → Sent
-sent takes passes output = record { written = takes.told output; passed = passes.sent output; failures = takes.failures output }
-
--- what a stream of faults told, and how often it failed
-pub record Noted : Type 0 where
-  pub written : List ℕ
-  pub failures : ℕ
-
-abbrev pub noted : {E : Type 0} → Takes E → E → Noted
-noted takes faults = record { written = takes.told faults; failures = takes.failures faults }
-
--- ---- what the traits of all devices of a run say
+use Rattle.sift_run.specs.declared.files.ReadFiles.{Ghosts as Gives}
+use Rattle.sift_run.specs.declared.files.OpenFiles.{Ghosts as Opens}
 
 pub record Devices (S F I D C P L T R O E : Type 0) : Type 1 where
   pub pages : Pages S
@@ -63,6 +33,7 @@ pub record Devices (S F I D C P L T R O E : Type 0) : Type 1 where
   pub notes : Takes E
 
 module _ {S F I D C P L T R O E : Type 0} where
+  -- what each device of a run may do, as one value: database pages, files, clock, ports, threaders and the three streams
   abbrev pub devices : Pages S → Gives F → Opens F I → Reads I → Keeps D (Store S) → Tells C → (P → P → ℕ → Result (Listening L) ListenFault → Type 0)
       → (L → L → Option AcceptFault → Type 0) → (L → L → Exchange → Bool → Type 0) → (T → Bool → Type 0) → Reads R → Takes O → Passes O → Takes E
       → Devices S F I D C P L T R O E

@@ -3,9 +3,8 @@ use Rattle.std.specs.Prelude.{◌≡◌, ℕ, ℤ, List, Result, Ok, Err, OnOk, 
 use Rattle.sqlite.specs.Store.{Ghosts}
 use Rattle.policy_core.specs.Rules.{Rule}
 use Rattle.archive_machine.specs.Records.{Archive}
-use Rattle.archive_store.specs.Told.{HadReturned}
 use Rattle.archive_store.specs.declared.store.Store.{Store}
-use Rattle.archive_kept.specs.Views.{Keeping}
+use Rattle.archive_kept.specs.Views.{IsBounded, Keeping}
 use Rattle.archive_kept.specs.Kept.{AreOf, Keeps}
 use Rattle.archive_pages.specs.Answered.{AnswersBy}
 use Rattle.archive_pages.specs.Causes.{IsUnread, ServesOr}
@@ -24,23 +23,9 @@ outcome_of (Err answering.Read) = Err Read
 outcome_of (Err (answering.Write written)) = Err Write
 outcome_of (Err (answering.Broken written)) = Err Broken
 
--- By these rules and on this day, one request is answered out of what a store remembers, and the store is left as it is: what
--- the call that answers says, of what the connection told before and after.
-pub record AnswersAs {S : Type 0} (g : Ghosts S) (rules : List Rule) (day : ℤ) (old new : Store S) (before after : Telling)
-    (outcome : Outcome) : Type 0 where
-  pub result : Result ℕ ServeFault
-  pub ends : outcome ≡ outcome_of result
-  pub answered : AnswersBy g old new rules day before.read after.read before.ends after.ends before.written after.written result
-  pub stays : Stays g old new result
-  pub quiet : OnOk result ((after.read_failures ≡ before.read_failures) × (after.write_failures ≡ before.write_failures))
-  pub cause : IfErr result (λ fault. IsServeStop before.written after.written
-      before.read_failures after.read_failures before.write_failures after.write_failures fault)
-
 -- How one answer ends, whatever the store is: the store is left, no direction failed where a reply went out, each fault has its
 -- cause, and so have 503 and S3. What went out is not said.
-pub record EndsAs {S : Type 0} (g : Ghosts S) (old new : Store S) (before after : Telling) (outcome : Outcome) : Type 0 where
-  pub result : Result ℕ ServeFault
-  pub ends : outcome ≡ outcome_of result
+pub record EndsAs {S : Type 0} (g : Ghosts S) (old new : Store S) (before after : Telling) (result : Result ℕ ServeFault) : Type 0 where
   pub stays : Stays g old new result
   pub quiet : OnOk result ((after.read_failures ≡ before.read_failures) × (after.write_failures ≡ before.write_failures))
   pub cause : IfErr result (λ fault. IsServeStop before.written after.written
@@ -59,21 +44,24 @@ pub record Keeper : Type 0 where
 abbrev pub IsKept : Keeper → Archive → Type 0
 IsKept keeper archive = AreOf archive keeper.rules keeper.day keeper.kept
 
--- One request is answered as `AnswersAs` says, where what is kept is of the archive that the store remembers, by the rules and on
--- the day; and what is kept then stays so.
+-- One request is answered as the call that answers says, of what the connection told before and after: out of what the store
+-- remembers, by the rules and on the day, where what is kept is of that; and what is kept then stays so.
 pub record AnswersKept {S : Type 0} (g : Ghosts S) (keeper later : Keeper) (old new : Store S) (before after : Telling)
     (outcome : Outcome) : Type 0 where
+  pub result : Result ℕ ServeFault
+  pub is : outcome ≡ outcome_of result
+  pub answered : OfReady g old new (IsKept keeper) → AnswersBy g old new keeper.rules keeper.day
+      before.read after.read before.ends after.ends before.written after.written result
+  pub ends : EndsAs g old new before after result
   pub same_rules : later.rules ≡ keeper.rules
   pub same_day : later.day ≡ keeper.day
-  pub answers : OfReady g old new (IsKept keeper)
-      → AnswersAs g keeper.rules keeper.day old new before after outcome
-  pub ends : EndsAs g old new before after outcome
   pub keeps : Keeps g old new keeper.rules keeper.day keeper.kept later.kept
-  pub had : HadReturned g old new
 
--- What a run of connections leaves of what answers: the rules and the day; and what is kept stays of the archive that the store
--- remembered before the first of them.
+-- What a run of connections leaves of what answers: the rules and the day; what is kept stays of the archive that the store remembered
+-- before the first of them, and weighs no more than it may.
 pub record LeavesKept {S : Type 0} (g : Ghosts S) (keeper later : Keeper) (old new : Store S) : Type 0 where
   pub same_rules : later.rules ≡ keeper.rules
   pub same_day : later.day ≡ keeper.day
   pub kept : OfReady g old new (IsKept keeper) → OfReady g old new (IsKept later)
+  pub most : later.kept.most ≡ keeper.kept.most
+  pub bounded : IsBounded keeper.kept → IsBounded later.kept

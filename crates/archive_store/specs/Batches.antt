@@ -5,14 +5,14 @@ use Rattle.sqlite.specs.Effect.{Database}
 use Rattle.sqlite.specs.Store.{Ghosts}
 use Rattle.sqlite.specs.Held.{Held, state}
 use Rattle.sqlite.specs.State.{State, HasCleanDisk}
-use Rattle.mbox_core.specs.Division.{Item}
+use Rattle.mbox_items.specs.Division.{Item}
 use Rattle.archive_machine.specs.Records.{Archive}
 use Rattle.archive_machine.specs.Commands.{Refusal, no_list, list_full, too_large, Reply, taken_in, already_known, refused}
 use Rattle.archive_machine.specs.Questions.{has_list, messages_in}
 use Rattle.archive_machine.specs.Machine.{added_within, message_limit}
 use Rattle.archive_machine.specs.Runs.{taken, Tally, tally}
 use Rattle.archive_tables.specs.Tables.{IsHeld, IsKept, archive_of}
-use Rattle.archive_tables.specs.Calls.{RestsOver, Rests, StaysOver, IsHeldOrBack}
+use Rattle.archive_tables.specs.Calls.{RestsOver, IsHeldOrBack}
 use Rattle.archive_store.specs.Replies.{refusal, Steps, says_added}
 use Rattle.archive_store.specs.declared.words.Added.{Added}
 use Rattle.archive_store.specs.declared.batches.Report.{Report}
@@ -71,6 +71,12 @@ IsRefusedAt a list items at no_list = (at ≡ 0) × (has_list a list ≡ false)
 IsRefusedAt a list items at list_full = IsFullAt a list items at
 IsRefusedAt a list items at _ = ⊥
 
+-- Items from one place to another of a list of them, and the report tells of all before.
+pub record BeginsAt (items : List Item) (from to : ℕ) (telling : Report) : Type 0 where
+  pub place : to ≤ length items
+  pub order : from ≤ to
+  pub told : told_in telling ≡ from
+
 -- It came to a place between these, up to which the report tells, or memory or the database was at fault.
 abbrev pub EndsAt : Result ℕ StoreFault → (from to : ℕ) → Report → Type 0
 EndsAt result from to telling = MatchResult result (λ at. (told_in telling ≡ at) × (from ≤ at) × (at ≤ to)) (λ fault. refusal fault ≡ None)
@@ -105,13 +111,6 @@ module _ {S : Type 0} (g : Ghosts S) (old new : Held S) where
       (λ report. IsKept (state g new) × (archive_of (state g new) ≡ (taken a list items).archive) × (tally_of report ≡ tally (taken a list items).replies))
       (λ stop. MatchOption (refusal stop.fault) (IsAfter (state g new) a list (take stop.done items))
       (λ r. IsKept (state g new) × (archive_of (state g new) ≡ (taken a list (take stop.done items)).archive) × IsRefusedAt a list items stop.done r))
-
-  -- how many messages a list holds; a refusal leaves the archive as it was, and so does a fault, if the connection is open
-  abbrev pub Counts : Result ℕ StoreFault → List ℕ → Type 0
-  Counts result list = HasCleanDisk (state g new) → IsKept (state g old) → MatchResult result
-      (λ count. StaysOver None (state g old) (state g new) × IsCounted (archive_of (state g new)) list count)
-      (λ fault. MatchOption (refusal fault) (Rests (state g old) (state g new))
-      (λ r. StaysOver None (state g old) (state g new) × (r ≡ no_list) × (has_list (archive_of (state g old)) list ≡ false)))
 
   -- One message to a list of which it was said that it holds `before` messages: what the machine says, and then it holds `after`,
   -- where the connection is still open.

@@ -5,6 +5,7 @@ pub mod Words
 pub mod Running
 pub mod Batches
 pub mod Told
+pub mod Adopting
 pub mod Walking
 pub mod Checking
 pub mod Uncounted

@@ -1,6 +1,5 @@
 -- How the answers of a store stand for those of the machine.
-use Rattle.std.specs.Prelude.{◌≡◌, ◌⊎◌, ⊤, IsTrue, Bool, List, [], ◌∷◌, IfErr, IfSome, MatchResult, MatchOption, Option, Some, None, Result, Ok, Err, option_map}
-use Rattle.sqlite_disk.specs.Disk.{MoreFaults}
+use Rattle.std.specs.Prelude.{◌≡◌, ◌⊎◌, Bool, List, [], ◌∷◌, IfErr, IfSome, MatchResult, MatchOption, Option, Some, None, Result, Ok, Err, option_map}
 use Rattle.sqlite.specs.Store.{Ghosts}
 use Rattle.sqlite.specs.declared.error.Error.{Error}
 use Rattle.sqlite.specs.declared.error.Error.TheVariants.{SqliteFailure}
@@ -56,11 +55,17 @@ IsOneOf why (w ∷ whys) = (why ≡ w) ⊎ IsOneOf why whys
 abbrev pub RefusedFor : {A : Type 0} → Result A StoreFault → List Refusal → Type 0
 RefusedFor result whys = IfErr result (λ fault. IfSome (refusal fault) (λ why. IsOneOf why whys))
 
+-- what a call answers, and of where it stopped the fault alone
+abbrev pub with_fault : {A F : Type 0} → (F → StoreFault) → Result A F → Result A StoreFault
+with_fault fault (Ok a) = Ok a
+with_fault fault (Err stop) = Err (fault stop)
+
 -- the answer of a call whose success says this
 abbrev pub reply_of : {A : Type 0} → (A → Reply) → Result A StoreFault → Option Reply
 reply_of says (Ok a) = Some (says a)
 reply_of says (Err fault) = option_map refused (refusal fault)
 
+-- the answer of a call whose success says that it is done
 abbrev pub says_done : Result (Unit {0}) StoreFault → Option Reply
 says_done = reply_of (λ _. done)
 
@@ -94,18 +99,3 @@ module _ {S : Type 0} (g : Ghosts S) (old new : Held S) where
       MatchResult result
       (λ a. Stays × (refuses (archive_of (state g old)) ≡ None) × Says (archive_of (state g old)) a)
       (λ fault. MatchOption (refusal fault) (Rests (state g old) (state g new)) (λ r. Stays × (refuses (archive_of (state g old)) ≡ Some r)))
-
-  -- What E15 of a question means, where no limit is set on the steps of a query: the disk failed or refused once more.
-  abbrev pub FailsByDisk : {A : Type 0} → Result A StoreFault → Type 0
-  FailsByDisk result = HasCleanDisk (state g new) → IsKept (state g old) → (state g old).step_limit ≡ None
-      → IfErr result (λ fault. fault ≡ Store → MoreFaults (state g old).faults (state g new).faults)
-
-  -- the same, or this is so of the archive
-  abbrev pub FailsByDiskOr : {A : Type 0} → Result A StoreFault → (Archive → Type 0) → Type 0
-  FailsByDiskOr result Unread = HasCleanDisk (state g new) → IsKept (state g old) → (state g old).step_limit ≡ None
-      → IfErr result (λ fault. fault ≡ Store → MoreFaults (state g old).faults (state g new).faults ⊎ Unread (archive_of (state g old)))
-
-  -- who is answered, or refused for a reason, asked an open connection
-  abbrev pub WasUp : {A : Type 0} → Result A StoreFault → Type 0
-  WasUp result = HasCleanDisk (state g new)
-      → MatchResult result (λ _. IsTrue (state g old).is_open) (λ fault. MatchOption (refusal fault) ⊤ (λ _. IsTrue (state g old).is_open))

@@ -11,7 +11,8 @@ use Rattle.archive_machine.specs.Machine.{Outcome as Made}
 use Rattle.archive_machine.specs.Runs.{Run, run}
 use Rattle.archive_tables.specs.Tables.{IsKept, archive_of}
 use Rattle.archive_tables.specs.Calls.{Rests, StaysOver}
-use Rattle.archive_store.specs.Words.{rank_of, party_of, added_reply}
+use Rattle.archive_store.specs.Words.{added_reply}
+use Rattle.policy_core.specs.Numbers.{kind_rank, party_number}
 use Rattle.archive_store.specs.Replies.{refusal, Steps}
 use Rattle.archive_store.specs.declared.faults.StoreFault.{StoreFault}
 use Rattle.archive_store.specs.declared.running.Command.{Command}
@@ -21,13 +22,14 @@ use Rattle.archive_store.specs.declared.running.Outcome.TheVariants.{Done, WasTh
 use Rattle.archive_store.specs.declared.running.RunStop.{RunStop}
 use Rattle.archive_store.specs.declared.running.Counted.{Counted}
 
+-- a command of the code, as one of the machine
 abbrev pub command_of : Command → Told
 command_of (ListAdd name) = list_add name.now
 command_of (PersonAdd name token) = person_add name.now token.now
-command_of (Grant person list kind from until) = grant person.now list.now (rank_of kind) from until
-command_of (Revoke person list kind) = revoke person.now list.now (rank_of kind)
+command_of (Grant person list kind from until) = grant person.now list.now (kind_rank kind) from until
+command_of (Revoke person list kind) = revoke person.now list.now (kind_rank kind)
 command_of (Add list item) = add list.now item.now
-command_of (Withdraw list key by) = withdraw list.now key.now (party_of by)
+command_of (Withdraw list key by) = withdraw list.now key.now (party_number by)
 command_of (Restore list key) = restore list.now key.now
 command_of (Embargo list key until) = embargo list.now key.now until
 command_of (Lift list key) = lift list.now key.now
@@ -79,6 +81,8 @@ module _ {S : Type 0} (g : Ghosts S) (old new : Held S) where
       (λ fault. MatchOption (refusal fault) (Rests (state g old) (state g new))
       (λ r. StaysOver None (state g old) (state g new) × (r ≡ no_list) × (has_list (archive_of (state g old)) list ≡ false)))
 
+  -- Commands one after the other: the archive and the answers are those of the machine's `run`; after a stop the archive is that
+  -- of the first `done`.
   abbrev pub Runs : List Told → Result (Vec Outcome Global) RunStop → Type 0
   Runs commands result = HasCleanDisk (state g new) → IsKept (state g old) → MatchResult result
       (λ outcomes. RanAll (state g old) (run (archive_of (state g old)) commands) (state g new) outcomes.items)

@@ -1,15 +1,17 @@
 -- The words in which the layers above speak of a store: they name neither its tables nor its database.
-use Rattle.std.specs.Prelude.{◌≡◌, ◌⊎◌, ◌<◌, ℕ, ⊤, IsTrue, Option, None, Some, Result, IfErr, MatchResult, MatchOption}
+use Rattle.std.specs.Prelude.{◌≡◌, ◌⊎◌, ◌<◌, ℕ, ⊤, IsTrue, List, Option, None, Some, Result, IfErr, OnOk, MatchResult, MatchOption}
 use Rattle.sqlite_disk.specs.Disk.{MoreFaults}
 use Rattle.sqlite.specs.Store.{Ghosts}
 use Rattle.sqlite.specs.Held.{Held, state}
 use Rattle.sqlite.specs.State.{HasCleanDisk}
 use Rattle.archive_machine.specs.Records.{Archive}
+use Rattle.archive_machine.specs.Commands.{Refusal}
 use Rattle.archive_machine.specs.Sound.{IsFiledRight}
 use Rattle.archive_tables.specs.Tables.{IsKept, archive_of}
 use Rattle.archive_tables.specs.Calls.{Lasts as LastsOpen}
 use Rattle.archive_store.specs.Held.{held_of, wants_of}
-use Rattle.archive_store.specs.Wanting.{Raises}
+use Rattle.archive_store.specs.Replies.{refusal, RefusedFor}
+use Rattle.archive_store.specs.Wanting.{IsWant, Raises}
 use Rattle.archive_store.specs.declared.store.Store.{Store}
 use Rattle.archive_store.specs.declared.faults.StoreFault.{StoreFault}
 use Rattle.archive_store.specs.declared.faults.StoreFault.TheVariants as faults
@@ -37,7 +39,7 @@ module _ {S : Type 0} (g : Ghosts S) where
   abbrev pub HoldsTables : Store S → Type 0
   HoldsTables store = IsKept (state g (held_of store))
 
-  -- what it remembers
+  -- the archive that a store remembers
   abbrev pub archive_in : Store S → Archive
   archive_in store = archive_of (state g (held_of store))
 
@@ -47,9 +49,11 @@ module _ {S : Type 0} (g : Ghosts S) where
     pub held : IsKept (state g connection)
     pub filed_right : IsFiledRight (archive_of (state g connection))
 
+  -- the premise on a store
   abbrev pub IsReady : Store S → Type 0
   IsReady store = IsReadyOn (held_of store)
 
+  -- its connection is open
   abbrev pub IsOpen : Store S → Type 0
   IsOpen store = IsTrue (state g (held_of store)).is_open
 
@@ -95,6 +99,39 @@ module _ {S : Type 0} (g : Ghosts S) where
     CausedOr result Unread = HasReturned new → HoldsTables old → HasNoLimit old
         → IfErr result (λ fault. fault ≡ faults.Store → HasFailed ⊎ Unread (archive_in old))
 
+    -- ---- how a call ends, whatever the tables hold and whatever it answers
+
+    -- A command: what it does to the store, that who was answered asked one whose connection was open, for which reasons it may be
+    -- refused, and that want of memory is counted.
+    pub record Ends {A : Type 0} (result : Result A StoreFault) (reasons : List Refusal) : Type 0 where
+      pub lasts : Lasts
+      pub was_open : HasReturned new → OnOk result (IsOpen old)
+      pub kind : RefusedFor result reasons
+      pub counted : Counts IsWant old new result
+
+    -- A question: the same, and what its E15 means, where the tables are an archive's and no limit is set.
+    pub record EndsBy (Cause : Type 0) {A : Type 0} (result : Result A StoreFault) (reasons : List Refusal) : Type 0 where
+      pub lasts : Lasts
+      pub was_open : HasReturned new → OnOk result (IsOpen old)
+      pub kind : RefusedFor result reasons
+      pub counted : Counts IsWant old new result
+      pub caused : HasReturned new → HoldsTables old → HasNoLimit old → IfErr result (λ fault. fault ≡ faults.Store → Cause)
+
+    -- a question whose E15 means that the disk failed in that call
+    abbrev pub EndsAsk : {A : Type 0} → Result A StoreFault → List Refusal → Type 0
+    EndsAsk result reasons = EndsBy HasFailed result reasons
+
+    -- the same, or this is so of the archive, which holds what no command writes
+    abbrev pub EndsAskOr : {A : Type 0} → Result A StoreFault → List Refusal → (Archive → Type 0) → Type 0
+    EndsAskOr result reasons Unread = EndsBy (HasFailed ⊎ Unread (archive_in old)) result reasons
+
+    -- A call that no reason of the archive's refuses, and that may answer without asking the database: memory or the database is at
+    -- fault where it fails.
+    pub record EndsUnrefused {A : Type 0} (result : Result A StoreFault) : Type 0 where
+      pub lasts : Lasts
+      pub fault : IfErr result (λ fault. refusal fault ≡ None)
+      pub counted : Counts IsWant old new result
+
   -- ---- under a premise: `HoldsTables` or `IsReady`
 
   module _ (Premise : Store S → Type 0) (old new : Store S) where
@@ -123,15 +160,19 @@ module _ {S : Type 0} (g : Ghosts S) where
   -- ---- of a store that is ready
 
   module _ (old new : Store S) where
+    -- The store lasts, and where it was ready it is ready, and this holds of the archives that it remembered and remembers.
     abbrev pub Goes : (Archive → Archive → Type 0) → Type 0
     Goes R = GoesIn IsReady old new R
 
+    -- the same, if the connection is still open
     abbrev pub GoesIfOpen : (Archive → Archive → Type 0) → Type 0
     GoesIfOpen R = GoesInIfOpen IsReady old new R
 
+    -- a call to a store that is ready: what its answers, its refusals and its faults say of the two archives
     abbrev pub Calls : {A F R : Type 0} → (F → Option R) → Result A F → (Archive → Archive → A → Type 0) → (Archive → Archive → R → Type 0)
         → (Archive → Archive → F → Type 0) → Type 0
     Calls reason result Says Refuses Stops = CallsIn IsReady old new reason result Says Refuses Stops
 
+    -- a question to a store that is ready, which leaves the archive
     abbrev pub Asks : {A F R : Type 0} → (F → Option R) → Result A F → (Archive → Option R) → (Archive → A → Type 0) → Type 0
     Asks reason result refuses Says = AsksIn IsReady old new reason result refuses Says

@@ -1,5 +1,5 @@
 -- Walks over the messages of a list, one message at a time.
-use Rattle.std.specs.Prelude.{◌≡◌, ◌⊎◌, ◌-◌, ℕ, ℤ, true, bytes_eq, List, [], ◌∷◌, ◌++◌, length, drop, map, pos, Option, Some, None, Result, IfOk, IfErr, MatchResult, MatchOption, Vec}
+use Rattle.std.specs.Prelude.{◌≡◌, ◌⊎◌, ◌-◌, ◌≤◌, ℕ, ℤ, true, bytes_eq, List, [], ◌∷◌, ◌++◌, length, drop, map, pos, Option, Some, None, Result, IfOk, IfErr, MatchResult, MatchOption, Vec, ◌<◌, IfSome}
 use Rattle.std.specs.declared.alloc.Global.{Global}
 use Rattle.std.specs.List.{All, AllByRecursion}
 use Rattle.std.specs.Option.{IsSomeAnd}
@@ -13,8 +13,9 @@ use Rattle.archive_machine.specs.Messages.{remembered}
 use Rattle.archive_machine.specs.declared.messages.Message.{Message}
 use Rattle.archive_tables.specs.Rows.{message_at, places_in, month_places, author_places}
 use Rattle.archive_tables.specs.Tables.{IsKept, archive_of}
-use Rattle.archive_database.specs.Messages.{IsReadable}
-use Rattle.archive_store.specs.Held.{held_of}
+use Rattle.archive_database.specs.Messages.{IsReadable, AreMarksOf}
+use Rattle.archive_store.specs.Held.{held_of, wants_of}
+use Rattle.archive_database.specs.declared.reading.DatedMarks.{DatedMarks}
 use Rattle.archive_store.specs.Replies.{refusal}
 use Rattle.archive_store.specs.Wanting.{IsWant}
 use Rattle.archive_store.specs.Told.{HoldsTables, IsOpen, HasReturned, HasNoLimit, HasFailed, Lasts, Caused, Counts, archive_in, GoesIn, GoesInIfOpen}
@@ -64,12 +65,16 @@ module _ {S : Type 0} (g : Ghosts S) where
   abbrev pub Walks : (list : List ℕ) (a : Archive) (given : List Remembered) (walk : Walk S) → Type 0
   Walks list a given walk = WalksOver list (messages_in a list) a given walk
 
-  -- the store lasts, and where it held an archive's tables, the list is there, and the walk over these of its messages gave nothing yet
-  abbrev pub BeginsOver : Store S → List ℕ → (Archive → List Remembered) → Walk S → Type 0
-  BeginsOver old list which walk = Lasts g old walk.store.now
-      × (HasReturned g walk.store.now → HoldsTables g old
-      → (list_refusal (archive_in g old) list ≡ None) × WalksOver list (which (archive_in g old)) (archive_in g old) [] walk)
+  -- A walk over these of a list's messages begins: what that did to the store, that its connection was open, that no want of memory is
+  -- forgotten, and where it held an archive's tables, the list is there and the walk gave nothing yet.
+  pub record BeginsOver (old : Store S) (list : List ℕ) (which : Archive → List Remembered) (walk : Walk S) : Type 0 where
+    pub lasts : Lasts g old walk.store.now
+    pub was_open : HasReturned g walk.store.now → IsOpen g old
+    pub counted : wants_of old ≤ wants_of walk.store.now
+    pub over : HasReturned g walk.store.now → HoldsTables g old
+        → (list_refusal (archive_in g old) list ≡ None) × WalksOver list (which (archive_in g old)) (archive_in g old) [] walk
 
+  -- a walk over all messages of a list begins
   abbrev pub Begins : Store S → List ℕ → Walk S → Type 0
   Begins old list walk = BeginsOver old list (λ a. messages_in a list) walk
 
@@ -89,12 +94,35 @@ module _ {S : Type 0} (g : Ghosts S) where
       (λ message. ((it : Remembered) × (message_at (rows_of old) place ≡ Some it) × (remembered it.list message ≡ it)) × (now_in new ≡ now_in old) × HoldsTables g new)
       (λ _. IsOpen g new → (now_in new ≡ now_in old) × HoldsTables g new)
 
+  -- the same of its arrival and its marks
+  abbrev pub ShowsMarks : Store S → Store S → ℤ → Result DatedMarks StoreFault → Type 0
+  ShowsMarks old new place result = HasReturned g new → HoldsTables g old → MatchResult result
+      (λ marks. ((it : Remembered) × (message_at (rows_of old) place ≡ Some it) × AreMarksOf marks it) × (now_in new ≡ now_in old) × HoldsTables g new)
+      (λ _. IsOpen g new → (now_in new ≡ now_in old) × HoldsTables g new)
+
   -- One message more is given, or all were given. After a fault the walk is where it was, if the connection is still open.
   abbrev pub GivesNext : Walk S → Walk S → Result (Option Message) StoreFault → Type 0
   GivesNext old new result = HasReturned g new.store.now → (list : List ℕ) (all : List Remembered) (a : Archive) (given : List Remembered)
       → WalksOver list all a given old → MatchResult result
       (λ found. MatchOption found (WalksOver list all a given new × (given ≡ all)) (λ m. WalksOver list all a (given ++ remembered list m ∷ []) new))
       (λ _. IsOpen g new.store.now → WalksOver list all a given new)
+
+  -- The walk is where it was, and these are the arrival and the marks of the message that is next, or all were given. After a fault it
+  -- is where it was, if the connection is still open.
+  pub record ShowsNext (old new : Walk S) (result : Result (Option DatedMarks) StoreFault) : Type 0 where
+    pub given : HasReturned g new.store.now → (list : List ℕ) (all : List Remembered) (a : Archive) (given : List Remembered)
+        → WalksOver list all a given old → MatchResult result
+        (λ found. WalksOver list all a given new × MatchOption found (given ≡ all)
+        (λ marks. (next : Remembered) × (rest : List Remembered) × (given ++ next ∷ rest ≡ all) × AreMarksOf marks next))
+        (λ _. IsOpen g new.store.now → WalksOver list all a given new)
+    pub left : left_of new ≡ left_of old
+    pub ahead : IfOk result (λ found. IfSome found (λ _. 0 < left_of old))
+    pub fault : IfErr result (λ fault. refusal fault ≡ None)
+
+  -- the next message is passed by, as if it were given
+  abbrev pub PassesNext : Walk S → Walk S → Type 0
+  PassesNext old new = (list : List ℕ) (all : List Remembered) (a : Archive) (given : List Remembered) (next : Remembered) (rest : List Remembered)
+      → WalksOver list all a given old → given ++ next ∷ rest ≡ all → WalksOver list all a (given ++ next ∷ []) new
 
   -- All messages that were left are given. A fault leaves the archive, if the connection is still open.
   abbrev pub GivesAll : Walk S → Walk S → Result (Vec Message Global) StoreFault → Type 0

@@ -1,5 +1,5 @@
 -- What a call does to a database whose tables are as this crate leaves them, where the disk has returned what was written to it.
-use Rattle.std.specs.Prelude.{◌≡◌, ◌⊎◌, ◌≤◌, IsTrue, Option, Some, None, Result, IfOk, IfErr, OnOk, OnErr, MatchResult}
+use Rattle.std.specs.Prelude.{◌≡◌, ◌⊎◌, ◌≤◌, IsTrue, Option, Some, None, Result, IfErr, OnOk, MatchResult}
 use Rattle.sqlite_disk.specs.Disk.{MoreFaults}
 use Rattle.sqlite.specs.declared.error.Error.{Error}
 use Rattle.sqlite.specs.declared.error.Error.TheVariants.{SqliteFailure}
@@ -16,6 +16,7 @@ use Rattle.archive_tables.specs.Tables.{IsHeld, IsKept, archive_in, archive_of}
 abbrev pub ChangesOver : Option Database → State → State → (Archive → Archive) → Type 0
 ChangesOver behind old new change = IsHeld behind new × (archive_of new ≡ change (archive_of old))
 
+-- A write outside a transaction: its change of the archive is committed when the call returns.
 abbrev pub Changes : State → State → (Archive → Archive) → Type 0
 Changes = ChangesOver None
 
@@ -36,6 +37,7 @@ abbrev pub RestsOver : Option Database → State → State → Type 0
 RestsOver None old new = IsTrue new.is_open → StaysOver None old new
 RestsOver (Some db) old new = IsTrue new.is_open → StaysOver (Some db) old new ⊎ IsBackAt db new
 
+-- After a fault outside a transaction what is remembered is as it was, unless the fault shut the connection.
 abbrev pub Rests : State → State → Type 0
 Rests = RestsOver None
 
@@ -63,36 +65,12 @@ abbrev pub IsCaused : State → State → Error → Type 0
 IsCaused old new e = (e ≡ SqliteFailure OutOfMemory) ⊎ MoreFaults old.faults new.faults
 
 module _ {S : Type 0} (g : Ghosts S) (old new : Held S) where
-  -- a write that succeeds
-  abbrev pub Writes : {A : Type 0} → Result A Error → (Archive → Archive) → Type 0
-  Writes result change = HasCleanDisk (state g new) → IsKept (state g old) → OnOk result (Changes (state g old) (state g new) change)
-
-  -- the same, of an archive that is as the write needs it
-  abbrev pub WritesWhen : {A : Type 0} → Result A Error → (Archive → Type 0) → (Archive → Archive) → Type 0
-  WritesWhen result Needs change =
-      HasCleanDisk (state g new) → IsKept (state g old) → Needs (archive_of (state g old)) → OnOk result (Changes (state g old) (state g new) change)
-
-  -- a write that fails
-  abbrev pub Refuses : {A : Type 0} → Result A Error → Type 0
-  Refuses result = HasCleanDisk (state g new) → IsKept (state g old) → OnErr result (Rests (state g old) (state g new))
-
-  -- the answer to a question
-  abbrev pub Finds : {A : Type 0} → Result A Error → (Archive → A → Type 0) → Type 0
-  Finds result Says = HasCleanDisk (state g new) → IsKept (state g old) → IfOk result (Says (archive_of (state g old)))
-
-  -- a question leaves the tables
-  abbrev pub Leaves : Type 0
-  Leaves = HasCleanDisk (state g new) → IsKept (state g old) → Rests (state g old) (state g new)
-
-  -- a question that is answered leaves the connection open
-  abbrev pub IsUp : {A : Type 0} → Result A Error → Type 0
-  IsUp result = HasCleanDisk (state g new) → IsKept (state g old) → OnOk result (IsTrue (state g new).is_open)
-
-  -- a write of an archive that is as it needs it, outside a transaction or within one
+  -- A write, outside a transaction or within one: what it makes of an archive that is as it needs it, and that a failed one rests.
   abbrev pub WritesOver : {A : Type 0} → Result A Error → (Archive → Type 0) → (Archive → Archive) → Type 0
   WritesOver result Needs change =
-      HasCleanDisk (state g new) → (behind : Option Database) → IsHeld behind (state g old) → Needs (archive_of (state g old))
-      → MatchResult result (λ _. ChangesOver behind (state g old) (state g new) change) (λ _. RestsOver behind (state g old) (state g new))
+      HasCleanDisk (state g new) → (behind : Option Database) → IsHeld behind (state g old)
+      → MatchResult result (λ _. Needs (archive_of (state g old)) → ChangesOver behind (state g old) (state g new) change)
+      (λ _. RestsOver behind (state g old) (state g new))
 
   -- a question, outside a transaction or within one
   abbrev pub AsksOver : {A : Type 0} → Result A Error → (Archive → A → Type 0) → Type 0
@@ -102,27 +80,43 @@ module _ {S : Type 0} (g : Ghosts S) (old new : Held S) where
       (λ _. RestsOver behind (state g old) (state g new))
 
   -- A question on the rows themselves, which it leaves: what it says of them holds until the next write.
-  abbrev pub AsksRows : {A : Type 0} → Result A Error → (Trees → A → Type 0) → Type 0
-  AsksRows result Says =
+  abbrev pub AsksRowsOver : {A : Type 0} → Result A Error → (Trees → A → Type 0) → Type 0
+  AsksRowsOver result Says =
       HasCleanDisk (state g new) → (behind : Option Database) → IsHeld behind (state g old)
       → MatchResult result (λ a. Says (state g old).now.trees a × ((state g new).now ≡ (state g old).now) × IsHeld behind (state g new))
       (λ _. RowsRest behind (state g old) (state g new))
-
-  -- a disk that has returned what was written so far had done so before
-  abbrev pub WasClean : Type 0
-  WasClean = HasCleanDisk (state g new) → HasCleanDisk (state g old)
 
   -- a connection that is shut answers nothing
   abbrev pub AnswersOpen : {A E : Type 0} → Result A E → Type 0
   AnswersOpen result = HasCleanDisk (state g new) → OnOk result (IsTrue (state g old).is_open)
 
-  -- Where the connection has no limit on the steps of a query, a question fails for want of memory or by a fault of the disk, and
-  -- for nothing else.
-  abbrev pub FailsByFault : {A : Type 0} → Result A Error → Type 0
-  FailsByFault result =
-      HasCleanDisk (state g new) → IsKept (state g old) → (state g old).step_limit ≡ None → IfErr result (IsCaused (state g old) (state g new))
-
-  -- the same of a question that reads a row, or there is such a row, which cannot be read
+  -- Where the connection has no limit on the steps of a query, a question fails for want of memory or by a fault of the disk, or
+  -- there is a row that cannot be read, and for nothing else.
   abbrev pub FailsByFaultOr : {A : Type 0} → Result A Error → Type 0 → Type 0
   FailsByFaultOr result Unread =
       HasCleanDisk (state g new) → IsKept (state g old) → (state g old).step_limit ≡ None → IfErr result (λ e. IsCaused (state g old) (state g new) e ⊎ Unread)
+
+  -- ---- clauses of a whole call
+
+  -- How a call ends, whatever the tables are and whatever it answers: what it does to the connection, and that one that is shut
+  -- answers nothing.
+  pub record Ends {A E : Type 0} (result : Result A E) : Type 0 where
+    pub lasts : Lasts (state g old) (state g new)
+    pub was_open : AnswersOpen result
+
+  -- A question on the tables, outside a transaction or within one: what it says of them and leaves, why it fails, and how it ends.
+  pub record Asks {A : Type 0} (result : Result A Error) (Says : Archive → A → Type 0) (Unread : Type 0) : Type 0 where
+    pub over : AsksOver result Says
+    pub caused : FailsByFaultOr result Unread
+    pub ends : Ends result
+
+  -- A question on the rows themselves.
+  pub record AsksRows {A : Type 0} (result : Result A Error) (Says : Trees → A → Type 0) (Unread : Type 0) : Type 0 where
+    pub over : AsksRowsOver result Says
+    pub caused : FailsByFaultOr result Unread
+    pub ends : Ends result
+
+  -- A write on tables that are as it needs them, outside a transaction or within one: what it makes of them, and how it ends.
+  pub record Writes {A : Type 0} (result : Result A Error) (Needs : Archive → Type 0) (change : Archive → Archive) : Type 0 where
+    pub over : WritesOver result Needs change
+    pub ends : Ends result

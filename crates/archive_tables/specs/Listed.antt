@@ -26,11 +26,13 @@ abbrev pub rows_by_list : List (Numbered Filed) → List (Numbered Filed)
 rows_by_list [] = []
 rows_by_list (r ∷ rows) = with_listed_row r (rows_by_list rows)
 
+-- the rowids of all messages, lists in the byte order of their names, each list in mailbox order
 abbrev pub all_places : Trees → List ℤ
 all_places trees = map (λ (r : Numbered Filed). r.number) (rows_by_list (numbered_filed trees))
 
 -- ---- the message of a number, with what is filed of it
 
+-- the message whose row has this rowid, with what is filed of it
 abbrev pub filed_at : Trees → ℤ → Option Filed
 filed_at trees place = option_map (λ (r : Numbered Filed). r.it) (find (λ (r : Numbered Filed). int_eq r.number place) (numbered_filed trees))
 

@@ -10,9 +10,11 @@ use Rattle.sqlite.specs.Store.{Ghosts}
 use Rattle.sqlite.specs.Table.{Table}
 use Rattle.archive_machine.specs.Records.{Archive}
 use Rattle.archive_tables.specs.Schema.{archive_schema}
+use Rattle.archive_tables.specs.Calls.{Lasts, AnswersOpen}
 use Rattle.archive_tables.specs.Tables.{AreTablesWith, newest_number, archive_by}
 use Rattle.archive_tables.specs.declared.texts.schema.TheConstants.{VERSION}
 
+-- what new tables remember: no list, no person, no message
 abbrev pub empty_archive : Archive
 empty_archive = record { lists = []; persons = []; grants = []; messages = []; filings = []; options = []; addresses = [] }
 
@@ -48,6 +50,12 @@ IsMade s before archive = IsMoving s before archive_schema VERSION newest_number
 abbrev pub Stops : {S A : Type 0} → Ghosts S → Held S → Held S → Result A Error → Type 0
 Stops g old new result = HasCleanDisk (state g new) → OnErr result (IsUnchanged (state g old) (state g new) ⊎ IsRolledBack (state g old) (state g new))
 
+-- How a step of the making or the moving of tables ends: as each call does, and where it fails as is said above.
+pub record EndsStep {S A : Type 0} (g : Ghosts S) (old new : Held S) (result : Result A Error) : Type 0 where
+  pub lasts : Lasts (state g old) (state g new)
+  pub was_open : AnswersOpen g old new result
+  pub stopped : Stops g old new result
+
 -- what is committed is what was there before, if the connection is still open
 abbrev pub IsUndone : State → Database → Type 0
 IsUndone s before = IsTrue s.is_open → s.committed ≡ before
@@ -75,12 +83,7 @@ IsBackTo s before = IsTrue s.is_open → (s.now ≡ before) × (s.committed ≡ 
 abbrev pub IsStopped : State → Database → Type 0
 IsStopped s before = IsTrue s.is_open → (s.committed ≡ before) × ((s.in_transaction ≡ true) ⊎ ((s.now ≡ before) × (s.in_transaction ≡ false)))
 
--- where the making of tables over this schema fails, what is committed is what was there before, if the connection is still open
-abbrev pub UndoesFrom : {S A : Type 0} → Ghosts S → Held S → Held S → Result A Error → Schema → Type 0
-UndoesFrom g old new result from =
-    HasCleanDisk (state g new) → (before : Database) → IsMaking (state g old) from before → OnErr result (IsUndone (state g new) before)
-
--- and the transaction goes on, or it is over and goes back
+-- where the making of tables over this schema fails, the transaction goes on, or it is over and goes back
 abbrev pub StopsFrom : {S A : Type 0} → Ghosts S → Held S → Held S → Result A Error → Schema → Type 0
 StopsFrom g old new result from =
     HasCleanDisk (state g new) → (before : Database) → IsMaking (state g old) from before → OnErr result (IsStopped (state g new) before)

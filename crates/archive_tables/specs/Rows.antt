@@ -12,6 +12,7 @@ use Rattle.archive_machine.specs.Filing.{Filed, is_filed_in_month, is_filed_by_a
 use Rattle.archive_tables.specs.Tables.{or_null, merge_number, Numbered, read_of, filed_read}
 use Rattle.archive_tables.specs.declared.rows.MessageRow.{MessageRow}
 use Rattle.archive_tables.specs.declared.rows.MarksRow.{MarksRow}
+use Rattle.archive_tables.specs.declared.rows.DatedMarksRow.{DatedMarksRow}
 use Rattle.archive_tables.specs.declared.rows.GrantRow.{GrantRow}
 
 -- a message as it comes in: not withdrawn, and under no embargo
@@ -22,6 +23,7 @@ new_message list key sender arrival text = record { list = list; key = key; send
 abbrev pub versions_shown : Trees → List Row
 versions_shown trees = map (λ row. column row 1 ∷ []) (trees 0)
 
+-- a row of one column: the name of a list or of a person
 abbrev pub name_shown : List ℕ → Row
 name_shown name = Text name ∷ []
 
@@ -29,6 +31,7 @@ name_shown name = Text name ∷ []
 abbrev pub message_shown : Message → Row
 message_shown m = Text m.key ∷ Blob m.sender ∷ Int m.arrival ∷ Blob m.text ∷ Int m.withdrawn ∷ or_null m.embargo ∷ []
 
+-- the message that a row says; its list is the one that the query asked for, and has no column
 abbrev pub message_in : List ℕ → MessageRow → Message
 message_in list r = record {
   list = list;
@@ -44,8 +47,17 @@ message_in list r = record {
 abbrev pub marks_shown : Message → Row
 marks_shown m = Int m.withdrawn ∷ or_null m.embargo ∷ []
 
+-- the two marks of a message as they are read: who withdrew it (0 nobody, 1 its author, 2 the board), and the embargo's day
 abbrev pub marks_of : Message → MarksRow
 marks_of m = record { withdrawn = m.withdrawn; embargo = m.embargo }
+
+-- when a message came, and its two marks
+abbrev pub dated_marks_shown : Message → Row
+dated_marks_shown m = Int m.arrival ∷ Int m.withdrawn ∷ or_null m.embargo ∷ []
+
+-- the same as they are read: the arrival in seconds, who withdrew it (0 nobody, 1 its author, 2 the board), and the embargo's day
+abbrev pub dated_marks_of : Message → DatedMarksRow
+dated_marks_of m = record { arrival = m.arrival; withdrawn = m.withdrawn; embargo = m.embargo }
 
 -- what is said of the threads of a list
 abbrev pub merge_shown : ListOption → Row
@@ -55,11 +67,13 @@ merge_shown o = Int (merge_number o.merge) ∷ []
 abbrev pub grant_shown : Grant → Row
 grant_shown g = Int g.rank ∷ Int g.from_day ∷ Int g.until_day ∷ []
 
+-- the grant that a row says; its person and list are those that the query asked for, and have no columns
 abbrev pub grant_in : List ℕ → List ℕ → GrantRow → Grant
 grant_in person list r = record { person = person; list = list; rank = r.rank; from_day = r.from_day; until_day = r.until_day }
 
 -- ---- why a row is not read
 
+-- SQLite's SQLITE_NOMEM: the one fault for which no row is to blame
 abbrev pub no_memory : Error
 no_memory = SqliteFailure OutOfMemory
 
@@ -80,6 +94,7 @@ places_in trees list = map (λ (r : Numbered Filed). r.number) (filter (λ (r : 
 abbrev pub message_at : Trees → ℤ → Option Message
 message_at trees place = option_map (λ (r : Numbered Filed). r.it.0) (find (λ (r : Numbered Filed). int_eq r.number place) (numbered_filed trees))
 
+-- a row of one column: the rowid of a message, its column `pos`
 abbrev pub place_shown : ℤ → Row
 place_shown place = Int place ∷ []
 
@@ -102,8 +117,11 @@ rows_by_date (r ∷ rows) = with_row r (rows_by_date rows)
 abbrev pub places_where : (Filed → Bool) → Trees → List ℤ
 places_where wanted trees = map (λ (r : Numbered Filed). r.number) (rows_by_date (filter (λ (r : Numbered Filed). wanted r.it) (numbered_filed trees)))
 
+-- the rowids of a list's messages that were sent in a month (year times 12 plus month less 1, in UTC), by sent date and then in
+-- mailbox order
 abbrev pub month_places : Trees → (list : List ℕ) → (month : ℤ) → List ℤ
 month_places trees list month = places_where (is_filed_in_month list month) trees
 
+-- the rowids of a list's messages of an author key, by sent date and then in mailbox order
 abbrev pub author_places : Trees → (list key : List ℕ) → List ℤ
 author_places trees list key = places_where (is_filed_by_author list key) trees

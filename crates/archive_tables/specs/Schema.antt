@@ -167,9 +167,12 @@ address_table = record (table (codes "address") 15 (needed (codes "person") Text
 -- ---- the schema of each version: a table more behind those of the one before, so that a file that is brought over has the schema
 -- of one that is new
 
+-- the schema of a new file, in which nothing was made (SQLite's file format, section 2.6)
 abbrev pub no_schema : Schema
 no_schema = record { tables = []; indexes = []; views = [] }
 
+-- Version 1: lists, persons, grants and messages, found by month and by author key; with them SQLite's own `sqlite_sequence` and
+-- `sqlite_autoindex` objects (SQLite's file format, section 2.6).
 abbrev pub schema_1 : Schema
 schema_1 = record {
   tables = version_table ∷ list_table ∷ person_table ∷ grant_table ∷ message_table ∷ sequence_table ∷ [];
@@ -180,6 +183,7 @@ schema_1 = record {
   views = [];
 }
 
+-- version 2, with an option for each list: whether its threads are gathered by subject (RFC 5256, THREAD=REFERENCES, step 5)
 abbrev pub schema_2 : Schema
 schema_2 = created schema_1 option_table
 
@@ -196,20 +200,27 @@ schema_of number = if number == 1 then schema_1 else if number == 2 then schema_
 
 -- ---- what is there after each of the texts, up to the last of version 1
 
+-- `version` comes first: its one row says which version the tables are of
 abbrev pub with_version : Schema
 with_version = created no_schema version_table
 
+-- then `list`: the names of the mailing lists, no name twice
 abbrev pub with_list : Schema
 with_list = created with_version list_table
 
+-- then `person`: names and bearer tokens, neither of them twice
 abbrev pub with_person : Schema
 with_person = created with_list person_table
 
+-- then `grant_row`: grants refer to persons and lists, and a person has one of a kind on a list
 abbrev pub with_grant : Schema
 with_grant = created with_person grant_table
 
+-- then `message`, and `sqlite_sequence` (SQLite's file format, section 2.6), which AUTOINCREMENT brings so that no rowid is given
+-- twice
 abbrev pub with_message : Schema
 with_message = created (created with_grant message_table) sequence_table
 
+-- then the index of messages by list, month and sent date; of version 1 only the index by author key is missing
 abbrev pub with_month_index : Schema
 with_month_index = indexed with_message message_table month_index

@@ -151,6 +151,7 @@ IsOfVersion number trees = (row : Row) × (trees 0 ≡ row ∷ []) × (column ro
 abbrev pub newest_number : ℕ
 newest_number = 3
 
+-- a version that this program reads: the first to the newest
 pub record IsKnown (number : ℕ) : Type 0 where
   pub least : 1 ≤ number
   pub most : number ≤ newest_number
@@ -183,6 +184,7 @@ pub record AreTablesWith (said : ℤ) (number : ℕ) (trees : Trees) : Type 0 wh
 abbrev pub AreTablesOf : ℕ → Trees → Type 0
 AreTablesOf number = AreTablesWith (pos number) number
 
+-- these are rows of the newest version: records under rising rowids, no grant, message, option or address twice
 abbrev pub AreTables : Trees → Type 0
 AreTables = AreTablesOf newest_number
 
@@ -199,9 +201,11 @@ archive_by number trees = record {
   addresses = if nat_le 3 number then map address_read (trees 15) else [];
 }
 
+-- the archive that rows of the newest version stand for
 abbrev pub archive_in : Trees → Archive
 archive_in = archive_by newest_number
 
+-- the archive that the connection sees: within a transaction, with what is not committed yet
 abbrev pub archive_of : State → Archive
 archive_of s = archive_in s.now.trees
 
@@ -213,6 +217,7 @@ pub record Form : Type 1 where
   pub IsOf : Trees → Type 0
   pub remembered : Trees → Archive
 
+-- a file of this version: its schema, its rows, and the archive that they stand for
 abbrev pub form_of : (number : ℕ) → Form
 form_of number = record { schema = schema_of number; IsOf = AreTablesOf number; remembered = archive_by number }
 
@@ -246,6 +251,7 @@ pub record IsHeldAs (form : Form) (behind : Option Database) (s : State) : Type 
   pub tables : form.IsOf s.now.trees
   pub whole : IsArchiveAs form behind
 
+-- The premise on a call, in a transaction or not: the newest version, open, and a rollback would leave an archive too.
 abbrev pub IsHeld : Option Database → State → Type 0
 IsHeld = IsHeldAs newest
 
@@ -260,5 +266,6 @@ pub record HasForm (form : Form) (s : State) : Type 0 where
   pub settled : s.committed ≡ s.now
   pub schema : s.now.schema ≡ form.schema
 
+-- an open file of the newest version's schema, outside a transaction; its rows may be damaged
 abbrev pub IsOfArchive : State → Type 0
 IsOfArchive = HasForm newest

@@ -11,10 +11,10 @@ use Rattle.civil_time.specs.Calendar.{day_of_text}
 use Rattle.policy_core.specs.declared.access.Standing.{Standing}
 use Rattle.policy_core.specs.declared.access.Standing.TheVariants.{Public}
 use Rattle.policy_core.specs.Written.{standing_named}
-use Rattle.archive_words.specs.declared.commands.GrantKind.{GrantKind}
-use Rattle.archive_words.specs.declared.commands.GrantKind.TheVariants.{Member, Subscriber, Moderator}
-use Rattle.archive_words.specs.declared.commands.WithdrawnBy.{WithdrawnBy}
-use Rattle.archive_words.specs.declared.commands.WithdrawnBy.TheVariants.{Author, Board}
+use Rattle.policy_core.specs.declared.access.Kind.{Kind}
+use Rattle.policy_core.specs.declared.access.Kind.TheVariants.{Member, Subscriber, Moderator}
+use Rattle.policy_core.specs.declared.access.Party.{Party}
+use Rattle.policy_core.specs.declared.access.Party.TheVariants.{Author, Board}
 use Rattle.archive_words.specs.declared.orders.Order.{Order}
 use Rattle.archive_words.specs.declared.orders.Order.TheVariants.{Sift, Table, Import, Get, Export, Check, Serve}
 use Rattle.archive_words.specs.declared.orders.OrderStop.{OrderStop}
@@ -46,14 +46,14 @@ port_of_text = number_up_to 65535
 abbrev pub count_of_text : List ℕ → Option ℕ
 count_of_text = number_up_to 1000000
 
-abbrev pub kind_named : List ℕ → Option GrantKind
+abbrev pub kind_named : List ℕ → Option Kind
 kind_named word =
     if bytes_eq word (codes "member") then Some Member
     else if bytes_eq word (codes "subscriber") then Some Subscriber
     else if bytes_eq word (codes "moderator") then Some Moderator
     else None
 
-abbrev pub party_named : List ℕ → Option WithdrawnBy
+abbrev pub party_named : List ℕ → Option Party
 party_named word =
     if bytes_eq word (codes "author") then Some Author
     else if bytes_eq word (codes "board") then Some Board

@@ -1,8 +1,8 @@
 -- The values of an order.
 use Rattle.std.specs.Prelude.{ℕ, ℤ, List, Bool, Option}
 use Rattle.policy_core.specs.declared.access.Standing.{Standing}
-use Rattle.archive_words.specs.declared.commands.GrantKind.{GrantKind}
-use Rattle.archive_words.specs.declared.commands.WithdrawnBy.{WithdrawnBy}
+use Rattle.policy_core.specs.declared.access.Kind.{Kind}
+use Rattle.policy_core.specs.declared.access.Party.{Party}
 use Rattle.archive_words.specs.declared.commands.TableCommand.{TableCommand as Words}
 use Rattle.archive_words.specs.declared.commands.TableCommand.TheVariants.{ListAdd, Merge, PersonAdd, PersonAddress, Grant, Revoke, Withdraw, Restore, Embargo, Lift}
 
@@ -21,9 +21,9 @@ pub data TableCommand : Type 0 where
   merge : (list : List ℕ) (merged : Bool) → TableCommand
   person_add : (name token : List ℕ) → TableCommand
   person_address : (person address : List ℕ) → TableCommand
-  grant : (person list : List ℕ) (kind : GrantKind) (from until : ℤ) → TableCommand
-  revoke : (person list : List ℕ) (kind : GrantKind) → TableCommand
-  withdraw : (list key : List ℕ) (by : WithdrawnBy) → TableCommand
+  grant : (person list : List ℕ) (kind : Kind) (from until : ℤ) → TableCommand
+  revoke : (person list : List ℕ) (kind : Kind) → TableCommand
+  withdraw : (list key : List ℕ) (by : Party) → TableCommand
   restore : (list key : List ℕ) → TableCommand
   embargo : (list key : List ℕ) (until : ℤ) → TableCommand
   lift : (list key : List ℕ) → TableCommand

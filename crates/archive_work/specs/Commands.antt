@@ -4,24 +4,10 @@ use Rattle.archive_machine.specs.Records.{Archive}
 use Rattle.archive_machine.specs.Commands as machine
 use Rattle.archive_machine.specs.Keys.{is_key}
 use Rattle.archive_machine.specs.Machine.{Outcome, refuse, step}
+use Rattle.policy_core.specs.Numbers.{kind_rank, party_number}
 use Rattle.archive_words.specs.Values.{TableCommand, list_add, merge, person_add, person_address, grant, revoke, withdraw, restore, embargo, lift}
-use Rattle.archive_words.specs.declared.commands.GrantKind.{GrantKind}
-use Rattle.archive_words.specs.declared.commands.GrantKind.TheVariants.{Member, Subscriber, Moderator}
-use Rattle.archive_words.specs.declared.commands.WithdrawnBy.{WithdrawnBy}
-use Rattle.archive_words.specs.declared.commands.WithdrawnBy.TheVariants.{Author, Board}
 use Rattle.archive_work.specs.declared.commands.Answer.{Answer}
 use Rattle.archive_work.specs.declared.commands.Answer.TheVariants.{Added, Merging, AddressSet, Granted, Revoked, NoGrant, Withdrawn, Restored, Embargoed, Lifted, NoEmbargo}
-
--- ---- the numbers of words
-
-abbrev pub rank_named : GrantKind → ℤ
-rank_named Member = pos 1
-rank_named Subscriber = pos 2
-rank_named Moderator = pos 3
-
-abbrev pub party_named : WithdrawnBy → ℤ
-party_named Author = pos 1
-party_named Board = pos 2
 
 -- ---- the step
 
@@ -35,9 +21,9 @@ stepped archive (list_add name) = step archive (machine.list_add name)
 stepped archive (merge list merged) = step archive (machine.merge_set list merged)
 stepped archive (person_add name token) = step archive (machine.person_add name token)
 stepped archive (person_address person address) = step archive (machine.address_set person address)
-stepped archive (grant person list kind from until) = step archive (machine.grant person list (rank_named kind) from until)
-stepped archive (revoke person list kind) = step archive (machine.revoke person list (rank_named kind))
-stepped archive (withdraw list key by) = keyed archive key (machine.withdraw list key (party_named by))
+stepped archive (grant person list kind from until) = step archive (machine.grant person list (kind_rank kind) from until)
+stepped archive (revoke person list kind) = step archive (machine.revoke person list (kind_rank kind))
+stepped archive (withdraw list key by) = keyed archive key (machine.withdraw list key (party_number by))
 stepped archive (restore list key) = keyed archive key (machine.restore list key)
 stepped archive (embargo list key until) = keyed archive key (machine.embargo list key until)
 stepped archive (lift list key) = keyed archive key (machine.lift list key)

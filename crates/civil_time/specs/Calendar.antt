@@ -49,6 +49,7 @@ abbrev pub is_date : ℕ → ℕ → ℕ → Bool
 is_date y m d =
     nat_le y last_of_four_digits && (nat_le 1 m && nat_le m 12) && (nat_le 1 d && nat_le d (month_days y m))
 
+-- days from 1970-01-01 to a date in the years 0 to 9999; None where the calendar lacks it, as 30 February (RFC 3339 section 5.7)
 abbrev pub day_number_of : ℕ → ℕ → ℕ → Option ℤ
 day_number_of y m d = if is_date y m d then Some (day_number y m d) else None
 
@@ -59,6 +60,7 @@ first_day = neg_ℤ (pos 25_567)
 abbrev pub last_day : ℤ
 last_day = pos 2_932_531
 
+-- Profile: a day number (days since 1970-01-01) that the archive can hold, 1900-01-01 to 9998-12-31
 abbrev pub is_day : ℤ → Bool
 is_day z = int_le first_day z && int_le z last_day
 
@@ -89,9 +91,11 @@ first_instant = neg_ℤ (pos 2_208_988_800)
 abbrev pub last_instant : ℤ
 last_instant = pos 253_370_764_799
 
+-- Profile: an instant that the archive can hold, in seconds since 1970-01-01 00:00:00 UTC, of the years 1900 to 9998
 abbrev pub is_instant : ℤ → Bool
 is_instant z = int_le first_instant z && int_le z last_instant
 
+-- the instant so many seconds from 1970-01-01 00:00:00 UTC; None outside the archive's years, 1900 to 9998 (Profile)
 abbrev pub instant_at : ℤ → Option ℤ
 instant_at z = if is_instant z then Some z else None
 
@@ -109,6 +113,7 @@ first_month = 22_800
 abbrev pub last_month : ℕ
 last_month = 119_987
 
+-- Profile: a month number (year times 12 plus month minus 1) that the archive can hold, January 1900 to December 9998
 abbrev pub is_month : ℕ → Bool
 is_month i = nat_le first_month i && nat_le i last_month
 
@@ -129,6 +134,7 @@ last_begun (suc i) z = if int_le (month_start (suc i)) z then suc i else last_be
 unfoldable pub month_of_day : ℤ → ℕ
 month_of_day z = last_begun last_month z
 
+-- the number of the month, year times 12 plus month minus 1, in which an instant of the archive lies, in UTC
 abbrev pub month_of_instant : ℤ → ℕ
 month_of_instant z = month_of_day (day_of_instant z)
 

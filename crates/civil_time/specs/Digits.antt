@@ -17,6 +17,7 @@ four_digits a b c d =
     if (is_digit a && is_digit b) && (is_digit c && is_digit d)
     then Some (1000 * (a - 48) + 100 * (b - 48) + 10 * (c - 48) + (d - 48)) else None
 
+-- the value of one ASCII digit, 0 to 9; None for any other byte
 abbrev pub one_digit : ℕ → Option ℕ
 one_digit a = if is_digit a then Some (a - 48) else None
 
@@ -38,6 +39,7 @@ just_four _ = None
 
 -- ---- written
 
+-- a number below 100 in two ASCII digits, with a leading 0 below 10 (`2DIGIT` in RFC 3339 section 5.6)
 abbrev pub as_two_digits : ℕ → List ℕ
 as_two_digits n = (48 + n / 10) ∷ (48 + n % 10) ∷ []
 

@@ -35,8 +35,10 @@ is_weekday name = list_any (is_name name) weekdays
 abbrev pub name_at : ℕ → List ℕ → List ℕ
 name_at n names = take 3 (drop (3 * n) names)
 
+-- each `day-name` of RFC 5322 section 3.3, from Monday on, as it is written: three bytes each, nothing between them
 abbrev pub weekday_names : List ℕ
 weekday_names = codes "MonTueWedThuFriSatSun"
 
+-- each `month` of RFC 5322 section 3.3, from January on, as it is written: three bytes each, nothing between them
 abbrev pub month_names : List ℕ
 month_names = codes "JanFebMarAprMayJunJulAugSepOctNovDec"

@@ -44,5 +44,7 @@ abbrev pub number_zone : List ℕ → Option ℤ
 number_zone [] = None
 number_zone (sign ∷ ds) = signed_zone sign ds
 
+-- a zone in seconds east of UTC: `+hhmm` or `-hhmm` (RFC 5322 section 3.3), or letters (section 4.3), which mean UTC
+-- unless they name one of the eight North American zones; None for anything else
 abbrev pub zone_of : List ℕ → Option ℤ
 zone_of text = elim (number_zone text) [ Some z ↦ Some z | None ↦ named_zone text ]

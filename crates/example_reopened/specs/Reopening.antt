@@ -63,6 +63,7 @@ module _ {D : Type 0} {g : Ghosts D} where
         × (HasReturned over_files again → IsReady over_files store → IsOpen over_files again
         → IsReady over_files again × R (archive_in over_files store) (archive_in over_files again))
 
+    -- the other one remembers the same archive
     abbrev pub RemembersTheSame : Type 0
     RemembersTheSame = Continues (λ a b. b ≡ a)
 

@@ -34,6 +34,7 @@ trim_end (b ∷ bs) = elim (trim_end bs) [
   | c ∷ cs ↦ b ∷ c ∷ cs
 ]
 
+-- the text between its leading and its trailing WSP (RFC 5234: space or tab); empty where it is WSP alone
 abbrev pub trimmed : List ℕ → List ℕ
 trimmed text = trim_end (skip_blanks text)
 
@@ -41,6 +42,7 @@ trimmed text = trim_end (skip_blanks text)
 abbrev pub author_in : List ℕ → List ℕ
 author_in body = map to_ascii_lowercase (trimmed (address_in body))
 
+-- the author key by a From body that may still be folded; Profile: without a From field the key is empty
 abbrev pub key_of_body : Option (List ℕ) → List ℕ
 key_of_body (Some body) = author_in (unfolded body)
 key_of_body None = []

@@ -59,6 +59,8 @@ field_in text =
 unfoldable pub header_blocks : List ℕ → List (List ℕ)
 header_blocks text = blocks (header_lines (lines text))
 
+-- The header fields of a message's text, from the top, bodies still folded (RFC 5322 section 2.2).
+-- Profile: a block that is no field is passed over, and the fields behind it count.
 unfoldable pub fields_of : List ℕ → List Entry
 fields_of text = filter_map (λ block. field_in (content block)) (header_blocks text)
 
@@ -79,6 +81,7 @@ abbrev pub is_fold : List ℕ → Bool
 is_fold [] = false
 is_fold (b ∷ bs) = folds (b ∷ bs) || ((b == cr) && folds bs)
 
+-- a body in its unfolded form: the line ends that fold it go, and the space or tab behind each stays (RFC 5322 section 2.2.3)
 unfoldable pub unfolded : List ℕ → List ℕ
 unfolded [] = []
 unfolded (b ∷ bs) = if is_fold (b ∷ bs) then unfolded bs else b ∷ unfolded bs

@@ -59,6 +59,7 @@ references_in header = or_alone (ids_in_field header.references) (first_of (ids_
 abbrev pub sent_date_in : Header → ℤ → ℤ
 sent_date_in header arrival = sent_of (or_empty header.date) arrival
 
+-- the unfolded body of the Subject field (RFC 5322 section 3.6.5), spaces and tabs at its ends included; empty without the field
 abbrev pub unfolded_subject_in : Header → List ℕ
 unfolded_subject_in header = unfolded (or_empty header.subject)
 
@@ -73,6 +74,7 @@ own_id_of text = own_id_in (header_of text)
 abbrev pub references_of : List ℕ → List Id
 references_of text = references_in (header_of text)
 
+-- the sent date of a message (RFC 5256 section 2.2), in seconds since 1970-01-01 00:00:00 UTC; the second argument is its arrival
 abbrev pub sent_date_of : List ℕ → ℤ → ℤ
 sent_date_of text arrival = sent_date_in (header_of text) arrival
 

@@ -117,5 +117,7 @@ ids_from (suc k) (b ∷ bs) = ids_from k bs
 ids_from zero (b ∷ bs) =
     let next = next_piece b bs in add_identity next.0 (ids_from (length bs - length next.1) bs)
 
+-- The identities of all msg-ids in an unfolded body, in order and with repeats (RFC 5322 section 3.6.4).
+-- What stands in a comment or in a quoted string is no msg-id.
 abbrev pub ids_of : List ℕ → List Id
 ids_of text = ids_from 0 text

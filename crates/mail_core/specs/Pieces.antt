@@ -4,6 +4,8 @@ use Rattle.mail_core.specs.Comments.{IsComment}
 use Rattle.mail_core.specs.Quotes.{IsClosedQuote}
 use Rattle.mail_core.specs.MsgIds.{Id, IsMsgId}
 
+-- a stretch of a body: a comment (RFC 5322 section 3.2.2), a quoted string (section 3.2.4), a msg-id with the identity
+-- that it stands for (section 3.6.4), or one byte that begins none of these
 pub data Piece : Type 0 where
   comment : List ℕ → Piece
   quoted_string : List ℕ → Piece

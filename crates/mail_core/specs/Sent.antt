@@ -98,5 +98,7 @@ sent_at ts arrival = elim (date_at (without_weekday ts)) [
   | Some date ↦ unwrap_or (instant_at ((date.0 *ℤ pos 86_400) +ℤ seconds_of date.1)) arrival
 ]
 
+-- the sent date (RFC 5256 section 2.2) by a Date body and the arrival, both in seconds since 1970-01-01 00:00:00 UTC: a zone
+-- that is not valid counts as UTC, a time as 00:00:00 UTC, and for a date that is not valid the arrival stands
 abbrev pub sent_of : List ℕ → ℤ → ℤ
 sent_of body arrival = sent_at (tokens_of body) arrival

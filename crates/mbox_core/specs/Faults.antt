@@ -1,6 +1,6 @@
 -- Why `cut` refuses bytes.
 use Rattle.std.specs.Prelude.{ℕ, List}
-use Rattle.mbox_core.specs.Division.{IsPreamble}
+use Rattle.mbox_items.specs.Division.{IsPreamble}
 use Rattle.mbox_core.specs.declared.faults.MboxFault.{MboxFault}
 use Rattle.mbox_core.specs.declared.faults.MboxFault.TheVariants.{Preamble, Read, Memory, Failed}
 

@@ -4,8 +4,8 @@ use Rattle.mbox_core.specs.Division.{Item, Divides, IsPreamble}
 use Rattle.mbox_stream.specs.Stream.{IsBeginning, settled_items, IsSettledPreamble, IsCounted}
 use Rattle.mbox_core.specs.declared.faults.MboxFault.{MboxFault}
 use Rattle.mbox_core.specs.declared.faults.MboxFault.TheVariants.{Preamble, Read, Memory, Failed}
-use Rattle.mbox_stream.specs.declared.cutter.Standing.{Standing}
-use Rattle.mbox_stream.specs.declared.cutter.Standing.TheVariants.{Open, Stopped, Short, Finished}
+use Rattle.mbox_stream.specs.declared.cutter.Phase.{Phase}
+use Rattle.mbox_stream.specs.declared.cutter.Phase.TheVariants.{Open, Stopped, Short, Finished}
 
 pub record CutterState : Type 0 where
   -- the bytes fed and read, in order, but for calls that answered M4
@@ -13,7 +13,7 @@ pub record CutterState : Type 0 where
   -- the items taken, and those that wait, in the order of the stream
   pub taken : List Item
   pub waiting : List Item
-  pub standing : Standing
+  pub phase : Phase
 
 -- what was given so far, taken or not
 abbrev pub given : CutterState → List Item
@@ -21,7 +21,7 @@ given c = c.taken ++ c.waiting
 
 -- The items are the settled ones, and no faulty line is; after M1 and M2 the settled ones; after M3 a beginning of them; and
 -- after the end those of the stream.
-abbrev pub IsGiven : Standing → List ℕ → List Item → Type 0
+abbrev pub IsGiven : Phase → List ℕ → List Item → Type 0
 IsGiven Open stream items = (items ≡ settled_items stream) × ((offset : ℕ) → ¬ IsSettledPreamble stream offset)
 IsGiven Stopped stream items = items ≡ settled_items stream
 IsGiven Short stream items = IsBeginning items (settled_items stream)
@@ -29,14 +29,14 @@ IsGiven Finished stream items = Divides stream items
 
 -- what each cutter keeps
 abbrev pub IsCutter : CutterState → Type 0
-IsCutter c = IsGiven c.standing c.stream (given c)
+IsCutter c = IsGiven c.phase c.stream (given c)
 
 -- how it stands after a fault
-abbrev pub fault_standing : Standing → MboxFault → Standing
-fault_standing s (Preamble n) = Stopped
-fault_standing s Read = Stopped
-fault_standing s Memory = Short
-fault_standing s Failed = s
+abbrev pub fault_phase : Phase → MboxFault → Phase
+fault_phase s (Preamble n) = Stopped
+fault_phase s Read = Stopped
+fault_phase s Memory = Short
+fault_phase s Failed = s
 
 -- why more bytes are refused: M1 where the faulty line lies in the stream with its LF, so that every continuation has it
 abbrev pub IsFeedFault : List ℕ → MboxFault → Type 0
@@ -67,6 +67,7 @@ is_read (Err Read) = true
 is_read (Err Memory) = false
 is_read (Err Failed) = false
 
+-- the read succeeded and brought no bytes: the input is at its end
 abbrev pub is_end : Result Bool MboxFault → Bool
 is_end (Ok true) = false
 is_end (Ok false) = true

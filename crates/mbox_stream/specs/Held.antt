@@ -3,9 +3,9 @@ use Rattle.std.specs.Prelude.{◌≡◌, ◌≢◌, ℕ, List, Option, Some, Non
 use Rattle.mbox_core.specs.Division.{Item}
 use Rattle.mbox_stream.specs.Kept.{IsKept, IsSettled}
 use Rattle.mbox_stream.specs.declared.window.Window.{Window}
-use Rattle.mbox_stream.specs.declared.cutter.Standing.{Standing}
-use Rattle.mbox_stream.specs.declared.cutter.Standing.TheVariants.{Open}
+use Rattle.mbox_stream.specs.declared.cutter.Phase.{Phase}
+use Rattle.mbox_stream.specs.declared.cutter.Phase.TheVariants.{Open}
 
-abbrev pub IsHeld : Option Window → Standing → List ℕ → List Item → Type 0
-IsHeld None standing stream items = standing ≢ Open
-IsHeld (Some w) standing stream items = (standing ≡ Open) × IsKept w.place w.bytes.items stream items × IsSettled w.place w.bytes.items
+abbrev pub IsHeld : Option Window → Phase → List ℕ → List Item → Type 0
+IsHeld None phase stream items = phase ≢ Open
+IsHeld (Some w) phase stream items = (phase ≡ Open) × IsKept w.place w.bytes.items stream items × IsSettled w.place w.bytes.items

@@ -21,6 +21,7 @@ abbrev pub is_before_until : ℤ → Option ℤ → Bool
 is_before_until day None = false
 is_before_until day (Some until) = int_lt day until
 
+-- Profile: on the reading day the message has its embargo on; on its until day it is off, as where it has none
 abbrev pub is_embargoed : Facts → Bool
 is_embargoed f = is_before_until f.day f.embargo_until
 
@@ -39,6 +40,7 @@ rank_of Member = 1
 rank_of Subscriber = 2
 rank_of Moderator = 3
 
+-- Profile: the second standing is the first or above it, from public over member and subscriber up to moderator
 abbrev pub is_at_least : Standing → Standing → Bool
 is_at_least least standing = nat_le (rank_of least) (rank_of standing)
 

@@ -1,5 +1,6 @@
 pub mod Facts
 pub mod Names
+pub mod Numbers
 pub mod Reading
 pub mod Rules
 pub mod Seen

@@ -7,6 +7,7 @@ use Rattle.std.specs.Option.{ForSome}
 use Rattle.policy_core.specs.Facts.{Facts, is_embargoed, age}
 use Rattle.policy_core.specs.Rules.{Rule, fits}
 
+-- Profile: a verdict, allowed or denied, with the name of the rule that decided; a denial because none fits has the name `default`
 pub data Ruling : Type 0 where
   allowed : List ℕ → Ruling
   denied : List ℕ → Ruling
@@ -25,6 +26,7 @@ abbrev pub ruling_of_head : List Rule → Ruling
 ruling_of_head [] = denied (codes "default")
 ruling_of_head (r ∷ rs) = ruling_by r
 
+-- Profile: the first rule that fits decides, whatever stands behind it; where none fits, the message is denied by `default`
 abbrev pub verdict_of : List Rule → Facts → Ruling
 verdict_of rules f = ruling_of_head (filter (λ r. fits r f) rules)
 

@@ -36,6 +36,7 @@ texts_in d = filter_map as_str (values_in d)
 
 -- ---- words
 
+-- Profile: the standing by its word in a policy, in lower case; None for any other word
 abbrev pub standing_named : List ℕ → Option Standing
 standing_named word =
     if bytes_eq word (codes "public") then Some Public
@@ -230,5 +231,6 @@ abbrev pub policy_in : Option Members → Result (List Rule) PolicyFault
 policy_in None = Err NotToml
 policy_in (Some tree) = policy_of tree
 
+-- Profile: the rules of a policy's TOML text, in its order, or the first refusal; in it rules count from 1, and 0 is outside of them
 abbrev pub written_policy : List ℕ → Result (List Rule) PolicyFault
 written_policy text = policy_in (parse_document text)

@@ -32,6 +32,7 @@ pub record LosesPair (text rest : List ℕ) : Type 0 where
   pub is_opening : IsLiteral (codes "[fwd:") opening
   pub is : text ≡ opening ++ rest ++ codes "]"
 
+-- step (2) still applies: the text ends in a subj-trailer, `(fwd)` in any case or a space (RFC 5256, section 5)
 abbrev pub HasTrailer : List ℕ → Type 0
 HasTrailer text = (reply : Bool) × (rest : List ℕ) × LosesTrailer text reply rest
 
@@ -85,9 +86,12 @@ rest_within (suc n) text = elim (next_of text) [ None ↦ left false text | Some
 abbrev pub rest_of : List ℕ → Left
 rest_of text = rest_within (length text) text
 
+-- the base subject (RFC 5256, section 2.1); Profile: in ASCII lower case, so that equal subjects have equal bytes
 abbrev pub base_of : List ℕ → List ℕ
 base_of subject = lower (rest_of (spaced subject)).text
 
+-- the subject is that of a reply or forward (RFC 5256, section 2.1): its base was reached by removing a subj-refwd, a `(fwd)`
+-- or the pair `[fwd:` and `]`
 abbrev pub is_reply : List ℕ → Bool
 is_reply subject = (rest_of (spaced subject)).reply
 

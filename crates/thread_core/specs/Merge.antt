@@ -43,6 +43,7 @@ abbrev pub messages_of : Tree → List ℕ
 messages_of (Message place) = place ∷ []
 messages_of (DummyOver places) = places
 
+-- a dummy is at the top of the tree, so the tree has no message there (RFC 5256, section 3)
 abbrev pub is_dummy_tree : Tree → Bool
 is_dummy_tree (Message place) = false
 is_dummy_tree (DummyOver places) = true
@@ -77,6 +78,7 @@ pub record MergedTop : Type 0 where
 abbrev pub plain_of : List Entry → List ℕ → List ℕ
 plain_of entries places = filter (λ place. not (is_reply entries place)) places
 
+-- What step 5.C makes of one group, by its messages and the children of its dummies, in order, and whether it has a dummy.
 abbrev pub merged_messages : List Entry → Bool → List ℕ → MergedTop
 merged_messages entries dummy messages =
     record {

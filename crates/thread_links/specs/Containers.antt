@@ -30,6 +30,7 @@ abbrev pub owner_from : ℕ → List Entry → Id → Container
 owner_from place [] id = dummy id
 owner_from place (entry ∷ entries) id = if has_id entry id then real place else owner_from (place + 1) entries id
 
+-- the container that a reference to this id means (RFC 5256, section 3, step 1.A): the first message that has it, else its dummy
 abbrev pub owner : List Entry → Id → Container
 owner entries id = owner_from 0 entries id
 

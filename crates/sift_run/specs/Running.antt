@@ -1,32 +1,44 @@
--- What a run reads and writes, and why it is refused.
-use Rattle.std.specs.Prelude.{◌≡◌, ◌≢◌, ◌<◌, ◌+◌, ◌⊎◌, ◌∷◌, [], ℕ, ℤ, pos, List, Bool, true, false, ◌||◌, is_some, Option, Some, None, Ok, Err, ⊤, IsUtf8}
+-- What a sift reads and writes, and why it stops; the policy and the day of any order.
+use Rattle.std.specs.Prelude.{◌≡◌, ◌≢◌, ◌<◌, ◌+◌, ◌⊎◌, ◌∷◌, [], ℕ, ℤ, pos, List, Bool, true, false, ◌||◌, is_some, Option, Some, None, Result, Ok, Err, ⊤, IsUtf8, MatchResult}
 use Rattle.policy_core.specs.Rules.{Rule, open_rule}
 use Rattle.policy_core.specs.Written.{written_policy}
 use Rattle.policy_core.specs.declared.faults.PolicyFault.TheVariants as policy
 use Rattle.mbox_core.specs.declared.faults.MboxFault.TheVariants as mbox
-use Rattle.archive_run.specs.declared.faults.Refusal.{Refusal}
-use Rattle.archive_run.specs.declared.faults.Refusal.TheVariants.{Mbox, Policy, Read, Write, Clock, Memory}
-use Rattle.archive_run.specs.World.{Heard, Sent}
-use Rattle.archive_run.specs.declared.clock.DayClock.{Ghosts as Tells}
-use Rattle.archive_run.specs.declared.files.ReadFiles.{Ghosts as Gives}
-use Rattle.archive_run.specs.declared.files.FileFault.TheVariants as file
+use Rattle.sift_run.specs.declared.faults.RunFault.{RunFault}
+use Rattle.sift_run.specs.declared.faults.RunFault.TheVariants.{Mbox, Policy, Read, Write, Clock, Memory}
+use Rattle.sift_run.specs.Streams.{Heard, Sent, heard, sent}
+use Rattle.sift_run.specs.declared.clock.DayClock.{Ghosts as Tells}
+use Rattle.sift_run.specs.declared.files.ReadFiles.{Ghosts as Gives}
+use Rattle.sift_run.specs.declared.files.FileFault.TheVariants as file
 use Rattle.clap.specs.Words.{fault_of, takes}
 use Rattle.archive_words.specs.Program.{archive_app}
 use Rattle.archive_words.specs.Orders.{ordered}
 use Rattle.archive_words.specs.Values.{SiftValues}
 use Rattle.archive_words.specs.declared.orders.Order.{Order}
+use Rattle.archive_words.specs.declared.orders.Order.TheVariants.{Sift}
+use Rattle.byte_device.specs.declared.devices.Sink.{Ghosts as Takes}
+use Rattle.byte_device.specs.declared.devices.Source.{Ghosts as Reads}
 use Rattle.mbox_core.specs.declared.faults.MboxFault.{MboxFault}
-use Rattle.archive_run.specs.declared.sifting.SiftFault.TheVariants as sift
-use Rattle.archive_run.specs.Sifting.{Asked, SiftsTold, SiftsPart, IsUnread}
+use Rattle.archive_listen.specs.declared.connections.Outgoing.{Ghosts as Passes}
+use Rattle.sift_run.specs.declared.sifting.SiftFault.TheVariants as sift
+use Rattle.sift_run.specs.Sifting.{Asked, SiftsTold, SiftsPart, IsUnread}
 
 -- the words are such as the program takes, or `clap` has no fault to tell of them; and they order this
 abbrev pub GiveOrder : List (List ℕ) → Order → Type 0
 GiveOrder words order = ((takes archive_app words ≡ true) ⊎ (fault_of archive_app words ≡ [])) × (ordered words ≡ Some order)
 
+abbrev pub IsNoSift : Order → Type 0
+IsNoSift (Sift order) = ⊥
+IsNoSift _ = ⊤
+
+-- the words order something, and no sift
+abbrev pub OrdersElse : List (List ℕ) → Type 0
+OrdersElse words = (order : Order) × GiveOrder words order × IsNoSift order
+
 -- ---- the policy
 
 -- The refusal is the first that the text has as a policy; want of memory may come in its place.
-abbrev pub IsPolicyRefusal : List ℕ → Refusal → Type 0
+abbrev pub IsPolicyRefusal : List ℕ → RunFault → Type 0
 IsPolicyRefusal text (Policy fault) = fault ≢ policy.Memory → written_policy text ≡ Err fault
 IsPolicyRefusal text _ = ⊥
 
@@ -38,7 +50,7 @@ module _ {F : Type 0} (reads : Gives F) (files : F) where
 
   -- Why there are no rules: the named file was not read (F1), its bytes are no policy (P1 to P7; P1 where they are no
   -- text), or there was no memory.
-  abbrev pub IsPolicyCause : Option (List ℕ) → Refusal → Type 0
+  abbrev pub IsPolicyCause : Option (List ℕ) → RunFault → Type 0
   IsPolicyCause None refusal = ⊥
   IsPolicyCause (Some name) Read = reads.gives files name (Err file.Read)
   IsPolicyCause (Some name) Memory = ⊤
@@ -99,9 +111,31 @@ module _ {C : Type 0} (tells : Tells C) (order : SiftValues) (old new : C) (in_o
 
   -- Why a sift by some rules was refused: the clock gave no day (F3), the input is no mbox (M1), a read failed (M2), there
   -- was no memory (M3), the output failed (F2).
-  abbrev pub IsSiftCause : List Rule → Refusal → Type 0
+  abbrev pub IsSiftCause : List Rule → RunFault → Type 0
   IsSiftCause rules Clock = IsDayOf None × (in_new ≡ in_old) × (out_new ≡ out_old)
   IsSiftCause rules (Mbox mbox.Read) = SiftsUnread rules mbox.Read × (in_old.failures < in_new.failures)
   IsSiftCause rules (Mbox fault) = SiftsUnread rules fault
   IsSiftCause rules Write = SiftsPartly rules
   IsSiftCause rules _ = ⊥
+
+-- what a sift is over, before and after
+module _ {C R O : Type 0} (tells : Tells C) (reads : Reads R) (writes : Takes O) (passes : Passes O) (clock_old clock_new : C) (in_old in_new : R)
+    (out_old out_new : O) where
+  -- by some rules: it was carried out, or stopped for a cause
+  abbrev pub SiftsUnder : SiftValues → List Rule → Result ⊤ RunFault → Type 0
+  SiftsUnder order rules result = MatchResult result
+      (λ _. SiftsBy tells order clock_old clock_new (heard reads in_old) (heard reads in_new) (sent writes passes out_old) (sent writes passes out_new) rules)
+      (IsSiftCause tells order clock_old clock_new (heard reads in_old) (heard reads in_new) (sent writes passes out_old) (sent writes passes out_new) rules)
+
+  module _ {F : Type 0} (gives : Gives F) (files : F) where
+    -- There are no rules, and nothing was touched; or there are, and it came to this by them.
+    abbrev pub SiftsByPolicy : SiftValues → Result ⊤ RunFault → Type 0
+    SiftsByPolicy order (Ok done) = (rules : List Rule) × IsPolicyOf gives files order.policy rules × SiftsUnder order rules (Ok done)
+    SiftsByPolicy order (Err fault) =
+        (IsPolicyCause gives files order.policy fault × (clock_new ≡ clock_old) × (in_new ≡ in_old) × (out_new ≡ out_old))
+        ⊎ ((rules : List Rule) × IsPolicyOf gives files order.policy rules × SiftsUnder order rules (Err fault))
+
+    -- It was stopped for a cause, or there was no memory to read the words, and nothing was touched.
+    abbrev pub IsStopped : SiftValues → RunFault → Type 0
+    IsStopped order fault =
+        ((fault ≡ Memory) × (clock_new ≡ clock_old) × (in_new ≡ in_old) × (out_new ≡ out_old)) ⊎ SiftsByPolicy order (Err fault)

@@ -154,5 +154,7 @@ envelope_of (a ∷ b ∷ c ∷ d ∷ e ∷ f ∷ g ∷ h ∷ []) = sent_by_two a
 envelope_of (a ∷ b ∷ c ∷ d ∷ e ∷ f ∷ g ∷ h ∷ i ∷ []) = sent_by_two a b c (arrival_of d e f g (zone_of h) i)
 envelope_of _ = None
 
+-- The envelope of a separator line (RFC 4155, appendix A), given without its line end; None for any other line.
+-- Profile: so for one whose arrival lies outside the years 1900 to 9998.
 unfoldable pub separator_of : List ℕ → Option Envelope
 separator_of said = if bytes_eq (take 5 said) (codes "From ") then envelope_of (tokens (drop 5 said)) else None

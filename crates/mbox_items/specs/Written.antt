@@ -7,8 +7,8 @@ use Rattle.civil_time.specs.Dates.{Date, date_of_day}
 use Rattle.civil_time.specs.Digits.{as_two_digits, as_four_digits}
 use Rattle.civil_time.specs.Names.{name_at, weekday_names, month_names}
 use Rattle.mail_core.specs.Lines.{lines}
-use Rattle.mbox_core.specs.Separator.{Envelope, IsSenderText, spaced}
-use Rattle.mbox_core.specs.Division.{Item, NoneSeparates, whole}
+use Rattle.mbox_items.specs.Separator.{Envelope, IsSenderText, spaced}
+use Rattle.mbox_items.specs.Division.{Item, NoneSeparates, whole}
 
 -- two digits, and a number below 10 with a space in place of the first
 abbrev pub as_day_digits : ℕ → List ℕ
@@ -45,6 +45,7 @@ ended text = text ++ codes "\n"
 abbrev pub written_item : Item → List ℕ
 written_item item = ended (heading item.envelope) ++ ended (whole item.text)
 
+-- the mbox (RFC 4155, appendix A) of these messages, in their order; no line of a text is quoted with `>`
 abbrev pub written : List Item → List ℕ
 written [] = []
 written (item ∷ items) = written_item item ++ written items

@@ -11,9 +11,9 @@ use Rattle.policy_core.specs.declared.access.Withdrawn.TheVariants.{No}
 use Rattle.mbox_core.specs.declared.faults.MboxFault.TheVariants.{Preamble, Read, Memory, Failed}
 use Rattle.mbox_stream.specs.Stream.{IsBeginning, settled_items, IsCounted}
 use Rattle.mbox_stream.specs.Cutter.{CutterState, IsCutter}
-use Rattle.mbox_stream.specs.declared.cutter.Standing.TheVariants.{Open}
-use Rattle.archive_run.specs.declared.sifting.SiftFault.{SiftFault}
-use Rattle.archive_run.specs.declared.sifting.SiftFault.TheVariants.{Mbox, Write}
+use Rattle.mbox_stream.specs.declared.cutter.Phase.TheVariants.{Open}
+use Rattle.sift_run.specs.declared.sifting.SiftFault.{SiftFault}
+use Rattle.sift_run.specs.declared.sifting.SiftFault.TheVariants.{Mbox, Write}
 
 -- what is asked of each message: days are day numbers from 1970-01-01
 pub record Asked : Type 0 where
@@ -68,10 +68,12 @@ SiftsPart rules asked in_old in_new out_old out_new count =
     (mbox : List ℕ) × (out : List ℕ) × (in_new ≡ in_old ++ mbox) × Sifts rules asked mbox out
     × (length out_new < 2 ^ 64 → IsCutShort out_old out_new out count)
 
+-- the sifting ended by a fault of its input or of memory (M1 to M4), not of its output
 abbrev pub IsMboxFault : SiftFault → Type 0
 IsMboxFault (Mbox fault) = Unit {0}
 IsMboxFault (Write written) = ⊥
 
+-- a claim on a fault of the output alone, about how many bytes of the sifted text went out; any other fault satisfies it
 abbrev pub OnWrite : SiftFault → (ℕ → Type 0) → Type 0
 OnWrite (Mbox fault) P = Unit {0}
 OnWrite (Write written) P = P written
@@ -110,5 +112,5 @@ pub record SiftsSoFar (rules : List Rule) (asked : Asked) (in_old in_new out_old
   pub out : out_new ≡ out_old ++ sifted rules asked cutter.taken
   pub counted : count ≡ min (length (sifted rules asked cutter.taken)) (2 ^ 64 - 1)
   pub none_waits : cutter.waiting ≡ []
-  pub goes_on : cutter.standing ≡ Open
+  pub goes_on : cutter.phase ≡ Open
   pub given : IsCutter cutter

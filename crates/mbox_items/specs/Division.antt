@@ -2,7 +2,7 @@
 use Rattle.std.specs.Prelude.{◌≡◌, ℕ, ◌==◌, Bool, true, false, ◌||◌, ◌⊎◌, List, [], ◌∷◌, ◌++◌, length, if◌then◌else◌, Option, Some, None}
 use Rattle.std.specs.List.{concat, AllByRecursion}
 use Rattle.mail_core.specs.Lines.{lines, content, ends_in}
-use Rattle.mbox_core.specs.Separator.{Envelope, IsSeparator, separator_of}
+use Rattle.mbox_items.specs.Separator.{Envelope, IsSeparator, separator_of}
 
 -- a message as it stands in the file
 pub record Item : Type 0 where

@@ -1,8 +1,8 @@
 -- The senders of the code, and their written form.
 use Rattle.std.specs.Prelude.{◌≡◌, ℕ, List, [], ◌∷◌, true, codes}
-use Rattle.mbox_core.specs.Separator.{is_sender_token, spaced}
-use Rattle.mbox_core.specs.declared.senders.Sender.{Sender}
-use Rattle.mbox_core.specs.declared.senders.Sender.TheVariants.{One, At}
+use Rattle.mbox_items.specs.Separator.{is_sender_token, spaced}
+use Rattle.mbox_items.specs.declared.senders.Sender.{Sender}
+use Rattle.mbox_items.specs.declared.senders.Sender.TheVariants.{One, At}
 
 -- its tokens are tokens
 abbrev pub IsSender : Sender → Type 0

@@ -1,0 +1,6 @@
+pub mod Numbers
+pub mod Bases
+pub mod Ids
+pub mod Places
+pub mod Entries
+pub mod Rows

@@ -1,0 +1,4 @@
+pub mod Separator
+pub mod Division
+pub mod Written
+pub mod Senders

@@ -1,0 +1,4 @@
+pub mod Sifting
+pub mod Streams
+pub mod Refusals
+pub mod Running

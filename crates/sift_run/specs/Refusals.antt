@@ -1,0 +1,68 @@
+-- How refusals are told, and what is said of words that order nothing.
+use Rattle.std.specs.Prelude.{◌≡◌, ◌≤◌, ◌⊎◌, ◌++◌, ℕ, List, codes, decimal, string_bytes}
+use Rattle.byte_device.specs.declared.devices.Sink.{Ghosts as Takes}
+use Rattle.mbox_core.specs.declared.faults.MboxFault.{MboxFault}
+use Rattle.mbox_core.specs.declared.faults.MboxFault.TheVariants as mbox
+use Rattle.policy_core.specs.declared.faults.PolicyFault.{PolicyFault}
+use Rattle.policy_core.specs.declared.faults.PolicyFault.TheVariants as policy
+use Rattle.archive_listen.specs.declared.connections.Outgoing.{Ghosts as Passes}
+use Rattle.archive_words.specs.declared.orders.OrderStop.{OrderStop}
+use Rattle.archive_words.specs.declared.orders.OrderStop.TheVariants as stop
+use Rattle.archive_listen.specs.Connections.{Noted, noted}
+use Rattle.sift_run.specs.Streams.{Sends, SendsPart, sent}
+use Rattle.sift_run.specs.declared.faults.RunFault.{RunFault}
+use Rattle.sift_run.specs.declared.faults.RunFault.TheVariants.{Mbox, Policy, Read, Write, Clock, Memory}
+
+abbrev pub mbox_text : MboxFault → List ℕ
+mbox_text (mbox.Preamble offset) = codes "M1 Preamble at " ++ decimal offset
+mbox_text mbox.Read = codes "M2 Read"
+mbox_text mbox.Memory = codes "M3 Memory"
+mbox_text mbox.Failed = codes "M4 Failed"
+
+abbrev pub policy_text : PolicyFault → List ℕ
+policy_text policy.NotToml = codes "P1 NotToml"
+policy_text (policy.UnknownKey rule) = codes "P2 UnknownKey in rule " ++ decimal rule
+policy_text (policy.WrongType rule) = codes "P3 WrongType in rule " ++ decimal rule
+policy_text (policy.BadName rule) = codes "P4 BadName in rule " ++ decimal rule
+policy_text (policy.DuplicateName rule) = codes "P5 DuplicateName in rule " ++ decimal rule
+policy_text (policy.BadValue rule) = codes "P6 BadValue in rule " ++ decimal rule
+policy_text policy.TooManyRules = codes "P7 TooManyRules"
+policy_text policy.Memory = codes "P8 Memory"
+
+-- the number and the name, and where the fault is
+abbrev pub run_text : RunFault → List ℕ
+run_text (Mbox fault) = mbox_text fault
+run_text (Policy fault) = policy_text fault
+run_text Read = codes "F1 Read"
+run_text Write = codes "F2 Write"
+run_text Clock = codes "F3 Clock"
+run_text Memory = codes "F5 Memory"
+
+-- the one line that tells a refusal of this text
+abbrev pub refusal_line : (text : List ℕ) → List ℕ
+refusal_line text = codes "archive: " ++ text ++ codes "\n"
+
+-- The line of the text was told, or the line that there was no memory for it.
+abbrev pub TellsOf : (text old new : List ℕ) → Type 0
+TellsOf text old new = (new ≡ old ++ refusal_line text) ⊎ (new ≡ old ++ refusal_line (run_text Memory))
+
+-- One line told a refusal of this text, where the stream of faults did not fail.
+abbrev pub Tells : (text : List ℕ) → (before after : Noted) → Type 0
+Tells text before after =
+    (before.failures ≤ after.failures) × (after.failures ≡ before.failures → TellsOf text before.written after.written)
+
+-- ---- words that order nothing
+
+-- By why the words order nothing. Help goes out whole and is passed on; or the output failed, a beginning of it went out, and the
+-- line of F2 is told. What is wrong with bad words is told, whole, where the stream of faults did not fail. And of want of memory
+-- the line of F5. The stream that has nothing to do with it is as before.
+module _ {O E : Type 0} (takes : Takes O) (passes : Passes O) (notes : Takes E) (out_old out_new : O) (err_old err_new : E) where
+  -- Profile: the exit status (0 for help, 1 for a fault, 2 for bad words), and what the output and the stream of faults got
+  abbrev pub SaysStop : OrderStop → (status : ℕ) → Type 0
+  SaysStop (stop.Help text) status =
+      ((status ≡ 0) × Sends (sent takes passes out_old) (sent takes passes out_new) (string_bytes text) × (err_new ≡ err_old))
+      ⊎ ((status ≡ 1) × SendsPart (sent takes passes out_old) (sent takes passes out_new) (string_bytes text)
+      × Tells (run_text Write) (noted notes err_old) (noted notes err_new))
+  SaysStop (stop.Words text) status = (status ≡ 2) × (out_new ≡ out_old)
+      × (notes.failures err_new ≡ notes.failures err_old → notes.told err_new ≡ notes.told err_old ++ string_bytes text)
+  SaysStop stop.Memory status = (status ≡ 1) × (out_new ≡ out_old) × Tells (run_text Memory) (noted notes err_old) (noted notes err_new)
