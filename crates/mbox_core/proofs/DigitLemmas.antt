@@ -1,12 +1,13 @@
 -- Numbers as they are written, and as they are read.
-use Rattle.std.proofs.Common.{◌≡◌, ℕ, zero, suc, ◌+◌, ◌-◌, ◌*◌, ◌/◌, ◌%◌, ◌<◌, Bool, true, not, ◌==◌, ◌&&◌, refl, arith, ap, ◌∙◌, Some, List, [], ◌∷◌, min}
+use Rattle.std.proofs.Common.{◌≡◌, ℕ, zero, suc, ◌+◌, ◌-◌, ◌*◌, ◌/◌, ◌%◌, ◌<◌, true, refl, arith, ap, ◌∙◌, Some, [], ◌∷◌, min}
 use Rattle.std.proofs.lemmas.Bool.{le-leb}
 use Rattle.std.proofs.lemmas.Bool.Decides.{nat_tests}
 use Rattle.civil_time.specs.Digits.{as_two_digits, as_four_digits}
 use Rattle.civil_time.specs.Names.{name_at, weekday_names, month_names}
 use Rattle.civil_time.proofs.DigitLemmas.{digit_is, two_read, four_read}
-use Rattle.mbox_core.specs.Separator.{day_of, clock_of, year_of}
-use Rattle.mbox_core.specs.Written.{clock_text}
+use Rattle.mbox_items.specs.Separator.{day_of, clock_of, year_of}
+use Rattle.mbox_items.specs.Written.{clock_text}
+use Rattle.mbox_items.proofs.RunLemmas.{is_plain, is_run}
 
 -- a day of one digit, and of two
 pub day_one : (n : ℕ) → n < 10 → day_of ((48 + n) ∷ []) ≡ Some n
@@ -41,15 +42,6 @@ unfolding year_of
 year_read n h = four_read n h
 
 -- ---- bytes of a token
-
--- none of the bytes ends a token or a line
-abbrev pub is_plain : ℕ → Bool
-is_plain b = not (b == 32) && not (b == 10)
-
--- a token, of such bytes alone
-abbrev pub is_run : List ℕ → Bool
-is_run [] = true
-is_run (b ∷ bs) = is_plain b && is_run bs
 
 digit_plain : (n : ℕ) → is_plain (48 + n) ≡ true
 digit_plain n = grind (arith, nat_tests)

@@ -1,13 +1,13 @@
 -- Worked examples of the definitions.
 use Rattle.std.proofs.Common.{◌≡◌, [], ◌∷◌, refl, Some, None, pos, negsuc, codes, subst, true}
 use Rattle.civil_time.specs.Calendar.{days_before_year, days_of_months}
-use Rattle.mbox_core.specs.Written.{heading, time_text, written}
+use Rattle.mbox_items.specs.Written.{heading, time_text, written}
 use Rattle.civil_time.specs.Dates.{date_after, year_after, month_after}
 use Rattle.mail_core.specs.Lines.{lines, content}
-use Rattle.mbox_core.specs.Separator.{tokens, day_of, clock_of, year_of, instant_of, arrival_of, sent_by_one, sent_by_two, envelope_of, separator_of}
+use Rattle.mbox_items.specs.Separator.{tokens, day_of, clock_of, year_of, instant_of, arrival_of, sent_by_one, sent_by_two, envelope_of, separator_of}
 use Rattle.civil_time.specs.Names.{month_of, is_weekday}
 use Rattle.civil_time.specs.Zones.{hours_west}
-use Rattle.mbox_core.specs.Division.{Divides, items_of, split_lines, body, whole}
+use Rattle.mbox_items.specs.Division.{Divides, items_of, split_lines, body, whole}
 use Rattle.mbox_core.proofs.DivisionLaws.{front_divides}
 
 two_lines : lines (codes "ab\n\nc") ≡ codes "ab\n" ∷ codes "\n" ∷ codes "c" ∷ []

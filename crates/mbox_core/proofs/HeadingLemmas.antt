@@ -1,31 +1,21 @@
 -- The canonical separator line of an envelope says that envelope.
-use Rattle.std.proofs.Common.{◌≡◌, ◌≢◌, ℕ, zero, suc, ◌+◌, ◌-◌, ◌*◌, ◌/◌, ◌%◌, ◌<◌, ◌≤◌, Bool, true, false, not, ◌==◌, ◌&&◌, ◌||◌, nat_lt, refl, arith, ap, ◌∙◌, sym, if◌then◌else◌, Some, List, [], ◌∷◌, ◌++◌, length, drop, length-take, length-drop, get_or, ℤ, pos, negsuc, ◌+ℤ◌, ◌-ℤ◌, ◌*ℤ◌, unsigned_abs, codes, append_assoc}
+use Rattle.std.proofs.Common.{◌≡◌, ◌≢◌, ℕ, zero, suc, ◌+◌, ◌-◌, ◌*◌, ◌/◌, ◌%◌, ◌<◌, ◌≤◌, Bool, true, false, nat_lt, refl, arith, ap, ◌∙◌, sym, if◌then◌else◌, Some, List, [], ◌∷◌, ◌++◌, length, drop, length-take, length-drop, get_or, ℤ, pos, negsuc, ◌+ℤ◌, ◌-ℤ◌, ◌*ℤ◌, unsigned_abs, codes, append_assoc}
 use Rattle.std.proofs.lemmas.Bool.Decides.{nat_tests}
 use Rattle.std.proofs.lemmas.Int.{ints}
 use Rattle.std.specs.Int.{int_rem_euclid}
-use Rattle.std.specs.List.{list_any}
 use Rattle.civil_time.specs.Calendar.{month_days, day_of_instant, weekday, is_instant, instant_at}
 use Rattle.mail_core.specs.Lines.{onto_first_line}
-use Rattle.mbox_core.specs.Separator.{Envelope, IsSeparator, IsSentBy, AreSenderTokens, spaced, tokens, is_sender_token, day_of, instant_of}
+use Rattle.mbox_items.specs.Separator.{Envelope, IsSeparator, IsSentBy, AreSenderTokens, spaced, tokens, day_of, instant_of}
 use Rattle.civil_time.specs.Dates.{Date, date_after, days_since_1900}
-use Rattle.mbox_core.specs.Written.{IsEnvelope, heading, time_text, date_text, as_day_digits, clock_text}
+use Rattle.mbox_items.specs.Written.{IsEnvelope, heading, time_text, date_text, as_day_digits, clock_text}
 use Rattle.civil_time.specs.Digits.{as_two_digits, as_four_digits}
 use Rattle.civil_time.specs.Names.{name_at, weekday_names, month_names}
 use Rattle.civil_time.proofs.DateLemmas.{both, date_is, found_number, split_is}
-use Rattle.mbox_core.proofs.DigitLemmas.{is_plain, is_run, day_one, day_two, clock_read, year_read, two_plain, one_plain, four_plain, clock_plain, weekday_plain, month_plain}
+use Rattle.mbox_items.proofs.RunLemmas.{is_plain, is_run, plain_other, sender_some, sender_run}
+use Rattle.mbox_core.proofs.DigitLemmas.{day_one, day_two, clock_read, year_read, two_plain, one_plain, four_plain, clock_plain, weekday_plain, month_plain}
 use Rattle.civil_time.proofs.NameLemmas.{weekday_read, month_read}
 
 -- ---- tokens
-
-not_true : (b : Bool) → not b ≡ true → b ≡ false
-not_true true h = sym h
-not_true false h = refl
-
-plain_other : (b : ℕ) → is_plain b ≡ true → (b == 32) ≡ false
-plain_other b h = not_true (b == 32) (both (not (b == 32)) (not (b == 10)) h).0
-
-pub plain_inside : (b : ℕ) → is_plain b ≡ true → (b == 10) ≡ false
-plain_inside b h = not_true (b == 10) (both (not (b == 32)) (not (b == 10)) h).1
 
 -- a token, and a space behind it
 pub token_then : (t r : List ℕ) → t ≢ [] → is_run t ≡ true → tokens (t ++ 32 ∷ r) ≡ t ∷ tokens r
@@ -109,31 +99,6 @@ date_tokens w date s hw hm =
     ∙ ap (λ ts. name_at (date.month - 1) month_names ∷ ts) (day_then date.day clock
     ∙ ap (λ ts. day_token date.day ∷ ts) (token_then (clock_text s) year (λ e. cc) (clock_plain s)
     ∙ ap (λ ts. clock_text s ∷ ts) (token_last year (λ e. cc) (four_plain date.year)))))
-
--- ---- senders
-
-run_of : (t : List ℕ) → list_any (λ b. b == 32) t ≡ false → list_any (λ b. b == 10) t ≡ false → is_run t ≡ true
-run_of [] h g = refl
-run_of (b ∷ t) h g = cases (b == 32) (b == 10) refl refl h g (run_of t)
-  where
-    cases : (x y : Bool) → (b == 32) ≡ x → (b == 10) ≡ y → (x || list_any (λ b. b == 32) t) ≡ false → (y || list_any (λ b. b == 10) t) ≡ false
-        → (list_any (λ b. b == 32) t ≡ false → list_any (λ b. b == 10) t ≡ false → is_run t ≡ true) → is_run (b ∷ t) ≡ true
-    cases true y e f h g later = absurd (cc)
-    cases false true e f h g later = absurd (cc)
-    cases false false e f h g later = rw (e, f) (later h g)
-
-some_of : (t : List ℕ) → not (length t == 0) ≡ true → t ≢ []
-some_of [] h = absurd (cc)
-some_of (b ∷ t) h = λ e. cc
-
-pub sender_some : (t : List ℕ) → is_sender_token t ≡ true → t ≢ []
-sender_some t h = some_of t (both (not (length t == 0)) (not (list_any (λ b. b == 32) t) && not (list_any (λ b. b == 10) t)) h).0
-
-pub sender_run : (t : List ℕ) → is_sender_token t ≡ true → is_run t ≡ true
-sender_run t h =
-    let rest = (both (not (length t == 0)) (not (list_any (λ b. b == 32) t) && not (list_any (λ b. b == 10) t)) h).1 in
-    let two = both (not (list_any (λ b. b == 32) t)) (not (list_any (λ b. b == 10) t)) rest in
-    run_of t (not_true (list_any (λ b. b == 32) t) two.0) (not_true (list_any (λ b. b == 10) t) two.1)
 
 -- ---- the whole line
 

@@ -1,7 +1,7 @@
 -- Pieces of what is written.
 use Rattle.std.proofs.Common.{◌≡◌, ℕ, zero, suc, ◌+◌, ◌-◌, ◌^◌, ◌<◌, ◌≤◌, min, List, [], ◌∷◌, ◌++◌, length, take, drop, refl, arith, ap, ◌∙◌, sym, codes, append_assoc, length-append, length-take}
 use Rattle.std.proofs.lemmas.List.{take_at}
-use Rattle.mbox_core.specs.Written.{IsCutShort}
+use Rattle.mbox_items.specs.Written.{IsCutShort}
 
 take_front : (x r : List ℕ) (k : ℕ) → k ≡ length x → take k (x ++ r) ≡ x
 take_front x r k e = take_at x r k (sym e)

@@ -8,17 +8,18 @@ use Rattle.civil_time.specs.Calendar.{weekday, day_of_instant, is_instant}
 use Rattle.std.proofs.lemmas.Bool.{eqb-true}
 use Rattle.std.proofs.lemmas.Bool.Decides.{nat_tests}
 use Rattle.mail_core.specs.Lines.{lines, content, ends_in}
-use Rattle.mbox_core.specs.Separator.{Envelope, IsSeparator, IsSenderText, AreSenderTokens, spaced, instant_of}
-use Rattle.mbox_core.specs.Division.{Item, IsBlank, NoneSeparates, AreBlocks, Divides, is_whole, whole}
+use Rattle.mbox_items.specs.Separator.{Envelope, IsSeparator, IsSenderText, AreSenderTokens, spaced, instant_of}
+use Rattle.mbox_items.specs.Division.{Item, IsBlank, NoneSeparates, AreBlocks, Divides, is_whole, whole}
 use Rattle.civil_time.specs.Dates.{Date, date_after, days_since_1900}
-use Rattle.mbox_core.specs.Written.{IsEnvelope, IsItem, heading, ended, written, whole_item, time_text, date_text, as_day_digits, clock_text}
+use Rattle.mbox_items.specs.Written.{IsEnvelope, IsItem, heading, ended, written, whole_item, time_text, date_text, as_day_digits, clock_text}
 use Rattle.civil_time.specs.Digits.{as_two_digits, as_four_digits}
 use Rattle.civil_time.specs.Names.{name_at, weekday_names, month_names}
-use Rattle.mbox_core.proofs.LineLemmas.{lines-nil, lines-append, IsEnded, lf_first, more_ended, lf_ended}
-use Rattle.mbox_core.proofs.ItemLemmas.{ends_cons, content-lf, never, whole_none}
+use Rattle.mbox_items.proofs.LineLemmas.{lines-nil, lines-append, IsEnded, lf_first, more_ended, lf_ended}
+use Rattle.mbox_items.proofs.ItemLemmas.{ends_cons, content-lf, never, whole_none}
 use Rattle.civil_time.proofs.DateLemmas.{both}
-use Rattle.mbox_core.proofs.DigitLemmas.{is_run, is_plain, two_plain, one_plain, four_plain, clock_plain, weekday_plain, month_plain}
-use Rattle.mbox_core.proofs.HeadingLemmas.{name_length, day_length, heading_says, sender_run, plain_inside, rest_small, in_year_after}
+use Rattle.mbox_items.proofs.RunLemmas.{is_run, is_plain, plain_inside, sender_run}
+use Rattle.mbox_core.proofs.DigitLemmas.{two_plain, one_plain, four_plain, clock_plain, weekday_plain, month_plain}
+use Rattle.mbox_core.proofs.HeadingLemmas.{name_length, day_length, heading_says, rest_small, in_year_after}
 
 -- ---- the separator line is one line
 

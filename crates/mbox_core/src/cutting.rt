@@ -1,16 +1,12 @@
 //! Cutting an mbox into its messages.
 ghost use Rattle.std.specs.Prelude.{◌≡◌, ◌∷◌, ◌<◌, ◌≤◌, [], length, Some, None, List, IfOk, IfErr, OnErr};
 ghost use Rattle.std.specs.Iterator.{YieldsFirst, item_count};
-ghost use Rattle.mbox_core.specs.Division.{Item as Message, Divides, IsPreamble, items_after, text_in, items_in, body};
-ghost use Rattle.mail_core.specs.Lines.{lines};
+ghost use Rattle.mbox_items.specs.Division.{Item as Message, Divides, IsPreamble, items_after};
 ghost use Rattle.mbox_core.specs.Faults.{IsCutFault};
 
 use crate::faults::MboxFault;
-use crate::items::{Item, is_complete};
-use crate::lines::last_line;
-use crate::separators::{Envelope, separator};
 use mail_core::lines::{line_content, line_end};
-use memchr::memmem;
+use mbox_items::{Envelope, Item, Part, is_complete, next_part, separator};
 use std::marker::Model;
 
 /// The messages that are left, in the order of the file. Contracts see the list of them. It takes no memory.
@@ -22,7 +18,7 @@ pub struct Messages<'a> {
 
 impl<'a> Model for Messages<'a> {
     ghost use Rattle.std.specs.Prelude.{List};
-    ghost use Rattle.mbox_core.specs.Division.{Item as Message, items_after};
+    ghost use Rattle.mbox_items.specs.Division.{Item as Message, items_after};
 
     ghost Value = { List Message };
 
@@ -37,76 +33,6 @@ impl<'a> Messages<'a> {
         let next = Some(envelope);
         Messages { next, rest: bytes }
     }
-}
-
-/// A message's text, and what follows it.
-#[derive(Drop)]
-pub(crate) struct Part<'a> {
-    pub(crate) text: &'a [u8],
-    pub(crate) next: Option<Envelope<'a>>,
-    pub(crate) rest: &'a [u8],
-}
-
-/// The text of the last message, whose separator line stands before these bytes.
-fn last_part<'a>(bytes: &'a [u8]) -> Part<'a>
-    ensures text { result.text.now ≡ body (lines bytes.entry.now) }
-    ensures next { result.next ≡ None }
-{
-    if bytes.is_empty() {
-        return Part {
-            text: bytes,
-            next: None,
-            rest: bytes,
-        };
-    }
-    let (text, line) = bytes.split_at(last_line(bytes));
-    if line_content(line).is_empty() {
-        Part {
-            text,
-            next: None,
-            rest: bytes,
-        }
-    } else {
-        Part {
-            text: bytes,
-            next: None,
-            rest: bytes,
-        }
-    }
-}
-
-/// The text of a message whose separator line stands before these bytes: only the lines that begin as a separator
-/// line are read.
-pub(crate) fn next_part<'a>(bytes: &'a [u8]) -> Part<'a>
-    ensures text { result.text.now ≡ text_in bytes.entry.now }
-    ensures items { items_after result.next result.rest.now ≡ items_in bytes.entry.now }
-{
-    let mut at = 0;
-    while at < bytes.len() {
-        let (_, here) = bytes.split_at(at);
-        let lf = match memmem::find(here, b"\nFrom ") {
-            Some(lf) => lf,
-            None => return last_part(bytes),
-        };
-        let (front, rest) = bytes.split_at(at + (lf + 1));
-        let last = last_line(front);
-        let (text, line) = front.split_at(last);
-        let before = line_content(line);
-        if before.is_empty() {
-            let len = line_end(rest);
-            let (candidate, after) = rest.split_at(len);
-            let content = line_content(candidate);
-            if let Some(envelope) = separator(content) {
-                return Part {
-                    text,
-                    next: Some(envelope),
-                    rest: after,
-                };
-            }
-        }
-        at += lf + 1;
-    }
-    last_part(bytes)
 }
 
 impl<'a> Iterator for Messages<'a> {

@@ -1,6 +1,6 @@
 //! The time of a separator line, as it is written (RFC 4155, appendix A).
 ghost use Rattle.std.specs.Prelude.{◌≡◌, ◌<◌, ◌≤◌, ◌∷◌, ◌++◌, []};
-ghost use Rattle.mbox_core.specs.Written.{as_day_digits, date_text, time_text};
+ghost use Rattle.mbox_items.specs.Written.{as_day_digits, date_text, time_text};
 
 use civil_time::Instant;
 use civil_time::digits::digit_pair;

@@ -1,28 +1,20 @@
-//! Mbox files (RFC 4155): separator lines, cutting a file into its messages, writing messages, and the devices that are
-//! read from and written to.
+//! Mbox files (RFC 4155): cutting a file into its messages, and writing messages. What a message is stands in `mbox_items`,
+//! and what is read from and written to in `byte_device`: both are passed on.
 //!
-//! Reading allocates nothing: each item's text is a slice of the file's own bytes. What is proved of all files stands
+//! Cutting allocates nothing: each item's text is a slice of the file's own bytes. What is proved of all files stands
 //! in the contracts of `laws`.
 #![tactic(auto)]
 
+pub use byte_device as device;
 pub use cutting::{Messages, cut};
 pub use faults::MboxFault;
-pub use items::{Item, is_complete};
-pub use lines::last_line;
-pub use owned::{OwnedItem, written_sender};
-pub use senders::Sender;
-pub use separators::{Envelope, separator};
+pub use mbox_items::{
+    Envelope, Item, OwnedItem, Sender, is_complete, last_line, separator, written_sender,
+};
 pub use writing::{write_item, written_len};
 
 mod cutting;
-pub mod device;
 mod faults;
 mod heading;
-mod items;
 pub mod laws;
-mod lines;
-mod owned;
-mod senders;
-mod separators;
-mod tokens;
 mod writing;

@@ -1,13 +1,11 @@
 //! Writing messages (RFC 4155).
 ghost use Rattle.std.specs.Prelude.{◌≡◌, ◌≤◌, ◌<◌, ◌+◌, ◌-◌, ◌^◌, ◌++◌, ◌∷◌, [], length, min, take, drop, OnOk, IfErr, OnErr, codes};
-ghost use Rattle.mbox_core.specs.Division.{whole};
-ghost use Rattle.mbox_core.specs.Written.{IsCutShort, heading, at_line, written_item, ended};
+ghost use Rattle.mbox_items.specs.Division.{whole};
+ghost use Rattle.mbox_items.specs.Written.{IsCutShort, heading, at_line, written_item, ended};
 
-use crate::device::{Sink, WriteFault, write_bytes, write_two};
 use crate::heading::time_line;
-use crate::items::Item;
-use crate::senders::Sender;
-use crate::separators::Envelope;
+use byte_device::{Sink, WriteFault, write_bytes, write_two};
+use mbox_items::{Envelope, Item, Sender};
 
 /// The longest sender whose separator line is put together before it is written.
 const SHORT: usize = 225;

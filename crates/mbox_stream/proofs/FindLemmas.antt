@@ -7,10 +7,10 @@ use Rattle.memchr.specs.Find.{OccursAt, Nowhere, NoneBefore, Passes, is_byte}
 use Rattle.mail_core.specs.Lines.{lines, content, ends_in, without_end}
 use Rattle.mbox_core.specs.Separator.{Envelope, separator_of}
 use Rattle.mbox_core.specs.Division.{IsBlank, NoneSeparates, EndsUnblank, is_blank}
-use Rattle.mbox_core.proofs.LineLemmas.{concat-lines, lines_are, AreLines, are_front, lines-cut}
-use Rattle.mbox_core.proofs.SplitLemmas.{Quiet, last_blank, last_append, heads, quiet_append, quiet_front, quiet_false, none_separates, is_unblank, one}
-use Rattle.mbox_core.proofs.ItemLemmas.{in_none}
-use Rattle.mbox_core.proofs.FastLemmas.{FirstQuiet, later_plain, quiet_chunk, mark_lf}
+use Rattle.mbox_items.proofs.LineLemmas.{concat-lines, lines_are, AreLines, are_front, lines-cut}
+use Rattle.mbox_items.proofs.SplitLemmas.{Quiet, last_blank, last_append, heads, quiet_append, quiet_front, quiet_false, none_separates, is_unblank, one}
+use Rattle.mbox_items.proofs.ItemLemmas.{in_none}
+use Rattle.mbox_items.proofs.FastLemmas.{FirstQuiet, later_plain, quiet_chunk, mark_lf}
 use Rattle.mbox_stream.specs.Stream.{settled_bytes}
 use Rattle.mbox_stream.specs.Window.{IsWhole, mark, IsCutOff, IsLooked, IsHeading, IsText, IsNext}
 use Rattle.mbox_stream.specs.Found.{IsMore}

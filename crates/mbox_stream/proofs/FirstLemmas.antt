@@ -6,8 +6,8 @@ use Rattle.std.specs.List.{AllByRecursion}
 use Rattle.mail_core.specs.Lines.{lines, content}
 use Rattle.mbox_core.specs.Separator.{Envelope, separator_of}
 use Rattle.mbox_core.specs.Division.{IsBlank, is_blank}
-use Rattle.mbox_core.proofs.LineLemmas.{concat-lines, lines-nil, blank_says}
-use Rattle.mbox_core.proofs.SplitLemmas.{unblank_not, none_is}
+use Rattle.mbox_items.proofs.LineLemmas.{concat-lines, lines-nil, blank_says}
+use Rattle.mbox_items.proofs.SplitLemmas.{unblank_not, none_is}
 use Rattle.mbox_stream.specs.Stream.{settled_bytes, IsSettledPreamble}
 use Rattle.mbox_stream.specs.Window.{IsWhole, IsPassed, IsOpening}
 use Rattle.mbox_stream.proofs.WindowLemmas.{settled_nil, ended_whole, settled_append, whole_append}

@@ -5,8 +5,8 @@ use Rattle.std.specs.List.{concat, AllByRecursion}
 use Rattle.mail_core.specs.Lines.{lines, content}
 use Rattle.mbox_core.specs.Separator.{Envelope, separator_of}
 use Rattle.mbox_core.specs.Division.{Item, IsBlank, NoneSeparates, EndsUnblank, IsPreamble, Divides, items_of, items_after, items_in, text_in, split_lines, with_item}
-use Rattle.mbox_core.proofs.LineLemmas.{lines-nil, concat-lines}
-use Rattle.mbox_core.proofs.SplitLemmas.{one, split-quiet, split-some, quiet_blanks, last_blanks, with_lines}
+use Rattle.mbox_items.proofs.LineLemmas.{lines-nil, concat-lines}
+use Rattle.mbox_items.proofs.SplitLemmas.{one, split-quiet, split-some, quiet_blanks, last_blanks, with_lines}
 use Rattle.mbox_stream.specs.Stream.{IsBeginning, settled_bytes, all_blank, unless_preamble, file_items, all_but_last, settled_items, IsSettledPreamble, IsCounted}
 use Rattle.memchr.specs.Find.{OccursAt}
 use Rattle.mbox_core.proofs.DivisionLaws.{not_both, front_divides}

@@ -4,8 +4,8 @@ use Rattle.std.specs.List.{concat, AllByRecursion}
 use Rattle.mail_core.specs.Lines.{lines}
 use Rattle.mbox_core.specs.Division.{Item, is_blank, IsBlank, Divides, IsPreamble, split_lines, items_of}
 use Rattle.mbox_stream.specs.Stream.{IsBeginning, settled_bytes, all_blank, unless_preamble, file_items, all_but_last, settled_items, IsSettledPreamble}
-use Rattle.mbox_core.proofs.LineLemmas.{blank_says, says_blank}
-use Rattle.mbox_core.proofs.SplitLemmas.{divides_items, first_unblank, Unblank}
+use Rattle.mbox_items.proofs.LineLemmas.{blank_says, says_blank}
+use Rattle.mbox_items.proofs.SplitLemmas.{divides_items, first_unblank, Unblank}
 use Rattle.mbox_core.proofs.DivisionLaws.{front_divides, preamble_from, not_both}
 use Rattle.mbox_stream.proofs.StreamLemmas.{Ended, grown, begin_blank, begin_trans, begin_all_but_last, settled_ended, settled_bytes_begin, settled_bytes_all}
 

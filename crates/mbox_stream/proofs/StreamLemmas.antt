@@ -4,8 +4,8 @@ use Rattle.mail_core.specs.Lines.{lines, onto_first_line}
 use Rattle.mbox_core.specs.Separator.{Envelope}
 use Rattle.mbox_core.specs.Division.{Item, Split, is_blank, with_line, with_item, split_lines, body}
 use Rattle.mbox_stream.specs.Stream.{IsBeginning, before_some, settled_bytes, all_blank, unless_preamble, all_but_last}
-use Rattle.mbox_core.proofs.LineLemmas.{lines-nil}
-use Rattle.mbox_core.proofs.SplitLemmas.{heads, split-nil, split-none, split-some, one}
+use Rattle.mbox_items.proofs.LineLemmas.{lines-nil}
+use Rattle.mbox_items.proofs.SplitLemmas.{heads, split-nil, split-none, split-some, one}
 
 -- ---- beginnings
 

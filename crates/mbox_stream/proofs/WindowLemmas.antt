@@ -6,7 +6,7 @@ use Rattle.mbox_core.specs.Separator.{Envelope, separator_of}
 use Rattle.mbox_core.specs.Division.{Item, Split, is_blank, split_lines, with_item, body, items_after, items_in, text_in}
 use Rattle.mbox_stream.specs.Stream.{before_some, settled_bytes, file_items, all_but_last, settled_items, IsSettledPreamble}
 use Rattle.mbox_stream.specs.Window.{IsWhole, IsWindow, IsCutOff}
-use Rattle.mbox_core.proofs.SplitLemmas.{Quiet, last_append, with_lines, split-quiet, split-some, body-blank, one}
+use Rattle.mbox_items.proofs.SplitLemmas.{Quiet, last_append, with_lines, split-quiet, split-some, body-blank, one}
 use Rattle.mbox_stream.proofs.StreamLemmas.{Ended, settled_ended}
 use Rattle.mbox_stream.proofs.StreamLaws.{all_snoc, file_items_preamble}
 

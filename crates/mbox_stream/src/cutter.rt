@@ -1,9 +1,9 @@
 //! Cutting an mbox that comes in pieces.
 ghost use Rattle.std.specs.Prelude.{◌≡◌, ◌≢◌, ◌↔◌, ◌+◌, ◌∷◌, ◌++◌, ◌<◌, ◌⊎◌, if◌then◌else◌, [], ℕ, List, length, true, false, Ok, Err, None, IfOk, IfErr, OnOk, OnErr, IfSome, MatchOption};
 ghost use Rattle.mbox_stream.specs.Stream.{IsBeginning};
-ghost use Rattle.mbox_stream.specs.Cutter.{IsCutter, IsFeedFault, IsReadFault, IsEndFault, fault_standing, is_read, is_end};
+ghost use Rattle.mbox_stream.specs.Cutter.{IsCutter, IsFeedFault, IsReadFault, IsEndFault, fault_phase, is_read, is_end};
 ghost use Rattle.mbox_core.specs.declared.faults.MboxFault.TheVariants.{Read, Failed};
-ghost use Rattle.mbox_stream.specs.declared.cutter.Standing.TheVariants.{Open, Finished};
+ghost use Rattle.mbox_stream.specs.declared.cutter.Phase.TheVariants.{Open, Finished};
 
 use crate::gone::Gone;
 use crate::window::{Place, Stop, Window, last_messages, take_in};
@@ -19,7 +19,7 @@ const PIECE: usize = 65_536;
 
 /// What a cutter answers next.
 #[derive(Clone, Copy, PartialEq, Eq, Drop)]
-pub enum Standing {
+pub enum Phase {
     /// More may be fed.
     Open,
     /// M1 or M2 was answered.
@@ -38,7 +38,7 @@ pub struct Cutter {
     stream: Told,
     taken: Gone,
     waiting: VecDeque<OwnedItem>,
-    standing: Standing,
+    phase: Phase,
     window: Option<Window>,
 }
 
@@ -49,16 +49,16 @@ impl Model for Cutter {
 
     ghost Value = { CutterState };
 
-    ghost view = { λ s. record { stream = s.stream.bytes; taken = s.taken.items; waiting = s.waiting.items; standing = s.standing } };
+    ghost view = { λ s. record { stream = s.stream.bytes; taken = s.taken.items; waiting = s.waiting.items; phase = s.phase } };
 
-    ghost invariant = { λ s. IsCutter (record { stream = s.stream.bytes; taken = s.taken.items; waiting = s.waiting.items; standing = s.standing })
-        × IsHeld s.window s.standing s.stream.bytes (s.taken.items ++ s.waiting.items) };
+    ghost invariant = { λ s. IsCutter (record { stream = s.stream.bytes; taken = s.taken.items; waiting = s.waiting.items; phase = s.phase })
+        × IsHeld s.window s.phase s.stream.bytes (s.taken.items ++ s.waiting.items) };
 }
 
 impl Cutter {
     /// A cutter that nothing was fed to. It takes its memory from this allocator.
     pub fn new(alloc: Global) -> Cutter
-        ensures state { result ≡ record { stream = []; taken = []; waiting = []; standing = Open } }
+        ensures state { result ≡ record { stream = []; taken = []; waiting = []; phase = Open } }
         ensures given { IsCutter result }
     {
         Cutter {
@@ -66,7 +66,7 @@ impl Cutter {
             stream: Told::new(),
             taken: Gone::new(),
             waiting: VecDeque::new(alloc),
-            standing: Standing::Open,
+            phase: Phase::Open,
             window: Some(Window {
                 bytes: Vec::new(alloc),
                 place: Place::Front(0),
@@ -80,7 +80,7 @@ impl Cutter {
         ensures none { result ≡ None → self.new ≡ self.old }
         ensures taken { IfSome result (λ item. self.new.taken ≡ self.old.taken ++ item ∷ []) }
         ensures stream { self.new.stream ≡ self.old.stream }
-        ensures standing { self.new.standing ≡ self.old.standing }
+        ensures phase { self.new.phase ≡ self.old.phase }
         ensures given { IsCutter self.new }
     {
         let item = self.waiting.pop_front()?;
@@ -91,14 +91,14 @@ impl Cutter {
     /// Adds bytes at the end of the stream. M1: the first line that is not empty is no separator line, and its LF came.
     /// M3: a growth was refused. M4: the cutter answered a fault, or finished.
     pub fn feed(&mut self, bytes: &[u8]) -> Result<(), MboxFault>
-        ensures closed { (result ≡ Err Failed) ↔ (self.old.standing ≢ Open) }
+        ensures closed { (result ≡ Err Failed) ↔ (self.old.phase ≢ Open) }
         ensures kept { result ≡ Err Failed → self.new ≡ self.old }
         ensures stream { result ≢ Err Failed → self.new.stream ≡ self.old.stream ++ bytes.now }
         ensures taken { self.new.taken ≡ self.old.taken }
         ensures waiting { IsBeginning self.old.waiting self.new.waiting }
-        ensures open { OnOk result (self.new.standing ≡ Open) }
+        ensures open { OnOk result (self.new.phase ≡ Open) }
         ensures given { IsCutter self.new }
-        ensures fault { IfErr result (λ fault. IsFeedFault self.new.stream fault × (self.new.standing ≡ fault_standing self.old.standing fault)) }
+        ensures fault { IfErr result (λ fault. IsFeedFault self.new.stream fault × (self.new.phase ≡ fault_phase self.old.phase fault)) }
     {
         let window = match self.window.take() {
             Some(window) => window,
@@ -118,11 +118,11 @@ impl Cutter {
                 Ok(())
             }
             Err(Stop::Faulty(at)) => {
-                self.standing = Standing::Stopped;
+                self.phase = Phase::Stopped;
                 Err(MboxFault::Preamble(at))
             }
             Err(Stop::Memory) => {
-                self.standing = Standing::Short;
+                self.phase = Phase::Short;
                 Err(MboxFault::Memory)
             }
         }
@@ -130,7 +130,7 @@ impl Cutter {
 
     /// Reads once, and feeds what was read. False: the reader is at its end.
     pub fn read_from<R: Source>(&mut self, input: &mut R) -> Result<bool, MboxFault>
-        ensures closed { (result ≡ Err Failed) ↔ (self.old.standing ≢ Open) }
+        ensures closed { (result ≡ Err Failed) ↔ (self.old.phase ≢ Open) }
         ensures kept { result ≡ Err Failed → (self.new ≡ self.old) × (R.told input.new ≡ R.told input.old) × (R.ends input.new ≡ R.ends input.old) }
         ensures read { (piece : List ℕ) × (R.told input.new ≡ R.told input.old ++ piece) × (self.new.stream ≡ self.old.stream ++ piece) }
         ensures faults { R.failures input.new ≡ R.failures input.old + (if is_read result then 1 else 0) }
@@ -139,9 +139,9 @@ impl Cutter {
         ensures waiting { IsBeginning self.old.waiting self.new.waiting }
         ensures none { (result ≡ Ok false) ⊎ (result ≡ Err Read) → (self.new.stream ≡ self.old.stream) × (self.new.waiting ≡ self.old.waiting) }
         ensures some { result ≡ Ok true → length self.old.stream < length self.new.stream }
-        ensures open { OnOk result (self.new.standing ≡ Open) }
+        ensures open { OnOk result (self.new.phase ≡ Open) }
         ensures given { IsCutter self.new }
-        ensures fault { IfErr result (λ fault. IsReadFault self.new.stream fault × (self.new.standing ≡ fault_standing self.old.standing fault)) }
+        ensures fault { IfErr result (λ fault. IsReadFault self.new.stream fault × (self.new.phase ≡ fault_phase self.old.phase fault)) }
     {
         if self.window.is_none() {
             return Err(MboxFault::Failed);
@@ -155,7 +155,7 @@ impl Cutter {
             },
             Err(_) => {
                 self.window = None;
-                self.standing = Standing::Stopped;
+                self.phase = Phase::Stopped;
                 Err(MboxFault::Read)
             }
         }
@@ -163,14 +163,14 @@ impl Cutter {
 
     /// Ends the stream: what waits and was taken are then its messages. M1: `cut` refuses it. M3, M4: as `feed`.
     pub fn finish(&mut self) -> Result<(), MboxFault>
-        ensures closed { (result ≡ Err Failed) ↔ (self.old.standing ≢ Open) }
+        ensures closed { (result ≡ Err Failed) ↔ (self.old.phase ≢ Open) }
         ensures kept { result ≡ Err Failed → self.new ≡ self.old }
         ensures stream { self.new.stream ≡ self.old.stream }
         ensures taken { self.new.taken ≡ self.old.taken }
         ensures waiting { IsBeginning self.old.waiting self.new.waiting }
-        ensures finished { OnOk result (self.new.standing ≡ Finished) }
+        ensures finished { OnOk result (self.new.phase ≡ Finished) }
         ensures given { IsCutter self.new }
-        ensures fault { IfErr result (λ fault. IsEndFault self.new.stream fault × (self.new.standing ≡ fault_standing self.old.standing fault)) }
+        ensures fault { IfErr result (λ fault. IsEndFault self.new.stream fault × (self.new.phase ≡ fault_phase self.old.phase fault)) }
     {
         let window = match self.window.take() {
             Some(window) => window,
@@ -185,21 +185,21 @@ impl Cutter {
         ) {
             Ok(last) => last,
             Err(Stop::Faulty(at)) => {
-                self.standing = Standing::Stopped;
+                self.phase = Phase::Stopped;
                 return Err(MboxFault::Preamble(at));
             }
             Err(Stop::Memory) => {
-                self.standing = Standing::Short;
+                self.phase = Phase::Short;
                 return Err(MboxFault::Memory);
             }
         };
         match self.waiting.append(&mut last) {
             Ok(()) => {
-                self.standing = Standing::Finished;
+                self.phase = Phase::Finished;
                 Ok(())
             }
             Err(_) => {
-                self.standing = Standing::Short;
+                self.phase = Phase::Short;
                 Err(MboxFault::Memory)
             }
         }

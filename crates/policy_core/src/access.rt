@@ -1,6 +1,7 @@
 //! What is asked of a policy, and what it answers.
 ghost use Rattle.std.specs.Prelude.{◌≡◌};
 ghost use Rattle.policy_core.specs.Facts.{is_embargoed, age, rank_of, is_at_least};
+ghost use Rattle.policy_core.specs.Numbers.{kind_rank, party_number};
 ghost use Rattle.policy_core.specs.Written.{standing_named};
 
 use crate::words::Word;
@@ -44,6 +45,46 @@ impl Standing {
         ensures { result ≡ is_at_least least self }
     {
         self >= least
+    }
+}
+
+/// What a grant makes of a person on a list: one of the standings above `Public`.
+#[derive(Clone, Copy, Debug, PartialEq, Eq, Hash)]
+pub enum Kind {
+    Member,
+    Subscriber,
+    Moderator,
+}
+
+impl Kind {
+    /// The rank of the standing that it gives, from 1 for `Member` to 3 for `Moderator`.
+    pub fn rank(self) -> i64
+        ensures { result ≡ kind_rank self }
+    {
+        match self {
+            Kind::Member => 1,
+            Kind::Subscriber => 2,
+            Kind::Moderator => 3,
+        }
+    }
+}
+
+/// Who withdraws a message: its author, or the list's board.
+#[derive(Clone, Copy, Debug, PartialEq, Eq, Hash)]
+pub enum Party {
+    Author,
+    Board,
+}
+
+impl Party {
+    /// 1 for `Author`, 2 for `Board`.
+    pub fn number(self) -> i64
+        ensures { result ≡ party_number self }
+    {
+        match self {
+            Party::Author => 1,
+            Party::Board => 2,
+        }
     }
 }
 

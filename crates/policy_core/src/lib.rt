@@ -9,7 +9,7 @@ mod rule_reading;
 mod rules;
 mod words;
 
-pub use access::{Facts, MOST_DAYS, Standing, Verdict, Withdrawn};
+pub use access::{Facts, Kind, MOST_DAYS, Party, Standing, Verdict, Withdrawn};
 pub use faults::PolicyFault;
 pub use names::is_name;
 pub use rules::Policy;

@@ -1,8 +1,8 @@
-use Rattle.mbox_core.specs.Division.{is_blank}
+use Rattle.mbox_items.specs.Division.{is_blank}
 use Rattle.std.proofs.Common.{◌≡◌, ◌≤◌, length, ℕ, ◌+◌, Bool, true, false, not, ◌==◌, List, drop, arith, ap, ◌∙◌, sym, refl, Some, None, length-drop}
 use Rattle.std.proofs.lemmas.List.{take_rest}
 use Rattle.mail_core.specs.Lines.{content}
-use Rattle.mbox_core.specs.Separator.{separator_of}
+use Rattle.mbox_items.specs.Separator.{separator_of}
 use Rattle.mbox_core.proofs.CutLemmas.{blanks_start, blanks_more, divides_here, preamble_here}
 use Rattle.mbox_core.proofs.DivisionLaws.{not_both}
 use Rattle.mbox_core.proofs.cutting.cut.Goals as goal

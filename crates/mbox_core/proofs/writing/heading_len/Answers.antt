@@ -1,8 +1,8 @@
 use Rattle.std.proofs.Common.{◌≡◌, [], ◌∷◌, ◌++◌, length, arith, ap, ◌∙◌, sym, subst, codes, length-append}
-use Rattle.mbox_core.specs.Senders.{sender_text}
-use Rattle.mbox_core.specs.Separator.{Envelope, spaced}
-use Rattle.mbox_core.specs.Written.{IsEnvelope}
-use Rattle.mbox_core.proofs.SenderLemmas.{envelope_is}
+use Rattle.mbox_items.specs.Senders.{sender_text}
+use Rattle.mbox_items.specs.Separator.{Envelope, spaced}
+use Rattle.mbox_items.specs.Written.{IsEnvelope}
+use Rattle.mbox_items.proofs.SenderLemmas.{envelope_is}
 use Rattle.mbox_core.proofs.WrittenLaws.{heading_length}
 use Rattle.mbox_core.proofs.writing.heading_len.Goals as goal
 

@@ -1,7 +1,7 @@
 use Rattle.std.proofs.Common.{◌≡◌, ◌++◌, ◌-◌, ◌^◌, ℕ, List, length, min, ap, ◌∙◌, subst}
-use Rattle.mbox_core.specs.Separator.{Envelope}
-use Rattle.mbox_core.specs.Division.{Item, whole}
-use Rattle.mbox_core.specs.Written.{IsCutShort, heading, ended}
+use Rattle.mbox_items.specs.Separator.{Envelope}
+use Rattle.mbox_items.specs.Division.{Item, whole}
+use Rattle.mbox_items.specs.Written.{IsCutShort, heading, ended}
 use Rattle.mbox_core.proofs.WritingLemmas.{first_short, second_short, exact_count}
 use Rattle.mbox_core.proofs.writing.write_item.Goals as goal
 

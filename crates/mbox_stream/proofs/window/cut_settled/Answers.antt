@@ -1,7 +1,7 @@
 use Rattle.std.proofs.Common.{◌++◌, ◌∷◌, [], ℕ, ◌+◌, List, drop, arith, sym, subst}
 use Rattle.mbox_core.specs.Division.{Item}
 use Rattle.mbox_core.specs.Separator.{Envelope}
-use Rattle.mbox_core.proofs.SplitLemmas.{one}
+use Rattle.mbox_items.proofs.SplitLemmas.{one}
 use Rattle.mbox_stream.specs.Stream.{IsBeginning, settled_items}
 use Rattle.mbox_stream.specs.Window.{IsWindow, IsNext}
 use Rattle.mbox_stream.proofs.KeptLemmas.{looked_start, window_next, window_begin, begin_self, begin_more, start_next}

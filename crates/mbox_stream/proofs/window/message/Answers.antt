@@ -1,4 +1,4 @@
-use Rattle.mbox_core.proofs.ItemLemmas.{whole_none}
+use Rattle.mbox_items.proofs.ItemLemmas.{whole_none}
 use Rattle.mbox_stream.proofs.window.message.Goals as goal
 
 pub invariant_of-of : goal.invariant_of-of

@@ -1,7 +1,7 @@
 use Rattle.std.proofs.Common.{List, ℕ, sym, subst}
 use Rattle.mail_core.specs.Lines.{lines}
-use Rattle.mbox_core.specs.Division.{NoneSeparates, whole}
-use Rattle.mbox_core.proofs.ItemLemmas.{none_in_text, whole_none}
+use Rattle.mbox_items.specs.Division.{NoneSeparates, whole}
+use Rattle.mbox_items.proofs.ItemLemmas.{none_in_text, whole_none}
 use Rattle.mbox_core.proofs.cutting.MessagesIterator.next.Goals as goal
 
 pub invariant_of-result : goal.invariant_of-result

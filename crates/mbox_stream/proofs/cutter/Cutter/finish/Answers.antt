@@ -3,8 +3,8 @@ use Rattle.mbox_core.specs.Division.{Item}
 use Rattle.mbox_stream.specs.Cutter.{IsGiven}
 use Rattle.mbox_stream.specs.Held.{IsHeld}
 use Rattle.mbox_stream.specs.declared.window.Window.{Window}
-use Rattle.mbox_stream.specs.declared.cutter.Standing.{Standing}
-use Rattle.mbox_stream.specs.declared.cutter.Standing.TheVariants.{Short}
+use Rattle.mbox_stream.specs.declared.cutter.Phase.{Phase}
+use Rattle.mbox_stream.specs.declared.cutter.Phase.TheVariants.{Short}
 use Rattle.mbox_stream.proofs.cutter.Cutter.finish.Goals as goal
 
 pub invariant_of-self-in-Err : goal.invariant_of-self-in-Err
@@ -13,9 +13,9 @@ invariant_of-self-in-Err c =
     let before : List Item = taken ++ c.self.inside.waiting.items in
     let items : List Item = taken ++ c.append.new.self.items in
     let stream = c.self.inside.stream.bytes in
-    let H : Option Window → Type 0 = λ w. IsHeld w c.self.inside.standing stream before in
+    let H : Option Window → Type 0 = λ w. IsHeld w c.self.inside.phase stream before in
     let held = subst H (sym c.in-Some.ensures.value) c.self.invariant.1 in
-    let G : Standing → Type 0 = λ s. IsGiven s stream before in
+    let G : Phase → Type 0 = λ s. IsGiven s stream before in
     let given = subst G held.0 c.self.invariant.0 in
     let same : items ≡ before = ap (λ x. taken ++ x) c.in-Err.ensures.items in
     let N : Option Window → Type 0 = λ w. IsHeld w Short stream items in (
@@ -29,9 +29,9 @@ returns-clause-given c =
     let before : List Item = taken ++ c.self.inside.waiting.items in
     let items : List Item = taken ++ c.append.new.self.items in
     let stream = c.self.inside.stream.bytes in
-    let H : Option Window → Type 0 = λ w. IsHeld w c.self.inside.standing stream before in
+    let H : Option Window → Type 0 = λ w. IsHeld w c.self.inside.phase stream before in
     let held = subst H (sym c.in-Some.ensures.value) c.self.invariant.1 in
-    let G : Standing → Type 0 = λ s. IsGiven s stream before in
+    let G : Phase → Type 0 = λ s. IsGiven s stream before in
     let given = subst G held.0 c.self.invariant.0 in
     let same : items ≡ before = ap (λ x. taken ++ x) c.in-Err.ensures.items in
     ([], sym (append-nil items ∙ same ∙ given.0))

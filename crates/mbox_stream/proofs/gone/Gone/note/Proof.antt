@@ -17,7 +17,7 @@ use denote.Steps.{opens, closes}
 use denote.Triple.Walked.{Stays, says, stay_ref, stay_none_slice, Goes-ref, Goes-none_slice, ends_at}
 use Rattle.mbox_stream.specs.declared.gone.Gone.{Gone}
 use Rattle.mbox_stream.specs.contracts.gone.Gone.{the_row as R}
-use Rattle.mbox_core.specs.contracts.owned.OwnedItem.{the_row as I}
+use Rattle.mbox_items.specs.contracts.owned.OwnedItem.{the_row as I}
 use Rattle.mbox_stream.specs.contracts.gone.Gone.note as f
 use Rattle.mbox_stream.proofs.gone.Gone.note.Statement.{statement}
 use Rattle.mbox_stream.proofs.gone.Gone.note.Code as code

@@ -1,0 +1,2 @@
+pub mod DeviceExamples
+pub mod DeviceLemmas

@@ -1,5 +1,0 @@
-use Rattle.std.specs.Io.KnownBytes.{Keeps}
-use Rattle.mbox_core.proofs.device.counted.write_through.Given as goal
-
-abbrev pub invariant-loop : goal.invariant-loop
-invariant-loop g l = Keeps (g.D.Write.contents l.initial.inner) (g.D.Write.contents l.inner)

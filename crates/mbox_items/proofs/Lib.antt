@@ -1,0 +1,9 @@
+pub mod LineLemmas
+pub mod SeparatorLemmas
+pub mod SplitLemmas
+pub mod PartLemmas
+pub mod TokenLemmas
+pub mod FastLemmas
+pub mod ItemLemmas
+pub mod RunLemmas
+pub mod SenderLemmas
