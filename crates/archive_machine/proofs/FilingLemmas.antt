@@ -2,7 +2,7 @@
 use Rattle.std.proofs.Common.{◌≡◌, ℕ, ℤ, Bool, true, false, List, [], ◌∷◌, ◌++◌, map, filter, refl, sym, ap, ap₂, ◌∙◌, Option, if◌then◌else◌}
 use Rattle.std.specs.Prelude.{⊤, zip}
 use Rattle.std.proofs.lemmas.List.{map-append}
-use Rattle.mbox_core.specs.Division.{Item, whole}
+use Rattle.mbox_items.specs.Division.{Item, whole}
 use Rattle.archive_machine.specs.Records.{Message, Filing, Archive}
 use Rattle.archive_machine.specs.Questions.{is_message}
 use Rattle.archive_machine.specs.Filing.{item_filing, message_filing, Filed, filed, by_filed_date, is_filed_in_month, is_filed_by_author, in_month, by_author}

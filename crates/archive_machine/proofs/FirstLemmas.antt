@@ -6,7 +6,7 @@ use Rattle.std.proofs.lemmas.Bool.Decides.{nat_tests}
 use Rattle.std.proofs.lemmas.List.{append-nil, map-append, length-append, append_assoc}
 use Rattle.std.proofs.lemmas.List.Elements.{filter-append}
 use Rattle.std.proofs.lemmas.Slice.Eq.{bytes_eq-Decides}
-use Rattle.mbox_core.specs.Division.{Item, whole}
+use Rattle.mbox_items.specs.Division.{Item, whole}
 use Rattle.archive_machine.specs.Records.{Message, Archive}
 use Rattle.archive_machine.specs.Commands.{add}
 use Rattle.archive_machine.specs.Keys.{item_key}

@@ -2,7 +2,7 @@
 use Rattle.std.proofs.Common.{◌≡◌, ℕ, pos, List, [], ◌∷◌, refl, codes}
 use Rattle.sha2.specs.Sha256.{sha256, digest_bytes, hash_after, compress, rounds, schedule, first_words}
 use Rattle.hex.proofs.OnLiterals.{hex_on_literals}
-use Rattle.mbox_core.specs.Division.{Item}
+use Rattle.mbox_items.specs.Division.{Item}
 use Rattle.archive_machine.specs.Records.{Archive}
 use Rattle.archive_machine.specs.Commands.{no_list, list_full, taken_in, already_known, refused}
 use Rattle.archive_machine.specs.Filing.{item_filing}

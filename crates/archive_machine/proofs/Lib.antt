@@ -13,3 +13,5 @@ pub mod ListedLemmas
 mod DamageExamples
 pub mod FirstLemmas
 pub mod RepeatLemmas
+pub mod LastingLemmas
+mod LastingExamples

@@ -1,8 +1,8 @@
 -- Commands keep an archive sound.
 use Rattle.std.proofs.Common.{◌≡◌, ℕ, ℤ, Bool, true, false, List, refl, Option, if◌then◌else◌}
 use Rattle.std.proofs.lemmas.List.Elements.{All-map, All-push, All-weaker}
-use Rattle.mbox_core.specs.Division.{Item, is_whole, whole}
-use Rattle.mbox_core.specs.Written.{IsItem, whole_item}
+use Rattle.mbox_items.specs.Division.{Item, is_whole, whole}
+use Rattle.mbox_items.specs.Written.{IsItem, whole_item}
 use Rattle.archive_machine.specs.Records.{Message, Archive}
 use Rattle.archive_machine.specs.Questions.{is_message}
 use Rattle.archive_machine.specs.Machine.{new_message, changed, with_change, withdrawn_by, embargoed}

@@ -4,7 +4,7 @@ ghost use Rattle.std.specs.List.{list_all};
 ghost use Rattle.hex.specs.Hex.{encode_lower};
 ghost use Rattle.archive_machine.specs.Keys.{is_key, is_key_digit};
 
-use mbox_core::Item;
+use mbox_items::Item;
 use sha2::{Digest, Sha256};
 use std::marker::Model;
 

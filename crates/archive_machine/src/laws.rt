@@ -1,17 +1,19 @@
 //! Laws of the machine: each contract is a law over the definitions of `specs/` alone, and no call does anything.
-ghost use Rattle.std.specs.Prelude.{◌≡◌, ℕ, ◌+◌, List, ◌++◌, length, map, take, true};
+ghost use Rattle.std.specs.Prelude.{◌≡◌, ◌≢◌, ℕ, ℤ, pos, ◌+◌, Bool, List, ◌++◌, length, map, take, Some, true};
 ghost use Rattle.std.specs.List.{All};
-ghost use Rattle.mbox_core.specs.Division.{Item};
+ghost use Rattle.mbox_items.specs.Division.{Item};
 ghost use Rattle.archive_machine.specs.Records.{Archive};
-ghost use Rattle.archive_machine.specs.Commands.{Command, Refusal, refused};
+ghost use Rattle.archive_machine.specs.Addresses.{kept_address};
+ghost use Rattle.archive_machine.specs.Commands.{Command, list_add, withdraw, embargo, merge_set, address_set, done, Refusal, refused};
 ghost use Rattle.archive_machine.specs.Firsts.{accepted, keys_in};
 ghost use Rattle.archive_machine.specs.Machine.{step, message_limit, new_message};
 ghost use Rattle.archive_machine.specs.Runs.{run, taken};
-ghost use Rattle.archive_machine.specs.Questions.{AreListNames, list_names, has_list, messages_in};
+ghost use Rattle.archive_machine.specs.Questions.{AreListNames, address_of, list_names, has_list, merge_of, messages_in};
 ghost use Rattle.archive_machine.specs.Sound.{AddsItem, IsSound, IsFiledRight, HasNamesApart, HasNamesAndTokens, HasOptionEach};
 ghost use Rattle.archive_machine.specs.Damage.{IsWhole, IsFirstDamaged};
+ghost use Rattle.archive_machine.specs.Lasting.{NoneOf, sets_merge, sets_address, ends_withdrawal, sets_embargo, OfItsMessage, is_address_set, is_newer_than_first, IsOfFirst, IsOfSecond};
 
-use mbox_core::laws::{whole_is_whole, whole_items_are_items};
+use mbox_items::laws::{whole_is_whole, whole_items_are_items};
 
 /// A command that is refused leaves the archive as it was.
 pub fn a_refusal_changes_nothing()
@@ -86,4 +88,38 @@ pub fn a_list_holds_the_first_of_each_key()
     ensures repeats { (a : Archive) (list : List ℕ) (items : List Item) (n room : ℕ) → has_list a list ≡ true
         → length (messages_in a list) + room ≡ message_limit
         → messages_in (taken (taken a list (take n items)).archive list items).archive list ≡ messages_in (taken a list items).archive list }
+{}
+
+/// What is set is what is told. A list is threaded as was chosen for it last, and gathered by subject where nothing was; the
+/// address of a person is the one that was given last, as it is kept. No other command changes that, be it of another list or
+/// person or of something else.
+pub fn what_is_set_is_told()
+    ensures merged { (a : Archive) (list : List ℕ) (merge : Bool) → HasOptionEach a → has_list a list ≡ true
+        → merge_of (step a (merge_set list merge)).0 list ≡ merge }
+    ensures merge_stays { (a : Archive) (list : List ℕ) (commands : List Command) → NoneOf (sets_merge list) commands
+        → merge_of (run a commands).archive list ≡ merge_of a list }
+    ensures at_first { (a : Archive) (name : List ℕ) → HasOptionEach a → (step a (list_add name)).1 ≡ done
+        → merge_of (step a (list_add name)).0 name ≡ true }
+    ensures addressed { (a : Archive) (person address : List ℕ) → (step a (address_set person address)).1 ≡ done
+        → address_of (step a (address_set person address)).0 person ≡ Some (kept_address address) }
+    ensures address_stays { (a : Archive) (person : List ℕ) (commands : List Command) → NoneOf (sets_address person) commands
+        → address_of (run a commands).archive person ≡ address_of a person }
+{}
+
+/// A message that was withdrawn stays so, by whom it was, whatever is commanded but to restore it; and one that was held back
+/// stays so, up to that day, whatever is commanded but to set its embargo anew or to lift it.
+pub fn what_is_withheld_stays_so()
+    ensures withdrawn { (a : Archive) (list key : List ℕ) (party : ℤ) (commands : List Command) → party ≢ pos 0
+        → (step a (withdraw list key party)).1 ≡ done → NoneOf (ends_withdrawal list key) commands
+        → OfItsMessage (run (step a (withdraw list key party)).0 commands).archive list key (λ m. m.withdrawn ≡ party) }
+    ensures held_back { (a : Archive) (list key : List ℕ) (until : ℤ) (commands : List Command)
+        → (step a (embargo list key until)).1 ≡ done → NoneOf (sets_embargo list key) commands
+        → OfItsMessage (run (step a (embargo list key until)).0 commands).archive list key (λ m. m.embargo ≡ Some until) }
+{}
+
+/// The commands that programs of an older version knew keep an archive such as a file of that version is read as, as the empty one
+/// is: the first knew neither how lists are threaded nor addresses, the second no addresses.
+pub fn an_older_file_is_the_archive_of_its_commands()
+    ensures first { (a : Archive) (commands : List Command) → NoneOf is_newer_than_first commands → IsOfFirst a → IsOfFirst (run a commands).archive }
+    ensures second { (a : Archive) (commands : List Command) → NoneOf is_address_set commands → IsOfSecond a → IsOfSecond (run a commands).archive }
 {}

@@ -1,7 +1,7 @@
 //! A message of a list.
 use crate::keys::Key;
 use civil_time::Day;
-use mbox_core::OwnedItem;
+use mbox_items::OwnedItem;
 use policy_core::Withdrawn;
 
 /// A message of a list. Its item's text is the whole text. What it means is `remembered`.

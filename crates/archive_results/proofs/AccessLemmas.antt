@@ -1,5 +1,5 @@
 -- What the policy says of a message, and what is told of it.
-use Rattle.std.proofs.Common.{◌≡◌, ℕ, Bool, false, List, Option, Some, None, ap, subst, ◌∙◌}
+use Rattle.std.proofs.Common.{◌≡◌, ℕ, Bool, false, List, Option, Some, None, ap, sym, subst, ◌∙◌}
 use Rattle.policy_core.specs.Facts.{Facts}
 use Rattle.policy_core.specs.Rules.{Rule}
 use Rattle.policy_core.specs.Verdict.{Ruling, allowed, denied, verdict_of}
@@ -19,6 +19,12 @@ unasked_ruling ask reader m marks said rules same alike e is =
     is ∙ ap (ruling_on ask reader) e
     ∙ subst (λ (rs : List Rule). (facts : Facts) (own : Bool) → verdict_of rs (record facts { own = own }) ≡ verdict_of rs facts) same alike
     (facts_of ask reader (marks_of reader.address m)) false
+
+-- no message is the own one of a reader without an address
+pub unaddressed_ruling : (ask : Ask) (reader : ReaderMarks) (m : Message) → reader.address ≡ None
+    → ruling_on ask reader (record (marks_of None m) { own = false }) ≡ ruling_on ask reader (marks_of reader.address m)
+unfolding marks_of
+unaddressed_ruling ask reader m none = ap (λ (a : Option (List ℕ)). ruling_on ask reader (marks_of a m)) (sym none)
 
 pub is_served : (ask : Ask) (reader : ReaderMarks) (m : Message) (rule text : List ℕ) → allowed rule ≡ ruling_on ask reader (marks_of reader.address m) → text ≡ m.text
     → served text ≡ asked_on ask reader (Some m)

@@ -9,3 +9,5 @@ pub mod SortLemmas
 pub mod FiledLemmas
 pub mod OwnLemmas
 pub mod PromiseLemmas
+pub mod HistoryLemmas
+pub mod PromiseExamples

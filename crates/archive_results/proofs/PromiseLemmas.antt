@@ -1,21 +1,24 @@
 -- What is withheld leaves no trace in a view, and so neither does what is withdrawn, for those to whom the policy denies it.
-use Rattle.std.proofs.Common.{◌≡◌, ◌≢◌, ◌∙◌, ℕ, ℤ, Bool, true, false, not, cond, nat_lt, nat_le, List, [], ◌∷◌, ◌++◌, length, map, filter, Some, is_some, refl, sym, ap, if◌then◌else◌, arith}
+use Rattle.std.proofs.Common.{◌≡◌, ◌≢◌, ◌∙◌, ℕ, ℤ, pos, Bool, true, false, not, cond, nat_lt, nat_le, List, [], ◌∷◌, ◌++◌, length, map, filter, Some, is_some, refl, sym, ap, ap₂, subst, if◌then◌else◌, arith}
 use Rattle.std.specs.Prelude.{bytes_eq, find, slice_index_or, zip}
 use Rattle.std.specs.List.{All}
-use Rattle.std.proofs.lemmas.List.Elements.{All-head, All-tail}
+use Rattle.std.proofs.lemmas.Bool.{true≢false}
+use Rattle.std.proofs.lemmas.List.Elements.{All-nil, All-cons, All-head, All-tail}
 use Rattle.std.proofs.lemmas.Slice.Eq.{bytes_eq-Decides}
-use Rattle.mbox_core.specs.Division.{Item, whole}
+use Rattle.mbox_items.specs.Division.{Item, whole}
 use Rattle.policy_core.specs.declared.access.Withdrawn.{Withdrawn}
 use Rattle.policy_core.specs.declared.access.Withdrawn.TheVariants.{No, Author, Board}
 use Rattle.archive_machine.specs.Records.{Message, Filing, Archive}
-use Rattle.archive_machine.specs.Commands.{add, withdraw, no_list, no_message, already_withdrawn, list_full, too_large, done, taken_in, already_known, refused}
+use Rattle.archive_machine.specs.Commands.{Command, add, withdraw, embargo, no_list, no_message, already_withdrawn, list_full, too_large, done, taken_in, already_known, refused}
 use Rattle.archive_machine.specs.Filing.{Filed, item_filing}
 use Rattle.archive_machine.specs.Keys.{item_key}
+use Rattle.archive_machine.specs.Lasting.{NoneOf, ends_withdrawal, sets_embargo, OfItsMessage}
 use Rattle.archive_machine.specs.Machine.{step, refuse, changed, with_change, withdrawn_by, keyed_message, with_message, longest_text, message_limit}
 use Rattle.archive_machine.specs.Messages.{number_of}
 use Rattle.archive_machine.specs.Questions.{has_list, has_message, message_of, messages_in, is_message, is_withdrawn}
+use Rattle.archive_machine.specs.Runs.{run}
 use Rattle.archive_results.specs.Access.{Ask, ReaderMarks, marks_of, own_of, withdrawal_numbered, reader_marks, is_shown, view_of}
-use Rattle.archive_results.specs.Promise.{without, beside, IsWithheld, IsOfAnother, DeniesWithdrawn}
+use Rattle.archive_results.specs.Promise.{without, beside, IsWithheld, IsOfAnother, DeniesWithdrawn, DeniesWithdrawnBy, DeniesHeldBack, IsHiddenBy}
 
 -- ---- the view of some messages, by what is shown of each
 
@@ -107,19 +110,133 @@ numbered No = refl
 numbered Author = refl
 numbered Board = refl
 
-hidden_by : (ask : Ask) (reader : ReaderMarks) (by : Withdrawn) (m : Message) → by ≢ No → DeniesWithdrawn ask reader → own_of reader.address m ≡ false
-    → is_shown ask reader (withdrawn_by (number_of by) m) ≡ false
-unfolding marks_of
-hidden_by ask reader by m some denies other =
-    denies (marks_of reader.address (withdrawn_by (number_of by) m)) (λ e. some (sym (numbered by) ∙ e)) other
+-- who withdrew a message is somebody
+numbered_some : (by : Withdrawn) → by ≢ No → number_of by ≢ pos 0
+numbered_some No some e = some refl
+numbered_some Author some e = absurd cc
+numbered_some Board some e = absurd cc
 
-pub as_if_it_never_came : (a : Archive) (ask : Ask) (list key : List ℕ) (by : Withdrawn) → by ≢ No → (step a (withdraw list key (number_of by))).1 ≡ done
-    → IsOfAnother a ask list key → DeniesWithdrawn ask (reader_marks a ask) → view_of (step a (withdraw list key (number_of by))).0 ask ≡ view_of (without a list key) ask
-as_if_it_never_came a ask list key by some is others denies =
+hidden_by : (ask : Ask) (reader : ReaderMarks) (by : Withdrawn) (m : Message) → DeniesWithdrawnBy by ask reader → own_of reader.address m ≡ false
+    → m.withdrawn ≡ number_of by → is_shown ask reader m ≡ false
+unfolding marks_of
+hidden_by ask reader by m denies other is = denies (marks_of reader.address m) (ap withdrawal_numbered is ∙ numbered by) other
+
+pub as_if_it_never_came : (a : Archive) (ask : Ask) (list key : List ℕ) (by : Withdrawn) → (step a (withdraw list key (number_of by))).1 ≡ done
+    → IsOfAnother a ask list key → DeniesWithdrawnBy by ask (reader_marks a ask) → view_of (step a (withdraw list key (number_of by))).0 ask ≡ view_of (without a list key) ask
+as_if_it_never_came a ask list key by is others denies =
     let reader : ReaderMarks = reader_marks a ask in
     ap (λ (archive : Archive). view_of archive ask) (withdrawn_left a list key (number_of by) is)
     ∙ as_gone ask reader list key (withdrawn_by (number_of by)) a.messages
-    (λ k d within of_key. hidden_by ask reader by (slice_index_or a.messages k d) some denies (others k d within of_key))
+    (λ k d within of_key. hidden_by ask reader by (withdrawn_by (number_of by) (slice_index_or a.messages k d)) denies (others k d within of_key) refl)
+
+-- who denies what anybody withdrew denies what this party withdrew
+pub by_any : (ask : Ask) (reader : ReaderMarks) (by : Withdrawn) → by ≢ No → DeniesWithdrawn ask reader → DeniesWithdrawnBy by ask reader
+by_any ask reader by some denies marks is other = denies marks (λ e. some (sym is ∙ e)) other
+
+-- ---- what is withheld later
+
+-- what the machine's law says of a message that was withdrawn, and of one that was held back
+abbrev pub StaysWithdrawn : Type 0
+StaysWithdrawn = (a : Archive) (list key : List ℕ) (party : ℤ) (commands : List Command) → party ≢ pos 0 → (step a (withdraw list key party)).1 ≡ done
+    → NoneOf (ends_withdrawal list key) commands → OfItsMessage (run (step a (withdraw list key party)).0 commands).archive list key (λ m. m.withdrawn ≡ party)
+
+abbrev pub StaysHeldBack : Type 0
+StaysHeldBack = (a : Archive) (list key : List ℕ) (until : ℤ) (commands : List Command) → (step a (embargo list key until)).1 ≡ done
+    → NoneOf (sets_embargo list key) commands → OfItsMessage (run (step a (embargo list key until)).0 commands).archive list key (λ m. m.embargo ≡ Some until)
+
+withheld_by : (b : Archive) (ask : Ask) (list key : List ℕ) (by : Withdrawn) → OfItsMessage b list key (λ m. m.withdrawn ≡ number_of by)
+    → IsHiddenBy (DeniesWithdrawnBy by) b ask list key
+withheld_by b ask list key by marked others denies k d within of_key =
+    hidden_by ask (reader_marks b ask) by (slice_index_or b.messages k d) denies (others k d within of_key) (marked k d within of_key)
+
+pub withdrawn_later : StaysWithdrawn → (a : Archive) (ask : Ask) (list key : List ℕ) (by : Withdrawn) (commands : List Command) → by ≢ No
+    → (step a (withdraw list key (number_of by))).1 ≡ done → NoneOf (ends_withdrawal list key) commands
+    → IsHiddenBy (DeniesWithdrawnBy by) (run (step a (withdraw list key (number_of by))).0 commands).archive ask list key
+withdrawn_later stays a ask list key by commands some is none =
+    withheld_by (run (step a (withdraw list key (number_of by))).0 commands).archive ask list key by
+    (stays a list key (number_of by) commands (numbered_some by some) is none)
+
+held_back : (ask : Ask) (reader : ReaderMarks) (until : ℤ) (m : Message) → DeniesHeldBack until ask reader → own_of reader.address m ≡ false
+    → m.embargo ≡ Some until → is_shown ask reader m ≡ false
+unfolding marks_of
+held_back ask reader until m denies other is = denies (marks_of reader.address m) is other
+
+withheld_until : (b : Archive) (ask : Ask) (list key : List ℕ) (until : ℤ) → OfItsMessage b list key (λ m. m.embargo ≡ Some until)
+    → IsHiddenBy (DeniesHeldBack until) b ask list key
+withheld_until b ask list key until marked others denies k d within of_key =
+    held_back ask (reader_marks b ask) until (slice_index_or b.messages k d) denies (others k d within of_key) (marked k d within of_key)
+
+pub held_back_later : StaysHeldBack → (a : Archive) (ask : Ask) (list key : List ℕ) (until : ℤ) (commands : List Command)
+    → (step a (embargo list key until)).1 ≡ done → NoneOf (sets_embargo list key) commands
+    → IsHiddenBy (DeniesHeldBack until) (run (step a (embargo list key until)).0 commands).archive ask list key
+held_back_later stays a ask list key until commands is none =
+    withheld_until (run (step a (embargo list key until)).0 commands).archive ask list key until (stays a list key until commands is none)
+
+-- ---- a message that was just withdrawn
+
+-- what is said of each message of this name, where each becomes another of its name
+of_changed : (list key : List ℕ) (change : Message → Message) (Says Said : Message → Type 0) → ((m : Message) → is_message list key (change m) ≡ is_message list key m)
+    → ((m : Message) → Says m → Said (change m)) → (ms : List Message) → All (λ m. is_message list key m ≡ true → Says m) ms
+    → All (λ m. is_message list key m ≡ true → Said m) (map (changed list key change) ms)
+of_changed list key change Says Said names says [] all = All-nil (λ m. is_message list key m ≡ true → Said m)
+of_changed list key change Says Said names says (m ∷ ms) all =
+    All-cons (λ n. is_message list key n ≡ true → Said n) (changed list key change m) (map (changed list key change) ms) (first (is_message list key m) refl)
+    (of_changed list key change Says Said names says ms (All-tail (λ n. is_message list key n ≡ true → Says n) m ms all))
+  where
+    first : (b : Bool) → is_message list key m ≡ b → is_message list key (if b then change m else m) ≡ true → Said (if b then change m else m)
+    first true at is = says m (All-head (λ n. is_message list key n ≡ true → Says n) m ms all at)
+    first false at is = absurd (true≢false (sym is ∙ at))
+
+pub withheld_after : (a : Archive) (ask : Ask) (list key : List ℕ) (by : Withdrawn) → (step a (withdraw list key (number_of by))).1 ≡ done
+    → IsOfAnother a ask list key → DeniesWithdrawnBy by ask (reader_marks a ask) → IsWithheld (step a (withdraw list key (number_of by))).0 ask list key
+withheld_after a ask list key by is others denies =
+    let reader : ReaderMarks = reader_marks a ask in
+    subst (λ (b : Archive). IsWithheld b ask list key) (sym (withdrawn_left a list key (number_of by) is))
+    (of_changed list key (withdrawn_by (number_of by)) (λ m. own_of reader.address m ≡ false) (λ m. is_shown ask reader m ≡ false) (λ m. refl)
+    (λ m other. hidden_by ask reader by (withdrawn_by (number_of by) m) denies other refl) a.messages others)
+
+-- a message that changes and keeps its name changes nothing else
+module _ (list key : List ℕ) (change : Message → Message) (names : (m : Message) → is_message list key (change m) ≡ is_message list key m) where
+  messages_beside : (ms : List Message) → filter (λ m. not (is_message list key m)) (map (changed list key change) ms) ≡ filter (λ m. not (is_message list key m)) ms
+  messages_beside [] = refl
+  messages_beside (m ∷ ms) = by_key (is_message list key m) refl (messages_beside ms)
+    where
+      rest : List Message
+      rest = map (changed list key change) ms
+
+      by_key : (b : Bool) → is_message list key m ≡ b → filter (λ n. not (is_message list key n)) rest ≡ filter (λ n. not (is_message list key n)) ms
+          → filter (λ n. not (is_message list key n)) ((if b then change m else m) ∷ rest) ≡ cond (not b) (m ∷ filter (λ n. not (is_message list key n)) ms) (filter (λ n. not (is_message list key n)) ms)
+      by_key true is later = rw (names m ∙ is) later
+      by_key false is later = rw is (ap (λ (ns : List Message). m ∷ ns) later)
+
+  filings_beside : (ms : List Message) (fs : List Filing)
+      → map (λ (f : Filed). f.1) (filter (λ (f : Filed). not (is_message list key f.0)) (zip (map (changed list key change) ms) fs))
+      ≡ map (λ (f : Filed). f.1) (filter (λ (f : Filed). not (is_message list key f.0)) (zip ms fs))
+  filings_beside [] fs = refl
+  filings_beside (m ∷ ms) [] = refl
+  filings_beside (m ∷ ms) (f ∷ fs) = by_key (is_message list key m) refl (filings_beside ms fs)
+    where
+      left : List Message → List Filed
+      left ns = filter (λ (g : Filed). not (is_message list key g.0)) (zip ns fs)
+
+      filing : List Filed → List Filing
+      filing gs = map (λ (g : Filed). g.1) gs
+
+      by_key : (b : Bool) → is_message list key m ≡ b → filing (left (map (changed list key change) ms)) ≡ filing (left ms)
+          → filing (filter (λ (g : Filed). not (is_message list key g.0)) (((if b then change m else m), f) ∷ zip (map (changed list key change) ms) fs))
+          ≡ filing (cond (not b) ((m, f) ∷ left ms) (left ms))
+      by_key true is later = rw (names m ∙ is) later
+      by_key false is later = rw is (ap (λ (gs : List Filing). f ∷ gs) later)
+
+  pub without_changed : (a : Archive) → without (with_change a list key change) list key ≡ without a list key
+  without_changed a =
+      ap₂ (λ (messages : List Message) (filings : List Filing). record a { messages = messages; filings = filings })
+      (messages_beside a.messages) (filings_beside a.messages a.filings)
+
+pub without_withdrawn : (a : Archive) (list key : List ℕ) (party : ℤ) → (step a (withdraw list key party)).1 ≡ done
+    → without (step a (withdraw list key party)).0 list key ≡ without a list key
+without_withdrawn a list key party is =
+    ap (λ (b : Archive). without b list key) (withdrawn_left a list key party is) ∙ without_changed list key (withdrawn_by party) (λ m. refl) a
 
 -- ---- the message that came last
 

@@ -16,7 +16,7 @@ use Rattle.subject_core.specs.Spaces.{spaced}
 use Rattle.subject_core.specs.Removal.{without_trailer, after, after_closing, without_leader, after_leader, after_refwd, without_blob, without_pair, after_spaces}
 use Rattle.subject_core.specs.Front.{without_front}
 use Rattle.civil_time.specs.Dates.{year_after, month_after, date_after}
-use Rattle.mbox_core.specs.Written.{time_text}
+use Rattle.mbox_items.specs.Written.{time_text}
 use Rattle.archive_results.specs.Shown.{Shown, Line, line_of}
 use Rattle.archive_results.specs.Results.{is_of_month, author_lines, by_sent, TreeLine, tree_lines, thread_lines, export_text}
 

@@ -14,7 +14,7 @@ use Rattle.subject_core.specs.BaseSubject.{rest_within, next_of}
 use Rattle.subject_core.specs.Spaces.{spaced}
 use Rattle.subject_core.specs.Removal.{without_trailer, after, after_closing, without_leader, after_leader, after_refwd, without_blob, without_pair, after_spaces}
 use Rattle.subject_core.specs.Front.{without_front}
-use Rattle.mbox_core.specs.Division.{Item}
+use Rattle.mbox_items.specs.Division.{Item}
 use Rattle.archive_results.specs.Shown.{shown_of, line_of, entry_of}
 
 -- a message of this text

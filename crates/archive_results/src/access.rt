@@ -2,7 +2,8 @@
 ghost use Rattle.std.specs.Prelude.{◌≡◌, ℕ, List, Bool, None, false, IfOk, IsOk, option_map, string_bytes};
 ghost use Rattle.policy_core.specs.Verdict.{ruling};
 ghost use Rattle.archive_machine.specs.Messages.{remembered};
-ghost use Rattle.archive_results.specs.Access.{own_of, marks_of, ruling_on, is_shown, asks_author, asked_on, told};
+ghost use Rattle.archive_machine.specs.Records.{Message as Remembered};
+ghost use Rattle.archive_results.specs.Access.{own_of, marks_of, ruling_on, is_shown, is_withheld, asks_author, asked_on, told};
 
 use crate::asking::{Ask, Asked};
 use archive_machine::Message;
@@ -123,6 +124,30 @@ fn judge<'a>(
     }
     let marks = marks_of(alloc, &reader.address, message)?;
     Ok(verdict(ask, reader, marks))
+}
+
+/// Whether who wrote a message matters to this reader: a rule asks whether it is the reader's own, and the reader has an address.
+/// Where it does not, a message that is not the reader's own is judged as any other of its marks.
+pub fn asks_author(ask: &Ask<'_>, reader: &ReaderMarks) -> bool
+    ensures value { result ≡ asks_author ask.now reader.now }
+    ensures alike { result ≡ false → (m : Remembered)
+        → ruling_on ask.now reader.now (record (marks_of None m) { own = false }) ≡ ruling_on ask.now reader.now (marks_of reader.now.address m) }
+{
+    ask.policy.asks_own() && reader.address.is_some()
+}
+
+/// Whether the policy denies a message of these marks to a reader of these, whatever its text is. It says so of none where who
+/// wrote it matters, and takes no memory.
+pub fn is_withheld(ask: &Ask<'_>, reader: &ReaderMarks, marks: Marks) -> bool
+    ensures { (m : Remembered) → marks ≡ record (marks_of None m) { own = false } → result ≡ is_withheld ask.now reader.now m }
+{
+    if asks_author(ask, reader) {
+        return false;
+    }
+    match verdict(ask, reader, marks) {
+        Verdict::Allowed(_) => false,
+        Verdict::Denied(_) => true,
+    }
 }
 
 /// Whether the policy allows a message to a reader of these marks. `Memory` where no memory is left for the author key, which is

@@ -9,7 +9,7 @@ use crate::lines::Line;
 use archive_machine::Key;
 use civil_time::Instant;
 use mail_core::{Header as Fields, Memory, trimmed};
-use mbox_core::Item;
+use mbox_items::Item;
 use std::alloc::Global;
 use subject_core::base;
 use thread_core::Entry;

@@ -11,7 +11,7 @@ mod lines;
 mod results;
 mod threads;
 
-pub use access::{Marks, ReaderMarks, asked, is_shown, marks_of};
+pub use access::{Marks, ReaderMarks, asked, asks_author, is_shown, is_withheld, marks_of};
 pub use asking::{Ask, Asked, Reader};
 pub use entries::{entry_of, line_of};
 pub use headers::{Header, header_of};

@@ -1,5 +1,6 @@
 use Rattle.archive_machine.specs.Messages.{number_of}
 use Rattle.archive_results.proofs.PromiseLemmas as lemmas
+use Rattle.archive_results.proofs.HistoryLemmas as history
 use Rattle.archive_results.proofs.laws.what_is_withheld_might_never_have_come.Goals as goal
 
 pub returns-clause-beside : goal.returns-clause-beside
@@ -12,4 +13,7 @@ pub returns-clause-withheld : goal.returns-clause-withheld
 returns-clause-withheld c = lemmas.leaves_no_trace
 
 pub returns-clause-withdrawn : goal.returns-clause-withdrawn
-returns-clause-withdrawn c = lemmas.as_if_it_never_came
+returns-clause-withdrawn c = λ a ask list key by some. lemmas.as_if_it_never_came a ask list key by
+
+pub returns-clause-history : goal.returns-clause-history
+returns-clause-history c = history.as_if_unsaid
