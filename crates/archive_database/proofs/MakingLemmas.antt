@@ -9,7 +9,7 @@ use Rattle.sqlite.specs.State.{State, IsUnchanged, IsRolledBack}
 use Rattle.sqlite.proofs.Callers.{one_permutation}
 use Rattle.std.proofs.lemmas.List.Sorted.{IsPermutation-sym}
 use Rattle.archive_tables.specs.Tables.{IsOfVersion}
-use Rattle.archive_tables.specs.Making.{IsUndone, IsIdle, IsBackTo, IsStopped}
+use Rattle.archive_tables.specs.Making.{IsIdle, IsBackTo, IsStopped}
 use Rattle.archive_tables.specs.Rows.{versions_shown}
 
 -- one row alone that shows this number
@@ -32,12 +32,7 @@ pub shows_version : (number : ℤ) (trees : Trees) (rows : List Row) (row : Row)
 shows_version number trees rows row same some few is zero =
     one_cell number trees row (subst (λ l. IsPermutation (versions_shown trees) l) (sole rows row some few is) same) zero
 
--- a statement that fails leaves what was committed
-pub undone_by : (old new : State) (before : Database) → old.committed ≡ before → IsUnchanged old new ⊎ IsRolledBack old new → IsUndone new before
-undone_by old new before behind (inl same) up = same.0.committed_is ∙ behind
-undone_by old new before behind (inr back) up = (back.undone up).1 ∙ behind
-
--- within a transaction it leaves that, or ends it
+-- a statement that fails within a transaction leaves that, or ends it
 pub stopped_by : (old new : State) (before : Database) → old.committed ≡ before → old.in_transaction ≡ true → IsUnchanged old new ⊎ IsRolledBack old new → IsStopped new before
 stopped_by old new before behind within (inl same) up = (same.0.committed_is ∙ behind, inl (same.0.mode ∙ within))
 stopped_by old new before behind within (inr back) up = ((back.undone up).1 ∙ behind, inr ((back.undone up).0 ∙ behind, back.autocommit))

@@ -1,6 +1,6 @@
 //! Whether a row of a message is sound.
 ghost use Rattle.std.specs.Prelude.{◌≡◌, ◌↔◌, ℤ, Option, IsTrue, IfOk, IfErr, IfSome, IfNone};
-ghost use Rattle.mbox_core.specs.Written.{IsItem};
+ghost use Rattle.mbox_items.specs.Written.{IsItem};
 ghost use Rattle.archive_machine.specs.Filing.{Filed};
 ghost use Rattle.archive_machine.specs.Damage.{IsSoundFiled};
 ghost use Rattle.archive_machine.specs.Keys.{item_key};
@@ -13,7 +13,7 @@ use crate::filing::{Filing, file};
 use archive_machine::Key;
 use archive_tables::filed::{FiledRow, read_filed};
 use civil_time::Instant;
-use mbox_core::{Envelope, Item, Sender};
+use mbox_items::{Envelope, Item, Sender};
 use sqlite::Row;
 use std::alloc::Global;
 

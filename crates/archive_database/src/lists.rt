@@ -3,7 +3,7 @@ ghost use Rattle.std.specs.Prelude.{Some, MatchResult};
 ghost use Rattle.sqlite.specs.Held.{state};
 ghost use Rattle.sqlite.specs.State.{HasCleanDisk};
 ghost use Rattle.archive_tables.specs.Tables.{IsHeld, IsKept};
-ghost use Rattle.archive_tables.specs.Calls.{Changes, Rests, IsHeldOrBack, WasClean, Lasts, AnswersOpen};
+ghost use Rattle.archive_tables.specs.Calls.{Changes, Rests, IsHeldOrBack, Lasts, AnswersOpen};
 ghost use Rattle.archive_database.specs.Lists.{with_list};
 
 use crate::faults::Fault;
@@ -15,7 +15,6 @@ pub fn add_list<S: Alter>(conn: &mut Connection<S>, name: &str) -> Result<(), Fa
     ensures added { HasCleanDisk (state S.Store conn.new) → IsKept (state S.Store conn.old) → MatchResult result
         (λ _. Changes (state S.Store conn.old) (state S.Store conn.new) (λ a. with_list a name.now))
         (λ _. Rests (state S.Store conn.old) (state S.Store conn.new)) }
-    ensures clean { WasClean S.Store conn.old conn.new }
     ensures lasts { Lasts (state S.Store conn.old) (state S.Store conn.new) }
     ensures was_open { AnswersOpen S.Store conn.old conn.new result }
 {
@@ -32,7 +31,6 @@ fn write_list<S: Alter>(conn: &mut Connection<S>, name: &str) -> Result<(), Erro
     ensures written { HasCleanDisk (state S.Store conn.new) → (db : _) → IsHeld (Some db) (state S.Store conn.old) → MatchResult result
         (λ _. Changes (state S.Store conn.old) (state S.Store conn.new) (λ a. with_list a name.now))
         (λ _. IsHeldOrBack db (state S.Store conn.new)) }
-    ensures clean { WasClean S.Store conn.old conn.new }
     ensures lasts { Lasts (state S.Store conn.old) (state S.Store conn.new) }
 {
     texts::lists::add_list(conn, name)?;

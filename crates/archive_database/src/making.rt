@@ -6,8 +6,8 @@ ghost use Rattle.sqlite.specs.State.{HasCleanDisk};
 ghost use Rattle.archive_machine.specs.Records.{Archive};
 ghost use Rattle.archive_tables.specs.Schema.{no_schema, with_person, with_message, schema_1, schema_2, schema_of};
 ghost use Rattle.archive_tables.specs.Tables.{IsHeldAs, IsKept, IsKnown, IsOfArchive, HasForm, IsOfVersion, newest_number, form_of, archive_by, archive_of};
-ghost use Rattle.archive_tables.specs.Calls.{Rests, WasClean, Lasts, AnswersOpen};
-ghost use Rattle.archive_tables.specs.Making.{IsMaking, IsWithin, IsMoving, IsMade, Makes, UndoesFrom, StopsFrom, IsUndone, IsIdle, IsBackTo, IsStopped, empty_archive};
+ghost use Rattle.archive_tables.specs.Calls.{Rests, Lasts, AnswersOpen};
+ghost use Rattle.archive_tables.specs.Making.{IsMaking, IsWithin, IsMoving, IsMade, Makes, StopsFrom, IsUndone, IsIdle, IsBackTo, IsStopped, empty_archive};
 ghost use Rattle.archive_database.specs.Adopting.{HasObjects, HasAsManyObjects, MayBeTaken, IsOlder};
 
 use crate::faults::Fault;
@@ -58,7 +58,6 @@ pub fn find_version<S: Alter>(conn: &mut Connection<S>, number: u8) -> Result<()
         → IsBackTo (state S.Store conn.new) (state S.Store conn.old).now }
     ensures up { HasCleanDisk (state S.Store conn.new) → IsKnown number → HasForm (form_of number) (state S.Store conn.old)
         → OnOk result (IsTrue (state S.Store conn.new).is_open) }
-    ensures clean { WasClean S.Store conn.old conn.new }
     ensures lasts { Lasts (state S.Store conn.old) (state S.Store conn.new) }
     ensures was_open { AnswersOpen S.Store conn.old conn.new result }
     ensures caused { HasCleanDisk (state S.Store conn.new) → number ≡ newest_number → IsKept (state S.Store conn.old) → (state S.Store conn.old).step_limit ≡ None
@@ -95,7 +94,6 @@ pub fn take_over<S: Alter>(conn: &mut Connection<S>) -> Result<(), Fault>
     ensures objects { OnOk result (MayBeTaken (state S.Store conn.old).now.schema) }
     ensures foreign { ¬ MayBeTaken (state S.Store conn.old).now.schema → conn.new ≡ conn.old }
     ensures why { ¬ MayBeTaken (state S.Store conn.old).now.schema → IfErr result (λ fault. fault ≡ Fault.Database) }
-    ensures clean { WasClean S.Store conn.old conn.new }
     ensures lasts { Lasts (state S.Store conn.old) (state S.Store conn.new) }
     ensures was_open { AnswersOpen S.Store conn.old conn.new result }
 {
@@ -115,7 +113,6 @@ fn bring_over<S: Alter>(conn: &mut Connection<S>, number: u8) -> Result<(), Faul
         → OnOk result (IsKept (state S.Store conn.new) × (archive_of (state S.Store conn.new) ≡ archive_by number (state S.Store conn.old).now.trees)) }
     ensures back { HasCleanDisk (state S.Store conn.new) → IsOlder number → IsIdle (state S.Store conn.old) → (state S.Store conn.old).now.schema ≡ schema_of number
         → OnErr result (IsBackTo (state S.Store conn.new) (state S.Store conn.old).now) }
-    ensures clean { WasClean S.Store conn.old conn.new }
     ensures lasts { Lasts (state S.Store conn.old) (state S.Store conn.new) }
     ensures was_open { AnswersOpen S.Store conn.old conn.new result }
 {
@@ -127,18 +124,19 @@ fn bring_over<S: Alter>(conn: &mut Connection<S>, number: u8) -> Result<(), Faul
     Ok(())
 }
 
-/// Brings the tables of an older version over in a transaction, and commits it.
+/// Brings the tables of an older version over in a transaction, a step for each version, and commits it behind the last.
 fn move_tables<S: Alter>(conn: &mut Connection<S>, number: u8) -> Result<(), Error>
     ensures moved { HasCleanDisk (state S.Store conn.new) → IsOlder number → (before : _) (archive : Archive)
         → IsMoving (state S.Store conn.old) before (schema_of number) (pos number) number archive
         → OnOk result (IsKept (state S.Store conn.new) × (archive_of (state S.Store conn.new) ≡ archive)) }
     ensures stopped { HasCleanDisk (state S.Store conn.new) → IsOlder number → (before : _) → IsWithin (state S.Store conn.old) before (schema_of number)
         → OnErr result (IsStopped (state S.Store conn.new) before) }
-    ensures clean { WasClean S.Store conn.old conn.new }
     ensures lasts { Lasts (state S.Store conn.old) (state S.Store conn.new) }
 {
     move_options(conn, number)?;
-    move_addresses(conn)?;
+    texts::schema::create_address(conn)?;
+    texts::schema::set_version(conn)?;
+    texts::schema::commit(conn)?;
     Ok(())
 }
 
@@ -151,7 +149,6 @@ fn move_options<S: Alter>(conn: &mut Connection<S>, number: u8) -> Result<(), Er
         → OnOk result (IsWithin (state S.Store conn.new) before schema_2) }
     ensures stopped { HasCleanDisk (state S.Store conn.new) → IsOlder number → (before : _) → IsWithin (state S.Store conn.old) before (schema_of number)
         → OnErr result (IsStopped (state S.Store conn.new) before) }
-    ensures clean { WasClean S.Store conn.old conn.new }
     ensures lasts { Lasts (state S.Store conn.old) (state S.Store conn.new) }
 {
     if number != 1 {
@@ -159,21 +156,6 @@ fn move_options<S: Alter>(conn: &mut Connection<S>, number: u8) -> Result<(), Er
     }
     texts::schema::create_option(conn)?;
     texts::options::copy_options(conn)?;
-    Ok(())
-}
-
-/// From version 2 to 3, which is committed: nobody has an address.
-fn move_addresses<S: Alter>(conn: &mut Connection<S>) -> Result<(), Error>
-    ensures moved { HasCleanDisk (state S.Store conn.new) → (before : _) (said : _) (archive : Archive) → IsMoving (state S.Store conn.old) before schema_2 said 2 archive
-        → OnOk result (IsKept (state S.Store conn.new) × (archive_of (state S.Store conn.new) ≡ archive)) }
-    ensures stopped { HasCleanDisk (state S.Store conn.new) → (before : _) → IsWithin (state S.Store conn.old) before schema_2
-        → OnErr result (IsStopped (state S.Store conn.new) before) }
-    ensures clean { WasClean S.Store conn.old conn.new }
-    ensures lasts { Lasts (state S.Store conn.old) (state S.Store conn.new) }
-{
-    texts::schema::create_address(conn)?;
-    texts::schema::set_version(conn)?;
-    texts::schema::commit(conn)?;
     Ok(())
 }
 
@@ -185,7 +167,6 @@ pub fn make_tables<S: Alter>(conn: &mut Connection<S>) -> Result<(), Fault>
         → OnErr result (IsUndone (state S.Store conn.new) (state S.Store conn.old).committed) }
     ensures back { HasCleanDisk (state S.Store conn.new) → (state S.Store conn.old).now.schema ≡ no_schema → IsIdle (state S.Store conn.old)
         → OnErr result (IsBackTo (state S.Store conn.new) (state S.Store conn.old).now) }
-    ensures clean { WasClean S.Store conn.old conn.new }
     ensures lasts { Lasts (state S.Store conn.old) (state S.Store conn.new) }
     ensures was_open { AnswersOpen S.Store conn.old conn.new result }
 {
@@ -201,24 +182,21 @@ pub fn make_tables<S: Alter>(conn: &mut Connection<S>) -> Result<(), Fault>
 fn fill<S: Alter>(conn: &mut Connection<S>) -> Result<(), Error>
     ensures kept { HasCleanDisk (state S.Store conn.new) → (before : _) → IsMaking (state S.Store conn.old) no_schema before
         → OnOk result (IsKept (state S.Store conn.new) × (archive_of (state S.Store conn.new) ≡ empty_archive)) }
-    ensures undone { UndoesFrom S.Store conn.old conn.new result no_schema }
     ensures stopped { StopsFrom S.Store conn.old conn.new result no_schema }
-    ensures clean { WasClean S.Store conn.old conn.new }
     ensures lasts { Lasts (state S.Store conn.old) (state S.Store conn.new) }
 {
     make_first(conn)?;
-    make_last(conn)?;
+    make_second(conn)?;
     make_indexes(conn)?;
     make_later(conn)?;
     texts::schema::commit(conn)?;
     Ok(())
 }
 
+/// Makes `version`, and the tables that name no other.
 fn make_first<S: Alter>(conn: &mut Connection<S>) -> Result<(), Error>
     ensures made { Makes S.Store conn.old conn.new result no_schema with_person }
-    ensures undone { UndoesFrom S.Store conn.old conn.new result no_schema }
     ensures stopped { StopsFrom S.Store conn.old conn.new result no_schema }
-    ensures clean { WasClean S.Store conn.old conn.new }
     ensures lasts { Lasts (state S.Store conn.old) (state S.Store conn.new) }
 {
     texts::schema::create_version(conn)?;
@@ -227,11 +205,10 @@ fn make_first<S: Alter>(conn: &mut Connection<S>) -> Result<(), Error>
     Ok(())
 }
 
-fn make_last<S: Alter>(conn: &mut Connection<S>) -> Result<(), Error>
+/// Makes the tables that name lists and persons.
+fn make_second<S: Alter>(conn: &mut Connection<S>) -> Result<(), Error>
     ensures made { Makes S.Store conn.old conn.new result with_person with_message }
-    ensures undone { UndoesFrom S.Store conn.old conn.new result with_person }
     ensures stopped { StopsFrom S.Store conn.old conn.new result with_person }
-    ensures clean { WasClean S.Store conn.old conn.new }
     ensures lasts { Lasts (state S.Store conn.old) (state S.Store conn.new) }
 {
     texts::schema::create_grant(conn)?;
@@ -239,11 +216,10 @@ fn make_last<S: Alter>(conn: &mut Connection<S>) -> Result<(), Error>
     Ok(())
 }
 
+/// Makes the indexes of `message`.
 fn make_indexes<S: Alter>(conn: &mut Connection<S>) -> Result<(), Error>
     ensures made { Makes S.Store conn.old conn.new result with_message schema_1 }
-    ensures undone { UndoesFrom S.Store conn.old conn.new result with_message }
     ensures stopped { StopsFrom S.Store conn.old conn.new result with_message }
-    ensures clean { WasClean S.Store conn.old conn.new }
     ensures lasts { Lasts (state S.Store conn.old) (state S.Store conn.new) }
 {
     texts::schema::create_month_index(conn)?;
@@ -255,9 +231,7 @@ fn make_indexes<S: Alter>(conn: &mut Connection<S>) -> Result<(), Error>
 fn make_later<S: Alter>(conn: &mut Connection<S>) -> Result<(), Error>
     ensures made { HasCleanDisk (state S.Store conn.new) → (before : _) → IsMaking (state S.Store conn.old) schema_1 before
         → OnOk result (IsMade (state S.Store conn.new) before empty_archive) }
-    ensures undone { UndoesFrom S.Store conn.old conn.new result schema_1 }
     ensures stopped { StopsFrom S.Store conn.old conn.new result schema_1 }
-    ensures clean { WasClean S.Store conn.old conn.new }
     ensures lasts { Lasts (state S.Store conn.old) (state S.Store conn.new) }
 {
     texts::schema::create_option(conn)?;

@@ -3,17 +3,29 @@ ghost use Rattle.std.specs.Prelude.{◌≡◌, ◌≢◌, ℕ, ℤ, List, map, s
 ghost use Rattle.std.specs.List.{All};
 ghost use Rattle.civil_time.specs.Calendar.{is_day};
 ghost use Rattle.archive_machine.specs.Messages.{remembered, number_of};
-ghost use Rattle.archive_tables.specs.Rows.{name_shown, place_shown, message_in};
-ghost use Rattle.archive_database.specs.Messages.{IsReadable};
+ghost use Rattle.archive_machine.specs.Records.{Message as Remembered};
+ghost use Rattle.archive_tables.specs.Rows.{name_shown, place_shown, message_in, dated_marks_of};
+ghost use Rattle.archive_database.specs.Messages.{AreMarksOf, IsReadable};
 
 use crate::faults::Fault;
 use archive_machine::{Key, Message};
-use archive_tables::rows::{MessageRow, read_name, read_place};
+use archive_tables::rows::{DatedMarksRow, MessageRow, read_name, read_place};
 use civil_time::{Day, Instant};
-use mbox_core::OwnedItem;
+use mbox_items::OwnedItem;
 use policy_core::Withdrawn;
 use sqlite::Row;
 use std::alloc::Global;
+
+/// What is known of a message without its text: when it came, who withdrew it, and the day up to which it is held back.
+#[derive(Clone, Copy)]
+pub struct DatedMarks {
+    /// When it came.
+    pub arrival: Instant,
+    /// Who withdrew it.
+    pub withdrawn: Withdrawn,
+    /// The day up to which it is held back.
+    pub embargo_until: Option<Day>,
+}
 
 /// The names that rows show.
 pub fn read_names(alloc: Global, rows: &[Row]) -> Result<Vec<String>, Fault>
@@ -68,6 +80,35 @@ fn read(row: MessageRow) -> Option<Message>
     Some(Message {
         key,
         item,
+        withdrawn,
+        embargo_until,
+    })
+}
+
+/// The arrival and the marks of a row. It refuses those that no message has.
+pub fn marks_or_fail(row: DatedMarksRow) -> Result<DatedMarks, Fault>
+    ensures read { IfOk result (λ marks. (m : Remembered) → row ≡ dated_marks_of m → AreMarksOf marks m) }
+    ensures unread { IfErr result (λ fault. (fault ≡ Fault.Database) × ((m : Remembered) → row ≡ dated_marks_of m → ¬ IsReadable m)) }
+{
+    match read_marks(row) {
+        Some(marks) => Ok(marks),
+        None => Err(Fault::Database),
+    }
+}
+
+/// The same. `None` where no message has them.
+fn read_marks(row: DatedMarksRow) -> Option<DatedMarks>
+    ensures some { IfSome result (λ marks. (m : Remembered) → row ≡ dated_marks_of m → AreMarksOf marks m) }
+    ensures none { IfNone result ((m : Remembered) → row ≡ dated_marks_of m → ¬ IsReadable m) }
+{
+    let arrival = Instant::new(row.arrival)?;
+    let withdrawn = withdrawn_by(row.withdrawn)?;
+    let embargo_until = match row.embargo {
+        Some(number) => Some(numbered_day(number)?),
+        None => None,
+    };
+    Some(DatedMarks {
+        arrival,
         withdrawn,
         embargo_until,
     })

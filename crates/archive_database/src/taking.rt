@@ -2,17 +2,17 @@
 ghost use Rattle.std.specs.Prelude.{◌≡◌, ◌<◌, false, nat_lt, nat_le, length, IfOk, IsTrue, MatchOption};
 ghost use Rattle.sqlite.specs.Held.{state};
 ghost use Rattle.sqlite.specs.State.{HasCleanDisk};
-ghost use Rattle.mbox_core.specs.Division.{whole};
+ghost use Rattle.mbox_items.specs.Division.{whole};
 ghost use Rattle.archive_machine.specs.Machine.{longest_text};
 ghost use Rattle.archive_machine.specs.Questions.{messages_in};
-ghost use Rattle.archive_tables.specs.Calls.{Finds, Leaves, IsUp, WasClean, Lasts, AnswersOpen};
-ghost use Rattle.archive_database.specs.Taking.{TakesIn, TakesInOver};
+ghost use Rattle.archive_tables.specs.Calls.{AsksOver, Ends, Lasts};
+ghost use Rattle.archive_database.specs.Taking.{TakesIn};
 
 use crate::faults::Fault;
 use crate::filing::file;
 use archive_machine::Key;
 use archive_tables::texts;
-use mbox_core::{Item, written_sender};
+use mbox_items::{Item, written_sender};
 use sqlite::{Alter, Connection, Error};
 use std::alloc::{AllocError, Global};
 
@@ -33,12 +33,9 @@ pub fn is_too_large(item: &Item<'_>) -> bool
 /// Whether a list holds as many messages as the limit. Its messages are counted only where some message's number
 /// reaches the limit.
 pub fn is_full<S: Alter>(conn: &mut Connection<S>, list: &str, limit: u32) -> Result<bool, Error>
-    ensures found { Finds S.Store conn.old conn.new result (λ a full. full ≡ nat_le limit (length (messages_in a list.now))) }
-    ensures same { Leaves S.Store conn.old conn.new }
-    ensures up { IsUp S.Store conn.old conn.new result }
-    ensures clean { WasClean S.Store conn.old conn.new }
-    ensures lasts { Lasts (state S.Store conn.old) (state S.Store conn.new) }
-    ensures was_open { AnswersOpen S.Store conn.old conn.new result }
+    ensures over { AsksOver S.Store conn.old conn.new result
+        (λ a full. full ≡ nat_le limit (length (messages_in a list.now))) }
+    ensures ends { Ends S.Store conn.old conn.new result }
 {
     if !may_be_full(conn, limit)? {
         return Ok(false);
@@ -49,10 +46,8 @@ pub fn is_full<S: Alter>(conn: &mut Connection<S>, list: &str, limit: u32) -> Re
 
 /// Whether a list may hold as many messages as the limit. It takes the same time however many messages there are.
 fn may_be_full<S: Alter>(conn: &mut Connection<S>, limit: u32) -> Result<bool, Error>
-    ensures found { Finds S.Store conn.old conn.new result (λ a may_be. may_be ≡ false → length a.messages < limit) }
-    ensures same { Leaves S.Store conn.old conn.new }
-    ensures up { IsUp S.Store conn.old conn.new result }
-    ensures clean { WasClean S.Store conn.old conn.new }
+    ensures over { AsksOver S.Store conn.old conn.new result
+        (λ a may_be. may_be ≡ false → length a.messages < limit) }
     ensures lasts { Lasts (state S.Store conn.old) (state S.Store conn.new) }
     ensures was_open { HasCleanDisk (state S.Store conn.new) → IfOk result (λ may_be. may_be ≡ false → IsTrue (state S.Store conn.old).is_open) }
 {
@@ -71,10 +66,7 @@ pub fn take_in<S: Alter>(
     item: &Item<'_>,
 ) -> Result<(), Fault>
     ensures taken { TakesIn S.Store conn.old conn.new result list.now key.now item.now }
-    ensures held { TakesInOver S.Store conn.old conn.new result list.now key.now item.now }
-    ensures clean { WasClean S.Store conn.old conn.new }
-    ensures lasts { Lasts (state S.Store conn.old) (state S.Store conn.new) }
-    ensures was_open { AnswersOpen S.Store conn.old conn.new result }
+    ensures ends { Ends S.Store conn.old conn.new result }
 {
     if let Some(text) = with_line_end(alloc, item)? {
         return write_down(conn, alloc, list, key, item, &text);
@@ -91,11 +83,9 @@ fn write_down<S: Alter>(
     item: &Item<'_>,
     text: &[u8],
 ) -> Result<(), Fault>
-    ensures taken { text.now ≡ whole item.now.text → TakesIn S.Store conn.old conn.new result list.now key.now item.now }
-    ensures held { text.now ≡ whole item.now.text → TakesInOver S.Store conn.old conn.new result list.now key.now item.now }
-    ensures clean { WasClean S.Store conn.old conn.new }
-    ensures lasts { Lasts (state S.Store conn.old) (state S.Store conn.new) }
-    ensures was_open { AnswersOpen S.Store conn.old conn.new result }
+    ensures taken { text.now ≡ whole item.now.text
+        → TakesIn S.Store conn.old conn.new result list.now key.now item.now }
+    ensures ends { Ends S.Store conn.old conn.new result }
 {
     let sender = sender_of(alloc, item)?;
     let filing = file(alloc, text, item.envelope.arrival)?;

@@ -1,6 +1,6 @@
 -- The statements on `address`.
-use Rattle.std.proofs.Common.{◌≡◌, inl, ℕ, ℤ, List, [], ◌∷◌, ◌++◌, map, filter, codes, Ok, Err, Result, OnOk, OnErr, refl, sym, ap, ap₂, subst, ◌∙◌, false, true, cond, None}
-use Rattle.std.specs.Prelude.{IsTrue, bytes_eq, not, length, ◌==◌}
+use Rattle.std.proofs.Common.{◌≡◌, inl, ℕ, ℤ, List, [], ◌∷◌, ◌++◌, map, filter, codes, Ok, Err, Result, Option, refl, sym, ap, ap₂, subst, ◌∙◌, false, true, cond, None}
+use Rattle.std.specs.Prelude.{MatchResult, bytes_eq, not, length, ◌==◌}
 use Rattle.std.specs.List.{AllByRecursion, list_any}
 use Rattle.sqlite.specs.declared.error.Error.{Error}
 use Rattle.sqlite.specs.declared.types.Value.TheVariants.{Null, Int, Text}
@@ -30,15 +30,15 @@ use Rattle.archive_machine.specs.Records.{Address}
 use Rattle.archive_machine.specs.Questions.{is_address_of}
 use Rattle.archive_machine.specs.Machine.{readdressed}
 use Rattle.archive_tables.specs.Schema.{archive_schema, address_table}
-use Rattle.archive_tables.specs.Tables.{IsKept, Numbered, row_of, address_cells, address_read, archive_of, same_address, AreApart}
+use Rattle.archive_tables.specs.Tables.{IsHeld, Numbered, row_of, address_cells, address_read, archive_of, same_address, AreApart}
 use Rattle.archive_tables.specs.Rows.{name_shown}
-use Rattle.archive_tables.specs.Calls.{Changes, Rests, IsCaused}
+use Rattle.archive_tables.specs.Calls.{ChangesOver, StaysOver, RestsOver, IsCaused}
 use Rattle.archive_tables.proofs.RunLemmas.{passed, value_is, no_action, cast_null, cast_int, kept_by, rests, execute_fails}
 use Rattle.archive_tables.proofs.RowLemmas.{put_past}
 use Rattle.archive_tables.proofs.TableLemmas.{SameBut, same_but, addresses_change}
 use Rattle.archive_tables.proofs.ChangeLemmas.{apart_mapped, updated}
 use Rattle.archive_tables.proofs.ApartLemmas.{apart_by_key, one_address_a_person, is_no_foreign_key}
-use Rattle.archive_tables.proofs.SelectLemmas.{plain_query, by_number, passes, picks_of, hits, asked, leaves, asked_rests, refused_rests, any_wanted, shows, alone, text_is, equal_words, no_row, one_row}
+use Rattle.archive_tables.proofs.SelectLemmas.{plain_query, by_number, passes, picks_of, hits, asked, asked_stays, refused_rests, any_wanted, shows, alone, text_is, equal_words, no_row, one_row}
 use Rattle.archive_tables.proofs.CauseLemmas.{Fits, question_fails_by}
 use Rattle.sqlite_typing.specs.Types.{accepts_program}
 
@@ -80,8 +80,8 @@ adding : (db : Trees) (o : Address) (given : List Row) → given ≡ (Null ∷ a
     → edited db (edit_of db address_table [] Chosen 0 given) ≡ put_row (row_of address_cells (fresh db o)) (db 15)
 adding db o given from = rw (from, cast_null)
 
-adds : (old new : State) (o : Address) (count : ℕ) → IsKept old → Executes add_text (address_cells o) old new (Ok count)
-    → Changes old new (λ a. record a { addresses = a.addresses ++ o ∷ [] })
+adds : {behind : Option Database} (old new : State) (o : Address) (count : ℕ) → IsHeld behind old → Executes add_text (address_cells o) old new (Ok count)
+    → ChangesOver behind old new (λ a. record a { addresses = a.addresses ++ o ∷ [] })
 adds old new o count k h =
     let params = address_cells o in
     let db = old.now.trees in
@@ -107,10 +107,10 @@ adds old new o count k h =
     let it = addresses_change db new.now.trees k.tables same _ rows put.0 apart in
     (kept_by old new k w.shown (ap (λ (d : Database). d.schema) now) it.0, it.1 ∙ ap (λ l. record (archive_of old) { addresses = l }) put.1)
 
-pub tries_to_add : (old new : State) (o : Address) (r : Result ℕ Error) → IsKept old → Executes add_text (address_cells o) old new r
-    → OnOk r (Changes old new (λ a. record a { addresses = a.addresses ++ o ∷ [] })) × OnErr r (Rests old new)
-tries_to_add old new o (Ok count) k h = (adds old new o count k h, tt)
-tries_to_add old new o (Err e) k h = (tt, rests old new k (execute_fails old new add_text (address_cells o) e h))
+pub tries_to_add : (behind : Option Database) (old new : State) (o : Address) (r : Result ℕ Error) → IsHeld behind old → Executes add_text (address_cells o) old new r
+    → MatchResult r (λ _. ChangesOver behind old new (λ a. record a { addresses = a.addresses ++ o ∷ [] })) (λ _. RestsOver behind old new)
+tries_to_add behind old new o (Ok count) k h = adds old new o count k h
+tries_to_add behind old new o (Err e) k h = rests old new k (execute_fails old new add_text (address_cells o) e h)
 
 -- ---- UPDATE
 
@@ -198,7 +198,7 @@ module _ (person : List ℕ) where
         → edited db (edit_of db address_table (ids_of given) Given 1 given) ≡ put_row (row_of address_cells (record r { it = said r.it })) (without_rowid r.number (db 15))
     puts db r given from = rw (from, cast_int r.number)
 
-    changes : (old new : State) (count : ℕ) → IsKept old → Executes change_text change_params old new (Ok count) → Changes old new (λ a. record a { addresses = map change a.addresses })
+    changes : {behind : Option Database} (old new : State) (count : ℕ) → IsHeld behind old → Executes change_text change_params old new (Ok count) → ChangesOver behind old new (λ a. record a { addresses = map change a.addresses })
     changes old new count k h =
         let params = change_params in
         let query = plain_query 15 of_person changed_cells [] in
@@ -224,39 +224,37 @@ module _ (person : List ℕ) where
         let all = addresses_change db new.now.trees k.tables same _ rows it.0 apart in
         (kept_by old new k w.shown (ap (λ (d : Database). d.schema) now) all.0, all.1 ∙ ap (λ l. record (archive_of old) { addresses = l }) it.1)
 
-    pub tries_to_change : (old new : State) (r : Result ℕ Error) → IsKept old → Executes change_text change_params old new r
-        → OnOk r (Changes old new (λ a. record a { addresses = map change a.addresses })) × OnErr r (Rests old new)
-    tries_to_change old new (Ok count) k h = (changes old new count k h, tt)
-    tries_to_change old new (Err e) k h = (tt, rests old new k (execute_fails old new change_text change_params e h))
+    pub tries_to_change : (behind : Option Database) (old new : State) (r : Result ℕ Error) → IsHeld behind old → Executes change_text change_params old new r
+        → MatchResult r (λ _. ChangesOver behind old new (λ a. record a { addresses = map change a.addresses })) (λ _. RestsOver behind old new)
+    tries_to_change behind old new (Ok count) k h = changes old new count k h
+    tries_to_change behind old new (Err e) k h = rests old new k (execute_fails old new change_text change_params e h)
 
-  module _ (old new : State) (k : IsKept old) where
+  module _ (old new : State) {behind : Option Database} (k : IsHeld behind old) where
     pub found : (rows : List Row) → Shown find_text (Text person ∷ []) old new rows
-        → (rows ≡ map (λ (a : Address). name_shown a.address) (filter (is_address_of person) (archive_of old).addresses)) × IsTrue new.is_open × Rests old new
+        → (rows ≡ map (λ (a : Address). name_shown a.address) (filter (is_address_of person) (archive_of old).addresses)) × StaysOver behind old new
     found rows h =
         let params = Text person ∷ [] in
         let picks = asked find_text 15 of_person the_address by_number _ find_is.0 find_plain find_is.1 (λ t. refl) params old new k rows h in (
           shows 15 of_person the_address params address_cells address_read back (is_address_of person) (is_of_person person []) (λ (a : Address). name_shown a.address) (λ n o. refl) (old.now.trees 15) rows k.tables.addresses picks,
-          (leaves find_text 15 of_person the_address by_number _ find_is.0 find_plain find_is.1 (λ t. refl) params old new k rows h).0.is_open,
-          asked_rests find_text 15 of_person the_address by_number _ find_is.0 find_plain find_is.1 (λ t. refl) params old new k rows h,
+          asked_stays find_text 15 of_person the_address by_number _ find_is.0 find_plain find_is.1 (λ t. refl) params old new k rows h,
         )
 
-    pub not_found : (e : Error) → FailsToQuery find_text (Text person ∷ []) old new e → Rests old new
+    pub not_found : (e : Error) → FailsToQuery find_text (Text person ∷ []) old new e → RestsOver behind old new
     not_found e h = refused_rests find_text 15 of_person the_address by_number _ find_is.0 find_plain find_is.1 (λ t. refl) (Text person ∷ []) old new k e h
 
     pub not_found_caused : (e : Error) → FailsToQuery find_text (Text person ∷ []) old new e → old.step_limit ≡ None → IsCaused old new e
     not_found_caused e h free = question_fails_by find_text 15 of_person the_address by_number _ find_is.0 find_plain find_is.1 (Text person ∷ []) find_fit (find_typed person) old new k free e h
 
     pub has : (rows : List Row) → Shown has_text (Text person ∷ []) old new rows
-        → (not (length rows == 0) ≡ list_any (is_address_of person) (archive_of old).addresses) × IsTrue new.is_open × Rests old new
+        → (not (length rows == 0) ≡ list_any (is_address_of person) (archive_of old).addresses) × StaysOver behind old new
     has rows h =
         let params = Text person ∷ [] in
         let picks = asked has_text 15 of_person the_person [] _ has_is.0 has_plain has_is.1 (λ t. refl) params old new k rows h in (
           any_wanted address_cells address_read back (plain_query 15 of_person the_person []) params (is_address_of person) (is_of_person person []) (old.now.trees 15) rows k.tables.addresses picks,
-          (leaves has_text 15 of_person the_person [] _ has_is.0 has_plain has_is.1 (λ t. refl) params old new k rows h).0.is_open,
-          asked_rests has_text 15 of_person the_person [] _ has_is.0 has_plain has_is.1 (λ t. refl) params old new k rows h,
+          asked_stays has_text 15 of_person the_person [] _ has_is.0 has_plain has_is.1 (λ t. refl) params old new k rows h,
         )
 
-    pub has_not : (e : Error) → FailsToQuery has_text (Text person ∷ []) old new e → Rests old new
+    pub has_not : (e : Error) → FailsToQuery has_text (Text person ∷ []) old new e → RestsOver behind old new
     has_not e h = refused_rests has_text 15 of_person the_person [] _ has_is.0 has_plain has_is.1 (λ t. refl) (Text person ∷ []) old new k e h
 
     pub has_not_caused : (e : Error) → FailsToQuery has_text (Text person ∷ []) old new e → old.step_limit ≡ None → IsCaused old new e

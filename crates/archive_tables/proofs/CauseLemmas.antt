@@ -1,6 +1,6 @@
 -- Why a question is not answered.
 use Rattle.std.proofs.Common.{◌≡◌, ◌⊎◌, inl, inr, ℕ, List, [], length, Ok, Err, Result, sym, ap, subst, subst₂, ◌∙◌, true, false, Some, None, Option, append-nil, arith}
-use Rattle.std.specs.Prelude.{IsTrue, IsSome, IsUtf8, IfErr, IsErrAnd}
+use Rattle.std.specs.Prelude.{IsTrue, IsSome, IsUtf8, IfErr, IsErrAnd, OnOk}
 use Rattle.std.specs.Option.{IsSomeAnd}
 use Rattle.sqlite.specs.declared.error.Error.{Error}
 use Rattle.sqlite_trees.specs.declared.error.StoreError.TheVariants.{OutOfMemory, Io, Corrupt, Full, Broken, Unstorable}
@@ -18,7 +18,7 @@ use Rattle.sqlite.proofs.Callers.{IsPlain, command_of}
 use Rattle.archive_tables.specs.Schema.{archive_schema}
 use Rattle.archive_tables.specs.Tables.{IsHeld}
 use Rattle.archive_tables.specs.Rows.{IsTextFault}
-use Rattle.archive_tables.specs.Calls.{IsCaused}
+use Rattle.archive_tables.specs.Calls.{IsCaused, StaysOver, RestsOver}
 use Rattle.archive_tables.proofs.SelectLemmas.{plain_query}
 
 -- one statement, with so many parameters
@@ -79,6 +79,16 @@ each_error (Err e) P Q why it = why e it
 pub carried : {A E : Type 0} (r : Result A E) (e : E) (Q : E → Type 0) → IsErrAnd r (λ f. f ≡ e) → Q e → IfErr r Q
 carried (Ok a) e Q is it = tt
 carried (Err f) e Q is it = subst Q (sym is) it
+
+-- nor does it answer
+pub answers_none : {A E : Type 0} (r : Result A E) (Q : E → Type 0) (P : Type 0) → IsErrAnd r Q → OnOk r P
+answers_none (Ok a) Q P is = absurd is
+answers_none (Err f) Q P is = tt
+
+-- what stays rests
+pub stays_rests : (behind : Option Database) (old new : State) → StaysOver behind old new → RestsOver behind old new
+stays_rests None old new it = λ up. it
+stays_rests (Some db) old new it = λ up. inl it
 
 -- what a row that shows a text says of its fault
 pub read_fails_by : {X : Type 0} (old new : State) (text : X → List ℕ) (found : Option X) (x : X) (e : Error) → found ≡ Some x → IsTextFault (text x) e

@@ -1,6 +1,6 @@
 -- The statements on `grant_row`.
-use Rattle.std.proofs.Common.{◌≡◌, inl, ℕ, ℤ, List, [], ◌∷◌, ◌++◌, map, filter, codes, Ok, Err, Result, OnOk, OnErr, refl, sym, ap, ap₂, subst, ◌∙◌, false, true, Bool, cond, None}
-use Rattle.std.specs.Prelude.{IsTrue, not, ◌==◌, ◌&&◌, length, bytes_eq, if◌then◌else◌}
+use Rattle.std.proofs.Common.{◌≡◌, inl, ℕ, ℤ, List, [], ◌∷◌, ◌++◌, map, filter, codes, Ok, Err, Result, Option, refl, sym, ap, ap₂, subst, ◌∙◌, false, true, Bool, cond, None}
+use Rattle.std.specs.Prelude.{MatchResult, not, ◌==◌, ◌&&◌, length, bytes_eq, if◌then◌else◌}
 use Rattle.std.specs.List.{list_any}
 use Rattle.std.specs.Ordering.{int_eq}
 use Rattle.std.proofs.lemmas.Bool.Decides.{Decides-int_eq}
@@ -28,14 +28,14 @@ use Rattle.sqlite_sql.specs.declared.ops.CompareOp.TheVariants.{Eq}
 use Rattle.archive_machine.specs.Records.{Grant}
 use Rattle.archive_tables.specs.Schema.{archive_schema, grant_table}
 use Rattle.archive_machine.specs.Questions.{is_grant}
-use Rattle.archive_tables.specs.Tables.{IsKept, Numbered, row_of, grant_cells, grant_read, archive_of, same_grant, AreApart}
+use Rattle.archive_tables.specs.Tables.{IsHeld, Numbered, row_of, grant_cells, grant_read, archive_of, same_grant, AreApart}
 use Rattle.archive_tables.specs.Rows.{grant_shown}
-use Rattle.archive_tables.specs.Calls.{Changes, Rests, IsCaused}
+use Rattle.archive_tables.specs.Calls.{ChangesOver, StaysOver, RestsOver, IsCaused}
 use Rattle.archive_tables.proofs.RunLemmas.{passed, value_is, no_action, cast_null, cast_int, kept_by, rests, execute_fails}
 use Rattle.archive_tables.proofs.RowLemmas.{put_past}
 use Rattle.archive_tables.proofs.TableLemmas.{SameBut, same_but, grants_change}
 use Rattle.archive_tables.proofs.ChangeLemmas.{apart_more, apart_mapped, apart_filtered, updated, deleted}
-use Rattle.archive_tables.proofs.SelectLemmas.{plain_query, by_number, passes, picks_of, hits, asked, leaves, asked_rests, refused_rests, any_wanted, shows, alone, text_is, int_is, text_flips, equal_words, no_row, one_row}
+use Rattle.archive_tables.proofs.SelectLemmas.{plain_query, by_number, passes, picks_of, hits, asked, asked_stays, refused_rests, any_wanted, shows, alone, text_is, int_is, text_flips, equal_words, no_row, one_row}
 use Rattle.archive_tables.proofs.CauseLemmas.{Fits, question_fails_by}
 use Rattle.sqlite_typing.specs.Types.{accepts_program}
 
@@ -107,8 +107,8 @@ adding : (db : Trees) (g : Grant) (given : List Row) → given ≡ (Null ∷ gra
     → edited db (edit_of db grant_table [] Chosen 0 given) ≡ put_row (row_of grant_cells (fresh db g)) (db 6)
 adding db g given from = rw (from, cast_null, cast_int g.rank, cast_int g.from_day, cast_int g.until_day)
 
-adds : (old new : State) (g : Grant) (count : ℕ) → IsKept old → list_any (is_grant g.person g.list g.rank) (archive_of old).grants ≡ false → Executes add_text (params_of g) old new (Ok count)
-    → Changes old new (λ a. record a { grants = a.grants ++ g ∷ [] })
+adds : {behind : Option Database} (old new : State) (g : Grant) (count : ℕ) → IsHeld behind old → list_any (is_grant g.person g.list g.rank) (archive_of old).grants ≡ false → Executes add_text (params_of g) old new (Ok count)
+    → ChangesOver behind old new (λ a. record a { grants = a.grants ++ g ∷ [] })
 adds old new g count k none h =
     let params = params_of g in
     let db = old.now.trees in
@@ -131,10 +131,11 @@ adds old new g count k none h =
     let it = grants_change db new.now.trees k.tables same _ rows put.0 apart in
     (kept_by old new k w.shown (ap (λ (d : Database). d.schema) now) it.0, it.1 ∙ ap (λ l. record (archive_of old) { grants = l }) put.1)
 
-pub tries_to_add : (old new : State) (g : Grant) (r : Result ℕ Error) → IsKept old → Executes add_text (params_of g) old new r
-    → (list_any (is_grant g.person g.list g.rank) (archive_of old).grants ≡ false → OnOk r (Changes old new (λ a. record a { grants = a.grants ++ g ∷ [] }))) × OnErr r (Rests old new)
-tries_to_add old new g (Ok count) k h = (λ none. adds old new g count k none h, tt)
-tries_to_add old new g (Err e) k h = (λ none. tt, rests old new k (execute_fails old new add_text (params_of g) e h))
+pub tries_to_add : (behind : Option Database) (old new : State) (g : Grant) (r : Result ℕ Error) → IsHeld behind old → Executes add_text (params_of g) old new r
+    → MatchResult r (λ _. list_any (is_grant g.person g.list g.rank) (archive_of old).grants ≡ false → ChangesOver behind old new (λ a. record a { grants = a.grants ++ g ∷ [] }))
+    (λ _. RestsOver behind old new)
+tries_to_add behind old new g (Ok count) k h = λ none. adds old new g count k none h
+tries_to_add behind old new g (Err e) k h = rests old new k (execute_fails old new add_text (params_of g) e h)
 
 -- ---- UPDATE
 
@@ -197,7 +198,7 @@ module _ (person list : List ℕ) (rank : ℤ) where
         → edited db (edit_of db grant_table (ids_of given) Given 1 given) ≡ put_row (row_of grant_cells (record r { it = days r.it })) (without_rowid r.number (db 6))
     puts db r given from = rw (from, cast_int r.number, cast_int r.it.rank, cast_int from_day, cast_int until_day)
 
-    changes : (old new : State) (count : ℕ) → IsKept old → Executes change_text change_params old new (Ok count) → Changes old new (λ a. record a { grants = map change a.grants })
+    changes : {behind : Option Database} (old new : State) (count : ℕ) → IsHeld behind old → Executes change_text change_params old new (Ok count) → ChangesOver behind old new (λ a. record a { grants = map change a.grants })
     changes old new count k h =
         let params = change_params in
         let query = plain_query 6 at_key changed_cells [] in
@@ -223,10 +224,10 @@ module _ (person list : List ℕ) (rank : ℤ) where
         let all = grants_change db new.now.trees k.tables same _ rows it.0 apart in
         (kept_by old new k w.shown (ap (λ (d : Database). d.schema) now) all.0, all.1 ∙ ap (λ l. record (archive_of old) { grants = l }) it.1)
 
-    pub tries_to_change : (old new : State) (r : Result ℕ Error) → IsKept old → Executes change_text change_params old new r
-        → OnOk r (Changes old new (λ a. record a { grants = map change a.grants })) × OnErr r (Rests old new)
-    tries_to_change old new (Ok count) k h = (changes old new count k h, tt)
-    tries_to_change old new (Err e) k h = (tt, rests old new k (execute_fails old new change_text change_params e h))
+    pub tries_to_change : (behind : Option Database) (old new : State) (r : Result ℕ Error) → IsHeld behind old → Executes change_text change_params old new r
+        → MatchResult r (λ _. ChangesOver behind old new (λ a. record a { grants = map change a.grants })) (λ _. RestsOver behind old new)
+    tries_to_change behind old new (Ok count) k h = changes old new count k h
+    tries_to_change behind old new (Err e) k h = rests old new k (execute_fails old new change_text change_params e h)
 
   abbrev key_params : Row
   key_params = Text person ∷ Text list ∷ Int rank ∷ []
@@ -235,8 +236,8 @@ module _ (person list : List ℕ) (rank : ℤ) where
       → edited db (edit_of db grant_table (ids_of given) Given 0 []) ≡ without_rowid r.number (db 6)
   drops db r given from = rw (from)
 
-  removes : (old new : State) (count : ℕ) → IsKept old → Executes remove_text key_params old new (Ok count)
-      → Changes old new (λ a. record a { grants = filter (λ g. not (is_grant person list rank g)) a.grants })
+  removes : {behind : Option Database} (old new : State) (count : ℕ) → IsHeld behind old → Executes remove_text key_params old new (Ok count)
+      → ChangesOver behind old new (λ a. record a { grants = filter (λ g. not (is_grant person list rank g)) a.grants })
   removes old new count k h =
       let params = key_params in
       let query = plain_query 6 at_key number_cell [] in
@@ -262,10 +263,10 @@ module _ (person list : List ℕ) (rank : ℤ) where
       let all = grants_change db new.now.trees k.tables same _ rows it.0 apart in
       (kept_by old new k w.shown (ap (λ (d : Database). d.schema) now) all.0, all.1 ∙ ap (λ l. record (archive_of old) { grants = l }) it.1)
 
-  pub tries_to_remove : (old new : State) (r : Result ℕ Error) → IsKept old → Executes remove_text key_params old new r
-      → OnOk r (Changes old new (λ a. record a { grants = filter (λ g. not (is_grant person list rank g)) a.grants })) × OnErr r (Rests old new)
-  tries_to_remove old new (Ok count) k h = (removes old new count k h, tt)
-  tries_to_remove old new (Err e) k h = (tt, rests old new k (execute_fails old new remove_text key_params e h))
+  pub tries_to_remove : (behind : Option Database) (old new : State) (r : Result ℕ Error) → IsHeld behind old → Executes remove_text key_params old new r
+      → MatchResult r (λ _. ChangesOver behind old new (λ a. record a { grants = filter (λ g. not (is_grant person list rank g)) a.grants })) (λ _. RestsOver behind old new)
+  tries_to_remove behind old new (Ok count) k h = removes old new count k h
+  tries_to_remove behind old new (Err e) k h = rests old new k (execute_fails old new remove_text key_params e h)
 
 -- ---- SELECT
 
@@ -313,18 +314,17 @@ both_typed : (person : List ℕ) (list : List ℕ) → accepts_program archive_s
 unfolding everything
 both_typed person list = refl
 
-module _ (old new : State) (person list : List ℕ) (k : IsKept old) where
+module _ (old new : State) (person list : List ℕ) {behind : Option Database} (k : IsHeld behind old) where
   pub of_person : (rows : List Row) → Shown both_text (Text person ∷ Text list ∷ []) old new rows
-      → (rows ≡ map grant_shown (filter (λ g. bytes_eq g.person person && bytes_eq g.list list) (archive_of old).grants)) × IsTrue new.is_open × Rests old new
+      → (rows ≡ map grant_shown (filter (λ g. bytes_eq g.person person && bytes_eq g.list list) (archive_of old).grants)) × StaysOver behind old new
   of_person rows h =
       let params = Text person ∷ Text list ∷ [] in
       let picks = asked both_text 6 of_both day_cells by_number _ both_is.0 both_plain both_is.1 (λ t. refl) params old new k rows h in (
         shows 6 of_both day_cells params grant_cells grant_read back (λ g. bytes_eq g.person person && bytes_eq g.list list) (has_both person list) grant_shown (λ n g. refl) (old.now.trees 6) rows k.tables.grants picks,
-        (leaves both_text 6 of_both day_cells by_number _ both_is.0 both_plain both_is.1 (λ t. refl) params old new k rows h).0.is_open,
-        asked_rests both_text 6 of_both day_cells by_number _ both_is.0 both_plain both_is.1 (λ t. refl) params old new k rows h,
+        asked_stays both_text 6 of_both day_cells by_number _ both_is.0 both_plain both_is.1 (λ t. refl) params old new k rows h,
       )
 
-  pub not_of_person : (e : Error) → FailsToQuery both_text (Text person ∷ Text list ∷ []) old new e → Rests old new
+  pub not_of_person : (e : Error) → FailsToQuery both_text (Text person ∷ Text list ∷ []) old new e → RestsOver behind old new
   not_of_person e h = refused_rests both_text 6 of_both day_cells by_number _ both_is.0 both_plain both_is.1 (λ t. refl) (Text person ∷ Text list ∷ []) old new k e h
 
   pub not_of_person_caused : (e : Error) → FailsToQuery both_text (Text person ∷ Text list ∷ []) old new e → old.step_limit ≡ None → IsCaused old new e
@@ -332,16 +332,15 @@ module _ (old new : State) (person list : List ℕ) (k : IsKept old) where
 
   module _ (rank : ℤ) where
     pub has : (rows : List Row) → Shown has_text (Text person ∷ Text list ∷ Int rank ∷ []) old new rows
-        → (not (length rows == 0) ≡ list_any (is_grant person list rank) (archive_of old).grants) × IsTrue new.is_open × Rests old new
+        → (not (length rows == 0) ≡ list_any (is_grant person list rank) (archive_of old).grants) × StaysOver behind old new
     has rows h =
         let params = Text person ∷ Text list ∷ Int rank ∷ [] in
         let picks = asked has_text 6 at_key rank_cell [] _ has_is.0 has_plain has_is.1 (λ t. refl) params old new k rows h in (
           any_wanted grant_cells grant_read back (plain_query 6 at_key rank_cell []) params (is_grant person list rank) (has_key person list rank []) (old.now.trees 6) rows k.tables.grants picks,
-          (leaves has_text 6 at_key rank_cell [] _ has_is.0 has_plain has_is.1 (λ t. refl) params old new k rows h).0.is_open,
-          asked_rests has_text 6 at_key rank_cell [] _ has_is.0 has_plain has_is.1 (λ t. refl) params old new k rows h,
+          asked_stays has_text 6 at_key rank_cell [] _ has_is.0 has_plain has_is.1 (λ t. refl) params old new k rows h,
         )
 
-    pub has_not : (e : Error) → FailsToQuery has_text (Text person ∷ Text list ∷ Int rank ∷ []) old new e → Rests old new
+    pub has_not : (e : Error) → FailsToQuery has_text (Text person ∷ Text list ∷ Int rank ∷ []) old new e → RestsOver behind old new
     has_not e h = refused_rests has_text 6 at_key rank_cell [] _ has_is.0 has_plain has_is.1 (λ t. refl) (Text person ∷ Text list ∷ Int rank ∷ []) old new k e h
 
     pub has_not_caused : (e : Error) → FailsToQuery has_text (Text person ∷ Text list ∷ Int rank ∷ []) old new e → old.step_limit ≡ None → IsCaused old new e

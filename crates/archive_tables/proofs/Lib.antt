@@ -23,6 +23,7 @@ pub mod WalkLemmas
 pub mod FiledLemmas
 pub mod LastLemmas
 pub mod LastExamples
+pub mod EndLemmas
 pub mod CauseLemmas
 pub mod ApartLemmas
 pub mod OptionLemmas

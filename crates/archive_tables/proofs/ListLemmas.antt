@@ -1,6 +1,6 @@
 -- The statements on `list`.
-use Rattle.std.proofs.Common.{◌≡◌, ℕ, ℤ, List, [], ◌∷◌, ◌++◌, codes, Ok, Err, Result, OnOk, OnErr, refl, sym, ap, subst, ◌∙◌, false, None, Option, inl, true}
-use Rattle.std.specs.Prelude.{IsTrue, not, ◌==◌, length, bytes_eq, MatchResult}
+use Rattle.std.proofs.Common.{◌≡◌, ℕ, ℤ, List, [], ◌∷◌, ◌++◌, codes, Ok, Err, Result, refl, sym, ap, subst, ◌∙◌, false, None, Option, inl, true}
+use Rattle.std.specs.Prelude.{not, ◌==◌, length, bytes_eq, MatchResult}
 use Rattle.std.specs.List.{list_any}
 use Rattle.std.specs.Ordering.{is_eq}
 use Rattle.std.proofs.lemmas.Map.Text.{is_eq-slice_cmp}
@@ -26,12 +26,12 @@ use Rattle.sqlite_sql.specs.declared.ops.BinaryOp.TheVariants.{Compare}
 use Rattle.sqlite_sql.specs.declared.ops.CompareOp.TheVariants.{Eq}
 use Rattle.sqlite_value.proofs.OrderLemmas.{value_cmp-Text}
 use Rattle.archive_tables.specs.Schema.{archive_schema, list_table}
-use Rattle.archive_tables.specs.Tables.{IsHeld, IsKept, Numbered, row_of, list_cells, list_read, archive_of}
-use Rattle.archive_tables.specs.Calls.{Changes, ChangesOver, Rests, RestsOver, StaysOver, IsCaused}
+use Rattle.archive_tables.specs.Tables.{IsHeld, Numbered, row_of, list_cells, list_read, archive_of}
+use Rattle.archive_tables.specs.Calls.{ChangesOver, RestsOver, StaysOver, IsCaused}
 use Rattle.archive_tables.proofs.RunLemmas.{passed, value_is, no_action, cast_null, kept_by, rests, execute_fails}
 use Rattle.archive_tables.proofs.RowLemmas.{put_past}
 use Rattle.archive_tables.proofs.TableLemmas.{SameBut, same_but, lists_change}
-use Rattle.archive_tables.proofs.SelectLemmas.{plain_query, passes, asked, leaves, asked_stays, asked_rests, refused_rests, any_wanted, alone, truth_back}
+use Rattle.archive_tables.proofs.SelectLemmas.{plain_query, passes, asked, asked_stays, refused_rests, any_wanted, alone, truth_back}
 use Rattle.archive_tables.proofs.CauseLemmas.{Fits, question_fails_by}
 use Rattle.sqlite_typing.specs.Types.{accepts_program}
 
@@ -81,15 +81,10 @@ adds old new name count k h =
     let it = lists_change db new.now.trees k.tables same _ rows put.0 in
     (kept_by old new k w.shown (ap (λ (d : Database). d.schema) now) it.0, it.1 ∙ ap (λ l. record (archive_of old) { lists = l }) put.1)
 
-pub tries_to_add : (old new : State) (name : List ℕ) (r : Result ℕ Error) → IsKept old → Executes add_text (Text name ∷ []) old new r
-    → OnOk r (Changes old new (λ a. record a { lists = a.lists ++ name ∷ [] })) × OnErr r (Rests old new)
-tries_to_add old new name (Ok count) k h = (adds old new name count k h, tt)
-tries_to_add old new name (Err e) k h = (tt, rests old new k (execute_fails old new add_text (Text name ∷ []) e h))
-
-pub tries_over : (behind : Option Database) (old new : State) (name : List ℕ) (r : Result ℕ Error) → IsHeld behind old → Executes add_text (Text name ∷ []) old new r
+pub tries_to_add : (behind : Option Database) (old new : State) (name : List ℕ) (r : Result ℕ Error) → IsHeld behind old → Executes add_text (Text name ∷ []) old new r
     → MatchResult r (λ _. ChangesOver behind old new (λ a. record a { lists = a.lists ++ name ∷ [] })) (λ _. RestsOver behind old new)
-tries_over behind old new name (Ok count) k h = adds old new name count k h
-tries_over behind old new name (Err e) k h = rests old new k (execute_fails old new add_text (Text name ∷ []) e h)
+tries_to_add behind old new name (Ok count) k h = adds old new name count k h
+tries_to_add behind old new name (Err e) k h = rests old new k (execute_fails old new add_text (Text name ∷ []) e h)
 
 -- ---- SELECT by name
 
@@ -125,17 +120,13 @@ is_named name n it = alone _ ∙ truth_back _ ∙ ap is_eq (value_cmp-Text it na
 
 module _ (old new : State) (name : List ℕ) {behind : Option Database} (k : IsHeld behind old) where
   pub has : (rows : List Row) → Shown has_text (Text name ∷ []) old new rows
-      → (not (length rows == 0) ≡ list_any (λ n. bytes_eq n name) (archive_of old).lists) × IsTrue new.is_open × RestsOver behind old new
+      → (not (length rows == 0) ≡ list_any (λ n. bytes_eq n name) (archive_of old).lists) × StaysOver behind old new
   has rows h =
       let q = plain_query 1 has_name name_shown [] in
       let picks = asked has_text 1 has_name name_shown [] _ has_is.0 has_plain has_is.1 (λ t. refl) (Text name ∷ []) old new k rows h in (
         any_wanted list_cells list_read (λ n r. refl) q (Text name ∷ []) (λ it. bytes_eq it name) (is_named name) (old.now.trees 1) rows k.tables.lists picks,
-        (leaves has_text 1 has_name name_shown [] _ has_is.0 has_plain has_is.1 (λ t. refl) (Text name ∷ []) old new k rows h).0.is_open,
-        asked_rests has_text 1 has_name name_shown [] _ has_is.0 has_plain has_is.1 (λ t. refl) (Text name ∷ []) old new k rows h,
+        asked_stays has_text 1 has_name name_shown [] _ has_is.0 has_plain has_is.1 (λ t. refl) (Text name ∷ []) old new k rows h,
       )
-
-  pub has_stays : (rows : List Row) → Shown has_text (Text name ∷ []) old new rows → StaysOver behind old new
-  has_stays rows h = asked_stays has_text 1 has_name name_shown [] _ has_is.0 has_plain has_is.1 (λ t. refl) (Text name ∷ []) old new k rows h
 
   pub has_not : (e : Error) → FailsToQuery has_text (Text name ∷ []) old new e → RestsOver behind old new
   has_not e h = refused_rests has_text 1 has_name name_shown [] _ has_is.0 has_plain has_is.1 (λ t. refl) (Text name ∷ []) old new k e h

@@ -1,6 +1,6 @@
 -- The questions on `message`.
 use Rattle.std.proofs.Common.{◌≡◌, ℕ, ℤ, List, [], ◌∷◌, map, filter, codes, refl, ap₂, ◌∙◌, false, Option, true, None}
-use Rattle.std.specs.Prelude.{IsTrue, not, ◌==◌, ◌&&◌, length, bytes_eq}
+use Rattle.std.specs.Prelude.{not, ◌==◌, ◌&&◌, length, bytes_eq}
 use Rattle.std.specs.List.{list_any}
 use Rattle.sqlite.specs.declared.error.Error.{Error}
 use Rattle.sqlite.specs.declared.types.Value.TheVariants.{Int, Text}
@@ -22,7 +22,7 @@ use Rattle.archive_tables.specs.Tables.{IsHeld, filed_cells, archive_of}
 use Rattle.archive_tables.specs.Rows.{message_shown, marks_shown}
 use Rattle.archive_tables.specs.Calls.{RestsOver, StaysOver, IsCaused}
 use Rattle.archive_tables.proofs.MessageLemmas.{shows_messages, counts_messages, has_messages}
-use Rattle.archive_tables.proofs.SelectLemmas.{plain_query, by_number, passes, asked, leaves, asked_stays, asked_rests, refused_rests, alone, text_is}
+use Rattle.archive_tables.proofs.SelectLemmas.{plain_query, by_number, passes, asked, asked_stays, refused_rests, alone, text_is}
 use Rattle.archive_tables.proofs.CauseLemmas.{Fits, question_fails_by}
 use Rattle.sqlite_typing.specs.Types.{accepts_program}
 
@@ -159,13 +159,12 @@ count_typed list = refl
 
 module _ (old new : State) (list : List ℕ) {behind : Option Database} (k : IsHeld behind old) where
   pub in_list : (rows : List Row) → Shown list_text (Text list ∷ []) old new rows
-      → (rows ≡ map message_shown (filter (λ m. bytes_eq m.list list) (archive_of old).messages)) × IsTrue new.is_open × RestsOver behind old new
+      → (rows ≡ map message_shown (filter (λ m. bytes_eq m.list list) (archive_of old).messages)) × StaysOver behind old new
   in_list rows h =
       let params = Text list ∷ [] in
       let picks = asked list_text 8 of_list all_cells by_number _ list_is.0 list_plain list_is.1 (λ t. refl) params old new k rows h in (
         shows_messages of_list all_cells params (λ m. bytes_eq m.list list) (has_list list) message_shown (λ n m. refl) (old.now.trees 8) rows k.tables.messages picks,
-        (leaves list_text 8 of_list all_cells by_number _ list_is.0 list_plain list_is.1 (λ t. refl) params old new k rows h).0.is_open,
-        asked_rests list_text 8 of_list all_cells by_number _ list_is.0 list_plain list_is.1 (λ t. refl) params old new k rows h,
+        asked_stays list_text 8 of_list all_cells by_number _ list_is.0 list_plain list_is.1 (λ t. refl) params old new k rows h,
       )
 
   pub not_in_list : (e : Error) → FailsToQuery list_text (Text list ∷ []) old new e → RestsOver behind old new
@@ -175,17 +174,13 @@ module _ (old new : State) (list : List ℕ) {behind : Option Database} (k : IsH
   not_in_list_caused e h free = question_fails_by list_text 8 of_list all_cells by_number _ list_is.0 list_plain list_is.1 (Text list ∷ []) list_fit (list_typed list) old new k free e h
 
   pub count : (rows : List Row) → Shown count_text (Text list ∷ []) old new rows
-      → (length rows ≡ length (filter (λ m. bytes_eq m.list list) (archive_of old).messages)) × IsTrue new.is_open × RestsOver behind old new
+      → (length rows ≡ length (filter (λ m. bytes_eq m.list list) (archive_of old).messages)) × StaysOver behind old new
   count rows h =
       let params = Text list ∷ [] in
       let picks = asked count_text 8 of_list number_cell [] _ count_is.0 count_plain count_is.1 (λ t. refl) params old new k rows h in (
         counts_messages of_list number_cell params (λ m. bytes_eq m.list list) (has_list list) (old.now.trees 8) rows k.tables.messages picks,
-        (leaves count_text 8 of_list number_cell [] _ count_is.0 count_plain count_is.1 (λ t. refl) params old new k rows h).0.is_open,
-        asked_rests count_text 8 of_list number_cell [] _ count_is.0 count_plain count_is.1 (λ t. refl) params old new k rows h,
+        asked_stays count_text 8 of_list number_cell [] _ count_is.0 count_plain count_is.1 (λ t. refl) params old new k rows h,
       )
-
-  pub count_stays : (rows : List Row) → Shown count_text (Text list ∷ []) old new rows → StaysOver behind old new
-  count_stays rows h = asked_stays count_text 8 of_list number_cell [] _ count_is.0 count_plain count_is.1 (λ t. refl) (Text list ∷ []) old new k rows h
 
   pub no_count : (e : Error) → FailsToQuery count_text (Text list ∷ []) old new e → RestsOver behind old new
   no_count e h = refused_rests count_text 8 of_list number_cell [] _ count_is.0 count_plain count_is.1 (λ t. refl) (Text list ∷ []) old new k e h
@@ -195,13 +190,12 @@ module _ (old new : State) (list : List ℕ) {behind : Option Database} (k : IsH
 
   module _ (key : List ℕ) where
     pub one : (rows : List Row) → Shown one_text (Text list ∷ Text key ∷ []) old new rows
-        → (rows ≡ map message_shown (filter (is_message list key) (archive_of old).messages)) × IsTrue new.is_open × RestsOver behind old new
+        → (rows ≡ map message_shown (filter (is_message list key) (archive_of old).messages)) × StaysOver behind old new
     one rows h =
         let params = Text list ∷ Text key ∷ [] in
         let picks = asked one_text 8 at_key all_cells by_number _ one_is.0 one_plain one_is.1 (λ t. refl) params old new k rows h in (
           shows_messages at_key all_cells params (is_message list key) (has_key list key []) message_shown (λ n m. refl) (old.now.trees 8) rows k.tables.messages picks,
-          (leaves one_text 8 at_key all_cells by_number _ one_is.0 one_plain one_is.1 (λ t. refl) params old new k rows h).0.is_open,
-          asked_rests one_text 8 at_key all_cells by_number _ one_is.0 one_plain one_is.1 (λ t. refl) params old new k rows h,
+          asked_stays one_text 8 at_key all_cells by_number _ one_is.0 one_plain one_is.1 (λ t. refl) params old new k rows h,
         )
 
     pub not_one : (e : Error) → FailsToQuery one_text (Text list ∷ Text key ∷ []) old new e → RestsOver behind old new
@@ -211,13 +205,12 @@ module _ (old new : State) (list : List ℕ) {behind : Option Database} (k : IsH
     not_one_caused e h free = question_fails_by one_text 8 at_key all_cells by_number _ one_is.0 one_plain one_is.1 (Text list ∷ Text key ∷ []) one_fit (one_typed list key) old new k free e h
 
     pub marks : (rows : List Row) → Shown marks_text (Text list ∷ Text key ∷ []) old new rows
-        → (rows ≡ map marks_shown (filter (is_message list key) (archive_of old).messages)) × IsTrue new.is_open × RestsOver behind old new
+        → (rows ≡ map marks_shown (filter (is_message list key) (archive_of old).messages)) × StaysOver behind old new
     marks rows h =
         let params = Text list ∷ Text key ∷ [] in
         let picks = asked marks_text 8 at_key mark_cells by_number _ marks_is.0 marks_plain marks_is.1 (λ t. refl) params old new k rows h in (
           shows_messages at_key mark_cells params (is_message list key) (has_key list key []) marks_shown (λ n m. refl) (old.now.trees 8) rows k.tables.messages picks,
-          (leaves marks_text 8 at_key mark_cells by_number _ marks_is.0 marks_plain marks_is.1 (λ t. refl) params old new k rows h).0.is_open,
-          asked_rests marks_text 8 at_key mark_cells by_number _ marks_is.0 marks_plain marks_is.1 (λ t. refl) params old new k rows h,
+          asked_stays marks_text 8 at_key mark_cells by_number _ marks_is.0 marks_plain marks_is.1 (λ t. refl) params old new k rows h,
         )
 
     pub no_marks : (e : Error) → FailsToQuery marks_text (Text list ∷ Text key ∷ []) old new e → RestsOver behind old new
@@ -227,17 +220,13 @@ module _ (old new : State) (list : List ℕ) {behind : Option Database} (k : IsH
     no_marks_caused e h free = question_fails_by marks_text 8 at_key mark_cells by_number _ marks_is.0 marks_plain marks_is.1 (Text list ∷ Text key ∷ []) marks_fit (marks_typed list key) old new k free e h
 
     pub has : (rows : List Row) → Shown has_text (Text list ∷ Text key ∷ []) old new rows
-        → (not (length rows == 0) ≡ list_any (is_message list key) (archive_of old).messages) × IsTrue new.is_open × RestsOver behind old new
+        → (not (length rows == 0) ≡ list_any (is_message list key) (archive_of old).messages) × StaysOver behind old new
     has rows h =
         let params = Text list ∷ Text key ∷ [] in
         let picks = asked has_text 8 at_key number_cell [] _ has_is.0 has_plain has_is.1 (λ t. refl) params old new k rows h in (
           has_messages at_key number_cell params (is_message list key) (has_key list key []) (old.now.trees 8) rows k.tables.messages picks,
-          (leaves has_text 8 at_key number_cell [] _ has_is.0 has_plain has_is.1 (λ t. refl) params old new k rows h).0.is_open,
-          asked_rests has_text 8 at_key number_cell [] _ has_is.0 has_plain has_is.1 (λ t. refl) params old new k rows h,
+          asked_stays has_text 8 at_key number_cell [] _ has_is.0 has_plain has_is.1 (λ t. refl) params old new k rows h,
         )
-
-    pub has_stays : (rows : List Row) → Shown has_text (Text list ∷ Text key ∷ []) old new rows → StaysOver behind old new
-    has_stays rows h = asked_stays has_text 8 at_key number_cell [] _ has_is.0 has_plain has_is.1 (λ t. refl) (Text list ∷ Text key ∷ []) old new k rows h
 
     pub has_not : (e : Error) → FailsToQuery has_text (Text list ∷ Text key ∷ []) old new e → RestsOver behind old new
     has_not e h = refused_rests has_text 8 at_key number_cell [] _ has_is.0 has_plain has_is.1 (λ t. refl) (Text list ∷ Text key ∷ []) old new k e h

@@ -1,5 +1,5 @@
 -- The statements on `message`.
-use Rattle.std.proofs.Common.{◌≡◌, inl, inr, ℕ, ℤ, pos, List, [], ◌∷◌, ◌++◌, map, length, Bool, fold, codes, Ok, Err, Result, OnOk, OnErr, arith, refl, sym, ap, ap₂, subst, ◌∙◌, false, None, Some, Option}
+use Rattle.std.proofs.Common.{◌≡◌, inl, inr, ℕ, ℤ, pos, List, [], ◌∷◌, ◌++◌, map, length, Bool, fold, codes, Ok, Err, Result, arith, refl, sym, ap, ap₂, subst, ◌∙◌, false, None, Some, Option}
 use Rattle.std.specs.Prelude.{◌&&◌, ◌||◌, MatchResult, filter, zip, not, nat_eq}
 use Rattle.std.proofs.lemmas.List.{length-map, map-append}
 use Rattle.sqlite_trees.proofs.ListLemmas.{map-map}
@@ -30,9 +30,9 @@ use Rattle.archive_machine.specs.Records.{Message, Filing, Archive}
 use Rattle.archive_machine.specs.Filing.{Filed}
 use Rattle.archive_tables.specs.Schema.{archive_schema, message_table, sequence_table}
 use Rattle.archive_machine.specs.Questions.{is_message}
-use Rattle.archive_tables.specs.Tables.{IsHeld, IsKept, Numbered, row_of, Holds, message_read, filed_cells, filing_read, filed_read, archive_of, or_null, if_int, same_message, AreApart}
+use Rattle.archive_tables.specs.Tables.{IsHeld, Numbered, row_of, Holds, message_read, filed_cells, filing_read, filed_read, archive_of, or_null, if_int, same_message, AreApart}
 use Rattle.archive_tables.specs.Rows.{new_message}
-use Rattle.archive_tables.specs.Calls.{Changes, ChangesOver, Rests, RestsOver}
+use Rattle.archive_tables.specs.Calls.{ChangesOver, RestsOver}
 use Rattle.archive_tables.proofs.RunLemmas.{passed, value_is, no_action, cast_null, cast_int, kept_by, rests, execute_fails}
 use Rattle.archive_tables.proofs.RowLemmas.{put_past, raised, positive_more}
 use Rattle.archive_tables.proofs.TableLemmas.{SameBut, same_but, messages_change}
@@ -204,12 +204,7 @@ module _ (list key sender : List ℕ) (arrival : ℤ) (text : List ℕ) (filing 
       let it = messages_change db next.now.trees k.tables same _ rows put.0 apart positive in
       (kept_by old next k w.shown (ap (λ (d : Database). d.schema) now) it.0, it.1 ∙ ap₂ (λ l n. record (archive_of old) { messages = l; filings = n }) both.0 both.1)
 
-  pub tries_to_add : (old next : State) (r : Result ℕ Error) → IsKept old → Executes add_text params_of old next r
-      → (list_any (is_message list key) (archive_of old).messages ≡ false → OnOk r (Changes old next more)) × OnErr r (Rests old next)
-  tries_to_add old next (Ok count) k h = (λ none. adds old next count k none h, tt)
-  tries_to_add old next (Err e) k h = (λ none. tt, rests old next k (execute_fails old next add_text params_of e h))
-
-  pub tries_over : (behind : Option Database) (old next : State) (r : Result ℕ Error) → IsHeld behind old → list_any (is_message list key) (archive_of old).messages ≡ false
-      → Executes add_text params_of old next r → MatchResult r (λ _. ChangesOver behind old next more) (λ _. RestsOver behind old next)
-  tries_over behind old next (Ok count) k none h = adds old next count k none h
-  tries_over behind old next (Err e) k none h = rests old next k (execute_fails old next add_text params_of e h)
+  pub tries_to_add : (behind : Option Database) (old next : State) (r : Result ℕ Error) → IsHeld behind old → Executes add_text params_of old next r
+      → MatchResult r (λ _. list_any (is_message list key) (archive_of old).messages ≡ false → ChangesOver behind old next more) (λ _. RestsOver behind old next)
+  tries_to_add behind old next (Ok count) k h = λ none. adds old next count k none h
+  tries_to_add behind old next (Err e) k h = rests old next k (execute_fails old next add_text params_of e h)

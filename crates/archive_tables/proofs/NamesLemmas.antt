@@ -1,6 +1,5 @@
 -- The names of all lists, in the order of their bytes.
-use Rattle.std.proofs.Common.{◌≡◌, ℕ, ◌+◌, ◌<◌, List, [], ◌∷◌, map, filter, length, get_or, codes, refl, sym, ap, ap₂, subst, ◌∙◌, false, arith, true, None}
-use Rattle.std.specs.Prelude.{IsTrue}
+use Rattle.std.proofs.Common.{◌≡◌, ℕ, ◌+◌, ◌<◌, List, [], ◌∷◌, map, filter, length, get_or, codes, refl, sym, ap, ap₂, subst, ◌∙◌, false, arith, true, None, Option}
 use Rattle.std.specs.List.{AllByRecursion}
 use Rattle.std.specs.List.Sorted.{IsPermutation, IsSorted}
 use Rattle.std.specs.Cmp.Lexicographic.{slice_cmp}
@@ -16,6 +15,7 @@ use Rattle.sqlite.specs.Term.{Term, col}
 use Rattle.sqlite.specs.Collation.TheVariants.{Binary}
 use Rattle.sqlite.specs.Query.{Query, Output, output, output_cmp}
 use Rattle.sqlite.specs.Command.TheVariants.{Select}
+use Rattle.sqlite.specs.Effect.{Database}
 use Rattle.sqlite.specs.Listing.{understood, reads_listing}
 use Rattle.sqlite.specs.State.{State, Shown, FailsToQuery}
 use Rattle.sqlite.proofs.Callers.{IsPlain, command_of}
@@ -25,11 +25,11 @@ use Rattle.sqlite_value.specs.Keys.{ascending}
 use Rattle.sqlite_value.proofs.OrderLemmas.{value_cmp-Text}
 use Rattle.sqlite_trees.proofs.ListLemmas.{all-permutation}
 use Rattle.archive_tables.specs.Schema.{archive_schema}
-use Rattle.archive_tables.specs.Tables.{IsKept, Numbered, row_of, read_of, list_cells, list_read, archive_of}
+use Rattle.archive_tables.specs.Tables.{IsHeld, Numbered, row_of, read_of, list_cells, list_read, archive_of}
 use Rattle.archive_tables.specs.Rows.{name_shown}
-use Rattle.archive_tables.specs.Calls.{Rests, IsCaused}
+use Rattle.archive_tables.specs.Calls.{StaysOver, RestsOver, IsCaused}
 use Rattle.archive_tables.proofs.RowLemmas.{records_are}
-use Rattle.archive_tables.proofs.SelectLemmas.{plain_query, env_of, passes, all_pass, asked, leaves, asked_rests, refused_rests}
+use Rattle.archive_tables.proofs.SelectLemmas.{plain_query, env_of, passes, all_pass, asked, asked_stays, refused_rests}
 use Rattle.archive_tables.proofs.CauseLemmas.{Fits, question_fails_by}
 use Rattle.sqlite_typing.specs.Types.{accepts_program}
 
@@ -109,9 +109,9 @@ sorted_names names sorted at d from within =
     let second = get_or-map both names at d (both d) (omega (arith, within)) in
     ap is_lt (sym (by_bytes (get_or names (at + 1) d) (get_or names at d)) ∙ ap₂ (output_cmp query) (sym first) (sym second)) ∙ less
 
-module _ (old new : State) (k : IsKept old) where
+module _ (old new : State) {behind : Option Database} (k : IsHeld behind old) where
   pub names_found : (rows : List Row) → Shown names_text [] old new rows
-      → ((names : List (List ℕ)) × (rows ≡ map name_shown names) × IsPermutation (archive_of old).lists names × IsSorted (slice_cmp nat_cmp) names) × IsTrue new.is_open × Rests old new
+      → ((names : List (List ℕ)) × (rows ≡ map name_shown names) × IsPermutation (archive_of old).lists names × IsSorted (slice_cmp nat_cmp) names) × StaysOver behind old new
   names_found rows h =
       let picks = asked names_text 1 [] the_name by_name _ names_is.0 names_plain names_is.1 (λ t. refl) [] old new k rows h in
       let table = old.now.trees 1 in
@@ -128,11 +128,10 @@ module _ (old new : State) (k : IsKept old) where
           subst (λ l. IsPermutation l names) (names_back (archive_of old).lists) (IsPermutation-map name_of (map both (archive_of old).lists) picks.ordered same),
           sorted_names names (subst (IsSorted (output_cmp query)) ordered picks.sorted),
         ),
-        (leaves names_text 1 [] the_name by_name _ names_is.0 names_plain names_is.1 (λ t. refl) [] old new k rows h).0.is_open,
-        asked_rests names_text 1 [] the_name by_name _ names_is.0 names_plain names_is.1 (λ t. refl) [] old new k rows h,
+        asked_stays names_text 1 [] the_name by_name _ names_is.0 names_plain names_is.1 (λ t. refl) [] old new k rows h,
       )
 
-  pub names_not_found : (e : Error) → FailsToQuery names_text [] old new e → Rests old new
+  pub names_not_found : (e : Error) → FailsToQuery names_text [] old new e → RestsOver behind old new
   names_not_found e h = refused_rests names_text 1 [] the_name by_name _ names_is.0 names_plain names_is.1 (λ t. refl) [] old new k e h
 
   pub names_not_found_caused : (e : Error) → FailsToQuery names_text [] old new e → old.step_limit ≡ None → IsCaused old new e

@@ -1,6 +1,6 @@
 -- The statements on `list_option`.
-use Rattle.std.proofs.Common.{◌≡◌, inl, ℕ, ℤ, List, [], ◌∷◌, ◌++◌, map, filter, codes, Ok, Err, Result, OnOk, OnErr, refl, sym, ap, ap₂, subst, ◌∙◌, false, true, Bool, cond, None, w64}
-use Rattle.std.specs.Prelude.{IsTrue, bytes_eq, MatchResult, Option}
+use Rattle.std.proofs.Common.{◌≡◌, inl, ℕ, ℤ, List, [], ◌∷◌, ◌++◌, map, filter, codes, Ok, Err, Result, refl, sym, ap, ap₂, subst, ◌∙◌, false, true, Bool, cond, None, w64}
+use Rattle.std.specs.Prelude.{bytes_eq, MatchResult, Option}
 use Rattle.std.specs.Int.{cast_signed, cast_unsigned}
 use Rattle.std.specs.List.{AllByRecursion}
 use Rattle.sqlite.specs.declared.error.Error.{Error}
@@ -31,15 +31,15 @@ use Rattle.archive_machine.specs.Records.{ListOption}
 use Rattle.archive_machine.specs.Questions.{is_option_of}
 use Rattle.archive_machine.specs.Machine.{with_merge}
 use Rattle.archive_tables.specs.Schema.{archive_schema, option_table}
-use Rattle.archive_tables.specs.Tables.{IsHeld, IsKept, Numbered, row_of, option_cells, option_read, merge_number, archive_of, same_option, AreApart}
+use Rattle.archive_tables.specs.Tables.{IsHeld, Numbered, row_of, option_cells, option_read, merge_number, archive_of, same_option, AreApart}
 use Rattle.archive_tables.specs.Rows.{merge_shown}
-use Rattle.archive_tables.specs.Calls.{Changes, ChangesOver, Rests, RestsOver, IsCaused}
+use Rattle.archive_tables.specs.Calls.{ChangesOver, StaysOver, RestsOver, IsCaused}
 use Rattle.archive_tables.proofs.RunLemmas.{passed, value_is, no_action, cast_null, cast_int, kept_by, rests, execute_fails}
 use Rattle.archive_tables.proofs.RowLemmas.{put_past}
 use Rattle.archive_tables.proofs.TableLemmas.{SameBut, same_but, options_change}
 use Rattle.archive_tables.proofs.ChangeLemmas.{apart_mapped, updated}
 use Rattle.archive_tables.proofs.ApartLemmas.{apart_by_key, one_option_a_list, is_no_foreign_key}
-use Rattle.archive_tables.proofs.SelectLemmas.{plain_query, by_number, passes, picks_of, hits, asked, leaves, asked_rests, refused_rests, shows, alone, text_is, equal_words, no_row, one_row}
+use Rattle.archive_tables.proofs.SelectLemmas.{plain_query, by_number, passes, picks_of, hits, asked, asked_stays, refused_rests, shows, alone, text_is, equal_words, no_row, one_row}
 use Rattle.archive_tables.proofs.CauseLemmas.{Fits, question_fails_by}
 use Rattle.sqlite_typing.specs.Types.{accepts_program}
 
@@ -113,10 +113,10 @@ adds old new o count k h =
     let it = options_change db new.now.trees k.tables same _ rows put.0 apart in
     (kept_by old new k w.shown (ap (λ (d : Database). d.schema) now) it.0, it.1 ∙ ap (λ l. record (archive_of old) { options = l }) put.1)
 
-pub tries_over : (behind : Option Database) (old new : State) (o : ListOption) (r : Result ℕ Error) → IsHeld behind old → Executes add_text (option_cells o) old new r
+pub tries_to_add : (behind : Option Database) (old new : State) (o : ListOption) (r : Result ℕ Error) → IsHeld behind old → Executes add_text (option_cells o) old new r
     → MatchResult r (λ _. ChangesOver behind old new (λ a. record a { options = a.options ++ o ∷ [] })) (λ _. RestsOver behind old new)
-tries_over behind old new o (Ok count) k h = adds old new o count k h
-tries_over behind old new o (Err e) k h = rests old new k (execute_fails old new add_text (option_cells o) e h)
+tries_to_add behind old new o (Ok count) k h = adds old new o count k h
+tries_to_add behind old new o (Err e) k h = rests old new k (execute_fails old new add_text (option_cells o) e h)
 
 -- ---- UPDATE
 
@@ -181,7 +181,7 @@ module _ (list : List ℕ) where
         → edited db (edit_of db option_table (ids_of given) Given 1 given) ≡ put_row (row_of option_cells (record r { it = said r.it })) (without_rowid r.number (db 13))
     puts db r given from = rw (from, cast_int r.number, cast_int (merge_number merge))
 
-    changes : (old new : State) (count : ℕ) → IsKept old → Executes change_text change_params old new (Ok count) → Changes old new (λ a. record a { options = map change a.options })
+    changes : {behind : Option Database} (old new : State) (count : ℕ) → IsHeld behind old → Executes change_text change_params old new (Ok count) → ChangesOver behind old new (λ a. record a { options = map change a.options })
     changes old new count k h =
         let params = change_params in
         let query = plain_query 13 of_list changed_cells [] in
@@ -207,23 +207,22 @@ module _ (list : List ℕ) where
         let all = options_change db new.now.trees k.tables same _ rows it.0 apart in
         (kept_by old new k w.shown (ap (λ (d : Database). d.schema) now) all.0, all.1 ∙ ap (λ l. record (archive_of old) { options = l }) it.1)
 
-    pub tries_to_change : (old new : State) (r : Result ℕ Error) → IsKept old → Executes change_text change_params old new r
-        → OnOk r (Changes old new (λ a. record a { options = map change a.options })) × OnErr r (Rests old new)
-    tries_to_change old new (Ok count) k h = (changes old new count k h, tt)
-    tries_to_change old new (Err e) k h = (tt, rests old new k (execute_fails old new change_text change_params e h))
+    pub tries_to_change : (behind : Option Database) (old new : State) (r : Result ℕ Error) → IsHeld behind old → Executes change_text change_params old new r
+        → MatchResult r (λ _. ChangesOver behind old new (λ a. record a { options = map change a.options })) (λ _. RestsOver behind old new)
+    tries_to_change behind old new (Ok count) k h = changes old new count k h
+    tries_to_change behind old new (Err e) k h = rests old new k (execute_fails old new change_text change_params e h)
 
-  module _ (old new : State) (k : IsKept old) where
+  module _ (old new : State) {behind : Option Database} (k : IsHeld behind old) where
     pub found : (rows : List Row) → Shown find_text (Text list ∷ []) old new rows
-        → (rows ≡ map merge_shown (filter (is_option_of list) (archive_of old).options)) × IsTrue new.is_open × Rests old new
+        → (rows ≡ map merge_shown (filter (is_option_of list) (archive_of old).options)) × StaysOver behind old new
     found rows h =
         let params = Text list ∷ [] in
         let picks = asked find_text 13 of_list the_merge by_number _ find_is.0 find_plain find_is.1 (λ t. refl) params old new k rows h in (
           shows 13 of_list the_merge params option_cells option_read option_back (is_option_of list) (is_of_list list []) merge_shown (λ n o. refl) (old.now.trees 13) rows k.tables.options picks,
-          (leaves find_text 13 of_list the_merge by_number _ find_is.0 find_plain find_is.1 (λ t. refl) params old new k rows h).0.is_open,
-          asked_rests find_text 13 of_list the_merge by_number _ find_is.0 find_plain find_is.1 (λ t. refl) params old new k rows h,
+          asked_stays find_text 13 of_list the_merge by_number _ find_is.0 find_plain find_is.1 (λ t. refl) params old new k rows h,
         )
 
-    pub not_found : (e : Error) → FailsToQuery find_text (Text list ∷ []) old new e → Rests old new
+    pub not_found : (e : Error) → FailsToQuery find_text (Text list ∷ []) old new e → RestsOver behind old new
     not_found e h = refused_rests find_text 13 of_list the_merge by_number _ find_is.0 find_plain find_is.1 (λ t. refl) (Text list ∷ []) old new k e h
 
     pub not_found_caused : (e : Error) → FailsToQuery find_text (Text list ∷ []) old new e → old.step_limit ≡ None → IsCaused old new e

@@ -1,6 +1,6 @@
 -- The statements on `person`.
-use Rattle.std.proofs.Common.{◌≡◌, ℕ, List, [], ◌∷◌, ◌++◌, map, filter, codes, Ok, Err, Result, OnOk, OnErr, refl, sym, ap, subst, ◌∙◌, false, None, inl, true}
-use Rattle.std.specs.Prelude.{IsTrue, not, ◌==◌, length, bytes_eq}
+use Rattle.std.proofs.Common.{◌≡◌, ℕ, List, [], ◌∷◌, ◌++◌, map, filter, codes, Ok, Err, Result, refl, sym, ap, subst, ◌∙◌, false, None, Option, inl, true}
+use Rattle.std.specs.Prelude.{not, ◌==◌, length, bytes_eq, MatchResult}
 use Rattle.std.specs.List.{list_any}
 use Rattle.sqlite.specs.declared.error.Error.{Error}
 use Rattle.sqlite.specs.declared.types.Value.TheVariants.{Null, Text}
@@ -23,13 +23,13 @@ use Rattle.sqlite_sql.specs.declared.ops.BinaryOp.TheVariants.{Compare}
 use Rattle.sqlite_sql.specs.declared.ops.CompareOp.TheVariants.{Eq}
 use Rattle.archive_machine.specs.Records.{Person}
 use Rattle.archive_tables.specs.Schema.{archive_schema, person_table}
-use Rattle.archive_tables.specs.Tables.{IsKept, Numbered, row_of, person_cells, person_read, archive_of}
+use Rattle.archive_tables.specs.Tables.{IsHeld, Numbered, row_of, person_cells, person_read, archive_of}
 use Rattle.archive_tables.specs.Rows.{name_shown}
-use Rattle.archive_tables.specs.Calls.{Changes, Rests, IsCaused}
+use Rattle.archive_tables.specs.Calls.{ChangesOver, StaysOver, RestsOver, IsCaused}
 use Rattle.archive_tables.proofs.RunLemmas.{passed, value_is, no_action, cast_null, kept_by, rests, execute_fails}
 use Rattle.archive_tables.proofs.RowLemmas.{put_past}
 use Rattle.archive_tables.proofs.TableLemmas.{SameBut, same_but, persons_change}
-use Rattle.archive_tables.proofs.SelectLemmas.{plain_query, by_number, asked, leaves, asked_rests, refused_rests, any_wanted, shows, alone, text_is}
+use Rattle.archive_tables.proofs.SelectLemmas.{plain_query, by_number, asked, asked_stays, refused_rests, any_wanted, shows, alone, text_is}
 use Rattle.archive_tables.proofs.CauseLemmas.{Fits, question_fails_by}
 use Rattle.sqlite_typing.specs.Types.{accepts_program}
 
@@ -59,8 +59,8 @@ puts : (db : Trees) (p : Person) (given : List Row) → given ≡ (Null ∷ Text
     → edited db (edit_of db person_table [] Chosen 0 given) ≡ put_row (row_of person_cells (fresh db p)) (db 3)
 puts db p given from = rw (from, cast_null)
 
-adds : (old new : State) (p : Person) (count : ℕ) → IsKept old → Executes add_text (params_of p) old new (Ok count)
-    → Changes old new (λ a. record a { persons = a.persons ++ p ∷ [] })
+adds : {behind : Option Database} (old new : State) (p : Person) (count : ℕ) → IsHeld behind old → Executes add_text (params_of p) old new (Ok count)
+    → ChangesOver behind old new (λ a. record a { persons = a.persons ++ p ∷ [] })
 adds old new p count k h =
     let params = params_of p in
     let db = old.now.trees in
@@ -82,10 +82,10 @@ adds old new p count k h =
     let it = persons_change db new.now.trees k.tables same _ rows put.0 in
     (kept_by old new k w.shown (ap (λ (d : Database). d.schema) now) it.0, it.1 ∙ ap (λ l. record (archive_of old) { persons = l }) put.1)
 
-pub tries_to_add : (old new : State) (p : Person) (r : Result ℕ Error) → IsKept old → Executes add_text (params_of p) old new r
-    → OnOk r (Changes old new (λ a. record a { persons = a.persons ++ p ∷ [] })) × OnErr r (Rests old new)
-tries_to_add old new p (Ok count) k h = (adds old new p count k h, tt)
-tries_to_add old new p (Err e) k h = (tt, rests old new k (execute_fails old new add_text (params_of p) e h))
+pub tries_to_add : (behind : Option Database) (old new : State) (p : Person) (r : Result ℕ Error) → IsHeld behind old → Executes add_text (params_of p) old new r
+    → MatchResult r (λ _. ChangesOver behind old new (λ a. record a { persons = a.persons ++ p ∷ [] })) (λ _. RestsOver behind old new)
+tries_to_add behind old new p (Ok count) k h = adds old new p count k h
+tries_to_add behind old new p (Err e) k h = rests old new k (execute_fails old new add_text (params_of p) e h)
 
 -- ---- SELECT by name
 
@@ -163,53 +163,50 @@ holder_typed : (word : List ℕ) → accepts_program archive_schema [] (plain_qu
 unfolding everything
 holder_typed word = refl
 
-module _ (old new : State) (word : List ℕ) (k : IsKept old) where
+module _ (old new : State) (word : List ℕ) {behind : Option Database} (k : IsHeld behind old) where
   pub has_name : (rows : List Row) → Shown named_text (Text word ∷ []) old new rows
-      → (not (length rows == 0) ≡ list_any (λ p. bytes_eq p.name word) (archive_of old).persons) × IsTrue new.is_open × Rests old new
+      → (not (length rows == 0) ≡ list_any (λ p. bytes_eq p.name word) (archive_of old).persons) × StaysOver behind old new
   has_name rows h =
       let params = Text word ∷ [] in
       let picks = asked named_text 3 named the_name [] _ named_is.0 named_plain named_is.1 (λ t. refl) params old new k rows h in (
         any_wanted person_cells person_read (λ n r. refl) (plain_query 3 named the_name []) params (λ p. bytes_eq p.name word)
             (λ n p. alone _ ∙ text_is p.name word) (old.now.trees 3) rows k.tables.persons picks,
-        (leaves named_text 3 named the_name [] _ named_is.0 named_plain named_is.1 (λ t. refl) params old new k rows h).0.is_open,
-        asked_rests named_text 3 named the_name [] _ named_is.0 named_plain named_is.1 (λ t. refl) params old new k rows h,
+        asked_stays named_text 3 named the_name [] _ named_is.0 named_plain named_is.1 (λ t. refl) params old new k rows h,
       )
 
-  pub has_no_name : (e : Error) → FailsToQuery named_text (Text word ∷ []) old new e → Rests old new
+  pub has_no_name : (e : Error) → FailsToQuery named_text (Text word ∷ []) old new e → RestsOver behind old new
   has_no_name e h = refused_rests named_text 3 named the_name [] _ named_is.0 named_plain named_is.1 (λ t. refl) (Text word ∷ []) old new k e h
 
   pub has_no_name_caused : (e : Error) → FailsToQuery named_text (Text word ∷ []) old new e → old.step_limit ≡ None → IsCaused old new e
   has_no_name_caused e h free = question_fails_by named_text 3 named the_name [] _ named_is.0 named_plain named_is.1 (Text word ∷ []) named_fit (named_typed word) old new k free e h
 
   pub has_token : (rows : List Row) → Shown token_text (Text word ∷ []) old new rows
-      → (not (length rows == 0) ≡ list_any (λ p. bytes_eq p.token word) (archive_of old).persons) × IsTrue new.is_open × Rests old new
+      → (not (length rows == 0) ≡ list_any (λ p. bytes_eq p.token word) (archive_of old).persons) × StaysOver behind old new
   has_token rows h =
       let params = Text word ∷ [] in
       let picks = asked token_text 3 with_token the_token [] _ token_is.0 token_plain token_is.1 (λ t. refl) params old new k rows h in (
         any_wanted person_cells person_read (λ n r. refl) (plain_query 3 with_token the_token []) params (λ p. bytes_eq p.token word)
             (λ n p. alone _ ∙ text_is p.token word) (old.now.trees 3) rows k.tables.persons picks,
-        (leaves token_text 3 with_token the_token [] _ token_is.0 token_plain token_is.1 (λ t. refl) params old new k rows h).0.is_open,
-        asked_rests token_text 3 with_token the_token [] _ token_is.0 token_plain token_is.1 (λ t. refl) params old new k rows h,
+        asked_stays token_text 3 with_token the_token [] _ token_is.0 token_plain token_is.1 (λ t. refl) params old new k rows h,
       )
 
-  pub has_no_token : (e : Error) → FailsToQuery token_text (Text word ∷ []) old new e → Rests old new
+  pub has_no_token : (e : Error) → FailsToQuery token_text (Text word ∷ []) old new e → RestsOver behind old new
   has_no_token e h = refused_rests token_text 3 with_token the_token [] _ token_is.0 token_plain token_is.1 (λ t. refl) (Text word ∷ []) old new k e h
 
   pub has_no_token_caused : (e : Error) → FailsToQuery token_text (Text word ∷ []) old new e → old.step_limit ≡ None → IsCaused old new e
   has_no_token_caused e h free = question_fails_by token_text 3 with_token the_token [] _ token_is.0 token_plain token_is.1 (Text word ∷ []) token_fit (token_typed word) old new k free e h
 
   pub holders : (rows : List Row) → Shown holder_text (Text word ∷ []) old new rows
-      → (rows ≡ map (λ (p : Person). name_shown p.name) (filter (λ p. bytes_eq p.token word) (archive_of old).persons)) × IsTrue new.is_open × Rests old new
+      → (rows ≡ map (λ (p : Person). name_shown p.name) (filter (λ p. bytes_eq p.token word) (archive_of old).persons)) × StaysOver behind old new
   holders rows h =
       let params = Text word ∷ [] in
       let picks = asked holder_text 3 with_token the_name by_number _ holder_is.0 holder_plain holder_is.1 (λ t. refl) params old new k rows h in (
         shows 3 with_token the_name params person_cells person_read (λ n r. refl) (λ p. bytes_eq p.token word) (λ n p. alone _ ∙ text_is p.token word)
             (λ p. name_shown p.name) (λ n p. refl) (old.now.trees 3) rows k.tables.persons picks,
-        (leaves holder_text 3 with_token the_name by_number _ holder_is.0 holder_plain holder_is.1 (λ t. refl) params old new k rows h).0.is_open,
-        asked_rests holder_text 3 with_token the_name by_number _ holder_is.0 holder_plain holder_is.1 (λ t. refl) params old new k rows h,
+        asked_stays holder_text 3 with_token the_name by_number _ holder_is.0 holder_plain holder_is.1 (λ t. refl) params old new k rows h,
       )
 
-  pub no_holders : (e : Error) → FailsToQuery holder_text (Text word ∷ []) old new e → Rests old new
+  pub no_holders : (e : Error) → FailsToQuery holder_text (Text word ∷ []) old new e → RestsOver behind old new
   no_holders e h = refused_rests holder_text 3 with_token the_name by_number _ holder_is.0 holder_plain holder_is.1 (λ t. refl) (Text word ∷ []) old new k e h
 
   pub no_holders_caused : (e : Error) → FailsToQuery holder_text (Text word ∷ []) old new e → old.step_limit ≡ None → IsCaused old new e

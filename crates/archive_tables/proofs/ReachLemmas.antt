@@ -1,6 +1,6 @@
 -- Numbers that rise from 1: as long as none reaches a limit, there are fewer messages than the limit.
 use Rattle.std.proofs.Common.{◌≡◌, inl, inr, ℕ, ◌<◌, ℤ, pos, ◌+ℤ◌, List, [], ◌∷◌, map, filter, take, length, codes, refl, sym, ap, ap₂, subst, ◌∙◌, false, arith}
-use Rattle.std.specs.Prelude.{IsTrue, not, nat_eq, int_le, ◌==◌, ◌||◌}
+use Rattle.std.specs.Prelude.{Option, not, nat_eq, int_le, ◌==◌, ◌||◌}
 use Rattle.std.specs.List.{AllByRecursion, list_any}
 use Rattle.std.specs.Int.Signed.{◌<ℤ◌}
 use Rattle.std.specs.Ordering.{int_cmp, is_ge}
@@ -22,6 +22,7 @@ use Rattle.sqlite.specs.Query.{Query, Output, output, IsAnswer}
 use Rattle.sqlite.specs.Program.{overlay}
 use Rattle.sqlite.specs.Command.TheVariants.{Select}
 use Rattle.sqlite.specs.Listing.{understood, reads_listing}
+use Rattle.sqlite.specs.Effect.{Database}
 use Rattle.sqlite.specs.State.{State, Shown, FailsToQuery}
 use Rattle.sqlite.proofs.Callers.{IsPlain, command_of, reads_as}
 use Rattle.sqlite_tied.specs.Compute.{everything}
@@ -31,9 +32,9 @@ use Rattle.sqlite_trees.proofs.ListLemmas.{map-map}
 use Rattle.sqlite_value.proofs.OrderLemmas.{value_cmp-Int}
 use Rattle.archive_machine.specs.Filing.{Filed}
 use Rattle.archive_tables.specs.Schema.{archive_schema}
-use Rattle.archive_tables.specs.Tables.{IsKept, Numbered, row_of, read_of, Holds, message_read, filed_cells, filed_read, archive_of, reaches_number}
-use Rattle.archive_tables.specs.Calls.{Rests}
-use Rattle.archive_tables.proofs.RunLemmas.{query_fails, query_leaves, rests}
+use Rattle.archive_tables.specs.Tables.{IsHeld, Numbered, row_of, read_of, Holds, message_read, filed_cells, filed_read, archive_of, reaches_number}
+use Rattle.archive_tables.specs.Calls.{StaysOver, RestsOver}
+use Rattle.archive_tables.proofs.RunLemmas.{query_fails, query_leaves, rests, stays}
 use Rattle.archive_tables.proofs.RowLemmas.{int_less}
 use Rattle.archive_tables.proofs.SelectLemmas.{plain_query, env_of, passes, each_passing, any_is_some, alone, truth_back}
 
@@ -141,7 +142,7 @@ fewer_messages limit rows some k positive none =
     let same : length all ≡ length (map message_read rows) = length-map rows (read_of filed_read) ∙ sym (length-map rows message_read) in
     omega (arith, ints, count, same)
 
-module _ (old new : State) (limit : ℕ) (k : IsKept old) where
+module _ (old new : State) (limit : ℕ) {behind : Option Database} (k : IsHeld behind old) where
   abbrev params : Row
   params = Int (pos limit) ∷ []
 
@@ -149,13 +150,12 @@ module _ (old new : State) (limit : ℕ) (k : IsKept old) where
   plain_here = subst (λ s. IsPlain (understood s reach_text)) (sym k.schema) reach_plain
 
   pub reached : (rows : List Row) → Shown reach_text params old new rows
-      → (0 < limit → length rows ≡ 0 → length (archive_of old).messages < limit) × IsTrue new.is_open × Rests old new
+      → (0 < limit → length rows ≡ 0 → length (archive_of old).messages < limit) × StaysOver behind old new
   reached rows h =
       let read = reads_as reach_text params old new archive_schema k.schema _ reach_is.0 reach_plain reach_is.1 rows h in
       let same = query_leaves old new reach_text params rows plain_here h in (
         λ some none. fewer_messages limit (old.now.trees 8) some k.tables.messages k.tables.positive (nothing_high (overlay old.now.trees []) params rows (read.answer Null) none),
-        same.0.is_open,
-        rests old new k (inl same),
+        stays old new k same,
       )
 
   pub reached_number : (rows : List Row) → Shown reach_text params old new rows → not (length rows == 0) ≡ reaches_number old.now.trees limit
@@ -163,5 +163,5 @@ module _ (old new : State) (limit : ℕ) (k : IsKept old) where
       let read = reads_as reach_text params old new archive_schema k.schema _ reach_is.0 reach_plain reach_is.1 rows h in
       some_high (overlay old.now.trees []) params rows (read.answer Null) ∙ reaches_in limit (old.now.trees 8) k.tables.messages
 
-  pub not_reached : (e : Error) → FailsToQuery reach_text params old new e → Rests old new
+  pub not_reached : (e : Error) → FailsToQuery reach_text params old new e → RestsOver behind old new
   not_reached e h = rests old new k (query_fails old new reach_text params e plain_here h)

@@ -1,6 +1,6 @@
 -- The statements that change a message.
-use Rattle.std.proofs.Common.{◌≡◌, ℕ, ℤ, pos, List, [], ◌∷◌, map, codes, Ok, Err, Result, OnOk, OnErr, refl, sym, ap, ap₂, subst, ◌∙◌, false, true, Bool, cond, None, Some, Option}
-use Rattle.std.specs.Prelude.{◌&&◌, ◌||◌, bytes_eq, if◌then◌else◌}
+use Rattle.std.proofs.Common.{◌≡◌, ℕ, ℤ, pos, List, [], ◌∷◌, map, codes, Ok, Err, Result, refl, sym, ap, ap₂, subst, ◌∙◌, false, true, Bool, cond, None, Some, Option}
+use Rattle.std.specs.Prelude.{MatchResult, ◌&&◌, ◌||◌, bytes_eq, if◌then◌else◌}
 use Rattle.sqlite.specs.declared.error.Error.{Error}
 use Rattle.sqlite.specs.declared.types.Value.TheVariants.{Null, Int, Text, Blob}
 use Rattle.sqlite.specs.Order.{Row}
@@ -26,8 +26,8 @@ use Rattle.archive_machine.specs.Filing.{Filed}
 use Rattle.std.specs.List.{list_any}
 use Rattle.archive_tables.specs.Schema.{archive_schema, message_table}
 use Rattle.archive_machine.specs.Questions.{is_message}
-use Rattle.archive_tables.specs.Tables.{IsKept, Numbered, row_of, filed_cells, message_read, filing_read, filed_read, archive_of, or_null, same_message, AreApart}
-use Rattle.archive_tables.specs.Calls.{Changes, Rests}
+use Rattle.archive_tables.specs.Tables.{IsHeld, Numbered, row_of, filed_cells, message_read, filing_read, filed_read, archive_of, or_null, same_message, AreApart}
+use Rattle.archive_tables.specs.Calls.{ChangesOver, RestsOver}
 use Rattle.archive_tables.proofs.RunLemmas.{passed, value_is, no_action, cast_null, cast_int, kept_by, rests, execute_fails}
 use Rattle.archive_tables.proofs.TableLemmas.{SameBut, same_but, messages_change}
 use Rattle.archive_tables.proofs.ChangeLemmas.{updated, apart_mapped}
@@ -112,7 +112,7 @@ module _ (sql : List ℕ) (new_cells : List Term) (is : command_of (understood a
 
   module _ (puts : (db : Trees) (r : Numbered Filed) (given : List Row) → given ≡ shown_of r ∷ []
       → edited db (edit_of db message_table (ids_of given) Given 1 given) ≡ put_row (row_of filed_cells (record r { it = (set r.it.0, r.it.1) })) (without_rowid r.number (db 8))) where
-    changes : (old new : State) (count : ℕ) → IsKept old → Executes sql params old new (Ok count) → Changes old new (λ a. record a { messages = map change a.messages })
+    changes : {behind : Option Database} (old new : State) (count : ℕ) → IsHeld behind old → Executes sql params old new (Ok count) → ChangesOver behind old new (λ a. record a { messages = map change a.messages })
     changes old new count k h =
         let db = old.now.trees in
         let command = Update 4 (record { lets = []; body = query }) in
@@ -138,10 +138,10 @@ module _ (sql : List ℕ) (new_cells : List Term) (is : command_of (understood a
         let all = messages_change db new.now.trees k.tables same _ rows it.0 apart (it.2 (pos 0) k.tables.positive) in
         (kept_by old new k w.shown (ap (λ (d : Database). d.schema) now) all.0, all.1 ∙ ap₂ (λ l n. record (archive_of old) { messages = l; filings = n }) both.0 both.1)
 
-    pub tries_to_change : (old new : State) (r : Result ℕ Error) → IsKept old → Executes sql params old new r
-        → OnOk r (Changes old new (λ a. record a { messages = map change a.messages })) × OnErr r (Rests old new)
-    tries_to_change old new (Ok count) k h = (changes old new count k h, tt)
-    tries_to_change old new (Err e) k h = (tt, rests old new k (execute_fails old new sql params e h))
+    pub tries_to_change : (behind : Option Database) (old new : State) (r : Result ℕ Error) → IsHeld behind old → Executes sql params old new r
+        → MatchResult r (λ _. ChangesOver behind old new (λ a. record a { messages = map change a.messages })) (λ _. RestsOver behind old new)
+    tries_to_change behind old new (Ok count) k h = changes old new count k h
+    tries_to_change behind old new (Err e) k h = rests old new k (execute_fails old new sql params e h)
 
 -- ---- the two texts
 
@@ -198,17 +198,17 @@ embargo_puts : (db : Trees) (r : Numbered Filed) (until : Option ℤ) (given : L
     → edited db (edit_of db message_table (ids_of given) Given 1 given) ≡ put_row (row_of filed_cells (record r { it = (record r.it.0 { embargo = until }, r.it.1) })) (without_rowid r.number (db 8))
 embargo_puts db r until given from = rw (from, cast_null, cast_int r.number, cast_int r.it.0.arrival, cast_int r.it.0.withdrawn, cast_or_null until, cast_int r.it.1.sent, cast_int r.it.1.month)
 
-pub tries_withdrawn : (list key : List ℕ) (by : ℤ) (old new : State) (r : Result ℕ Error) → IsKept old → Executes withdrawn_text (Text list ∷ Text key ∷ Int by ∷ []) old new r
-    → OnOk r (Changes old new (λ a. record a { messages = map (λ m. if is_message list key m then record m { withdrawn = by } else m) a.messages })) × OnErr r (Rests old new)
+pub tries_withdrawn : (list key : List ℕ) (by : ℤ) (behind : Option Database) (old new : State) (r : Result ℕ Error) → IsHeld behind old → Executes withdrawn_text (Text list ∷ Text key ∷ Int by ∷ []) old new r
+    → MatchResult r (λ _. ChangesOver behind old new (λ a. record a { messages = map (λ m. if is_message list key m then record m { withdrawn = by } else m) a.messages })) (λ _. RestsOver behind old new)
 tries_withdrawn list key by = tries_to_change withdrawn_text withdrawn_cells withdrawn_is withdrawn_plain list key (Int by ∷ []) (λ m. record m { withdrawn = by }) (λ m. refl) (λ m. refl)
     (λ db r given from. withdrawn_puts db r by given from)
 
-pub tries_embargo : (list key : List ℕ) (until : ℤ) (old new : State) (r : Result ℕ Error) → IsKept old → Executes embargo_text (Text list ∷ Text key ∷ Int until ∷ []) old new r
-    → OnOk r (Changes old new (λ a. record a { messages = map (λ m. if is_message list key m then record m { embargo = Some until } else m) a.messages })) × OnErr r (Rests old new)
+pub tries_embargo : (list key : List ℕ) (until : ℤ) (behind : Option Database) (old new : State) (r : Result ℕ Error) → IsHeld behind old → Executes embargo_text (Text list ∷ Text key ∷ Int until ∷ []) old new r
+    → MatchResult r (λ _. ChangesOver behind old new (λ a. record a { messages = map (λ m. if is_message list key m then record m { embargo = Some until } else m) a.messages })) (λ _. RestsOver behind old new)
 tries_embargo list key until = tries_to_change embargo_text embargo_cells embargo_is embargo_plain list key (Int until ∷ []) (λ m. record m { embargo = Some until }) (λ m. refl) (λ m. refl)
     (λ db r given from. embargo_puts db r (Some until) given from)
 
-pub tries_to_clear : (list key : List ℕ) (old new : State) (r : Result ℕ Error) → IsKept old → Executes clear_text (Text list ∷ Text key ∷ []) old new r
-    → OnOk r (Changes old new (λ a. record a { messages = map (λ m. if is_message list key m then record m { embargo = None } else m) a.messages })) × OnErr r (Rests old new)
+pub tries_to_clear : (list key : List ℕ) (behind : Option Database) (old new : State) (r : Result ℕ Error) → IsHeld behind old → Executes clear_text (Text list ∷ Text key ∷ []) old new r
+    → MatchResult r (λ _. ChangesOver behind old new (λ a. record a { messages = map (λ m. if is_message list key m then record m { embargo = None } else m) a.messages })) (λ _. RestsOver behind old new)
 tries_to_clear list key = tries_to_change clear_text clear_cells clear_is clear_plain list key [] (λ m. record m { embargo = None }) (λ m. refl) (λ m. refl)
     (λ db r given from. embargo_puts db r None given from)

@@ -1,6 +1,6 @@
 -- The question on `version`.
 use Rattle.std.proofs.Common.{◌≡◌, ℕ, zero, suc, arith, List, [], ◌∷◌, codes, refl, sym, subst, ◌∙◌, false, ◌⊎◌, inl, inr, true, None}
-use Rattle.std.specs.Prelude.{IsTrue}
+use Rattle.std.specs.Prelude.{IsTrue, Option}
 use Rattle.std.specs.List.Sorted.{IsPermutation}
 use Rattle.sqlite.specs.declared.error.Error.{Error}
 use Rattle.sqlite.specs.declared.types.Value.TheVariants.{Null, Int}
@@ -10,17 +10,18 @@ use Rattle.sqlite.specs.Schema.{Schema}
 use Rattle.sqlite.specs.Program.{overlay}
 use Rattle.sqlite.specs.Command.TheVariants.{Select}
 use Rattle.sqlite.specs.Listing.{understood, reads_listing}
+use Rattle.sqlite.specs.Effect.{Database}
 use Rattle.sqlite.specs.State.{State, Shown, FailsToQuery, IsUnchanged, IsRolledBack}
 use Rattle.sqlite.proofs.Callers.{IsPlain, command_of, reads_as}
 use Rattle.sqlite_tied.specs.Compute.{everything}
 use Rattle.archive_tables.specs.Schema.{schema_1, schema_2, archive_schema, schema_of}
-use Rattle.archive_tables.specs.Tables.{IsKept, IsKnown, HasForm, form_of, version_rows}
+use Rattle.archive_tables.specs.Tables.{IsHeld, IsKnown, HasForm, form_of, version_rows}
 use Rattle.archive_tables.specs.Rows.{versions_shown}
 use Rattle.archive_tables.specs.Making.{IsBackTo}
 use Rattle.archive_tables.specs.declared.texts.schema.TheConstants.{VERSION}
-use Rattle.archive_tables.specs.Calls.{Rests, IsCaused}
+use Rattle.archive_tables.specs.Calls.{StaysOver, RestsOver, IsCaused}
 use Rattle.archive_tables.proofs.RunLemmas.{query_fails, query_leaves}
-use Rattle.archive_tables.proofs.SelectLemmas.{plain_query, by_number, Picks, in_order, picks_of, picks_all, asked, leaves, asked_rests, refused_rests}
+use Rattle.archive_tables.proofs.SelectLemmas.{plain_query, by_number, Picks, in_order, picks_of, picks_all, asked, asked_stays, refused_rests}
 use Rattle.archive_tables.proofs.CauseLemmas.{Fits, question_fails_by}
 use Rattle.sqlite_typing.specs.Types.{accepts_program}
 
@@ -104,16 +105,15 @@ module _ (old new : State) (number : ℕ) (known : IsKnown number) (o : HasForm 
 
 -- ---- tables of the newest
 
-module _ (old new : State) (k : IsKept old) where
-  pub version_found : (rows : List Row) → Shown number_text [] old new rows → (rows ≡ (Int VERSION ∷ []) ∷ []) × IsTrue new.is_open × Rests old new
+module _ (old new : State) {behind : Option Database} (k : IsHeld behind old) where
+  pub version_found : (rows : List Row) → Shown number_text [] old new rows → (rows ≡ (Int VERSION ∷ []) ∷ []) × StaysOver behind old new
   version_found rows h =
       let picks = asked number_text 0 [] number_cell by_number _ number_is.0 number_plain number_is.1 (λ t. refl) [] old new k rows h in (
         only_version (old.now.trees 0) rows k.tables.version picks,
-        (leaves number_text 0 [] number_cell by_number _ number_is.0 number_plain number_is.1 (λ t. refl) [] old new k rows h).0.is_open,
-        asked_rests number_text 0 [] number_cell by_number _ number_is.0 number_plain number_is.1 (λ t. refl) [] old new k rows h,
+        asked_stays number_text 0 [] number_cell by_number _ number_is.0 number_plain number_is.1 (λ t. refl) [] old new k rows h,
       )
 
-  pub version_not_found : (e : Error) → FailsToQuery number_text [] old new e → Rests old new
+  pub version_not_found : (e : Error) → FailsToQuery number_text [] old new e → RestsOver behind old new
   version_not_found e h = refused_rests number_text 0 [] number_cell by_number _ number_is.0 number_plain number_is.1 (λ t. refl) [] old new k e h
 
   pub version_not_found_caused : (e : Error) → FailsToQuery number_text [] old new e → old.step_limit ≡ None → IsCaused old new e

@@ -2,7 +2,7 @@
 
 ghost use Rattle.std.specs.Prelude.{◌≡◌, ◌∷◌, string_bytes, IfOk, IfErr};
 ghost use Rattle.archive_machine.specs.Records.{Grant, Message, ListOption};
-ghost use Rattle.archive_tables.specs.Rows.{name_shown, place_shown, message_shown, message_in, marks_shown, marks_of, merge_shown, grant_shown, grant_in, no_memory, IsTextFault};
+ghost use Rattle.archive_tables.specs.Rows.{name_shown, place_shown, message_shown, message_in, marks_shown, marks_of, dated_marks_shown, dated_marks_of, merge_shown, grant_shown, grant_in, no_memory, IsTextFault};
 
 use sqlite::{Error, Row};
 
@@ -27,6 +27,17 @@ pub struct MessageRow {
 /// The two marks of a message, as in `MessageRow`.
 #[derive(Clone, Copy, Debug, PartialEq, Eq)]
 pub struct MarksRow {
+    /// 0, 1 or 2.
+    pub withdrawn: i64,
+    /// A day; `None` where nothing holds the message back.
+    pub embargo: Option<i64>,
+}
+
+/// When a message came, and its two marks, as in `MessageRow`.
+#[derive(Clone, Copy, Debug, PartialEq, Eq)]
+pub struct DatedMarksRow {
+    /// When it came, in seconds.
+    pub arrival: i64,
     /// 0, 1 or 2.
     pub withdrawn: i64,
     /// A day; `None` where nothing holds the message back.
@@ -84,6 +95,18 @@ pub fn read_marks(row: &Row) -> Result<MarksRow, Error>
     Ok(MarksRow {
         withdrawn: row.get(0)?,
         embargo: row.get(1)?,
+    })
+}
+
+/// The arrival and the marks in a row that shows those of a message.
+pub fn read_dated_marks(row: &Row) -> Result<DatedMarksRow, Error>
+    ensures read { IfOk result (λ r. (m : Message) → row.now ≡ dated_marks_shown m → r ≡ dated_marks_of m) }
+    ensures fault { IfErr result (λ e. (m : Message) → row.now ≡ dated_marks_shown m → e ≡ no_memory) }
+{
+    Ok(DatedMarksRow {
+        arrival: row.get(0)?,
+        withdrawn: row.get(1)?,
+        embargo: row.get(2)?,
     })
 }
 

@@ -1,13 +1,13 @@
 //! The table `address`.
 
-ghost use Rattle.std.specs.Prelude.{◌≡◌, ◌++◌, ◌∷◌, [], map, find, option_map, string_bytes, IsUtf8};
+ghost use Rattle.std.specs.Prelude.{⊤, ◌≡◌, ◌++◌, ◌∷◌, [], map, find, option_map, string_bytes, IsUtf8};
 ghost use Rattle.std.specs.List.{list_any};
 ghost use Rattle.std.specs.Option.{IsSomeAnd};
 ghost use Rattle.sqlite.specs.Held.{state};
 ghost use Rattle.archive_machine.specs.Questions.{is_address_of};
 ghost use Rattle.archive_machine.specs.Machine.{readdressed};
 ghost use Rattle.archive_tables.specs.Tables.{archive_of};
-ghost use Rattle.archive_tables.specs.Calls.{Writes, Refuses, Finds, Leaves, IsUp, WasClean, Lasts, AnswersOpen, FailsByFault, FailsByFaultOr};
+ghost use Rattle.archive_tables.specs.Calls.{Asks, Writes};
 
 use crate::rows::read_name;
 use sqlite::{Alter, Connection, Error, params};
@@ -18,11 +18,10 @@ pub fn add_address<S: Alter>(
     person: &str,
     address: &str,
 ) -> Result<usize, Error>
-    ensures added { Writes S.Store conn.old conn.new result (λ a. record a { addresses = a.addresses ++ record { person = person.now; address = address.now } ∷ [] }) }
-    ensures refused { Refuses S.Store conn.old conn.new result }
-    ensures clean { WasClean S.Store conn.old conn.new }
-    ensures lasts { Lasts (state S.Store conn.old) (state S.Store conn.new) }
-    ensures was_open { AnswersOpen S.Store conn.old conn.new result }
+    ensures { Writes S.Store conn.old conn.new result (λ _. ⊤)
+        (λ a. record a {
+          addresses = a.addresses ++ record { person = person.now; address = address.now } ∷ [];
+        }) }
 {
     conn.execute(
         "INSERT INTO address (person, address) VALUES (?1, ?2)",
@@ -32,13 +31,8 @@ pub fn add_address<S: Alter>(
 
 /// Whether the person has an address.
 pub fn has_address<S: Alter>(conn: &mut Connection<S>, person: &str) -> Result<bool, Error>
-    ensures found { Finds S.Store conn.old conn.new result (λ a found. found ≡ list_any (is_address_of person.now) a.addresses) }
-    ensures same { Leaves S.Store conn.old conn.new }
-    ensures up { IsUp S.Store conn.old conn.new result }
-    ensures clean { WasClean S.Store conn.old conn.new }
-    ensures lasts { Lasts (state S.Store conn.old) (state S.Store conn.new) }
-    ensures was_open { AnswersOpen S.Store conn.old conn.new result }
-    ensures caused { FailsByFault S.Store conn.old conn.new result }
+    ensures { Asks S.Store conn.old conn.new result
+        (λ a found. found ≡ list_any (is_address_of person.now) a.addresses) ⊥ }
 {
     let rows = conn.query_all(
         "SELECT person FROM address WHERE person = ?1",
@@ -53,13 +47,11 @@ pub fn change_address<S: Alter>(
     person: &str,
     address: &str,
 ) -> Result<usize, Error>
-    ensures changed { Writes S.Store conn.old conn.new result (λ a. record a {
-      addresses = map (readdressed (record { person = person.now; address = address.now })) a.addresses;
-    }) }
-    ensures refused { Refuses S.Store conn.old conn.new result }
-    ensures clean { WasClean S.Store conn.old conn.new }
-    ensures lasts { Lasts (state S.Store conn.old) (state S.Store conn.new) }
-    ensures was_open { AnswersOpen S.Store conn.old conn.new result }
+    ensures { Writes S.Store conn.old conn.new result (λ _. ⊤)
+        (λ a. record a {
+          addresses = map
+              (readdressed (record { person = person.now; address = address.now })) a.addresses;
+        }) }
 {
     conn.execute(
         "UPDATE address SET address = ?2 WHERE person = ?1",
@@ -72,15 +64,11 @@ pub fn find_address<S: Alter>(
     conn: &mut Connection<S>,
     person: &str,
 ) -> Result<Option<String>, Error>
-    ensures found { Finds S.Store conn.old conn.new result (λ a found.
-        option_map string_bytes found ≡ option_map (λ x. x.address) (find (is_address_of person.now) a.addresses)) }
-    ensures same { Leaves S.Store conn.old conn.new }
-    ensures up { IsUp S.Store conn.old conn.new result }
-    ensures clean { WasClean S.Store conn.old conn.new }
-    ensures lasts { Lasts (state S.Store conn.old) (state S.Store conn.new) }
-    ensures was_open { AnswersOpen S.Store conn.old conn.new result }
-    ensures caused { FailsByFaultOr S.Store conn.old conn.new result
-        (IsSomeAnd (find (is_address_of person.now) (archive_of (state S.Store conn.old)).addresses) (λ x. ¬ IsUtf8 x.address)) }
+    ensures { Asks S.Store conn.old conn.new result
+        (λ a found. option_map string_bytes found
+        ≡ option_map (λ x. x.address) (find (is_address_of person.now) a.addresses))
+        (IsSomeAnd (find (is_address_of person.now) (archive_of (state S.Store conn.old)).addresses)
+        (λ x. ¬ IsUtf8 x.address)) }
 {
     let rows = conn.query_all(
         "SELECT address FROM address WHERE person = ?1 ORDER BY rowid",

@@ -3,29 +3,22 @@
 ghost use Rattle.std.specs.Prelude.{◌≡◌, map, slice_get, option_map};
 ghost use Rattle.archive_tables.specs.Rows.{place_shown};
 ghost use Rattle.archive_tables.specs.Listed.{all_places, filed_at, filed_shown};
-ghost use Rattle.sqlite.specs.Held.{state};
-ghost use Rattle.archive_tables.specs.Calls.{AsksRows, WasClean, Lasts, AnswersOpen, FailsByFault};
+ghost use Rattle.archive_tables.specs.Calls.{AsksRows};
 
 use sqlite::{Alter, Connection, Error, Row, params};
 
 /// The numbers of all messages, by the names of their lists and then in mailbox order. `read_place` reads a row.
 pub fn all_places<S: Alter>(conn: &mut Connection<S>) -> Result<Vec<Row>, Error>
-    ensures held { AsksRows S.Store conn.old conn.new result (λ trees rows. rows.items ≡ map place_shown (all_places trees)) }
-    ensures clean { WasClean S.Store conn.old conn.new }
-    ensures lasts { Lasts (state S.Store conn.old) (state S.Store conn.new) }
-    ensures was_open { AnswersOpen S.Store conn.old conn.new result }
-    ensures caused { FailsByFault S.Store conn.old conn.new result }
+    ensures { AsksRows S.Store conn.old conn.new result
+        (λ trees rows. rows.items ≡ map place_shown (all_places trees)) ⊥ }
 {
     conn.query_all("SELECT pos FROM message ORDER BY list, pos", &[])
 }
 
 /// The message of a number, with what is filed of it, in the first row. `read_filed` reads it.
 pub fn filed_at<S: Alter>(conn: &mut Connection<S>, place: i64) -> Result<Vec<Row>, Error>
-    ensures held { AsksRows S.Store conn.old conn.new result (λ trees rows. slice_get rows.items 0 ≡ option_map filed_shown (filed_at trees place)) }
-    ensures clean { WasClean S.Store conn.old conn.new }
-    ensures lasts { Lasts (state S.Store conn.old) (state S.Store conn.new) }
-    ensures was_open { AnswersOpen S.Store conn.old conn.new result }
-    ensures caused { FailsByFault S.Store conn.old conn.new result }
+    ensures { AsksRows S.Store conn.old conn.new result
+        (λ trees rows. slice_get rows.items 0 ≡ option_map filed_shown (filed_at trees place)) ⊥ }
 {
     conn.query_all(
         "SELECT list, key, sender, arrival, text, sent, month, author FROM message WHERE pos = ?1 ORDER BY pos",

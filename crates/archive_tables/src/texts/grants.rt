@@ -1,11 +1,10 @@
 //! The table `grant_row`.
 
-ghost use Rattle.std.specs.Prelude.{◌≡◌, ◌++◌, ◌∷◌, [], ◌&&◌, not, false, bytes_eq, filter, map, if◌then◌else◌};
+ghost use Rattle.std.specs.Prelude.{⊤, ◌≡◌, ◌++◌, ◌∷◌, [], ◌&&◌, not, false, bytes_eq, filter, map, if◌then◌else◌};
 ghost use Rattle.std.specs.List.{list_any};
 ghost use Rattle.archive_machine.specs.Questions.{is_grant};
 ghost use Rattle.archive_tables.specs.Rows.{grant_shown};
-ghost use Rattle.sqlite.specs.Held.{state};
-ghost use Rattle.archive_tables.specs.Calls.{Writes, WritesWhen, Refuses, Finds, Leaves, IsUp, WasClean, Lasts, AnswersOpen, FailsByFault};
+ghost use Rattle.archive_tables.specs.Calls.{Asks, Writes};
 
 use sqlite::{Alter, Connection, Error, Row, params};
 
@@ -18,12 +17,17 @@ pub fn add_grant<S: Alter>(
     from_day: i64,
     until_day: i64,
 ) -> Result<usize, Error>
-    ensures added { WritesWhen S.Store conn.old conn.new result (λ a. list_any (is_grant person.now list.now rank) a.grants ≡ false)
-        (λ a. record a { grants = a.grants ++ record { person = person.now; list = list.now; rank = rank; from_day = from_day; until_day = until_day } ∷ [] }) }
-    ensures refused { Refuses S.Store conn.old conn.new result }
-    ensures clean { WasClean S.Store conn.old conn.new }
-    ensures lasts { Lasts (state S.Store conn.old) (state S.Store conn.new) }
-    ensures was_open { AnswersOpen S.Store conn.old conn.new result }
+    ensures { Writes S.Store conn.old conn.new result
+        (λ a. list_any (is_grant person.now list.now rank) a.grants ≡ false)
+        (λ a. record a {
+          grants = a.grants ++ record {
+            person = person.now;
+            list = list.now;
+            rank = rank;
+            from_day = from_day;
+            until_day = until_day;
+          } ∷ [];
+        }) }
 {
     conn.execute(
         "INSERT INTO grant_row (person, list, kind, from_day, until_day) VALUES (?1, ?2, ?3, ?4, ?5)",
@@ -38,13 +42,8 @@ pub fn has_grant<S: Alter>(
     list: &str,
     rank: i64,
 ) -> Result<bool, Error>
-    ensures found { Finds S.Store conn.old conn.new result (λ a found. found ≡ list_any (is_grant person.now list.now rank) a.grants) }
-    ensures same { Leaves S.Store conn.old conn.new }
-    ensures up { IsUp S.Store conn.old conn.new result }
-    ensures clean { WasClean S.Store conn.old conn.new }
-    ensures lasts { Lasts (state S.Store conn.old) (state S.Store conn.new) }
-    ensures was_open { AnswersOpen S.Store conn.old conn.new result }
-    ensures caused { FailsByFault S.Store conn.old conn.new result }
+    ensures { Asks S.Store conn.old conn.new result
+        (λ a found. found ≡ list_any (is_grant person.now list.now rank) a.grants) ⊥ }
 {
     let rows = conn.query_all(
         "SELECT kind FROM grant_row WHERE person = ?1 AND list = ?2 AND kind = ?3",
@@ -62,13 +61,11 @@ pub fn change_grant<S: Alter>(
     from_day: i64,
     until_day: i64,
 ) -> Result<usize, Error>
-    ensures changed { Writes S.Store conn.old conn.new result (λ a. record a {
-      grants = map (λ g. if is_grant person.now list.now rank g then record g { from_day = from_day; until_day = until_day } else g) a.grants;
-    }) }
-    ensures refused { Refuses S.Store conn.old conn.new result }
-    ensures clean { WasClean S.Store conn.old conn.new }
-    ensures lasts { Lasts (state S.Store conn.old) (state S.Store conn.new) }
-    ensures was_open { AnswersOpen S.Store conn.old conn.new result }
+    ensures { Writes S.Store conn.old conn.new result (λ _. ⊤)
+        (λ a. record a {
+          grants = map (λ g. if is_grant person.now list.now rank g
+              then record g { from_day = from_day; until_day = until_day } else g) a.grants;
+        }) }
 {
     conn.execute(
         "UPDATE grant_row SET from_day = ?4, until_day = ?5 WHERE person = ?1 AND list = ?2 AND kind = ?3",
@@ -83,11 +80,10 @@ pub fn remove_grant<S: Alter>(
     list: &str,
     rank: i64,
 ) -> Result<usize, Error>
-    ensures removed { Writes S.Store conn.old conn.new result (λ a. record a { grants = filter (λ g. not (is_grant person.now list.now rank g)) a.grants }) }
-    ensures refused { Refuses S.Store conn.old conn.new result }
-    ensures clean { WasClean S.Store conn.old conn.new }
-    ensures lasts { Lasts (state S.Store conn.old) (state S.Store conn.new) }
-    ensures was_open { AnswersOpen S.Store conn.old conn.new result }
+    ensures { Writes S.Store conn.old conn.new result (λ _. ⊤)
+        (λ a. record a {
+          grants = filter (λ g. not (is_grant person.now list.now rank g)) a.grants;
+        }) }
 {
     conn.execute(
         "DELETE FROM grant_row WHERE person = ?1 AND list = ?2 AND kind = ?3",
@@ -101,14 +97,11 @@ pub fn grants_of<S: Alter>(
     person: &str,
     list: &str,
 ) -> Result<Vec<Row>, Error>
-    ensures found { Finds S.Store conn.old conn.new result (λ a rows.
-        rows.items ≡ map grant_shown (filter (λ g. bytes_eq g.person person.now && bytes_eq g.list list.now) a.grants)) }
-    ensures same { Leaves S.Store conn.old conn.new }
-    ensures up { IsUp S.Store conn.old conn.new result }
-    ensures clean { WasClean S.Store conn.old conn.new }
-    ensures lasts { Lasts (state S.Store conn.old) (state S.Store conn.new) }
-    ensures was_open { AnswersOpen S.Store conn.old conn.new result }
-    ensures caused { FailsByFault S.Store conn.old conn.new result }
+    ensures { Asks S.Store conn.old conn.new result
+        (λ a rows. rows.items
+        ≡ map grant_shown
+        (filter (λ g. bytes_eq g.person person.now && bytes_eq g.list list.now) a.grants))
+        ⊥ }
 {
     conn.query_all(
         "SELECT kind, from_day, until_day FROM grant_row WHERE person = ?1 AND list = ?2 ORDER BY rowid",

@@ -5,33 +5,22 @@ ghost use Rattle.std.specs.List.{list_any};
 ghost use Rattle.std.specs.Ordering.{nat_cmp};
 ghost use Rattle.std.specs.Cmp.Lexicographic.{slice_cmp};
 ghost use Rattle.archive_tables.specs.Rows.{name_shown};
-ghost use Rattle.sqlite.specs.Held.{state};
-ghost use Rattle.archive_tables.specs.Calls.{Writes, WritesOver, AsksOver, Refuses, Finds, Leaves, IsUp, WasClean, Lasts, AnswersOpen, FailsByFault};
+ghost use Rattle.archive_tables.specs.Calls.{Writes, Asks};
 
 use sqlite::{Alter, Connection, Error, Row, params};
 
 /// Adds a list after the others.
 pub fn add_list<S: Alter>(conn: &mut Connection<S>, name: &str) -> Result<usize, Error>
-    ensures added { Writes S.Store conn.old conn.new result (λ a. record a { lists = a.lists ++ name.now ∷ [] }) }
-    ensures refused { Refuses S.Store conn.old conn.new result }
-    ensures held { WritesOver S.Store conn.old conn.new result (λ _. ⊤) (λ a. record a { lists = a.lists ++ name.now ∷ [] }) }
-    ensures clean { WasClean S.Store conn.old conn.new }
-    ensures lasts { Lasts (state S.Store conn.old) (state S.Store conn.new) }
-    ensures was_open { AnswersOpen S.Store conn.old conn.new result }
+    ensures { Writes S.Store conn.old conn.new result (λ _. ⊤)
+        (λ a. record a { lists = a.lists ++ name.now ∷ [] }) }
 {
     conn.execute("INSERT INTO list (name) VALUES (?1)", params![name])
 }
 
 /// Whether there is a list of the name.
 pub fn has_list<S: Alter>(conn: &mut Connection<S>, name: &str) -> Result<bool, Error>
-    ensures found { Finds S.Store conn.old conn.new result (λ a found. found ≡ list_any (λ n. bytes_eq n name.now) a.lists) }
-    ensures held { AsksOver S.Store conn.old conn.new result (λ a found. found ≡ list_any (λ n. bytes_eq n name.now) a.lists) }
-    ensures same { Leaves S.Store conn.old conn.new }
-    ensures up { IsUp S.Store conn.old conn.new result }
-    ensures clean { WasClean S.Store conn.old conn.new }
-    ensures lasts { Lasts (state S.Store conn.old) (state S.Store conn.new) }
-    ensures was_open { AnswersOpen S.Store conn.old conn.new result }
-    ensures caused { FailsByFault S.Store conn.old conn.new result }
+    ensures { Asks S.Store conn.old conn.new result
+        (λ a found. found ≡ list_any (λ n. bytes_eq n name.now) a.lists) ⊥ }
 {
     let rows = conn.query_all("SELECT name FROM list WHERE name = ?1", params![name])?;
     Ok(!rows.is_empty())
@@ -39,14 +28,9 @@ pub fn has_list<S: Alter>(conn: &mut Connection<S>, name: &str) -> Result<bool, 
 
 /// The names of all lists, in the order of their bytes. `read_name` reads a row.
 pub fn list_names<S: Alter>(conn: &mut Connection<S>) -> Result<Vec<Row>, Error>
-    ensures found { Finds S.Store conn.old conn.new result (λ a rows.
-        (names : _) × (rows.items ≡ map name_shown names) × IsPermutation a.lists names × IsSorted (slice_cmp nat_cmp) names) }
-    ensures same { Leaves S.Store conn.old conn.new }
-    ensures up { IsUp S.Store conn.old conn.new result }
-    ensures clean { WasClean S.Store conn.old conn.new }
-    ensures lasts { Lasts (state S.Store conn.old) (state S.Store conn.new) }
-    ensures was_open { AnswersOpen S.Store conn.old conn.new result }
-    ensures caused { FailsByFault S.Store conn.old conn.new result }
+    ensures { Asks S.Store conn.old conn.new result
+        (λ a rows. (names : _) × (rows.items ≡ map name_shown names) × IsPermutation a.lists names
+        × IsSorted (slice_cmp nat_cmp) names) ⊥ }
 {
     conn.query_all("SELECT name FROM list ORDER BY name", &[])
 }

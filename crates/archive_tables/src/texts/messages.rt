@@ -1,16 +1,18 @@
 //! The table `message`.
 
-ghost use Rattle.std.specs.Prelude.{◌≡◌, ◌<◌, ◌++◌, ◌∷◌, [], false, Some, None, bytes_eq, filter, find, length, map, option_map, if◌then◌else◌, IfOk, MatchOption, IsUtf8};
+ghost use Rattle.std.specs.Prelude.{⊤, ◌≡◌, ◌<◌, ◌++◌, ◌∷◌, [], false, Some, None, bytes_eq, filter, find, length, map, option_map, if◌then◌else◌, IfOk, MatchOption, IsUtf8};
 ghost use Rattle.std.specs.List.{list_any};
 ghost use Rattle.std.specs.Option.{IsSomeAnd};
 ghost use Rattle.archive_machine.specs.Questions.{is_message};
 ghost use Rattle.sqlite.specs.Held.{state};
 ghost use Rattle.sqlite.specs.State.{HasCleanDisk};
 ghost use Rattle.archive_tables.specs.Tables.{IsKept, reaches_number};
-ghost use Rattle.archive_tables.specs.Rows.{new_message, message_shown, message_in, marks_of, places_in, month_places, author_places, message_at, place_shown};
-ghost use Rattle.archive_tables.specs.Calls.{Writes, WritesWhen, WritesOver, AsksOver, AsksRows, Refuses, Finds, Leaves, IsUp, WasClean, Lasts, AnswersOpen, FailsByFault, FailsByFaultOr};
+ghost use Rattle.archive_tables.specs.Rows.{new_message, message_shown, message_in, marks_of, dated_marks_of, places_in, month_places, author_places, message_at, place_shown};
+ghost use Rattle.archive_tables.specs.Calls.{Asks, AsksOver, AsksRows, Ends, Writes};
 
-use crate::rows::{MarksRow, MessageRow, read_marks, read_message};
+use crate::rows::{
+    DatedMarksRow, MarksRow, MessageRow, read_dated_marks, read_marks, read_message,
+};
 use sqlite::{Alter, Connection, Error, Row, params};
 
 /// Adds a message after the others, neither withdrawn nor under embargo, and files it under a sent date, a month and an author
@@ -26,20 +28,12 @@ pub fn add_message<S: Alter>(
     month: i64,
     author: &[u8],
 ) -> Result<usize, Error>
-    ensures added { WritesWhen S.Store conn.old conn.new result (λ a. list_any (is_message list.now key.now) a.messages ≡ false)
+    ensures { Writes S.Store conn.old conn.new result
+        (λ a. list_any (is_message list.now key.now) a.messages ≡ false)
         (λ a. record a {
           messages = a.messages ++ new_message list.now key.now sender.now arrival text.now ∷ [];
           filings = a.filings ++ record { sent = sent; month = month; author = author.now } ∷ [];
         }) }
-    ensures refused { Refuses S.Store conn.old conn.new result }
-    ensures held { WritesOver S.Store conn.old conn.new result (λ a. list_any (is_message list.now key.now) a.messages ≡ false)
-        (λ a. record a {
-          messages = a.messages ++ new_message list.now key.now sender.now arrival text.now ∷ [];
-          filings = a.filings ++ record { sent = sent; month = month; author = author.now } ∷ [];
-        }) }
-    ensures clean { WasClean S.Store conn.old conn.new }
-    ensures lasts { Lasts (state S.Store conn.old) (state S.Store conn.new) }
-    ensures was_open { AnswersOpen S.Store conn.old conn.new result }
 {
     conn.execute(
         "INSERT INTO message (list, key, sender, arrival, text, withdrawn, embargo, sent, month, author) VALUES (?1, ?2, ?3, ?4, ?5, 0, NULL, ?6, ?7, ?8)",
@@ -49,14 +43,8 @@ pub fn add_message<S: Alter>(
 
 /// Whether the list has a message of the key.
 pub fn has_message<S: Alter>(conn: &mut Connection<S>, list: &str, key: &str) -> Result<bool, Error>
-    ensures found { Finds S.Store conn.old conn.new result (λ a found. found ≡ list_any (is_message list.now key.now) a.messages) }
-    ensures held { AsksOver S.Store conn.old conn.new result (λ a found. found ≡ list_any (is_message list.now key.now) a.messages) }
-    ensures same { Leaves S.Store conn.old conn.new }
-    ensures up { IsUp S.Store conn.old conn.new result }
-    ensures clean { WasClean S.Store conn.old conn.new }
-    ensures lasts { Lasts (state S.Store conn.old) (state S.Store conn.new) }
-    ensures was_open { AnswersOpen S.Store conn.old conn.new result }
-    ensures caused { FailsByFault S.Store conn.old conn.new result }
+    ensures { Asks S.Store conn.old conn.new result
+        (λ a found. found ≡ list_any (is_message list.now key.now) a.messages) ⊥ }
 {
     let rows = conn.query_all(
         "SELECT pos FROM message WHERE list = ?1 AND key = ?2",
@@ -71,13 +59,9 @@ pub fn message<S: Alter>(
     list: &str,
     key: &str,
 ) -> Result<Option<MessageRow>, Error>
-    ensures found { Finds S.Store conn.old conn.new result (λ a found. option_map (message_in list.now) found ≡ find (is_message list.now key.now) a.messages) }
-    ensures same { Leaves S.Store conn.old conn.new }
-    ensures up { IsUp S.Store conn.old conn.new result }
-    ensures clean { WasClean S.Store conn.old conn.new }
-    ensures lasts { Lasts (state S.Store conn.old) (state S.Store conn.new) }
-    ensures was_open { AnswersOpen S.Store conn.old conn.new result }
-    ensures caused { FailsByFault S.Store conn.old conn.new result }
+    ensures { Asks S.Store conn.old conn.new result
+        (λ a found. option_map (message_in list.now) found
+        ≡ find (is_message list.now key.now) a.messages) ⊥ }
 {
     let rows = conn.query_all(
         "SELECT key, sender, arrival, text, withdrawn, embargo FROM message WHERE list = ?1 AND key = ?2 ORDER BY pos",
@@ -95,12 +79,8 @@ pub fn marks<S: Alter>(
     list: &str,
     key: &str,
 ) -> Result<Option<MarksRow>, Error>
-    ensures found { Finds S.Store conn.old conn.new result (λ a found. found ≡ option_map marks_of (find (is_message list.now key.now) a.messages)) }
-    ensures same { Leaves S.Store conn.old conn.new }
-    ensures up { IsUp S.Store conn.old conn.new result }
-    ensures clean { WasClean S.Store conn.old conn.new }
-    ensures lasts { Lasts (state S.Store conn.old) (state S.Store conn.new) }
-    ensures was_open { AnswersOpen S.Store conn.old conn.new result }
+    ensures { Asks S.Store conn.old conn.new result
+        (λ a found. found ≡ option_map marks_of (find (is_message list.now key.now) a.messages)) ⊥ }
 {
     let rows = conn.query_all(
         "SELECT withdrawn, embargo FROM message WHERE list = ?1 AND key = ?2 ORDER BY pos",
@@ -114,13 +94,9 @@ pub fn marks<S: Alter>(
 
 /// The messages of the list in mailbox order. `read_message` reads a row.
 pub fn messages<S: Alter>(conn: &mut Connection<S>, list: &str) -> Result<Vec<Row>, Error>
-    ensures found { Finds S.Store conn.old conn.new result (λ a rows. rows.items ≡ map message_shown (filter (λ m. bytes_eq m.list list.now) a.messages)) }
-    ensures same { Leaves S.Store conn.old conn.new }
-    ensures up { IsUp S.Store conn.old conn.new result }
-    ensures clean { WasClean S.Store conn.old conn.new }
-    ensures lasts { Lasts (state S.Store conn.old) (state S.Store conn.new) }
-    ensures was_open { AnswersOpen S.Store conn.old conn.new result }
-    ensures caused { FailsByFault S.Store conn.old conn.new result }
+    ensures { Asks S.Store conn.old conn.new result
+        (λ a rows. rows.items
+        ≡ map message_shown (filter (λ m. bytes_eq m.list list.now) a.messages)) ⊥ }
 {
     conn.query_all(
         "SELECT key, sender, arrival, text, withdrawn, embargo FROM message WHERE list = ?1 ORDER BY pos",
@@ -130,11 +106,8 @@ pub fn messages<S: Alter>(conn: &mut Connection<S>, list: &str) -> Result<Vec<Ro
 
 /// The numbers of the list's messages, in mailbox order. `read_place` reads a row.
 pub fn places<S: Alter>(conn: &mut Connection<S>, list: &str) -> Result<Vec<Row>, Error>
-    ensures held { AsksRows S.Store conn.old conn.new result (λ trees rows. rows.items ≡ map place_shown (places_in trees list.now)) }
-    ensures clean { WasClean S.Store conn.old conn.new }
-    ensures lasts { Lasts (state S.Store conn.old) (state S.Store conn.new) }
-    ensures was_open { AnswersOpen S.Store conn.old conn.new result }
-    ensures caused { FailsByFault S.Store conn.old conn.new result }
+    ensures { AsksRows S.Store conn.old conn.new result
+        (λ trees rows. rows.items ≡ map place_shown (places_in trees list.now)) ⊥ }
 {
     conn.query_all(
         "SELECT pos FROM message WHERE list = ?1 ORDER BY pos",
@@ -149,11 +122,8 @@ pub fn month_places<S: Alter>(
     list: &str,
     month: i64,
 ) -> Result<Vec<Row>, Error>
-    ensures held { AsksRows S.Store conn.old conn.new result (λ trees rows. rows.items ≡ map place_shown (month_places trees list.now month)) }
-    ensures clean { WasClean S.Store conn.old conn.new }
-    ensures lasts { Lasts (state S.Store conn.old) (state S.Store conn.new) }
-    ensures was_open { AnswersOpen S.Store conn.old conn.new result }
-    ensures caused { FailsByFault S.Store conn.old conn.new result }
+    ensures { AsksRows S.Store conn.old conn.new result
+        (λ trees rows. rows.items ≡ map place_shown (month_places trees list.now month)) ⊥ }
 {
     conn.query_all(
         "SELECT pos FROM message WHERE list = ?1 AND month = ?2 ORDER BY sent, pos",
@@ -167,11 +137,8 @@ pub fn author_places<S: Alter>(
     list: &str,
     key: &[u8],
 ) -> Result<Vec<Row>, Error>
-    ensures held { AsksRows S.Store conn.old conn.new result (λ trees rows. rows.items ≡ map place_shown (author_places trees list.now key.now)) }
-    ensures clean { WasClean S.Store conn.old conn.new }
-    ensures lasts { Lasts (state S.Store conn.old) (state S.Store conn.new) }
-    ensures was_open { AnswersOpen S.Store conn.old conn.new result }
-    ensures caused { FailsByFault S.Store conn.old conn.new result }
+    ensures { AsksRows S.Store conn.old conn.new result
+        (λ trees rows. rows.items ≡ map place_shown (author_places trees list.now key.now)) ⊥ }
 {
     conn.query_all(
         "SELECT pos FROM message WHERE list = ?1 AND author = ?2 ORDER BY sent, pos",
@@ -184,12 +151,9 @@ pub fn message_at<S: Alter>(
     conn: &mut Connection<S>,
     place: i64,
 ) -> Result<Option<MessageRow>, Error>
-    ensures held { AsksRows S.Store conn.old conn.new result (λ trees found. MatchOption found (message_at trees place ≡ None)
-        (λ row. (m : _) × (message_at trees place ≡ Some m) × (message_in m.list row ≡ m))) }
-    ensures clean { WasClean S.Store conn.old conn.new }
-    ensures lasts { Lasts (state S.Store conn.old) (state S.Store conn.new) }
-    ensures was_open { AnswersOpen S.Store conn.old conn.new result }
-    ensures caused { FailsByFaultOr S.Store conn.old conn.new result
+    ensures { AsksRows S.Store conn.old conn.new result
+        (λ trees found. MatchOption found (message_at trees place ≡ None)
+        (λ row. (m : _) × (message_at trees place ≡ Some m) × (message_in m.list row ≡ m)))
         (IsSomeAnd (message_at (state S.Store conn.old).now.trees place) (λ m. ¬ IsUtf8 m.key)) }
 {
     let rows = conn.query_all(
@@ -202,16 +166,28 @@ pub fn message_at<S: Alter>(
     }
 }
 
+/// When the message of a number came, and its marks, without its text.
+pub fn marks_at<S: Alter>(
+    conn: &mut Connection<S>,
+    place: i64,
+) -> Result<Option<DatedMarksRow>, Error>
+    ensures { AsksRows S.Store conn.old conn.new result
+        (λ trees found. found ≡ option_map dated_marks_of (message_at trees place)) ⊥ }
+{
+    let rows = conn.query_all(
+        "SELECT arrival, withdrawn, embargo FROM message WHERE pos = ?1 ORDER BY pos",
+        params![place],
+    )?;
+    match rows.first() {
+        Some(row) => Ok(Some(read_dated_marks(row)?)),
+        None => Ok(None),
+    }
+}
+
 /// How many messages the list has. It reads the number of each.
 pub fn count_messages<S: Alter>(conn: &mut Connection<S>, list: &str) -> Result<usize, Error>
-    ensures found { Finds S.Store conn.old conn.new result (λ a count. count ≡ length (filter (λ m. bytes_eq m.list list.now) a.messages)) }
-    ensures held { AsksOver S.Store conn.old conn.new result (λ a count. count ≡ length (filter (λ m. bytes_eq m.list list.now) a.messages)) }
-    ensures same { Leaves S.Store conn.old conn.new }
-    ensures up { IsUp S.Store conn.old conn.new result }
-    ensures clean { WasClean S.Store conn.old conn.new }
-    ensures lasts { Lasts (state S.Store conn.old) (state S.Store conn.new) }
-    ensures was_open { AnswersOpen S.Store conn.old conn.new result }
-    ensures caused { FailsByFault S.Store conn.old conn.new result }
+    ensures { Asks S.Store conn.old conn.new result
+        (λ a count. count ≡ length (filter (λ m. bytes_eq m.list list.now) a.messages)) ⊥ }
 {
     let rows = conn.query_all("SELECT pos FROM message WHERE list = ?1", params![list])?;
     Ok(rows.len())
@@ -220,14 +196,11 @@ pub fn count_messages<S: Alter>(conn: &mut Connection<S>, list: &str) -> Result<
 /// Whether some message has a number of at least the limit. Where none has, there are fewer messages than the limit. It takes
 /// the same time however many messages there are.
 pub fn reaches<S: Alter>(conn: &mut Connection<S>, limit: u32) -> Result<bool, Error>
-    ensures found { Finds S.Store conn.old conn.new result (λ a found. 0 < limit → found ≡ false → length a.messages < limit) }
+    ensures over { AsksOver S.Store conn.old conn.new result
+        (λ a found. 0 < limit → found ≡ false → length a.messages < limit) }
     ensures number { HasCleanDisk (state S.Store conn.new) → IsKept (state S.Store conn.old) →
         IfOk result (λ found. found ≡ reaches_number (state S.Store conn.old).now.trees limit) }
-    ensures same { Leaves S.Store conn.old conn.new }
-    ensures up { IsUp S.Store conn.old conn.new result }
-    ensures clean { WasClean S.Store conn.old conn.new }
-    ensures lasts { Lasts (state S.Store conn.old) (state S.Store conn.new) }
-    ensures was_open { AnswersOpen S.Store conn.old conn.new result }
+    ensures ends { Ends S.Store conn.old conn.new result }
 {
     let rows = conn.query_all(
         "SELECT pos FROM message WHERE pos >= ?1 LIMIT 1",
@@ -243,12 +216,11 @@ pub fn set_withdrawn<S: Alter>(
     key: &str,
     by: i64,
 ) -> Result<usize, Error>
-    ensures changed { Writes S.Store conn.old conn.new result
-        (λ a. record a { messages = map (λ m. if is_message list.now key.now m then record m { withdrawn = by } else m) a.messages }) }
-    ensures refused { Refuses S.Store conn.old conn.new result }
-    ensures clean { WasClean S.Store conn.old conn.new }
-    ensures lasts { Lasts (state S.Store conn.old) (state S.Store conn.new) }
-    ensures was_open { AnswersOpen S.Store conn.old conn.new result }
+    ensures { Writes S.Store conn.old conn.new result (λ _. ⊤)
+        (λ a. record a {
+          messages = map
+              (λ m. if is_message list.now key.now m then record m { withdrawn = by } else m) a.messages;
+        }) }
 {
     conn.execute(
         "UPDATE message SET withdrawn = ?3 WHERE list = ?1 AND key = ?2",
@@ -263,12 +235,11 @@ pub fn set_embargo<S: Alter>(
     key: &str,
     until: i64,
 ) -> Result<usize, Error>
-    ensures changed { Writes S.Store conn.old conn.new result
-        (λ a. record a { messages = map (λ m. if is_message list.now key.now m then record m { embargo = Some until } else m) a.messages }) }
-    ensures refused { Refuses S.Store conn.old conn.new result }
-    ensures clean { WasClean S.Store conn.old conn.new }
-    ensures lasts { Lasts (state S.Store conn.old) (state S.Store conn.new) }
-    ensures was_open { AnswersOpen S.Store conn.old conn.new result }
+    ensures { Writes S.Store conn.old conn.new result (λ _. ⊤)
+        (λ a. record a {
+          messages = map
+              (λ m. if is_message list.now key.now m then record m { embargo = Some until } else m) a.messages;
+        }) }
 {
     conn.execute(
         "UPDATE message SET embargo = ?3 WHERE list = ?1 AND key = ?2",
@@ -282,12 +253,11 @@ pub fn clear_embargo<S: Alter>(
     list: &str,
     key: &str,
 ) -> Result<usize, Error>
-    ensures changed { Writes S.Store conn.old conn.new result
-        (λ a. record a { messages = map (λ m. if is_message list.now key.now m then record m { embargo = None } else m) a.messages }) }
-    ensures refused { Refuses S.Store conn.old conn.new result }
-    ensures clean { WasClean S.Store conn.old conn.new }
-    ensures lasts { Lasts (state S.Store conn.old) (state S.Store conn.new) }
-    ensures was_open { AnswersOpen S.Store conn.old conn.new result }
+    ensures { Writes S.Store conn.old conn.new result (λ _. ⊤)
+        (λ a. record a {
+          messages = map
+              (λ m. if is_message list.now key.now m then record m { embargo = None } else m) a.messages;
+        }) }
 {
     conn.execute(
         "UPDATE message SET embargo = NULL WHERE list = ?1 AND key = ?2",

@@ -8,8 +8,8 @@ ghost use Rattle.archive_machine.specs.Questions.{is_option_of};
 ghost use Rattle.archive_machine.specs.Machine.{with_merge};
 ghost use Rattle.archive_tables.specs.Schema.{schema_2};
 ghost use Rattle.archive_tables.specs.Tables.{merge_number};
-ghost use Rattle.archive_tables.specs.Making.{IsWithin, IsMoving, Stops};
-ghost use Rattle.archive_tables.specs.Calls.{Writes, WritesOver, Refuses, Finds, Leaves, IsUp, WasClean, Lasts, AnswersOpen, FailsByFault};
+ghost use Rattle.archive_tables.specs.Making.{IsMoving, MovesWithin, EndsStep};
+ghost use Rattle.archive_tables.specs.Calls.{Asks, Writes};
 
 use crate::rows::read_merge;
 use sqlite::{Alter, Connection, Error, params};
@@ -20,10 +20,8 @@ pub fn add_option<S: Alter>(
     list: &str,
     merge: bool,
 ) -> Result<usize, Error>
-    ensures held { WritesOver S.Store conn.old conn.new result (λ _. ⊤) (λ a. record a { options = a.options ++ record { list = list.now; merge = merge } ∷ [] }) }
-    ensures clean { WasClean S.Store conn.old conn.new }
-    ensures lasts { Lasts (state S.Store conn.old) (state S.Store conn.new) }
-    ensures was_open { AnswersOpen S.Store conn.old conn.new result }
+    ensures { Writes S.Store conn.old conn.new result (λ _. ⊤)
+        (λ a. record a { options = a.options ++ record { list = list.now; merge = merge } ∷ [] }) }
 {
     let number = merge_number(merge);
     conn.execute(
@@ -38,11 +36,8 @@ pub fn set_option<S: Alter>(
     list: &str,
     merge: bool,
 ) -> Result<usize, Error>
-    ensures changed { Writes S.Store conn.old conn.new result (λ a. record a { options = map (with_merge list.now merge) a.options }) }
-    ensures refused { Refuses S.Store conn.old conn.new result }
-    ensures clean { WasClean S.Store conn.old conn.new }
-    ensures lasts { Lasts (state S.Store conn.old) (state S.Store conn.new) }
-    ensures was_open { AnswersOpen S.Store conn.old conn.new result }
+    ensures { Writes S.Store conn.old conn.new result (λ _. ⊤)
+        (λ a. record a { options = map (with_merge list.now merge) a.options }) }
 {
     let number = merge_number(merge);
     conn.execute(
@@ -53,13 +48,8 @@ pub fn set_option<S: Alter>(
 
 /// Whether the threads of a list are gathered by subject, where that is said.
 pub fn find_option<S: Alter>(conn: &mut Connection<S>, list: &str) -> Result<Option<bool>, Error>
-    ensures found { Finds S.Store conn.old conn.new result (λ a found. found ≡ option_map (λ o. o.merge) (find (is_option_of list.now) a.options)) }
-    ensures same { Leaves S.Store conn.old conn.new }
-    ensures up { IsUp S.Store conn.old conn.new result }
-    ensures clean { WasClean S.Store conn.old conn.new }
-    ensures lasts { Lasts (state S.Store conn.old) (state S.Store conn.new) }
-    ensures was_open { AnswersOpen S.Store conn.old conn.new result }
-    ensures caused { FailsByFault S.Store conn.old conn.new result }
+    ensures { Asks S.Store conn.old conn.new result
+        (λ a found. found ≡ option_map (λ o. o.merge) (find (is_option_of list.now) a.options)) ⊥ }
 {
     let rows = conn.query_all(
         "SELECT merge FROM list_option WHERE list = ?1 ORDER BY rowid",
@@ -73,13 +63,13 @@ pub fn find_option<S: Alter>(conn: &mut Connection<S>, list: &str) -> Result<Opt
 
 /// Says of every list that its threads are gathered by subject: so they were in the tables of version 1, and `list_option` is empty.
 pub fn copy_options<S: Alter>(conn: &mut Connection<S>) -> Result<usize, Error>
-    ensures moved { HasCleanDisk (state S.Store conn.new) → (before : _) (said : _) (archive : Archive) → IsMoving (state S.Store conn.old) before schema_2 said 1 archive
-        → (state S.Store conn.old).now.trees 13 ≡ [] → OnOk result (IsMoving (state S.Store conn.new) before schema_2 said 2 archive) }
-    ensures within { HasCleanDisk (state S.Store conn.new) → (before : _) → IsWithin (state S.Store conn.old) before schema_2 → OnOk result (IsWithin (state S.Store conn.new) before schema_2) }
-    ensures stopped { Stops S.Store conn.old conn.new result }
-    ensures clean { WasClean S.Store conn.old conn.new }
-    ensures lasts { Lasts (state S.Store conn.old) (state S.Store conn.new) }
-    ensures was_open { AnswersOpen S.Store conn.old conn.new result }
+    ensures moved { HasCleanDisk (state S.Store conn.new)
+        → (before : _) (said : _) (archive : Archive)
+        → IsMoving (state S.Store conn.old) before schema_2 said 1 archive
+        → (state S.Store conn.old).now.trees 13 ≡ []
+        → OnOk result (IsMoving (state S.Store conn.new) before schema_2 said 2 archive) }
+    ensures within { MovesWithin S.Store conn.old conn.new result schema_2 schema_2 }
+    ensures ends { EndsStep S.Store conn.old conn.new result }
 {
     conn.execute(
         "INSERT INTO list_option (list, merge) SELECT name, 1 FROM list ORDER BY rowid",

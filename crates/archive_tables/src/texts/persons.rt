@@ -1,11 +1,11 @@
 //! The table `person`.
 
-ghost use Rattle.std.specs.Prelude.{◌≡◌, ◌++◌, ◌∷◌, [], bytes_eq, find, option_map, string_bytes, IsUtf8};
+ghost use Rattle.std.specs.Prelude.{⊤, ◌≡◌, ◌++◌, ◌∷◌, [], bytes_eq, find, option_map, string_bytes, IsUtf8};
 ghost use Rattle.std.specs.List.{list_any};
 ghost use Rattle.std.specs.Option.{IsSomeAnd};
 ghost use Rattle.sqlite.specs.Held.{state};
 ghost use Rattle.archive_tables.specs.Tables.{archive_of};
-ghost use Rattle.archive_tables.specs.Calls.{Writes, Refuses, Finds, Leaves, IsUp, WasClean, Lasts, AnswersOpen, FailsByFault, FailsByFaultOr};
+ghost use Rattle.archive_tables.specs.Calls.{Writes, Asks};
 
 use crate::rows::read_name;
 use sqlite::{Alter, Connection, Error, params};
@@ -16,11 +16,10 @@ pub fn add_person<S: Alter>(
     name: &str,
     token: &str,
 ) -> Result<usize, Error>
-    ensures added { Writes S.Store conn.old conn.new result (λ a. record a { persons = a.persons ++ record { name = name.now; token = token.now } ∷ [] }) }
-    ensures refused { Refuses S.Store conn.old conn.new result }
-    ensures clean { WasClean S.Store conn.old conn.new }
-    ensures lasts { Lasts (state S.Store conn.old) (state S.Store conn.new) }
-    ensures was_open { AnswersOpen S.Store conn.old conn.new result }
+    ensures { Writes S.Store conn.old conn.new result (λ _. ⊤)
+        (λ a. record a {
+          persons = a.persons ++ record { name = name.now; token = token.now } ∷ [];
+        }) }
 {
     conn.execute(
         "INSERT INTO person (name, token) VALUES (?1, ?2)",
@@ -30,13 +29,8 @@ pub fn add_person<S: Alter>(
 
 /// Whether there is a person of the name.
 pub fn has_person<S: Alter>(conn: &mut Connection<S>, name: &str) -> Result<bool, Error>
-    ensures found { Finds S.Store conn.old conn.new result (λ a found. found ≡ list_any (λ p. bytes_eq p.name name.now) a.persons) }
-    ensures same { Leaves S.Store conn.old conn.new }
-    ensures up { IsUp S.Store conn.old conn.new result }
-    ensures clean { WasClean S.Store conn.old conn.new }
-    ensures lasts { Lasts (state S.Store conn.old) (state S.Store conn.new) }
-    ensures was_open { AnswersOpen S.Store conn.old conn.new result }
-    ensures caused { FailsByFault S.Store conn.old conn.new result }
+    ensures { Asks S.Store conn.old conn.new result
+        (λ a found. found ≡ list_any (λ p. bytes_eq p.name name.now) a.persons) ⊥ }
 {
     let rows = conn.query_all("SELECT name FROM person WHERE name = ?1", params![name])?;
     Ok(!rows.is_empty())
@@ -44,13 +38,8 @@ pub fn has_person<S: Alter>(conn: &mut Connection<S>, name: &str) -> Result<bool
 
 /// Whether some person has the token.
 pub fn has_token<S: Alter>(conn: &mut Connection<S>, token: &str) -> Result<bool, Error>
-    ensures found { Finds S.Store conn.old conn.new result (λ a found. found ≡ list_any (λ p. bytes_eq p.token token.now) a.persons) }
-    ensures same { Leaves S.Store conn.old conn.new }
-    ensures up { IsUp S.Store conn.old conn.new result }
-    ensures clean { WasClean S.Store conn.old conn.new }
-    ensures lasts { Lasts (state S.Store conn.old) (state S.Store conn.new) }
-    ensures was_open { AnswersOpen S.Store conn.old conn.new result }
-    ensures caused { FailsByFault S.Store conn.old conn.new result }
+    ensures { Asks S.Store conn.old conn.new result
+        (λ a found. found ≡ list_any (λ p. bytes_eq p.token token.now) a.persons) ⊥ }
 {
     let rows = conn.query_all("SELECT token FROM person WHERE token = ?1", params![token])?;
     Ok(!rows.is_empty())
@@ -61,15 +50,12 @@ pub fn person_of_token<S: Alter>(
     conn: &mut Connection<S>,
     token: &str,
 ) -> Result<Option<String>, Error>
-    ensures found { Finds S.Store conn.old conn.new result (λ a found.
-        option_map string_bytes found ≡ option_map (λ p. p.name) (find (λ p. bytes_eq p.token token.now) a.persons)) }
-    ensures same { Leaves S.Store conn.old conn.new }
-    ensures up { IsUp S.Store conn.old conn.new result }
-    ensures clean { WasClean S.Store conn.old conn.new }
-    ensures lasts { Lasts (state S.Store conn.old) (state S.Store conn.new) }
-    ensures was_open { AnswersOpen S.Store conn.old conn.new result }
-    ensures caused { FailsByFaultOr S.Store conn.old conn.new result
-        (IsSomeAnd (find (λ p. bytes_eq p.token token.now) (archive_of (state S.Store conn.old)).persons) (λ p. ¬ IsUtf8 p.name)) }
+    ensures { Asks S.Store conn.old conn.new result
+        (λ a found. option_map string_bytes found
+        ≡ option_map (λ p. p.name) (find (λ p. bytes_eq p.token token.now) a.persons))
+        (IsSomeAnd (find (λ p. bytes_eq p.token token.now)
+        (archive_of (state S.Store conn.old)).persons)
+        (λ p. ¬ IsUtf8 p.name)) }
 {
     let rows = conn.query_all(
         "SELECT name FROM person WHERE token = ?1 ORDER BY rowid",

@@ -8,8 +8,8 @@ ghost use Rattle.archive_tables.specs.Schema.{no_schema, with_version, with_list
 ghost use Rattle.archive_tables.specs.Tables.{IsHeld, IsHeldAs, IsKept, IsKnown, HasForm, form_of, newest_number, archive_by, archive_of};
 ghost use Rattle.archive_machine.specs.Records.{Archive};
 ghost use Rattle.archive_tables.specs.Rows.{versions_shown};
-ghost use Rattle.archive_tables.specs.Making.{IsMaking, IsWithin, IsMoving, IsMade, Makes, MovesWithin, Stops, IsBackTo, IsStopped, empty_archive};
-ghost use Rattle.archive_tables.specs.Calls.{StaysOver, RestsOver, Rests, IsBackAt, IsHeldOrBack, Finds, Leaves, IsUp, WasClean, Lasts, AnswersOpen, FailsByFault};
+ghost use Rattle.archive_tables.specs.Making.{IsMaking, IsWithin, IsMoving, IsMade, Makes, MovesWithin, Stops, EndsStep, IsBackTo, IsStopped, empty_archive};
+ghost use Rattle.archive_tables.specs.Calls.{StaysOver, RestsOver, Rests, IsBackAt, IsHeldOrBack, Lasts, Asks};
 
 use sqlite::{Alter, Connection, Error, Row, params};
 
@@ -18,19 +18,22 @@ pub const VERSION: i64 = 3;
 
 /// Begins the transaction.
 pub fn begin<S: Alter>(conn: &mut Connection<S>) -> Result<usize, Error>
-    ensures begun { HasCleanDisk (state S.Store conn.new) → (state S.Store conn.old).now.schema ≡ no_schema →
-        OnOk result (IsMaking (state S.Store conn.new) no_schema (state S.Store conn.old).committed) }
-    ensures held { HasCleanDisk (state S.Store conn.new) → IsKept (state S.Store conn.old) → MatchResult result
-        (λ _. StaysOver (Some (state S.Store conn.old).now) (state S.Store conn.old) (state S.Store conn.new))
+    ensures begun { HasCleanDisk (state S.Store conn.new)
+        → (state S.Store conn.old).now.schema ≡ no_schema
+        → OnOk result (IsMaking (state S.Store conn.new) no_schema (state S.Store conn.old).committed) }
+    ensures held { HasCleanDisk (state S.Store conn.new) → IsKept (state S.Store conn.old)
+        → MatchResult result
+        (λ _. StaysOver (Some (state S.Store conn.old).now) (state S.Store conn.old)
+        (state S.Store conn.new))
         (λ _. Rests (state S.Store conn.old) (state S.Store conn.new)) }
-    ensures moving { HasCleanDisk (state S.Store conn.new) → (number : _) → IsHeldAs (form_of number) None (state S.Store conn.old) → OnOk result
-        (IsMoving (state S.Store conn.new) (state S.Store conn.old).now (schema_of number) (pos number) number (archive_by number (state S.Store conn.old).now.trees)) }
+    ensures moving { HasCleanDisk (state S.Store conn.new) → (number : _)
+        → IsHeldAs (form_of number) None (state S.Store conn.old) → OnOk result
+        (IsMoving (state S.Store conn.new) (state S.Store conn.old).now (schema_of number)
+        (pos number) number (archive_by number (state S.Store conn.old).now.trees)) }
     ensures within { HasCleanDisk (state S.Store conn.new) → OnOk result
-        (IsWithin (state S.Store conn.new) (state S.Store conn.old).committed (state S.Store conn.old).now.schema) }
-    ensures stopped { Stops S.Store conn.old conn.new result }
-    ensures clean { WasClean S.Store conn.old conn.new }
-    ensures lasts { Lasts (state S.Store conn.old) (state S.Store conn.new) }
-    ensures was_open { AnswersOpen S.Store conn.old conn.new result }
+        (IsWithin (state S.Store conn.new) (state S.Store conn.old).committed
+        (state S.Store conn.old).now.schema) }
+    ensures ends { EndsStep S.Store conn.old conn.new result }
 {
     conn.execute("BEGIN", &[])
 }
@@ -38,10 +41,7 @@ pub fn begin<S: Alter>(conn: &mut Connection<S>) -> Result<usize, Error>
 /// Makes the table `version`.
 pub fn create_version<S: Alter>(conn: &mut Connection<S>) -> Result<usize, Error>
     ensures made { Makes S.Store conn.old conn.new result no_schema with_version }
-    ensures stopped { Stops S.Store conn.old conn.new result }
-    ensures clean { WasClean S.Store conn.old conn.new }
-    ensures lasts { Lasts (state S.Store conn.old) (state S.Store conn.new) }
-    ensures was_open { AnswersOpen S.Store conn.old conn.new result }
+    ensures ends { EndsStep S.Store conn.old conn.new result }
 {
     conn.execute("CREATE TABLE version (number INTEGER NOT NULL) STRICT", &[])
 }
@@ -49,10 +49,7 @@ pub fn create_version<S: Alter>(conn: &mut Connection<S>) -> Result<usize, Error
 /// Makes the table `list`.
 pub fn create_list<S: Alter>(conn: &mut Connection<S>) -> Result<usize, Error>
     ensures made { Makes S.Store conn.old conn.new result with_version with_list }
-    ensures stopped { Stops S.Store conn.old conn.new result }
-    ensures clean { WasClean S.Store conn.old conn.new }
-    ensures lasts { Lasts (state S.Store conn.old) (state S.Store conn.new) }
-    ensures was_open { AnswersOpen S.Store conn.old conn.new result }
+    ensures ends { EndsStep S.Store conn.old conn.new result }
 {
     conn.execute(
         "CREATE TABLE list (name TEXT NOT NULL PRIMARY KEY) STRICT",
@@ -63,10 +60,7 @@ pub fn create_list<S: Alter>(conn: &mut Connection<S>) -> Result<usize, Error>
 /// Makes the table `person`.
 pub fn create_person<S: Alter>(conn: &mut Connection<S>) -> Result<usize, Error>
     ensures made { Makes S.Store conn.old conn.new result with_list with_person }
-    ensures stopped { Stops S.Store conn.old conn.new result }
-    ensures clean { WasClean S.Store conn.old conn.new }
-    ensures lasts { Lasts (state S.Store conn.old) (state S.Store conn.new) }
-    ensures was_open { AnswersOpen S.Store conn.old conn.new result }
+    ensures ends { EndsStep S.Store conn.old conn.new result }
 {
     conn.execute(
         "CREATE TABLE person (name TEXT NOT NULL PRIMARY KEY, token TEXT NOT NULL UNIQUE) STRICT",
@@ -77,10 +71,7 @@ pub fn create_person<S: Alter>(conn: &mut Connection<S>) -> Result<usize, Error>
 /// Makes the table `grant_row`.
 pub fn create_grant<S: Alter>(conn: &mut Connection<S>) -> Result<usize, Error>
     ensures made { Makes S.Store conn.old conn.new result with_person with_grant }
-    ensures stopped { Stops S.Store conn.old conn.new result }
-    ensures clean { WasClean S.Store conn.old conn.new }
-    ensures lasts { Lasts (state S.Store conn.old) (state S.Store conn.new) }
-    ensures was_open { AnswersOpen S.Store conn.old conn.new result }
+    ensures ends { EndsStep S.Store conn.old conn.new result }
 {
     conn.execute(
         "CREATE TABLE grant_row (person TEXT NOT NULL REFERENCES person (name), list TEXT NOT NULL REFERENCES list (name), kind INTEGER NOT NULL CHECK (kind BETWEEN 1 AND 3), from_day INTEGER NOT NULL CHECK (from_day BETWEEN -25567 AND 2932531), until_day INTEGER NOT NULL CHECK (until_day BETWEEN -25567 AND 2932531), PRIMARY KEY (person, list, kind), CHECK (from_day <= until_day)) STRICT",
@@ -91,10 +82,7 @@ pub fn create_grant<S: Alter>(conn: &mut Connection<S>) -> Result<usize, Error>
 /// Makes the table `message`, and with it the one in which AUTOINCREMENT counts.
 pub fn create_message<S: Alter>(conn: &mut Connection<S>) -> Result<usize, Error>
     ensures made { Makes S.Store conn.old conn.new result with_grant with_message }
-    ensures stopped { Stops S.Store conn.old conn.new result }
-    ensures clean { WasClean S.Store conn.old conn.new }
-    ensures lasts { Lasts (state S.Store conn.old) (state S.Store conn.new) }
-    ensures was_open { AnswersOpen S.Store conn.old conn.new result }
+    ensures ends { EndsStep S.Store conn.old conn.new result }
 {
     conn.execute(
         "CREATE TABLE message (pos INTEGER PRIMARY KEY AUTOINCREMENT, list TEXT NOT NULL REFERENCES list (name), key TEXT NOT NULL, sender BLOB NOT NULL, arrival INTEGER NOT NULL, text BLOB NOT NULL, withdrawn INTEGER NOT NULL CHECK (withdrawn BETWEEN 0 AND 2), embargo INTEGER CHECK (embargo BETWEEN -25567 AND 2932531), sent INTEGER NOT NULL, month INTEGER NOT NULL, author BLOB NOT NULL, UNIQUE (list, key)) STRICT",
@@ -105,10 +93,7 @@ pub fn create_message<S: Alter>(conn: &mut Connection<S>) -> Result<usize, Error
 /// Makes the index of `message` by month.
 pub fn create_month_index<S: Alter>(conn: &mut Connection<S>) -> Result<usize, Error>
     ensures made { Makes S.Store conn.old conn.new result with_message with_month_index }
-    ensures stopped { Stops S.Store conn.old conn.new result }
-    ensures clean { WasClean S.Store conn.old conn.new }
-    ensures lasts { Lasts (state S.Store conn.old) (state S.Store conn.new) }
-    ensures was_open { AnswersOpen S.Store conn.old conn.new result }
+    ensures ends { EndsStep S.Store conn.old conn.new result }
 {
     conn.execute(
         "CREATE INDEX message_by_month ON message (list, month, sent, pos)",
@@ -119,10 +104,7 @@ pub fn create_month_index<S: Alter>(conn: &mut Connection<S>) -> Result<usize, E
 /// Makes the index of `message` by author key.
 pub fn create_author_index<S: Alter>(conn: &mut Connection<S>) -> Result<usize, Error>
     ensures made { Makes S.Store conn.old conn.new result with_month_index schema_1 }
-    ensures stopped { Stops S.Store conn.old conn.new result }
-    ensures clean { WasClean S.Store conn.old conn.new }
-    ensures lasts { Lasts (state S.Store conn.old) (state S.Store conn.new) }
-    ensures was_open { AnswersOpen S.Store conn.old conn.new result }
+    ensures ends { EndsStep S.Store conn.old conn.new result }
 {
     conn.execute(
         "CREATE INDEX message_by_author ON message (list, author, sent, pos)",
@@ -133,13 +115,13 @@ pub fn create_author_index<S: Alter>(conn: &mut Connection<S>) -> Result<usize, 
 /// Makes the table `list_option`: the first of version 2.
 pub fn create_option<S: Alter>(conn: &mut Connection<S>) -> Result<usize, Error>
     ensures made { Makes S.Store conn.old conn.new result schema_1 schema_2 }
-    ensures moved { HasCleanDisk (state S.Store conn.new) → (before : _) (said : _) (archive : Archive) → IsMoving (state S.Store conn.old) before schema_1 said 1 archive
-        → OnOk result (IsMoving (state S.Store conn.new) before schema_2 said 1 archive × ((state S.Store conn.new).now.trees 13 ≡ [])) }
+    ensures moved { HasCleanDisk (state S.Store conn.new)
+        → (before : _) (said : _) (archive : Archive)
+        → IsMoving (state S.Store conn.old) before schema_1 said 1 archive
+        → OnOk result (IsMoving (state S.Store conn.new) before schema_2 said 1 archive
+        × ((state S.Store conn.new).now.trees 13 ≡ [])) }
     ensures within { MovesWithin S.Store conn.old conn.new result schema_1 schema_2 }
-    ensures stopped { Stops S.Store conn.old conn.new result }
-    ensures clean { WasClean S.Store conn.old conn.new }
-    ensures lasts { Lasts (state S.Store conn.old) (state S.Store conn.new) }
-    ensures was_open { AnswersOpen S.Store conn.old conn.new result }
+    ensures ends { EndsStep S.Store conn.old conn.new result }
 {
     conn.execute(
         "CREATE TABLE list_option (list TEXT NOT NULL PRIMARY KEY REFERENCES list (name), merge INTEGER NOT NULL CHECK (merge BETWEEN 0 AND 1)) STRICT",
@@ -150,13 +132,13 @@ pub fn create_option<S: Alter>(conn: &mut Connection<S>) -> Result<usize, Error>
 /// Makes the table `address`: the first of version 3.
 pub fn create_address<S: Alter>(conn: &mut Connection<S>) -> Result<usize, Error>
     ensures made { Makes S.Store conn.old conn.new result schema_2 archive_schema }
-    ensures moved { HasCleanDisk (state S.Store conn.new) → (before : _) (said : _) (archive : Archive) → IsMoving (state S.Store conn.old) before schema_2 said 2 archive
-        → OnOk result (IsMoving (state S.Store conn.new) before archive_schema said newest_number archive) }
+    ensures moved { HasCleanDisk (state S.Store conn.new)
+        → (before : _) (said : _) (archive : Archive)
+        → IsMoving (state S.Store conn.old) before schema_2 said 2 archive
+        → OnOk result
+        (IsMoving (state S.Store conn.new) before archive_schema said newest_number archive) }
     ensures within { MovesWithin S.Store conn.old conn.new result schema_2 archive_schema }
-    ensures stopped { Stops S.Store conn.old conn.new result }
-    ensures clean { WasClean S.Store conn.old conn.new }
-    ensures lasts { Lasts (state S.Store conn.old) (state S.Store conn.new) }
-    ensures was_open { AnswersOpen S.Store conn.old conn.new result }
+    ensures ends { EndsStep S.Store conn.old conn.new result }
 {
     conn.execute(
         "CREATE TABLE address (person TEXT NOT NULL PRIMARY KEY REFERENCES person (name), address TEXT NOT NULL) STRICT",
@@ -166,54 +148,54 @@ pub fn create_address<S: Alter>(conn: &mut Connection<S>) -> Result<usize, Error
 
 /// Writes the version down.
 pub fn add_version<S: Alter>(conn: &mut Connection<S>) -> Result<usize, Error>
-    ensures made { HasCleanDisk (state S.Store conn.new) → (before : _) → IsMaking (state S.Store conn.old) archive_schema before
+    ensures made { HasCleanDisk (state S.Store conn.new) → (before : _)
+        → IsMaking (state S.Store conn.old) archive_schema before
         → OnOk result (IsMade (state S.Store conn.new) before empty_archive) }
-    ensures stopped { Stops S.Store conn.old conn.new result }
-    ensures clean { WasClean S.Store conn.old conn.new }
-    ensures lasts { Lasts (state S.Store conn.old) (state S.Store conn.new) }
-    ensures was_open { AnswersOpen S.Store conn.old conn.new result }
+    ensures ends { EndsStep S.Store conn.old conn.new result }
 {
     conn.execute("INSERT INTO version (number) VALUES (?1)", params![VERSION])
 }
 
 /// Writes the version down in the place of an older one.
 pub fn set_version<S: Alter>(conn: &mut Connection<S>) -> Result<usize, Error>
-    ensures moved { HasCleanDisk (state S.Store conn.new) → (before : _) (said : _) (archive : Archive)
-        → IsMoving (state S.Store conn.old) before archive_schema said newest_number archive → OnOk result (IsMade (state S.Store conn.new) before archive) }
+    ensures moved { HasCleanDisk (state S.Store conn.new)
+        → (before : _) (said : _) (archive : Archive)
+        → IsMoving (state S.Store conn.old) before archive_schema said newest_number archive
+        → OnOk result (IsMade (state S.Store conn.new) before archive) }
     ensures within { MovesWithin S.Store conn.old conn.new result archive_schema archive_schema }
-    ensures stopped { Stops S.Store conn.old conn.new result }
-    ensures clean { WasClean S.Store conn.old conn.new }
-    ensures lasts { Lasts (state S.Store conn.old) (state S.Store conn.new) }
-    ensures was_open { AnswersOpen S.Store conn.old conn.new result }
+    ensures ends { EndsStep S.Store conn.old conn.new result }
 {
     conn.execute("UPDATE version SET number = ?1", params![VERSION])
 }
 
 /// Commits the transaction.
 pub fn commit<S: Alter>(conn: &mut Connection<S>) -> Result<usize, Error>
-    ensures kept { HasCleanDisk (state S.Store conn.new) → (before : _) (archive : Archive) → IsMade (state S.Store conn.old) before archive →
-        OnOk result (IsKept (state S.Store conn.new) × (archive_of (state S.Store conn.new) ≡ archive)) }
-    ensures held { HasCleanDisk (state S.Store conn.new) → (db : _) → IsHeld (Some db) (state S.Store conn.old) → MatchResult result
+    ensures kept { HasCleanDisk (state S.Store conn.new) → (before : _) (archive : Archive)
+        → IsMade (state S.Store conn.old) before archive
+        → OnOk result (IsKept (state S.Store conn.new) × (archive_of (state S.Store conn.new) ≡ archive)) }
+    ensures held { HasCleanDisk (state S.Store conn.new) → (db : _)
+        → IsHeld (Some db) (state S.Store conn.old) → MatchResult result
         (λ _. StaysOver None (state S.Store conn.old) (state S.Store conn.new))
         (λ _. RestsOver (Some db) (state S.Store conn.old) (state S.Store conn.new)) }
-    ensures stopped { Stops S.Store conn.old conn.new result }
-    ensures clean { WasClean S.Store conn.old conn.new }
-    ensures lasts { Lasts (state S.Store conn.old) (state S.Store conn.new) }
-    ensures was_open { AnswersOpen S.Store conn.old conn.new result }
+    ensures ends { EndsStep S.Store conn.old conn.new result }
 {
     conn.execute("COMMIT", &[])
 }
 
 /// Ends the transaction, and goes back to what was there before it.
 pub fn rollback<S: Alter>(conn: &mut Connection<S>) -> Result<usize, Error>
-    ensures undone { HasCleanDisk (state S.Store conn.new) → OnOk result (IsTrue (state S.Store conn.new).is_open → IsTrue (state S.Store conn.old).is_open
-        × ((state S.Store conn.new).now ≡ (state S.Store conn.old).committed) × ((state S.Store conn.new).committed ≡ (state S.Store conn.old).committed)
+    ensures undone { HasCleanDisk (state S.Store conn.new)
+        → OnOk result (IsTrue (state S.Store conn.new).is_open
+        → IsTrue (state S.Store conn.old).is_open
+        × ((state S.Store conn.new).now ≡ (state S.Store conn.old).committed)
+        × ((state S.Store conn.new).committed ≡ (state S.Store conn.old).committed)
         × ((state S.Store conn.new).in_transaction ≡ false)) }
-    ensures left { HasCleanDisk (state S.Store conn.new) → (db : _) → IsHeldOrBack db (state S.Store conn.old)
+    ensures left { HasCleanDisk (state S.Store conn.new) → (db : _)
+        → IsHeldOrBack db (state S.Store conn.old)
         → IsTrue (state S.Store conn.new).is_open → IsBackAt db (state S.Store conn.new) }
-    ensures back { HasCleanDisk (state S.Store conn.new) → (before : _) → IsStopped (state S.Store conn.old) before → IsBackTo (state S.Store conn.new) before }
+    ensures back { HasCleanDisk (state S.Store conn.new) → (before : _)
+        → IsStopped (state S.Store conn.old) before → IsBackTo (state S.Store conn.new) before }
     ensures stopped { Stops S.Store conn.old conn.new result }
-    ensures clean { WasClean S.Store conn.old conn.new }
     ensures lasts { Lasts (state S.Store conn.old) (state S.Store conn.new) }
 {
     conn.execute("ROLLBACK", &[])
@@ -221,19 +203,17 @@ pub fn rollback<S: Alter>(conn: &mut Connection<S>) -> Result<usize, Error>
 
 /// The rows of `version`: in an archive that is kept one, of the number of these tables. It reads the tables of each version.
 pub fn versions<S: Alter>(conn: &mut Connection<S>) -> Result<Vec<Row>, Error>
-    ensures found { Finds S.Store conn.old conn.new result (λ _ rows. rows.items ≡ (Int VERSION ∷ []) ∷ []) }
-    ensures numbers { HasCleanDisk (state S.Store conn.new) → (number : _) → IsKnown number → HasForm (form_of number) (state S.Store conn.old) →
-        IfOk result (λ rows. IsPermutation (versions_shown (state S.Store conn.old).now.trees) rows.items) }
-    ensures left { HasCleanDisk (state S.Store conn.new) → (number : _) → IsKnown number → HasForm (form_of number) (state S.Store conn.old)
+    ensures asks { Asks S.Store conn.old conn.new result
+        (λ _ rows. rows.items ≡ (Int VERSION ∷ []) ∷ []) ⊥ }
+    ensures numbers { HasCleanDisk (state S.Store conn.new) → (number : _) → IsKnown number
+        → HasForm (form_of number) (state S.Store conn.old)
+        → IfOk result (λ rows. IsPermutation (versions_shown (state S.Store conn.old).now.trees) rows.items) }
+    ensures left { HasCleanDisk (state S.Store conn.new) → (number : _) → IsKnown number
+        → HasForm (form_of number) (state S.Store conn.old)
         → IsBackTo (state S.Store conn.new) (state S.Store conn.old).now }
-    ensures stays_open { HasCleanDisk (state S.Store conn.new) → (number : _) → IsKnown number → HasForm (form_of number) (state S.Store conn.old)
+    ensures stays_open { HasCleanDisk (state S.Store conn.new) → (number : _) → IsKnown number
+        → HasForm (form_of number) (state S.Store conn.old)
         → OnOk result (IsTrue (state S.Store conn.new).is_open) }
-    ensures same { Leaves S.Store conn.old conn.new }
-    ensures up { IsUp S.Store conn.old conn.new result }
-    ensures clean { WasClean S.Store conn.old conn.new }
-    ensures lasts { Lasts (state S.Store conn.old) (state S.Store conn.new) }
-    ensures was_open { AnswersOpen S.Store conn.old conn.new result }
-    ensures caused { FailsByFault S.Store conn.old conn.new result }
 {
     conn.query_all("SELECT number FROM version ORDER BY rowid", &[])
 }

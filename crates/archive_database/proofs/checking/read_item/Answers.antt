@@ -3,10 +3,10 @@ use Rattle.std.specs.Prelude.{IfSome}
 use Rattle.std.proofs.lemmas.Bool.{cases_Bool}
 use Rattle.civil_time.specs.Calendar.{is_instant, instant_at}
 use Rattle.mail_core.specs.Lines.{lines}
-use Rattle.mbox_core.specs.Division.{Item, NoneSeparates, whole}
-use Rattle.mbox_core.specs.Separator.{Envelope, IsSenderText}
-use Rattle.mbox_core.specs.Written.{IsItem}
-use Rattle.mbox_core.proofs.SenderLemmas.{written_is}
+use Rattle.mbox_items.specs.Division.{Item, NoneSeparates, whole}
+use Rattle.mbox_items.specs.Separator.{Envelope, IsSenderText}
+use Rattle.mbox_items.specs.Written.{IsItem}
+use Rattle.mbox_items.proofs.SenderLemmas.{written_is}
 use Rattle.archive_database.specs.Checking.{row_item}
 use Rattle.archive_database.proofs.checking.read_item.Goals as goal
 

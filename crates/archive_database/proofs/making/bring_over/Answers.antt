@@ -8,8 +8,8 @@ use Rattle.archive_database.proofs.making.bring_over.Goals as goal
 pub returns-in-Err-clause-back : goal.returns-in-Err-clause-back
 returns-in-Err-clause-back g c = λ clean older idle schema up.
     let first = state g.S.Store c.args.conn.now in
-    let clean_2 = c.rollback-back.ensures.clean clean in
-    let within = c.in_ok-begin.ensures.within (c.in-Err.ensures.clean clean_2) in
+    let clean_2 = c.rollback-back.ensures.lasts.returned clean in
+    let within = c.in_ok-begin.ensures.within (c.in-Err.ensures.lasts.returned clean_2) in
     let stopped = c.in-Err.ensures.stopped clean_2 older first.committed (subst (λ (s : Schema). IsWithin (state g.S.Store c.begin.new.conn) first.committed s) schema within) in
     let back = c.rollback-back.ensures.back clean first.committed stopped up in
     (back.0 ∙ idle.settled, back.1 ∙ idle.settled, back.2)
@@ -17,4 +17,4 @@ returns-in-Err-clause-back g c = λ clean older idle schema up.
 pub returns-clause-moved : goal.returns-clause-moved
 returns-clause-moved g c = λ clean older kept.
     let first = state g.S.Store c.args.conn.now in
-    c.in_default.ensures.moved clean older first.now (archive_by c.args.number first.now.trees) (c.in_ok-begin.ensures.moving (c.in_default.ensures.clean clean) c.args.number kept)
+    c.in_default.ensures.moved clean older first.now (archive_by c.args.number first.now.trees) (c.in_ok-begin.ensures.moving (c.in_default.ensures.lasts.returned clean) c.args.number kept)

@@ -1,32 +1,24 @@
 use Rattle.sqlite.specs.Held.{state}
-use Rattle.archive_database.proofs.MakingLemmas.{undone_by, stopped_by, on_err}
+use Rattle.archive_database.proofs.MakingLemmas.{stopped_by, on_err}
 use Rattle.archive_tables.proofs.LastLemmas.{lasts_then}
 use Rattle.archive_database.proofs.making.make_first.Goals as goal
 
 pub returns-clause-made : goal.returns-clause-made
 returns-clause-made g c = λ clean before making.
-    let clean_2 = c.in_ok-create_person.ensures.clean clean in
-    let clean_1 = c.in_ok-create_list.ensures.clean clean_2 in
+    let clean_2 = c.in_ok-create_person.ensures.ends.lasts.returned clean in
+    let clean_1 = c.in_ok-create_list.ensures.ends.lasts.returned clean_2 in
     c.in_ok-create_person.ensures.made clean before (c.in_ok-create_list.ensures.made clean_2 before (c.in_ok-create_version.ensures.made clean_1 before making))
-
-pub returns-in_err-create_person-clause-undone : goal.returns-in_err-create_person-clause-undone
-returns-in_err-create_person-clause-undone g c = λ clean before making.
-    let clean_2 = c.in_err-create_person.ensures.clean clean in
-    let clean_1 = c.in_ok-create_list.ensures.clean clean_2 in
-    let made = c.in_ok-create_list.ensures.made clean_2 before (c.in_ok-create_version.ensures.made clean_1 before making) in
-    on_err c.from_residual-in_err-create_person.result _
-    (undone_by (state g.S.Store c.create_list.new.conn) (state g.S.Store c.create_person.new.conn) before made.behind (c.in_err-create_person.ensures.stopped clean))
 
 pub returns-in_err-create_person-clause-stopped : goal.returns-in_err-create_person-clause-stopped
 returns-in_err-create_person-clause-stopped g c = λ clean before making.
-    let clean_2 = c.in_err-create_person.ensures.clean clean in
-    let clean_1 = c.in_ok-create_list.ensures.clean clean_2 in
+    let clean_2 = c.in_err-create_person.ensures.ends.lasts.returned clean in
+    let clean_1 = c.in_ok-create_list.ensures.ends.lasts.returned clean_2 in
     let made = c.in_ok-create_list.ensures.made clean_2 before (c.in_ok-create_version.ensures.made clean_1 before making) in
     on_err c.from_residual-in_err-create_person.result _
-    (stopped_by (state g.S.Store c.create_list.new.conn) (state g.S.Store c.create_person.new.conn) before made.behind made.within (c.in_err-create_person.ensures.stopped clean))
+    (stopped_by (state g.S.Store c.create_list.new.conn) (state g.S.Store c.create_person.new.conn) before made.behind made.within (c.in_err-create_person.ensures.ends.stopped clean))
 
 pub returns-in_err-create_person-clause-lasts : goal.returns-in_err-create_person-clause-lasts
-returns-in_err-create_person-clause-lasts g c = lasts_then _ _ _ (lasts_then _ _ _ c.create_version.ensures.lasts c.create_list.ensures.lasts) c.create_person.ensures.lasts
+returns-in_err-create_person-clause-lasts g c = lasts_then _ _ _ (lasts_then _ _ _ c.create_version.ensures.ends.lasts c.create_list.ensures.ends.lasts) c.create_person.ensures.ends.lasts
 
 pub returns-clause-lasts : goal.returns-clause-lasts
-returns-clause-lasts g c = lasts_then _ _ _ (lasts_then _ _ _ c.create_version.ensures.lasts c.create_list.ensures.lasts) c.create_person.ensures.lasts
+returns-clause-lasts g c = lasts_then _ _ _ (lasts_then _ _ _ c.create_version.ensures.ends.lasts c.create_list.ensures.ends.lasts) c.create_person.ensures.ends.lasts

@@ -1,22 +1,15 @@
 use Rattle.sqlite.specs.Held.{state}
-use Rattle.archive_database.proofs.MakingLemmas.{undone_by, stopped_by, on_err}
+use Rattle.archive_database.proofs.MakingLemmas.{stopped_by, on_err}
 use Rattle.archive_database.proofs.making.make_indexes.Goals as goal
 
 pub returns-clause-made : goal.returns-clause-made
 returns-clause-made g c = λ clean before making.
-    let clean_1 = c.in_ok-create_author_index.ensures.clean clean in
+    let clean_1 = c.in_ok-create_author_index.ensures.ends.lasts.returned clean in
     c.in_ok-create_author_index.ensures.made clean before (c.in_ok-create_month_index.ensures.made clean_1 before making)
-
-pub returns-in_err-create_author_index-clause-undone : goal.returns-in_err-create_author_index-clause-undone
-returns-in_err-create_author_index-clause-undone g c = λ clean before making.
-    let clean_1 = c.in_err-create_author_index.ensures.clean clean in
-    let made = c.in_ok-create_month_index.ensures.made clean_1 before making in
-    on_err c.from_residual-in_err-create_author_index.result _
-    (undone_by (state g.S.Store c.create_month_index.new.conn) (state g.S.Store c.create_author_index.new.conn) before made.behind (c.in_err-create_author_index.ensures.stopped clean))
 
 pub returns-in_err-create_author_index-clause-stopped : goal.returns-in_err-create_author_index-clause-stopped
 returns-in_err-create_author_index-clause-stopped g c = λ clean before making.
-    let clean_1 = c.in_err-create_author_index.ensures.clean clean in
+    let clean_1 = c.in_err-create_author_index.ensures.ends.lasts.returned clean in
     let made = c.in_ok-create_month_index.ensures.made clean_1 before making in
     on_err c.from_residual-in_err-create_author_index.result _
-    (stopped_by (state g.S.Store c.create_month_index.new.conn) (state g.S.Store c.create_author_index.new.conn) before made.behind made.within (c.in_err-create_author_index.ensures.stopped clean))
+    (stopped_by (state g.S.Store c.create_month_index.new.conn) (state g.S.Store c.create_author_index.new.conn) before made.behind made.within (c.in_err-create_author_index.ensures.ends.stopped clean))

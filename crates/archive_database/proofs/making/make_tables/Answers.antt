@@ -6,14 +6,21 @@ use Rattle.archive_database.proofs.making.make_tables.Goals as goal
 pub returns-in-Err-clause-back : goal.returns-in-Err-clause-back
 returns-in-Err-clause-back g c = λ clean none idle up.
     let first = state g.S.Store c.args.conn.now in
-    let clean_2 = c.rollback-undone.ensures.clean clean in
-    let making = c.in_ok-begin.ensures.begun (c.in-Err.ensures.clean clean_2) none in
+    let clean_2 = c.rollback-undone.ensures.lasts.returned clean in
+    let making = c.in_ok-begin.ensures.begun (c.in-Err.ensures.lasts.returned clean_2) none in
     let back = c.rollback-undone.ensures.back clean first.committed (c.in-Err.ensures.stopped clean_2 first.committed making) up in
     (back.0 ∙ idle.settled, back.1 ∙ idle.settled, back.2)
 
+pub returns-in-Err-clause-undone : goal.returns-in-Err-clause-undone
+returns-in-Err-clause-undone g c = λ clean none up.
+    let first = state g.S.Store c.args.conn.now in
+    let clean_2 = c.rollback-undone.ensures.lasts.returned clean in
+    let making = c.in_ok-begin.ensures.begun (c.in-Err.ensures.lasts.returned clean_2) none in
+    (c.rollback-undone.ensures.back clean first.committed (c.in-Err.ensures.stopped clean_2 first.committed making) up).1
+
 pub returns-in-Err-clause-lasts : goal.returns-in-Err-clause-lasts
-returns-in-Err-clause-lasts g c = lasts_then _ _ _ (lasts_then _ _ _ c.begin.ensures.lasts c.fill.ensures.lasts) c.rollback-undone.ensures.lasts
+returns-in-Err-clause-lasts g c = lasts_then _ _ _ (lasts_then _ _ _ c.begin.ensures.ends.lasts c.fill.ensures.lasts) c.rollback-undone.ensures.lasts
 
 pub returns-clause-made : goal.returns-clause-made
 returns-clause-made g c = λ clean none.
-    c.in_default.ensures.kept clean (state g.S.Store c.args.conn.now).committed (c.in_ok-begin.ensures.begun (c.in_default.ensures.clean clean) none)
+    c.in_default.ensures.kept clean (state g.S.Store c.args.conn.now).committed (c.in_ok-begin.ensures.begun (c.in_default.ensures.lasts.returned clean) none)

@@ -1,7 +1,47 @@
 use Rattle.std.proofs.Common.{pos}
+use Rattle.sqlite.specs.Held.{state}
+use Rattle.archive_tables.proofs.LastLemmas.{lasts_then}
+use Rattle.archive_database.proofs.MakingLemmas.{stopped_by, on_err}
 use Rattle.archive_database.proofs.making.move_tables.Goals as goal
 
 pub returns-clause-moved : goal.returns-clause-moved
 returns-clause-moved g c = λ clean older before archive moving.
-    let clean_1 = c.in_ok-move_addresses.ensures.clean clean in
-    c.in_ok-move_addresses.ensures.moved clean before (pos c.args.number) archive (c.in_ok-move_options.ensures.moved clean_1 older before archive moving)
+    let said = pos c.args.number in
+    let clean_3 = c.in_ok-commit.ensures.ends.lasts.returned clean in
+    let clean_2 = c.in_ok-set_version.ensures.ends.lasts.returned clean_3 in
+    let clean_1 = c.in_ok-create_address.ensures.ends.lasts.returned clean_2 in
+    let moved = c.in_ok-create_address.ensures.moved clean_2 before said archive (c.in_ok-move_options.ensures.moved clean_1 older before archive moving) in
+    c.in_ok-commit.ensures.kept clean before archive (c.in_ok-set_version.ensures.moved clean_3 before said archive moved)
+
+pub returns-in_err-create_address-clause-stopped : goal.returns-in_err-create_address-clause-stopped
+returns-in_err-create_address-clause-stopped g c = λ clean older before within.
+    let k = c.in_ok-move_options.ensures.within (c.in_err-create_address.ensures.ends.lasts.returned clean) older before within in
+    on_err c.from_residual-in_err-create_address.result _
+    (stopped_by (state g.S.Store c.move_options.new.conn) (state g.S.Store c.create_address.new.conn) before k.behind k.within (c.in_err-create_address.ensures.ends.stopped clean))
+
+pub returns-in_err-set_version-clause-stopped : goal.returns-in_err-set_version-clause-stopped
+returns-in_err-set_version-clause-stopped g c = λ clean older before within.
+    let clean_2 = c.in_err-set_version.ensures.ends.lasts.returned clean in
+    let clean_1 = c.in_ok-create_address.ensures.ends.lasts.returned clean_2 in
+    let k = c.in_ok-create_address.ensures.within clean_2 before (c.in_ok-move_options.ensures.within clean_1 older before within) in
+    on_err c.from_residual-in_err-set_version.result _
+    (stopped_by (state g.S.Store c.create_address.new.conn) (state g.S.Store c.set_version.new.conn) before k.behind k.within (c.in_err-set_version.ensures.ends.stopped clean))
+
+pub returns-in_err-commit-clause-stopped : goal.returns-in_err-commit-clause-stopped
+returns-in_err-commit-clause-stopped g c = λ clean older before within.
+    let clean_3 = c.in_err-commit.ensures.ends.lasts.returned clean in
+    let clean_2 = c.in_ok-set_version.ensures.ends.lasts.returned clean_3 in
+    let clean_1 = c.in_ok-create_address.ensures.ends.lasts.returned clean_2 in
+    let moved = c.in_ok-create_address.ensures.within clean_2 before (c.in_ok-move_options.ensures.within clean_1 older before within) in
+    let k = c.in_ok-set_version.ensures.within clean_3 before moved in
+    on_err c.from_residual-in_err-commit.result _
+    (stopped_by (state g.S.Store c.set_version.new.conn) (state g.S.Store c.commit.new.conn) before k.behind k.within (c.in_err-commit.ensures.ends.stopped clean))
+
+pub returns-in_err-set_version-clause-lasts : goal.returns-in_err-set_version-clause-lasts
+returns-in_err-set_version-clause-lasts g c = lasts_then _ _ _ (lasts_then _ _ _ c.move_options.ensures.lasts c.create_address.ensures.ends.lasts) c.set_version.ensures.ends.lasts
+
+pub returns-in_err-commit-clause-lasts : goal.returns-in_err-commit-clause-lasts
+returns-in_err-commit-clause-lasts g c = lasts_then _ _ _ (lasts_then _ _ _ (lasts_then _ _ _ c.move_options.ensures.lasts c.create_address.ensures.ends.lasts) c.set_version.ensures.ends.lasts) c.commit.ensures.ends.lasts
+
+pub returns-clause-lasts : goal.returns-clause-lasts
+returns-clause-lasts g c = lasts_then _ _ _ (lasts_then _ _ _ (lasts_then _ _ _ c.move_options.ensures.lasts c.create_address.ensures.ends.lasts) c.set_version.ensures.ends.lasts) c.commit.ensures.ends.lasts

@@ -1,4 +1,4 @@
-use Rattle.std.proofs.Common.{◌≡◌, [], map, Option, Ok, Err, Result, IfOk, IfErr, None}
+use Rattle.std.proofs.Common.{◌≡◌, ◌⊎◌, inl, [], map, Option, Ok, Err, Result, IfOk, IfErr, None}
 use Rattle.std.specs.Prelude.{Vec, MatchResult}
 use Rattle.std.specs.declared.alloc.Global.{Global}
 use Rattle.sqlite.specs.declared.error.Error.{Error}
@@ -11,29 +11,27 @@ use Rattle.archive_tables.specs.Rows.{place_shown}
 use Rattle.archive_tables.specs.Listed.{all_places}
 use Rattle.archive_tables.specs.Calls.{RowsRest, IsCaused}
 use Rattle.archive_tables.proofs.ListedLemmas.{places_text, all_found, none_found, none_found_caused}
-use Rattle.archive_tables.proofs.LastLemmas.{query_lasts, query_open}
+use Rattle.archive_tables.proofs.EndLemmas.{shown_ends}
 use Rattle.archive_tables.proofs.texts.checking.all_places.Goals as goal
 
-found : (old new : State) (behind : Option Database) (r : Result (Vec Row Global) Error) → IsHeld behind old → IfOk r (λ rows. Shown places_text [] old new rows.items)
-    → IfErr r (FailsToQuery places_text [] old new)
+found : (behind : Option Database) (old new : State) (r : Result (Vec Row Global) Error) → IsHeld behind old
+    → IfOk r (λ rows. Shown places_text [] old new rows.items) → IfErr r (FailsToQuery places_text [] old new)
     → MatchResult r (λ rows. (rows.items ≡ map place_shown (all_places old.now.trees)) × (new.now ≡ old.now) × IsHeld behind new) (λ _. RowsRest behind old new)
-found old new behind (Ok rows) k ok err = all_found old new k rows.items ok
-found old new behind (Err e) k ok err = none_found old new k e err
+found behind old new (Ok rows) k ok err = all_found old new k rows.items ok
+found behind old new (Err e) k ok err = none_found old new k e err
 
-pub returns-clause-held : goal.returns-clause-held
-returns-clause-held g c clean behind k =
-    found (state g.S.Store c.args.conn.now) (state g.S.Store c.query_all.new.self) behind c.query_all.result k (c.query_all.ensures.ok clean) (c.query_all.ensures.err clean)
-
-pub returns-clause-lasts : goal.returns-clause-lasts
-returns-clause-lasts g c = query_lasts (state g.S.Store c.args.conn.now) (state g.S.Store c.query_all.new.self) _ _ _ c.query_all.result c.query_all.ensures.survives c.query_all.ensures.ok c.query_all.ensures.err
-
-pub returns-clause-was_open : goal.returns-clause-was_open
-returns-clause-was_open g c clean = query_open (state g.S.Store c.args.conn.now) (state g.S.Store c.query_all.new.self) _ _ c.query_all.result (c.query_all.ensures.ok clean)
-
-why : (old new : State) (r : Result (Vec Row Global) Error) → IsKept old → old.step_limit ≡ None → IfErr r (FailsToQuery places_text [] old new) → IfErr r (IsCaused old new)
+why : (old new : State) (r : Result (Vec Row Global) Error) → IsKept old → old.step_limit ≡ None
+    → IfErr r (FailsToQuery places_text [] old new) → IfErr r (λ e. IsCaused old new e ⊎ ⊥)
 why old new (Ok rows) k free err = tt
-why old new (Err e) k free err = none_found_caused old new k e err free
+why old new (Err e) k free err = inl (none_found_caused old new k e err free)
 
-pub returns-clause-caused : goal.returns-clause-caused
-returns-clause-caused g c clean k free =
-    why (state g.S.Store c.args.conn.now) (state g.S.Store c.query_all.new.self) c.query_all.result k free (c.query_all.ensures.err clean)
+pub returns : goal.returns
+returns g c =
+    let old = state g.S.Store c.args.conn.now in
+    let new = state g.S.Store c.query_all.new.self in
+    record {
+      over = λ clean behind k. found behind old new c.query_all.result k
+          (c.query_all.ensures.ok clean) (c.query_all.ensures.err clean);
+      caused = λ clean k free. why old new c.query_all.result k free (c.query_all.ensures.err clean);
+      ends = shown_ends _ _ _ c.query_all.result c.query_all.ensures.survives c.query_all.ensures.ok c.query_all.ensures.err;
+    }

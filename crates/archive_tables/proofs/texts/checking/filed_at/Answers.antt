@@ -1,5 +1,5 @@
+use Rattle.std.proofs.Common.{w64, ap, ◌∙◌, ℤ, ◌≡◌, ◌⊎◌, inl, [], ◌∷◌, Option, Ok, Err, Result, IfOk, IfErr, None}
 use Rattle.std.proofs.lemmas.Int.{to_z-of_z}
-use Rattle.std.proofs.Common.{w64, ap, ◌∙◌, ◌≡◌, ℤ, [], ◌∷◌, Option, Ok, Err, Result, IfOk, IfErr, None}
 use Rattle.std.specs.Prelude.{Vec, MatchResult, slice_get, option_map}
 use Rattle.std.specs.declared.alloc.Global.{Global}
 use Rattle.sqlite.specs.declared.error.Error.{Error}
@@ -12,32 +12,28 @@ use Rattle.archive_tables.specs.Tables.{IsHeld, IsKept}
 use Rattle.archive_tables.specs.Listed.{filed_at, filed_shown}
 use Rattle.archive_tables.specs.Calls.{RowsRest, IsCaused}
 use Rattle.archive_tables.proofs.ListedLemmas.{filed_text, filed_found, not_filed, not_filed_caused}
-use Rattle.archive_tables.proofs.LastLemmas.{query_lasts, query_open}
+use Rattle.archive_tables.proofs.EndLemmas.{shown_ends}
 use Rattle.archive_tables.proofs.texts.checking.filed_at.Goals as goal
 
-found : (old new : State) (behind : Option Database) (place : ℤ) (r : Result (Vec Row Global) Error) → IsHeld behind old
+found : (behind : Option Database) (old new : State) (place : ℤ) (r : Result (Vec Row Global) Error) → IsHeld behind old
     → IfOk r (λ rows. Shown filed_text (Int place ∷ []) old new rows.items) → IfErr r (FailsToQuery filed_text (Int place ∷ []) old new)
     → MatchResult r (λ rows. (slice_get rows.items 0 ≡ option_map filed_shown (filed_at old.now.trees place)) × (new.now ≡ old.now) × IsHeld behind new) (λ _. RowsRest behind old new)
-found old new behind place (Ok rows) k ok err = filed_found old new k place rows.items ok
-found old new behind place (Err e) k ok err = not_filed old new k place e err
+found behind old new place (Ok rows) k ok err = filed_found old new k place rows.items ok
+found behind old new place (Err e) k ok err = not_filed old new k place e err
 
-pub returns-clause-held : goal.returns-clause-held
-returns-clause-held g c clean behind k =
-    let number = c.params-to_sql.ensures ∙ ap Int (to_z-of_z w64 c.args.place c.ranges.place) in
-    found (state g.S.Store c.args.conn.now) (state g.S.Store c.query_all.new.self) behind c.args.place c.query_all.result k
-    (rw number at (c.query_all.ensures.ok clean)) (rw number at (c.query_all.ensures.err clean))
-
-pub returns-clause-lasts : goal.returns-clause-lasts
-returns-clause-lasts g c = query_lasts (state g.S.Store c.args.conn.now) (state g.S.Store c.query_all.new.self) _ _ _ c.query_all.result c.query_all.ensures.survives c.query_all.ensures.ok c.query_all.ensures.err
-
-pub returns-clause-was_open : goal.returns-clause-was_open
-returns-clause-was_open g c clean = query_open (state g.S.Store c.args.conn.now) (state g.S.Store c.query_all.new.self) _ _ c.query_all.result (c.query_all.ensures.ok clean)
-
-why : (old new : State) (place : ℤ) (r : Result (Vec Row Global) Error) → IsKept old → old.step_limit ≡ None → IfErr r (FailsToQuery filed_text (Int place ∷ []) old new) → IfErr r (IsCaused old new)
+why : (old new : State) (place : ℤ) (r : Result (Vec Row Global) Error) → IsKept old → old.step_limit ≡ None
+    → IfErr r (FailsToQuery filed_text (Int place ∷ []) old new) → IfErr r (λ e. IsCaused old new e ⊎ ⊥)
 why old new place (Ok rows) k free err = tt
-why old new place (Err e) k free err = not_filed_caused old new k place e err free
+why old new place (Err e) k free err = inl (not_filed_caused old new k place e err free)
 
-pub returns-clause-caused : goal.returns-clause-caused
-returns-clause-caused g c clean k free =
+pub returns : goal.returns
+returns g c =
+    let old = state g.S.Store c.args.conn.now in
+    let new = state g.S.Store c.query_all.new.self in
     let number = c.params-to_sql.ensures ∙ ap Int (to_z-of_z w64 c.args.place c.ranges.place) in
-    why (state g.S.Store c.args.conn.now) (state g.S.Store c.query_all.new.self) c.args.place c.query_all.result k free (rw number at (c.query_all.ensures.err clean))
+    record {
+      over = λ clean behind k. found behind old new c.args.place c.query_all.result k
+          (rw number at (c.query_all.ensures.ok clean)) (rw number at (c.query_all.ensures.err clean));
+      caused = λ clean k free. why old new c.args.place c.query_all.result k free (rw number at (c.query_all.ensures.err clean));
+      ends = shown_ends _ _ _ c.query_all.result c.query_all.ensures.survives c.query_all.ensures.ok c.query_all.ensures.err;
+    }

@@ -5,27 +5,21 @@ use Rattle.sqlite.specs.Held.{state}
 use Rattle.archive_tables.proofs.GrantLemmas.{tries_to_remove, remove_text}
 use Rattle.sqlite_tied.specs.Compute.{everything}
 use Rattle.sqlite_resolve.specs.Compile.{first}
-use Rattle.archive_tables.proofs.LastLemmas.{IsOurText, execute_lasts, execute_open}
+use Rattle.archive_tables.proofs.LastLemmas.{IsOurText}
+use Rattle.archive_tables.proofs.EndLemmas.{needs_nothing, execute_ends}
 use Rattle.archive_tables.proofs.texts.grants.remove_grant.Goals as goal
-
-pub returns-clause-removed : goal.returns-clause-removed
-returns-clause-removed g c clean k =
-    let rank = c.params-to_sql-3.ensures ∙ ap Int (to_z-of_z w64 c.args.rank c.ranges.rank) in
-    (tries_to_remove c.args.person.now c.args.list.now c.args.rank (state g.S.Store c.args.conn.now) (state g.S.Store c.execute.new.self) c.execute.result k
-    (rw (c.params-to_sql.ensures, c.params-to_sql-2.ensures, rank) at (c.execute.ensures.runs clean))).0
-
-pub returns-clause-refused : goal.returns-clause-refused
-returns-clause-refused g c clean k =
-    let rank = c.params-to_sql-3.ensures ∙ ap Int (to_z-of_z w64 c.args.rank c.ranges.rank) in
-    (tries_to_remove c.args.person.now c.args.list.now c.args.rank (state g.S.Store c.args.conn.now) (state g.S.Store c.execute.new.self) c.execute.result k
-    (rw (c.params-to_sql.ensures, c.params-to_sql-2.ensures, rank) at (c.execute.ensures.runs clean))).1
 
 ours : IsOurText (first remove_text)
 unfolding first everything
 ours = tt
 
-pub returns-clause-lasts : goal.returns-clause-lasts
-returns-clause-lasts g c = execute_lasts (state g.S.Store c.args.conn.now) (state g.S.Store c.execute.new.self) _ _ _ c.execute.result c.execute.ensures.survives c.execute.ensures.runs
-
-pub returns-clause-was_open : goal.returns-clause-was_open
-returns-clause-was_open g c clean = execute_open (state g.S.Store c.args.conn.now) (state g.S.Store c.execute.new.self) _ _ c.execute.result ours (c.execute.ensures.runs clean)
+pub returns : goal.returns
+returns g c =
+    let old = state g.S.Store c.args.conn.now in
+    let new = state g.S.Store c.execute.new.self in
+    let rank = c.params-to_sql-3.ensures ∙ ap Int (to_z-of_z w64 c.args.rank c.ranges.rank) in
+    record {
+      over = λ clean behind k. needs_nothing c.execute.result _ _
+          (tries_to_remove c.args.person.now c.args.list.now c.args.rank behind old new c.execute.result k (rw (c.params-to_sql.ensures, c.params-to_sql-2.ensures, rank) at (c.execute.ensures.runs clean)));
+      ends = execute_ends _ _ _ c.execute.result ours c.execute.ensures.survives c.execute.ensures.runs;
+    }

@@ -1,4 +1,4 @@
-use Rattle.std.proofs.Common.{◌≡◌, ℕ, List, [], ◌∷◌, map, Option, Ok, Err, Result, IfOk, IfErr, None}
+use Rattle.std.proofs.Common.{◌≡◌, ◌⊎◌, inl, ℕ, List, [], ◌∷◌, map, Option, Ok, Err, Result, IfOk, IfErr, None}
 use Rattle.std.specs.Prelude.{Vec, MatchResult}
 use Rattle.std.specs.declared.alloc.Global.{Global}
 use Rattle.sqlite.specs.declared.error.Error.{Error}
@@ -11,30 +11,27 @@ use Rattle.archive_tables.specs.Tables.{IsHeld, IsKept}
 use Rattle.archive_tables.specs.Rows.{author_places, place_shown}
 use Rattle.archive_tables.specs.Calls.{RowsRest, IsCaused}
 use Rattle.archive_tables.proofs.FiledLemmas.{author_text, author_found, no_author, no_author_caused}
-use Rattle.archive_tables.proofs.LastLemmas.{query_lasts, query_open}
+use Rattle.archive_tables.proofs.EndLemmas.{shown_ends}
 use Rattle.archive_tables.proofs.texts.messages.author_places.Goals as goal
 
-found : (old new : State) (behind : Option Database) (list : List ℕ) (it : List ℕ) (r : Result (Vec Row Global) Error) → IsHeld behind old
+found : (behind : Option Database) (old new : State) (list it : List ℕ) (r : Result (Vec Row Global) Error) → IsHeld behind old
     → IfOk r (λ rows. Shown author_text (Text list ∷ Blob it ∷ []) old new rows.items) → IfErr r (FailsToQuery author_text (Text list ∷ Blob it ∷ []) old new)
     → MatchResult r (λ rows. (rows.items ≡ map place_shown (author_places old.now.trees list it)) × (new.now ≡ old.now) × IsHeld behind new) (λ _. RowsRest behind old new)
-found old new behind list it (Ok rows) k ok err = author_found old new k list it rows.items ok
-found old new behind list it (Err e) k ok err = no_author old new k list it e err
+found behind old new list it (Ok rows) k ok err = author_found old new k list it rows.items ok
+found behind old new list it (Err e) k ok err = no_author old new k list it e err
 
-pub returns-clause-held : goal.returns-clause-held
-returns-clause-held g c clean behind k =
-    found (state g.S.Store c.args.conn.now) (state g.S.Store c.query_all.new.self) behind c.args.list.now c.args.key.now c.query_all.result k
-    (rw (c.params-to_sql.ensures, c.params-to_sql-2.ensures) at (c.query_all.ensures.ok clean)) (rw (c.params-to_sql.ensures, c.params-to_sql-2.ensures) at (c.query_all.ensures.err clean))
-
-pub returns-clause-lasts : goal.returns-clause-lasts
-returns-clause-lasts g c = query_lasts (state g.S.Store c.args.conn.now) (state g.S.Store c.query_all.new.self) _ _ _ c.query_all.result c.query_all.ensures.survives c.query_all.ensures.ok c.query_all.ensures.err
-
-pub returns-clause-was_open : goal.returns-clause-was_open
-returns-clause-was_open g c clean = query_open (state g.S.Store c.args.conn.now) (state g.S.Store c.query_all.new.self) _ _ c.query_all.result (c.query_all.ensures.ok clean)
-
-why : (old new : State) (list : List ℕ) (it : List ℕ) (r : Result (Vec Row Global) Error) → IsKept old → old.step_limit ≡ None → IfErr r (FailsToQuery author_text (Text list ∷ Blob it ∷ []) old new) → IfErr r (IsCaused old new)
+why : (old new : State) (list it : List ℕ) (r : Result (Vec Row Global) Error) → IsKept old → old.step_limit ≡ None
+    → IfErr r (FailsToQuery author_text (Text list ∷ Blob it ∷ []) old new) → IfErr r (λ e. IsCaused old new e ⊎ ⊥)
 why old new list it (Ok rows) k free err = tt
-why old new list it (Err e) k free err = no_author_caused old new k list it e err free
+why old new list it (Err e) k free err = inl (no_author_caused old new k list it e err free)
 
-pub returns-clause-caused : goal.returns-clause-caused
-returns-clause-caused g c clean k free =
-    why (state g.S.Store c.args.conn.now) (state g.S.Store c.query_all.new.self) c.args.list.now c.args.key.now c.query_all.result k free (rw (c.params-to_sql.ensures, c.params-to_sql-2.ensures) at (c.query_all.ensures.err clean))
+pub returns : goal.returns
+returns g c =
+    let old = state g.S.Store c.args.conn.now in
+    let new = state g.S.Store c.query_all.new.self in
+    record {
+      over = λ clean behind k. found behind old new c.args.list.now c.args.key.now c.query_all.result k
+          (rw (c.params-to_sql.ensures, c.params-to_sql-2.ensures) at (c.query_all.ensures.ok clean)) (rw (c.params-to_sql.ensures, c.params-to_sql-2.ensures) at (c.query_all.ensures.err clean));
+      caused = λ clean k free. why old new c.args.list.now c.args.key.now c.query_all.result k free (rw (c.params-to_sql.ensures, c.params-to_sql-2.ensures) at (c.query_all.ensures.err clean));
+      ends = shown_ends _ _ _ c.query_all.result c.query_all.ensures.survives c.query_all.ensures.ok c.query_all.ensures.err;
+    }

@@ -2,24 +2,24 @@ use Rattle.std.proofs.Common.{w64, ap, ◌∙◌}
 use Rattle.std.specs.Int.{cast_signed, cast_unsigned}
 use Rattle.sqlite.specs.declared.types.Value.TheVariants.{Int}
 use Rattle.sqlite.specs.Held.{state}
-use Rattle.archive_tables.proofs.OptionLemmas.{tries_over, add_text, number_is}
+use Rattle.archive_tables.proofs.OptionLemmas.{tries_to_add, add_text, number_is}
 use Rattle.sqlite_tied.specs.Compute.{everything}
 use Rattle.sqlite_resolve.specs.Compile.{first}
-use Rattle.archive_tables.proofs.LastLemmas.{IsOurText, execute_lasts, execute_open}
+use Rattle.archive_tables.proofs.LastLemmas.{IsOurText}
+use Rattle.archive_tables.proofs.EndLemmas.{needs_nothing, execute_ends}
 use Rattle.archive_tables.proofs.texts.options.add_option.Goals as goal
-
-pub returns-clause-held : goal.returns-clause-held
-returns-clause-held g c clean behind k any =
-    let number = c.params-to_sql-2.ensures ∙ ap Int (ap (λ n. cast_signed w64 (cast_unsigned w64 n)) c.merge_number-number.ensures ∙ number_is c.args.merge) in
-    tries_over behind (state g.S.Store c.args.conn.now) (state g.S.Store c.execute.new.self) (record { list = c.args.list.now; merge = c.args.merge }) c.execute.result k
-    (rw (c.params-to_sql.ensures, number) at (c.execute.ensures.runs clean))
 
 ours : IsOurText (first add_text)
 unfolding first everything
 ours = tt
 
-pub returns-clause-lasts : goal.returns-clause-lasts
-returns-clause-lasts g c = execute_lasts (state g.S.Store c.args.conn.now) (state g.S.Store c.execute.new.self) _ _ _ c.execute.result c.execute.ensures.survives c.execute.ensures.runs
-
-pub returns-clause-was_open : goal.returns-clause-was_open
-returns-clause-was_open g c clean = execute_open (state g.S.Store c.args.conn.now) (state g.S.Store c.execute.new.self) _ _ c.execute.result ours (c.execute.ensures.runs clean)
+pub returns : goal.returns
+returns g c =
+    let old = state g.S.Store c.args.conn.now in
+    let new = state g.S.Store c.execute.new.self in
+    let number = c.params-to_sql-2.ensures ∙ ap Int (ap (λ n. cast_signed w64 (cast_unsigned w64 n)) c.merge_number-number.ensures ∙ number_is c.args.merge) in
+    record {
+      over = λ clean behind k. needs_nothing c.execute.result _ _
+          (tries_to_add behind old new (record { list = c.args.list.now; merge = c.args.merge }) c.execute.result k (rw (c.params-to_sql.ensures, number) at (c.execute.ensures.runs clean)));
+      ends = execute_ends _ _ _ c.execute.result ours c.execute.ensures.survives c.execute.ensures.runs;
+    }

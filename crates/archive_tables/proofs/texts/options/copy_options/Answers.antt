@@ -1,26 +1,22 @@
-use Rattle.std.proofs.Common.{◌≡◌, ◌⊎◌, ℕ, ℤ, [], Ok, Err, Result, OnOk, OnErr}
+use Rattle.std.proofs.Common.{◌≡◌, ℕ, ℤ, [], Ok, Err, Result, OnOk}
 use Rattle.sqlite.specs.declared.error.Error.{Error}
 use Rattle.sqlite.specs.Effect.{Database}
 use Rattle.sqlite.specs.Held.{state}
-use Rattle.sqlite.specs.State.{State, Executes, IsUnchanged, IsRolledBack}
+use Rattle.sqlite.specs.State.{State, Executes}
 use Rattle.archive_machine.specs.Records.{Archive}
 use Rattle.archive_tables.specs.Schema.{schema_2}
 use Rattle.archive_tables.specs.Making.{IsWithin, IsMoving}
-use Rattle.archive_tables.proofs.RunLemmas.{execute_fails}
 use Rattle.archive_tables.proofs.MoveLemmas.{copies, copy_within, copy_text}
 use Rattle.sqlite_tied.specs.Compute.{everything}
 use Rattle.sqlite_resolve.specs.Compile.{first}
-use Rattle.archive_tables.proofs.LastLemmas.{IsOurText, execute_lasts, execute_open}
+use Rattle.archive_tables.proofs.LastLemmas.{IsOurText}
+use Rattle.archive_tables.proofs.EndLemmas.{step_ends}
 use Rattle.archive_tables.proofs.texts.options.copy_options.Goals as goal
 
 moves : (old new : State) (before : Database) (said : ℤ) (archive : Archive) → IsMoving old before schema_2 said 1 archive → old.now.trees 13 ≡ [] → (r : Result ℕ Error)
     → Executes copy_text [] old new r → OnOk r (IsMoving new before schema_2 said 2 archive)
 moves old new before said archive k empty (Ok count) h = copies old new before said archive count k empty h
 moves old new before said archive k empty (Err e) h = tt
-
-stops : (old new : State) (r : Result ℕ Error) → Executes copy_text [] old new r → OnErr r (IsUnchanged old new ⊎ IsRolledBack old new)
-stops old new (Ok count) h = tt
-stops old new (Err e) h = execute_fails old new copy_text [] e h
 
 pub returns-clause-moved : goal.returns-clause-moved
 returns-clause-moved g c clean before said archive k empty = moves (state g.S.Store c.args.conn.now) (state g.S.Store c.execute.new.self) before said archive k empty c.execute.result (c.execute.ensures.runs clean)
@@ -32,15 +28,9 @@ stays old new before k (Err e) h = tt
 pub returns-clause-within : goal.returns-clause-within
 returns-clause-within g c clean before k = stays (state g.S.Store c.args.conn.now) (state g.S.Store c.execute.new.self) before k c.execute.result (c.execute.ensures.runs clean)
 
-pub returns-clause-stopped : goal.returns-clause-stopped
-returns-clause-stopped g c clean = stops (state g.S.Store c.args.conn.now) (state g.S.Store c.execute.new.self) c.execute.result (c.execute.ensures.runs clean)
-
 ours : IsOurText (first copy_text)
 unfolding first everything
 ours = tt
 
-pub returns-clause-lasts : goal.returns-clause-lasts
-returns-clause-lasts g c = execute_lasts (state g.S.Store c.args.conn.now) (state g.S.Store c.execute.new.self) _ _ _ c.execute.result c.execute.ensures.survives c.execute.ensures.runs
-
-pub returns-clause-was_open : goal.returns-clause-was_open
-returns-clause-was_open g c clean = execute_open (state g.S.Store c.args.conn.now) (state g.S.Store c.execute.new.self) _ _ c.execute.result ours (c.execute.ensures.runs clean)
+pub returns-clause-ends : goal.returns-clause-ends
+returns-clause-ends g c = step_ends _ _ _ c.execute.result ours c.execute.ensures.survives c.execute.ensures.runs

@@ -1,86 +1,59 @@
-use Rattle.std.proofs.Common.{ap, sym, ◌∙◌, rules, ◌⊎◌, inl}
-use Rattle.std.specs.Prelude.{◌≡◌, Some, None, slice_get, option_map, bytes_eq, find, IsUtf8}
-use Rattle.std.specs.Option.{IsSomeAnd}
+use Rattle.std.proofs.Common.{ap, sym, ◌∙◌, rules, inl}
+use Rattle.std.specs.Prelude.{◌≡◌, Some, None, slice_get, option_map, bytes_eq, find}
 use Rattle.archive_machine.specs.Records.{Person}
-use Rattle.archive_tables.specs.Rows.{name_shown}
-use Rattle.archive_tables.proofs.SelectLemmas.{first_found, none_found}
-use Rattle.sqlite.specs.Held.{state}
-use Rattle.archive_tables.proofs.PersonLemmas.{holders, no_holders, no_holders_caused}
 use Rattle.archive_tables.specs.Tables.{archive_of}
-use Rattle.archive_tables.specs.Calls.{IsCaused}
-use Rattle.archive_tables.proofs.CauseLemmas.{carried, read_fails_by}
-use Rattle.archive_tables.proofs.LastLemmas.{query_lasts, shown_open}
+use Rattle.archive_tables.specs.Rows.{name_shown}
+use Rattle.archive_tables.proofs.CauseLemmas.{read_fails_by, stays_rests}
+use Rattle.sqlite.specs.Held.{state}
+use Rattle.archive_tables.proofs.SelectLemmas.{first_found, none_found}
+use Rattle.archive_tables.proofs.PersonLemmas.{holders, no_holders, no_holders_caused}
+use Rattle.archive_tables.proofs.EndLemmas.{asks_answers, asks_fails}
 use Rattle.archive_tables.proofs.texts.persons.person_of_token.Goals as goal
 
-pub returns-in_err-rows-clause-same : goal.returns-in_err-rows-clause-same
-returns-in_err-rows-clause-same g c clean k =
-    no_holders (state g.S.Store c.args.conn.now) (state g.S.Store c.query_all.new.self) c.args.token.now k c.in_err-rows.field-0.0 (rw c.params-to_sql.ensures at (c.in_err-rows.ensures.err clean))
+pub returns-in_err-rows : goal.returns-in_err-rows
+returns-in_err-rows g c =
+    let old = state g.S.Store c.args.conn.now in
+    let new = state g.S.Store c.query_all.new.self in
+    let error = c.in_err-rows.field-0.0 in
+    asks_fails _ _ _ c.query_all.result c.query_all.ensures.survives c.query_all.ensures.ok c.query_all.ensures.err c.from_residual.result error c.from_residual.ensures.1
+    (λ clean behind k. no_holders old new c.args.token.now k error (rw c.params-to_sql.ensures at (c.in_err-rows.ensures.err clean)))
+    (λ clean k free. inl (no_holders_caused old new c.args.token.now k error (rw c.params-to_sql.ensures at (c.in_err-rows.ensures.err clean)) free))
 
-pub returns-in_err-read_name-in-Some-clause-same : goal.returns-in_err-read_name-in-Some-clause-same
-returns-in_err-read_name-in-Some-clause-same g c clean k =
-    (holders (state g.S.Store c.args.conn.now) (state g.S.Store c.query_all.new.self) c.args.token.now k c.in_ok-rows.rows.items (rw c.params-to_sql.ensures at (c.in_ok-rows.ensures.ok clean))).2
-
-pub returns-in-Some-clause-found : goal.returns-in-Some-clause-found
-returns-in-Some-clause-found g c clean k =
-    let found = holders (state g.S.Store c.args.conn.now) (state g.S.Store c.query_all.new.self) c.args.token.now k c.in_ok-rows.rows.items (rw c.params-to_sql.ensures at (c.in_ok-rows.ensures.ok clean)) in
-    let first : slice_get c.in_ok-rows.rows.items 0 ≡ Some c.in-Some.row.now = search rules in
-    let it = first_found (λ (p : Person). bytes_eq p.token c.args.token.now) (λ p. name_shown p.name) _ c.in_ok-rows.rows.items found.0 c.in-Some.row.now first in
-    ap Some (c.in_ok-read_name-in-Some.ensures.read it.0.name it.2) ∙ sym (ap (option_map (λ (p : Person). p.name)) it.1)
-
-pub returns-in-Some-clause-same : goal.returns-in-Some-clause-same
-returns-in-Some-clause-same g c clean k =
-    (holders (state g.S.Store c.args.conn.now) (state g.S.Store c.query_all.new.self) c.args.token.now k c.in_ok-rows.rows.items (rw c.params-to_sql.ensures at (c.in_ok-rows.ensures.ok clean))).2
-
-pub returns-in-Some-clause-up : goal.returns-in-Some-clause-up
-returns-in-Some-clause-up g c clean k =
-    (holders (state g.S.Store c.args.conn.now) (state g.S.Store c.query_all.new.self) c.args.token.now k c.in_ok-rows.rows.items (rw c.params-to_sql.ensures at (c.in_ok-rows.ensures.ok clean))).1
-
-pub returns-clause-found : goal.returns-clause-found
-returns-clause-found g c clean k =
-    let found = holders (state g.S.Store c.args.conn.now) (state g.S.Store c.query_all.new.self) c.args.token.now k c.in_ok-rows.rows.items (rw c.params-to_sql.ensures at (c.in_ok-rows.ensures.ok clean)) in
-    let first : slice_get c.in_ok-rows.rows.items 0 ≡ None = search rules in
-    sym (ap (option_map (λ (p : Person). p.name)) (none_found (λ (p : Person). bytes_eq p.token c.args.token.now) (λ p. name_shown p.name) _ c.in_ok-rows.rows.items found.0 first))
-
-pub returns-clause-same : goal.returns-clause-same
-returns-clause-same g c clean k =
-    (holders (state g.S.Store c.args.conn.now) (state g.S.Store c.query_all.new.self) c.args.token.now k c.in_ok-rows.rows.items (rw c.params-to_sql.ensures at (c.in_ok-rows.ensures.ok clean))).2
-
-pub returns-clause-up : goal.returns-clause-up
-returns-clause-up g c clean k =
-    (holders (state g.S.Store c.args.conn.now) (state g.S.Store c.query_all.new.self) c.args.token.now k c.in_ok-rows.rows.items (rw c.params-to_sql.ensures at (c.in_ok-rows.ensures.ok clean))).1
-
-pub returns-in_err-rows-clause-lasts : goal.returns-in_err-rows-clause-lasts
-returns-in_err-rows-clause-lasts g c = query_lasts (state g.S.Store c.args.conn.now) (state g.S.Store c.query_all.new.self) _ _ _ c.query_all.result c.query_all.ensures.survives c.query_all.ensures.ok c.query_all.ensures.err
-
-pub returns-in_err-read_name-in-Some-clause-lasts : goal.returns-in_err-read_name-in-Some-clause-lasts
-returns-in_err-read_name-in-Some-clause-lasts g c = query_lasts (state g.S.Store c.args.conn.now) (state g.S.Store c.query_all.new.self) _ _ _ c.query_all.result c.query_all.ensures.survives c.query_all.ensures.ok c.query_all.ensures.err
-
-pub returns-in-Some-clause-lasts : goal.returns-in-Some-clause-lasts
-returns-in-Some-clause-lasts g c = query_lasts (state g.S.Store c.args.conn.now) (state g.S.Store c.query_all.new.self) _ _ _ c.query_all.result c.query_all.ensures.survives c.query_all.ensures.ok c.query_all.ensures.err
-
-pub returns-clause-lasts : goal.returns-clause-lasts
-returns-clause-lasts g c = query_lasts (state g.S.Store c.args.conn.now) (state g.S.Store c.query_all.new.self) _ _ _ c.query_all.result c.query_all.ensures.survives c.query_all.ensures.ok c.query_all.ensures.err
-
-pub returns-in-Some-clause-was_open : goal.returns-in-Some-clause-was_open
-returns-in-Some-clause-was_open g c clean = shown_open (state g.S.Store c.args.conn.now) (state g.S.Store c.query_all.new.self) _ _ c.in_ok-rows.rows.items (c.in_ok-rows.ensures.ok clean)
-
-pub returns-clause-was_open : goal.returns-clause-was_open
-returns-clause-was_open g c clean = shown_open (state g.S.Store c.args.conn.now) (state g.S.Store c.query_all.new.self) _ _ c.in_ok-rows.rows.items (c.in_ok-rows.ensures.ok clean)
-
-pub returns-in_err-rows-clause-caused : goal.returns-in_err-rows-clause-caused
-returns-in_err-rows-clause-caused g c clean k free =
-    carried c.from_residual.result c.in_err-rows.field-0.0
-    (λ e. IsCaused (state g.S.Store c.args.conn.now) (state g.S.Store c.query_all.new.self) e ⊎ IsSomeAnd (find (λ (p : Person). bytes_eq p.token c.args.token.now) (archive_of (state g.S.Store c.args.conn.now)).persons) (λ p. ¬ IsUtf8 p.name))
-    c.from_residual.ensures.1
-    (inl (no_holders_caused (state g.S.Store c.args.conn.now) (state g.S.Store c.query_all.new.self) c.args.token.now k c.in_err-rows.field-0.0 (rw c.params-to_sql.ensures at (c.in_err-rows.ensures.err clean)) free))
-
-pub returns-in_err-read_name-in-Some-clause-caused : goal.returns-in_err-read_name-in-Some-clause-caused
-returns-in_err-read_name-in-Some-clause-caused g c clean k free =
-    let found = holders (state g.S.Store c.args.conn.now) (state g.S.Store c.query_all.new.self) c.args.token.now k c.in_ok-rows.rows.items (rw c.params-to_sql.ensures at (c.in_ok-rows.ensures.ok clean)) in
-    let first : slice_get c.in_ok-rows.rows.items 0 ≡ Some c.in-Some.row.now = search rules in
-    let it = first_found (λ (p : Person). bytes_eq p.token c.args.token.now) (λ p. name_shown p.name) _ c.in_ok-rows.rows.items found.0 c.in-Some.row.now first in
-    carried c.from_residual-in_err-read_name-in-Some.result c.in_err-read_name-in-Some.field-0.0
-    (λ e. IsCaused (state g.S.Store c.args.conn.now) (state g.S.Store c.query_all.new.self) e ⊎ IsSomeAnd (find (λ (p : Person). bytes_eq p.token c.args.token.now) (archive_of (state g.S.Store c.args.conn.now)).persons) (λ p. ¬ IsUtf8 p.name))
-    c.from_residual-in_err-read_name-in-Some.ensures.1
-    (read_fails_by (state g.S.Store c.args.conn.now) (state g.S.Store c.query_all.new.self) (λ (p : Person). p.name) (find (λ (p : Person). bytes_eq p.token c.args.token.now) (archive_of (state g.S.Store c.args.conn.now)).persons) it.0 c.in_err-read_name-in-Some.field-0.0 it.1
+pub returns-in_err-read_name-in-Some : goal.returns-in_err-read_name-in-Some
+returns-in_err-read_name-in-Some g c =
+    let old = state g.S.Store c.args.conn.now in
+    let new = state g.S.Store c.query_all.new.self in
+    let rows = c.in_ok-rows.rows.items in
+    let error = c.in_err-read_name-in-Some.field-0.0 in
+    let last = c.from_residual-in_err-read_name-in-Some in
+    let first : slice_get rows 0 ≡ Some c.in-Some.row.now = search rules in
+    asks_fails _ _ _ c.query_all.result c.query_all.ensures.survives c.query_all.ensures.ok c.query_all.ensures.err last.result error last.ensures.1
+    (λ clean behind k. stays_rests behind old new (holders old new c.args.token.now k rows (rw c.params-to_sql.ensures at (c.in_ok-rows.ensures.ok clean))).1)
+    (λ clean k free.
+    let found = holders old new c.args.token.now k rows (rw c.params-to_sql.ensures at (c.in_ok-rows.ensures.ok clean)) in
+    let it = first_found (λ (p : Person). bytes_eq p.token c.args.token.now) (λ (p : Person). name_shown p.name) _ rows found.0 c.in-Some.row.now first in
+    read_fails_by old new (λ (p : Person). p.name) (find (λ (p : Person). bytes_eq p.token c.args.token.now) (archive_of old).persons) it.0 error it.1
     (c.in_err-read_name-in-Some.ensures.fault it.0.name it.2))
+
+pub returns-in-Some : goal.returns-in-Some
+returns-in-Some g c =
+    let old = state g.S.Store c.args.conn.now in
+    let new = state g.S.Store c.query_all.new.self in
+    let rows = c.in_ok-rows.rows.items in
+    let first : slice_get rows 0 ≡ Some c.in-Some.row.now = search rules in
+    asks_answers _ _ _ c.query_all.result c.query_all.ensures.survives c.query_all.ensures.ok c.query_all.ensures.err _ rows c.in_ok-rows.ensures.ok
+    (λ clean behind k.
+    let found = holders old new c.args.token.now k rows (rw c.params-to_sql.ensures at (c.in_ok-rows.ensures.ok clean)) in
+    let it = first_found (λ (p : Person). bytes_eq p.token c.args.token.now) (λ (p : Person). name_shown p.name) _ rows found.0 c.in-Some.row.now first in
+    (ap Some (c.in_ok-read_name-in-Some.ensures.read it.0.name it.2) ∙ sym (ap (option_map (λ (p : Person). p.name)) it.1), found.1))
+
+pub returns : goal.returns
+returns g c =
+    let old = state g.S.Store c.args.conn.now in
+    let new = state g.S.Store c.query_all.new.self in
+    let rows = c.in_ok-rows.rows.items in
+    let first : slice_get rows 0 ≡ None = search rules in
+    asks_answers _ _ _ c.query_all.result c.query_all.ensures.survives c.query_all.ensures.ok c.query_all.ensures.err _ rows c.in_ok-rows.ensures.ok
+    (λ clean behind k.
+    let found = holders old new c.args.token.now k rows (rw c.params-to_sql.ensures at (c.in_ok-rows.ensures.ok clean)) in
+    (sym (ap (option_map (λ (p : Person). p.name)) (none_found (λ (p : Person). bytes_eq p.token c.args.token.now) (λ (p : Person). name_shown p.name) _ rows found.0 first)), found.1))

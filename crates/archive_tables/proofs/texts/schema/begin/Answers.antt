@@ -1,26 +1,22 @@
-use Rattle.std.proofs.Common.{◌≡◌, ◌⊎◌, ℕ, pos, None, [], Ok, Err, Result, OnOk, OnErr}
+use Rattle.std.proofs.Common.{◌≡◌, ℕ, pos, None, [], Ok, Err, Result, OnOk}
 use Rattle.sqlite.specs.declared.error.Error.{Error}
 use Rattle.sqlite.specs.Held.{state}
-use Rattle.sqlite.specs.State.{State, Executes, IsUnchanged, IsRolledBack}
+use Rattle.sqlite.specs.State.{State, Executes}
 use Rattle.archive_tables.specs.Schema.{no_schema, schema_of}
 use Rattle.archive_tables.specs.Tables.{IsHeldAs, form_of, archive_by}
 use Rattle.archive_tables.specs.Making.{IsMaking, IsWithin, IsMoving}
-use Rattle.archive_tables.proofs.RunLemmas.{execute_fails}
 use Rattle.archive_tables.proofs.MakeLemmas.{begins, begin_text}
 use Rattle.archive_tables.proofs.HeldLemmas.{begins_over}
 use Rattle.archive_tables.proofs.MoveLemmas.{begins_moving, begins_within}
 use Rattle.sqlite_tied.specs.Compute.{everything}
 use Rattle.sqlite_resolve.specs.Compile.{first}
-use Rattle.archive_tables.proofs.LastLemmas.{IsOurText, execute_lasts, execute_open}
+use Rattle.archive_tables.proofs.LastLemmas.{IsOurText}
+use Rattle.archive_tables.proofs.EndLemmas.{step_ends}
 use Rattle.archive_tables.proofs.texts.schema.begin.Goals as goal
 
 done : (old new : State) → old.now.schema ≡ no_schema → (r : Result ℕ Error) → Executes begin_text [] old new r → OnOk r (IsMaking new no_schema old.committed)
 done old new has (Ok count) h = begins old new count has h
 done old new has (Err e) h = tt
-
-stops : (old new : State) (r : Result ℕ Error) → Executes begin_text [] old new r → OnErr r (IsUnchanged old new ⊎ IsRolledBack old new)
-stops old new (Ok count) h = tt
-stops old new (Err e) h = execute_fails old new begin_text [] e h
 
 moves : (old new : State) (number : ℕ) → IsHeldAs (form_of number) None old → (r : Result ℕ Error) → Executes begin_text [] old new r
     → OnOk r (IsMoving new old.now (schema_of number) (pos number) number (archive_by number old.now.trees))
@@ -40,9 +36,6 @@ returns-clause-within g c clean = stays (state g.S.Store c.args.conn.now) (state
 pub returns-clause-begun : goal.returns-clause-begun
 returns-clause-begun g c clean has = done (state g.S.Store c.args.conn.now) (state g.S.Store c.execute.new.self) has c.execute.result (c.execute.ensures.runs clean)
 
-pub returns-clause-stopped : goal.returns-clause-stopped
-returns-clause-stopped g c clean = stops (state g.S.Store c.args.conn.now) (state g.S.Store c.execute.new.self) c.execute.result (c.execute.ensures.runs clean)
-
 pub returns-clause-held : goal.returns-clause-held
 returns-clause-held g c clean k = begins_over (state g.S.Store c.args.conn.now) (state g.S.Store c.execute.new.self) c.execute.result k (c.execute.ensures.runs clean)
 
@@ -50,8 +43,5 @@ ours : IsOurText (first begin_text)
 unfolding first everything
 ours = tt
 
-pub returns-clause-lasts : goal.returns-clause-lasts
-returns-clause-lasts g c = execute_lasts (state g.S.Store c.args.conn.now) (state g.S.Store c.execute.new.self) _ _ _ c.execute.result c.execute.ensures.survives c.execute.ensures.runs
-
-pub returns-clause-was_open : goal.returns-clause-was_open
-returns-clause-was_open g c clean = execute_open (state g.S.Store c.args.conn.now) (state g.S.Store c.execute.new.self) _ _ c.execute.result ours (c.execute.ensures.runs clean)
+pub returns-clause-ends : goal.returns-clause-ends
+returns-clause-ends g c = step_ends _ _ _ c.execute.result ours c.execute.ensures.survives c.execute.ensures.runs

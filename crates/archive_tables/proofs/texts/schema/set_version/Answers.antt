@@ -1,29 +1,25 @@
-use Rattle.std.proofs.Common.{◌⊎◌, ℕ, ℤ, [], ◌∷◌, Ok, Err, Result, OnOk, OnErr}
+use Rattle.std.proofs.Common.{ℕ, ℤ, [], ◌∷◌, Ok, Err, Result, OnOk}
 use Rattle.sqlite.specs.declared.error.Error.{Error}
 use Rattle.sqlite.specs.declared.types.Value.TheVariants.{Int}
 use Rattle.sqlite.specs.Effect.{Database}
 use Rattle.sqlite.specs.Held.{state}
-use Rattle.sqlite.specs.State.{State, Executes, IsUnchanged, IsRolledBack}
+use Rattle.sqlite.specs.State.{State, Executes}
 use Rattle.archive_machine.specs.Records.{Archive}
 use Rattle.archive_tables.specs.Schema.{archive_schema}
 use Rattle.archive_tables.specs.Tables.{newest_number}
 use Rattle.archive_tables.specs.Making.{IsWithin, IsMoving, IsMade}
 use Rattle.archive_tables.specs.declared.texts.schema.TheConstants.{VERSION}
-use Rattle.archive_tables.proofs.RunLemmas.{execute_fails}
 use Rattle.archive_tables.proofs.MoveLemmas.{moves_version, number_within, number_text}
 use Rattle.sqlite_tied.specs.Compute.{everything}
 use Rattle.sqlite_resolve.specs.Compile.{first}
-use Rattle.archive_tables.proofs.LastLemmas.{IsOurText, execute_lasts, execute_open}
+use Rattle.archive_tables.proofs.LastLemmas.{IsOurText}
+use Rattle.archive_tables.proofs.EndLemmas.{step_ends}
 use Rattle.archive_tables.proofs.texts.schema.set_version.Goals as goal
 
 moves : (old new : State) (before : Database) (said : ℤ) (archive : Archive) → IsMoving old before archive_schema said newest_number archive → (r : Result ℕ Error)
     → Executes number_text (Int VERSION ∷ []) old new r → OnOk r (IsMade new before archive)
 moves old new before said archive k (Ok count) h = moves_version old new before said archive count k h
 moves old new before said archive k (Err e) h = tt
-
-stops : (old new : State) (r : Result ℕ Error) → Executes number_text (Int VERSION ∷ []) old new r → OnErr r (IsUnchanged old new ⊎ IsRolledBack old new)
-stops old new (Ok count) h = tt
-stops old new (Err e) h = execute_fails old new number_text (Int VERSION ∷ []) e h
 
 pub returns-clause-moved : goal.returns-clause-moved
 returns-clause-moved g c clean before said archive k = moves (state g.S.Store c.args.conn.now) (state g.S.Store c.execute.new.self) before said archive k c.execute.result (rw c.params-to_sql.ensures at (c.execute.ensures.runs clean))
@@ -35,15 +31,9 @@ stays old new before k (Err e) h = tt
 pub returns-clause-within : goal.returns-clause-within
 returns-clause-within g c clean before k = stays (state g.S.Store c.args.conn.now) (state g.S.Store c.execute.new.self) before k c.execute.result (rw c.params-to_sql.ensures at (c.execute.ensures.runs clean))
 
-pub returns-clause-stopped : goal.returns-clause-stopped
-returns-clause-stopped g c clean = stops (state g.S.Store c.args.conn.now) (state g.S.Store c.execute.new.self) c.execute.result (rw c.params-to_sql.ensures at (c.execute.ensures.runs clean))
-
 ours : IsOurText (first number_text)
 unfolding first everything
 ours = tt
 
-pub returns-clause-lasts : goal.returns-clause-lasts
-returns-clause-lasts g c = execute_lasts (state g.S.Store c.args.conn.now) (state g.S.Store c.execute.new.self) _ _ _ c.execute.result c.execute.ensures.survives c.execute.ensures.runs
-
-pub returns-clause-was_open : goal.returns-clause-was_open
-returns-clause-was_open g c clean = execute_open (state g.S.Store c.args.conn.now) (state g.S.Store c.execute.new.self) _ _ c.execute.result ours (c.execute.ensures.runs clean)
+pub returns-clause-ends : goal.returns-clause-ends
+returns-clause-ends g c = step_ends _ _ _ c.execute.result ours c.execute.ensures.survives c.execute.ensures.runs

@@ -1,26 +1,31 @@
-use Rattle.std.proofs.Common.{◌≡◌, ℕ, [], ◌∷◌, Ok, Err, Result, IfOk, IfErr, OnOk, None}
-use Rattle.std.specs.Prelude.{IsTrue, Vec}
+use Rattle.std.proofs.Common.{◌≡◌, ◌⊎◌, inl, ℕ, [], ◌∷◌, Ok, Err, Result, Option, IfOk, IfErr, OnOk, None}
+use Rattle.std.specs.Prelude.{IsTrue, Vec, MatchResult}
 use Rattle.std.specs.List.Sorted.{IsPermutation}
 use Rattle.std.specs.declared.alloc.Global.{Global}
 use Rattle.sqlite.specs.declared.error.Error.{Error}
 use Rattle.sqlite.specs.declared.types.Value.TheVariants.{Int}
+use Rattle.sqlite.specs.Effect.{Database}
 use Rattle.sqlite.specs.Order.{Row}
 use Rattle.sqlite.specs.Held.{state}
 use Rattle.sqlite.specs.State.{State, Shown, FailsToQuery}
-use Rattle.archive_tables.specs.Tables.{IsKept, IsKnown, HasForm, form_of}
+use Rattle.archive_tables.specs.Tables.{IsHeld, IsKept, IsKnown, HasForm, form_of}
 use Rattle.archive_tables.specs.Rows.{versions_shown}
 use Rattle.archive_tables.specs.Making.{IsBackTo}
 use Rattle.archive_tables.specs.declared.texts.schema.TheConstants.{VERSION}
-use Rattle.archive_tables.specs.Calls.{Rests, IsCaused}
+use Rattle.archive_tables.specs.Calls.{StaysOver, RestsOver, IsCaused}
 use Rattle.archive_tables.proofs.VersionLemmas.{number_text, numbers_found, numbers_leave, no_numbers_leave, numbers_open, version_found, version_not_found, version_not_found_caused}
-use Rattle.archive_tables.proofs.LastLemmas.{query_lasts, query_open}
+use Rattle.archive_tables.proofs.EndLemmas.{shown_ends}
 use Rattle.archive_tables.proofs.texts.schema.versions.Goals as goal
 
-asked : (old new : State) (r : Result (Vec Row Global) Error) → IsKept old → IfOk r (λ rows. Shown number_text [] old new rows.items)
+asked : (behind : Option Database) (old new : State) (r : Result (Vec Row Global) Error) → IsHeld behind old → IfOk r (λ rows. Shown number_text [] old new rows.items)
     → IfErr r (FailsToQuery number_text [] old new)
-    → IfOk r (λ rows. rows.items ≡ (Int VERSION ∷ []) ∷ []) × OnOk r (IsTrue new.is_open) × Rests old new
-asked old new (Ok rows) k ok err = version_found old new k rows.items ok
-asked old new (Err e) k ok err = (tt, tt, version_not_found old new k e err)
+    → MatchResult r (λ rows. (rows.items ≡ (Int VERSION ∷ []) ∷ []) × StaysOver behind old new) (λ _. RestsOver behind old new)
+asked behind old new (Ok rows) k ok err = version_found old new k rows.items ok
+asked behind old new (Err e) k ok err = version_not_found old new k e err
+
+why : (old new : State) (r : Result (Vec Row Global) Error) → IsKept old → old.step_limit ≡ None → IfErr r (FailsToQuery number_text [] old new) → IfErr r (λ e. IsCaused old new e ⊎ ⊥)
+why old new (Ok rows) k free err = tt
+why old new (Err e) k free err = inl (version_not_found_caused old new k e err free)
 
 module _ (old new : State) (number : ℕ) (known : IsKnown number) (o : HasForm (form_of number) old) where
   numbered : (r : Result (Vec Row Global) Error) → IfOk r (λ rows. Shown number_text [] old new rows.items) → IfOk r (λ rows. IsPermutation (versions_shown old.now.trees) rows.items)
@@ -47,31 +52,12 @@ pub returns-clause-stays_open : goal.returns-clause-stays_open
 returns-clause-stays_open g c clean number known o =
     opened (state g.S.Store c.args.conn.now) (state g.S.Store c.query_all.new.self) number known o c.query_all.result (c.query_all.ensures.ok clean)
 
-pub returns-clause-found : goal.returns-clause-found
-returns-clause-found g c clean k =
-    (asked (state g.S.Store c.args.conn.now) (state g.S.Store c.query_all.new.self) c.query_all.result k (c.query_all.ensures.ok clean)
-    (c.query_all.ensures.err clean)).0
-
-pub returns-clause-up : goal.returns-clause-up
-returns-clause-up g c clean k =
-    (asked (state g.S.Store c.args.conn.now) (state g.S.Store c.query_all.new.self) c.query_all.result k (c.query_all.ensures.ok clean)
-    (c.query_all.ensures.err clean)).1
-
-pub returns-clause-same : goal.returns-clause-same
-returns-clause-same g c clean k =
-    (asked (state g.S.Store c.args.conn.now) (state g.S.Store c.query_all.new.self) c.query_all.result k (c.query_all.ensures.ok clean)
-    (c.query_all.ensures.err clean)).2
-
-pub returns-clause-lasts : goal.returns-clause-lasts
-returns-clause-lasts g c = query_lasts (state g.S.Store c.args.conn.now) (state g.S.Store c.query_all.new.self) _ _ _ c.query_all.result c.query_all.ensures.survives c.query_all.ensures.ok c.query_all.ensures.err
-
-pub returns-clause-was_open : goal.returns-clause-was_open
-returns-clause-was_open g c clean = query_open (state g.S.Store c.args.conn.now) (state g.S.Store c.query_all.new.self) _ _ c.query_all.result (c.query_all.ensures.ok clean)
-
-why : (old new : State) (r : Result (Vec Row Global) Error) → IsKept old → old.step_limit ≡ None → IfErr r (FailsToQuery number_text [] old new) → IfErr r (IsCaused old new)
-why old new (Ok rows) k free err = tt
-why old new (Err e) k free err = version_not_found_caused old new k e err free
-
-pub returns-clause-caused : goal.returns-clause-caused
-returns-clause-caused g c clean k free =
-    why (state g.S.Store c.args.conn.now) (state g.S.Store c.query_all.new.self) c.query_all.result k free (c.query_all.ensures.err clean)
+pub returns-clause-asks : goal.returns-clause-asks
+returns-clause-asks g c =
+    let old = state g.S.Store c.args.conn.now in
+    let new = state g.S.Store c.query_all.new.self in
+    record {
+      over = λ clean behind k. asked behind old new c.query_all.result k (c.query_all.ensures.ok clean) (c.query_all.ensures.err clean);
+      caused = λ clean k free. why old new c.query_all.result k free (c.query_all.ensures.err clean);
+      ends = shown_ends _ _ _ c.query_all.result c.query_all.ensures.survives c.query_all.ensures.ok c.query_all.ensures.err;
+    }
