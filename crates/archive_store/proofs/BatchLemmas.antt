@@ -9,7 +9,7 @@ use Rattle.std.proofs.lemmas.List.Sums.{sum_by_more}
 use Rattle.std.proofs.lemmas.Slice.Eq.{bytes_eq-Decides}
 use Rattle.sqlite.specs.Effect.{Database}
 use Rattle.sqlite.specs.State.{State}
-use Rattle.mbox_core.specs.Division.{Item, whole}
+use Rattle.mbox_items.specs.Division.{Item, whole}
 use Rattle.archive_machine.specs.Records.{Archive, Message}
 use Rattle.archive_machine.specs.Commands.{add, Reply, Refusal, refused, no_list, too_large, already_known, list_full, taken_in}
 use Rattle.archive_machine.specs.Keys.{item_key}
@@ -122,6 +122,11 @@ pub none_of : (old mid : State) (list k key : List ℕ) → k ≡ key → false 
     → list_any (is_message list key) (archive_of mid).messages ≡ false
 none_of old mid list k key e none same =
     subst (λ (a : Archive). list_any (is_message list key) a.messages ≡ false) (sym same) (subst (λ w. list_any (is_message list w) (archive_of old).messages ≡ false) e (sym none))
+
+-- a fault behind a question
+pub rests_over : (behind : Option Database) (old mid new : State) → archive_of mid ≡ archive_of old → RestsOver behind mid new → RestsOver behind old new
+rests_over None old mid new same rests = λ up. let it = rests up in (it.0, it.1 ∙ same)
+rests_over (Some db) old mid new same rests = λ up. elim (rests up) [ inl stays ↦ inl (stays.0, stays.1 ∙ same) | inr back ↦ inr back ]
 
 -- ---- messages one after the other
 

@@ -7,28 +7,18 @@ use Rattle.std.proofs.lemmas.List.Elements.{All-head, All-tail}
 use Rattle.sqlite_disk.specs.Disk.{MoreFaults}
 use Rattle.sqlite.specs.declared.error.Error.{Error}
 use Rattle.sqlite.specs.State.{State}
-use Rattle.archive_machine.specs.Records.{Message, Person, Address}
+use Rattle.archive_machine.specs.Records.{Message, Address}
 use Rattle.archive_machine.proofs.KeyLemmas.{IsUtf8-key}
 use Rattle.archive_tables.specs.Calls.{Lasts, IsCaused}
 use Rattle.archive_tables.specs.Rows.{no_memory}
 use Rattle.archive_database.specs.Messages.{IsReadable}
 use Rattle.archive_database.specs.declared.faults.Fault.{Fault}
 use Rattle.archive_database.specs.declared.faults.Fault.TheVariants as inner
-use Rattle.archive_store.specs.Replies.{refusal, fault_of, fault_in}
+use Rattle.archive_store.specs.Replies.{fault_of, fault_in}
 use Rattle.archive_store.specs.declared.faults.StoreFault.{StoreFault}
 use Rattle.archive_store.specs.declared.faults.StoreFault.TheVariants as faults
 
 -- ---- the exit of a `?`
-
-pub blamed : {A : Type 0} (r : Result A StoreFault) (e : Error) (X : Type 0) → IsErrAnd r (λ f. (f ≡ fault_of e) × (refusal f ≡ None))
-    → (fault_of e ≡ faults.Store → X) → IfErr r (λ f. f ≡ faults.Store → X)
-blamed (Ok a) e X is why = tt
-blamed (Err f) e X is why = λ it. why (sym is.0 ∙ it)
-
-pub blamed_in : {A : Type 0} (r : Result A StoreFault) (e : Fault) (X : Type 0) → IsErrAnd r (λ f. (f ≡ fault_in e) × (refusal f ≡ None))
-    → (fault_in e ≡ faults.Store → X) → IfErr r (λ f. f ≡ faults.Store → X)
-blamed_in (Ok a) e X is why = tt
-blamed_in (Err f) e X is why = λ it. why (sym is.0 ∙ it)
 
 -- the same fault again
 pub passed_on : {A : Type 0} (r : Result A StoreFault) (f : StoreFault) (X : Type 0) → IsErrAnd r (λ g. g ≡ f) → (f ≡ faults.Store → X) → IfErr r (λ f. f ≡ faults.Store → X)
@@ -40,37 +30,32 @@ passed_on (Err g) f X is why = λ it. why (sym is ∙ it)
 pub want_is_not : {X : Type 0} (e : Error) → e ≡ no_memory → fault_of e ≡ faults.Store → X
 want_is_not e none it = absurd (let bad : faults.Memory ≡ faults.Store = sym (ap fault_of none) ∙ it in cc)
 
-pub want_is_not_in : {X : Type 0} (e : Fault) → e ≡ inner.Memory → fault_in e ≡ faults.Store → X
-want_is_not_in e none it = absurd (let bad : faults.Memory ≡ faults.Store = sym (ap fault_in none) ∙ it in cc)
-
 pub is_database : (e : Fault) → fault_in e ≡ faults.Store → e ≡ inner.Database
 is_database inner.Memory it = absurd cc
 is_database inner.Database it = refl
 
 -- ---- a question that failed
 
-pub by_error : (old new : State) (e : Error) → IsCaused old new e → fault_of e ≡ faults.Store → MoreFaults old.faults new.faults
-by_error old new e (inl none) it = want_is_not e none it
-by_error old new e (inr more) it = more
+pub by_cause : (old new : State) (e : Error) → IsCaused old new e → fault_of e ≡ faults.Store → MoreFaults old.faults new.faults
+by_cause old new e (inl none) it = want_is_not e none it
+by_cause old new e (inr more) it = more
+
+-- one that reads no row
+pub by_error : (old new : State) (e : Error) → IsCaused old new e ⊎ ⊥ → fault_of e ≡ faults.Store → MoreFaults old.faults new.faults
+by_error old new e (inl why) it = by_cause old new e why it
+by_error old new e (inr none) it = absurd none
 
 pub more_since : (old mid new : State) → Lasts old mid → MoreFaults mid.faults new.faults → MoreFaults old.faults new.faults
 more_since old mid new lasts more = omega (arith, more, lasts.shut.faults)
 
 -- one behind others
-pub by_later : (old mid new : State) (e : Error) → Lasts old mid → IsCaused mid new e → fault_of e ≡ faults.Store → MoreFaults old.faults new.faults
+pub by_later : (old mid new : State) (e : Error) → Lasts old mid → IsCaused mid new e ⊎ ⊥ → fault_of e ≡ faults.Store → MoreFaults old.faults new.faults
 by_later old mid new e lasts why it = more_since old mid new lasts (by_error mid new e why it)
-
--- a person whose name cannot be read
-pub by_person : (old new : State) (e : Error) (found : Option Person) → IsCaused old new e ⊎ IsSomeAnd found (λ p. ¬ IsUtf8 p.name) → fault_of e ≡ faults.Store
-    → MoreFaults old.faults new.faults ⊎ IsSomeAnd (option_map (λ p. p.name) found) (λ name. ¬ IsUtf8 name)
-by_person old new e found (inl why) it = inl (by_error old new e why it)
-by_person old new e (Some p) (inr bad) it = inr bad
-by_person old new e None (inr bad) it = absurd bad
 
 -- an address that cannot be read
 pub by_address : (old mid new : State) (e : Error) (found : Option Address) → Lasts old mid → IsCaused mid new e ⊎ IsSomeAnd found (λ a. ¬ IsUtf8 a.address) → fault_of e ≡ faults.Store
     → MoreFaults old.faults new.faults ⊎ IsSomeAnd (option_map (λ a. a.address) found) (λ address. ¬ IsUtf8 address)
-by_address old mid new e found lasts (inl why) it = inl (by_later old mid new e lasts why it)
+by_address old mid new e found lasts (inl why) it = inl (by_later old mid new e lasts (inl why) it)
 by_address old mid new e (Some a) lasts (inr bad) it = inr bad
 by_address old mid new e None lasts (inr bad) it = absurd bad
 
@@ -87,12 +72,6 @@ pub not_all : {X : Type 0} (P : X → Type 0) (before : List X) (x : X) (rest al
 not_all P before x rest all is bad each = bad (one_in P before x rest (subst (All P) (sym is) each))
 
 -- ---- a walk
-
-pub by_shown : (old new : State) (e : Error) (found : Option Message) → IsCaused old new e ⊎ IsSomeAnd found (λ m. ¬ IsUtf8 m.key) → fault_of e ≡ faults.Store
-    → MoreFaults old.faults new.faults ⊎ (¬ IsSomeAnd found IsReadable)
-by_shown old new e found (inl why) it = inl (by_error old new e why it)
-by_shown old new e (Some m) (inr bad) it = inr (unread_key m bad)
-by_shown old new e None (inr bad) it = absurd bad
 
 pub stops_later : (old mid new : State) (given all : List Message) → Lasts old mid
     → MoreFaults mid.faults new.faults ⊎ ((next : Message) × (rest : List Message) × (given ++ next ∷ rest ≡ all) × (¬ IsReadable next))

@@ -1,7 +1,7 @@
 -- Worked examples of calls that follow one another: they name neither tables nor a database.
 use Rattle.std.proofs.Common.{◌≡◌, ℕ, List, length, ap, subst, ◌∙◌, Option, Some, None, Result, Ok, Err}
 use Rattle.sqlite.specs.Store.{Ghosts}
-use Rattle.mbox_core.specs.Division.{Item}
+use Rattle.mbox_items.specs.Division.{Item}
 use Rattle.archive_machine.specs.Records.{Archive}
 use Rattle.archive_machine.specs.Commands.{Refusal, Reply}
 use Rattle.archive_machine.specs.Questions.{messages_in}

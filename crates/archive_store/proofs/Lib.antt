@@ -15,3 +15,6 @@ pub mod FollowLemmas
 pub mod CauseLemmas
 pub mod WantLemmas
 mod PutLemmas
+mod AskLemmas
+mod PassLemmas
+mod FindLemmas

@@ -1,7 +1,7 @@
 -- What is filed stays right: what each change of the store leaves, in the words for the layers above.
 use Rattle.std.proofs.Common.{ℕ, List, map, refl}
 use Rattle.std.specs.Prelude.{⊤}
-use Rattle.mbox_core.specs.Division.{Item}
+use Rattle.mbox_items.specs.Division.{Item}
 use Rattle.archive_machine.specs.Records.{Archive}
 use Rattle.archive_machine.specs.Commands.{Command, add}
 use Rattle.archive_machine.specs.Machine.{added_within, message_limit, step}

@@ -4,7 +4,7 @@ use Rattle.std.specs.Prelude.{⊤, int_lt, nat_lt, nat_le, not, map, filter, fin
 use Rattle.std.specs.List.{list_any}
 use Rattle.std.specs.Ordering.{int_eq}
 use Rattle.std.specs.declared.cmp.Ordering.TheVariants.{Less, Equal, Greater}
-use Rattle.mbox_core.specs.Division.{Item, whole}
+use Rattle.mbox_items.specs.Division.{Item, whole}
 use Rattle.policy_core.specs.Names.{is_name}
 use Rattle.archive_machine.specs.Records.{Grant, Message, Address, Archive}
 use Rattle.archive_machine.specs.Commands.{bad_text, no_list, no_message, token_taken, bad_days, list_full, done, was_there, taken_in, already_known, refused}

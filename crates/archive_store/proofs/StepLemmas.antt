@@ -1,6 +1,6 @@
 -- A command, call by call: what it learns of the archive while the tables rest, and how it ends.
-use Rattle.std.proofs.Common.{◌≡◌, Some, refl, sym, ap, subst, ◌∙◌}
-use Rattle.std.specs.Prelude.{⊤, IsTrue}
+use Rattle.std.proofs.Common.{◌≡◌, Some, None, refl, sym, ap, subst, ◌∙◌}
+use Rattle.std.specs.Prelude.{⊤}
 use Rattle.sqlite.specs.Store.{Ghosts}
 use Rattle.sqlite.specs.Held.{Held, state}
 use Rattle.sqlite.specs.State.{HasCleanDisk}
@@ -8,7 +8,7 @@ use Rattle.archive_machine.specs.Records.{Archive}
 use Rattle.archive_machine.specs.Commands.{Reply}
 use Rattle.archive_machine.specs.Machine.{Outcome}
 use Rattle.archive_tables.specs.Tables.{IsKept, archive_of}
-use Rattle.archive_tables.specs.Calls.{Changes, WasClean, Leaves}
+use Rattle.archive_tables.specs.Calls.{Changes, StaysOver}
 use Rattle.archive_store.specs.Replies.{Does}
 
 -- the tables hold what they held, and this was found of it
@@ -22,18 +22,21 @@ module _ {S : Type 0} (g : Ghosts S) where
   abbrev pub Learns : Held S → Held S → (Archive → Type 0) → Type 0
   Learns old new P = HasCleanDisk (state g new) → IsKept (state g old) → Known g old new P
 
+  -- a disk that has returned what was written so far had done so before
+  abbrev WasClean : Held S → Held S → Type 0
+  WasClean old new = HasCleanDisk (state g new) → HasCleanDisk (state g old)
+
   pub begins : (old : Held S) → Learns old old (λ _. ⊤)
   begins old = λ clean kept. record { clean = clean; kept = kept; same = refl; fact = tt }
 
   -- a question that is answered
-  pub asks : (old mid new : Held S) (P Q : Archive → Type 0) → Learns old mid P → WasClean g mid new → Leaves g mid new
-      → (HasCleanDisk (state g new) → IsKept (state g mid) → IsTrue (state g new).is_open)
-      → (HasCleanDisk (state g new) → IsKept (state g mid) → Q (archive_of (state g mid)))
+  pub asks : (old mid new : Held S) (P Q : Archive → Type 0) → Learns old mid P → WasClean mid new
+      → (HasCleanDisk (state g new) → IsKept (state g mid) → Q (archive_of (state g mid)) × StaysOver None (state g mid) (state g new))
       → Learns old new (λ a. P a × Q a)
-  asks old mid new P Q before was rests up found = λ clean kept.
+  asks old mid new P Q before was found = λ clean kept.
       let k = before (was clean) kept in
-      let r = rests clean k.kept (up clean k.kept) in
-      record { clean = k.clean; kept = r.0; same = r.1 ∙ k.same; fact = (k.fact, subst Q k.same (found clean k.kept)) }
+      let it = found clean k.kept in
+      record { clean = k.clean; kept = it.1.0; same = it.1.1 ∙ k.same; fact = (k.fact, subst Q k.same it.0) }
 
   -- a refusal, or an answer that changes nothing
   pub answers : (old new : Held S) (P : Archive → Type 0) (step : Archive → Outcome) (reply : Reply) → Learns old new P
@@ -44,7 +47,7 @@ module _ {S : Type 0} (g : Ghosts S) where
 
   -- a write that succeeds
   pub writes : (old mid new : Held S) (P : Archive → Type 0) (step : Archive → Outcome) (reply : Reply) (change : Archive → Archive)
-      → Learns old mid P → WasClean g mid new
+      → Learns old mid P → WasClean mid new
       → (HasCleanDisk (state g new) → IsKept (state g mid) → Changes (state g mid) (state g new) change)
       → ((a : Archive) → P a → step a ≡ (change a, reply)) → Does g old new step (Some reply)
   writes old mid new P step reply change learnt was does is = λ clean kept.
@@ -54,7 +57,7 @@ module _ {S : Type 0} (g : Ghosts S) where
 
   -- the same, where the write needs something of the archive
   pub writes_when : (old mid new : Held S) (P Needs : Archive → Type 0) (step : Archive → Outcome) (reply : Reply) (change : Archive → Archive)
-      → Learns old mid P → WasClean g mid new
+      → Learns old mid P → WasClean mid new
       → (HasCleanDisk (state g new) → IsKept (state g mid) → Needs (archive_of (state g mid)) → Changes (state g mid) (state g new) change)
       → ((a : Archive) → P a → Needs a)
       → ((a : Archive) → P a → step a ≡ (change a, reply)) → Does g old new step (Some reply)

@@ -1,6 +1,6 @@
 -- Walks over the messages of a list.
-use Rattle.std.proofs.Common.{◌≡◌, ℕ, ℤ, ◌+◌, ◌<◌, ◌≤◌, true, List, [], ◌∷◌, ◌++◌, length, get_or, drop, map, bytes_eq, refl, ap, sym, subst, append_assoc, ◌∙◌, Option, Some, None, Result, Ok, Err, IfErr, ◌⊎◌, inl, inr}
-use Rattle.std.specs.Prelude.{IsErrAnd, MatchOption, MatchResult, slice_get, Vec, ◌&&◌, Bool, false, filter}
+use Rattle.std.proofs.Common.{◌≡◌, ℕ, ℤ, pos, ◌+◌, ◌<◌, ◌≤◌, true, List, [], ◌∷◌, ◌++◌, length, get_or, drop, map, bytes_eq, refl, ap, sym, subst, append_assoc, ◌∙◌, Option, Some, None, Result, Ok, Err, IfErr, ◌⊎◌, inl, inr}
+use Rattle.std.specs.Prelude.{IsErrAnd, MatchOption, MatchResult, option_map, slice_get, Vec, ◌&&◌, Bool, false, filter}
 use Rattle.std.specs.declared.alloc.Global.{Global}
 use Rattle.std.proofs.lemmas.Option.{slice_get_cases, slice_get_within, get_or_from_slice_get}
 use Rattle.std.specs.List.{All, AllByRecursion}
@@ -19,15 +19,21 @@ use Rattle.sqlite.specs.Effect.{Database}
 use Rattle.sqlite.specs.Tree.{Trees}
 use Rattle.sqlite.specs.Store.{Ghosts}
 use Rattle.sqlite.specs.Held.{state}
-use Rattle.archive_database.specs.Messages.{IsReadable}
-use Rattle.archive_tables.specs.Rows.{message_at}
+use Rattle.archive_database.specs.Messages.{AreMarksOf, IsReadable}
+use Rattle.archive_database.specs.declared.reading.DatedMarks.{DatedMarks}
+use Rattle.archive_tables.specs.Rows.{dated_marks_of, message_at}
+use Rattle.archive_tables.specs.declared.rows.DatedMarksRow.{DatedMarksRow}
 use Rattle.archive_tables.specs.Tables.{AreTables, archive_in}
-use Rattle.archive_tables.specs.Calls.{Rests}
-use Rattle.archive_store.specs.Replies.{refusal, Answers, Stays}
-use Rattle.archive_store.specs.Held.{held_of}
-use Rattle.archive_store.specs.Told.{HoldsTables, IsOpen, HasReturned, HadReturned, HasFailed, Lasts, CausedOr, GoesIn, GoesInIfOpen, archive_in as now_holds}
+use Rattle.archive_tables.proofs.LastLemmas.{lasts_then}
+use Rattle.archive_store.specs.Replies.{refusal, Answers}
+use Rattle.archive_store.specs.Held.{held_of, wants_of}
+use Rattle.archive_store.specs.Told.{HoldsTables, IsOpen, HasReturned, HadReturned, HasFailed, Lasts, CausedOr, EndsAsk, EndsAskOr, EndsUnrefused, archive_in as now_holds}
+use Rattle.archive_store.specs.Wanting.{IsWant, Raises}
 use Rattle.archive_store.proofs.CauseLemmas.{more_since}
-use Rattle.archive_store.specs.Walking.{Walk, WalksOn, WalksOver, BeginsOver, IsNotBegun, FindsPlaces, GivesAll, StopsAll, now_in, rows_of}
+use Rattle.archive_store.proofs.FollowLemmas.{when_ok}
+use Rattle.archive_store.proofs.PassLemmas.{kind_last}
+use Rattle.archive_store.proofs.WantLemmas.{raises_after}
+use Rattle.archive_store.specs.Walking.{Walk, WalksOn, WalksOver, BeginsOver, GivesAll, StopsAll, now_in, rows_of}
 use Rattle.archive_store.specs.declared.store.Store.{Store}
 use Rattle.archive_store.specs.declared.faults.StoreFault.{StoreFault}
 
@@ -64,6 +70,20 @@ all_given f places at given left all ahead joined past =
 pub one_more : {A : Type 0} (given : List A) (x : A) (rest : List A) → (given ++ x ∷ []) ++ rest ≡ given ++ x ∷ rest
 one_more [] x rest = refl
 one_more (g ∷ given) x rest = ap (λ xs. g ∷ xs) (one_more given x rest)
+
+-- what comes behind the same is the same
+same_behind : {A : Type 0} (given xs ys : List A) → given ++ xs ≡ given ++ ys → xs ≡ ys
+same_behind [] xs ys is = is
+same_behind (g ∷ given) xs ys is = same_behind given xs ys (cc)
+
+-- the message whose marks were shown, and none where none were
+pub marks_held : (found : Option Message) (row : DatedMarksRow) → Some row ≡ option_map dated_marks_of found → (m : Message) × (found ≡ Some m) × (row ≡ dated_marks_of m)
+marks_held None row is = absurd cc
+marks_held (Some m) row is = (m, refl, cc)
+
+pub no_marks_held : (found : Option Message) → None ≡ option_map dated_marks_of found → found ≡ None
+no_marks_held None is = refl
+no_marks_held (Some m) is = absurd cc
 
 -- ---- messages of one list
 
@@ -145,33 +165,16 @@ module _ {S : Type 0} (g : Ghosts S) where
       → (list_refusal (now_holds g old) list ≡ None) × HoldsTables g mid × (now_holds g mid ≡ now_holds g old) × (walk.places.items ≡ which (rows_of g mid))
   at_start mid old list which walk places same it = (it.0, it.1, it.2, ap (λ (v : Vec ℤ Global). v.items) same ∙ it.3)
 
-  -- a question for the numbers of messages
-  module _ (old new : Store S) (list : List ℕ) (which : Trees → List ℤ) where
-    abbrev pub AnswersPlaces : Result (Vec ℤ Global) StoreFault → Type 0
-    AnswersPlaces r = Answers g (held_of old) (held_of new) r (λ a. list_refusal a list) (λ _ places. places.items ≡ which (rows_of g new))
-
-    pub not_begun : (r : Result (Vec ℤ Global) StoreFault) → Lasts g old new → AnswersPlaces r → IsNotBegun g old list r new
-    not_begun (Ok places) lasts it = tt
-    not_begun (Err fault) lasts it = go (refusal fault) it
-      where
-        go : (o : Option Refusal) → (HasReturned g new → HoldsTables g old → MatchOption o (Rests (state g (held_of old)) (state g (held_of new)))
-            (λ why. Stays g (held_of old) (held_of new) × (list_refusal (now_holds g old) list ≡ Some why)))
-            → MatchOption o (GoesInIfOpen g (HoldsTables g) old new (λ a b. b ≡ a)) (λ why. GoesIn g (HoldsTables g) old new (λ a b. (b ≡ a) × (list_refusal a list ≡ Some why)))
-        go None it = (lasts, λ returned kept up. it returned kept up)
-        go (Some why) it = (lasts, λ returned kept. let stays = it returned kept in (stays.0.0, (stays.0.1, stays.1)))
-
-    pub places_found : (r : Result (Vec ℤ Global) StoreFault) → AnswersPlaces r → FindsPlaces g old new list which r
-    places_found (Ok places) it = λ returned kept. let found = it returned kept in (found.1, found.0.0, found.0.1, found.2)
-    places_found (Err fault) it = λ returned kept. tt
-
   pub begins_walk : (old mid : Store S) (list : List ℕ) (which : Trees → List ℤ) (all : Archive → List Message)
       → ((trees : Trees) → AreTables trees → map (message_at trees) (which trees) ≡ map Some (all (archive_in trees))) → ((a : Archive) → AreOfList list (all a))
-      → (walk : Walk S) → walk.store.now ≡ mid → walk.at ≡ 0 → Lasts g old mid
+      → (walk : Walk S) → walk.store.now ≡ mid → walk.at ≡ 0 → {A : Type 0} {found : A} {reasons : List Refusal} → EndsAsk g old mid (Ok found) reasons
       → (HasReturned g mid → HoldsTables g old → (list_refusal (now_holds g old) list ≡ None) × HoldsTables g mid × (now_holds g mid ≡ now_holds g old) × (walk.places.items ≡ which (rows_of g mid)))
       → BeginsOver g old list all walk
-  begins_walk old mid list which all shown of_list walk store at lasts found = (
-    subst (λ s. Lasts g old s) (sym store) lasts,
-    (λ returned held.
+  begins_walk old mid list which all shown of_list walk store at ends found = record {
+    lasts = subst (λ s. Lasts g old s) (sym store) ends.lasts;
+    was_open = λ returned. ends.was_open (subst (HasReturned g) store returned);
+    counted = subst (λ s. wants_of old ≤ wants_of s) (sym store) ends.counted.0;
+    over = λ returned held.
         let it = found (subst (HasReturned g) store returned) held in (
           it.0,
           record {
@@ -184,8 +187,8 @@ module _ {S : Type 0} (g : Ghosts S) where
             joined = refl;
             of_list = of_list (now_holds g old);
           },
-        )),
-  )
+        );
+  }
 
 module _ {S : Type 0} (g : Ghosts S) (list : List ℕ) (all : List Message) (a : Archive) (given : List Message) where
   -- the same walk over a store that shows the same
@@ -224,6 +227,52 @@ module _ {S : Type 0} (g : Ghosts S) (list : List ℕ) (all : List Message) (a :
         of_list = w.of_list;
       }
 
+  -- the walk is where it was, and these are the marks of the message that is next
+  pub seen_next : (old : Walk S) (new : Store S) (where_at : ℕ) (left : List ℤ) (d : ℤ) (marks : DatedMarks) → WalksOver g list all a given old → old.at < length old.places.items → left ≡ old.places.items
+      → where_at ≡ old.at → now_in g new ≡ now_in g old.store.now → HoldsTables g new
+      → (it : Message) × (message_at (rows_of g old.store.now) (get_or old.places.items old.at d) ≡ Some it) × AreMarksOf marks it
+      → WalksOn g list all a given (held_of new) (drop where_at left) × ((next : Message) × (rest : List Message) × (given ++ next ∷ rest ≡ all) × AreMarksOf marks next)
+  seen_next old new where_at left d marks w within places at now held shown =
+      let n = next_is (message_at (rows_of g old.store.now)) old.places.items old.at d w.left w.ahead within in
+      let same : shown.0 ≡ n.0 = some_is (sym shown.1 ∙ n.3) in (
+        record {
+          held = held;
+          archive_is = ap (λ (d : Database). archive_in d.trees) now ∙ w.archive_is;
+          left = w.left;
+          ahead = ap (λ (d : Database). map (message_at d.trees) (drop where_at left)) now
+              ∙ ap (λ k. map (message_at (rows_of g old.store.now)) (drop k left)) at
+              ∙ ap (λ l. map (message_at (rows_of g old.store.now)) (drop old.at l)) places ∙ w.ahead;
+          joined = w.joined;
+          of_list = w.of_list;
+        },
+        (n.0, n.1, ap (λ l. given ++ l) (sym n.2) ∙ w.joined, subst (AreMarksOf marks) same shown.2),
+      )
+
+  -- the next message is passed by
+  pub passed_next : (old : Walk S) (where_at : ℕ) (left : List ℤ) (next : Message) (rest : List Message) → WalksOver g list all a given old → given ++ next ∷ rest ≡ all → old.at < length old.places.items
+      → left ≡ old.places.items → where_at ≡ old.at + 1 → WalksOn g list all a (given ++ next ∷ []) (held_of old.store.now) (drop where_at left)
+  passed_next old where_at left next rest w is within places at =
+      let n = next_is (message_at (rows_of g old.store.now)) old.places.items old.at (pos 0) w.left w.ahead within in
+      let joined : given ++ n.0 ∷ n.1 ≡ all = ap (λ l. given ++ l) (sym n.2) ∙ w.joined in
+      let same = same_behind given (n.0 ∷ n.1) (next ∷ rest) (joined ∙ sym is) in
+      let first : n.0 ≡ next = cc in
+      record {
+        held = w.held;
+        archive_is = w.archive_is;
+        left = n.1;
+        ahead = ap (λ k. map (message_at (rows_of g old.store.now)) (drop k left)) at
+            ∙ ap (λ l. map (message_at (rows_of g old.store.now)) (drop (old.at + 1) l)) places ∙ n.4;
+        joined = one_more given next n.1 ∙ ap (λ x. given ++ x ∷ n.1) (sym first) ∙ joined;
+        of_list = w.of_list;
+      }
+
+  -- none is left to be passed by
+  pub none_to_pass : {X : Type 0} (old : Walk S) (next : Message) (rest : List Message) → WalksOver g list all a given old → given ++ next ∷ rest ≡ all → length old.places.items ≤ old.at → X
+  none_to_pass old next rest w is past =
+      let none = nothing_ahead (message_at (rows_of g old.store.now)) old.places.items old.at w.left w.ahead past in
+      let bad = same_behind given w.left (next ∷ rest) (w.joined ∙ sym is) in
+      absurd (let worse : [] ≡ next ∷ rest = sym none ∙ bad in cc)
+
 -- one message more was read
 pub given_more : {A B : Type 0} (f : A → B) (given : List B) (found found' : List A) (x : A) → found' ≡ found ++ x ∷ [] → (given ++ map f found) ++ f x ∷ [] ≡ given ++ map f found'
 given_more f given found found' x is =
@@ -235,12 +284,12 @@ pub rows_answer : {S : Type 0} (g : Ghosts S) (old last : Store S) (walk new : W
     → Answers g (held_of old) (held_of last) r (λ a. list_refusal a list) (λ a found. map (remembered list) found.items ≡ all a)
 rows_answer g old last walk new list all (Ok found) is begun was gives none = λ returned held.
     let returned' = subst (HasReturned g) is returned in
-    let b = begun.1 (was returned') held in
+    let b = begun.over (was returned') held in
     let w = gives returned' list (all (now_holds g old)) (now_holds g old) [] b.1 in
     ((subst (HoldsTables g) (sym is) w.0.held, ap (now_holds g) is ∙ w.0.archive_is), b.0, w.1)
 rows_answer g old last walk new list all (Err fault) is begun was gives none = λ returned held.
     let returned' = subst (HasReturned g) is returned in
-    let b = begun.1 (was returned') held in
+    let b = begun.over (was returned') held in
     let rest = gives returned' list (all (now_holds g old)) (now_holds g old) [] b.1 in
     rw none (λ up. let w = rest (subst (IsOpen g) is up) in (subst (HoldsTables g) (sym is) w.0, ap (now_holds g) is ∙ w.1))
 
@@ -262,9 +311,20 @@ pub rows_caused : {S : Type 0} (g : Ghosts S) (old last : Store S) (walk new : W
 rows_caused g old last walk new list all (Ok found) is begun was stops = λ returned held free. tt
 rows_caused g old last walk new list all (Err fault) is begun was stops = λ returned held free it.
     let returned' = subst (HasReturned g) is returned in
-    let b = begun.1 (was returned') held in
-    let why = stops returned' list (all (now_holds g old)) (now_holds g old) [] b.1 (begun.0.limit ∙ free) it in
+    let b = begun.over (was returned') held in
+    let why = stops returned' list (all (now_holds g old)) (now_holds g old) [] b.1 (begun.lasts.limit ∙ free) it in
     elim why [
-      | inl more ↦ inl (subst (HasFailed g old) (sym is) (more_since (state g (held_of old)) (state g (held_of walk.store.now)) (state g (held_of new.store.now)) begun.0 more))
+      | inl more ↦ inl (subst (HasFailed g old) (sym is) (more_since (state g (held_of old)) (state g (held_of walk.store.now)) (state g (held_of new.store.now)) begun.lasts more))
       | inr bad ↦ inr bad
     ]
+
+pub rows_ends : {S : Type 0} (g : Ghosts S) (old last : Store S) (walk new : Walk S) (list : List ℕ) (all : Archive → List Message) (r : Result (Vec Given Global) StoreFault) → last ≡ new.store.now
+    → BeginsOver g old list all walk → EndsUnrefused g walk.store.now new.store.now r → StopsAll g walk new r → (reasons : List Refusal)
+    → EndsAskOr g old last r reasons (λ a. ¬ All IsReadable (all a))
+rows_ends g old last walk new list all r is begun ends stops reasons = record {
+  lasts = subst (λ s. Lasts g old s) (sym is) (lasts_then _ _ _ begun.lasts ends.lasts);
+  was_open = λ returned. when_ok r _ (begun.was_open (ends.lasts.returned (subst (HasReturned g) is returned)));
+  kind = kind_last r reasons ends.fault;
+  counted = subst (λ s. Raises IsWant (wants_of old) (wants_of s) r) (sym is) (raises_after IsWant _ _ _ r begun.counted ends.counted);
+  caused = rows_caused g old last walk new list all r is begun ends.lasts.returned stops;
+}

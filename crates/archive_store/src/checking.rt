@@ -1,10 +1,7 @@
 //! Whether a store is whole.
-ghost use Rattle.std.specs.Prelude.{◌≡◌, None, IfErr};
 ghost use Rattle.archive_tables.specs.Calls.{AnswersOpen};
 ghost use Rattle.archive_store.specs.Held.{held_of};
-ghost use Rattle.archive_store.specs.Replies.{refusal};
-ghost use Rattle.archive_store.specs.Told.{HadReturned, Lasts, Caused, Counts};
-ghost use Rattle.archive_store.specs.Wanting.{IsWant};
+ghost use Rattle.archive_store.specs.Told.{Caused, EndsUnrefused};
 ghost use Rattle.archive_store.specs.Checking.{FindsAllPlaces, LooksAt, StopsLooking};
 ghost use Rattle.archive_store.specs.declared.checking.CheckStop.TheVariants.{Failed};
 
@@ -68,30 +65,13 @@ impl<S: Alter> Store<S> {
 /// The numbers of all messages, lists by name and then in mailbox order.
 fn find_all_places<S: Alter>(store: &mut Store<S>, alloc: Global) -> Result<Vec<i64>, StoreFault>
     ensures found { FindsAllPlaces S.Store store.old store.new result }
-    ensures fault { IfErr result (λ fault. refusal fault ≡ None) }
-    ensures clean { HadReturned S.Store store.old store.new }
-    ensures lasts { Lasts S.Store store.old store.new }
     ensures was_open { AnswersOpen S.Store (held_of store.old) (held_of store.new) result }
     ensures caused { Caused S.Store store.old store.new result }
-    ensures counted { Counts IsWant store.old store.new result }
+    ensures ends { EndsUnrefused S.Store store.old store.new result }
 {
-    let found = look_up_all(store, alloc);
-    store.wants.raise_for(&found);
-    found
-}
-
-/// The same, but that want of memory is not counted.
-fn look_up_all<S: Alter>(store: &mut Store<S>, alloc: Global) -> Result<Vec<i64>, StoreFault>
-    ensures found { FindsAllPlaces S.Store store.old store.new result }
-    ensures fault { IfErr result (λ fault. refusal fault ≡ None) }
-    ensures clean { HadReturned S.Store store.old store.new }
-    ensures lasts { Lasts S.Store store.old store.new }
-    ensures was_open { AnswersOpen S.Store (held_of store.old) (held_of store.new) result }
-    ensures caused { Caused S.Store store.old store.new result }
-    ensures quiet { store.new.wants ≡ store.old.wants }
-{
-    let shown = texts::checking::all_places(&mut store.conn)?;
-    Ok(read_places(alloc, &shown)?)
+    let shown = texts::checking::all_places(&mut store.conn);
+    let shown = store.wants.pass(shown)?;
+    store.wants.pass_fault(read_places(alloc, &shown))
 }
 
 /// The damage of the message of a number, if it is not sound.
@@ -101,33 +81,13 @@ fn damage_at<S: Alter>(
     place: i64,
 ) -> Result<Option<Damage>, StoreFault>
     ensures looked { LooksAt S.Store store.old store.new place result }
-    ensures fault { IfErr result (λ fault. refusal fault ≡ None) }
-    ensures clean { HadReturned S.Store store.old store.new }
-    ensures lasts { Lasts S.Store store.old store.new }
     ensures caused { StopsLooking S.Store store.old store.new place result }
-    ensures counted { Counts IsWant store.old store.new result }
+    ensures ends { EndsUnrefused S.Store store.old store.new result }
 {
-    let found = look_at(store, alloc, place);
-    store.wants.raise_for(&found);
-    found
-}
-
-/// The same, but that want of memory is not counted.
-fn look_at<S: Alter>(
-    store: &mut Store<S>,
-    alloc: Global,
-    place: i64,
-) -> Result<Option<Damage>, StoreFault>
-    ensures looked { LooksAt S.Store store.old store.new place result }
-    ensures fault { IfErr result (λ fault. refusal fault ≡ None) }
-    ensures clean { HadReturned S.Store store.old store.new }
-    ensures lasts { Lasts S.Store store.old store.new }
-    ensures caused { StopsLooking S.Store store.old store.new place result }
-    ensures quiet { store.new.wants ≡ store.old.wants }
-{
-    let rows = texts::checking::filed_at(&mut store.conn, place)?;
+    let rows = texts::checking::filed_at(&mut store.conn, place);
+    let rows = store.wants.pass(rows)?;
     let Some(row) = rows.first() else {
         return Err(StoreFault::Store);
     };
-    Ok(find_damage(alloc, row)?)
+    store.wants.pass_fault(find_damage(alloc, row))
 }

@@ -3,7 +3,7 @@ ghost use Rattle.std.specs.Prelude.{◌≡◌};
 ghost use Rattle.archive_machine.specs.Keys.{item_key};
 
 use archive_machine::Key;
-use mbox_core::Item;
+use mbox_items::Item;
 
 /// The key of a message: SHA-256 (FIPS 180-4) of its whole text. It takes no memory.
 pub fn key_of(item: &Item<'_>) -> Key

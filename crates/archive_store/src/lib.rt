@@ -22,6 +22,7 @@ mod wants;
 mod words;
 
 pub use adopting::AdoptStop;
+pub use archive_database::reading::DatedMarks;
 pub use archive_machine::{Key, Message};
 pub use batches::{AddStop, Report};
 pub use checking::CheckStop;
@@ -31,4 +32,4 @@ pub use running::{Command, Outcome, RunStop};
 pub use store::Store;
 pub use walking::EachRow;
 pub use wants::Wants;
-pub use words::{Added, Kind, Party};
+pub use words::Added;

@@ -1,13 +1,10 @@
 //! Adding a message, under a limit of messages that a list may hold.
 ghost use Rattle.std.specs.Prelude.{[], ◌∷◌};
 ghost use Rattle.archive_machine.specs.Machine.{added_within};
-ghost use Rattle.sqlite.specs.Held.{state};
-ghost use Rattle.archive_tables.specs.Calls.{WasClean, Lasts, AnswersOpen};
 ghost use Rattle.archive_store.specs.Held.{held_of};
-ghost use Rattle.archive_store.specs.Told.{Counts, Lasts as StoreLasts};
-ghost use Rattle.archive_store.specs.Wanting.{IsWant};
+ghost use Rattle.archive_store.specs.Told.{Ends};
 ghost use Rattle.archive_machine.specs.Commands.{no_list, too_large, list_full};
-ghost use Rattle.archive_store.specs.Replies.{Does, says_added, RefusedFor};
+ghost use Rattle.archive_store.specs.Replies.{Does, says_added};
 
 use crate::faults::StoreFault;
 use crate::store::Store;
@@ -15,8 +12,8 @@ use crate::words::Added;
 use archive_database::taking::{is_full, is_too_large, take_in};
 use archive_machine::Key;
 use archive_tables::texts;
-use mbox_core::Item;
-use sqlite::{Alter, Connection};
+use mbox_items::Item;
+use sqlite::Alter;
 use std::alloc::Global;
 
 /// How many messages a list may hold.
@@ -31,44 +28,24 @@ pub fn add_limited<S: Alter>(
     limit: u32,
 ) -> Result<Added, StoreFault>
     ensures step { Does S.Store (held_of store.old) (held_of store.new) (λ a. added_within limit a list.now item.now) (says_added result) }
-    ensures clean { WasClean S.Store (held_of store.old) (held_of store.new) }
-    ensures lasts { StoreLasts S.Store store.old store.new }
-    ensures was_open { AnswersOpen S.Store (held_of store.old) (held_of store.new) result }
-    ensures kind { RefusedFor result (no_list ∷ too_large ∷ list_full ∷ []) }
-    ensures counted { Counts IsWant store.old store.new result }
+    ensures ends { Ends S.Store store.old store.new result (no_list ∷ too_large ∷ list_full ∷ []) }
 {
-    let added = take_limited(&mut store.conn, alloc, list, item, limit);
-    store.wants.raise_for(&added);
-    added
-}
-
-/// The same, but that want of memory is not counted.
-fn take_limited<S: Alter>(
-    conn: &mut Connection<S>,
-    alloc: Global,
-    list: &str,
-    item: &Item<'_>,
-    limit: u32,
-) -> Result<Added, StoreFault>
-    ensures step { Does S.Store conn.old conn.new (λ a. added_within limit a list.now item.now) (says_added result) }
-    ensures clean { WasClean S.Store conn.old conn.new }
-    ensures lasts { Lasts (state S.Store conn.old) (state S.Store conn.new) }
-    ensures was_open { AnswersOpen S.Store conn.old conn.new result }
-    ensures kind { RefusedFor result (no_list ∷ too_large ∷ list_full ∷ []) }
-{
-    if !texts::lists::has_list(conn, list)? {
+    if !store.has_list(list)? {
         return Err(StoreFault::NoList);
     }
     if is_too_large(item) {
         return Err(StoreFault::TooLarge);
     }
     let key = Key::of(item);
-    if texts::messages::has_message(conn, list, key.as_str())? {
+    let known = texts::messages::has_message(&mut store.conn, list, key.as_str());
+    if store.wants.pass(known)? {
         return Ok(Added::Known);
     }
-    if is_full(conn, list, limit)? {
+    let full = is_full(&mut store.conn, list, limit);
+    if store.wants.pass(full)? {
         return Err(StoreFault::ListFull);
     }
-    take_in(conn, alloc, list, &key, item)?;
+    let taken = take_in(&mut store.conn, alloc, list, &key, item);
+    store.wants.pass_fault(taken)?;
     Ok(Added::New)
 }

@@ -1,37 +1,29 @@
 //! Commands on messages.
-ghost use Rattle.std.specs.Prelude.{◌≡◌, ◌∷◌, [], not, pos};
+ghost use Rattle.std.specs.Prelude.{◌≡◌, not, pos};
 ghost use Rattle.std.specs.Ordering.{int_eq};
-ghost use Rattle.sqlite.specs.Held.{state};
-ghost use Rattle.archive_machine.specs.Commands.{no_list, no_message, already_withdrawn, not_withdrawn, too_large, list_full};
-ghost use Rattle.archive_machine.specs.Machine.{withdrawal, restored, held_back, lifted};
-ghost use Rattle.archive_tables.specs.Calls.{WasClean, Lasts, AnswersOpen};
-ghost use Rattle.archive_store.specs.Batches.{AddsCounted};
-ghost use Rattle.archive_store.specs.Replies.{Does, says_done, says_whether, RefusedFor};
-ghost use Rattle.archive_store.specs.Words.{party_of};
 
 use crate::batches::{Taken, add_counted};
 use crate::faults::StoreFault;
 use crate::limits::{MESSAGES, add_limited};
 use crate::store::Store;
-use crate::words::{Added, Party, day_number};
+use crate::words::{Added, day_number};
 use archive_machine::Key;
 use archive_tables::rows::MarksRow;
 use archive_tables::texts;
 use civil_time::Day;
-use mbox_core::Item;
-use sqlite::{Alter, Connection};
+use mbox_items::Item;
+use policy_core::Party;
+use sqlite::Alter;
 use std::alloc::Global;
 
 impl<S: Alter> Store<S> {
     ghost use Rattle.std.specs.Prelude.{[], ◌∷◌, pos, Some, None};
     ghost use Rattle.archive_machine.specs.Machine.{message_limit, added_within, withdrawal, restored, held_back, lifted};
-    ghost use Rattle.archive_tables.specs.Calls.{WasClean, AnswersOpen};
     ghost use Rattle.archive_store.specs.Held.{held_of};
-    ghost use Rattle.archive_store.specs.Told.{Lasts as StoreLasts, Counts};
-    ghost use Rattle.archive_store.specs.Wanting.{IsWant};
-    ghost use Rattle.archive_store.specs.Words.{party_of};
+    ghost use Rattle.archive_store.specs.Told.{Ends};
+    ghost use Rattle.policy_core.specs.Numbers.{party_number};
     ghost use Rattle.archive_machine.specs.Commands.{no_list, no_message, already_withdrawn, not_withdrawn, too_large, list_full};
-    ghost use Rattle.archive_store.specs.Replies.{Does, says_added, says_done, says_whether, RefusedFor};
+    ghost use Rattle.archive_store.specs.Replies.{Does, says_added, says_done, says_whether};
     ghost use Rattle.archive_store.specs.Batches.{AddsCounted};
 
     /// Adds a message. A message whose key the list holds is known, and nothing changes: the first sender and arrival
@@ -40,11 +32,7 @@ impl<S: Alter> Store<S> {
     /// of its list, which takes some 30 ms where there are 50,000; `add_counted`, `add_all` and `run` count a list once.
     pub fn add(&mut self, alloc: Global, list: &str, item: &Item<'_>) -> Result<Added, StoreFault>
         ensures step { Does S.Store (held_of self.old) (held_of self.new) (λ a. added_within message_limit a list.now item.now) (says_added result) }
-        ensures clean { WasClean S.Store (held_of self.old) (held_of self.new) }
-        ensures lasts { StoreLasts S.Store self.old self.new }
-        ensures was_open { AnswersOpen S.Store (held_of self.old) (held_of self.new) result }
-        ensures kind { RefusedFor result (no_list ∷ too_large ∷ list_full ∷ []) }
-        ensures counted { Counts IsWant self.old self.new result }
+        ensures ends { Ends S.Store self.old self.new result (no_list ∷ too_large ∷ list_full ∷ []) }
     {
         add_limited(self, alloc, list, item, MESSAGES)
     }
@@ -60,201 +48,105 @@ impl<S: Alter> Store<S> {
         count: &mut usize,
     ) -> Result<Added, StoreFault>
         ensures step { AddsCounted S.Store (held_of self.old) (held_of self.new) result list.now item.now count.old count.new }
-        ensures clean { WasClean S.Store (held_of self.old) (held_of self.new) }
-        ensures lasts { StoreLasts S.Store self.old self.new }
-        ensures was_open { AnswersOpen S.Store (held_of self.old) (held_of self.new) result }
-        ensures kind { RefusedFor result (no_list ∷ too_large ∷ list_full ∷ []) }
-        ensures counted { Counts IsWant self.old self.new result }
+        ensures ends { Ends S.Store self.old self.new result (no_list ∷ too_large ∷ list_full ∷ []) }
     {
-        let added = take_counted(&mut self.conn, alloc, list, item, count);
-        self.wants.raise_for(&added);
-        added
+        let listed = texts::lists::has_list(&mut self.conn, list);
+        if !self.wants.pass(listed)? {
+            return Err(StoreFault::NoList);
+        }
+        match add_counted(self, alloc, list, item, count)? {
+            Taken::New => Ok(Added::New),
+            Taken::Known => Ok(Added::Known),
+            Taken::TooLarge => Err(StoreFault::TooLarge),
+            Taken::Full => Err(StoreFault::ListFull),
+        }
     }
 
     /// Withdraws a message. E4 where there is no such list, E8 where it holds no such message, E9 where the message is
     /// withdrawn.
     pub fn withdraw(&mut self, list: &str, key: &Key, by: Party) -> Result<(), StoreFault>
-        ensures step { Does S.Store (held_of self.old) (held_of self.new) (λ a. withdrawal a list.now key.now (party_of by)) (says_done result) }
-        ensures clean { WasClean S.Store (held_of self.old) (held_of self.new) }
-        ensures lasts { StoreLasts S.Store self.old self.new }
-        ensures was_open { AnswersOpen S.Store (held_of self.old) (held_of self.new) result }
-        ensures kind { RefusedFor result (no_list ∷ no_message ∷ already_withdrawn ∷ []) }
-        ensures counted { Counts IsWant self.old self.new result }
+        ensures step { Does S.Store (held_of self.old) (held_of self.new) (λ a. withdrawal a list.now key.now (party_number by)) (says_done result) }
+        ensures ends { Ends S.Store self.old self.new result (no_list ∷ no_message ∷ already_withdrawn ∷ []) }
     {
-        let done = write_withdrawal(&mut self.conn, list, key, by);
-        self.wants.raise_for(&done);
-        done
+        let listed = texts::lists::has_list(&mut self.conn, list);
+        if !self.wants.pass(listed)? {
+            return Err(StoreFault::NoList);
+        }
+        let found = texts::messages::marks(&mut self.conn, list, key.as_str());
+        let marks = match self.wants.pass(found)? {
+            Some(marks) => marks,
+            None => return Err(StoreFault::NoMessage),
+        };
+        if is_withdrawn(marks) {
+            return Err(StoreFault::AlreadyWithdrawn);
+        }
+        let set = texts::messages::set_withdrawn(&mut self.conn, list, key.as_str(), by.number());
+        self.wants.pass(set)?;
+        Ok(())
     }
 
     /// Takes the withdrawal of a message back. E4 where there is no such list, E8 where it holds no such message, E10
     /// where the message is not withdrawn.
     pub fn restore(&mut self, list: &str, key: &Key) -> Result<(), StoreFault>
         ensures step { Does S.Store (held_of self.old) (held_of self.new) (λ a. restored a list.now key.now) (says_done result) }
-        ensures clean { WasClean S.Store (held_of self.old) (held_of self.new) }
-        ensures lasts { StoreLasts S.Store self.old self.new }
-        ensures was_open { AnswersOpen S.Store (held_of self.old) (held_of self.new) result }
-        ensures kind { RefusedFor result (no_list ∷ no_message ∷ not_withdrawn ∷ []) }
-        ensures counted { Counts IsWant self.old self.new result }
+        ensures ends { Ends S.Store self.old self.new result (no_list ∷ no_message ∷ not_withdrawn ∷ []) }
     {
-        let done = clear_withdrawal(&mut self.conn, list, key);
-        self.wants.raise_for(&done);
-        done
+        let listed = texts::lists::has_list(&mut self.conn, list);
+        if !self.wants.pass(listed)? {
+            return Err(StoreFault::NoList);
+        }
+        let found = texts::messages::marks(&mut self.conn, list, key.as_str());
+        let marks = match self.wants.pass(found)? {
+            Some(marks) => marks,
+            None => return Err(StoreFault::NoMessage),
+        };
+        if !is_withdrawn(marks) {
+            return Err(StoreFault::NotWithdrawn);
+        }
+        let set = texts::messages::set_withdrawn(&mut self.conn, list, key.as_str(), 0);
+        self.wants.pass(set)?;
+        Ok(())
     }
 
     /// Holds a message back on the days before this one; an earlier embargo is replaced. E4 where there is no such list,
     /// E8 where it holds no such message.
     pub fn embargo(&mut self, list: &str, key: &Key, until: Day) -> Result<(), StoreFault>
         ensures step { Does S.Store (held_of self.old) (held_of self.new) (λ a. held_back a list.now key.now until) (says_done result) }
-        ensures clean { WasClean S.Store (held_of self.old) (held_of self.new) }
-        ensures lasts { StoreLasts S.Store self.old self.new }
-        ensures was_open { AnswersOpen S.Store (held_of self.old) (held_of self.new) result }
-        ensures kind { RefusedFor result (no_list ∷ no_message ∷ []) }
-        ensures counted { Counts IsWant self.old self.new result }
+        ensures ends { Ends S.Store self.old self.new result (no_list ∷ no_message ∷ []) }
     {
-        let done = write_embargo(&mut self.conn, list, key, until);
-        self.wants.raise_for(&done);
-        done
+        let listed = texts::lists::has_list(&mut self.conn, list);
+        if !self.wants.pass(listed)? {
+            return Err(StoreFault::NoList);
+        }
+        let known = texts::messages::has_message(&mut self.conn, list, key.as_str());
+        if !self.wants.pass(known)? {
+            return Err(StoreFault::NoMessage);
+        }
+        let day = day_number(until);
+        let set = texts::messages::set_embargo(&mut self.conn, list, key.as_str(), day);
+        self.wants.pass(set)?;
+        Ok(())
     }
 
     /// Takes the embargo of a message away, and says whether it had one. E4 where there is no such list, E8 where it
     /// holds no such message.
     pub fn lift(&mut self, list: &str, key: &Key) -> Result<bool, StoreFault>
         ensures step { Does S.Store (held_of self.old) (held_of self.new) (λ a. lifted a list.now key.now) (says_whether result) }
-        ensures clean { WasClean S.Store (held_of self.old) (held_of self.new) }
-        ensures lasts { StoreLasts S.Store self.old self.new }
-        ensures was_open { AnswersOpen S.Store (held_of self.old) (held_of self.new) result }
-        ensures kind { RefusedFor result (no_list ∷ no_message ∷ []) }
-        ensures counted { Counts IsWant self.old self.new result }
+        ensures ends { Ends S.Store self.old self.new result (no_list ∷ no_message ∷ []) }
     {
-        let done = clear_embargo(&mut self.conn, list, key);
-        self.wants.raise_for(&done);
-        done
+        let listed = texts::lists::has_list(&mut self.conn, list);
+        if !self.wants.pass(listed)? {
+            return Err(StoreFault::NoList);
+        }
+        let found = texts::messages::marks(&mut self.conn, list, key.as_str());
+        let had_one = match self.wants.pass(found)? {
+            Some(marks) => marks.embargo.is_some(),
+            None => return Err(StoreFault::NoMessage),
+        };
+        let cleared = texts::messages::clear_embargo(&mut self.conn, list, key.as_str());
+        self.wants.pass(cleared)?;
+        Ok(had_one)
     }
-}
-
-/// `Store::add_counted`, but that want of memory is not counted.
-fn take_counted<S: Alter>(
-    conn: &mut Connection<S>,
-    alloc: Global,
-    list: &str,
-    item: &Item<'_>,
-    count: &mut usize,
-) -> Result<Added, StoreFault>
-    ensures step { AddsCounted S.Store conn.old conn.new result list.now item.now count.old count.new }
-    ensures clean { WasClean S.Store conn.old conn.new }
-    ensures lasts { Lasts (state S.Store conn.old) (state S.Store conn.new) }
-    ensures was_open { AnswersOpen S.Store conn.old conn.new result }
-    ensures kind { RefusedFor result (no_list ∷ too_large ∷ list_full ∷ []) }
-{
-    if !texts::lists::has_list(conn, list)? {
-        return Err(StoreFault::NoList);
-    }
-    match add_counted(conn, alloc, list, item, count)? {
-        Taken::New => Ok(Added::New),
-        Taken::Known => Ok(Added::Known),
-        Taken::TooLarge => Err(StoreFault::TooLarge),
-        Taken::Full => Err(StoreFault::ListFull),
-    }
-}
-
-/// `Store::withdraw`, but that want of memory is not counted.
-fn write_withdrawal<S: Alter>(
-    conn: &mut Connection<S>,
-    list: &str,
-    key: &Key,
-    by: Party,
-) -> Result<(), StoreFault>
-    ensures step { Does S.Store conn.old conn.new (λ a. withdrawal a list.now key.now (party_of by)) (says_done result) }
-    ensures clean { WasClean S.Store conn.old conn.new }
-    ensures lasts { Lasts (state S.Store conn.old) (state S.Store conn.new) }
-    ensures was_open { AnswersOpen S.Store conn.old conn.new result }
-    ensures kind { RefusedFor result (no_list ∷ no_message ∷ already_withdrawn ∷ []) }
-{
-    if !texts::lists::has_list(conn, list)? {
-        return Err(StoreFault::NoList);
-    }
-    let marks = match texts::messages::marks(conn, list, key.as_str())? {
-        Some(marks) => marks,
-        None => return Err(StoreFault::NoMessage),
-    };
-    if is_withdrawn(marks) {
-        return Err(StoreFault::AlreadyWithdrawn);
-    }
-    texts::messages::set_withdrawn(conn, list, key.as_str(), by.number())?;
-    Ok(())
-}
-
-/// `Store::restore`, but that want of memory is not counted.
-fn clear_withdrawal<S: Alter>(
-    conn: &mut Connection<S>,
-    list: &str,
-    key: &Key,
-) -> Result<(), StoreFault>
-    ensures step { Does S.Store conn.old conn.new (λ a. restored a list.now key.now) (says_done result) }
-    ensures clean { WasClean S.Store conn.old conn.new }
-    ensures lasts { Lasts (state S.Store conn.old) (state S.Store conn.new) }
-    ensures was_open { AnswersOpen S.Store conn.old conn.new result }
-    ensures kind { RefusedFor result (no_list ∷ no_message ∷ not_withdrawn ∷ []) }
-{
-    if !texts::lists::has_list(conn, list)? {
-        return Err(StoreFault::NoList);
-    }
-    let marks = match texts::messages::marks(conn, list, key.as_str())? {
-        Some(marks) => marks,
-        None => return Err(StoreFault::NoMessage),
-    };
-    if !is_withdrawn(marks) {
-        return Err(StoreFault::NotWithdrawn);
-    }
-    texts::messages::set_withdrawn(conn, list, key.as_str(), 0)?;
-    Ok(())
-}
-
-/// `Store::embargo`, but that want of memory is not counted.
-fn write_embargo<S: Alter>(
-    conn: &mut Connection<S>,
-    list: &str,
-    key: &Key,
-    until: Day,
-) -> Result<(), StoreFault>
-    ensures step { Does S.Store conn.old conn.new (λ a. held_back a list.now key.now until) (says_done result) }
-    ensures clean { WasClean S.Store conn.old conn.new }
-    ensures lasts { Lasts (state S.Store conn.old) (state S.Store conn.new) }
-    ensures was_open { AnswersOpen S.Store conn.old conn.new result }
-    ensures kind { RefusedFor result (no_list ∷ no_message ∷ []) }
-{
-    if !texts::lists::has_list(conn, list)? {
-        return Err(StoreFault::NoList);
-    }
-    if !texts::messages::has_message(conn, list, key.as_str())? {
-        return Err(StoreFault::NoMessage);
-    }
-    let day = day_number(until);
-    texts::messages::set_embargo(conn, list, key.as_str(), day)?;
-    Ok(())
-}
-
-/// `Store::lift`, but that want of memory is not counted.
-fn clear_embargo<S: Alter>(
-    conn: &mut Connection<S>,
-    list: &str,
-    key: &Key,
-) -> Result<bool, StoreFault>
-    ensures step { Does S.Store conn.old conn.new (λ a. lifted a list.now key.now) (says_whether result) }
-    ensures clean { WasClean S.Store conn.old conn.new }
-    ensures lasts { Lasts (state S.Store conn.old) (state S.Store conn.new) }
-    ensures was_open { AnswersOpen S.Store conn.old conn.new result }
-    ensures kind { RefusedFor result (no_list ∷ no_message ∷ []) }
-{
-    if !texts::lists::has_list(conn, list)? {
-        return Err(StoreFault::NoList);
-    }
-    let had_one = match texts::messages::marks(conn, list, key.as_str())? {
-        Some(marks) => marks.embargo.is_some(),
-        None => return Err(StoreFault::NoMessage),
-    };
-    texts::messages::clear_embargo(conn, list, key.as_str())?;
-    Ok(had_one)
 }
 
 fn is_withdrawn(marks: MarksRow) -> bool

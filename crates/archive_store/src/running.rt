@@ -1,24 +1,22 @@
 //! Commands one after the other.
 ghost use Rattle.std.specs.Prelude.{◌≡◌, ◌≤◌, true, length, map, is_some, IfOk, IfErr, Err, None};
 ghost use Rattle.archive_machine.specs.Machine.{added_within, message_limit, step};
-ghost use Rattle.sqlite.specs.Held.{state};
-ghost use Rattle.archive_tables.specs.Calls.{WasClean, Lasts};
 ghost use Rattle.archive_store.specs.Held.{held_of};
-ghost use Rattle.archive_store.specs.Told.{Counts, Lasts as StoreLasts};
+ghost use Rattle.archive_store.specs.Told.{Counts, EndsUnrefused, Lasts as StoreLasts};
 ghost use Rattle.archive_store.specs.Wanting.{IsWant};
-ghost use Rattle.archive_store.specs.Replies.{Does, refusal, says_done, says_whether, says_added};
+ghost use Rattle.archive_store.specs.Replies.{Does, refusal, with_fault, says_done, says_whether, says_added};
 ghost use Rattle.archive_store.specs.Running.{command_of, answer_of, carried, CountsOn, DoesCounted, FindsCount, IsCountedOn, Runs};
 
-use crate::batches::count_list;
 use crate::faults::StoreFault;
 use crate::limits::MESSAGES;
 use crate::store::Store;
-use crate::words::{Added, Kind, Party};
+use crate::words::Added;
 use archive_machine::Key;
 use archive_tables::texts;
 use civil_time::Day;
-use mbox_core::Item;
-use sqlite::{Alter, Connection};
+use mbox_items::Item;
+use policy_core::{Kind, Party};
+use sqlite::Alter;
 use std::alloc::Global;
 
 /// A command with its arguments: each is the call of `Store` of that name.
@@ -153,31 +151,29 @@ fn added(answer: Result<Added, StoreFault>) -> Result<Outcome, StoreFault>
     }
 }
 
-/// How many messages a list holds: as it was counted before, or counted now. `None` where no list can be full, since no message's
-/// number reaches the limit. E4 where there is no such list.
-fn find_count<S: Alter>(
-    conn: &mut Connection<S>,
-    list: &str,
-    counted: Option<Counted<'_>>,
-) -> Result<Option<usize>, StoreFault>
-    ensures found { FindsCount S.Store conn.old conn.new counted.entry list.now result }
-    ensures clean { WasClean S.Store conn.old conn.new }
-    ensures lasts { Lasts (state S.Store conn.old) (state S.Store conn.new) }
-{
-    match counted {
-        Some(known) if known.list == list => return Ok(Some(known.count)),
-        _ => {}
-    }
-    if !texts::messages::reaches(conn, MESSAGES)? {
-        return Ok(None);
-    }
-    match count_list(conn, list) {
-        Ok(count) => Ok(Some(count)),
-        Err(fault) => Err(fault),
-    }
-}
-
 impl<S: Alter> Store<S> {
+    /// How many messages a list holds: as it was counted before, or counted now. `None` where no list can be full, since no
+    /// message's number reaches the limit. E4 where there is no such list.
+    fn find_count(
+        &mut self,
+        list: &str,
+        counted: Option<Counted<'_>>,
+    ) -> Result<Option<usize>, StoreFault>
+        ensures found { FindsCount S.Store (held_of self.old) (held_of self.new) counted.entry list.now result }
+        ensures lasts { StoreLasts S.Store self.old self.new }
+        ensures wanted { Counts IsWant self.old self.new result }
+    {
+        match counted {
+            Some(known) if known.list == list => return Ok(Some(known.count)),
+            _ => {}
+        }
+        let reaches = texts::messages::reaches(&mut self.conn, MESSAGES);
+        if !self.wants.pass(reaches)? {
+            return Ok(None);
+        }
+        Ok(Some(self.count(list)?))
+    }
+
     /// Adds a message, as `add`. Where the list may be full, it is counted once for all that are added to it one after the other.
     fn add_next<'a>(
         &mut self,
@@ -188,18 +184,10 @@ impl<S: Alter> Store<S> {
     ) -> Result<Added, StoreFault>
         ensures step { DoesCounted S.Store (held_of self.old) (held_of self.new) counted.old (λ a. added_within message_limit a list.now item.now) (says_added result) }
         ensures counted { IsCountedOn S.Store (held_of self.old) (held_of self.new) counted.old counted.new (says_added result) }
-        ensures clean { WasClean S.Store (held_of self.old) (held_of self.new) }
         ensures lasts { StoreLasts S.Store self.old self.new }
         ensures wanted { Counts IsWant self.old self.new result }
     {
-        let known = match find_count(&mut self.conn, list, *counted) {
-            Ok(known) => known,
-            Err(fault) => {
-                self.wants.raise_at(fault);
-                return Err(fault);
-            }
-        };
-        match known {
+        match self.find_count(list, *counted)? {
             Some(before) => {
                 let mut count = before;
                 let answer = self.add_counted(alloc, list, item, &mut count);
@@ -222,11 +210,8 @@ impl<S: Alter> Store<S> {
     ) -> Result<Outcome, StoreFault>
         ensures step { DoesCounted S.Store (held_of self.old) (held_of self.new) counted.old (λ a. step a (command_of command.now)) (carried result) }
         ensures counted { CountsOn S.Store (held_of self.old) (held_of self.new) command.now counted.old counted.new (carried result) }
-        ensures clean { WasClean S.Store (held_of self.old) (held_of self.new) }
-        ensures lasts { StoreLasts S.Store self.old self.new }
         ensures told { IfOk result (λ outcome. is_some (answer_of outcome) ≡ true) }
-        ensures stop { IfErr result (λ fault. refusal fault ≡ None) }
-        ensures wanted { Counts IsWant self.old self.new result }
+        ensures ends { EndsUnrefused S.Store self.old self.new result }
     {
         match command {
             Command::ListAdd { name } => done(self.list_add(name)),
@@ -256,10 +241,7 @@ impl<S: Alter> Store<S> {
     pub fn run(&mut self, alloc: Global, commands: &[Command<'_>]) -> Result<Vec<Outcome>, RunStop>
         ensures step { Runs S.Store (held_of self.old) (held_of self.new) (map command_of commands.entry.now) result }
         ensures bound { IfErr result (λ stop. stop.done ≤ length commands.entry.now) }
-        ensures clean { WasClean S.Store (held_of self.old) (held_of self.new) }
-        ensures lasts { StoreLasts S.Store self.old self.new }
-        ensures stop { IfErr result (λ stop. refusal stop.fault ≡ None) }
-        ensures counted { Counts (λ stop. IsWant stop.fault) self.old self.new result }
+        ensures ends { EndsUnrefused S.Store self.old self.new (with_fault (λ stop. stop.fault) result) }
     {
         let Ok(mut outcomes) = Vec::with_capacity(alloc, commands.len()) else {
             self.wants.raise();

@@ -1,4 +1,4 @@
-//! The store: a connection, whether it is ready, and how often memory was wanting.
+//! The store: a connection, and how often memory was wanting.
 ghost use Rattle.std.specs.Prelude.{◌≡◌};
 
 use crate::wants::Wants;

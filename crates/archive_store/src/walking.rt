@@ -1,22 +1,21 @@
 //! Walks over the messages of a list.
-ghost use Rattle.std.specs.Prelude.{◌≡◌, ◌≤◌, ◌+◌, ◌∷◌, [], ◌++◌, map, slice_get, pos, None, IfOk, IfErr, OnOk, MatchResult, MatchOption};
+ghost use Rattle.std.specs.Prelude.{◌≡◌, ◌+◌, ◌∷◌, [], map, slice_get, pos, IfOk, MatchResult, MatchOption, ◌-◌, None, IfErr};
 ghost use Rattle.archive_machine.specs.Messages.{remembered};
 ghost use Rattle.archive_machine.specs.Questions.{list_refusal, messages_in};
-ghost use Rattle.sqlite.specs.Held.{state};
-ghost use Rattle.archive_tables.specs.Calls.{WasClean, Lasts as LastsOpen, AsksRows, AnswersOpen, FailsByFault};
+ghost use Rattle.archive_tables.specs.Calls.{AsksRows};
 ghost use Rattle.archive_tables.specs.Rows.{place_shown};
-ghost use Rattle.archive_store.specs.Held.{held_of, wants_of};
+ghost use Rattle.archive_store.specs.Held.{held_of};
 ghost use Rattle.archive_machine.specs.Commands.{no_list};
-ghost use Rattle.archive_store.specs.Replies.{refusal, Answers, FailsByDisk, RefusedFor};
-ghost use Rattle.archive_store.specs.Told.{HadReturned, HasReturned, IsOpen, Lasts, Caused, CausedOr, Counts};
+ghost use Rattle.archive_store.specs.Replies.{RefusedFor, refusal};
+ghost use Rattle.archive_store.specs.Told.{Counts, EndsAsk, EndsAskOr, EndsUnrefused, Lasts};
 ghost use Rattle.archive_store.specs.Wanting.{IsWant};
 ghost use Rattle.archive_database.specs.Messages.{IsReadable};
-ghost use Rattle.archive_store.specs.Walking.{GivesNext, GivesAll, StopsNext, StopsAll, ShowsMessage, StopsShowing, FindsPlaces, IsNotBegun, left_of, selected_places};
+ghost use Rattle.archive_store.specs.Walking.{GivesNext, GivesAll, StopsNext, StopsAll, ShowsMessage, ShowsMarks, ShowsNext, PassesNext, StopsShowing, FindsPlaces, IsNotBegun, left_of, selected_places};
 
 use crate::faults::StoreFault;
 use crate::store::Store;
 use crate::words::month_number;
-use archive_database::reading::{read_or_fail, read_places};
+use archive_database::reading::{DatedMarks, marks_or_fail, read_or_fail, read_places};
 use archive_machine::Message;
 use archive_tables::texts;
 use civil_time::Month;
@@ -67,12 +66,8 @@ impl<S: Alter> Store<S> {
     pub fn rows(&mut self, alloc: Global, list: &str) -> Result<Vec<Message>, StoreFault>
         ensures answer { Answers S.Store (held_of self.old) (held_of self.new) result (λ a. list_refusal a list.now)
             (λ a found. map (remembered list.now) found.items ≡ messages_in a list.now) }
-        ensures clean { WasClean S.Store (held_of self.old) (held_of self.new) }
-        ensures lasts { Lasts S.Store self.old self.new }
-        ensures was_open { HasReturned S.Store self.new → OnOk result (IsOpen S.Store self.old) }
-        ensures caused { CausedOr S.Store self.old self.new result (λ a. ¬ All IsReadable (messages_in a list.now)) }
-        ensures kind { RefusedFor result (no_list ∷ []) }
-        ensures counted { Counts IsWant self.old self.new result }
+        ensures ends { EndsAskOr S.Store self.old self.new result (no_list ∷ [])
+            (λ a. ¬ All IsReadable (messages_in a list.now)) }
     {
         let mut walk = self.each_row(alloc, list)?;
         read_rows(alloc, &mut walk)
@@ -83,9 +78,7 @@ impl<S: Alter> Store<S> {
         ensures* refused { sem 𝓛 (RestsIfErr (the_row S.row S.Store) self.entry (λ walk. walk.store.ghost_name) result (DoesNotBegin S.Store self.old list.now result)) }
         ensures same_reference { IfOk result (λ walk. walk.store.ghost_name ≡ self.entry.ghost_name) }
         ensures begun { IfOk result (λ walk. Begins S.Store self.old list.now walk) }
-        ensures was_open { IfOk result (λ walk. HasReturned S.Store walk.store.now → IsOpen S.Store self.old) }
         ensures kind { RefusedFor result (no_list ∷ []) }
-        ensures counted { IfOk result (λ walk. wants_of self.old ≤ wants_of walk.store.now) }
     {
         let places = find_places(self, alloc, list, &Selection::Every)?;
         Ok(EachRow::new(self, places))
@@ -101,12 +94,8 @@ impl<S: Alter> Store<S> {
     ) -> Result<Vec<Message>, StoreFault>
         ensures answer { Answers S.Store (held_of self.old) (held_of self.new) result (λ a. list_refusal a list.now)
             (λ a found. map (remembered list.now) found.items ≡ in_month a list.now (pos month)) }
-        ensures clean { WasClean S.Store (held_of self.old) (held_of self.new) }
-        ensures lasts { Lasts S.Store self.old self.new }
-        ensures was_open { HasReturned S.Store self.new → OnOk result (IsOpen S.Store self.old) }
-        ensures caused { CausedOr S.Store self.old self.new result (λ a. ¬ All IsReadable (in_month a list.now (pos month))) }
-        ensures kind { RefusedFor result (no_list ∷ []) }
-        ensures counted { Counts IsWant self.old self.new result }
+        ensures ends { EndsAskOr S.Store self.old self.new result (no_list ∷ [])
+            (λ a. ¬ All IsReadable (in_month a list.now (pos month))) }
     {
         let mut walk = self.each_in_month(alloc, list, month)?;
         read_rows(alloc, &mut walk)
@@ -121,12 +110,8 @@ impl<S: Alter> Store<S> {
     ) -> Result<Vec<Message>, StoreFault>
         ensures answer { Answers S.Store (held_of self.old) (held_of self.new) result (λ a. list_refusal a list.now)
             (λ a found. map (remembered list.now) found.items ≡ by_author a list.now key.now) }
-        ensures clean { WasClean S.Store (held_of self.old) (held_of self.new) }
-        ensures lasts { Lasts S.Store self.old self.new }
-        ensures was_open { HasReturned S.Store self.new → OnOk result (IsOpen S.Store self.old) }
-        ensures caused { CausedOr S.Store self.old self.new result (λ a. ¬ All IsReadable (by_author a list.now key.now)) }
-        ensures kind { RefusedFor result (no_list ∷ []) }
-        ensures counted { Counts IsWant self.old self.new result }
+        ensures ends { EndsAskOr S.Store self.old self.new result (no_list ∷ [])
+            (λ a. ¬ All IsReadable (by_author a list.now key.now)) }
     {
         let mut walk = self.each_by_author(alloc, list, key)?;
         read_rows(alloc, &mut walk)
@@ -142,9 +127,7 @@ impl<S: Alter> Store<S> {
         ensures* refused { sem 𝓛 (RestsIfErr (the_row S.row S.Store) self.entry (λ walk. walk.store.ghost_name) result (DoesNotBegin S.Store self.old list.now result)) }
         ensures same_reference { IfOk result (λ walk. walk.store.ghost_name ≡ self.entry.ghost_name) }
         ensures begun { IfOk result (λ walk. BeginsOver S.Store self.old list.now (λ a. in_month a list.now (pos month)) walk) }
-        ensures was_open { IfOk result (λ walk. HasReturned S.Store walk.store.now → IsOpen S.Store self.old) }
         ensures kind { RefusedFor result (no_list ∷ []) }
-        ensures counted { IfOk result (λ walk. wants_of self.old ≤ wants_of walk.store.now) }
     {
         let places = find_places(self, alloc, list, &Selection::InMonth(month))?;
         Ok(EachRow::new(self, places))
@@ -160,9 +143,7 @@ impl<S: Alter> Store<S> {
         ensures* refused { sem 𝓛 (RestsIfErr (the_row S.row S.Store) self.entry (λ walk. walk.store.ghost_name) result (DoesNotBegin S.Store self.old list.now result)) }
         ensures same_reference { IfOk result (λ walk. walk.store.ghost_name ≡ self.entry.ghost_name) }
         ensures begun { IfOk result (λ walk. BeginsOver S.Store self.old list.now (λ a. by_author a list.now key.now) walk) }
-        ensures was_open { IfOk result (λ walk. HasReturned S.Store walk.store.now → IsOpen S.Store self.old) }
         ensures kind { RefusedFor result (no_list ∷ []) }
-        ensures counted { IfOk result (λ walk. wants_of self.old ≤ wants_of walk.store.now) }
     {
         let places = find_places(self, alloc, list, &Selection::ByAuthor(key))?;
         Ok(EachRow::new(self, places))
@@ -196,11 +177,8 @@ impl<'a, S: Alter> EachRow<'a, S> {
         ensures given { GivesNext S.Store self.old self.new result }
         ensures left { MatchResult result (λ found. MatchOption found ((left_of self.old ≡ 0) × (left_of self.new ≡ 0)) (λ _. left_of self.old ≡ left_of self.new + 1))
             (λ _. left_of self.new ≡ left_of self.old) }
-        ensures fault { IfErr result (λ fault. refusal fault ≡ None) }
-        ensures clean { HadReturned S.Store self.old.store.now self.new.store.now }
-        ensures lasts { Lasts S.Store self.old.store.now self.new.store.now }
         ensures caused { StopsNext S.Store self.old self.new result }
-        ensures counted { Counts IsWant self.old.store.now self.new.store.now result }
+        ensures ends { EndsUnrefused S.Store self.old.store.now self.new.store.now result }
     {
         let Some(place) = place_at(&self.places, self.at) else {
             return Ok(None);
@@ -209,17 +187,40 @@ impl<'a, S: Alter> EachRow<'a, S> {
         self.at += 1;
         Ok(Some(message))
     }
+
+    /// The arrival and the marks of the next message, which stays the next: its text is not read. `None` where all were given.
+    pub fn next_marks(&mut self) -> Result<Option<DatedMarks>, StoreFault>
+        ensures same_reference { self.new.store.ghost_name ≡ self.old.store.ghost_name }
+        ensures shown { ShowsNext S.Store self.old self.new result }
+        ensures lasts { Lasts S.Store self.old.store.now self.new.store.now }
+        ensures caused { StopsNext S.Store self.old self.new result }
+        ensures counted { Counts IsWant self.old.store.now self.new.store.now result }
+    {
+        let Some(place) = place_at(&self.places, self.at) else {
+            return Ok(None);
+        };
+        Ok(Some(marks_at(self.store, place)?))
+    }
+
+    /// Passes the next message by, as if it were given. It does nothing where all were given.
+    pub fn pass(&mut self)
+        ensures same_reference { self.new.store.ghost_name ≡ self.old.store.ghost_name }
+        ensures store { self.new.store.now ≡ self.old.store.now }
+        ensures passed { PassesNext S.Store self.old self.new }
+        ensures left { left_of self.new ≡ left_of self.old - 1 }
+    {
+        if self.at < self.places.len() {
+            self.at = self.at + 1;
+        }
+    }
 }
 
 /// The messages that a walk has not given yet.
 fn read_rows<S: Alter>(alloc: Global, walk: &mut EachRow<'_, S>) -> Result<Vec<Message>, StoreFault>
     ensures same_reference { walk.new.store.ghost_name ≡ walk.old.store.ghost_name }
     ensures given { GivesAll S.Store walk.old walk.new result }
-    ensures fault { IfErr result (λ fault. refusal fault ≡ None) }
-    ensures clean { HadReturned S.Store walk.old.store.now walk.new.store.now }
-    ensures lasts { Lasts S.Store walk.old.store.now walk.new.store.now }
     ensures caused { StopsAll S.Store walk.old walk.new result }
-    ensures counted { Counts IsWant walk.old.store.now walk.new.store.now result }
+    ensures ends { EndsUnrefused S.Store walk.old.store.now walk.new.store.now result }
 {
     let mut found = match Vec::with_capacity(alloc, walk.left()) {
         Ok(found) => found,
@@ -243,38 +244,13 @@ fn find_places<S: Alter>(
 ) -> Result<Vec<i64>, StoreFault>
     ensures refused { IsNotBegun S.Store store.old list.now result store.new }
     ensures found { FindsPlaces S.Store store.old store.new list.now (λ trees. selected_places trees list.now which.now) result }
-    ensures clean { HadReturned S.Store store.old store.new }
-    ensures lasts { Lasts S.Store store.old store.new }
-    ensures was_open { HasReturned S.Store store.new → OnOk result (IsOpen S.Store store.old) }
-    ensures caused { Caused S.Store store.old store.new result }
-    ensures kind { RefusedFor result (no_list ∷ []) }
-    ensures counted { Counts IsWant store.old store.new result }
+    ensures ends { EndsAsk S.Store store.old store.new result (no_list ∷ []) }
 {
-    let found = look_up_places(&mut store.conn, alloc, list, which);
-    store.wants.raise_for(&found);
-    found
-}
-
-/// The same, but that want of memory is not counted.
-fn look_up_places<S: Alter>(
-    conn: &mut Connection<S>,
-    alloc: Global,
-    list: &str,
-    which: &Selection<'_>,
-) -> Result<Vec<i64>, StoreFault>
-    ensures answer { Answers S.Store conn.old conn.new result (λ a. list_refusal a list.now)
-        (λ _ places. places.items ≡ selected_places (state S.Store conn.new).now.trees list.now which.now) }
-    ensures clean { WasClean S.Store conn.old conn.new }
-    ensures lasts { LastsOpen (state S.Store conn.old) (state S.Store conn.new) }
-    ensures was_open { AnswersOpen S.Store conn.old conn.new result }
-    ensures caused { FailsByDisk S.Store conn.old conn.new result }
-    ensures kind { RefusedFor result (no_list ∷ []) }
-{
-    if !texts::lists::has_list(conn, list)? {
+    if !store.has_list(list)? {
         return Err(StoreFault::NoList);
     }
-    let shown = show_places(conn, list, which)?;
-    Ok(read_places(alloc, &shown)?)
+    let shown = store.wants.pass(show_places(&mut store.conn, list, which))?;
+    store.wants.pass_fault(read_places(alloc, &shown))
 }
 
 /// The rows that show those numbers.
@@ -283,11 +259,8 @@ fn show_places<S: Alter>(
     list: &str,
     which: &Selection<'_>,
 ) -> Result<Vec<Row>, Error>
-    ensures held { AsksRows S.Store conn.old conn.new result (λ trees rows. rows.items ≡ map place_shown (selected_places trees list.now which.now)) }
-    ensures clean { WasClean S.Store conn.old conn.new }
-    ensures lasts { LastsOpen (state S.Store conn.old) (state S.Store conn.new) }
-    ensures was_open { AnswersOpen S.Store conn.old conn.new result }
-    ensures caused { FailsByFault S.Store conn.old conn.new result }
+    ensures { AsksRows S.Store conn.old conn.new result
+        (λ trees rows. rows.items ≡ map place_shown (selected_places trees list.now which.now)) ⊥ }
 {
     match which {
         Selection::Every => texts::messages::places(conn, list),
@@ -307,28 +280,27 @@ fn place_at(places: &[i64], at: usize) -> Option<i64>
 /// The message of a number.
 fn message_at<S: Alter>(store: &mut Store<S>, place: i64) -> Result<Message, StoreFault>
     ensures shown { ShowsMessage S.Store store.old store.new place result }
+    ensures caused { StopsShowing S.Store store.old store.new place result }
+    ensures ends { EndsUnrefused S.Store store.old store.new result }
+{
+    let found = texts::messages::message_at(&mut store.conn, place);
+    match store.wants.pass(found)? {
+        Some(row) => store.wants.pass_fault(read_or_fail(row)),
+        None => Err(StoreFault::Store),
+    }
+}
+
+/// The arrival and the marks of the message of a number.
+fn marks_at<S: Alter>(store: &mut Store<S>, place: i64) -> Result<DatedMarks, StoreFault>
+    ensures shown { ShowsMarks S.Store store.old store.new place result }
     ensures fault { IfErr result (λ fault. refusal fault ≡ None) }
-    ensures clean { HadReturned S.Store store.old store.new }
     ensures lasts { Lasts S.Store store.old store.new }
     ensures caused { StopsShowing S.Store store.old store.new place result }
     ensures counted { Counts IsWant store.old store.new result }
 {
-    let found = look_up_message(store, place);
-    store.wants.raise_for(&found);
-    found
-}
-
-/// The same, but that want of memory is not counted.
-fn look_up_message<S: Alter>(store: &mut Store<S>, place: i64) -> Result<Message, StoreFault>
-    ensures shown { ShowsMessage S.Store store.old store.new place result }
-    ensures fault { IfErr result (λ fault. refusal fault ≡ None) }
-    ensures clean { HadReturned S.Store store.old store.new }
-    ensures lasts { Lasts S.Store store.old store.new }
-    ensures caused { StopsShowing S.Store store.old store.new place result }
-    ensures quiet { store.new.wants ≡ store.old.wants }
-{
-    match texts::messages::message_at(&mut store.conn, place)? {
-        Some(row) => Ok(read_or_fail(row)?),
+    let found = texts::messages::marks_at(&mut store.conn, place);
+    match store.wants.pass(found)? {
+        Some(row) => store.wants.pass_fault(marks_or_fail(row)),
         None => Err(StoreFault::Store),
     }
 }

@@ -1,8 +1,10 @@
-use Rattle.std.proofs.Common.{◌<◌, ◌∙◌, ap, get_or, length, take, arith, Some, inr}
+use Rattle.std.proofs.Common.{rules, ◌<◌, ◌∙◌, ap, get_or, length, take, arith, Some, inr}
 use Rattle.sqlite.specs.Held.{state}
 use Rattle.archive_machine.specs.Commands.{taken_in, already_known, refused, too_large}
 use Rattle.archive_machine.specs.Runs.{taken}
 use Rattle.archive_tables.proofs.RunLemmas.{on_fault}
+use Rattle.archive_store.specs.Wanting.{IsWant}
+use Rattle.archive_store.proofs.WantLemmas.{raises_after, raises_on}
 use Rattle.archive_store.specs.Batches.{told_in, tally_of}
 use Rattle.archive_store.proofs.BatchLemmas.{one_taken, none_taken, held_or_back, told_new, told_known, told_too_large}
 use Rattle.archive_store.proofs.batches.add_some.Goals.{in-New, in-Known, in-TooLarge}
@@ -11,18 +13,18 @@ use Rattle.archive_store.proofs.batches.add_some.Goals as goal
 
 pub returns-in-Full-clause-step : goal.returns-in-Full-clause-step
 returns-in-Full-clause-step g c = λ clean db a from.
-    let so_far = c.loop-at.invariant.4 (c.add_counted.ensures.clean clean) db a from in
+    let so_far = c.loop-at.invariant.4 (c.add_counted.ensures.ends.lasts.returned clean) db a from in
     let items = c.args.intake.now.items.now in
-    let within : c.loop-at.at < length items = omega (arith, c.loop-at-test.true, c.requires.place) in
-    let it = none_taken (Some db) (state g.S.Store c.loop-at.conn) (state g.S.Store c.add_counted.new.conn) a c.args.intake.now.list.now items c.loop-at.at c.loop-at.count c.add_counted.new.count
+    let within : c.loop-at.at < length items = omega (arith, c.loop-at-test.true, c.requires.begins.place) in
+    let it = none_taken (Some db) (state g.S.Store c.loop-at.store.conn) (state g.S.Store c.add_counted.new.store.conn) a c.args.intake.now.list.now items c.loop-at.at c.loop-at.count c.add_counted.new.count
     (get_or items c.loop-at.at c.index-intake-at.result) c.loop-at.report so_far within (ap (get_or items c.loop-at.at) c.index-intake-at.is) (rw c.in-Full.is at (c.in_ok-add_counted.ensures.step clean (Some db) so_far.held so_far.counted)) in
     (it.0, inr it.1)
 
 pub returns-in_err-add_counted-clause-step : goal.returns-in_err-add_counted-clause-step
 returns-in_err-add_counted-clause-step g c = λ clean db a from.
-    let so_far = c.loop-at.invariant.4 (c.add_counted.ensures.clean clean) db a from in
+    let so_far = c.loop-at.invariant.4 (c.add_counted.ensures.ends.lasts.returned clean) db a from in
     on_fault _ _ c.from_residual.result c.from_residual.ensures.1
-    (held_or_back db (state g.S.Store c.loop-at.conn) (state g.S.Store c.add_counted.new.conn) (c.in_err-add_counted.ensures.step clean (Some db) so_far.held so_far.counted))
+    (held_or_back db (state g.S.Store c.loop-at.store.conn) (state g.S.Store c.add_counted.new.store.conn) (c.in_err-add_counted.ensures.step clean (Some db) so_far.held so_far.counted))
 
 pub loop-at-preserved : goal.loop-at-preserved
 loop-at-preserved g c = (
@@ -33,12 +35,12 @@ loop-at-preserved g c = (
     | in-Known w ↦ (let told = ap told_in w.report-is in omega (arith, told, c.loop-at.invariant.2))
     | in-TooLarge w ↦ (let told = ap told_in w.report-is in omega (arith, told, c.loop-at.invariant.2))
   ],
-  (λ clean. c.loop-at.invariant.3 (c.add_counted.ensures.clean clean)),
+  (λ clean. c.loop-at.invariant.3 (c.add_counted.ensures.ends.lasts.returned clean)),
   (λ clean db a from.
-      let so_far = c.loop-at.invariant.4 (c.add_counted.ensures.clean clean) db a from in
+      let so_far = c.loop-at.invariant.4 (c.add_counted.ensures.ends.lasts.returned clean) db a from in
       let items = c.args.intake.now.items.now in
-      let within : c.loop-at.at < length items = omega (arith, c.loop-at-test.true, c.requires.place) in
-      let more = one_taken (Some db) (state g.S.Store c.loop-at.conn) (state g.S.Store c.add_counted.new.conn) a c.args.intake.now.list.now items c.loop-at.at c.loop-at.count c.add_counted.new.count
+      let within : c.loop-at.at < length items = omega (arith, c.loop-at-test.true, c.requires.begins.place) in
+      let more = one_taken (Some db) (state g.S.Store c.loop-at.store.conn) (state g.S.Store c.add_counted.new.store.conn) a c.args.intake.now.list.now items c.loop-at.at c.loop-at.count c.add_counted.new.count
       (get_or items c.loop-at.at c.index-intake-at.result) c.loop-at.report so_far within (ap (get_or items c.loop-at.at) c.index-intake-at.is) in
       let adds = c.in_ok-add_counted.ensures.step clean (Some db) so_far.held so_far.counted in
       let replies = (taken a c.args.intake.now.list.now (take c.loop-at.at items)).replies in
@@ -47,17 +49,27 @@ loop-at-preserved g c = (
         | in-Known w ↦ more already_known c.match-branch-2.report (rw w.in-Known.is at adds) (ap tally_of w.report-is ∙ told_known c.loop-at.report replies so_far.told)
         | in-TooLarge w ↦ more (refused too_large) c.match-branch-2.report (rw w.in-TooLarge.is at adds) (ap tally_of w.report-is ∙ told_too_large c.loop-at.report replies so_far.told)
       ]),
-  lasts_then _ _ _ c.loop-at.invariant.5 c.add_counted.ensures.lasts,
+  lasts_then _ _ _ c.loop-at.invariant.5 c.add_counted.ensures.ends.lasts,
+  omega (arith, c.loop-at.invariant.6, c.in_ok-add_counted.ensures.ends.counted.0),
 )
 
 pub loop-at-init : goal.loop-at-init
-loop-at-init g c = (omega arith, omega (arith, c.requires.order), c.requires.told, (λ clean. clean), (λ clean db a from. from), lasts_same _)
+loop-at-init g c = (omega arith, omega (arith, c.requires.begins.order), c.requires.begins.told, (λ clean. clean), (λ clean db a from. from), lasts_same _, omega arith)
 
-pub returns-in-Full-clause-lasts : goal.returns-in-Full-clause-lasts
-returns-in-Full-clause-lasts g c = lasts_then _ _ _ c.loop-at.invariant.5 c.add_counted.ensures.lasts
+pub returns-in-Full-clause-ends : goal.returns-in-Full-clause-ends
+returns-in-Full-clause-ends g c = record {
+  lasts = lasts_then _ _ _ c.loop-at.invariant.5 c.add_counted.ensures.ends.lasts;
+  fault = tt;
+  counted = (omega (arith, c.loop-at.invariant.6, c.in_ok-add_counted.ensures.ends.counted.0), tt);
+}
 
-pub returns-in_err-add_counted-clause-lasts : goal.returns-in_err-add_counted-clause-lasts
-returns-in_err-add_counted-clause-lasts g c = lasts_then _ _ _ c.loop-at.invariant.5 c.add_counted.ensures.lasts
+pub returns-in_err-add_counted-clause-ends : goal.returns-in_err-add_counted-clause-ends
+returns-in_err-add_counted-clause-ends g c = record {
+  lasts = lasts_then _ _ _ c.loop-at.invariant.5 c.add_counted.ensures.ends.lasts;
+  fault = search rules;
+  counted = raises_after IsWant _ _ _ c.from_residual.result c.loop-at.invariant.6
+      (raises_on (Unit {0}) _ _ c.from_residual.result c.in_err-add_counted.field-0.0 c.from_residual.ensures.1 c.in_err-add_counted.ensures.ends.counted);
+}
 
-pub returns-clause-lasts : goal.returns-clause-lasts
-returns-clause-lasts g c = c.loop-at.invariant.5
+pub returns-clause-ends : goal.returns-clause-ends
+returns-clause-ends g c = record { lasts = c.loop-at.invariant.5; fault = tt; counted = (c.loop-at.invariant.6, tt) }

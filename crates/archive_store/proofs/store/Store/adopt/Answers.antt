@@ -1,13 +1,60 @@
-use Rattle.std.proofs.Common.{sym, subst, ◌∙◌, inl}
+use Rattle.std.proofs.Common.{rules, sym, subst, ◌∙◌, inl}
 use Rattle.std.specs.Prelude.{OnOk}
 use Rattle.sqlite.specs.Held.{state}
 use Rattle.archive_database.specs.Adopting.{MayBeTaken}
 use Rattle.archive_store.proofs.store.Store.adopt.Goals.{then-has_nothing, else-has_nothing}
 use Rattle.archive_store.proofs.store.Store.adopt.Goals as goal
 
-pub returns-in-Ok-clause-objects : goal.returns-in-Ok-clause-objects
-returns-in-Ok-clause-objects g c =
+pub returns-in-Ok-clause-adopted : goal.returns-in-Ok-clause-adopted
+returns-in-Ok-clause-adopted g c =
     elim c.if-has_nothing.branch [
-      | then-has_nothing w ↦ inl (c.has_nothing.ensures.0 w.if-has_nothing.true)
-      | else-has_nothing w ↦ subst (λ r. OnOk r (MayBeTaken (state g.S.Store c.args.connection).now.schema)) (sym w.done-is ∙ c.in-Ok.is) w.take_over-done.ensures.objects
+      | then-has_nothing w ↦ record {
+        made = search rules;
+        found = search rules;
+        brought = search rules;
+        objects = inl (c.has_nothing.ensures.0 w.if-has_nothing.true);
+        version = search rules;
+        rows = search rules;
+        returned = search rules;
+        lasts = search rules;
+        unlimited = search rules;
+      }
+      | else-has_nothing w ↦ record {
+        made = search rules;
+        found = search rules;
+        brought = search rules;
+        objects = subst (λ r. OnOk r (MayBeTaken (state g.S.Store c.args.connection).now.schema)) (sym w.done-is ∙ c.in-Ok.is) w.take_over-done.ensures.objects;
+        version = search rules;
+        rows = search rules;
+        returned = search rules;
+        lasts = search rules;
+        unlimited = search rules;
+      }
+    ]
+
+pub returns-in-Err-clause-refused : goal.returns-in-Err-clause-refused
+returns-in-Err-clause-refused g c =
+    elim c.if-has_nothing.branch [
+      | then-has_nothing w ↦ record {
+        left = search rules;
+        undone = search rules;
+        as_before = search rules;
+        foreign = search rules;
+        why = search rules;
+        caused = search rules;
+        fault = search rules;
+        returned = search rules;
+        lasts = search rules;
+      }
+      | else-has_nothing w ↦ record {
+        left = search rules;
+        undone = search rules;
+        as_before = search rules;
+        foreign = search rules;
+        why = search rules;
+        caused = search rules;
+        fault = search rules;
+        returned = search rules;
+        lasts = search rules;
+      }
     ]

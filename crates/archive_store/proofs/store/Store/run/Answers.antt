@@ -22,12 +22,6 @@ loop-command-init g c =
       omega arith,
     )
 
-pub returns-in-Err-clause-clean : goal.returns-in-Err-clause-clean
-returns-in-Err-clause-clean g c = λ clean. c.loop-command.invariant.1 (c.carry_out.ensures.clean clean)
-
-pub returns-clause-clean : goal.returns-clause-clean
-returns-clause-clean g c = c.loop-command.invariant.1
-
 pub returns-clause-step : goal.returns-clause-step
 returns-clause-step g c = λ clean kept.
     let first = state g.S.Store c.args.self.now.conn in
@@ -37,7 +31,7 @@ returns-clause-step g c = λ clean kept.
 pub returns-in-Err-clause-step : goal.returns-in-Err-clause-step
 returns-in-Err-clause-step g c = λ clean kept up.
     let first = state g.S.Store c.args.self.now.conn in
-    let before = c.loop-command.invariant.2 (c.carry_out.ensures.clean clean) kept in
+    let before = c.loop-command.invariant.2 (c.carry_out.ensures.ends.lasts.returned clean) kept in
     let at = c.loop-command.command-index in
     let stopped = ran_stop first (state g.S.Store c.loop-command.self.conn) (state g.S.Store c.carry_out.new.self.conn) (map command_of (take at c.args.commands.now))
     c.loop-command.outcomes.items before.0 (c.in-Err.ensures.step clean before.0.0 before.1) up in
@@ -52,17 +46,17 @@ loop-command-preserved g c =
     let o = c.in-Ok-carry_out.outcome in
     let outcomes = c.loop-command.outcomes.items in (
       omega (arith, c.loop-command.invariant.0, ap length c.in-Ok-push.ensures.items, length-append outcomes (o ∷ [])),
-      (λ clean. c.loop-command.invariant.1 (c.carry_out.ensures.clean clean)),
+      (λ clean. c.loop-command.invariant.1 (c.carry_out.ensures.ends.lasts.returned clean)),
       (λ clean kept.
-          let ran = c.loop-command.invariant.2 (c.carry_out.ensures.clean clean) kept in
+          let ran = c.loop-command.invariant.2 (c.carry_out.ensures.ends.lasts.returned clean) kept in
           let steps = c.in-Ok-carry_out.ensures.step clean ran.0.0 ran.1 in (
             ran_next first mid new c.args.commands.now c.loop-command.command-index c.command-item.result outcomes c.push.new.self.items o ran.0
                 c.in-Ok-carry_out.ensures.told steps (omega (arith, c.loop-command-test.true)) c.command-item.is c.in-Ok-push.ensures.items,
             count_after g.S.Store c.loop-command.self.conn c.carry_out.new.self.conn c.command-item.result c.loop-command.counted c.carry_out.new.counted
                 (answer_of o) clean ran.0.0 c.in-Ok-carry_out.ensures.told steps c.in-Ok-carry_out.ensures.counted ran.1,
           )),
-      lasts_then _ _ _ c.loop-command.invariant.3 c.carry_out.ensures.lasts,
-      omega (arith, c.loop-command.invariant.4, c.in-Ok-carry_out.ensures.wanted.0),
+      lasts_then _ _ _ c.loop-command.invariant.3 c.carry_out.ensures.ends.lasts,
+      omega (arith, c.loop-command.invariant.4, c.in-Ok-carry_out.ensures.ends.counted.0),
     )
 
 pub returns-in-Err-push-clause-step : goal.returns-in-Err-push-clause-step
@@ -71,7 +65,7 @@ returns-in-Err-push-clause-step g c = λ clean kept up.
     let at = c.loop-command.command-index in
     let o = c.in-Ok-carry_out.outcome in
     let outcomes = c.loop-command.outcomes.items in
-    let before = c.loop-command.invariant.2 (c.carry_out.ensures.clean clean) kept in
+    let before = c.loop-command.invariant.2 (c.carry_out.ensures.ends.lasts.returned clean) kept in
     let ran = ran_next first (state g.S.Store c.loop-command.self.conn) (state g.S.Store c.carry_out.new.self.conn) c.args.commands.now at c.command-item.result outcomes (outcomes ++ o ∷ []) o before.0
     c.in-Ok-carry_out.ensures.told (c.in-Ok-carry_out.ensures.step clean before.0.0 before.1) (omega (arith, c.loop-command-test.true)) c.command-item.is refl in
     let len : vec_len c.loop-command.outcomes ≡ length outcomes = search rules in
@@ -86,12 +80,3 @@ pub returns-in-Err-push-clause-bound : goal.returns-in-Err-push-clause-bound
 returns-in-Err-push-clause-bound g c =
     let len : vec_len c.loop-command.outcomes ≡ length c.loop-command.outcomes.items = search rules in
     omega (arith, c.len-done.ensures, len, c.loop-command.invariant.0, c.loop-command-test.true)
-
-pub returns-in-Err-clause-lasts : goal.returns-in-Err-clause-lasts
-returns-in-Err-clause-lasts g c = lasts_then _ _ _ c.loop-command.invariant.3 c.carry_out.ensures.lasts
-
-pub returns-in-Err-push-clause-lasts : goal.returns-in-Err-push-clause-lasts
-returns-in-Err-push-clause-lasts g c = lasts_then _ _ _ c.loop-command.invariant.3 c.carry_out.ensures.lasts
-
-pub returns-clause-lasts : goal.returns-clause-lasts
-returns-clause-lasts g c = c.loop-command.invariant.3

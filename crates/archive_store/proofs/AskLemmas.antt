@@ -1,0 +1,29 @@
+-- What a call of the tables says of a store outside a transaction.
+use Rattle.std.proofs.Common.{◌≡◌, None, Ok, Err, Result}
+use Rattle.std.specs.Prelude.{⊤}
+use Rattle.sqlite.specs.declared.error.Error.{Error}
+use Rattle.sqlite.specs.Store.{Ghosts}
+use Rattle.sqlite.specs.Held.{Held, state}
+use Rattle.sqlite.specs.State.{HasCleanDisk}
+use Rattle.archive_machine.specs.Records.{Archive}
+use Rattle.archive_tables.specs.Tables.{IsKept, archive_of}
+use Rattle.archive_tables.specs.Calls.{Asks, Writes, Changes, Rests}
+
+module _ {S A : Type 0} {g : Ghosts S} {old new : Held S} where
+  -- a question that is answered, or not
+  pub answered : {a : A} {Says : Archive → A → Type 0} {Unread : Type 0} → Asks g old new (Ok a) Says Unread → HasCleanDisk (state g new) → IsKept (state g old)
+      → Says (archive_of (state g old)) a × IsKept (state g new) × (archive_of (state g new) ≡ archive_of (state g old))
+  answered asks clean kept = let it = asks.over clean None kept in (it.0, it.1.0, it.1.1)
+
+  pub unanswered : {e : Error} {Says : Archive → A → Type 0} {Unread : Type 0} → Asks g old new (Err e) Says Unread → HasCleanDisk (state g new) → IsKept (state g old)
+      → Rests (state g old) (state g new)
+  unanswered asks clean kept = asks.over clean None kept
+
+  -- a write that is done, or not
+  pub written : {a : A} {change : Archive → Archive} → Writes g old new (Ok a) (λ _. ⊤) change → HasCleanDisk (state g new) → IsKept (state g old)
+      → Changes (state g old) (state g new) change
+  written writes clean kept = writes.over clean None kept tt
+
+  pub unwritten : {e : Error} {Needs : Archive → Type 0} {change : Archive → Archive} → (let r : Result A Error = Err e in Writes g old new r Needs change) → HasCleanDisk (state g new) → IsKept (state g old)
+      → Rests (state g old) (state g new)
+  unwritten writes clean kept = writes.over clean None kept

@@ -1,0 +1,219 @@
+-- Questions of a store, call by call: what each says where it is answered, what it leaves where it fails, and what its E15 means.
+use Rattle.std.proofs.Common.{◌≡◌, ℕ, ◌⊎◌, inl, inr, true, false, List, [], Option, Some, None, Result, Ok, Err, IfOk, IfErr, OnOk, refl, sym, ap, subst, ◌∙◌}
+use Rattle.std.specs.Prelude.{⊤, Bool, not, if◌then◌else◌, IsTrue, IsUtf8, IfSome, IsErrAnd, MatchResult, MatchOption, option_map}
+use Rattle.std.specs.Option.{IsSomeAnd}
+use Rattle.sqlite_disk.specs.Disk.{MoreFaults}
+use Rattle.sqlite.specs.declared.error.Error.{Error}
+use Rattle.sqlite.specs.Tree.{Trees}
+use Rattle.sqlite.specs.Store.{Ghosts}
+use Rattle.sqlite.specs.Held.{Held, state}
+use Rattle.sqlite.specs.State.{State, HasCleanDisk}
+use Rattle.archive_machine.specs.Records.{Message, Person, Archive}
+use Rattle.archive_machine.specs.Commands.{Refusal, no_list, no_person}
+use Rattle.archive_machine.specs.Questions.{has_list, has_person, list_refusal, standing_refusal}
+use Rattle.archive_tables.specs.Tables.{IsHeld, IsKept, archive_of}
+use Rattle.archive_tables.specs.Calls.{Asks, AsksRows, StaysOver, RowsRest, AnswersOpen, FailsByFaultOr, IsCaused, Rests}
+use Rattle.archive_database.specs.Messages.{IsReadable}
+use Rattle.archive_database.specs.declared.faults.Fault.{Fault}
+use Rattle.archive_database.specs.declared.faults.Fault.TheVariants as inner
+use Rattle.archive_tables.proofs.CauseLemmas.{answers_none}
+use Rattle.archive_store.specs.Replies.{refusal, fault_in, IsOneOf, RefusedFor, Answers}
+use Rattle.archive_store.specs.Told.{EndsAsk, EndsBy, HasFailed}
+use Rattle.archive_store.specs.declared.store.Store.{Store}
+use Rattle.archive_store.specs.declared.faults.StoreFault.{StoreFault}
+use Rattle.archive_store.specs.declared.faults.StoreFault.TheVariants as faults
+use Rattle.archive_store.proofs.PassLemmas.{Passes, answer_last}
+use Rattle.archive_store.proofs.CauseLemmas.{by_cause, is_database, passed_on, unread_key}
+use Rattle.archive_store.proofs.WantLemmas.{raises_on}
+
+-- what was done on a database, handed on
+abbrev pub PassesFault : {A : Type 0} → Result A Fault → Result A StoreFault → Type 0
+PassesFault told result = MatchResult result (λ found. told ≡ Ok found) (λ fault. IsErrAnd told (λ error. fault ≡ fault_in error))
+
+-- only memory or the database was at fault
+abbrev pub HasNoReason : {A : Type 0} → Result A StoreFault → Type 0
+HasNoReason result = IfErr result (λ fault. refusal fault ≡ None)
+
+-- nothing refuses it
+abbrev pub never : Archive → Option Refusal
+never archive = None
+
+-- what E15 means
+abbrev pub Blames : {A : Type 0} → Result A StoreFault → Type 0 → Type 0
+Blames result Why = IfErr result (λ fault. fault ≡ faults.Store → Why)
+
+pub blames : {A : Type 0} (r : Result A StoreFault) {P Q : Type 0} → (P → Q) → Blames r P → Blames r Q
+blames (Ok a) all why = tt
+blames (Err fault) all why = λ it. all (why it)
+
+-- ---- a question on the tables, handed on
+
+module _ {S A : Type 0} (g : Ghosts S) (old new : Held S) (told : Result A Error) (r : Result A StoreFault) where
+  pub answers_passed : (Says : Archive → A → Type 0) (Unread : Type 0) → Passes told r → HasNoReason r → Asks g old new told Says Unread → Answers g old new r never Says
+  answers_passed Says Unread is none asks = λ clean kept. answer_last g old old new told Says never r is none asks clean (kept, refl) refl
+
+  pub blames_passed : (Unread : Type 0) → Passes told r → FailsByFaultOr g old new told Unread
+      → HasCleanDisk (state g new) → IsKept (state g old) → (state g old).step_limit ≡ None → Blames r (MoreFaults (state g old).faults (state g new).faults ⊎ Unread)
+  blames_passed Unread is caused clean kept free = go told r is (caused clean kept free)
+    where
+      go : (t : Result A Error) (r : Result A StoreFault) → Passes t r → IfErr t (λ e. IsCaused (state g old) (state g new) e ⊎ Unread)
+          → Blames r (MoreFaults (state g old).faults (state g new).faults ⊎ Unread)
+      go t (Ok a) is why = tt
+      go (Ok a) (Err fault) is why = absurd is
+      go (Err e) (Err fault) is why = λ it. elim why [ inl cause ↦ inl (by_cause (state g old) (state g new) e cause (sym is ∙ it)) | inr bad ↦ inr bad ]
+
+  -- one that reads no row
+  pub blames_disk : Passes told r → FailsByFaultOr g old new told ⊥
+      → HasCleanDisk (state g new) → IsKept (state g old) → (state g old).step_limit ≡ None → Blames r (MoreFaults (state g old).faults (state g new).faults)
+  blames_disk is caused clean kept free = blames r (λ why. elim why [ inl more ↦ more | inr bad ↦ absurd bad ]) (blames_passed ⊥ is caused clean kept free)
+
+  pub up_passed : Passes told r → HasNoReason r → AnswersOpen g old new told → HasCleanDisk (state g new)
+      → MatchResult r (λ _. IsTrue (state g old).is_open) (λ fault. MatchOption (refusal fault) ⊤ (λ _. IsTrue (state g old).is_open))
+  up_passed is none was = λ clean. go r is none (was clean)
+    where
+      go : (r : Result A StoreFault) → Passes told r → HasNoReason r → OnOk told (IsTrue (state g old).is_open)
+          → MatchResult r (λ _. IsTrue (state g old).is_open) (λ fault. MatchOption (refusal fault) ⊤ (λ _. IsTrue (state g old).is_open))
+      go (Ok a) is none was = subst (λ t. OnOk t (IsTrue (state g old).is_open)) is was
+      go (Err fault) is none was = subst (λ o. MatchOption o ⊤ (λ _. IsTrue (state g old).is_open)) (sym none) tt
+
+-- ---- a question on the rows themselves, handed on
+
+module _ {S A : Type 0} {g : Ghosts S} {old new : Held S} where
+  pub passed_rows : {told : Result A Error} {a : A} {Says : Trees → A → Type 0} {Unread : Type 0} → AsksRows g old new told Says Unread → told ≡ Ok a
+      → HasCleanDisk (state g new) → IsKept (state g old) → Says (state g old).now.trees a × ((state g new).now ≡ (state g old).now) × IsHeld None (state g new)
+  passed_rows {Says = Says} {Unread = Unread} asks is clean kept = (subst (λ t. AsksRows g old new t Says Unread) is asks).over clean None kept
+
+  pub passed_no_rows : (told : Result A Error) (Is : Error → Type 0) {Says : Trees → A → Type 0} {Unread : Type 0} → AsksRows g old new told Says Unread → IsErrAnd told Is
+      → HasCleanDisk (state g new) → IsKept (state g old) → RowsRest None (state g old) (state g new)
+  passed_no_rows (Ok a) Is asks is = absurd is
+  passed_no_rows (Err e) Is asks is = λ clean kept. asks.over clean None kept
+
+-- ---- what was read of rows, handed on
+
+module _ {A : Type 0} (told : Result A Fault) (r : Result A StoreFault) where
+  pub answers_read : (Q P : A → Type 0) (R : Refusal → Type 0) {X : Type 0} → PassesFault told r → HasNoReason r → IfOk told Q → ((a : A) → Q a → P a) → X
+      → MatchResult r P (λ fault. MatchOption (refusal fault) X R)
+  answers_read Q P R {X} is none read all rest = go r is none
+    where
+      go : (r : Result A StoreFault) → PassesFault told r → HasNoReason r → MatchResult r P (λ fault. MatchOption (refusal fault) X R)
+      go (Ok a) is none = all a (subst (λ t. IfOk t Q) is read)
+      go (Err fault) is none = subst (λ o. MatchOption o X R) (sym none) rest
+
+  -- the same where a fault says nothing of its reason
+  pub finds_read : (Q P : A → Type 0) {X : Type 0} → PassesFault told r → IfOk told Q → ((a : A) → Q a → P a) → X → MatchResult r P (λ _. X)
+  finds_read Q P {X} is read all rest = go r is
+    where
+      go : (r : Result A StoreFault) → PassesFault told r → MatchResult r P (λ _. X)
+      go (Ok a) is = all a (subst (λ t. IfOk t Q) is read)
+      go (Err fault) is = rest
+
+  pub blames_read : (Q : Fault → Type 0) {Why : Type 0} → PassesFault told r → IfErr told Q → ((e : Fault) → Q e → e ≡ inner.Database → Why) → Blames r Why
+  blames_read Q {Why} is unread all = go told r is unread
+    where
+      go : (t : Result A Fault) (r : Result A StoreFault) → PassesFault t r → IfErr t Q → Blames r Why
+      go t (Ok a) is unread = tt
+      go (Ok a) (Err fault) is unread = absurd is
+      go (Err e) (Err fault) is unread = λ it. all e unread (is_database e (sym is ∙ it))
+
+-- a want of memory is no fault of the database
+pub not_both : {Why : Type 0} (e : Fault) → e ≡ inner.Memory → e ≡ inner.Database → Why
+not_both e wants is = absurd (let bad : inner.Memory ≡ inner.Database = sym wants ∙ is in cc)
+
+-- ---- the exit of a `?`
+
+-- a fault that has no reason
+pub no_reason_of : (fault : StoreFault) → IfSome (refusal fault) (λ why. IsOneOf why []) → refusal fault ≡ None
+no_reason_of fault it = go (refusal fault) it
+  where
+    go : (o : Option Refusal) → IfSome o (λ why. IsOneOf why []) → o ≡ None
+    go None it = refl
+    go (Some why) it = absurd it
+
+module _ {A : Type 0} (r : Result A StoreFault) (fault : StoreFault) (is : IsErrAnd r (λ told. told ≡ fault)) (none : refusal fault ≡ None) where
+  pub stops : (P : A → Type 0) (R : Refusal → Type 0) {X : Type 0} → X → MatchResult r P (λ told. MatchOption (refusal told) X R)
+  stops P R {X} rest = go r is
+    where
+      go : (r : Result A StoreFault) → IsErrAnd r (λ told. told ≡ fault) → MatchResult r P (λ told. MatchOption (refusal told) X R)
+      go (Ok a) is = absurd is
+      go (Err told) is = subst (λ o. MatchOption o X R) (sym (ap refusal is ∙ none)) rest
+
+  pub stops_for : (whys : List Refusal) → RefusedFor r whys
+  stops_for whys = go r is
+    where
+      go : (r : Result A StoreFault) → IsErrAnd r (λ told. told ≡ fault) → RefusedFor r whys
+      go (Ok a) is = tt
+      go (Err told) is = subst (λ o. IfSome o (λ why. IsOneOf why whys)) (sym (ap refusal is ∙ none)) tt
+
+-- behind the first question of a call, which is refused for no reason
+pub ends_first : {S A B : Type 0} (g : Ghosts S) (old new : Store S) (r : Result A StoreFault) (fault : StoreFault) → IsErrAnd r (λ told. told ≡ fault)
+    → EndsAsk g old new {A = B} (Err fault) [] → {Cause : Type 0} → (HasFailed g old new → Cause) → (whys : List Refusal) → EndsBy g old new Cause r whys
+ends_first {B = B} g old new r fault is ends because whys = record {
+  lasts = ends.lasts;
+  was_open = λ returned. answers_none r _ _ is;
+  kind = stops_for r fault is (no_reason_of fault ends.kind) whys;
+  counted = raises_on B _ _ r fault is ends.counted;
+  caused = λ returned held free. passed_on r fault _ is (λ it. because (ends.caused returned held free it));
+}
+
+-- whatever its reason
+pub fails_as : {A : Type 0} (r : Result A StoreFault) (fault : StoreFault) → IsErrAnd r (λ told. told ≡ fault) → (P : A → Type 0) (R : Refusal → Type 0) (X : Type 0)
+    → MatchOption (refusal fault) X R → MatchResult r P (λ told. MatchOption (refusal told) X R)
+fails_as (Ok a) fault is P R X it = absurd is
+fails_as (Err told) fault is P R X it = subst (λ f. MatchOption (refusal f) X R) (sym is) it
+
+-- ---- one question behind another
+
+-- what has no reason says what it leaves
+pub rests_of : (fault : StoreFault) (Y : Refusal → Type 0) {X : Type 0} → refusal fault ≡ None → MatchOption (refusal fault) X Y → X
+rests_of fault Y {X} none it = subst (λ o. MatchOption o X Y) none it
+
+pub rests_later : (old mid new : State) → archive_of mid ≡ archive_of old → Rests mid new → Rests old new
+rests_later old mid new same rests = λ up. ((rests up).0, (rests up).1 ∙ same)
+
+-- a list that is not there
+pub not_there : (list : List ℕ) (a : Archive) → false ≡ has_list a list → list_refusal a list ≡ Some no_list
+not_there list a none = rw (sym none) refl
+
+-- one that is
+pub is_listed : (list : List ℕ) (a : Archive) → list_refusal a list ≡ None → true ≡ has_list a list
+is_listed list a is = go (has_list a list) is
+  where
+    go : (b : Bool) → (if not b then Some no_list else None) ≡ None → true ≡ b
+    go true is = refl
+    go false is = absurd cc
+
+why_not : (list : List ℕ) (a : Archive) (why : Refusal) → list_refusal a list ≡ Some why → (why ≡ no_list) × (has_list a list ≡ false)
+why_not list a why is = go (has_list a list) is
+  where
+    go : (b : Bool) → (if not b then Some no_list else None) ≡ Some why → (why ≡ no_list) × (b ≡ false)
+    go true is = absurd cc
+    go false is = (cc, refl)
+
+-- a list that is not counted
+pub not_counted : (old mid new : State) (list : List ℕ) (o : Option Refusal) → archive_of mid ≡ archive_of old
+    → MatchOption o (Rests mid new) (λ why. (IsKept new × (archive_of new ≡ archive_of mid)) × (list_refusal (archive_of mid) list ≡ Some why))
+    → MatchOption o (Rests old new) (λ why. StaysOver None old new × (why ≡ no_list) × (has_list (archive_of old) list ≡ false))
+not_counted old mid new list None same rests = rests_later old mid new same rests
+not_counted old mid new list (Some why) same it =
+    let is = why_not list (archive_of mid) why it.1 in
+    ((it.0.0, it.0.1 ∙ same), is.0, subst (λ a. has_list a list ≡ false) same is.1)
+
+-- of a standing
+pub no_such_person : (person list : List ℕ) (a : Archive) → false ≡ has_person a person → standing_refusal a person list ≡ Some no_person
+no_such_person person list a none = rw (sym none) refl
+
+pub no_such_list : (person list : List ℕ) (a : Archive) → true ≡ has_person a person → false ≡ has_list a list → standing_refusal a person list ≡ Some no_list
+no_such_list person list a there none = rw (sym there, sym none) refl
+
+-- ---- names that cannot be read
+
+pub blames_person : {A : Type 0} (M : Type 0) (r : Result A StoreFault) (found : Option Person) → Blames r (M ⊎ IsSomeAnd found (λ p. ¬ IsUtf8 p.name))
+    → Blames r (M ⊎ IsSomeAnd (option_map (λ p. p.name) found) (λ name. ¬ IsUtf8 name))
+blames_person M r (Some p) why = why
+blames_person M r None why = blames r (λ why. elim why [ inl more ↦ inl more | inr bad ↦ absurd bad ]) why
+
+-- a message that cannot be read
+pub unread_row : {M : Type 0} (found : Option Message) → M ⊎ IsSomeAnd found (λ m. ¬ IsUtf8 m.key) → M ⊎ (¬ IsSomeAnd found IsReadable)
+unread_row found (inl more) = inl more
+unread_row (Some m) (inr bad) = inr (unread_key m bad)
+unread_row None (inr bad) = absurd bad

@@ -1,0 +1,104 @@
+-- What a call of the tables told and a store handed on: the same value, or its error as a fault.
+use Rattle.std.proofs.Common.{◌≡◌, None, Ok, Err, Result, IfErr, OnOk, List, sym, subst, ◌∙◌}
+use Rattle.std.specs.Prelude.{⊤, IsTrue, IsErrAnd, Option, Some, MatchResult, MatchOption}
+use Rattle.sqlite.specs.declared.error.Error.{Error}
+use Rattle.sqlite.specs.Store.{Ghosts}
+use Rattle.sqlite.specs.Held.{Held, state}
+use Rattle.sqlite.specs.State.{HasCleanDisk}
+use Rattle.archive_machine.specs.Records.{Archive}
+use Rattle.archive_tables.specs.Tables.{IsKept, archive_of}
+use Rattle.archive_tables.specs.Calls.{Asks, Writes, Changes, Rests, StaysOver, Lasts, AnswersOpen}
+use Rattle.archive_machine.specs.Commands.{Refusal}
+use Rattle.archive_store.specs.Replies.{fault_of, refusal, Stays, RefusedFor}
+use Rattle.archive_store.specs.declared.faults.StoreFault.{StoreFault}
+use Rattle.archive_store.specs.declared.faults.StoreFault.TheVariants as faults
+use Rattle.archive_store.proofs.AskLemmas.{answered, unanswered, written, unwritten}
+
+-- ---- what was told of a value, or of an error
+
+pub of_ok : {A E X : Type 0} (Y : Type 0) {told : Result A E} {a : A} → told ≡ Ok a → MatchResult told (λ _. X) (λ _. Y) → X
+of_ok {X = X} Y is it = subst (λ r. MatchResult r (λ _. X) (λ _. Y)) is it
+
+pub of_err : {A E Y : Type 0} (told : Result A E) (Is : E → Type 0) (X : Type 0) → IsErrAnd told Is → MatchResult told (λ _. X) (λ _. Y) → Y
+of_err (Ok a) Is X is it = absurd is
+of_err (Err e) Is X is it = it
+
+-- ---- a question, and a write
+
+module _ {S A : Type 0} {g : Ghosts S} {old new : Held S} where
+  -- a question that is answered, or not
+  pub passed_answer : {told : Result A Error} {a : A} {Says : Archive → A → Type 0} {Unread : Type 0} → Asks g old new told Says Unread → told ≡ Ok a
+      → HasCleanDisk (state g new) → IsKept (state g old)
+      → Says (archive_of (state g old)) a × IsKept (state g new) × (archive_of (state g new) ≡ archive_of (state g old))
+  passed_answer {Says = Says} {Unread = Unread} asks is = answered (subst (λ r. Asks g old new r Says Unread) is asks)
+
+  -- the same, as a step of a command takes it
+  pub passed_over : {told : Result A Error} {a : A} {Says : Archive → A → Type 0} {Unread : Type 0} → Asks g old new told Says Unread → told ≡ Ok a
+      → HasCleanDisk (state g new) → IsKept (state g old) → Says (archive_of (state g old)) a × StaysOver None (state g old) (state g new)
+  passed_over {Says = Says} {Unread = Unread} asks is clean kept = (subst (λ r. Asks g old new r Says Unread) is asks).over clean None kept
+
+  pub passed_unanswered : (told : Result A Error) (Is : Error → Type 0) {Says : Archive → A → Type 0} {Unread : Type 0} → Asks g old new told Says Unread → IsErrAnd told Is
+      → HasCleanDisk (state g new) → IsKept (state g old) → Rests (state g old) (state g new)
+  passed_unanswered (Ok a) Is asks is = absurd is
+  passed_unanswered (Err e) Is asks is = unanswered asks
+
+  -- a write that is done, or not
+  pub passed_written : {told : Result A Error} {a : A} {change : Archive → Archive} → Writes g old new told (λ _. ⊤) change → told ≡ Ok a
+      → HasCleanDisk (state g new) → IsKept (state g old) → Changes (state g old) (state g new) change
+  passed_written {change = change} writes is = written (subst (λ r. Writes g old new r (λ _. ⊤) change) is writes)
+
+  -- one that needs something of the archive
+  pub passed_needing : {told : Result A Error} {a : A} {Needs : Archive → Type 0} {change : Archive → Archive} → Writes g old new told Needs change → told ≡ Ok a
+      → HasCleanDisk (state g new) → IsKept (state g old) → Needs (archive_of (state g old)) → Changes (state g old) (state g new) change
+  passed_needing {Needs = Needs} {change = change} writes is clean kept = (subst (λ r. Writes g old new r Needs change) is writes).over clean None kept
+
+  pub passed_unwritten : (told : Result A Error) (Is : Error → Type 0) {Needs : Archive → Type 0} {change : Archive → Archive} → Writes g old new told Needs change → IsErrAnd told Is
+      → HasCleanDisk (state g new) → IsKept (state g old) → Rests (state g old) (state g new)
+  passed_unwritten (Ok a) Is writes is = absurd is
+  passed_unwritten (Err e) Is writes is = unwritten writes
+
+-- ---- what E15 means
+
+-- the exit of a `?` behind an error that was handed on
+pub blamed_on : {A B : Type 0} (result : Result B StoreFault) (told : Result A Error) (fault : StoreFault) (Why : Error → Type 0) (X : Type 0)
+    → IsErrAnd result (λ f. f ≡ fault) → IsErrAnd told (λ e. fault ≡ fault_of e) → IfErr told Why → ((e : Error) → Why e → fault_of e ≡ faults.Store → X)
+    → IfErr result (λ f. f ≡ faults.Store → X)
+blamed_on (Ok b) told fault Why X same is why then = tt
+blamed_on (Err f) (Ok a) fault Why X same is why then = absurd is
+blamed_on (Err f) (Err e) fault Why X same is why then = λ it. then e why (sym is ∙ sym same ∙ it)
+
+-- ---- where what was told is the whole answer
+
+-- it is the same value, or its error as a fault
+abbrev pub Passes : {A : Type 0} → Result A Error → Result A StoreFault → Type 0
+Passes told result = MatchResult result (λ found. told ≡ Ok found) (λ fault. IsErrAnd told (λ error. fault ≡ fault_of error))
+
+pub blamed_last : {A : Type 0} (told : Result A Error) (result : Result A StoreFault) (Why : Error → Type 0) (X : Type 0)
+    → Passes told result → IfErr told Why → ((e : Error) → Why e → fault_of e ≡ faults.Store → X) → IfErr result (λ f. f ≡ faults.Store → X)
+blamed_last told (Ok a) Why X is why then = tt
+blamed_last (Ok a) (Err f) Why X is why then = absurd is
+blamed_last (Err e) (Err f) Why X is why then = λ it. then e why (sym is ∙ it)
+
+pub kind_last : {A : Type 0} (result : Result A StoreFault) (whys : List Refusal) → IfErr result (λ fault. refusal fault ≡ None) → RefusedFor result whys
+kind_last (Ok a) whys kind = tt
+kind_last (Err f) whys kind = rw kind tt
+
+module _ {S A : Type 0} (g : Ghosts S) (old mid new : Held S) (told : Result A Error) where
+  pub open_last : (result : Result A StoreFault) → Passes told result → Lasts (state g old) (state g mid) → Lasts (state g mid) (state g new)
+      → AnswersOpen g mid new told → AnswersOpen g old new result
+  open_last (Ok a) is first last was = λ clean.
+      first.stays_shut (last.returned clean) (subst (λ r. OnOk r (IsTrue (state g mid).is_open)) is (was clean))
+  open_last (Err f) is first last was = λ clean. tt
+
+  -- a question behind others, which left the archive and did not refuse it
+  pub answer_last : {Unread : Type 0} (Says : Archive → A → Type 0) (refuses : Archive → Option Refusal) (result : Result A StoreFault)
+      → Passes told result → IfErr result (λ fault. refusal fault ≡ None) → Asks g mid new told Says Unread → HasCleanDisk (state g new)
+      → StaysOver None (state g old) (state g mid) → refuses (archive_of (state g old)) ≡ None
+      → MatchResult result (λ a. Stays g old new × (refuses (archive_of (state g old)) ≡ None) × Says (archive_of (state g old)) a)
+      (λ fault. MatchOption (refusal fault) (Rests (state g old) (state g new)) (λ r. Stays g old new × (refuses (archive_of (state g old)) ≡ Some r)))
+  answer_last Says refuses (Ok a) is kind asks clean stays none =
+      let it = passed_over asks is clean stays.0 in
+      ((it.1.0, it.1.1 ∙ stays.1), none, subst (λ b. Says b a) stays.1 it.0)
+  answer_last Says refuses (Err f) is kind asks clean stays none =
+      let rest = passed_unanswered _ _ asks is clean stays.0 in
+      rw kind (λ up. let r = rest up in (r.0, r.1 ∙ stays.1))

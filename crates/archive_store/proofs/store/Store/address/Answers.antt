@@ -1,0 +1,69 @@
+use Rattle.std.proofs.Common.{◌≡◌, ◌∷◌, [], sym, subst, ◌∙◌, ◌⊎◌, inl, rules}
+use Rattle.std.specs.Prelude.{find, option_map, string_bytes, IsUtf8}
+use Rattle.std.specs.Option.{IsSomeAnd}
+use Rattle.sqlite.specs.Held.{state}
+use Rattle.archive_machine.specs.Records.{Archive}
+use Rattle.archive_machine.specs.Commands.{no_person}
+use Rattle.archive_machine.specs.Questions.{is_address_of, address_of, person_refusal}
+use Rattle.archive_tables.specs.Tables.{archive_of}
+use Rattle.archive_tables.specs.Calls.{IsCaused}
+use Rattle.archive_store.specs.Wanting.{IsWant}
+use Rattle.archive_store.proofs.WantLemmas.{raises_after}
+use Rattle.archive_store.proofs.ReadingLemmas.{is_person}
+use Rattle.archive_store.proofs.CauseLemmas.{by_error, by_address}
+use Rattle.archive_store.proofs.PassLemmas.{passed_answer, passed_over, passed_unanswered, blamed_on, answer_last, open_last, kind_last, blamed_last}
+use Rattle.archive_store.proofs.store.Store.address.Goals as goal
+
+pub returns-clause-answer : goal.returns-clause-answer
+returns-clause-answer g c = λ clean kept.
+    let person = c.args.person.now in
+    let found = c.find_address-found.ensures in
+    let has = passed_over c.has_person-known.ensures c.in_ok-pass.ensures.passed (found.ends.lasts.returned clean) kept in
+    answer_last g.S.Store c.args.self.now.conn c.has_person-known.new.conn c.find_address-found.new.conn c.find_address-found.result
+    (λ a found. option_map string_bytes found ≡ address_of a person) (λ a. person_refusal a person) c.pass-2.result c.pass-2.ensures.passed c.pass-2.ensures.kind found clean has.1
+    (is_person person (archive_of (state g.S.Store c.args.self.now.conn)) (sym c.if-not-branch.false ∙ has.0))
+
+pub returns-clause-ends : goal.returns-clause-ends
+returns-clause-ends g c = record {
+  lasts = search rules;
+  was_open = open_last g.S.Store c.args.self.now.conn c.has_person-known.new.conn c.find_address-found.new.conn c.find_address-found.result c.pass-2.result
+      c.pass-2.ensures.passed c.has_person-known.ensures.ends.lasts c.find_address-found.ensures.ends.lasts c.find_address-found.ensures.ends.was_open;
+  kind = kind_last c.pass-2.result (no_person ∷ []) c.pass-2.ensures.kind;
+  counted = raises_after IsWant _ _ _ c.pass-2.result c.in_ok-pass.ensures.counted.0 c.pass-2.ensures.counted;
+  caused = λ clean kept free.
+      let person = c.args.person.now in
+      let old = state g.S.Store c.args.self.now.conn in
+      let mid = state g.S.Store c.has_person-known.new.conn in
+      let new = state g.S.Store c.find_address-found.new.conn in
+      let found = c.find_address-found.ensures in
+      let lasts = c.has_person-known.ensures.ends.lasts in
+      let has = passed_over c.has_person-known.ensures c.in_ok-pass.ensures.passed (found.ends.lasts.returned clean) kept in
+      blamed_last c.find_address-found.result c.pass-2.result _ _ c.pass-2.ensures.passed (found.caused clean has.1.0 (lasts.limit ∙ free))
+      (λ e why it.
+      let here = subst (λ (a : Archive). IsCaused mid new e ⊎ IsSomeAnd (find (is_address_of person) a.addresses) (λ x. ¬ IsUtf8 x.address)) has.1.1 why in
+      by_address old mid new e (find (is_address_of person) (archive_of old).addresses) lasts here it);
+}
+
+pub returns-in_err-pass-clause-ends : goal.returns-in_err-pass-clause-ends
+returns-in_err-pass-clause-ends g c = record {
+  lasts = search rules;
+  was_open = search rules;
+  kind = search rules;
+  counted = search rules;
+  caused = λ clean kept free.
+      blamed_on c.from_residual.result c.has_person-known.result c.in_err-pass.field-0.0 _ _ c.from_residual.ensures.1 c.in_err-pass.ensures.passed
+      (c.has_person-known.ensures.caused clean kept free)
+      (λ e why it. inl (by_error (state g.S.Store c.args.self.now.conn) (state g.S.Store c.has_person-known.new.conn) e why it));
+}
+
+-- ---- where it stops before
+
+pub returns-in_err-pass-clause-answer : goal.returns-in_err-pass-clause-answer
+returns-in_err-pass-clause-answer g c = λ clean kept.
+    let rest = passed_unanswered _ _ c.has_person-known.ensures c.in_err-pass.ensures.passed clean kept in
+    search rules
+
+pub returns-then-not-branch-clause-answer : goal.returns-then-not-branch-clause-answer
+returns-then-not-branch-clause-answer g c = λ clean kept.
+    let it_1 = passed_answer c.has_person-known.ensures c.in_ok-pass.ensures.passed clean kept in
+    search rules

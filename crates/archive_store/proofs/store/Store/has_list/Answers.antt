@@ -1,0 +1,23 @@
+use Rattle.std.proofs.Common.{rules}
+use Rattle.archive_tables.proofs.LastLemmas.{lasts_same}
+use Rattle.archive_store.proofs.PassLemmas.{open_last}
+use Rattle.archive_store.proofs.FindLemmas.{answers_passed, blames_disk, up_passed}
+use Rattle.archive_store.proofs.store.Store.has_list.Goals as goal
+
+pub returns-clause-answer : goal.returns-clause-answer
+returns-clause-answer g c =
+    answers_passed g.S.Store c.args.self.now.conn c.has_list-listed.new.conn c.has_list-listed.result c.pass.result _ _ c.pass.ensures.passed c.pass.ensures.kind c.has_list-listed.ensures
+
+pub returns-clause-ends : goal.returns-clause-ends
+returns-clause-ends g c = record {
+  lasts = search rules;
+  was_open = open_last g.S.Store c.args.self.now.conn c.args.self.now.conn c.has_list-listed.new.conn c.has_list-listed.result c.pass.result c.pass.ensures.passed
+      (lasts_same _) c.has_list-listed.ensures.ends.lasts c.has_list-listed.ensures.ends.was_open;
+  kind = search rules;
+  counted = search rules;
+  caused = blames_disk g.S.Store c.args.self.now.conn c.has_list-listed.new.conn c.has_list-listed.result c.pass.result c.pass.ensures.passed c.has_list-listed.ensures.caused;
+}
+
+pub returns-clause-was_open : goal.returns-clause-was_open
+returns-clause-was_open g c =
+    up_passed g.S.Store c.args.self.now.conn c.has_list-listed.new.conn c.has_list-listed.result c.pass.result c.pass.ensures.passed c.pass.ensures.kind c.has_list-listed.ensures.ends.was_open

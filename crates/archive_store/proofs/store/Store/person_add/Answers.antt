@@ -1,0 +1,65 @@
+use Rattle.std.proofs.Common.{◌≡◌, true, false, sym, ◌∙◌, ◌++◌, ◌∷◌, [], rules}
+use Rattle.std.specs.Prelude.{⊤}
+use Rattle.archive_machine.specs.Commands.{token_taken, done, refused}
+use Rattle.archive_machine.specs.Questions.{has_person, has_token}
+use Rattle.archive_machine.specs.Machine.{person_added}
+use Rattle.archive_store.proofs.StepLemmas.{begins, asks, answers, writes}
+use Rattle.archive_store.proofs.StepEquations.{person_token_taken, person_done}
+use Rattle.archive_store.proofs.PassLemmas.{passed_answer, passed_over, passed_unanswered, passed_written, passed_unwritten}
+use Rattle.archive_store.proofs.store.Store.person_add.Goals as goal
+
+pub returns-then-branch-2-clause-step : goal.returns-then-branch-2-clause-step
+returns-then-branch-2-clause-step g c =
+    let name = c.args.name.now in
+    let token = c.args.token.now in
+    let one = asks g.S.Store c.args.self.now.conn c.args.self.now.conn c.has_person-known.new.conn (λ _. ⊤) (λ a. false ≡ has_person a name)
+    (begins g.S.Store c.args.self.now.conn) c.has_person-known.ensures.ends.lasts.returned
+    (λ clean kept. let it = passed_over c.has_person-known.ensures c.in_ok-pass.ensures.passed clean kept in (sym c.if-branch.false ∙ it.0, it.1)) in
+    let two = asks g.S.Store c.args.self.now.conn c.has_person-known.new.conn c.has_token-taken.new.conn (λ a. ⊤ × (false ≡ has_person a name)) (λ a. true ≡ has_token a token)
+    one c.has_token-taken.ensures.ends.lasts.returned
+    (λ clean kept. let it = passed_over c.has_token-taken.ensures c.in_ok-pass-2.ensures.passed clean kept in (sym c.if-branch-2.true ∙ it.0, it.1)) in
+    answers g.S.Store c.args.self.now.conn c.has_token-taken.new.conn _ (λ a. person_added a name token) (refused token_taken) two
+    (person_token_taken name token (sym c.is_name.ensures ∙ c.if-not-is_name.false) (sym c.is_token.ensures ∙ c.if-not-is_token.false))
+
+pub returns-clause-step : goal.returns-clause-step
+returns-clause-step g c =
+    let name = c.args.name.now in
+    let token = c.args.token.now in
+    let one = asks g.S.Store c.args.self.now.conn c.args.self.now.conn c.has_person-known.new.conn (λ _. ⊤) (λ a. false ≡ has_person a name)
+    (begins g.S.Store c.args.self.now.conn) c.has_person-known.ensures.ends.lasts.returned
+    (λ clean kept. let it = passed_over c.has_person-known.ensures c.in_ok-pass.ensures.passed clean kept in (sym c.if-branch.false ∙ it.0, it.1)) in
+    let two = asks g.S.Store c.args.self.now.conn c.has_person-known.new.conn c.has_token-taken.new.conn (λ a. ⊤ × (false ≡ has_person a name)) (λ a. false ≡ has_token a token)
+    one c.has_token-taken.ensures.ends.lasts.returned
+    (λ clean kept. let it = passed_over c.has_token-taken.ensures c.in_ok-pass-2.ensures.passed clean kept in (sym c.if-branch-2.false ∙ it.0, it.1)) in
+    writes g.S.Store c.args.self.now.conn c.has_token-taken.new.conn c.add_person-added.new.conn _ (λ a. person_added a name token) done
+    (λ a. record a { persons = a.persons ++ record { name = name; token = token } ∷ [] })
+    two c.add_person-added.ensures.ends.lasts.returned (λ clean kept. passed_written c.add_person-added.ensures c.in_ok-pass-3.ensures.passed clean kept)
+    (person_done name token (sym c.is_name.ensures ∙ c.if-not-is_name.false) (sym c.is_token.ensures ∙ c.if-not-is_token.false))
+
+-- ---- where it stops before
+
+pub returns-in_err-pass-clause-step : goal.returns-in_err-pass-clause-step
+returns-in_err-pass-clause-step g c = λ clean kept.
+    let rest = passed_unanswered _ _ c.has_person-known.ensures c.in_err-pass.ensures.passed clean kept in
+    search rules
+
+pub returns-then-branch-clause-step : goal.returns-then-branch-clause-step
+returns-then-branch-clause-step g c = λ clean kept.
+    let it_1 = passed_answer c.has_person-known.ensures c.in_ok-pass.ensures.passed clean kept in
+    search rules
+
+pub returns-in_err-pass-2-clause-step : goal.returns-in_err-pass-2-clause-step
+returns-in_err-pass-2-clause-step g c = λ clean kept.
+    let clean_1 = c.has_token-taken.ensures.ends.lasts.returned clean in
+    let it_1 = passed_answer c.has_person-known.ensures c.in_ok-pass.ensures.passed clean_1 kept in
+    let rest = passed_unanswered _ _ c.has_token-taken.ensures c.in_err-pass-2.ensures.passed clean it_1.1 in
+    search rules
+
+pub returns-in_err-pass-3-clause-step : goal.returns-in_err-pass-3-clause-step
+returns-in_err-pass-3-clause-step g c = λ clean kept.
+    let clean_2 = c.add_person-added.ensures.ends.lasts.returned clean in
+    let clean_1 = c.has_token-taken.ensures.ends.lasts.returned clean_2 in
+    let it_1 = passed_answer c.has_person-known.ensures c.in_ok-pass.ensures.passed clean_1 kept in
+    let it_2 = passed_answer c.has_token-taken.ensures c.in_ok-pass-2.ensures.passed clean_2 it_1.1 in
+    let rest = passed_unwritten _ _ c.add_person-added.ensures c.in_err-pass-3.ensures.passed clean it_2.1 in
+    search rules
