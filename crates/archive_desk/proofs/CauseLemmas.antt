@@ -14,7 +14,7 @@ use Rattle.archive_store.proofs.CauseLemmas.{more_since, stops_later}
 use Rattle.archive_results.specs.Access.{Ask}
 use Rattle.archive_desk.specs.Causes.{AreUnreadable, HasCause, HasDiskCause, IsBroken}
 use Rattle.archive_desk.specs.Faults.{desk_fault}
-use Rattle.archive_desk.specs.Walking.{HasWalkCause, IsShownStop}
+use Rattle.archive_desk.specs.Walking.{HasWalkCause, IsShownStop, StopsPassing}
 use Rattle.archive_desk.specs.declared.faults.DeskFault.{DeskFault}
 
 -- ---- which faults are the database's
@@ -87,17 +87,29 @@ module _ {S : Type 0} (g : Ghosts S) (ask : Ask) (old mid new : Walk S) where
       stops_later (state g (held_of old.store.now)) (state g (held_of mid.store.now)) (state g (held_of new.store.now)) here.0 all before
       (stops returned ask.list all a here.0 here.1 (before.limit ∙ free) (broken_by fault it))
 
+  -- the same behind the marks of messages that are passed by
+  pub pass_cause : (HasReturned g mid.store.now → (all : List Remembered) (a : Archive) → WalksOver g ask.list all a [] old
+      → (given : List Remembered) × WalksOver g ask.list all a given mid)
+      → Lasts g old.store.now mid.store.now → Lasts g mid.store.now new.store.now → (fault : StoreFault) → StopsPassing g {A = Unit {0}} mid new ask (Err fault)
+      → IsBroken (desk_fault fault) → HasWalkCause g old new ask
+  pass_cause so_far before last fault stops it = λ returned free all a w.
+      let here = so_far (last.returned returned) all a w in
+      elim (stops returned all a here.0 here.1 (before.limit ∙ free) (broken_by fault it)) [
+        | inl more ↦ inl (more_since (state g (held_of old.store.now)) (state g (held_of mid.store.now)) (state g (held_of new.store.now)) before more)
+        | inr bad ↦ inr bad
+      ]
+
 module _ {S : Type 0} (g : Ghosts S) (ask : Ask) (which : Archive → List Remembered) (old mid last : Store S) (walk new : Walk S) (is : last ≡ new.store.now)
     (first : GoesIn g (HoldsTables g) old mid (λ a b. b ≡ a)) (begun : BeginsOver g mid ask.list which walk) (lasts : Lasts g walk.store.now new.store.now) where
   -- behind calls that left the archive
   pub walk_cause : HasWalkCause g walk new ask → HasCause g old last (λ a. AreUnreadable (which a))
   walk_cause why = λ returned held free.
       let returned' = subst (HasReturned g) is returned in
-      let there = first.1 (begun.0.returned (lasts.returned returned')) held in
-      let walks = begun.1 (lasts.returned returned') there.0 in
-      elim (why returned' (begun.0.limit ∙ first.0.limit ∙ free) (which (archive_in g mid)) (archive_in g mid) walks.1) [
+      let there = first.1 (begun.lasts.returned (lasts.returned returned')) held in
+      let walks = begun.over (lasts.returned returned') there.0 in
+      elim (why returned' (begun.lasts.limit ∙ first.0.limit ∙ free) (which (archive_in g mid)) (archive_in g mid) walks.1) [
         | inl more ↦
             inl (subst (HasFailed g old) (sym is) (more_since (state g (held_of old)) (state g (held_of walk.store.now)) (state g (held_of new.store.now))
-            (lasts_then _ _ _ first.0 begun.0) more))
+            (lasts_then _ _ _ first.0 begun.lasts) more))
         | inr bad ↦ inr (subst (λ a. AreUnreadable (which a)) there.1 bad)
       ]

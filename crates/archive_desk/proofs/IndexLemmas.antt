@@ -19,7 +19,7 @@ use Rattle.archive_results.specs.Shown.{line_of, shown_of}
 use Rattle.archive_desk.specs.Asking.{IsEnough}
 use Rattle.archive_desk.specs.Faults.{ask_reason, declined, desk_fault, reason}
 use Rattle.archive_desk.specs.Listing.{lines_shown}
-use Rattle.archive_desk.specs.Walking.{IsUnlisted, ListsRows}
+use Rattle.archive_desk.specs.Walking.{IsUnlisted, ListsRows, PassesWithheld}
 use Rattle.archive_desk.specs.declared.faults.DeskFault.{DeskFault}
 use Rattle.archive_desk.specs.declared.faults.DeskFault.TheVariants.{NoList, NoPerson, NotInView, Store as Stored, Memory, Write}
 use Rattle.archive_store.specs.declared.faults.StoreFault.{StoreFault}
@@ -83,6 +83,22 @@ module _ {X : Type 0} (made : List Remembered → List X) (apart : IsMadeApart m
             is ∙ ap (λ xs. xs ++ made_of_shown (remembered ask.list m ∷ [])) it.2 ∙ sym (shown_apart it.0 (remembered ask.list m ∷ [])),
           )
 
+      -- messages that the policy does not show were passed by
+      pub listed_past : made [] ≡ [] → PassesWithheld g mid new ask reader {A = Unit {0}} (Ok tt) → ListedSoFar old new so_many
+      listed_past empty passes = λ returned all a w.
+          let it = so_far (was returned) all a w in
+          let past = passes.passed returned all a it.0 it.1 in (
+            it.0 ++ past.0,
+            past.1,
+            it.2 ∙ sym (shown_apart it.0 past.0 ∙ ap (λ xs. made_of_shown it.0 ++ made xs) past.2 ∙ ap (λ xs. made_of_shown it.0 ++ xs) empty ∙ append-nil (made_of_shown it.0)),
+          )
+
+      -- the store fails at their marks
+      pub listed_unpassed : (fault : DeskFault) → reason fault ≡ None → (told : StoreFault) → PassesWithheld g mid new ask reader {A = Unit {0}} (Err told) → ListsRows g old new ask reader made (Err fault)
+      listed_unpassed fault none told passes = λ returned all a w.
+          let it = so_far (was returned) all a w in
+          rw none (λ up. let last = passes.passed returned all a it.0 it.1 up in (last.1.held, last.1.archive_is))
+
       -- none is left
       pub listed_all : (found : Vec X Global) → found.items ≡ so_many
           → (HasReturned g new.store.now → (all : List Remembered) (a : Archive) (given : List Remembered) → WalksOver g ask.list all a given mid
@@ -134,13 +150,13 @@ module _ {X : Type 0} (made : List Remembered → List X) {S : Type 0} (g : Ghos
       (found : GoesIn g (HoldsTables g) old mid (λ a b. (b ≡ a) × (ask_reason a ask ≡ None) × IsEnough a ask reader))
       (begun : BeginsOver g mid ask.list which walk) (lasts : Lasts g walk.store.now new.store.now) where
     through : Lasts g old last
-    through = subst (Lasts g old) (sym is) (lasts_then _ _ _ (lasts_then _ _ _ found.0 begun.0) lasts)
+    through = subst (Lasts g old) (sym is) (lasts_then _ _ _ (lasts_then _ _ _ found.0 begun.lasts) lasts)
 
     at_walk : HasReturned g last → HasReturned g walk.store.now
     at_walk returned = lasts.returned (subst (HasReturned g) is returned)
 
     at_start : HasReturned g last → HasReturned g mid
-    at_start returned = begun.0.returned (at_walk returned)
+    at_start returned = begun.lasts.returned (at_walk returned)
 
     pub walk_listed : (all_found : Vec X Global) → ListsRows g walk new ask reader made (Ok all_found)
         → AsksIn g (HoldsTables g) old last reason (Ok all_found) (λ a. ask_reason a ask) Held
@@ -148,7 +164,7 @@ module _ {X : Type 0} (made : List Remembered → List X) {S : Type 0} (g : Ghos
       through,
       (λ returned held.
           let first = found.1 (at_start returned) held in
-          let walks = begun.1 (at_walk returned) first.0 in
+          let walks = begun.over (at_walk returned) first.0 in
           let it = lists (subst (HasReturned g) is returned) (which (archive_in g mid)) (archive_in g mid) walks.1 in (
             subst (HoldsTables g) (sym is) it.0.0,
             (
@@ -166,7 +182,7 @@ module _ {X : Type 0} (made : List Remembered → List X) {S : Type 0} (g : Ghos
       through,
       (λ returned held up.
           let first = found.1 (at_start returned) held in
-          let walks = begun.1 (at_walk returned) first.0 in
+          let walks = begun.over (at_walk returned) first.0 in
           let it = (rw none at lists) (subst (HasReturned g) is returned) (which (archive_in g mid)) (archive_in g mid) walks.1 in
           let there = it (subst (IsOpen g) is up) in
           (subst (HoldsTables g) (sym is) there.0, ap (archive_in g) is ∙ there.1 ∙ first.1.0)),

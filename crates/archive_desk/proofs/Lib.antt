@@ -11,3 +11,4 @@ pub mod WalkLemmas
 pub mod WalkExports
 pub mod ReadableLemmas
 pub mod UnbrokenLemmas
+pub mod PassLemmas

@@ -32,11 +32,11 @@ use Rattle.archive_machine.specs.Machine.{longest_text, message_limit, changed, 
 use Rattle.archive_machine.specs.Runs.{run, taken}
 use Rattle.archive_machine.proofs.KeyLemmas.{is_key-encode_lower}
 use Rattle.archive_database.specs.Messages.{IsReadable}
-use Rattle.archive_store.specs.Words.{party_of, rank_of}
-use Rattle.archive_store.specs.declared.words.Kind.{Kind}
-use Rattle.archive_store.specs.declared.words.Kind.TheVariants.{Member, Subscriber, Moderator}
-use Rattle.archive_store.specs.declared.words.Party.{Party}
-use Rattle.archive_store.specs.declared.words.Party.TheVariants.{Author, Board}
+use Rattle.policy_core.specs.Numbers.{party_number, kind_rank}
+use Rattle.policy_core.specs.declared.access.Kind.{Kind}
+use Rattle.policy_core.specs.declared.access.Kind.TheVariants.{Member, Subscriber, Moderator}
+use Rattle.policy_core.specs.declared.access.Party.{Party}
+use Rattle.policy_core.specs.declared.access.Party.TheVariants.{Author, Board}
 use Rattle.archive_desk.specs.Readable.{CanBeRead, IsRanked, IsSaid}
 
 -- ---- the key of a text is a key: a digest is bytes
@@ -100,13 +100,13 @@ withdrawal_is_readable party by m readable = record { key = readable.key; item =
 embargo_is_readable : (until : Option ℤ) → IfSome until (λ day. is_day day ≡ true) → (m : Message) → IsReadable m → IsReadable (embargoed until m)
 embargo_is_readable until day m readable = record { key = readable.key; item = readable.item; withdrawn = readable.withdrawn; embargo = day }
 
-of_party : (party : ℤ) → ((by : Party) × (party_of by ≡ party)) → (by : Withdrawn) × (number_of by ≡ party)
+of_party : (party : ℤ) → ((by : Party) × (party_number by ≡ party)) → (by : Withdrawn) × (number_of by ≡ party)
 of_party party (Author, e) = (withdrawn.Author, e)
 of_party party (Board, e) = (withdrawn.Board, e)
 
 -- ---- grants
 
-of_kind : (g : Grant) → ((kind : Kind) × (rank_of kind ≡ g.rank)) → IsRanked g
+of_kind : (g : Grant) → ((kind : Kind) × (kind_rank kind ≡ g.rank)) → IsRanked g
 of_kind g (Member, e) = (standing.Member, e)
 of_kind g (Subscriber, e) = (standing.Subscriber, e)
 of_kind g (Moderator, e) = (standing.Moderator, e)

@@ -67,13 +67,13 @@ module _ {S : Type 0} (g : Ghosts S) (old mid last : Store S) (walk new : Walk S
   texts a b same enough = ap seen same ∙ ap (λ ms. head ++ export_text (map shown_of ms)) (view_alike a ask reader enough (messages_in a ask.list))
 
   through : Lasts g old last
-  through = subst (Lasts g old) (sym is) (lasts_then _ _ _ (lasts_then _ _ _ found.0 begun.0) lasts)
+  through = subst (Lasts g old) (sym is) (lasts_then _ _ _ (lasts_then _ _ _ found.0 begun.lasts) lasts)
 
   at_walk : HasReturned g last → HasReturned g walk.store.now
   at_walk returned = lasts.returned (subst (HasReturned g) is returned)
 
   at_start : HasReturned g last → HasReturned g mid
-  at_start returned = begun.0.returned (at_walk returned)
+  at_start returned = begun.lasts.returned (at_walk returned)
 
   -- the store was ready, and nothing of the archive changed
   ready_last : StandsOn g (archive_in g mid) new → archive_in g mid ≡ archive_in g old → IsFiledRight (archive_in g old) → IsReady g last
@@ -86,7 +86,7 @@ module _ {S : Type 0} (g : Ghosts S) (old mid last : Store S) (walk new : Walk S
     through,
     (λ returned ready.
         let first = found.1 (at_start returned) ready.held in
-        let walks = begun.1 (at_walk returned) first.0 in
+        let walks = begun.over (at_walk returned) first.0 in
         let it = writes (subst (HasReturned g) is returned) (messages_in (archive_in g mid) ask.list) (archive_in g mid) walks.1 in
         let same = texts (archive_in g old) (archive_in g mid) first.1.0 first.1.2 in (
           ready_last it.0 first.1.0 ready.filed_right,
@@ -105,7 +105,7 @@ module _ {S : Type 0} (g : Ghosts S) (old mid last : Store S) (walk new : Walk S
         → ExportsPart g old last before after written (λ a. head ++ exported a ask)
     walk_part fault writes = λ returned ready fits.
         let first = found.1 (at_start returned) ready.held in
-        let walks = begun.1 (at_walk returned) first.0 in
+        let walks = begun.over (at_walk returned) first.0 in
         let it = writes (subst (HasReturned g) is returned) (messages_in (archive_in g mid) ask.list) (archive_in g mid) walks.1 in
         subst (λ x. IsCutShort before after x written) (texts (archive_in g old) (archive_in g mid) first.1.0 first.1.2) (it.1 fits)
 
@@ -120,7 +120,7 @@ module _ {S : Type 0} (g : Ghosts S) (old mid last : Store S) (walk new : Walk S
       through,
       (λ returned ready.
           let first = found.1 (at_start returned) ready.held in
-          let walks = begun.1 (at_walk returned) first.0 in
+          let walks = begun.over (at_walk returned) first.0 in
           let it = writes (subst (HasReturned g) is returned) (messages_in (archive_in g mid) ask.list) (archive_in g mid) walks.1 in (
             ready_last it.0 first.1.0 ready.filed_right,
             (ap (archive_in g) is ∙ it.0.1 ∙ first.1.0, (first.1.1, walk_part Write writes returned ready)),
@@ -130,7 +130,7 @@ module _ {S : Type 0} (g : Ghosts S) (old mid last : Store S) (walk new : Walk S
       through,
       (λ returned ready up.
           let first = found.1 (at_start returned) ready.held in
-          let walks = begun.1 (at_walk returned) first.0 in
+          let walks = begun.over (at_walk returned) first.0 in
           let it = writes (subst (HasReturned g) is returned) (messages_in (archive_in g mid) ask.list) (archive_in g mid) walks.1 in
           let there = it.0 (subst (IsOpen g) is up) in
           (ready_last there first.1.0 ready.filed_right, ap (archive_in g) is ∙ there.1 ∙ first.1.0)),
@@ -139,7 +139,7 @@ module _ {S : Type 0} (g : Ghosts S) (old mid last : Store S) (walk new : Walk S
       through,
       (λ returned ready up.
           let first = found.1 (at_start returned) ready.held in
-          let walks = begun.1 (at_walk returned) first.0 in
+          let walks = begun.over (at_walk returned) first.0 in
           let it = (rw why.0 at writes) (subst (HasReturned g) is returned) (messages_in (archive_in g mid) ask.list) (archive_in g mid) walks.1 in
           let there = it.0 (subst (IsOpen g) is up) in
           (ready_last there first.1.0 ready.filed_right, ap (archive_in g) is ∙ there.1 ∙ first.1.0)),

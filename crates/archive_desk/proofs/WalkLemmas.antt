@@ -15,7 +15,8 @@ use Rattle.archive_results.specs.Access.{Ask, ReaderMarks, is_shown}
 use Rattle.archive_results.specs.Shown.{shown_of}
 use Rattle.archive_desk.specs.Exporting.{shown_text}
 use Rattle.archive_desk.specs.Faults.{Reason, reason}
-use Rattle.archive_desk.specs.Walking.{IsRowsStop, IsShownStop, StandsOn, WritesRows, WritesWalk}
+use Rattle.archive_desk.specs.Walking.{IsRowsStop, IsShownStop, PassesWithheld, StandsOn, WritesRows, WritesWalk}
+use Rattle.archive_store.specs.declared.faults.StoreFault.{StoreFault}
 use Rattle.archive_desk.specs.declared.faults.DeskFault.{DeskFault}
 use Rattle.archive_desk.specs.declared.faults.DeskFault.TheVariants.{NoList, NoPerson, NotInView, Store as Stored, Memory, Write}
 
@@ -152,23 +153,50 @@ module _ {S : Type 0} (g : Ghosts S) (ask : Ask) (reader : ReaderMarks) where
             ),
           )
 
-    -- the store fails at the next
-    pub rows_unread : (fault : DeskFault) → reason fault ≡ None
-        → (HasReturned g new.store.now → (all : List Remembered) (a : Archive) (given : List Remembered) → WalksOver g ask.list all a given mid → IsOpen g new.store.now → WalksOver g ask.list all a given new)
+    -- messages that the policy does not show were passed by
+    pub rows_past : PassesWithheld g mid new ask reader {A = Unit {0}} (Ok tt) → RowsSoFar old new before middle counted count
+    rows_past passes = record {
+      part = s.part;
+      out = s.out;
+      counts_is = s.counts_is;
+      walked = λ returned all a w.
+          let so_far = s.walked (was returned) all a w in
+          let past = passes.passed returned all a so_far.0 so_far.1 in (
+            so_far.0 ++ past.0,
+            past.1,
+            so_far.2
+                ∙ sym (shown_joined ask reader so_far.0 past.0 ∙ ap (λ xs. shown_text ask reader so_far.0 ++ text_of ask reader xs) past.2 ∙ append-nil (shown_text ask reader so_far.0)),
+          );
+    }
+
+    -- the store fails
+    rows_left : (fault : DeskFault) → reason fault ≡ None
+        → (HasReturned g new.store.now → (all : List Remembered) (a : Archive) (given : List Remembered) → WalksOver g ask.list all a given mid → IsOpen g new.store.now → StandsOn g a new)
         → WritesRows g old new ask reader before middle counted count (Err fault)
-    rows_unread fault none rests = λ returned all a w.
+    rows_left fault none stands = λ returned all a w.
         let so_far = s.walked (was returned) all a w in
         let here = so_far.1 in
         let whole : shown_text ask reader all ≡ s.part ++ shown_text ask reader here.left =
         ap (shown_text ask reader) (sym here.joined) ∙ shown_joined ask reader so_far.0 here.left
         ∙ ap (λ x. x ++ shown_text ask reader here.left) (sym so_far.2) in (
-          rw none (λ up. let last = rests returned all a so_far.0 here up in (last.held, last.archive_is)),
+          rw none (stands returned all a so_far.0 here),
           λ fits. (
             length s.part,
             cut_there before middle s.part (shown_text ask reader here.left) (shown_text ask reader all) s.out whole,
             s.counts_is,
           ),
         )
+
+    -- at the next message
+    pub rows_unread : (fault : DeskFault) → reason fault ≡ None
+        → (HasReturned g new.store.now → (all : List Remembered) (a : Archive) (given : List Remembered) → WalksOver g ask.list all a given mid → IsOpen g new.store.now → WalksOver g ask.list all a given new)
+        → WritesRows g old new ask reader before middle counted count (Err fault)
+    rows_unread fault none rests = rows_left fault none (λ returned all a given w up. let last = rests returned all a given w up in (last.held, last.archive_is))
+
+    -- at the marks of those that are passed by
+    pub rows_unpassed : (fault : DeskFault) → reason fault ≡ None → (told : StoreFault) → PassesWithheld g mid new ask reader {A = Unit {0}} (Err told)
+        → WritesRows g old new ask reader before middle counted count (Err fault)
+    rows_unpassed fault none told passes = rows_left fault none (λ returned all a given w up. let last = passes.passed returned all a given w up in (last.1.held, last.1.archive_is))
 
     -- none is left
     pub rows_all : (HasReturned g new.store.now → (all : List Remembered) (a : Archive) (given : List Remembered) → WalksOver g ask.list all a given mid

@@ -10,6 +10,7 @@ ghost use Rattle.archive_desk.specs.Exporting.{Exports, ExportsPart, HasBegun, I
 ghost use Rattle.archive_desk.specs.Walking.{CountsMore, HasWalkCause, IsRowsStop, IsShownStop, IsWalkStop, WritesRows, WritesWalk};
 
 use crate::faults::DeskFault;
+use crate::passing::pass_withheld;
 use crate::viewing::find_reader;
 use archive_results::{Ask, ReaderMarks, is_shown};
 use archive_store::{EachRow, Message, Store, Wants};
@@ -161,7 +162,11 @@ fn write_rows<S: Alter, W: Sink>(
     ensures caused { IfErr result (λ fault. IsBroken fault → HasWalkCause S.Store walk.old walk.new ask.now) }
     ensures counted { Counts IsStoreWanting walk.old.store.now walk.new.store.now result }
 {
-    while let Some(message) = walk.next()? {
+    loop {
+        pass_withheld(ask, reader, walk)?;
+        let Some(message) = walk.next()? else {
+            return Ok(());
+        };
         match write_shown(alloc, ask, reader, &message, out) {
             Ok(more) => *count = count.saturating_add(more),
             Err(stop) => {
@@ -170,7 +175,6 @@ fn write_rows<S: Alter, W: Sink>(
             }
         }
     }
-    Ok(())
 }
 
 /// Writes a message if the policy shows it: how many bytes that is.

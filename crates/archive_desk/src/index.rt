@@ -13,6 +13,7 @@ ghost use Rattle.archive_desk.specs.Listing.{lines_shown};
 ghost use Rattle.archive_desk.specs.Walking.{HasWalkCause, IsUnlisted, ListsRows};
 
 use crate::faults::{DeskFault, raise_for};
+use crate::passing::pass_withheld;
 use crate::viewing::find_reader;
 use archive_results::{Ask, Header, Line, ReaderMarks, header_of, is_shown, line_of};
 use archive_store::{EachRow, Message, Store};
@@ -127,13 +128,16 @@ fn walk_headers<S: Alter>(
     ensures counted { Counts IsStoreWanting walk.old.store.now walk.new.store.now result }
 {
     let mut headers = Vec::new(alloc);
-    while let Some(message) = walk.next()? {
+    loop {
+        pass_withheld(ask, reader, walk)?;
+        let Some(message) = walk.next()? else {
+            return Ok(headers);
+        };
         match push_header(alloc, ask, reader, &message, &mut headers) {
             Ok(()) => {}
             Err(_) => return Err(DeskFault::Memory),
         }
     }
-    Ok(headers)
 }
 
 /// The lines of the messages that a walk has not given yet, as far as the policy shows them.
@@ -151,13 +155,16 @@ fn walk_lines<S: Alter>(
     ensures counted { Counts IsStoreWanting walk.old.store.now walk.new.store.now result }
 {
     let mut lines = Vec::new(alloc);
-    while let Some(message) = walk.next()? {
+    loop {
+        pass_withheld(ask, reader, walk)?;
+        let Some(message) = walk.next()? else {
+            return Ok(lines);
+        };
         match push_line(alloc, ask, reader, &message, &mut lines) {
             Ok(()) => {}
             Err(_) => return Err(DeskFault::Memory),
         }
     }
-    Ok(lines)
 }
 
 /// The header of a message more, if the policy shows it.

@@ -8,6 +8,7 @@ mod index;
 pub mod laws;
 mod listing;
 mod messages;
+mod passing;
 mod viewing;
 
 pub use exporting::{ExportStop, export, export_after};

@@ -8,8 +8,8 @@ use Rattle.mbox_core.specs.declared.faults.MboxFault.{MboxFault}
 use Rattle.mbox_core.specs.declared.faults.MboxFault.TheVariants.{Preamble, Read, Memory, Failed}
 use Rattle.mbox_stream.specs.Stream.{IsBeginning, settled_items, IsSettledPreamble, IsCounted}
 use Rattle.mbox_stream.specs.Cutter.{CutterState, given, IsGiven, IsCutter, IsReadFault, IsEndFault}
-use Rattle.mbox_stream.specs.declared.cutter.Standing.{Standing}
-use Rattle.mbox_stream.specs.declared.cutter.Standing.TheVariants.{Open, Finished}
+use Rattle.mbox_stream.specs.declared.cutter.Phase.{Phase}
+use Rattle.mbox_stream.specs.declared.cutter.Phase.TheVariants.{Open, Finished}
 use Rattle.mbox_stream.proofs.StreamLaws.{settled_grow, settled_none, settled_preamble}
 use Rattle.archive_machine.specs.Records.{Archive}
 use Rattle.archive_machine.specs.Commands.{Refusal}
@@ -103,13 +103,13 @@ Begun list from items i j b c = (a : Archive) → IsUnderWay list a b from i →
 
 -- ---- the cutter
 
-given_open : (c : CutterState) → IsCutter c → c.standing ≡ Open → given c ≡ settled_items c.stream
-given_open c g o = let G : Standing → Type 0 = λ s. IsGiven s c.stream (given c) in (subst G o g).0
+given_open : (c : CutterState) → IsCutter c → c.phase ≡ Open → given c ≡ settled_items c.stream
+given_open c g o = let G : Phase → Type 0 = λ s. IsGiven s c.stream (given c) in (subst G o g).0
 
-given_end : (c : CutterState) → IsCutter c → c.standing ≡ Finished → Divides c.stream (given c)
-given_end c g o = let G : Standing → Type 0 = λ s. IsGiven s c.stream (given c) in subst G o g
+given_end : (c : CutterState) → IsCutter c → c.phase ≡ Finished → Divides c.stream (given c)
+given_end c g o = let G : Phase → Type 0 = λ s. IsGiven s c.stream (given c) in subst G o g
 
-pub settled_taken : (c : CutterState) → IsCutter c → c.standing ≡ Open → c.waiting ≡ [] → c.taken ≡ settled_items c.stream
+pub settled_taken : (c : CutterState) → IsCutter c → c.phase ≡ Open → c.waiting ≡ [] → c.taken ≡ settled_items c.stream
 settled_taken c g o none = sym (append-nil c.taken) ∙ ap (λ is. c.taken ++ is) (sym none) ∙ given_open c g o
 
 -- the first of some
@@ -219,11 +219,11 @@ begun_at g old new list from items all i j e begun = goes_as g old new (Begun li
     (λ b c begun a w. subst (λ is. IsUnderWay list a c is j) (sym e) (begun a w)) begun
 
 -- those that were taken and those that wait
-pub settled_given : (d : CutterState) (taken : List Item) → IsCutter d → d.standing ≡ Open → d.taken ≡ taken → taken ++ d.waiting ≡ settled_items d.stream
+pub settled_given : (d : CutterState) (taken : List Item) → IsCutter d → d.phase ≡ Open → d.taken ≡ taken → taken ++ d.waiting ≡ settled_items d.stream
 settled_given d taken g o t = ap (λ is. is ++ d.waiting) (sym t) ∙ given_open d g o
 
 -- the messages of the whole input
-pub ended_divides : (c d : CutterState) → IsCutter d → d.standing ≡ Finished → d.stream ≡ c.stream → d.taken ≡ c.taken → Divides c.stream (c.taken ++ d.waiting)
+pub ended_divides : (c d : CutterState) → IsCutter d → d.phase ≡ Finished → d.stream ≡ c.stream → d.taken ≡ c.taken → Divides c.stream (c.taken ++ d.waiting)
 ended_divides c d g o s t =
     let D : List ℕ → Type 0 = λ x. Divides x (given d) in
     let E : List Item → Type 0 = λ x. Divides c.stream (x ++ d.waiting) in subst E t (subst D s (given_end d g o))

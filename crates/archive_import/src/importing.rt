@@ -2,7 +2,7 @@
 ghost use Rattle.std.specs.Prelude.{◌≡◌, ◌≢◌, ◌+◌, ◌≤◌, ◌++◌, ◌∷◌, [], ℕ, List, length, IfOk, IfErr, OnOk, Ok, Err};
 ghost use Rattle.mbox_core.specs.Division.{Item as Message};
 ghost use Rattle.mbox_stream.specs.Cutter.{IsCutter};
-ghost use Rattle.mbox_stream.specs.declared.cutter.Standing.TheVariants.{Open};
+ghost use Rattle.mbox_stream.specs.declared.cutter.Phase.TheVariants.{Open};
 ghost use Rattle.archive_machine.specs.Records.{Archive};
 ghost use Rattle.archive_store.specs.Batches.{AddsAll, told_in};
 ghost use Rattle.archive_store.specs.Held.{held_of};
@@ -64,7 +64,7 @@ fn add_settled<S: Alter, R: Source>(
     cutter: &mut Cutter,
     intake: &mut Intake,
 ) -> Result<(), ImportStop>
-    requires fresh { cutter.old ≡ record { stream = []; taken = []; waiting = []; standing = Open } }
+    requires fresh { cutter.old ≡ record { stream = []; taken = []; waiting = []; phase = Open } }
     requires given { IsCutter cutter.old }
     ensures adds { Calls S.Store store.old store.new halt_reason result
         (λ b c _. (a : Archive) → IsUnderWay list.now a b [] intake.old → IsUnderWay list.now a c cutter.new.taken intake.new)
@@ -74,7 +74,7 @@ fn add_settled<S: Alter, R: Source>(
     ensures end { OnOk result (R.ends input.new ≡ R.ends input.old + 1) }
     ensures no_end { IfErr result (λ _. R.ends input.new ≡ R.ends input.old) }
     ensures failures { (failed : ℕ) × (R.failures input.new ≡ R.failures input.old + failed) × HasFailed result failed }
-    ensures open { OnOk result (cutter.new.standing ≡ Open) }
+    ensures open { OnOk result (cutter.new.phase ≡ Open) }
     ensures none { OnOk result (cutter.new.waiting ≡ []) }
     ensures given { OnOk result (IsCutter cutter.new) }
 {
@@ -129,7 +129,7 @@ fn add_last<S: Alter>(
     cutter: &mut Cutter,
     intake: &mut Intake,
 ) -> Result<(), ImportStop>
-    requires open { cutter.old.standing ≡ Open }
+    requires open { cutter.old.phase ≡ Open }
     requires none { cutter.old.waiting ≡ [] }
     requires given { IsCutter cutter.old }
     ensures adds { Calls S.Store store.old store.new halt_reason result
@@ -164,7 +164,7 @@ fn add_waiting<S: Alter>(
     ensures kind { IfErr result (λ stop. FailedBy stop.fault 0) }
     ensures taken { OnOk result ((cutter.new.taken ≡ cutter.old.taken ++ cutter.old.waiting) × (cutter.new.waiting ≡ [])) }
     ensures stream { cutter.new.stream ≡ cutter.old.stream }
-    ensures standing { cutter.new.standing ≡ cutter.old.standing }
+    ensures phase { cutter.new.phase ≡ cutter.old.phase }
     ensures given { IsCutter cutter.new }
 {
     while let Some(item) = cutter.take() {

@@ -10,9 +10,9 @@ use Rattle.archive_desk.proofs.importing.add_items.Goals as goal
 
 pub returns-in-Ok : goal.returns-in-Ok
 returns-in-Ok g c = record {
-  added = added_all g.S.Store c.args.store.now c.add_all.new.self c.args.list.now c.args.items.now c.add_all.ensures.lasts c.in-Ok.counts c.report_of.result
+  added = added_all g.S.Store c.args.store.now c.add_all.new.self c.args.list.now c.args.items.now c.add_all.ensures.ends.lasts c.in-Ok.counts c.report_of.result
       c.report_of.ensures c.in-Ok.ensures.step;
-  counted = (c.in-Ok.ensures.counted.0, tt);
+  counted = (c.in-Ok.ensures.ends.counted.0, tt);
 }
 
 pub returns-in-Err : goal.returns-in-Err
@@ -25,10 +25,10 @@ returns-in-Err g c =
       added = subst
           (λ s. Calls g.S.Store old new {A = Report} stop_reason (Err s) (λ a b report. HasAdded list items a b report)
           (λ a b why. IsRefusedAdd list items a b why.0 why.1) (λ a b stop. IsBrokenAdd list items a b stop.done stop.fault)) (sym c.stop_of.ensures)
-          (added_first g.S.Store old new list items c.add_all.ensures.lasts c.in-Err.stop c.in-Err.ensures.bound c.in-Err.ensures.step);
+          (added_first g.S.Store old new list items c.add_all.ensures.ends.lasts c.in-Err.stop c.in-Err.ensures.bound c.in-Err.ensures.step);
       counted = (
-        c.in-Err.ensures.counted.0,
+        c.in-Err.ensures.ends.counted.0,
         λ it. let same : Stored c.in-Err.stop.fault ≡ Stored Memory = sym (ap (λ (s : ImportStop). s.fault) c.stop_of.ensures) ∙ it in
-            c.in-Err.ensures.counted.1 (let none : c.in-Err.stop.fault ≡ Memory = cc in none),
+            c.in-Err.ensures.ends.counted.1 (let none : c.in-Err.stop.fault ≡ Memory = cc in none),
       );
     }

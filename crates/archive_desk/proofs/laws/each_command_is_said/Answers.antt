@@ -1,7 +1,7 @@
 use Rattle.mail_core.specs.Lines.{lines}
 use Rattle.mbox_core.specs.Division.{NoneSeparates, whole}
 use Rattle.mbox_core.specs.Written.{IsEnvelope, IsItem}
-use Rattle.mbox_core.proofs.SenderLemmas.{envelope_is}
+use Rattle.mbox_items.proofs.SenderLemmas.{envelope_is}
 use Rattle.archive_desk.proofs.laws.each_command_is_said.Goals as goal
 
 -- an item of the code is opened, and in it its envelope

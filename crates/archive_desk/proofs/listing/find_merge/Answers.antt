@@ -19,7 +19,7 @@ returns-in_err-merge_of-clause-found g c =
     let list : c.ask.inside.list.now ≡ ask.list = search rules in
     let is : c.from_residual.result ≡ Err (desk_fault fault) = search rules in
     subst (λ r. AsksIn g.S.Store (HoldsTables g.S.Store) old new reason r (λ a. list_reason a ask) Says) (sym is)
-    (store_declines g.S.Store old new (λ a. list_refusal a ask.list) Says fault Says c.in_err-merge_of.ensures.lasts
+    (store_declines g.S.Store old new (λ a. list_refusal a ask.list) Says fault Says c.in_err-merge_of.ensures.ends.lasts
     (subst (λ l. Answers g.S.Store (held_of old) (held_of new) {A = Bool} (Err fault) (λ a. list_refusal a l) Says) list c.in_err-merge_of.ensures.answer))
 
 pub returns-in_err-merge_of-clause-caused : goal.returns-in_err-merge_of-clause-caused
@@ -28,4 +28,4 @@ returns-in_err-merge_of-clause-caused g c =
     let new = c.merge_of.new.self in
     let fault = c.in_err-merge_of.field-0.0 in
     let is : c.from_residual.result ≡ Err (desk_fault fault) = search rules in
-    subst (λ r. Caused g.S.Store old new r) (sym is) (store_disk g.S.Store old new fault c.in_err-merge_of.ensures.caused)
+    subst (λ r. Caused g.S.Store old new r) (sym is) (store_disk g.S.Store old new fault c.in_err-merge_of.ensures.ends.caused)

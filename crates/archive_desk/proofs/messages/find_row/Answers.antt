@@ -21,7 +21,7 @@ returns-in_err-row-clause-held g c =
     let list : c.ask.inside.list.now ≡ ask.list = search rules in
     let is : c.from_residual.result ≡ Err (desk_fault fault) = search rules in
     subst (λ r. AsksIn g.S.Store (HoldsTables g.S.Store) old new reason r (λ a. list_reason a ask) Says) (sym is)
-    (store_declines g.S.Store old new (λ a. list_refusal a ask.list) Says fault Says c.in_err-row.ensures.lasts
+    (store_declines g.S.Store old new (λ a. list_refusal a ask.list) Says fault Says c.in_err-row.ensures.ends.lasts
     (subst (λ l. Answers g.S.Store (held_of old) (held_of new) {A = Option Message} (Err fault) (λ a. list_refusal a l) Says) list c.in_err-row.ensures.answer))
 
 pub returns-in_err-row-clause-caused : goal.returns-in_err-row-clause-caused
@@ -35,4 +35,4 @@ returns-in_err-row-clause-caused g c =
     let is : c.from_residual.result ≡ Err (desk_fault fault) = search rules in
     subst (λ r. CausedOr g.S.Store old new r (λ a. IsMessageUnreadable a ask key)) (sym is)
     (store_cause g.S.Store old new fault (λ a. IsMessageUnreadable a ask key)
-    (subst (λ l. StoreCausedOr g.S.Store old new {A = Option Message} (Err fault) (λ a. IsMessageUnreadable a (record ask { list = l }) key)) list c.in_err-row.ensures.caused))
+    (subst (λ l. StoreCausedOr g.S.Store old new {A = Option Message} (Err fault) (λ a. IsMessageUnreadable a (record ask { list = l }) key)) list c.in_err-row.ensures.ends.caused))

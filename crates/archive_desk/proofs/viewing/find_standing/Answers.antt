@@ -23,7 +23,7 @@ returns-in_err-standing-clause-found g c =
     let list : c.ask.inside.list.now ≡ ask.list = search rules in
     let is : c.from_residual.result ≡ Err (desk_fault fault) = search rules in
     subst (λ r. AsksIn g.S.Store (HoldsTables g.S.Store) old new reason r (λ a. option_map reason_by (standing_refusal a name ask.list)) Says) (sym is)
-    (store_declines g.S.Store old new (λ a. standing_refusal a name ask.list) Says fault (λ a (standing : Standing). ⊤) c.in_err-standing.ensures.lasts
+    (store_declines g.S.Store old new (λ a. standing_refusal a name ask.list) Says fault (λ a (standing : Standing). ⊤) c.in_err-standing.ensures.ends.lasts
     (subst (λ l. Answers g.S.Store (held_of old) (held_of new) {A = Standing} (Err fault) (λ a. standing_refusal a name l) (λ a s. ⊤)) list c.in_err-standing.ensures.answer))
 
 pub returns-in_err-standing-clause-caused : goal.returns-in_err-standing-clause-caused
@@ -40,4 +40,4 @@ returns-in_err-standing-clause-caused g c =
     (store_cause g.S.Store old new fault (λ a. IsRankUnknown a ask name)
     (subst (λ l. StoreCausedOr g.S.Store old new {A = Standing} (Err fault) (λ a. IsRankUnknown a (record ask { list = l }) name)) list
     (subst (λ d. StoreCausedOr g.S.Store old new {A = Standing} (Err fault) (λ a. IsRankUnknown a (record ask { list = c.ask.inside.list.now; day = d }) name)) day
-    c.in_err-standing.ensures.caused)))
+    c.in_err-standing.ensures.ends.caused)))

@@ -1,6 +1,6 @@
 use Rattle.std.proofs.Common.{◌≡◌, ◌++◌, []}
 use Rattle.mbox_stream.specs.Cutter.{IsCutter}
-use Rattle.mbox_stream.specs.declared.cutter.Standing.TheVariants.{Open}
+use Rattle.mbox_stream.specs.declared.cutter.Phase.TheVariants.{Open}
 use Rattle.archive_store.specs.Told.{Goes}
 use Rattle.archive_import.proofs.ReadLemmas.{Begun}
 use Rattle.archive_import.proofs.importing.add_settled.Given as goal
@@ -12,6 +12,6 @@ invariant-loop g l = record {
   read_well : g.R.Source.failures l.input ≡ g.R.Source.failures l.initial.input;
   no_end : g.R.Source.ends l.input ≡ g.R.Source.ends l.initial.input;
   none_waits : l.cutter.waiting ≡ [];
-  goes_on : l.cutter.standing ≡ Open;
+  goes_on : l.cutter.phase ≡ Open;
   given : IsCutter l.cutter;
 }

@@ -7,7 +7,7 @@ pub loop-item-init : goal.loop-item-init
 loop-item-init g c = record {
   adds = (moved_none _ _, grows_none g.S.Store c.args.list.now c.args.store.now c.args.intake.now);
   stream = refl;
-  standing = refl;
+  phase = refl;
   given = c.requires.given;
 }
 
@@ -22,7 +22,7 @@ loop-item-preserved g c =
             c.hold_one.new.intake c.in-Ok.ensures.adds,
       );
       stream = c.take.ensures.stream ∙ i.stream;
-      standing = c.take.ensures.standing ∙ i.standing;
+      phase = c.take.ensures.phase ∙ i.phase;
       given = c.take.ensures.given;
     }
 

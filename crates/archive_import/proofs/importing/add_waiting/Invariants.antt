@@ -9,7 +9,7 @@ invariant-loop-item g l = record {
   adds : (moved : Moved l.initial.cutter.taken l.initial.cutter.waiting l.cutter.taken l.cutter.waiting)
       × Goes g.S.Store l.initial.store l.store (Grows l.list l.initial.intake l.intake moved.done);
   stream : l.cutter.stream ≡ l.initial.cutter.stream;
-  standing : l.cutter.standing ≡ l.initial.cutter.standing;
+  phase : l.cutter.phase ≡ l.initial.cutter.phase;
   given : IsCutter l.cutter;
 }
 

@@ -1,0 +1,137 @@
+-- Messages that a walk passes by.
+use Rattle.std.proofs.Common.{◌≡◌, ◌⊎◌, ◌≤◌, arith, inl, inr, refl, sym, ap, subst, ◌∙◌, append_assoc, cond, Bool, true, false, List, [], ◌∷◌, ◌++◌, filter, Some, None, Result, Ok, Err}
+use Rattle.std.specs.Prelude.{not, ◌&&◌, ◌-◌, IsErrAnd}
+use Rattle.std.proofs.lemmas.List.{append-nil}
+use Rattle.std.proofs.lemmas.List.Elements.{filter-append}
+use Rattle.std.specs.List.{All}
+use Rattle.policy_core.specs.declared.access.Withdrawn.{Withdrawn}
+use Rattle.policy_core.specs.declared.access.Withdrawn.TheVariants.{No, Author, Board}
+use Rattle.sqlite_disk.specs.Disk.{MoreFaults}
+use Rattle.sqlite.specs.State.{State}
+use Rattle.sqlite.specs.Store.{Ghosts}
+use Rattle.archive_tables.specs.Calls.{Lasts}
+use Rattle.archive_machine.specs.Records.{Archive, Message as Remembered}
+use Rattle.archive_machine.specs.Messages.{number_of}
+use Rattle.archive_database.specs.Messages.{AreMarksOf, IsReadable}
+use Rattle.archive_database.specs.declared.reading.DatedMarks.{DatedMarks}
+use Rattle.archive_store.specs.Told.{HasReturned}
+use Rattle.archive_store.specs.Replies.{refusal}
+use Rattle.archive_store.specs.Walking.{PassesNext, ShowsNext, Walk, WalksOver, left_of}
+use Rattle.archive_store.specs.declared.faults.StoreFault.{StoreFault}
+use Rattle.archive_store.proofs.CauseLemmas.{more_since, not_all}
+use Rattle.archive_results.specs.Access.{Ask, ReaderMarks, Marks, asks_author, is_shown, is_withheld, marks_of, withdrawal_numbered}
+use Rattle.archive_desk.specs.Walking.{HasPassed, PassesOne, PassesWithheld}
+
+-- ---- the marks
+
+numbered_back : (by : Withdrawn) → withdrawal_numbered (number_of by) ≡ by
+numbered_back No = refl
+numbered_back Author = refl
+numbered_back Board = refl
+
+pub weighed_marks : (marks : DatedMarks) (m : Remembered) → AreMarksOf marks m
+    → record { arrival = marks.arrival; withdrawn = marks.withdrawn; embargo_until = marks.embargo_until; own = false } ≡ record (marks_of None m) { own = false }
+unfolding marks_of
+weighed_marks marks m are =
+    rw (sym are.arrival, sym are.withdrawn, sym are.embargo, numbered_back marks.withdrawn) refl
+
+-- ---- what was passed by
+
+denied_by : (a b : Bool) → (not a && not b) ≡ true → b ≡ false
+denied_by false false is = refl
+denied_by false true is = absurd cc
+denied_by true b is = absurd cc
+
+-- what is withheld is not shown
+pub not_shown : (ask : Ask) (reader : ReaderMarks) (m : Remembered) → is_withheld ask reader m ≡ true → is_shown ask reader m ≡ false
+not_shown ask reader m is = denied_by (asks_author ask reader) (is_shown ask reader m) is
+
+module _ {S : Type 0} (g : Ghosts S) (ask : Ask) (reader : ReaderMarks) where
+  -- so far messages were passed by that the policy does not show
+  abbrev pub PassedSoFar : Walk S → Walk S → Type 0
+  PassedSoFar old now = HasReturned g now.store.now → (all : List Remembered) (a : Archive) (given : List Remembered) → WalksOver g ask.list all a given old
+      → HasPassed g old now ask reader all a given
+
+  module _ (all : List Remembered) (a : Archive) (given : List Remembered) where
+    pub passed_none : (old now : Walk S) → WalksOver g ask.list all a given now → HasPassed g old now ask reader all a given
+    passed_none old now w = ([], subst (λ so. WalksOver g ask.list all a so now) (sym (append-nil given)) w, refl)
+
+    pub passed_one : (old now : Walk S) (m : Remembered) → WalksOver g ask.list all a (given ++ m ∷ []) now → is_shown ask reader m ≡ false → HasPassed g old now ask reader all a given
+    passed_one old now m w is = (m ∷ [], w, ap (λ b. cond b (m ∷ []) []) is)
+
+    pub passed_then : (old mid new : Walk S) (it : HasPassed g old mid ask reader all a given) → HasPassed g mid new ask reader all a (given ++ it.0) → HasPassed g old new ask reader all a given
+    passed_then old mid new it more = (
+      it.0 ++ more.0,
+      subst (λ so. WalksOver g ask.list all a so new) (append_assoc given it.0 more.0) more.1,
+      filter-append (is_shown ask reader) it.0 more.0 ∙ ap (λ xs. xs ++ filter (is_shown ask reader) more.0) it.2 ∙ more.2,
+    )
+
+  -- ---- one message
+
+  -- none was passed by
+  pub none_passed : (old new : Walk S) → (HasReturned g new.store.now → (all : List Remembered) (a : Archive) (given : List Remembered) → WalksOver g ask.list all a given old → WalksOver g ask.list all a given new)
+      → left_of new ≤ left_of old → PassesOne g old new ask reader (Ok false)
+  none_passed old new stays left = record {
+    passes = record { passed = λ returned all a given w. passed_none all a given old new (stays returned all a given w); left = left; fault = tt };
+    fewer = λ e. absurd (cc);
+  }
+
+  -- one was, since the policy withholds it
+  pub one_passed : (old mid new : Walk S) (marks : DatedMarks) (weighs : Marks) → new.store.now ≡ mid.store.now → ShowsNext g old mid (Ok (Some marks)) → PassesNext g mid new
+      → left_of new ≡ left_of mid - 1 → ((m : Remembered) → AreMarksOf marks m → weighs ≡ record (marks_of None m) { own = false })
+      → ((m : Remembered) → weighs ≡ record (marks_of None m) { own = false } → true ≡ is_withheld ask reader m) → PassesOne g old new ask reader (Ok true)
+  one_passed old mid new marks weighs store shown passes left weigh withheld = record {
+    passes = record {
+      passed = λ returned all a given w.
+          let seen = shown.given (subst (HasReturned g) store returned) ask.list all a given w in
+          let next = seen.1 in
+          passed_one all a given old new next.0 (passes ask.list all a given next.0 next.1 seen.0 next.2)
+          (not_shown ask reader next.0 (sym (withheld next.0 (weigh next.0 next.3))));
+      left = omega (arith, left, shown.left);
+      fault = tt;
+    };
+    fewer = λ e. omega (arith, left, shown.left, shown.ahead);
+  }
+
+  -- the store fails at its marks
+  pub none_seen : (old new : Walk S) (told : StoreFault) (r : Result Bool StoreFault) → IsErrAnd r (λ f. f ≡ told) → ShowsNext g old new (Err told) → PassesOne g old new ask reader r
+  none_seen old new told (Ok b) is shown = absurd is
+  none_seen old new told (Err f) is shown = record {
+    passes = record {
+      passed = λ returned all a given w up. passed_none all a given old new (shown.given returned ask.list all a given w up);
+      left = omega (arith, shown.left);
+      fault = ap refusal is ∙ shown.fault;
+    };
+    fewer = tt;
+  }
+
+  -- ---- one after the other
+
+  pub passed_further : {A : Type 0} (old mid new : Walk S) (x : A) → PassedSoFar old mid → (HasReturned g new.store.now → HasReturned g mid.store.now) → PassesWithheld g mid new ask reader (Ok x)
+      → PassedSoFar old new
+  passed_further old mid new x so_far was passes = λ returned all a given w.
+      let it = so_far (was returned) all a given w in
+      passed_then all a given old mid new it (passes.passed returned all a (given ++ it.0) it.1)
+
+  pub stopped_further : {A B : Type 0} (old mid new : Walk S) (told : StoreFault) (r : Result A StoreFault) → IsErrAnd r (λ f. f ≡ told) → PassedSoFar old mid
+      → (HasReturned g new.store.now → HasReturned g mid.store.now) → left_of mid ≤ left_of old → PassesWithheld g mid new ask reader {A = B} (Err told) → PassesWithheld g old new ask reader r
+  stopped_further old mid new told (Ok x) is so_far was left passes = absurd is
+  stopped_further old mid new told (Err f) is so_far was left passes = record {
+    passed = λ returned all a given w up.
+        let it = so_far (was returned) all a given w in
+        passed_then all a given old mid new it (passes.passed returned all a (given ++ it.0) it.1 up);
+    left = omega (arith, left, passes.left);
+    fault = ap refusal is ∙ passes.fault;
+  }
+
+-- ---- why it stops
+
+-- behind calls in which the disk may have failed
+pub failed_since : (old mid new : State) (X : Type 0) → Lasts old mid → MoreFaults mid.faults new.faults ⊎ X → MoreFaults old.faults new.faults ⊎ X
+failed_since old mid new X lasts (inl more) = inl (more_since old mid new lasts more)
+failed_since old mid new X lasts (inr bad) = inr bad
+
+-- the next message cannot be read
+pub unread_among : (X : Type 0) (given all : List Remembered) → X ⊎ ((next : Remembered) × (rest : List Remembered) × (given ++ next ∷ rest ≡ all) × (¬ IsReadable next)) → X ⊎ (¬ All IsReadable all)
+unread_among X given all (inl failed) = inl failed
+unread_among X given all (inr bad) = inr (not_all IsReadable given bad.0 bad.1 all bad.2 bad.3)
