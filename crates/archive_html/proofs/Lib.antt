@@ -5,3 +5,4 @@ pub mod LinkLemmas
 pub mod RowLemmas
 pub mod PageLemmas
 pub mod LawLemmas
+pub mod TextLemmas

@@ -9,5 +9,5 @@ mod placed;
 mod rows;
 mod texts;
 
-pub use pages::{author_page, lists_page, month_page, thread_page, threads_page};
+pub use pages::{author_page, lists_page, month_page};
 pub use placed::{placed_thread_page, placed_threads_page};

@@ -1,11 +1,11 @@
 //! Whole pages, from head to foot, one function each.
 ghost use Rattle.std.specs.Prelude.{◌≡◌, ◌++◌, OnOk, IfOk, map, flat_map, codes, string_bytes};
-ghost use Rattle.archive_html.specs.Rows.{list_row, message_row, tree_row};
-ghost use Rattle.archive_html.specs.Pages.{page, page_head, page_foot, titled, lists_page, month_page, author_page, threads_page, thread_page};
+ghost use Rattle.archive_html.specs.Rows.{list_row, message_row};
+ghost use Rattle.archive_html.specs.Pages.{page, page_head, page_foot, titled, lists_page, month_page, author_page};
 
-use crate::rows::{push_list, push_message, push_tree_line};
+use crate::rows::{push_list, push_message};
 use crate::texts::push_shown;
-use archive_results::{Line, TreeLine};
+use archive_results::Line;
 use civil_time::Month;
 use mail_core::Memory;
 use std::alloc::{AllocError, Global};
@@ -64,17 +64,6 @@ fn push_lines(page: &mut Vec<u8>, list: &str, lines: &[Line]) -> Result<(), Allo
     Ok(())
 }
 
-/// Adds the rows of threads.
-fn push_tree_lines(page: &mut Vec<u8>, list: &str, rows: &[TreeLine]) -> Result<(), AllocError>
-    ensures { OnOk result (page.new.items ≡ page.old.items
-        ++ flat_map (tree_row list.now) rows.now) }
-{
-    for row in rows {
-        push_tree_line(page, list, row)?;
-    }
-    Ok(())
-}
-
 /// The page of all lists, in the order in which they are given.
 pub fn lists_page(alloc: Global, names: &[String]) -> Result<Vec<u8>, Memory>
     ensures { IfOk result (λ page. page.items ≡ lists_page (map string_bytes names.now)) }
@@ -126,36 +115,4 @@ pub fn author_page(
     let mut title = titled(alloc, list, b"by ")?;
     push_shown(&mut title, author)?;
     Ok(lines_page(alloc, &title, list, lines)?)
-}
-
-/// A page of threads.
-fn rows_page(
-    alloc: Global,
-    title: &[u8],
-    list: &str,
-    rows: &[TreeLine],
-) -> Result<Vec<u8>, AllocError>
-    ensures { IfOk result (λ made. made.items ≡ page title.now
-        (flat_map (tree_row list.now) rows.now)) }
-{
-    let mut page = started(alloc, title)?;
-    push_tree_lines(&mut page, list, rows)?;
-    push_foot(&mut page)?;
-    Ok(page)
-}
-
-/// The page of all threads of a list.
-pub fn threads_page(alloc: Global, list: &str, rows: &[TreeLine]) -> Result<Vec<u8>, Memory>
-    ensures { IfOk result (λ page. page.items ≡ threads_page list.now rows.now) }
-{
-    let title = titled(alloc, list, b"threads")?;
-    Ok(rows_page(alloc, &title, list, rows)?)
-}
-
-/// The page of one thread.
-pub fn thread_page(alloc: Global, list: &str, rows: &[TreeLine]) -> Result<Vec<u8>, Memory>
-    ensures { IfOk result (λ page. page.items ≡ thread_page list.now rows.now) }
-{
-    let title = titled(alloc, list, b"thread")?;
-    Ok(rows_page(alloc, &title, list, rows)?)
 }

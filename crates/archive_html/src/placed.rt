@@ -11,6 +11,9 @@ use mail_core::Memory;
 use std::alloc::{AllocError, Global};
 use thread_core::Row;
 
+/// How many bytes a row takes, or some more: so a long page seldom grows.
+const ROW_BYTES: usize = 384;
+
 /// The line at the place of a row. `None` where it has no place, or no line is there.
 fn line_at<'a>(lines: &'a [Line], row: &Row) -> Option<&'a Line>
     ensures { option_copied result ≡ (tree_line lines.entry.now row.entry.now).line }
@@ -55,6 +58,7 @@ fn placed_page(
         (flat_map (tree_row list.now) (map (tree_line lines.now) rows.now))) }
 {
     let mut page = started(alloc, title)?;
+    page.reserve(rows.len().saturating_mul(ROW_BYTES))?;
     push_rows(&mut page, list, lines, rows)?;
     push_foot(&mut page)?;
     Ok(page)

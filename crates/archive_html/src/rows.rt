@@ -1,9 +1,9 @@
 //! The rows of pages, one a line.
 ghost use Rattle.std.specs.Prelude.{◌≡◌, ◌++◌, OnOk, codes, decimal, min};
-ghost use Rattle.archive_html.specs.Rows.{list_row, message_row, missing_row, tree_row};
+ghost use Rattle.archive_html.specs.Rows.{list_row, message_row, missing_row};
 
 use crate::links::{push_author_link, push_message_link, push_month_link, push_thread_link};
-use archive_results::{Line, TreeLine};
+use archive_results::Line;
 use std::alloc::AllocError;
 
 /// The greatest depth that is shown.
@@ -76,18 +76,4 @@ pub(crate) fn push_missing(page: &mut Vec<u8>) -> Result<(), AllocError>
 {
     page.extend_from_slice(b"<div class=\"d0\">(missing)</div>\n")?;
     Ok(())
-}
-
-/// Adds a row of a thread: a message's, or the row of one that is not there.
-pub(crate) fn push_tree_line(
-    page: &mut Vec<u8>,
-    list: &str,
-    tree: &TreeLine,
-) -> Result<(), AllocError>
-    ensures { OnOk result (page.new.items ≡ page.old.items ++ tree_row list.now tree.now) }
-{
-    match &tree.line {
-        Some(line) => push_message(page, list, tree.depth, line),
-        None => push_missing(page),
-    }
 }

@@ -1,6 +1,7 @@
 //! Texts as a page shows them.
-ghost use Rattle.std.specs.Prelude.{◌≡◌, ◌++◌, OnOk, flat_map, take};
-ghost use Rattle.archive_html.specs.Texts.{shown_byte, shown_text};
+ghost use Rattle.std.specs.Prelude.{◌≡◌, ◌≤◌, ◌++◌, OnOk, length};
+ghost use Rattle.std.specs.List.{prefix_len};
+ghost use Rattle.archive_html.specs.Texts.{is_plain, shown_byte, shown_text};
 
 use std::alloc::AllocError;
 
@@ -18,13 +19,38 @@ fn push_shown_byte(page: &mut Vec<u8>, byte: u8) -> Result<(), AllocError>
     }
 }
 
-/// Adds a text as it is shown.
-#[tactic(auto, using(crate::proofs::PieceLemmas::grown, crate::proofs::PieceLemmas::full))]
+/// Whether a byte is shown as it is.
+fn is_plain(byte: u8) -> bool
+    ensures { result ≡ is_plain byte }
+{
+    matches!(byte, b' '..=b'~') && byte != b'&' && byte != b'<' && byte != b'>' && byte != b'"'
+}
+
+/// How many bytes at the beginning of a text are shown as they are.
+fn plain_len(text: &[u8]) -> usize
+    ensures value { result ≡ prefix_len is_plain text.now }
+    ensures within { result ≤ length text.now }
+{
+    for (len, byte) in text.iter().enumerate() {
+        if !is_plain(*byte) {
+            return len;
+        }
+    }
+    text.len()
+}
+
+/// Adds a text as it is shown, a run of plain bytes at a time.
 pub(crate) fn push_shown(page: &mut Vec<u8>, text: &[u8]) -> Result<(), AllocError>
     ensures { OnOk result (page.new.items ≡ page.old.items ++ shown_text text.now) }
 {
-    for byte in text {
+    let mut rest = text;
+    loop {
+        let (plain, behind) = rest.split_at(plain_len(rest));
+        page.extend_from_slice(plain)?;
+        let Some((byte, after)) = behind.split_first() else {
+            return Ok(());
+        };
         push_shown_byte(page, *byte)?;
+        rest = after;
     }
-    Ok(())
 }

@@ -1,5 +1,6 @@
 -- What is kept, from call to call.
-use Rattle.std.proofs.Common.{◌≡◌, refl, sym, ap, ◌∙◌, subst, inl, inr, ℕ, zero, suc, ℤ, List, [], ◌∷◌, ◌++◌, drop, filter, map, slice_get, Option, Some}
+use Rattle.std.specs.Prelude.{insert}
+use Rattle.std.proofs.Common.{◌≡◌, refl, sym, ap, ◌∙◌, subst, inl, inr, ℕ, zero, suc, ℤ, List, [], ◌∷◌, drop, filter, map, slice_get, Option, Some}
 use Rattle.sqlite.specs.Store.{Ghosts}
 use Rattle.policy_core.specs.Rules.{Rule}
 use Rattle.archive_machine.specs.Records.{Archive, Message}
@@ -10,7 +11,8 @@ use Rattle.archive_results.specs.Access.{Ask, ReaderMarks, is_shown, ruling_on, 
 use Rattle.archive_results.specs.Shown.{shown_of}
 use Rattle.archive_desk.specs.Asking.{IsEnough}
 use Rattle.archive_desk.proofs.MarkLemmas.{view_alike}
-use Rattle.archive_kept.specs.Outlines.{Outline, outline_for, outline_of}
+use Rattle.archive_kept.specs.Outlines.{Outline, outline_for, outline_in}
+use Rattle.archive_kept.specs.Parts.{Part}
 use Rattle.archive_kept.specs.Views.{KeptView, Keeping, DropsOldest}
 use Rattle.archive_kept.specs.Kept.{AreOf, EachIsOf, IsOf, Keeps}
 
@@ -29,15 +31,15 @@ module _ (a : Archive) (ask : Ask) (reader : ReaderMarks) (who : Option (List �
   view_same one two = sym (view_alike a ask reader one (messages_in a ask.list)) ∙ shown_alike (messages_in a ask.list)
       ∙ view_alike a other reader two (messages_in a ask.list)
 
-  outline_same : IsEnough a ask reader → IsEnough a other reader → outline_for a ask ≡ outline_for a other
-  outline_same one two = ap (λ (ms : List Message). outline_of (merge_of a ask.list) (map shown_of ms)) (view_same one two)
+  outline_same : (part : Part) → IsEnough a ask reader → IsEnough a other reader → outline_for a ask part ≡ outline_for a other part
+  outline_same part one two = ap (λ (ms : List Message). outline_in (merge_of a ask.list) (map shown_of ms) part) (view_same one two)
 
 -- the outline of what one asker is shown is of the archive, for all
-pub of_asked : (a : Archive) (ask : Ask) (reader : ReaderMarks) (outline : Outline) → IsEnough a ask reader → outline ≡ outline_for a ask
-    → IsOf a ask.rules ask.day (record { list = ask.list; reader = reader; outline = outline })
-of_asked a ask reader outline enough is = λ asked rules day list known.
+pub of_asked : (a : Archive) (ask : Ask) (reader : ReaderMarks) (part : Part) (outline : Outline) → IsEnough a ask reader → outline ≡ outline_for a ask part
+    → IsOf a ask.rules ask.day (record { list = ask.list; reader = reader; part = part; outline = outline })
+of_asked a ask reader part outline enough is = λ asked rules day list known.
     let same : asked ≡ record ask { reader = asked.reader } = λ i. record { rules = rules i; reader = asked.reader; list = list i; day = day i } in
-    is ∙ outline_same a ask reader asked.reader enough (subst (λ x. IsEnough a x reader) same known) ∙ ap (outline_for a) (sym same)
+    is ∙ outline_same a ask reader asked.reader part enough (subst (λ x. IsEnough a x reader) same known) ∙ ap (λ q. outline_for a q part) (sym same)
 
 -- ---- all that is kept
 
@@ -49,9 +51,11 @@ module _ (a : Archive) (rules : List Rule) (day : ℤ) where
   of_at (x ∷ xs) (suc n) v h e = of_at xs n v h.1 e
 
   -- one more
-  pub of_more : (views : List KeptView) (v : KeptView) → EachIsOf a rules day views → IsOf a rules day v → EachIsOf a rules day (views ++ v ∷ [])
-  of_more [] v h is = (is, tt)
-  of_more (x ∷ xs) v h is = (h.0, of_more xs v h.1 is)
+  pub of_more : (views : List KeptView) (place : ℕ) (v : KeptView) → EachIsOf a rules day views → IsOf a rules day v → EachIsOf a rules day (insert views place v)
+  of_more [] zero v h is = (is, tt)
+  of_more [] (suc n) v h is = (is, tt)
+  of_more (x ∷ xs) zero v h is = (is, h)
+  of_more (x ∷ xs) (suc n) v h is = (h.0, of_more xs n v h.1 is)
 
   -- and fewer
   of_later : (n : ℕ) (views : List KeptView) → EachIsOf a rules day views → EachIsOf a rules day (drop n views)
@@ -67,13 +71,15 @@ module _ (a : Archive) (rules : List Rule) (day : ℤ) where
 module _ {S : Type 0} (g : Ghosts S) (rules : List Rule) (day : ℤ) where
   -- a call that lets what is kept be
   pub keeps_same : (old new : Store S) (kept : Keeping) → Keeps g old new rules day kept kept
-  keeps_same old new kept = record { ready = λ returned ready are. are; shut = λ returned shut. refl }
+  keeps_same old new kept = record { ready = λ returned ready are. are; shut = λ returned shut. refl; most = refl; bounded = λ within. within }
 
   -- before another that does
   pub keeps_later : (old mid new : Store S) (kept later : Keeping) → Keeps g old mid rules day kept later → Lasts g mid new → Keeps g old new rules day kept later
   keeps_later old mid new kept later keeps lasts = record {
     ready = λ returned ready are. keeps.ready (lasts.returned returned) ready are;
     shut = λ returned shut. keeps.shut (lasts.returned returned) shut;
+    most = keeps.most;
+    bounded = keeps.bounded;
   }
 
   -- after one that does, and leaves the archive
@@ -84,4 +90,6 @@ module _ {S : Type 0} (g : Ghosts S) (rules : List Rule) (day : ℤ) where
         let it = goes.1 (lasts.returned returned) ready in
         subst (λ a. AreOf a rules day later) it.1 (keeps.ready returned it.0 (subst (λ a. AreOf a rules day kept) (sym it.1) are));
     shut = λ returned shut. keeps.shut returned (λ up. shut (goes.0.stays_shut (lasts.returned returned) up));
+    most = keeps.most;
+    bounded = keeps.bounded;
   }

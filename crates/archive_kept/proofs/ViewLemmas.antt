@@ -1,16 +1,19 @@
 -- Looking for a view that is kept, and keeping one more.
-use Rattle.std.proofs.Common.{◌≡◌, refl, sym, ap, ◌∙◌, inl, inr, ℕ, ◌+◌, ◌-◌, ◌^◌, ◌<◌, min, true, List, [], ◌∷◌, ◌++◌, length, get_or, slice_get, bytes_eq, Option, Some, None, arith}
-use Rattle.std.specs.Prelude.{◌==◌, ◌⊎◌, option_map, position, sum_by}
+use Rattle.std.proofs.Common.{◌≡◌, refl, sym, ap, ◌∙◌, inl, inr, ℕ, zero, suc, ◌≤◌, ◌+◌, ◌-◌, ◌^◌, ◌<◌, min, true, List, [], ◌∷◌, length, get_or, slice_get, bytes_eq, Option, Some, None, arith}
+use Rattle.std.specs.Prelude.{◌==◌, ◌&&◌, ◌⊎◌, insert, option_map, position}
+use Rattle.std.specs.Option.{option_map_or}
 use Rattle.std.proofs.lemmas.Bool.{and_parts, eqb-true}
 use Rattle.std.proofs.lemmas.List.Quantifiers.{position-Some}
-use Rattle.std.proofs.lemmas.List.Sums.{sum_by-append}
+use Rattle.std.proofs.lemmas.List.Edits.{length-insert}
+use Rattle.std.proofs.lemmas.List.Sums.{sum_by-insert}
 use Rattle.std.proofs.lemmas.Option.{slice_get-get_or}
 use Rattle.std.proofs.lemmas.Slice.Eq.{bytes_eq-Decides}
 use Rattle.policy_core.specs.declared.access.Standing.{Standing}
 use Rattle.policy_core.specs.declared.access.Standing.TheVariants.{Public, Member, Subscriber, Moderator}
 use Rattle.policy_core.specs.Facts.{rank_of}
 use Rattle.archive_results.specs.Access.{ReaderMarks}
-use Rattle.archive_kept.specs.Views.{KeptView, Keeping, IsBounded, is_view_of, outline_at, same_address, same_reader, view_weight, weight_of}
+use Rattle.archive_kept.specs.Parts.{Part, whole, month, author, same_part}
+use Rattle.archive_kept.specs.Views.{KeptView, Keeping, IsBounded, first_whole, is_view_of, is_whole, outline_at, put_place, same_address, same_reader, view_weight, weight_of}
 
 -- ---- readers
 
@@ -45,60 +48,95 @@ readers_are a b e =
     let address = addresses_are a.address b.address both.1 in
     λ i. record { standing = standing i; address = address i }
 
+-- ---- parts
+
+parts_are : (a b : Part) → same_part a b ≡ true → a ≡ b
+parts_are whole whole e = refl
+parts_are whole (month n) e = absurd (cc)
+parts_are whole (author l) e = absurd (cc)
+parts_are (month m) whole e = absurd (cc)
+parts_are (month m) (month n) e = ap month (eqb-true m n e)
+parts_are (month m) (author l) e = absurd (cc)
+parts_are (author k) whole e = absurd (cc)
+parts_are (author k) (month n) e = absurd (cc)
+parts_are (author k) (author l) e = ap author ((bytes_eq-Decides k l).0 e)
+
 -- ---- looking
 
--- the view that a search gives is of that list and reader
-pub record Found (list : List ℕ) (reader : ReaderMarks) (views : List KeptView) (place : ℕ) : Type 0 where
+-- the view that a search gives is of that part, list and reader
+pub record Found (list : List ℕ) (reader : ReaderMarks) (part : Part) (views : List KeptView) (place : ℕ) : Type 0 where
   pub view : KeptView
   pub there : slice_get views place ≡ Some view
   pub list_is : view.list ≡ list
   pub reader_is : view.reader ≡ reader
+  pub part_is : view.part ≡ part
 
-found_by : (list : List ℕ) (reader : ReaderMarks) (views : List KeptView) (place : ℕ) (other : KeptView) → position (is_view_of list reader) views ≡ Some place
-    → Found list reader views place
-found_by list reader views place other e =
-    let first = position-Some (is_view_of list reader) views place other e in
-    let view = get_or views place other in
-    let both = and_parts (bytes_eq view.list list) (same_reader view.reader reader) first.1 in
-    record {
-      view = view;
-      there = slice_get-get_or views place other first.0;
-      list_is = (bytes_eq-Decides view.list list).0 both.0;
-      reader_is = readers_are view.reader reader both.1;
-    }
+module _ (list : List ℕ) (reader : ReaderMarks) (part : Part) where
+  found_by : (views : List KeptView) (place : ℕ) (other : KeptView) → position (is_view_of list reader part) views ≡ Some place → Found list reader part views place
+  found_by views place other e =
+      let first = position-Some (is_view_of list reader part) views place other e in
+      let view = get_or views place other in
+      let two = and_parts (same_part view.part part) (bytes_eq view.list list && same_reader view.reader reader) first.1 in
+      let both = and_parts (bytes_eq view.list list) (same_reader view.reader reader) two.1 in
+      record {
+        view = view;
+        there = slice_get-get_or views place other first.0;
+        list_is = (bytes_eq-Decides view.list list).0 both.0;
+        reader_is = readers_are view.reader reader both.1;
+        part_is = parts_are view.part part two.0;
+      }
 
-pub found_view : (list : List ℕ) (reader : ReaderMarks) (views : List KeptView) (place : ℕ) → Some place ≡ position (is_view_of list reader) views
-    → Found list reader views place
-found_view list reader [] place e = absurd (cc)
-found_view list reader (v ∷ vs) place e = found_by list reader (v ∷ vs) place v (sym e)
+  pub found_view : (views : List KeptView) (place : ℕ) → Some place ≡ position (is_view_of list reader part) views → Found list reader part views place
+  found_view [] place e = absurd (cc)
+  found_view (v ∷ vs) place e = found_by (v ∷ vs) place v (sym e)
 
 -- ---- one more
 
-last_at : (views : List KeptView) (v : KeptView) → slice_get (views ++ v ∷ []) (length views) ≡ Some v
-last_at [] v = refl
-last_at (x ∷ xs) v = last_at xs v
+-- it has a place
+whole_within : (views : List KeptView) → first_whole views ≤ length views
+whole_within [] = omega arith
+whole_within (v ∷ vs) = by_test (position is_whole (v ∷ vs)) refl
+  where
+    by_test : (o : Option ℕ) → position is_whole (v ∷ vs) ≡ o → option_map_or (λ n. n) o (length (v ∷ vs)) ≤ length (v ∷ vs)
+    by_test None e = omega arith
+    by_test (Some n) e = let less = (position-Some is_whole (v ∷ vs) n v e).0 in omega (arith, less)
 
--- what was put last stands at the end
-pub outline_last : (kept : Keeping) (views : List KeptView) (v : KeptView) (place : ℕ) → place ≡ length views → kept.views ≡ views ++ v ∷ []
+pub put_within : (part : Part) (views : List KeptView) → put_place part views ≤ length views
+put_within whole views = omega arith
+put_within (month m) views = whole_within views
+put_within (author key) views = whole_within views
+
+put_at : (views : List KeptView) (place : ℕ) (v : KeptView) → place ≤ length views → slice_get (insert views place v) place ≡ Some v
+put_at [] zero v upto = refl
+put_at [] (suc n) v upto = absurd (omega (arith, upto))
+put_at (x ∷ xs) zero v upto = refl
+put_at (x ∷ xs) (suc n) v upto = put_at xs n v (omega (arith, upto))
+
+-- what was put stands there
+pub outline_put : (kept : Keeping) (views : List KeptView) (v : KeptView) (place : ℕ) → place ≤ length views → kept.views ≡ insert views place v
     → outline_at kept place ≡ Some v.outline
-outline_last kept views v place at e =
+outline_put kept views v place upto e =
     ap (λ (vs : List KeptView). option_map (λ (w : KeptView). w.outline) (slice_get vs place)) e
-    ∙ ap (λ n. option_map (λ (w : KeptView). w.outline) (slice_get (views ++ v ∷ []) n)) at
-    ∙ ap (option_map (λ (w : KeptView). w.outline)) (last_at views v)
+    ∙ ap (option_map (λ (w : KeptView). w.outline)) (put_at views place v upto)
+
+-- and there are as many more
+pub put_there : (part : Part) (rest views : List KeptView) (v : KeptView) (place : ℕ) → place ≡ put_place part rest → views ≡ insert rest place v → place < length views
+put_there part rest views v place at e =
+    let upto = put_within part rest in
+    let size = ap (λ (vs : List KeptView). length vs) e ∙ length-insert rest place v (omega (arith, at, upto)) in
+    omega (arith, at, upto, size)
 
 -- ---- how much it is
 
-sum_one : {X : Type 0} (f : X → ℕ) (x : X) → sum_by f (x ∷ []) ≡ f x
-sum_one f x = let e : 0 + f x ≡ f x = omega arith in e
+alone : (place : ℕ) (v : KeptView) → length (insert [] place v) ≡ 1
+alone zero v = refl
+alone (suc n) v = refl
 
-pub weight_more : (views : List KeptView) (v : KeptView) → weight_of (views ++ v ∷ []) ≡ weight_of views + view_weight v
-weight_more views v = sum_by-append view_weight views (v ∷ []) ∙ ap (λ n. weight_of views + n) (sum_one view_weight v)
-
-module _ (most weight : ℕ) (rest views : List KeptView) (v : KeptView) (fits : most < 2 ^ 64) (weighs : weight ≡ min (view_weight v) (2 ^ 64 - 1))
-    (put : views ≡ rest ++ v ∷ []) where
+module _ (most weight place : ℕ) (rest views : List KeptView) (v : KeptView) (fits : most < 2 ^ 64) (weighs : weight ≡ min (view_weight v) (2 ^ 64 - 1))
+    (put : views ≡ insert rest place v) where
   -- it has room beside the others, or it is alone
   pub bounded_put : (weight_of rest + weight < most) ⊎ (rest ≡ []) → IsBounded (record { most = most; views = views })
   bounded_put (inl room) =
-      let sum = ap weight_of put ∙ weight_more rest v in
+      let sum = ap weight_of put ∙ sum_by-insert view_weight rest place v in
       inl (omega (arith, sum, room, weighs, fits))
-  bounded_put (inr none) = inr (ap (λ (vs : List KeptView). length vs) put ∙ ap (λ (vs : List KeptView). length (vs ++ v ∷ [])) none)
+  bounded_put (inr none) = inr (ap (λ (vs : List KeptView). length vs) put ∙ ap (λ (vs : List KeptView). length (insert vs place v)) none ∙ alone place v)

@@ -1,33 +1,38 @@
 //! Views that are kept.
-ghost use Rattle.std.specs.Prelude.{◌≡◌, ◌⊎◌, ◌<◌, ◌≤◌, ◌+◌, ◌-◌, ◌^◌, ℕ, drop, List, ◌∷◌, [], ◌++◌, length, min, position, string_bytes, option_copied, option_map, MatchResult};
+ghost use Rattle.std.specs.Prelude.{◌≡◌, ◌⊎◌, ◌<◌, ◌≤◌, ◌+◌, ◌-◌, ◌^◌, ℕ, drop, insert, List, [], length, min, position, string_bytes, option_copied, option_map, MatchResult};
 ghost use Rattle.std.specs.Option.{option_map_or};
-ghost use Rattle.archive_kept.specs.Views.{DropsOldest, IsBounded, KeptView as Shown, is_view_of, nothing_kept, outline_at, same_address, same_reader, view_weight, weight_of};
+ghost use Rattle.archive_kept.specs.Parts.{part_named};
+ghost use Rattle.archive_kept.specs.Views.{DropsOldest, IsBounded, KeptView as Shown, first_whole, is_view_of, is_whole, nothing_kept, outline_at, put_place, same_address, same_reader, view_weight, weight_of};
 
 use crate::outlines::Outline;
+use crate::parts::{OwnPart, Part, is_same_part, own_part, part_weight};
 use crate::weights::outline_weight;
 use archive_results::ReaderMarks;
 use mail_core::Memory;
 use std::alloc::Global;
 use std::marker::Model;
 
-/// The outline of what the readers of these marks are shown of a list.
+/// The outline of a part of what the readers of these marks are shown of a list.
 #[derive(Drop)]
 struct KeptView {
     list: String,
     reader: ReaderMarks,
+    part: OwnPart,
     outline: Outline,
 }
 
 impl Model for KeptView {
     ghost use Rattle.std.specs.Prelude.{string_bytes};
+    ghost use Rattle.archive_kept.specs.Parts.{part_of};
     ghost use Rattle.archive_kept.specs.Views.{KeptView as Shown};
 
     ghost Value = { Shown };
 
-    ghost view = { λ v. record { list = string_bytes v.list; reader = v.reader; outline = v.outline } };
+    ghost view = { λ v. record { list = string_bytes v.list; reader = v.reader; part = part_of v.part; outline = v.outline } };
 }
 
-/// Outlines of views, one of a list and the marks of a reader: at most so many bytes, or one view alone.
+/// Outlines of views, one of a part of a list and the marks of a reader: at most so many bytes, or one view alone. Months and authors
+/// stand before whole lists, and each of the two in the order in which they came.
 #[derive(Drop)]
 pub struct Kept {
     views: Vec<KeptView>,
@@ -60,22 +65,60 @@ fn is_same_reader(one: &ReaderMarks, other: &ReaderMarks) -> bool
     one.standing.rank() == other.standing.rank() && is_same_address(&one.address, &other.address)
 }
 
-/// Whether it is the view of a list for readers of these marks.
-fn is_view_of(view: &KeptView, list: &str, reader: &ReaderMarks) -> bool
-    ensures { result ≡ is_view_of list.now reader.now view.now }
+/// Whether it is the view of a part of a list for readers of these marks.
+fn is_view_of(view: &KeptView, list: &str, reader: &ReaderMarks, part: &Part<'_>) -> bool
+    ensures { result ≡ is_view_of list.now reader.now (part_named part.now) view.now }
 {
-    view.list.as_str() == list && is_same_reader(&view.reader, reader)
+    is_same_part(&view.part, part)
+        && (view.list.as_str() == list && is_same_reader(&view.reader, reader))
 }
 
-/// The place of the view of a list for readers of these marks.
-fn place_of(views: &[KeptView], list: &str, reader: &ReaderMarks) -> Option<usize>
-    ensures { result ≡ position (is_view_of list.now reader.now) views.now }
+/// The place of the view of a part of a list for readers of these marks.
+fn place_of(views: &[KeptView], list: &str, reader: &ReaderMarks, part: &Part<'_>) -> Option<usize>
+    ensures { result ≡ position (is_view_of list.now reader.now (part_named part.now)) views.now }
 {
-    views.iter().position(|view| is_view_of(view, list, reader))
+    views
+        .iter()
+        .position(|view| is_view_of(view, list, reader, part))
 }
 
-/// What a view takes beside its outline, its list's name and its reader's address. It is much, so that views are few.
-const VIEW_BYTES: usize = 1024;
+/// Whether it is the view of a whole list.
+fn is_whole(view: &KeptView) -> bool
+    ensures { result ≡ is_whole view.now }
+{
+    matches!(view.part, OwnPart::Whole)
+}
+
+/// The place of the first view of a whole list, if there is one.
+fn find_whole(views: &[KeptView]) -> Option<usize>
+    ensures { result ≡ position is_whole views.now }
+{
+    views.iter().position(|view| is_whole(view))
+}
+
+/// The same, or the end.
+fn first_whole(views: &[KeptView]) -> usize
+    ensures { result ≡ first_whole views.now }
+{
+    match find_whole(views) {
+        Some(place) => place,
+        None => views.len(),
+    }
+}
+
+/// Where a view of a part is put.
+fn put_place(views: &[KeptView], part: &Part<'_>) -> usize
+    ensures { result ≡ put_place (part_named part.now) views.now }
+{
+    match part {
+        Part::Whole => views.len(),
+        Part::Month(_) | Part::Author(_) => first_whole(views),
+    }
+}
+
+/// What a view takes beside its outline, its list's name, its reader's address and its author key. It is much, so that views are few,
+/// since one is looked for among all.
+const VIEW_BYTES: usize = 16_384;
 
 /// The weight of a view, as far as 64 bits go.
 fn view_weight(view: &KeptView) -> usize
@@ -88,6 +131,7 @@ fn view_weight(view: &KeptView) -> usize
     VIEW_BYTES
         .saturating_add(view.list.len())
         .saturating_add(address)
+        .saturating_add(part_weight(&view.part))
         .saturating_add(outline_weight(&view.outline))
 }
 
@@ -110,7 +154,7 @@ fn first_with_room(views: &[KeptView], most: usize, weight: usize) -> usize
     place
 }
 
-/// Lets the oldest views go, as many as it takes that there is room for one of this weight.
+/// Lets the first views go, as many as it takes that there is room for one of this weight.
 fn make_room(views: &mut Vec<KeptView>, most: usize, weight: usize)
     ensures dropped { DropsOldest views.old.items views.new.items }
     ensures room { (weight_of views.new.items + weight < most) ⊎ (views.new.items ≡ []) }
@@ -143,23 +187,26 @@ impl Kept {
         }
     }
 
-    /// The place of the view of a list for readers of these marks, if it is kept.
-    pub(crate) fn find(&self, list: &str, reader: &ReaderMarks) -> Option<usize>
-        ensures { result ≡ position (is_view_of list.now reader.now) self.now.views }
+    /// The place of the view of a part of a list for readers of these marks, if it is kept.
+    pub(crate) fn find(&self, list: &str, reader: &ReaderMarks, part: &Part<'_>) -> Option<usize>
+        ensures { result ≡ position (is_view_of list.now reader.now (part_named part.now)) self.now.views }
     {
-        place_of(&self.views, list, reader)
+        place_of(&self.views, list, reader, part)
     }
 
-    /// Keeps one view more, and answers its place. The oldest are let go, as many as it takes that it fits beside the others.
+    /// Keeps one view more, and answers its place. As many are let go as it takes that it fits beside the others: months and authors
+    /// first, and of the two kinds the oldest.
     pub(crate) fn put(
         &mut self,
         alloc: Global,
         list: &str,
         reader: ReaderMarks,
+        part: &Part<'_>,
         outline: Outline,
     ) -> Result<usize, Memory>
         ensures kept { (rest : List Shown) × DropsOldest self.old.views rest × MatchResult result
-            (λ place. (place ≡ length rest) × (self.new.views ≡ rest ++ (record { list = list.now; reader = reader; outline = outline }) ∷ []))
+            (λ place. (place ≡ put_place (part_named part.now) rest)
+            × (self.new.views ≡ insert rest place (record { list = list.now; reader = reader; part = part_named part.now; outline = outline })))
             (λ _. self.new.views ≡ rest) }
         ensures most { self.new.most ≡ self.old.most }
         ensures bounded { IsBounded self.new }
@@ -168,11 +215,12 @@ impl Kept {
         let view = KeptView {
             list: String::from_str(alloc, list)?,
             reader,
+            part: own_part(alloc, part)?,
             outline,
         };
         make_room(&mut self.views, most, view_weight(&view));
-        let place = self.views.len();
-        self.views.push(view)?;
+        let place = put_place(&self.views, part);
+        self.views.insert(place, view)?;
         Ok(place)
     }
 }

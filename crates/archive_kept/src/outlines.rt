@@ -3,7 +3,7 @@ ghost use Rattle.std.specs.Prelude.{◌≡◌, List, Bool, IfOk, map, option_map
 ghost use Rattle.archive_results.specs.Index.{OfEachView, entries_in, lines_in};
 ghost use Rattle.archive_results.specs.Results.{thread_lines};
 ghost use Rattle.archive_results.specs.Shown.{Shown as Seen, shown_of};
-ghost use Rattle.archive_kept.specs.Outlines.{outline_of, thread_in, trees_in};
+ghost use Rattle.archive_kept.specs.Outlines.{outline_by, outline_of, thread_in, trees_in};
 
 use crate::keyed::KeyedLines;
 use crate::threaded::ThreadedRows;
@@ -15,7 +15,8 @@ use std::marker::Model;
 use thread_core::{Entry, Row, Threader, threads};
 
 /// A view without its texts: the line of each message, in mailbox order, and the rows of the threads, each with the place of
-/// its message. A message is found by its key, and its thread by its place, without a look at the others.
+/// its message. A message is found by its key, and its thread by its place, without a look at the others. Of a month or an
+/// author it has the lines by sent date, and no row.
 #[derive(Drop)]
 pub struct Outline {
     lines: KeyedLines,
@@ -31,7 +32,7 @@ impl Model for Outline {
 }
 
 impl Outline {
-    /// The line of each message, in mailbox order.
+    /// The line of each message, in mailbox order, or by sent date of a month or an author.
     pub fn lines(&self) -> &[Line]
         ensures { result.now ≡ self.entry.now.lines }
     {
@@ -91,5 +92,14 @@ pub(crate) fn outline_of<T: Threader>(
     let threaded = threads(alloc, threader, &columns.entries, merge)?;
     let rows = ThreadedRows::new(alloc, threaded, columns.lines.len())?;
     let lines = KeyedLines::new(alloc, columns.lines)?;
+    Ok(Outline { lines, rows })
+}
+
+/// The outline of lines alone. `Memory` where no memory is left.
+pub(crate) fn outline_by(alloc: Global, lines: Vec<Line>) -> Result<Outline, Memory>
+    ensures { IfOk result (λ outline. outline ≡ outline_by lines.items) }
+{
+    let rows = ThreadedRows::new(alloc, Vec::new(alloc), 0)?;
+    let lines = KeyedLines::new(alloc, lines)?;
     Ok(Outline { lines, rows })
 }

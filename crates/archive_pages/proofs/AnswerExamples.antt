@@ -7,6 +7,7 @@ use Rattle.policy_core.specs.declared.access.Standing.TheVariants.{Public}
 use Rattle.policy_core.specs.declared.access.Withdrawn.TheVariants.{Author, Board}
 use Rattle.archive_machine.specs.Records.{Archive}
 use Rattle.archive_results.specs.Access.{marks_of, ruling_on}
+use Rattle.archive_results.specs.Promise.{without}
 use Rattle.civil_time.specs.Dates.{year_after, month_after, date_after}
 use Rattle.civil_time.specs.Texts.{month_text, instant_text, instant_month_text}
 use Rattle.mail_core.specs.Lines.{lines, is_empty_line, content}
@@ -134,3 +135,21 @@ its_mbox : reply_bytes (reply_of two example (pos 12131) (asks (codes "GET") (co
     ≡ codes "HTTP/1.1 200 OK\r\nContent-Type: application/mbox\r\nConnection: close\r\n\r\nFrom bob@example.org Wed Mar 12 10:30:00 2003\nSubject: Re: Hello\n\nTwo.\n\n"
 unfolding digits head_bytes marks_of ruling_on date_after year_after month_after time_text
 its_mbox = refl
+
+-- ---- what is withheld leaves no trace: the first of the two, under a policy that names authors alone
+
+abbrev of_authors : List Rule
+of_authors = record open_rule { name = codes "author"; allows = false; withdrawn = Some (Author ∷ []) } ∷ record open_rule { name = codes "all" } ∷ []
+
+abbrev mbox_of : Archive → Reply
+mbox_of archive = reply_of archive of_authors (pos 12131) (asks (codes "GET") (codes "/l/soc/mbox") [])
+
+abbrev never : Archive
+never = without two (codes "soc") (codes "1111111111111111111111111111111111111111111111111111111111111111")
+
+one_never_came : never ≡ record two { messages = record { list = codes "soc"; key = codes "2222222222222222222222222222222222222222222222222222222222222222"; sender = codes "bob@example.org"; arrival = pos 1047465000; text = codes "Subject: Re: Hello\n\nTwo.\n"; withdrawn = pos 0; embargo = None } ∷ [] }
+one_never_came = refl
+
+without_a_trace : mbox_of two ≡ mbox_of never
+unfolding marks_of ruling_on
+without_a_trace = refl

@@ -16,7 +16,7 @@ use Rattle.archive_pages.proofs.ServingLemmas.{sends_as, broken_as, breaks_as, f
 
 -- pages that nothing was done to
 pub keeps_still : {S T : Type 0} (g : Ghosts S) (old new : Store S) (pages : Pages T) → KeepsOn g old new pages pages
-keeps_still g old new pages = record { same = refl; keeps = record { ready = λ returned ready of. of; shut = λ returned shut. refl } }
+keeps_still g old new pages = record { same = refl; keeps = record { ready = λ returned ready of. of; shut = λ returned shut. refl; most = refl; bounded = λ within. within } }
 
 module _ {S : Type 0} (g : Ghosts S) (before after : List ℕ) (result : Result ℕ ServeFault) where
   module _ (old new : Store S) where

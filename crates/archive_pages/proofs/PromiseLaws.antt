@@ -1,4 +1,4 @@
--- Why a withdrawn message leaves no trace in the replies to others.
+-- Why a message that is withheld leaves no trace in the replies.
 use Rattle.std.proofs.Common.{◌≡◌, ◌≢◌, ◌∙◌, ℕ, ℤ, List, map, Option, Some, None, refl, sym, ap}
 use Rattle.std.specs.Prelude.{is_some, option_map}
 use Rattle.httparse.specs.Grammar.{RequestHead}
@@ -6,17 +6,20 @@ use Rattle.policy_core.specs.Rules.{Rule}
 use Rattle.policy_core.specs.declared.access.Withdrawn.{Withdrawn}
 use Rattle.policy_core.specs.declared.access.Withdrawn.TheVariants.{No}
 use Rattle.archive_machine.specs.Records.{Archive}
-use Rattle.archive_machine.specs.Commands.{withdraw, done}
+use Rattle.archive_machine.specs.Commands.{Command, withdraw, embargo, done}
+use Rattle.archive_machine.specs.Lasting.{NoneOf, ends_withdrawal, sets_embargo}
 use Rattle.archive_machine.specs.Machine.{step}
 use Rattle.archive_machine.specs.Messages.{number_of}
-use Rattle.archive_machine.specs.Questions.{list_names, merge_of, person_of_token}
-use Rattle.archive_results.specs.Promise.{without, beside}
+use Rattle.archive_machine.specs.Questions.{person_of_token}
+use Rattle.archive_machine.specs.Runs.{run}
+use Rattle.archive_results.specs.Access.{Ask, ReaderMarks}
+use Rattle.archive_results.specs.Promise.{without, beside, DeniesWithdrawnBy, DeniesHeldBack, IsHiddenBy}
 use Rattle.archive_results.specs.Shown.{shown_of}
-use Rattle.archive_results.proofs.PromiseLemmas.{all_else_alike, as_if_it_never_came}
+use Rattle.archive_results.proofs.PromiseLemmas.{all_else_alike, leaves_no_trace, withheld_after, without_withdrawn}
 use Rattle.archive_requests.specs.Requests.{asks, request_of}
 use Rattle.archive_requests.specs.Routes.{Route, route_of}
-use Rattle.archive_pages.specs.Answers.{reader_of, asking, shown_view}
-use Rattle.archive_pages.specs.Laws.{IsAskedByOthers, IsAsIfItNeverCame, LookAlike, list_of}
+use Rattle.archive_pages.specs.Answers.{reader_of, asking, shown_view, reply_of}
+use Rattle.archive_pages.specs.Laws.{AsksFor, IsWithheldFromAskers, LeavesNoTrace, IsAsIfItNeverCame, IsHiddenIn, StaysAsIfItNeverCame, StaysHeldBack, LookAlike, list_of}
 use Rattle.archive_pages.proofs.LawLemmas.{equal_views}
 
 -- ---- what does not turn on messages
@@ -30,38 +33,79 @@ some_is x y same = cc
 
 -- ---- the replies
 
-module _ (archive : Archive) (rules : List Rule) (day : ℤ) (head : RequestHead) (list key : List ℕ) (by : Withdrawn) (some : by ≢ No)
-    (is : (step archive (withdraw list key (number_of by))).1 ≡ done) (others : IsAskedByOthers archive rules day head list key) where
-  abbrev after : Archive
-  after = (step archive (withdraw list key (number_of by))).0
-
+module _ (archive : Archive) (rules : List Rule) (day : ℤ) (head : RequestHead) (list key : List ℕ) (hidden : IsWithheldFromAskers archive rules day head list key) where
   abbrev never : Archive
   never = without archive list key
-
-  alike : beside after ≡ beside never
-  alike = all_else_alike archive list key (number_of by)
 
   module _ (token : Option (List ℕ)) (path : List ℕ) (request : request_of head ≡ asks token path) where
     -- what a reader is shown of the list that the path names
     seen : (route : Route) (asked : List ℕ) (x y : Option (List ℕ)) → route_of path ≡ Some route → list_of route ≡ Some asked
-        → reader_of after token ≡ Some x → reader_of never token ≡ Some y
-        → shown_view after (asking rules day x asked) ≡ shown_view never (asking rules day y asked)
+        → reader_of archive token ≡ Some x → reader_of never token ≡ Some y
+        → shown_view archive (asking rules day x asked) ≡ shown_view never (asking rules day y asked)
     seen route asked x y where_to names first second =
-        let who : reader_of archive token ≡ Some x = same_reader archive after (sym alike) token ∙ first in
-        let both : x ≡ y = some_is x y (sym first ∙ same_reader after never alike token ∙ second) in
-        let it = others x route asked (record { token = token; path = path; request = request; who = who; where_to = where_to }) names in
-        ap (map shown_of) (as_if_it_never_came archive (asking rules day x asked) list key by some is it.0 it.1)
+        let both : x ≡ y = some_is x y (sym first ∙ same_reader archive never refl token ∙ second) in
+        ap (map shown_of) (leaves_no_trace archive (asking rules day x asked) list key
+        (hidden x route asked (record { token = token; path = path; request = request; who = first; where_to = where_to }) names))
         ∙ ap (λ (reader : Option (List ℕ)). shown_view never (asking rules day reader asked)) both
 
-    look : LookAlike rules day token path after never
+    look : LookAlike rules day token path archive never
     look = record {
-      names = ap (λ (x : Archive). list_names x) alike;
-      known = ap (λ o. is_some o) (same_reader after never alike token);
-      merges = λ route asked where_to names. ap (λ (x : Archive). merge_of x asked) alike;
+      names = refl;
+      known = ap (λ o. is_some o) (same_reader archive never refl token);
+      merges = λ route asked where_to names. refl;
       views = seen;
     }
 
+pub no_trace : LeavesNoTrace
+no_trace archive rules day head list key none hidden =
+    equal_views rules day head archive (without archive list key)
+    (λ token path request. (look archive rules day head list key hidden token path request, (λ route where_to. none token path route request where_to)))
+
+-- ---- a message that was just withdrawn
+
+-- who asks the archive after a withdrawal asked the one before
+asked_before : (archive : Archive) (list key : List ℕ) (by : Withdrawn) (head : RequestHead) (reader : Option (List ℕ)) (route : Route)
+    → AsksFor (step archive (withdraw list key (number_of by))).0 head reader route → AsksFor archive head reader route
+asked_before archive list key by head reader route it = record {
+  token = it.token;
+  path = it.path;
+  request = it.request;
+  who = same_reader archive (step archive (withdraw list key (number_of by))).0 (sym (all_else_alike archive list key (number_of by))) it.token ∙ it.who;
+  where_to = it.where_to;
+}
+
 pub promised : IsAsIfItNeverCame
 promised archive rules day head list key by some is none others =
-    equal_views rules day head (after archive rules day head list key by some is others) (never archive rules day head list key by some is others)
-    (λ token path request. (look archive rules day head list key by some is others token path request, (λ route where_to. none token path route request where_to)))
+    no_trace (step archive (withdraw list key (number_of by))).0 rules day head list key none
+    (λ reader route asked asks names.
+    let it = others reader route asked (asked_before archive list key by head reader route asks) names in
+    withheld_after archive (asking rules day reader asked) list key by is it.0 it.1)
+    ∙ ap (λ (a : Archive). reply_of a rules day head) (without_withdrawn archive list key (number_of by) is)
+
+-- ---- later
+
+hidden_in : (Denies : Ask → ReaderMarks → Type 0) (archive : Archive) (list key : List ℕ) → ((ask : Ask) → IsHiddenBy Denies archive ask list key) → IsHiddenIn Denies archive list key
+hidden_in Denies archive list key hides rules day head none others =
+    no_trace archive rules day head list key none
+    (λ reader route asked asks names. let it = others reader route asked asks names in hides (asking rules day reader asked) it.0 it.1)
+
+-- what the law of views says of a message that was withdrawn, and of one that was held back
+abbrev pub WithdrawnLater : Type 0
+WithdrawnLater = (a : Archive) (ask : Ask) (list key : List ℕ) (by : Withdrawn) (commands : List Command) → by ≢ No
+    → (step a (withdraw list key (number_of by))).1 ≡ done → NoneOf (ends_withdrawal list key) commands
+    → IsHiddenBy (DeniesWithdrawnBy by) (run (step a (withdraw list key (number_of by))).0 commands).archive ask list key
+
+abbrev pub HeldBackLater : Type 0
+HeldBackLater = (a : Archive) (ask : Ask) (list key : List ℕ) (until : ℤ) (commands : List Command)
+    → (step a (embargo list key until)).1 ≡ done → NoneOf (sets_embargo list key) commands
+    → IsHiddenBy (DeniesHeldBack until) (run (step a (embargo list key until)).0 commands).archive ask list key
+
+pub stays_withdrawn : WithdrawnLater → StaysAsIfItNeverCame
+stays_withdrawn later archive list key by commands some is none =
+    hidden_in (DeniesWithdrawnBy by) (run (step archive (withdraw list key (number_of by))).0 commands).archive list key
+    (λ ask. later archive ask list key by commands some is none)
+
+pub stays_held_back : HeldBackLater → StaysHeldBack
+stays_held_back later archive list key until commands is none =
+    hidden_in (DeniesHeldBack until) (run (step archive (embargo list key until)).0 commands).archive list key
+    (λ ask. later archive ask list key until commands is none)

@@ -14,10 +14,11 @@ ghost use Rattle.archive_store.specs.Told.{Goes, HasNoLimit, IsReady, WasRefused
 ghost use Rattle.archive_desk.specs.Readable.{CanBeRead};
 ghost use Rattle.archive_pages.specs.Causes.{IsUnread, IsUnserved, ServesOr};
 ghost use Rattle.archive_pages.specs.declared.faults.ServeFault.{ServeFault};
-ghost use Rattle.archive_pages.specs.Laws.{EqualViews, IsAsIfItNeverCame, ServesWhatIsAllowed, DeniesWhatIsDenied, ShowsWhatIsAllowed};
+ghost use Rattle.archive_pages.specs.Laws.{EqualViews, IsAsIfItNeverCame, LeavesNoTrace, StaysAsIfItNeverCame, StaysHeldBack, ServesWhatIsAllowed, DeniesWhatIsDenied, ShowsWhatIsAllowed};
 ghost use Rattle.archive_pages.specs.Reopened.{AnswersReopened};
 ghost use Rattle.archive_pages.specs.Serving.{Stays};
 
+use archive_results::laws::what_is_withheld_is_so_later;
 use archive_store::laws::a_file_opened_again_holds_the_same_archive;
 use sqlite_disk::Disk;
 
@@ -53,9 +54,20 @@ pub fn results_are_of_what_is_allowed()
         → ShowsWhatIsAllowed archive rules day head }
 {}
 
+/// What is withheld leaves no trace: the pages, the listings and the mbox of a reader to whom the
+/// policy does not show a message are those of the archive in which it never came, byte for byte.
+/// That is so of every archive, and so at any time, and of whatever hides the message.
+pub fn what_is_withheld_leaves_no_trace()
+    ensures always { LeavesNoTrace }
+    ensures withdrawn { StaysAsIfItNeverCame }
+    ensures held_back { StaysHeldBack }
+{
+    what_is_withheld_is_so_later();
+}
+
 /// What an author is promised. Once a message is withdrawn, by its author or the board, the pages,
 /// the listings and the mbox of each reader who did not write it, and to whom the policy denies what
-/// is withdrawn, are those of the archive in which it never came, byte for byte.
+/// this party withdrew, are those of the archive in which it never came, byte for byte.
 pub fn what_is_withdrawn_might_never_have_come()
     ensures { IsAsIfItNeverCame }
 {}

@@ -1,15 +1,16 @@
 //! The pages that list messages: of a month, of an author, of all threads and of one.
 ghost use Rattle.std.specs.Prelude.{◌<◌, IfOk, IfSome, length};
 ghost use Rattle.archive_kept.specs.Kept.{Keeps};
+ghost use Rattle.archive_kept.specs.Parts.{part_named};
 ghost use Rattle.archive_pages.specs.Answers.{author_for, month_for, thread_for, threads_for};
-ghost use Rattle.archive_pages.specs.Calls.{AreFor, FindsMade, FindsReply, FindsReplyIf, IsPlace};
+ghost use Rattle.archive_pages.specs.Calls.{AreFor, FindsMade, FindsReplyIf, IsPlace};
 ghost use Rattle.archive_pages.specs.Causes.{FindsOr, IsUnreadBy};
 ghost use Rattle.archive_pages.specs.KeptServing.{FindsIf};
 
 use crate::replies::{Failure, Reply, Unavailable};
-use archive_desk::{DeskFault, author, month};
+use archive_desk::DeskFault;
 use archive_html::{author_page, month_page, placed_thread_page, placed_threads_page};
-use archive_kept::{Kept, find_outline};
+use archive_kept::{Kept, Part, find_outline};
 use archive_results::Ask;
 use archive_store::{Key, Store};
 use civil_time::Month;
@@ -17,78 +18,85 @@ use sqlite::Alter;
 use std::alloc::Global;
 use thread_core::Threader;
 
-/// The page of a month, which the path has as `yyyy-mm`.
-pub(crate) fn find_month<S: Alter>(
-    store: &mut Store<S>,
-    alloc: Global,
-    ask: &Ask<'_>,
-    text: &str,
-) -> Result<Reply<'static>, Unavailable>
-    ensures found { FindsReply S.Store store.old store.new result (month_for ask.now text.now) }
-    ensures why { FindsMade S.Store store.old store.new result (IsUnreadBy ask.now.reader) }
-{
-    let Some(asked) = Month::read(text.as_bytes()) else {
-        return Ok(Reply::Failed(Failure::NotFound));
-    };
-    match month(store, alloc, ask, asked) {
-        Ok(lines) => match month_page(alloc, ask.list, asked, &lines) {
-            Ok(page) => Ok(Reply::Page(page)),
-            Err(_) => {
-                store.wants.raise();
-                Err(Unavailable)
-            }
-        },
-        Err(fault) => match fault {
-            DeskFault::NoList => Ok(Reply::Failed(Failure::NotFound)),
-            _ => Err(Unavailable),
-        },
-    }
-}
-
-/// The page of an author, whose key is given as it was asked for.
-pub(crate) fn find_author<S: Alter>(
-    store: &mut Store<S>,
-    alloc: Global,
-    ask: &Ask<'_>,
-    key: &[u8],
-) -> Result<Reply<'static>, Unavailable>
-    ensures found { FindsReply S.Store store.old store.new result (author_for ask.now key.now) }
-    ensures why { FindsMade S.Store store.old store.new result (IsUnreadBy ask.now.reader) }
-{
-    match author(store, alloc, ask, key) {
-        Ok(lines) => match author_page(alloc, ask.list, key, &lines) {
-            Ok(page) => Ok(Reply::Page(page)),
-            Err(_) => {
-                store.wants.raise();
-                Err(Unavailable)
-            }
-        },
-        Err(fault) => match fault {
-            DeskFault::NoList => Ok(Reply::Failed(Failure::NotFound)),
-            _ => Err(Unavailable),
-        },
-    }
-}
-
-/// The place of the outline of the list that is asked for, which is kept, or is read and kept. `None`: there is no such list.
+/// The place of the outline of what is asked for, which is kept, or is read and kept. `None`: there is no such list.
 fn find_place<T: Threader, S: Alter>(
     store: &mut Store<S>,
     kept: &mut Kept,
     alloc: Global,
     ask: &Ask<'_>,
+    part: &Part<'_>,
     threader: &T,
 ) -> Result<Option<usize>, Unavailable>
-    ensures found { FindsIf S.Store store.old store.new (AreFor ask.now kept.old) result (λ a place. IsPlace a ask.now kept.new place) }
+    ensures found { FindsIf S.Store store.old store.new (AreFor ask.now kept.old) result (λ a place. IsPlace a ask.now kept.new (part_named part.now) place) }
     ensures there { IfOk result (λ place. IfSome place (λ at. at < length kept.new.views)) }
     ensures keeps { Keeps S.Store store.old store.new ask.now.rules ask.now.day kept.old kept.new }
     ensures caused { FindsOr S.Store store.old store.new result (IsUnreadBy ask.now.reader) }
 {
-    match find_outline(store, kept, alloc, ask, threader) {
+    match find_outline(store, kept, alloc, ask, part, threader) {
         Ok(place) => Ok(Some(place)),
         Err(fault) => match fault {
             DeskFault::NoList => Ok(None),
             _ => Err(Unavailable),
         },
+    }
+}
+
+/// The page of a month, which the path has as `yyyy-mm`, out of its outline, which is kept, or is read and kept.
+pub(crate) fn find_month<T: Threader, S: Alter>(
+    store: &mut Store<S>,
+    kept: &mut Kept,
+    alloc: Global,
+    ask: &Ask<'_>,
+    threader: &T,
+    text: &str,
+) -> Result<Reply<'static>, Unavailable>
+    ensures found { FindsReplyIf S.Store store.old store.new result (AreFor ask.now kept.old) (month_for ask.now text.now) }
+    ensures keeps { Keeps S.Store store.old store.new ask.now.rules ask.now.day kept.old kept.new }
+    ensures why { FindsMade S.Store store.old store.new result (IsUnreadBy ask.now.reader) }
+{
+    let Some(asked) = Month::read(text.as_bytes()) else {
+        return Ok(Reply::Failed(Failure::NotFound));
+    };
+    let Some(place) = find_place(store, kept, alloc, ask, &Part::Month(asked), threader)? else {
+        return Ok(Reply::Failed(Failure::NotFound));
+    };
+    let Some(outline) = kept.outline(place) else {
+        return Err(Unavailable);
+    };
+    match month_page(alloc, ask.list, asked, outline.lines()) {
+        Ok(page) => Ok(Reply::Page(page)),
+        Err(_) => {
+            store.wants.raise();
+            Err(Unavailable)
+        }
+    }
+}
+
+/// The page of an author, whose key is given as it was asked for, in the same way.
+pub(crate) fn find_author<T: Threader, S: Alter>(
+    store: &mut Store<S>,
+    kept: &mut Kept,
+    alloc: Global,
+    ask: &Ask<'_>,
+    threader: &T,
+    key: &[u8],
+) -> Result<Reply<'static>, Unavailable>
+    ensures found { FindsReplyIf S.Store store.old store.new result (AreFor ask.now kept.old) (author_for ask.now key.now) }
+    ensures keeps { Keeps S.Store store.old store.new ask.now.rules ask.now.day kept.old kept.new }
+    ensures why { FindsMade S.Store store.old store.new result (IsUnreadBy ask.now.reader) }
+{
+    let Some(place) = find_place(store, kept, alloc, ask, &Part::Author(key), threader)? else {
+        return Ok(Reply::Failed(Failure::NotFound));
+    };
+    let Some(outline) = kept.outline(place) else {
+        return Err(Unavailable);
+    };
+    match author_page(alloc, ask.list, key, outline.lines()) {
+        Ok(page) => Ok(Reply::Page(page)),
+        Err(_) => {
+            store.wants.raise();
+            Err(Unavailable)
+        }
     }
 }
 
@@ -104,7 +112,7 @@ pub(crate) fn find_threads<T: Threader, S: Alter>(
     ensures keeps { Keeps S.Store store.old store.new ask.now.rules ask.now.day kept.old kept.new }
     ensures why { FindsMade S.Store store.old store.new result (IsUnreadBy ask.now.reader) }
 {
-    let Some(place) = find_place(store, kept, alloc, ask, threader)? else {
+    let Some(place) = find_place(store, kept, alloc, ask, &Part::Whole, threader)? else {
         return Ok(Reply::Failed(Failure::NotFound));
     };
     let Some(outline) = kept.outline(place) else {
@@ -135,7 +143,7 @@ pub(crate) fn find_thread<T: Threader, S: Alter>(
     let Some(key) = Key::read(key) else {
         return Ok(Reply::Failed(Failure::NotFound));
     };
-    let Some(place) = find_place(store, kept, alloc, ask, threader)? else {
+    let Some(place) = find_place(store, kept, alloc, ask, &Part::Whole, threader)? else {
         return Ok(Reply::Failed(Failure::NotFound));
     };
     let Some(outline) = kept.outline(place) else {

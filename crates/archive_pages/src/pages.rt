@@ -22,12 +22,12 @@ pub struct Pages<'a, T> {
     pub day: Day,
     /// Those of the pages. `None`: a router is made where a path is looked at.
     pub routes: Option<Routes>,
-    /// The outlines of lists that were read for their threads.
+    /// The outlines of lists that were read for their threads, and of months and authors.
     pub kept: Kept,
 }
 
 impl<'a, T> Pages<'a, T> {
-    /// Nothing is kept yet, and at most so many bytes will be, or one list alone. Where there is no memory for the routes now, they
+    /// Nothing is kept yet, and at most so many bytes will be, or one list, month or author alone. Where there is no memory for the routes now, they
     /// are made for each path.
     pub fn new(
         alloc: Global,

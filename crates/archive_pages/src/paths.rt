@@ -7,7 +7,8 @@ ghost use Rattle.archive_requests.specs.Routes.{route_of};
 ghost use Rattle.archive_requests.specs.Routing.{named_route};
 ghost use Rattle.archive_results.specs.Access.{name_of};
 ghost use Rattle.archive_pages.specs.Answers.{asking, author_for, direct_reply, path_reply, reader_of, request_reply, route_reply, unrouted_reply};
-ghost use Rattle.archive_pages.specs.Calls.{AreKept, EndsPages, EndsServed, ServesReply, ServesReplyIf, Writes, WritesWanted};
+ghost use Rattle.archive_kept.specs.Kept.{Keeps};
+ghost use Rattle.archive_pages.specs.Calls.{AreFor, AreKept, EndsPages, EndsServed, ServesReplyIf, Writes, WritesWanted};
 ghost use Rattle.archive_pages.specs.Causes.{IsUnread, IsUnreadBy};
 ghost use Rattle.archive_pages.specs.Replies.{not_found, unauthorized};
 
@@ -20,6 +21,7 @@ use crate::routing::{
     answer_threads,
 };
 use crate::writing::write_failure;
+use archive_kept::Kept;
 use archive_requests::{Request, Route, Routes, decoded, route_of};
 use archive_results::{Ask, Reader};
 use archive_store::Store;
@@ -46,18 +48,22 @@ fn ask_of<'a>(policy: &'a Policy, reader: Reader<'a>, day: Day, list: &'a str) -
 
 /// Answers the page of the author whose key the path has with escapes. 503 where there is no memory
 /// for the key without them.
-fn answer_escaped_author<S: Alter, W: Sink>(
+fn answer_escaped_author<T: Threader, S: Alter, W: Sink>(
     store: &mut Store<S>,
+    kept: &mut Kept,
     alloc: Global,
     ask: &Ask<'_>,
+    threader: &T,
     author: &str,
     output: &mut W,
 ) -> Result<StatusCode, ServeFault>
-    ensures sent { ServesReply S.Store W.Sink store.old store.new output.old output.new result (author_for ask.now (percent_decode author.now)) }
+    ensures sent { ServesReplyIf S.Store W.Sink store.old store.new output.old output.new result (AreFor ask.now kept.old)
+        (author_for ask.now (percent_decode author.now)) }
     ensures ends { EndsServed S.Store W.Sink store.old store.new output.old output.new result (IsUnreadBy ask.now.reader) }
+    ensures keeps { Keeps S.Store store.old store.new ask.now.rules ask.now.day kept.old kept.new }
 {
     match decoded(alloc, author) {
-        Ok(author) => answer_author(store, alloc, ask, &author, output),
+        Ok(author) => answer_author(store, kept, alloc, ask, threader, &author, output),
         Err(_) => {
             store.wants.raise();
             write_failure(output, Failure::Unavailable)
@@ -89,7 +95,15 @@ fn answer_route<T: Threader, S: Alter, W: Sink>(
         }
         Route::Month { list, month } => {
             let ask = ask_of(policy, reader, day, list);
-            answer_month(store, alloc, &ask, month, output)
+            answer_month(
+                store,
+                &mut pages.kept,
+                alloc,
+                &ask,
+                pages.threader,
+                month,
+                output,
+            )
         }
         Route::Threads { list } => {
             let ask = ask_of(policy, reader, day, list);
@@ -109,7 +123,15 @@ fn answer_route<T: Threader, S: Alter, W: Sink>(
         }
         Route::Author { list, author } => {
             let ask = ask_of(policy, reader, day, list);
-            answer_escaped_author(store, alloc, &ask, author, output)
+            answer_escaped_author(
+                store,
+                &mut pages.kept,
+                alloc,
+                &ask,
+                pages.threader,
+                author,
+                output,
+            )
         }
         Route::Mbox { list } => {
             let ask = ask_of(policy, reader, day, list);

@@ -101,33 +101,39 @@ pub(crate) fn answer_mbox<S: Alter, W: Sink>(
     }
 }
 
-/// Answers the page of a month, which the path has as `yyyy-mm`.
-pub(crate) fn answer_month<S: Alter, W: Sink>(
+/// Answers the page of a month, which the path has as `yyyy-mm`, out of what is kept.
+pub(crate) fn answer_month<T: Threader, S: Alter, W: Sink>(
     store: &mut Store<S>,
+    kept: &mut Kept,
     alloc: Global,
     ask: &Ask<'_>,
+    threader: &T,
     month: &str,
     output: &mut W,
 ) -> Result<StatusCode, ServeFault>
-    ensures sent { ServesReply S.Store W.Sink store.old store.new output.old output.new result (month_for ask.now month.now) }
+    ensures sent { ServesReplyIf S.Store W.Sink store.old store.new output.old output.new result (AreFor ask.now kept.old) (month_for ask.now month.now) }
     ensures ends { EndsServed S.Store W.Sink store.old store.new output.old output.new result (IsUnreadBy ask.now.reader) }
+    ensures keeps { Keeps S.Store store.old store.new ask.now.rules ask.now.day kept.old kept.new }
 {
-    let found = find_month(store, alloc, ask, month);
+    let found = find_month(store, kept, alloc, ask, threader, month);
     write_found(&mut store.wants, alloc, output, &found)
 }
 
-/// Answers the page of an author, whose key is given without escapes.
-pub(crate) fn answer_author<S: Alter, W: Sink>(
+/// Answers the page of an author, whose key is given without escapes, out of what is kept.
+pub(crate) fn answer_author<T: Threader, S: Alter, W: Sink>(
     store: &mut Store<S>,
+    kept: &mut Kept,
     alloc: Global,
     ask: &Ask<'_>,
+    threader: &T,
     author: &[u8],
     output: &mut W,
 ) -> Result<StatusCode, ServeFault>
-    ensures sent { ServesReply S.Store W.Sink store.old store.new output.old output.new result (author_for ask.now author.now) }
+    ensures sent { ServesReplyIf S.Store W.Sink store.old store.new output.old output.new result (AreFor ask.now kept.old) (author_for ask.now author.now) }
     ensures ends { EndsServed S.Store W.Sink store.old store.new output.old output.new result (IsUnreadBy ask.now.reader) }
+    ensures keeps { Keeps S.Store store.old store.new ask.now.rules ask.now.day kept.old kept.new }
 {
-    let found = find_author(store, alloc, ask, author);
+    let found = find_author(store, kept, alloc, ask, threader, author);
     write_found(&mut store.wants, alloc, output, &found)
 }
 

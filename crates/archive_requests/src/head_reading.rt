@@ -4,7 +4,7 @@ ghost use Rattle.httparse.specs.Grammar.{HasNoRequest};
 ghost use Rattle.archive_requests.specs.Heads.{HasNoLine, IsReadAs, IsFinal};
 
 use crate::heads::{HeadRead, MOST_BYTES, settled};
-use mbox_core::device::{DeviceFailure, Source};
+use byte_device::{DeviceFailure, Source};
 use memchr::memchr;
 
 /// What the bytes before the input's end are, which are too few for the most.

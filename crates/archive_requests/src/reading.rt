@@ -6,7 +6,7 @@ ghost use Rattle.archive_requests.specs.Reading.{IsRequestAs, IsSettled};
 use crate::head_reading::read_head;
 use crate::heads::{HeadRead, MOST_BYTES};
 use crate::requests::Request;
-use mbox_core::device::{DeviceFailure, Source};
+use byte_device::{DeviceFailure, Source};
 
 /// What was read of a request.
 #[derive(Debug, Clone, Copy, PartialEq, Eq, Drop)]

@@ -1,10 +1,10 @@
-use Rattle.std.proofs.Common.{◌≡◌, map}
-use Rattle.archive_results.specs.Shown.{shown_of}
-use Rattle.archive_desk.proofs.ListLemmas.{listed_from}
-use Rattle.archive_kept.specs.Outlines.{outline_of}
 use Rattle.archive_kept.proofs.finding.read_outline.Goals as goal
 
-pub returns-in-Ok-outline_of-clause-made : goal.returns-in-Ok-outline_of-clause-made
-returns-in-Ok-outline_of-clause-made g c =
-    listed_from g.S.Store c.args.store.now c.read_index.new.store c.args.ask.now c.in-Ok.index.headers.items c.in-Ok.index.merge c.in-Ok.ensures.held
-    (λ merge view. c.in-Ok-outline_of.outline ≡ outline_of merge (map shown_of view)) c.in-Ok-outline_of.ensures
+pub returns-in-Whole-clause-caused : goal.returns-in-Whole-clause-caused
+returns-in-Whole-clause-caused g c = rw c.in-Whole.is c.read_threads.ensures.caused
+
+pub returns-in-Month-clause-caused : goal.returns-in-Month-clause-caused
+returns-in-Month-clause-caused g c = rw c.in-Month.is c.read_month.ensures.caused
+
+pub returns-in-Author-clause-caused : goal.returns-in-Author-clause-caused
+returns-in-Author-clause-caused g c = rw c.in-Author.is c.read_author.ensures.caused

@@ -1,16 +1,33 @@
-use Rattle.archive_machine.specs.Filing.{by_author}
-use Rattle.archive_desk.specs.Causes.{IsUnreadable}
-use Rattle.archive_desk.proofs.UnbrokenLemmas.{author_read}
-use Rattle.archive_pages.proofs.CauseLemmas.{desk_unfound}
+use Rattle.std.proofs.Common.{◌<◌, IfSome, ap, length, subst, sym}
+use Rattle.archive_html.specs.Pages.{author_page}
+use Rattle.archive_kept.specs.Parts.{author}
+use Rattle.archive_results.specs.Access.{Ask}
+use Rattle.archive_results.specs.Results.{author_lines}
+use Rattle.archive_pages.specs.Answers.{shown_view}
+use Rattle.archive_pages.specs.Calls.{AreFor}
+use Rattle.archive_pages.specs.Replies.{page_reply}
+use Rattle.archive_pages.proofs.CauseLemmas.{no_outline}
+use Rattle.archive_pages.proofs.PlaceLemmas.{author_placed, found_at, found_none}
 use Rattle.archive_pages.proofs.listing.find_author.Goals as goal
 
-pub returns-clause-why : goal.returns-clause-why
-returns-clause-why g c =
-    let ask = c.args.ask.now in record {
-      caused = (
-        c.in-Err.ensures.counted.0,
-        desk_unfound g.S.Store c.args.store.now c.author.new.store ask (λ a. IsUnreadable a ask (by_author a ask.list c.args.key.now)) (λ a can. author_read a can ask c.args.key.now)
-            c.in-Err.fault c.in_default.not-NoList c.in-Err.ensures.fault c.in-Err.ensures.counted.1 c.in-Err.ensures.caused c.in-Err.ensures.listed,
-      );
-      served = tt;
-    }
+pub returns-in_default-clause-found : goal.returns-in_default-clause-found
+returns-in_default-clause-found g c =
+    let ask = c.args.ask.now in
+    let key = c.args.key.now in
+    found_none g.S.Store c.args.store.now c.find_place.new.store (AreFor ask c.args.kept.now) ask c.find_place.new.kept (author key) c.in_ok-place.field-0
+    (λ a. page_reply (author_page ask.list key (author_lines key (shown_view a ask)))) c.in_ok-place.ensures.found c.in_default.is
+
+pub returns-in_default-outline-clause-why : goal.returns-in_default-outline-clause-why
+returns-in_default-outline-clause-why g c =
+    no_outline c.find_place.new.kept c.in-Some.place
+    (subst (λ o. IfSome o (λ at. at < length c.find_place.new.kept.views)) c.in-Some.is c.in_ok-place.ensures.there) (sym c.in_default-outline.ensures.outline)
+
+pub returns-in-Ok-clause-found : goal.returns-in-Ok-clause-found
+returns-in-Ok-clause-found g c =
+    let ask = c.args.ask.now in
+    let key = c.args.key.now in
+    let outline = c.in-Some-outline.outline.now in
+    found_at g.S.Store c.args.store.now c.find_place.new.store (AreFor ask c.args.kept.now) ask c.find_place.new.kept (author key) c.in_ok-place.field-0
+    (λ a. page_reply (author_page ask.list key (author_lines key (shown_view a ask)))) c.in_ok-place.ensures.found
+    c.in-Some.place outline (page_reply c.in-Ok.page.items) c.in-Some.is c.in-Some-outline.ensures.outline
+    (λ a of. author_placed a ask outline c.ask.inside.list.now c.lines.result.now (ap (λ (q : Ask). q.list) c.ask.view_is) c.lines.ensures key c.in-Ok.page.items of c.in-Ok.ensures)

@@ -26,12 +26,10 @@ returns-in-Message-clause-sent g c = rw c.in-Message.is (
 pub returns-in-Month-clause-sent : goal.returns-in-Month-clause-sent
 returns-in-Month-clause-sent g c = rw c.in-Month.is (
     subst
-    (λ (q : Ask). ServesIf g.S.Store c.args.store.now c.answer_month.new.store (λ a. AreOf a c.args.pages.now.policy.now c.args.pages.now.day c.args.pages.now.kept)
+    (λ (q : Ask). ServesIf g.S.Store c.args.store.now c.answer_month.new.store (λ a. AreOf a q.rules q.day c.args.pages.now.kept)
     (λ a reply. reply ≡ listed_reply a q.list (month_reply q.list c.in-Month.month.now (shown_view a q)))
     (g.W.Sink.told c.args.output.now) (g.W.Sink.told c.answer_month.new.output) c.answer_month.result)
-    c.ask_of-ask-in-Month.ensures
-    (serves_whatever g.S.Store (g.W.Sink.told c.args.output.now) (g.W.Sink.told c.answer_month.new.output) c.answer_month.result
-    c.args.store.now c.answer_month.new.store (λ a. AreOf a c.args.pages.now.policy.now c.args.pages.now.day c.args.pages.now.kept) _ c.answer_month.ensures.sent))
+    c.ask_of-ask-in-Month.ensures c.answer_month.ensures.sent)
 
 pub returns-in-Threads-clause-sent : goal.returns-in-Threads-clause-sent
 returns-in-Threads-clause-sent g c = rw c.in-Threads.is (
@@ -58,12 +56,10 @@ returns-in-Lists-clause-sent g c = rw c.in-Lists.is (
 pub returns-in-Author-clause-sent : goal.returns-in-Author-clause-sent
 returns-in-Author-clause-sent g c = rw c.in-Author.is (
     subst
-    (λ (q : Ask). ServesIf g.S.Store c.args.store.now c.answer_escaped_author.new.store (λ a. AreOf a c.args.pages.now.policy.now c.args.pages.now.day c.args.pages.now.kept)
+    (λ (q : Ask). ServesIf g.S.Store c.args.store.now c.answer_escaped_author.new.store (λ a. AreOf a q.rules q.day c.args.pages.now.kept)
     (λ a reply. let key = percent_decode c.in-Author.author.now in reply ≡ listed_reply a q.list (page_reply (author_page q.list key (author_lines key (shown_view a q)))))
     (g.W.Sink.told c.args.output.now) (g.W.Sink.told c.answer_escaped_author.new.output) c.answer_escaped_author.result)
-    c.ask_of-ask-in-Author.ensures
-    (serves_whatever g.S.Store (g.W.Sink.told c.args.output.now) (g.W.Sink.told c.answer_escaped_author.new.output) c.answer_escaped_author.result
-    c.args.store.now c.answer_escaped_author.new.store (λ a. AreOf a c.args.pages.now.policy.now c.args.pages.now.day c.args.pages.now.kept) _ c.answer_escaped_author.ensures.sent))
+    c.ask_of-ask-in-Author.ensures c.answer_escaped_author.ensures.sent)
 
 pub returns-in-Mbox-clause-sent : goal.returns-in-Mbox-clause-sent
 returns-in-Mbox-clause-sent g c = rw c.in-Mbox.is (
@@ -86,7 +82,10 @@ pub returns-in-Month-clause-ends : goal.returns-in-Month-clause-ends
 returns-in-Month-clause-ends g c = record {
   reply = c.answer_month.ensures.ends.reply;
   caused = subst (λ (q : Ask). ServesOr g.S.Store c.args.store.now c.answer_month.new.store c.answer_month.result (IsUnreadBy q.reader)) c.ask_of-ask-in-Month.ensures c.answer_month.ensures.ends.caused;
-  keeps = keeps_still g.S.Store c.args.store.now c.answer_month.new.store c.args.pages.now;
+  keeps = record {
+    same = refl;
+    keeps = subst (λ (q : Ask). Keeps g.S.Store c.args.store.now c.answer_month.new.store q.rules q.day c.args.pages.now.kept c.answer_month.new.kept) c.ask_of-ask-in-Month.ensures c.answer_month.ensures.keeps;
+  };
 }
 
 pub returns-in-Threads-clause-ends : goal.returns-in-Threads-clause-ends
@@ -113,7 +112,10 @@ pub returns-in-Author-clause-ends : goal.returns-in-Author-clause-ends
 returns-in-Author-clause-ends g c = record {
   reply = c.answer_escaped_author.ensures.ends.reply;
   caused = subst (λ (q : Ask). ServesOr g.S.Store c.args.store.now c.answer_escaped_author.new.store c.answer_escaped_author.result (IsUnreadBy q.reader)) c.ask_of-ask-in-Author.ensures c.answer_escaped_author.ensures.ends.caused;
-  keeps = keeps_still g.S.Store c.args.store.now c.answer_escaped_author.new.store c.args.pages.now;
+  keeps = record {
+    same = refl;
+    keeps = subst (λ (q : Ask). Keeps g.S.Store c.args.store.now c.answer_escaped_author.new.store q.rules q.day c.args.pages.now.kept c.answer_escaped_author.new.kept) c.ask_of-ask-in-Author.ensures c.answer_escaped_author.ensures.keeps;
+  };
 }
 
 pub returns-in-Mbox-clause-ends : goal.returns-in-Mbox-clause-ends

@@ -1,20 +1,23 @@
 use Rattle.std.proofs.Common.{◌≡◌}
 use Rattle.archive_html.specs.Pages.{author_page}
 use Rattle.archive_results.specs.Results.{author_lines}
+use Rattle.archive_kept.specs.Kept.{AreOf}
 use Rattle.archive_pages.specs.Replies.{page_reply}
 use Rattle.archive_pages.specs.Answers.{listed_reply, shown_view}
 use Rattle.archive_pages.specs.Seen.{reply_made}
 use Rattle.archive_pages.specs.Causes.{IsUnreadBy}
 use Rattle.archive_pages.proofs.CauseLemmas.{found_served}
-use Rattle.archive_pages.proofs.ServingLemmas.{serves_either}
+use Rattle.archive_pages.proofs.KeptLemmas.{finds_serves}
 use Rattle.archive_pages.proofs.routing.answer_author.Goals as goal
 
 pub returns-clause-sent : goal.returns-clause-sent
 returns-clause-sent g c =
-    serves_either g.S.Store (g.W.Sink.told c.args.output.now) (g.W.Sink.told c.write_found.new.output) c.write_found.result
-    c.args.store.now c.find_author-found.new.store c.find_author-found.result reply_made
-    (λ a reply. reply_made reply ≡ listed_reply a c.args.ask.now.list (page_reply (author_page c.args.ask.now.list c.args.author.now (author_lines c.args.author.now (shown_view a c.args.ask.now)))))
-    (λ a reply. reply ≡ listed_reply a c.args.ask.now.list (page_reply (author_page c.args.ask.now.list c.args.author.now (author_lines c.args.author.now (shown_view a c.args.ask.now))))) c.find_author-found.ensures.found (λ a x is. is) c.write_found.ensures.sent
+    let ask = c.args.ask.now in
+    finds_serves g.S.Store (g.W.Sink.told c.args.output.now) (g.W.Sink.told c.write_found.new.output) c.write_found.result
+    c.args.store.now c.find_author-found.new.store c.find_author-found.result reply_made (λ a. AreOf a ask.rules ask.day c.args.kept.now)
+    (λ a reply. reply_made reply ≡ listed_reply a ask.list (page_reply (author_page ask.list c.args.author.now (author_lines c.args.author.now (shown_view a ask)))))
+    (λ a reply. reply ≡ listed_reply a ask.list (page_reply (author_page ask.list c.args.author.now (author_lines c.args.author.now (shown_view a ask)))))
+    c.find_author-found.ensures.found (λ a x is. is) c.write_found.ensures.sent
 
 pub returns-clause-ends : goal.returns-clause-ends
 returns-clause-ends g c = record {
