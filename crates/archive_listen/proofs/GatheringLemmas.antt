@@ -1,8 +1,8 @@
 -- What is still held back.
 use Rattle.std.proofs.Common.{◌≡◌, ◌≤◌, ◌<◌, ℕ, suc, ◌+◌, ◌-◌, List, [], ◌∷◌, ◌++◌, length, take, drop, drop-drop, length-take, min, refl, sym, ap, arith, append_assoc, ◌∙◌, Ok}
 use Rattle.std.proofs.lemmas.List.{drop-take, take-append-drop}
-use Rattle.mbox_core.specs.Device.{written_faults}
-use Rattle.mbox_core.proofs.DeviceLemmas.{written_faults-some}
+use Rattle.byte_device.specs.Device.{written_faults}
+use Rattle.byte_device.proofs.DeviceLemmas.{written_faults-some}
 
 -- there are as many as lie between the two places, or fewer
 pub rest_size : (first last : ℕ) (room : List ℕ) → length (take (last - first) (drop first room)) ≤ last - first

@@ -1,6 +1,6 @@
 //! What listens, what answers, and the connections between them.
 use crate::faults::{AcceptFault, ConnectionFault, ListenFault};
-use mbox_core::device::{DeviceFailure, Sink, Source};
+use byte_device::{DeviceFailure, Sink, Source};
 
 /// What is written to through a buffer.
 pub trait Outgoing: Sink {
@@ -43,7 +43,7 @@ pub trait Listener {
     // Holds of a listener before it is asked for a connection and after, and of why it gave none.
     ghost accepts: { Self → Self → Option AcceptFault → Type 0 } = { λ _ _ _. ⊤ };
 
-    // Holds of a listener before it takes a connection back and after, of what went over it, and of whether it lingered.
+    // Holds of a listener before it takes a connection back and after, of what went over it, and of whether its reply broke off.
     ghost closes: { Self → Self → Exchange → Bool → Type 0 } = { λ _ _ _ _. ⊤ };
 
     /// The next connection, over which nothing went yet.
@@ -52,11 +52,11 @@ pub trait Listener {
             (Self.Output.told c.output) (Self.Output.failures c.output) ≡ untold) }
         ensures accepts { MatchResult result (λ _. accepts self.old self.new None) (λ fault. accepts self.old self.new (Some fault)) };
 
-    /// Takes a connection back and closes it. `lingers`: its peer may still be sending, and is read on a while; else it is so
-    /// where the listener finds that more came than was read.
-    fn close(&mut self, connection: Connection<Self::Input, Self::Output>, lingers: bool)
+    /// Takes a connection back and ends it: in order, so that the peer gets all that it was sent, or, where its reply broke off,
+    /// so that the peer can tell.
+    fn close(&mut self, connection: Connection<Self::Input, Self::Output>, breaks_off: bool)
         ensures closes { closes self.old self.new
-            (exchange (Self.Input.told connection.input) (Self.Output.sent connection.output)) lingers };
+            (exchange (Self.Input.told connection.input) (Self.Output.sent connection.output)) breaks_off };
 }
 
 /// A listener, and the port that it listens on.

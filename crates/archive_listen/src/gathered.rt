@@ -1,9 +1,10 @@
 //! Gathering what is written into large pieces.
 ghost use Rattle.archive_listen.specs.Gathering.{rest_of};
-ghost use Rattle.std.specs.Prelude.{◌≡◌, ◌≤◌, ◌<◌, ◌+◌, ◌-◌, ◌++◌, [], length, min, take, refl, IfErr, OnOk, OnErr};
+ghost use Rattle.byte_device.specs.Device.{written_faults};
+ghost use Rattle.std.specs.Prelude.{◌≡◌, ◌≤◌, ◌<◌, ◌+◌, ◌-◌, ◌++◌, [], length, min, take, refl, true, IfOk, IfErr, OnOk, OnErr, MatchResult};
 
 use crate::connections::Outgoing;
-use mbox_core::device::{DeviceFailure, Sink, Told, WriteFault, write_bytes};
+use byte_device::{DeviceFailure, Sink, Told, WriteFault, write_bytes};
 use std::marker::Model;
 
 /// How many bytes of a reply are held back at most.
@@ -129,12 +130,40 @@ impl<W: Sink, const N: usize> Gathered<W, N> {
     }
 }
 
+impl<W: Sink, const N: usize> Gathered<W, N> {
+    /// Whether nothing is held back.
+    fn is_empty(&self) -> bool
+        ensures { result ≡ true → self.now.held ≡ [] }
+    {
+        self.first == self.last
+    }
+
+    /// Passes bytes on without a copy of them.
+    fn write_through(&mut self, bytes: &[u8]) -> Result<usize, DeviceFailure>
+        ensures count { IfOk result (λ n. n ≤ length bytes.now) }
+        ensures bytes { MatchResult result
+            (λ n. W.told self.new.inner ≡ W.told self.old.inner ++ take n bytes.now)
+            (λ _. W.told self.new.inner ≡ W.told self.old.inner) }
+        ensures held { self.new.held ≡ self.old.held }
+        ensures faults { self.new.failures ≡ self.old.failures + written_faults bytes.now result }
+    {
+        let written = self.inner.write(bytes);
+        if !matches!(written, Ok(count) if count > 0 || bytes.is_empty()) {
+            self.faults.note(&[0]);
+        }
+        written
+    }
+}
+
 impl<W: Sink, const N: usize> Sink for Gathered<W, N> {
     ghost told = { λ g. W.told g.inner ++ g.held };
 
     ghost failures = { λ g. g.failures };
 
     fn write(&mut self, bytes: &[u8]) -> Result<usize, DeviceFailure> {
+        if bytes.len() >= N && self.is_empty() {
+            return self.write_through(bytes);
+        }
         self.make_room()?;
         let count = fill(&mut self.held, self.last, bytes);
         self.last += count;

@@ -4,6 +4,8 @@
 mod connections;
 mod faults;
 mod gathered;
+mod open;
+mod peeked;
 mod serving;
 mod sockets;
 mod waiting;

@@ -1,12 +1,12 @@
 //! Answering connections one after the other.
-ghost use Rattle.std.specs.Prelude.{◌≡◌, ◌≤◌, ◌<◌, ◌++◌, List, Some, flat_map, length, IfOk, OnOk, OnErr};
+ghost use Rattle.std.specs.Prelude.{◌≡◌, ◌≤◌, ◌++◌, Some, IfOk, OnOk, OnErr};
 ghost use Rattle.archive_listen.specs.declared.faults.AcceptFault.TheVariants as accepting;
-ghost use Rattle.archive_listen.specs.Connections.{telling, Outcome, lingers, outcome_line};
-ghost use Rattle.archive_listen.specs.Serving.{Answers, AtWork, Served, ServesEach, ServesOne, at_work, law_of, served};
+ghost use Rattle.archive_listen.specs.Connections.{telling, breaks_off, noted, outcome_line};
+ghost use Rattle.archive_listen.specs.Serving.{Answers, ServesAll, ServesFewer, ServesOne, at_work, law_of, served};
 
 use crate::connections::{Connection, Listener, Outgoing, Service};
 use crate::faults::{AcceptFault, ConnectionFault, ListenFault};
-use mbox_core::device::{Sink, Source, write_bytes};
+use byte_device::{Sink, Source, write_bytes};
 
 /// One answer on a connection, which is passed on to its peer whole. S2 where that fails.
 fn answer_connection<St, V: Service<St>, I: Source, O: Outgoing>(
@@ -28,13 +28,13 @@ fn answer_connection<St, V: Service<St>, I: Source, O: Outgoing>(
     }
 }
 
-/// Whether a connection is read on before it is closed: after a reply that is not 200.
-fn lingers(outcome: &Result<u16, ConnectionFault>) -> bool
-    ensures { result ≡ lingers outcome.now }
+/// Whether a reply broke off: behind S2 and S3.
+fn breaks_off(outcome: &Result<u16, ConnectionFault>) -> bool
+    ensures { result ≡ breaks_off outcome.now }
 {
     match outcome {
-        Ok(status) => *status != 200,
-        Err(_) => false,
+        Ok(_) | Err(ConnectionFault::Read) => false,
+        Err(ConnectionFault::Write | ConnectionFault::Broken) => true,
     }
 }
 
@@ -56,7 +56,7 @@ fn serve_next<St, V: Service<St>, L: Listener>(
         Err(AcceptFault::Listener) => return Err(ListenFault),
     };
     let outcome = answer_connection(service, state, &mut connection);
-    listener.close(connection, lingers(&outcome));
+    listener.close(connection, breaks_off(&outcome));
     Ok(outcome)
 }
 
@@ -79,14 +79,10 @@ pub fn serve_each<St, V: Service<St>, L: Listener, E: Sink>(
     count: u32,
     faults: &mut E,
 ) -> Result<(), ListenFault>
-    ensures served { OnOk result ((outcomes : List Outcome) × (length outcomes ≡ count)
-        × ServesEach (law_of V.answers) L.accepts L.closes outcomes
-        (served listener.old (at_work service.old state.old)) (served listener.new (at_work service.new state.new))
-        × (E.failures faults.new ≡ E.failures faults.old → E.told faults.new ≡ E.told faults.old ++ flat_map outcome_line outcomes)) }
-    ensures stopped { OnErr result ((outcomes : List Outcome) × (last : Served L (AtWork V St)) × (length outcomes < count)
-        × ServesEach (law_of V.answers) L.accepts L.closes outcomes (served listener.old (at_work service.old state.old)) last
-        × (at_work service.new state.new ≡ last.state) × L.accepts last.listener listener.new (Some accepting.Listener)
-        × (E.failures faults.new ≡ E.failures faults.old → E.told faults.new ≡ E.told faults.old ++ flat_map outcome_line outcomes)) }
+    ensures served { OnOk result (ServesAll (law_of V.answers) L.accepts L.closes (served listener.old (at_work service.old state.old))
+        (noted E.Sink faults.old) (noted E.Sink faults.new) count (served listener.new (at_work service.new state.new))) }
+    ensures stopped { OnErr result (ServesFewer (law_of V.answers) L.accepts L.closes (served listener.old (at_work service.old state.old))
+        (noted E.Sink faults.old) (noted E.Sink faults.new) count (served listener.new (at_work service.new state.new))) }
     ensures failures { E.failures faults.old ≤ E.failures faults.new }
 {
     let mut taken = 0;

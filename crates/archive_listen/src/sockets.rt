@@ -1,16 +1,19 @@
 //! Connections over the loopback interface.
 ghost use Rattle.std.specs.Prelude.{◌≡◌, ◌≤◌, ◌+◌, ◌++◌, [], length, take, IfOk, MatchResult, ⊤};
-ghost use Rattle.mbox_core.specs.Device.{read_ends, read_faults};
+ghost use Rattle.byte_device.specs.Device.{read_ends, read_faults};
 ghost use Rattle.archive_listen.specs.Sockets.{nothing_read};
 
 use crate::connections::{Connection, Listener, Listening, Ports};
 use crate::faults::{AcceptFault, ListenFault};
 use crate::gathered::{Gathered, ROOM};
-use crate::waiting::{Span, read_within};
-use mbox_core::device::{Counted, DeviceFailure, Source, Told};
+use crate::open::StillOpen;
+use crate::peeked::Peeked;
+use crate::waiting::{Reading, Span, read_within};
+use byte_device::{Counted, DeviceFailure, Source, Told};
+use std::alloc::Global;
 use std::io::{ErrorKind, Read, Write};
 use std::marker::Model;
-use std::net::{Ipv4Addr, Net, OpenListener, OpenStream, Shutdown, TcpListener};
+use std::net::{Ipv4Addr, Net, OpenListener, OpenStream, TcpListener};
 use std::rt::Clock;
 use std::time::{Duration, Instant};
 
@@ -26,23 +29,20 @@ const HEAD_SECONDS: u64 = 10;
 /// How long one write may take, in seconds.
 const WRITE_SECONDS: u64 = 30;
 
-/// How long a peer that may still be sending is read on, in seconds.
+/// How long a peer that sends more than its head is read on, in seconds.
 const LINGER_SECONDS: u64 = 1;
 
 /// How many bytes are read on at most.
 const LINGER_BYTES: usize = 1_048_576;
 
-/// How long it is looked whether more comes behind a request that got what it asked for, in milliseconds.
-const LOOK_MILLISECONDS: u64 = 1;
-
-/// What is read of a peer, within the times that a request may take. A read past them fails.
+/// What is read of a peer, within the times that a request may take. A read past them fails. What the last read told stays in the
+/// socket, so that the system resets the connection if it is closed before its end.
 #[derive(Drop)]
 pub struct SocketInput<'a, R, S> {
     clock: &'a R,
-    stream: S,
+    stream: Peeked<S>,
     since: Instant,
     begun: bool,
-    failed: bool,
     told: Told,
     ends: Told,
     faults: Told,
@@ -68,10 +68,9 @@ impl<'a, R: Clock, S: Read + OpenStream> SocketInput<'a, R, S> {
     {
         SocketInput {
             clock,
-            stream,
+            stream: Peeked::new(stream),
             since,
             begun: false,
-            failed: false,
             told: Told::new(),
             ends: Told::new(),
             faults: Told::new(),
@@ -98,7 +97,7 @@ impl<'a, R: Clock, S: Read + OpenStream> Source for SocketInput<'a, R, S> {
 
     fn read(&mut self, buffer: &mut [u8]) -> Result<usize, DeviceFailure> {
         let span = head_span(self.since, self.begun);
-        match read_within(self.clock, &mut self.stream, span, buffer) {
+        match self.stream.look_on(self.clock, span, buffer) {
             Ok(count) => {
                 self.begun = true;
                 if count == 0 && !buffer.is_empty() {
@@ -108,7 +107,6 @@ impl<'a, R: Clock, S: Read + OpenStream> Source for SocketInput<'a, R, S> {
                 Ok(count)
             }
             Err(failure) => {
-                self.failed = true;
                 self.faults.note(&[0]);
                 Err(failure)
             }
@@ -116,45 +114,21 @@ impl<'a, R: Clock, S: Read + OpenStream> Source for SocketInput<'a, R, S> {
     }
 }
 
-/// Whether something comes within a span. It is dropped.
-fn drops_some<R: Clock, S: Read + OpenStream>(clock: &R, stream: &mut S, span: Span) -> bool {
-    match read_within(clock, stream, span, &mut [0; 8192]) {
-        Ok(count) => count > 0,
-        Err(_) => false,
-    }
-}
-
-/// Ends what is written, and reads on a while where something comes within a first wait, so that the peer gets the reply before
-/// the connection is closed.
-fn linger<R: Clock, S: Read + OpenStream>(clock: &R, stream: &mut S, first: Duration) {
+/// Reads and drops what comes of a peer that sends more than its head, for a while.
+fn read_on<R: Clock, S: Read + OpenStream>(clock: &R, stream: &mut S) {
     let Ok(since) = Instant::now(clock) else {
         return;
     };
-    if stream.shutdown(Shutdown::Write).is_err() {
-        return;
-    }
     let whole = Duration::from_secs(LINGER_SECONDS);
-    let looking = Span {
-        since,
-        whole,
-        most: first,
-    };
-    let reading = Span {
+    let span = Span {
         since,
         whole,
         most: whole,
     };
-    if drops_some(clock, stream, looking) {
-        read_on(clock, stream, reading);
-    }
-}
-
-/// Reads and drops what comes within a span.
-fn read_on<R: Clock, S: Read + OpenStream>(clock: &R, stream: &mut S, span: Span) {
     let mut dropped = [0; 8192];
     let mut total = 0;
     while total < LINGER_BYTES {
-        match read_within(clock, stream, span, &mut dropped) {
+        match read_within(clock, stream, span, Reading::Takes, &mut dropped) {
             Ok(0) | Err(_) => return,
             Ok(count) => total += count,
         }
@@ -175,18 +149,24 @@ fn accept_fault(kind: ErrorKind) -> AcceptFault {
     }
 }
 
-/// Listens on 127.0.0.1, and on no other address.
+/// Listens on 127.0.0.1, and on no other address. The last sixteen connections stay open behind their replies, until their peers
+/// had the time to read them.
 #[derive(Drop)]
 pub struct Loopback<'a, R: Net> {
     rt: &'a R,
     listener: R::Listener,
+    still_open: StillOpen<R::Stream>,
 }
 
 impl<'a, R: Net> Loopback<'a, R> {
     /// Listens on a port; 0 stands for one that the system picks. F4: the port is taken, or may not be used.
-    pub fn bind(rt: &'a R, port: u16) -> Result<Loopback<'a, R>, ListenFault> {
+    pub fn bind(rt: &'a R, alloc: Global, port: u16) -> Result<Loopback<'a, R>, ListenFault> {
         match TcpListener::bind(rt, (Ipv4Addr::LOCALHOST, port)) {
-            Ok(listener) => Ok(Loopback { rt, listener }),
+            Ok(listener) => Ok(Loopback {
+                rt,
+                listener,
+                still_open: StillOpen::new(alloc),
+            }),
             Err(_) => Err(ListenFault),
         }
     }
@@ -205,6 +185,8 @@ impl<'a, R: Net> Loopback<'a, R> {
 pub struct LoopbackPorts<'a, R> {
     /// The system whose ports they are.
     pub rt: &'a R,
+    /// The memory for connections that stay open.
+    pub alloc: Global,
 }
 
 impl<'a, R: Net + Clock> Ports for LoopbackPorts<'a, R> {
@@ -213,7 +195,7 @@ impl<'a, R: Net + Clock> Ports for LoopbackPorts<'a, R> {
     fn listen(&mut self, port: u16) -> Result<Listening<Loopback<'a, R>>, ListenFault>
         ensures { ⊤ }
     {
-        let listener = Loopback::bind(self.rt, port)?;
+        let listener = Loopback::bind(self.rt, self.alloc, port)?;
         let port = listener.port()?;
         Ok(Listening { listener, port })
     }
@@ -266,23 +248,18 @@ impl<'a, R: Net + Clock> Listener for Loopback<'a, R> {
     fn close(
         &mut self,
         connection: Connection<SocketInput<'a, R, R::Stream>, Gathered<Counted<R::Stream>, ROOM>>,
-        lingers: bool,
+        breaks_off: bool,
     )
         ensures closes { ⊤ }
     {
-        let mut input = connection.input;
-        if lingers {
-            linger(
-                self.rt,
-                &mut input.stream,
-                Duration::from_secs(LINGER_SECONDS),
-            );
-        } else if !input.failed {
-            linger(
-                self.rt,
-                &mut input.stream,
-                Duration::from_millis(LOOK_MILLISECONDS),
-            );
+        if breaks_off {
+            return;
+        }
+        let mut input = connection.input.stream;
+        match input.end() {
+            Some(true) => read_on(self.rt, input.stream()),
+            Some(false) => self.still_open.keep(self.rt, input.into_stream()),
+            None => {}
         }
     }
 }

@@ -2,8 +2,8 @@
 ghost use Rattle.std.specs.Prelude.{◌≡◌, ◌≤◌, ◌<◌, ◌-◌, min, length, IfOk, IfSome, IsNone, ◌↔◌};
 ghost use Rattle.std.specs.Duration.{as_nanos};
 
-use mbox_core::device::DeviceFailure;
-use std::io::{ErrorKind, Read};
+use byte_device::DeviceFailure;
+use std::io::{self, ErrorKind, Read};
 use std::net::OpenStream;
 use std::rt::Clock;
 use std::time::{Duration, Instant};
@@ -53,18 +53,42 @@ fn set_wait<R: Clock, S: OpenStream>(
     }
 }
 
+/// Whether what is read leaves the socket.
+#[derive(Clone, Copy, Drop)]
+pub(crate) enum Reading {
+    /// It does.
+    Takes,
+    /// It stays, and the next read gives it again.
+    Looks,
+}
+
+/// One read, or one look.
+fn read_by<S: Read + OpenStream>(
+    stream: &mut S,
+    reading: Reading,
+    buffer: &mut [u8],
+) -> io::Result<usize>
+    ensures count { IfOk result (λ n. n ≤ length buffer.old) }
+{
+    match reading {
+        Reading::Takes => stream.read(buffer),
+        Reading::Looks => stream.peek(buffer),
+    }
+}
+
 /// One read within a span, made again where a signal interrupted it.
 pub(crate) fn read_within<R: Clock, S: Read + OpenStream>(
     clock: &R,
     stream: &mut S,
     span: Span,
+    reading: Reading,
     buffer: &mut [u8],
 ) -> Result<usize, DeviceFailure>
     ensures count { IfOk result (λ n. n ≤ length buffer.old) }
 {
     for _ in 0..u64::MAX {
         set_wait(clock, stream, span)?;
-        match stream.read(buffer) {
+        match read_by(stream, reading, buffer) {
             Ok(count) => return Ok(count),
             Err(error) if error.kind() == ErrorKind::Interrupted => {}
             Err(_) => return Err(DeviceFailure),

@@ -10,19 +10,24 @@ use Rattle.archive_store.specs.Held.{held_of}
 use Rattle.archive_store.specs.Told.{HasReturned, IsOpen, IsReady, archive_in}
 use Rattle.archive_store.specs.declared.store.Store.{Store}
 use Rattle.archive_kept.specs.Kept.{AreOf, Keeps}
+use Rattle.archive_kept.specs.Views.{IsBounded, Keeping}
 use Rattle.archive_pages.specs.Answered.{AnswersBy}
 use Rattle.archive_pages.specs.Calls.{AreKept, KeepsOn}
 use Rattle.archive_pages.specs.Causes.{IsUnread, ServesOr}
 use Rattle.archive_pages.specs.KeptServing.{OfReady}
 use Rattle.archive_pages.specs.Replies.{IsServeStop}
+use Rattle.archive_pages.specs.Running.{AnswersFrom}
 use Rattle.archive_pages.specs.Serving.{Stays}
 use Rattle.archive_pages.specs.declared.faults.ServeFault.{ServeFault}
 use Rattle.archive_pages.specs.declared.pages.Pages.{Pages}
+use Rattle.archive_pages.proofs.RunningLemmas.{answers_left}
 use Rattle.archive_listen.specs.Connections.{Telling, Outcome, Exchange}
 use Rattle.archive_listen.specs.declared.faults.AcceptFault.{AcceptFault}
 use Rattle.archive_listen.specs.Serving.{AtWork, Served, ServesEach, at_work, law_of, served}
-use Rattle.archive_listen.proofs.ThroughLemmas.{each_had_through, each_through, part_of}
-use Rattle.archive_serve.specs.Pages.{AnswersAs, AnswersKept, EndsAs, Keeper, LeavesKept, outcome_of}
+use Rattle.archive_listen.proofs.ThroughLemmas.{each_had_through, part_of}
+use Rattle.archive_serve.specs.Pages.{AnswersKept, Keeper, LeavesKept, outcome_of}
+use Rattle.archive_serve.specs.Runs.{AnswersIn, CanServe, IsSteady, RunLaw}
+use Rattle.archive_serve.proofs.SteadyLemmas.{goes_by}
 
 pub on_ok : {A E : Type 0} (result : Result A E) {P Q : Type 0} → (P → Q) → OnOk result P → OnOk result Q
 on_ok (Ok a) f it = f it
@@ -50,13 +55,14 @@ module _ {S T : Type 0} (g : Ghosts S) (pages later : Pages T) (old new : Store 
       → ServesOr g old new result IsUnread
       → AnswersKept g (record { rules = pages.policy.now; day = pages.day; kept = pages.kept }) (record { rules = later.policy.now; day = later.day; kept = later.kept })
       old new before after outcome
-  answers_kept outcome ends answered keeps stays quiet cause caused = record {
+  answers_kept outcome is answered keeps stays quiet cause caused = record {
+    result = result;
+    is = is;
+    answered = answered;
+    ends = record { stays = stays; quiet = quiet; cause = cause; caused = caused };
     same_rules = ap (λ (p : Pages T). p.policy.now) keeps.same;
     same_day = ap (λ (p : Pages T). p.day) keeps.same;
-    answers = λ of. record { result = result; ends = ends; answered = answered of; stays = stays; quiet = quiet; cause = cause };
-    ends = record { result = result; ends = ends; stays = stays; quiet = quiet; cause = cause; caused = caused };
     keeps = keeps.keeps;
-    had = stays.same.0.returned;
   }
 
 module _ {S : Type 0} (g : Ghosts S) (rules : List Rule) (day : ℤ) where
@@ -71,84 +77,128 @@ module _ {S : Type 0} (g : Ghosts S) (rules : List Rule) (day : ℤ) where
   abbrev pub SameBy : Serving → Type 0
   SameBy serving = (serving.service.rules ≡ rules) × (serving.service.day ≡ day)
 
-  -- The pages go by these rules, on this day. What they keep is of this archive, which the store remembers, unless it is shut.
-  record IsSound (archive : Archive) (serving : Serving) : Type 0 where
-    same_rules : serving.service.rules ≡ rules
-    same_day : serving.service.day ≡ day
-    kept : AreOf archive rules day serving.service.kept
-    left : IsOpen g serving.state → IsReady g serving.state × (archive_in g serving.state ≡ archive)
+  -- What they keep weighs no more than this might, which was kept before.
+  abbrev IsWithin : Keeping → Serving → Type 0
+  IsWithin kept serving = (serving.service.kept.most ≡ kept.most) × (IsBounded kept → IsBounded serving.service.kept)
 
-  -- one answer on
-  module _ (archive : Archive) (old new : Serving) (had : HasReturned g new.state) (sound : IsSound archive old) where
-    of_ready : OfReady g old.state new.state (λ a. AreOf a rules day old.service.kept)
-    of_ready returned ready = subst (λ a. AreOf a rules day old.service.kept) (sym (sound.left ready.held.is_open).1) sound.kept
+  -- What the pages keep is of this archive, which the store remembers, unless it is shut.
+  pub record IsSound (archive : Archive) (serving : Serving) : Type 0 where
+    pub kept : AreOf archive rules day serving.service.kept
+    pub left : IsOpen g serving.state → IsReady g serving.state × (archive_in g serving.state ≡ archive)
 
-    kept_on : Keeps g old.state new.state rules day old.service.kept new.service.kept → AreOf archive rules day new.service.kept
-    kept_on keeps = elim (cases_Bool (state g (held_of old.state)).is_open) [
-      | inl up ↦
-          let was = sound.left up in
-          subst (λ a. AreOf a rules day new.service.kept) was.1 (keeps.ready had was.0 (of_ready had was.0))
-      | inr down ↦ subst (λ kept. AreOf archive rules day kept) (sym (keeps.shut had (λ up. let it = sym up ∙ down in absurd (cc)))) sound.kept
-    ]
+  -- one answer on, by pages that go by these rules, on this day
+  module _ (archive : Archive) (old new : Serving) (same : SameBy old) (before after : Telling) (outcome : Outcome)
+      (law : KeptLaw old new before after outcome) where
+    same_on : SameBy new
+    same_on = (law.same_rules ∙ same.0, law.same_day ∙ same.1)
 
-    module _ (before after : Telling) (outcome : Outcome) (law : KeptLaw old new before after outcome) where
-      answered : AnswersAs g rules day old.state new.state before after outcome
-      answered = (rw (sound.same_rules, sound.same_day) at law.answers) of_ready
+    within_on : (kept : Keeping) → IsWithin kept old → IsWithin kept new
+    within_on kept within = (law.keeps.most ∙ within.0, λ was. law.keeps.bounded (within.1 was))
+
+    -- where the disk has returned what was written, and what is kept is of the archive
+    module _ (had : HasReturned g new.state) (sound : IsSound archive old) where
+      of_ready : OfReady g old.state new.state (λ a. AreOf a rules day old.service.kept)
+      of_ready returned ready = subst (λ a. AreOf a rules day old.service.kept) (sym (sound.left ready.held.is_open).1) sound.kept
+
+      answered : AnswersBy g old.state new.state rules day before.read after.read before.ends after.ends before.written after.written law.result
+      answered = (rw (same.0, same.1) at law.answered) of_ready
+
+      reply : AnswersFrom archive rules day before.read after.read before.ends after.ends before.written after.written law.result
+      reply = answers_left g old.state new.state archive had sound.left rules day law.result
+          before.read after.read before.ends after.ends before.written after.written answered
+
+      left : IsOpen g new.state → IsReady g new.state × (archive_in g new.state ≡ archive)
+      left up =
+          let was = sound.left (law.ends.stays.same.0.stays_shut had up) in
+          let now = law.ends.stays.same.1 had was.0 up in
+          (now.0, now.1 ∙ was.1)
+
+      stays_open : IsSteady outcome → IsOpen g old.state → IsOpen g new.state
+      stays_open steady up =
+          let goes = goes_by g old.state new.state before after law.result _ (subst IsSteady law.is steady) answered law.ends.stays in
+          (goes.1 had (sound.left up).0).0.held.is_open
+
+      kept_on : Keeps g old.state new.state rules day old.service.kept new.service.kept → AreOf archive rules day new.service.kept
+      kept_on keeps = elim (cases_Bool (state g (held_of old.state)).is_open) [
+        | inl up ↦
+            let was = sound.left up in
+            subst (λ a. AreOf a rules day new.service.kept) was.1 (keeps.ready had was.0 (of_ready had was.0))
+        | inr down ↦ subst (λ kept. AreOf archive rules day kept) (sym (keeps.shut had (λ up. let it = sym up ∙ down in absurd (cc)))) sound.kept
+      ]
 
       sound_on : IsSound archive new
-      sound_on = record {
-        same_rules = law.same_rules ∙ sound.same_rules;
-        same_day = law.same_day ∙ sound.same_day;
-        kept = kept_on (rw (sound.same_rules, sound.same_day) at law.keeps);
-        left = λ up.
-            let was = sound.left (answered.stays.same.0.stays_shut had up) in
-            let now = answered.stays.same.1 had was.0 up in
-            (now.0, now.1 ∙ was.1);
+      sound_on = record { kept = kept_on (rw (same.0, same.1) at law.keeps); left = left }
+
+    module _ (If : Type 0) (had : If → HasReturned g new.state) (sound : If → IsSound archive old) where
+      answers_in : AnswersIn g If archive rules day old.state new.state before after outcome
+      answers_in = record {
+        result = law.result;
+        is = law.is;
+        ends = law.ends;
+        reply = λ i. reply (had i) (sound i);
+        left = λ i. left (had i) (sound i);
+        stays_open = λ i. stays_open (had i) (sound i);
       }
 
-  module _ {L : Type 0} (accepts : L → L → Option AcceptFault → Type 0) (closes : L → L → Exchange → Bool → Type 0) where
-    -- whatever the store is, each connection ends as the call that answers says, and the rules and the day stay
-    pub ends_each : (outcomes : List Outcome) (before after : Served L Serving) → SameBy before.state → ServesEach KeptLaw accepts closes outcomes before after
-        → ServesEach (EndsAs g) accepts closes outcomes (part_of KeptLaw (EndsAs g) (λ (w : Serving). w.state) accepts closes before)
-        (part_of KeptLaw (EndsAs g) (λ (w : Serving). w.state) accepts closes after)
-        × SameBy after.state
-    ends_each outcomes before after same each =
-        each_through KeptLaw (EndsAs g) (λ (w : Serving). w.state) accepts closes SameBy
-        (λ old new first last outcome held law. (law.ends, (law.same_rules ∙ held.0, law.same_day ∙ held.1))) outcomes before after same each
+  module _ {L : Type 0} (accepts : L → L → Option AcceptFault → Type 0) (closes : L → L → Exchange → Bool → Type 0) (If : Type 0) (archive : Archive)
+      (kept : Keeping) where
+    -- what a run hands on from connection to connection
+    pub record GoesOn (serving : Serving) : Type 0 where
+      pub same : SameBy serving
+      pub within : IsWithin kept serving
+      pub sound : If → IsSound archive serving
 
-    -- Where the store was ready at first and what was kept was of what it remembered, each connection is answered as if nothing were
-    -- kept, and what is kept stays of that.
-    pub answers_each : (outcomes : List Outcome) (before after : Served L Serving) → SameBy before.state → HasReturned g after.state.state
-        → IsReady g before.state.state → AreOf (archive_in g before.state.state) rules day before.state.service.kept
+    -- Each connection is answered as if nothing were kept, and what is kept stays of the archive, where it was at first, the store was
+    -- ready, and the disk has returned what was written.
+    pub answers_each : (outcomes : List Outcome) (before after : Served L Serving) → (If → HasReturned g after.state.state) → GoesOn before.state
         → ServesEach KeptLaw accepts closes outcomes before after
-        → ServesEach (AnswersAs g rules day) accepts closes outcomes (part_of KeptLaw (AnswersAs g rules day) (λ (w : Serving). w.state) accepts closes before)
-        (part_of KeptLaw (AnswersAs g rules day) (λ (w : Serving). w.state) accepts closes after)
-        × AreOf (archive_in g before.state.state) rules day after.state.service.kept
-    answers_each outcomes before after same had ready of each =
-        let archive = archive_in g before.state.state in
-        let it = each_had_through KeptLaw (AnswersAs g rules day) (λ (w : Serving). w.state) accepts closes (λ w. HasReturned g w.state) (IsSound archive)
-        (λ old new first last outcome law returned. law.had returned)
-        (λ old new first last outcome returned sound law. (
-          answered archive old new returned sound first last outcome law,
-          sound_on archive old new returned sound first last outcome law,
+        → ServesEach (AnswersIn g If archive rules day) accepts closes outcomes
+        (part_of KeptLaw (AnswersIn g If archive rules day) (λ (w : Serving). w.state) accepts closes before)
+        (part_of KeptLaw (AnswersIn g If archive rules day) (λ (w : Serving). w.state) accepts closes after)
+        × GoesOn after.state
+    answers_each outcomes before after had goes each =
+        each_had_through KeptLaw (AnswersIn g If archive rules day) (λ (w : Serving). w.state) accepts closes (λ w. If → HasReturned g w.state) GoesOn
+        (λ old new first last outcome law returned i. law.ends.stays.same.0.returned (returned i))
+        (λ old new first last outcome returned on law. (
+          answers_in archive old new on.same first last outcome law If returned on.sound,
+          record {
+            same = same_on archive old new on.same first last outcome law;
+            within = within_on archive old new on.same first last outcome law kept on.within;
+            sound = λ i. sound_on archive old new on.same first last outcome law (returned i) (on.sound i);
+          },
         ))
-        outcomes before after had (record { same_rules = same.0; same_day = same.1; kept = of; left = λ up. (ready, refl) }) each in
-        (it.0, it.1.kept)
+        outcomes before after had goes each
 
--- what is left of what answers
-pub leaves_kept : {S L : Type 0} (g : Ghosts S) (accepts : L → L → Option AcceptFault → Type 0) (closes : L → L → Exchange → Bool → Type 0)
-    (outcomes : List Outcome) (keeper : Keeper) (store : Store S) (listener : L) (after : Served L (AtWork Keeper (Store S)))
-    → ServesEach (KeptLaw g keeper.rules keeper.day) accepts closes outcomes (served listener (at_work keeper store)) after
-    → LeavesKept g keeper after.state.service store after.state.state
-leaves_kept g accepts closes outcomes keeper store listener after each =
-    let before = served listener (at_work keeper store) in
-    let later = after.state.service in
-    let same = (ends_each g keeper.rules keeper.day accepts closes outcomes before after (refl, refl) each).1 in
-    record {
-      same_rules = same.0;
-      same_day = same.1;
-      kept = λ of returned ready.
-          let it = (answers_each g keeper.rules keeper.day accepts closes outcomes before after (refl, refl) returned ready (of returned ready) each).1 in
-          subst (λ rules. AreOf (archive_in g store) rules later.day later.kept) (sym same.0)
-          (subst (λ day. AreOf (archive_in g store) keeper.rules day later.kept) (sym same.1) it);
-    }
+-- a run of a service, from a store and what it keeps
+module _ {S L : Type 0} (g : Ghosts S) (accepts : L → L → Option AcceptFault → Type 0) (closes : L → L → Exchange → Bool → Type 0)
+    (keeper : Keeper) (store last : Store S) (listener : L) (outcomes : List Outcome) (after : Served L (AtWork Keeper (Store S)))
+    (same : last ≡ after.state.state)
+    (each : ServesEach (KeptLaw g keeper.rules keeper.day) accepts closes outcomes (served listener (at_work keeper store)) after) where
+  abbrev If : Type 0
+  If = CanServe g keeper store last
+
+  through : ServesEach (RunLaw g keeper store last) accepts closes outcomes (served listener store) (served after.listener after.state.state)
+      × GoesOn g keeper.rules keeper.day accepts closes If (archive_in g store) keeper.kept after.state
+  through = answers_each g keeper.rules keeper.day accepts closes If (archive_in g store) keeper.kept outcomes (served listener (at_work keeper store)) after
+      (λ i. subst (λ s. HasReturned g s) same i.0)
+      (record { same = (refl, refl); within = (refl, λ was. was); sound = λ i. record { kept = i.2; left = λ up. (i.1, refl) } }) each
+
+  -- how each connection was answered
+  pub run_each : ServesEach (RunLaw g keeper store last) accepts closes outcomes (served listener store) (served after.listener after.state.state)
+  run_each = through.0
+
+  -- what is left of what answers
+  pub leaves_kept : LeavesKept g keeper after.state.service store last
+  leaves_kept =
+      let later = after.state.service in
+      let goes = through.1 in
+      record {
+        same_rules = goes.same.0;
+        same_day = goes.same.1;
+        kept = λ of returned ready.
+            let sound = goes.sound (returned, ready, of returned ready) in
+            subst (λ rules. AreOf (archive_in g store) rules later.day later.kept) (sym goes.same.0)
+            (subst (λ day. AreOf (archive_in g store) keeper.rules day later.kept) (sym goes.same.1) sound.kept);
+        most = goes.within.0;
+        bounded = goes.within.1;
+      }

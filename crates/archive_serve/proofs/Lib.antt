@@ -1,3 +1,3 @@
-mod RunLemmas
+pub mod RunLemmas
 mod SteadyLemmas
 mod KeptLemmas

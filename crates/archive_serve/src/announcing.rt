@@ -1,11 +1,10 @@
 //! Saying where the archive listens, and then serving it.
-ghost use Rattle.std.specs.Prelude.{◌≡◌, ◌≢◌, ◌≤◌, ◌<◌, ◌++◌, List, Some, Err, flat_map, length, IfErr, OnOk};
-ghost use Rattle.archive_listen.specs.declared.faults.AcceptFault.TheVariants as accepting;
-ghost use Rattle.archive_listen.specs.Connections.{Outcome, outcome_line};
-ghost use Rattle.archive_listen.specs.Serving.{Served, ServesEach, served};
-ghost use Rattle.archive_store.specs.Told.{HasReturned, IsReady, archive_in};
-ghost use Rattle.archive_serve.specs.Announced.{listening_line};
-ghost use Rattle.archive_serve.specs.Pages.{AnswersAs, EndsAs, IsKept, LeavesKept};
+ghost use Rattle.std.specs.Prelude.{◌≡◌, ◌≢◌, ◌≤◌, ◌<◌, Err, IfErr, OnOk};
+ghost use Rattle.archive_listen.specs.Connections.{noted};
+ghost use Rattle.archive_listen.specs.Serving.{ServesAll, ServesFewer, served};
+ghost use Rattle.archive_serve.specs.Announced.{IsAnnounced};
+ghost use Rattle.archive_serve.specs.Pages.{LeavesKept};
+ghost use Rattle.archive_serve.specs.Runs.{RunLaw};
 
 use crate::pages::PageService;
 use crate::serving::serve_on;
@@ -43,8 +42,7 @@ impl Error for ServeStop {}
 
 /// Writes the line that says where the archive listens, and passes it on.
 fn announce<O: Outgoing>(alloc: Global, port: u16, output: &mut O) -> Result<(), ServeStop>
-    ensures ok { OnOk result (O.told output.new ≡ O.told output.old ++ listening_line port) }
-    ensures passed { OnOk result (O.sent output.new ≡ O.told output.new) }
+    ensures ok { OnOk result (IsAnnounced port (O.told output.old) (O.told output.new) (O.sent output.new)) }
     ensures cause { IfErr result (λ stop. stop ≢ ServeStop.Listen) }
     ensures write { result ≡ Err ServeStop.Write → O.failures output.old < O.failures output.new }
 {
@@ -72,23 +70,14 @@ pub fn serve<T: Threader, S: Alter, L: Listener, O: Outgoing, E: Sink>(
     output: &mut O,
     faults: &mut E,
 ) -> Result<(), ServeStop>
-    ensures served { OnOk result ((O.told output.new ≡ O.told output.old ++ listening_line port) × (O.sent output.new ≡ O.told output.new)
-        × (outcomes : List Outcome) × (length outcomes ≡ count)
-        × (HasReturned S.Store store.new → IsReady S.Store store.old → IsKept pages.old (archive_in S.Store store.old)
-        → ServesEach (AnswersAs S.Store pages.old.rules pages.old.day)
-        L.accepts L.closes outcomes (served listener.old store.old) (served listener.new store.new))
-        × (E.failures faults.new ≡ E.failures faults.old → E.told faults.new ≡ E.told faults.old ++ flat_map outcome_line outcomes)
-        × ServesEach (EndsAs S.Store) L.accepts L.closes outcomes (served listener.old store.old) (served listener.new store.new)) }
+    ensures served { OnOk result (IsAnnounced port (O.told output.old) (O.told output.new) (O.sent output.new)
+        × ServesAll (RunLaw S.Store pages.old store.old store.new) L.accepts L.closes (served listener.old store.old)
+        (noted E.Sink faults.old) (noted E.Sink faults.new) count (served listener.new store.new)) }
 
     // At F4 it was said where the archive listens, and fewer connections were answered; before that nothing was touched.
-    ensures stopped { result ≡ Err ServeStop.Listen → (O.told output.new ≡ O.told output.old ++ listening_line port) × (O.sent output.new ≡ O.told output.new)
-        × (outcomes : List Outcome) × (last : Served L (Store S)) × (length outcomes < count)
-        × (HasReturned S.Store store.new → IsReady S.Store store.old → IsKept pages.old (archive_in S.Store store.old)
-        → ServesEach (AnswersAs S.Store pages.old.rules pages.old.day)
-        L.accepts L.closes outcomes (served listener.old store.old) last)
-        × (store.new ≡ last.state) × L.accepts last.listener listener.new (Some accepting.Listener)
-        × (E.failures faults.new ≡ E.failures faults.old → E.told faults.new ≡ E.told faults.old ++ flat_map outcome_line outcomes)
-        × ServesEach (EndsAs S.Store) L.accepts L.closes outcomes (served listener.old store.old) last }
+    ensures stopped { result ≡ Err ServeStop.Listen → IsAnnounced port (O.told output.old) (O.told output.new) (O.sent output.new)
+        × ServesFewer (RunLaw S.Store pages.old store.old store.new) L.accepts L.closes (served listener.old store.old)
+        (noted E.Sink faults.old) (noted E.Sink faults.new) count (served listener.new store.new) }
     ensures untouched { IfErr result (λ stop. stop ≢ ServeStop.Listen
         → (store.new ≡ store.old) × (listener.new ≡ listener.old) × (faults.new ≡ faults.old) × (pages.new ≡ pages.old)
         × (stop ≡ ServeStop.Write → O.failures output.old < O.failures output.new)) }

@@ -9,7 +9,8 @@ use sqlite::Alter;
 use std::marker::Model;
 use thread_core::Threader;
 
-/// Answers requests by pages, out of a store that stays as it is. What is read of lists for threads is kept for those that follow.
+/// Answers requests by pages, out of a store that stays as it is. What is read of lists for threads, of months and of authors is kept
+/// for those that follow.
 #[derive(Drop)]
 pub struct PageService<'a, T> {
     pub(crate) pages: Pages<'a, T>,

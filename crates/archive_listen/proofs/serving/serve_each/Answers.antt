@@ -4,7 +4,7 @@ use Rattle.archive_listen.proofs.ServingLemmas.{serves_more, lines_none, lines_m
 use Rattle.archive_listen.proofs.serving.serve_each.Goals as goal
 
 pub loop-taken-init : goal.loop-taken-init
-loop-taken-init g c = ([], refl, omega arith, refl, omega arith, λ _. lines_none _)
+loop-taken-init g c = ([], refl, omega arith, record { each = refl; told = λ _. lines_none _ }, omega arith)
 
 pub loop-taken-preserved : goal.loop-taken-preserved
 loop-taken-preserved g c =
@@ -12,15 +12,17 @@ loop-taken-preserved g c =
       i.0 ++ c.in-Ok.outcome ∷ [],
       length-append i.0 (c.in-Ok.outcome ∷ []) ∙ ap (λ n. n + 1) i.1,
       omega (arith, c.loop-taken-test.true),
-      serves_more _ _ _ i.0 c.in-Ok.outcome _ _ _ i.3 c.in-Ok.ensures.served,
+      record {
+        each = serves_more _ _ _ i.0 c.in-Ok.outcome _ _ _ i.3.each c.in-Ok.ensures.served;
+        told = lines_more i.0 c.in-Ok.outcome _ _ _ _ _ _ i.4 c.tell_outcome.ensures.failures i.3.told c.tell_outcome.ensures.told;
+      },
       omega (arith, i.4, c.tell_outcome.ensures.failures),
-      lines_more i.0 c.in-Ok.outcome _ _ _ _ _ _ i.4 c.tell_outcome.ensures.failures i.5 c.tell_outcome.ensures.told,
     )
 
 pub returns-in-Err-clause-stopped : goal.returns-in-Err-clause-stopped
 returns-in-Err-clause-stopped g c =
     let i = c.loop-taken.invariant in
-    (i.0, served c.loop-taken.listener (at_work c.loop-taken.service c.loop-taken.state), omega (arith, i.1, c.loop-taken-test.true), i.3, c.in-Err.ensures.stopped.0, c.in-Err.ensures.stopped.1, i.5)
+    (i.0, served c.loop-taken.listener (at_work c.loop-taken.service c.loop-taken.state), omega (arith, i.1, c.loop-taken-test.true), i.3, c.in-Err.ensures.stopped.0, c.in-Err.ensures.stopped.1)
 
 pub returns-in-Err-clause-failures : goal.returns-in-Err-clause-failures
 returns-in-Err-clause-failures g c = c.loop-taken.invariant.4
@@ -28,7 +30,7 @@ returns-in-Err-clause-failures g c = c.loop-taken.invariant.4
 pub returns-clause-served : goal.returns-clause-served
 returns-clause-served g c =
     let i = c.loop-taken.invariant in
-    (i.0, omega (arith, i.1, i.2, c.loop-taken-test.false), i.3, i.5)
+    (i.0, omega (arith, i.1, i.2, c.loop-taken-test.false), i.3)
 
 pub returns-clause-failures : goal.returns-clause-failures
 returns-clause-failures g c = c.loop-taken.invariant.4

@@ -1,5 +1,5 @@
 use Rattle.std.proofs.Common.{arith, ◌≡◌, ◌<◌, ◌-◌, ◌∙◌, ap, sym, length, subst, ℕ}
-use Rattle.mbox_core.specs.Device.{written_faults}
+use Rattle.byte_device.specs.Device.{written_faults}
 use Rattle.std.proofs.Common.{Ok}
 use Rattle.archive_listen.proofs.GatheringLemmas.{taken_fits}
 use Rattle.archive_listen.proofs.gathered.GatheredSink.write.Goals as goal

@@ -1,0 +1,4 @@
+use Rattle.archive_listen.proofs.open.StillOpen.keep.Given as goal
+
+abbrev pub decreases-loop-self : goal.decreases-loop-self
+decreases-loop-self g l = l.self
