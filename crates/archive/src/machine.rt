@@ -1,10 +1,10 @@
 //! The devices of a system, with streams that are handed in.
-use crate::clock::SystemDay;
 use crate::databases::SystemDatabases;
 use crate::threaders::SystemThreaders;
 use archive_listen::{LoopbackPorts, Outgoing};
-use archive_run::{System, SystemFiles, World};
+use archive_run::{System, World};
 use mbox_core::device::{Sink, Source};
+use sift_run::{SystemDay, SystemFiles};
 use sqlite::{File, FileStore};
 use std::marker::PhantomData;
 
@@ -44,7 +44,10 @@ pub fn make_world<'a, I: Source + Drop, O: Outgoing + Drop, E: Sink + Drop>(
         files: SystemFiles { rt },
         databases: SystemDatabases { rt },
         clock: SystemDay { rt },
-        ports: LoopbackPorts { rt },
+        ports: LoopbackPorts {
+            rt,
+            alloc: rt.alloc(),
+        },
         threaders: SystemThreaders { rt },
         input,
         output,

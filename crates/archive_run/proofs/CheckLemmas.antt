@@ -10,7 +10,8 @@ use Rattle.archive_store.specs.declared.store.Store.{Store as Open}
 use Rattle.archive_run.specs.Refusals.{ShowsDamage, visible}
 use Rattle.archive_run.specs.Working.{ChecksNot}
 use Rattle.archive_run.specs.declared.faults.Refusal.{Refusal}
-use Rattle.archive_run.specs.declared.faults.Refusal.TheVariants.{Damaged, Memory}
+use Rattle.archive_run.specs.declared.faults.Refusal.TheVariants.{Run, Damaged}
+use Rattle.sift_run.specs.declared.faults.RunFault.TheVariants.{Memory}
 
 module _ {S : Type 0} (g : Ghosts S) (old new : Open S) (stop : CheckStop) (list key : Vec ℕ Global)
     (is : stop ≡ check.Damaged list key) (found : Checks g old new (Err stop)) where
@@ -25,5 +26,5 @@ module _ {S : Type 0} (g : Ghosts S) (old new : Open S) (stop : CheckStop) (list
   shown of_list of_key is_list is_key _ shows = absurd shows
 
   -- there was no memory to show them
-  pub not_shown : ChecksNot g old new Memory
+  pub not_shown : ChecksNot g old new (Run Memory)
   not_shown = (visible list.items, visible key.items, (list, key, refl, refl, found_so))

@@ -3,10 +3,10 @@ use Rattle.std.proofs.Common.{◌≡◌, ap, inr, ℕ, ℤ, true, List, Option, 
 use Rattle.std.specs.Prelude.{⊤}
 use Rattle.policy_core.specs.Rules.{Rule}
 use Rattle.archive_run.specs.Orders.{ByPolicy, OnDay}
-use Rattle.archive_run.specs.Running.{IsPolicyOf, IsDayBy}
-use Rattle.archive_run.specs.declared.clock.DayClock.{Ghosts as Tells}
+use Rattle.sift_run.specs.Running.{IsPolicyOf, IsDayBy}
+use Rattle.sift_run.specs.declared.clock.DayClock.{Ghosts as Tells}
 use Rattle.archive_run.specs.declared.faults.Refusal.{Refusal}
-use Rattle.archive_run.specs.declared.files.ReadFiles.{Ghosts as Gives}
+use Rattle.sift_run.specs.declared.files.ReadFiles.{Ghosts as Gives}
 use Rattle.archive_run.specs.declared.world.World.{World}
 
 module _ {Y S F D C P T R O E I L K A B M : Type 0} (old new : World Y S F D C P T R O E I L K A B M) where

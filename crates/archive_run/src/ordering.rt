@@ -1,13 +1,12 @@
 //! Orders over a database: what is read before it is opened, and what is written when it is closed.
-ghost use Rattle.std.specs.Prelude.{◌≡◌, ◌⊎◌, true, MatchResult};
-ghost use Rattle.archive_run.specs.Running.{IsDayBy};
+ghost use Rattle.std.specs.Prelude.{◌≡◌, ◌⊎◌, true, IfErr, IfOk, Some};
+ghost use Rattle.sift_run.specs.Running.{IsDayBy, IsPolicyCause, IsPolicyOf};
+ghost use Rattle.sift_run.specs.Streams.{IsSent, sent};
+ghost use Rattle.archive_run.specs.Refusals.{OfRun};
 ghost use Rattle.archive_run.specs.Orders.{ExportsUnder, GetsUnder, RunsCheck, RunsExport, RunsGet, RunsImport, RunsTable, ask_by};
-ghost use Rattle.archive_run.specs.Working.{IsSent, SendsPart, Sends, report_line};
-ghost use Rattle.archive_run.specs.World.{sent};
+ghost use Rattle.archive_run.specs.Working.{report_line};
 
-use crate::clock::DayClock;
 use crate::faults::Refusal;
-use crate::running::asked_policy;
 use crate::working::{work_check, work_export, work_get, work_import, work_table};
 use crate::world::{System, World};
 use archive_desk::Report;
@@ -15,21 +14,32 @@ use archive_listen::Outgoing;
 use archive_results::{Ask, Reader};
 use archive_words::{AskOrder, CheckOrder, GetOrder, ImportOrder, TableOrder};
 use civil_time::Day;
-use mbox_core::device::write_bytes;
 use policy_core::Policy;
+use sift_run::{DayClock, ReadFiles, RunFault, asked_policy};
 use std::alloc::Global;
 
 /// Writes a text to the output, and passes it on (F2).
 pub(crate) fn send<O: Outgoing>(output: &mut O, text: &[u8]) -> Result<(), Refusal>
-    ensures { IsSent (sent O.Sink O.Outgoing.own output.old) (sent O.Sink O.Outgoing.own output.new) text.now result }
+    ensures { IsSent (Refusal.Run RunFault.Write) (sent O.Sink O.Outgoing.own output.old) (sent O.Sink O.Outgoing.own output.new) text.now result }
 {
-    match write_bytes(output, text) {
-        Ok(()) => {}
-        Err(_) => return Err(Refusal::Write),
-    }
-    match output.flush() {
+    match sift_run::send(output, text) {
         Ok(()) => Ok(()),
-        Err(_) => Err(Refusal::Write),
+        Err(fault) => Err(Refusal::Run(fault)),
+    }
+}
+
+/// The policy of the file of this name.
+pub(crate) fn named_policy<F: ReadFiles>(
+    alloc: Global,
+    files: &F,
+    name: &str,
+) -> Result<Policy, Refusal>
+    ensures ok { IfOk result (IsPolicyOf F.ReadFiles files.now (Some name.now)) }
+    ensures refused { IfErr result (OfRun (IsPolicyCause F.ReadFiles files.now (Some name.now))) }
+{
+    match asked_policy(alloc, files, Some(name)) {
+        Ok(policy) => Ok(policy),
+        Err(fault) => Err(Refusal::Run(fault)),
     }
 }
 
@@ -64,8 +74,8 @@ pub(crate) fn run_import<Y: System>(
 
 /// Writes how many messages an import took in (F2). F5: there was no memory for the line.
 fn send_report<O: Outgoing>(alloc: Global, output: &mut O, report: Report) -> Result<(), Refusal>
-    ensures { ((result ≡ Err Refusal.Memory) × (output.new ≡ output.old))
-        ⊎ IsSent (sent O.Sink O.Outgoing.own output.old) (sent O.Sink O.Outgoing.own output.new) (report_line report) result }
+    ensures { ((result ≡ Err (Refusal.Run RunFault.Memory)) × (output.new ≡ output.old))
+        ⊎ IsSent (Refusal.Run RunFault.Write) (sent O.Sink O.Outgoing.own output.old) (sent O.Sink O.Outgoing.own output.new) (report_line report) result }
 {
     let Report {
         new,
@@ -73,7 +83,7 @@ fn send_report<O: Outgoing>(alloc: Global, output: &mut O, report: Report) -> Re
         too_large,
     } = report;
     let Ok(line) = format!(in alloc; "new {new} known {known} too-large {too_large}\n") else {
-        return Err(Refusal::Memory);
+        return Err(Refusal::Run(RunFault::Memory));
     };
     send(output, line.as_bytes())
 }
@@ -128,7 +138,7 @@ fn get_by<Y: System>(
         Y.Clock.DayClock order.now policy.now result }
 {
     let Some(day) = asking_day(order.asked.day, &mut world.clock) else {
-        return Err(Refusal::Clock);
+        return Err(Refusal::Run(RunFault::Clock));
     };
     let ask = ask_of(&order.asked, policy, day);
     let text = work_get(
@@ -150,7 +160,7 @@ pub(crate) fn run_get<Y: System>(
     ensures { RunsGet world.old world.new Y.Output.Sink Y.Output.Outgoing.own Y.Pages.Store Y.Databases.Databases
         Y.Clock.DayClock Y.Files.ReadFiles order.now result }
 {
-    let policy = asked_policy(alloc, &world.files, Some(order.asked.policy))?;
+    let policy = named_policy(alloc, &world.files, order.asked.policy)?;
     get_by(alloc, world, &policy, order)
 }
 
@@ -165,7 +175,7 @@ fn export_by<Y: System>(
         Y.Clock.DayClock order.now policy.now result }
 {
     let Some(day) = asking_day(order.day, &mut world.clock) else {
-        return Err(Refusal::Clock);
+        return Err(Refusal::Run(RunFault::Clock));
     };
     let ask = ask_of(order, policy, day);
     work_export(
@@ -186,6 +196,6 @@ pub(crate) fn run_export<Y: System>(
     ensures { RunsExport world.old world.new Y.Output.Sink Y.Output.Outgoing.own Y.Pages.Store Y.Databases.Databases
         Y.Clock.DayClock Y.Files.ReadFiles order.now result }
 {
-    let policy = asked_policy(alloc, &world.files, Some(order.policy))?;
+    let policy = named_policy(alloc, &world.files, order.policy)?;
     export_by(alloc, world, &policy, order)
 }

@@ -1,12 +1,11 @@
 //! Serving an archive: the policy is read, the day asked and the database opened once, and then connections are answered.
 ghost use Rattle.std.specs.Prelude.{◌≡◌, ◌≤◌, Ok, Err, MatchResult};
 ghost use Rattle.archive_listen.specs.declared.faults.ListenFault.{ListenFault};
-ghost use Rattle.archive_run.specs.Serving.{RunsServe, ServesAll, ServesIn, ServesNot, ServesOpen, ServesUnder, said};
+ghost use Rattle.archive_run.specs.Serving.{AnswersAll, RunsServe, ServesIn, ServesNot, ServesOpen, ServesUnder, said};
 
 use crate::databases::Databases;
 use crate::faults::Refusal;
-use crate::ordering::asking_day;
-use crate::running::asked_policy;
+use crate::ordering::{asking_day, named_policy};
 use crate::threaders::Threaders;
 use crate::world::{System, World};
 use archive_listen::{Listener, Listening, Outgoing, Ports};
@@ -17,11 +16,12 @@ use archive_words::ServeOrder;
 use civil_time::Day;
 use mbox_core::device::Sink;
 use policy_core::Policy;
+use sift_run::RunFault;
 use sqlite::Alter;
 use std::alloc::Global;
 use thread_core::Threader;
 
-/// How many bytes of lists are kept at most while an archive is served, or one list alone.
+/// How many bytes of lists, months and authors are kept at most while an archive is served, or one of them alone.
 const KEPT_BYTES: usize = 256 << 20;
 
 /// Listens on a port. F4: it cannot be had.
@@ -49,7 +49,7 @@ fn serve_listening<T: Threader, S: Alter, L: Listener + Drop, O: Outgoing, E: Si
     faults: &mut E,
 ) -> Result<(), Refusal>
     ensures served { MatchResult result
-        (λ _. ServesAll S.Store L.accepts L.closes policy.now day listening store.old store.new
+        (λ _. AnswersAll S.Store L.accepts L.closes policy.now day listening store.old store.new
         (said O.Sink O.Outgoing.own E.Sink output.old faults.old) (said O.Sink O.Outgoing.own E.Sink output.new faults.new) count)
         (ServesNot S.Store L.accepts L.closes policy.now day listening store.old store.new
         (said O.Sink O.Outgoing.own E.Sink output.old faults.old) (said O.Sink O.Outgoing.own E.Sink output.new faults.new) count) }
@@ -68,9 +68,9 @@ fn serve_listening<T: Threader, S: Alter, L: Listener + Drop, O: Outgoing, E: Si
         faults,
     ) {
         Ok(()) => Ok(()),
-        Err(ServeStop::Write) => Err(Refusal::Write),
+        Err(ServeStop::Write) => Err(Refusal::Run(RunFault::Write)),
         Err(ServeStop::Listen) => Err(Refusal::Net),
-        Err(ServeStop::Memory) => Err(Refusal::Memory),
+        Err(ServeStop::Memory) => Err(Refusal::Run(RunFault::Memory)),
     }
 }
 
@@ -137,7 +137,7 @@ fn serve_by<Y: System, T: Threader>(
     ensures failures { Y.Faults.failures world.old.faults ≤ Y.Faults.failures world.new.faults }
 {
     let Some(day) = asking_day(order.day, &mut world.clock) else {
-        return Err(Refusal::Clock);
+        return Err(Refusal::Run(RunFault::Clock));
     };
     work_serve(alloc, world, policy, threader, day, order)
 }
@@ -153,8 +153,8 @@ pub(crate) fn run_serve<Y: System>(
         Y.Ports.Listener.accepts Y.Ports.Listener.closes Y.Databases.Databases Y.Clock.DayClock Y.Files.ReadFiles Y.Threaders.makes order.now result }
 {
     let Some(threader) = world.threaders.threader() else {
-        return Err(Refusal::Read);
+        return Err(Refusal::Run(RunFault::Read));
     };
-    let policy = asked_policy(alloc, &world.files, Some(order.policy))?;
+    let policy = named_policy(alloc, &world.files, order.policy)?;
     serve_by(alloc, world, &policy, &threader, order)
 }

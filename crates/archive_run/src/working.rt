@@ -4,12 +4,11 @@ ghost use Rattle.archive_work.specs.Working.{Carries, Gets};
 ghost use Rattle.archive_run.specs.Databases.{Works, IsUnopened};
 ghost use Rattle.archive_run.specs.Refusals.{ShowsDamage, visible, visible_byte};
 ghost use Rattle.archive_run.specs.Working.{Answers, ChecksNot, ExportsNot, GetsNot, ImportsFile, ImportsNot, IsExported, NotOpened};
-ghost use Rattle.archive_run.specs.World.{sent};
+ghost use Rattle.sift_run.specs.Streams.{sent};
 ghost use Rattle.archive_store.specs.Checking.{Checks};
 
 use crate::databases::Databases;
 use crate::faults::Refusal;
-use crate::files::{FileFault, OpenFiles};
 use archive_desk::{DeskFault, Report, export};
 use archive_import::import_from;
 use archive_listen::Outgoing;
@@ -17,6 +16,7 @@ use archive_results::Ask;
 use archive_store::{CheckStop, Store, StoreFault};
 use archive_words::{CheckOrder, ImportOrder, TableOrder};
 use archive_work::{Answer, GetStop, carry_out, get};
+use sift_run::{FileFault, OpenFiles, RunFault};
 use sqlite::Alter;
 use std::alloc::{AllocError, Global};
 
@@ -52,8 +52,8 @@ fn import_file<S: Alter, F: OpenFiles>(
 {
     let mut input = match files.open_file(alloc, name) {
         Ok(input) => input,
-        Err(FileFault::Read) => return Err(Refusal::Read),
-        Err(FileFault::Memory) => return Err(Refusal::Memory),
+        Err(FileFault::Read) => return Err(Refusal::Run(RunFault::Read)),
+        Err(FileFault::Memory) => return Err(Refusal::Run(RunFault::Memory)),
     };
     match import_from(store, alloc, list, &mut input) {
         Ok(report) => Ok(report),
@@ -98,7 +98,7 @@ fn get_text<S: Alter>(
         Err(GetStop::NoMessage) => Err(Refusal::Store(StoreFault::NoMessage)),
         Err(GetStop::Denied(rule)) => match String::from_str(alloc, rule) {
             Ok(rule) => Err(Refusal::Denied(rule)),
-            Err(_) => Err(Refusal::Memory),
+            Err(_) => Err(Refusal::Run(RunFault::Memory)),
         },
     }
 }
@@ -165,7 +165,7 @@ fn check_store<S: Alter>(store: &mut Store<S>, alloc: Global) -> Result<(), Refu
         Err(CheckStop::Failed(fault)) => Err(Refusal::Store(fault)),
         Err(CheckStop::Damaged { list, key }) => match damaged(alloc, &list, &key) {
             Ok(refusal) => Err(refusal),
-            Err(_) => Err(Refusal::Memory),
+            Err(_) => Err(Refusal::Run(RunFault::Memory)),
         },
     }
 }

@@ -1,11 +1,10 @@
 //! What a run is over: one device of each kind.
-use crate::clock::DayClock;
 use crate::databases::Databases;
-use crate::files::{OpenFiles, ReadFiles};
 use crate::threaders::Threaders;
 use archive_listen::{Outgoing, Ports};
 use archive_store::Store;
 use mbox_core::device::{Sink, Source};
+use sift_run::{DayClock, OpenFiles, ReadFiles};
 use sqlite::Alter;
 
 /// The kinds of devices that a run is over. No value of it is ever made.

@@ -11,7 +11,7 @@ use crate::help::{self, Help};
 use clap::{Arg, Command};
 use std::alloc::{AllocError, Global};
 
-const VERSION: &str = "0.1.0";
+const VERSION: &str = "0.3.0";
 
 /// An option `--NAME VALUE`, with its line in the help.
 fn option<'a>(alloc: Global, name: &'a str, value: &'a str, help: &'a str) -> Arg<'a>

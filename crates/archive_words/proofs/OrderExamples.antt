@@ -5,8 +5,8 @@ use Rattle.clap.specs.declared.error.kind.ErrorKind.TheVariants as error
 use Rattle.civil_time.specs.Calendar.{days_before_year, days_of_months}
 use Rattle.policy_core.specs.declared.access.Standing.TheVariants.{Public, Member}
 use Rattle.archive_usage.proofs.OnLiterals.{archive_on_literals}
-use Rattle.archive_words.specs.declared.commands.GrantKind.TheVariants as kind
-use Rattle.archive_words.specs.declared.commands.WithdrawnBy.TheVariants as party
+use Rattle.policy_core.specs.declared.access.Kind.TheVariants as kind
+use Rattle.policy_core.specs.declared.access.Party.TheVariants as party
 use Rattle.archive_words.specs.declared.orders.Order.TheVariants.{Sift, Table, Import, Get, Export, Check, Serve}
 use Rattle.archive_words.specs.Values.{list_add, merge, person_add, person_address, grant, revoke, withdraw, restore, embargo, lift}
 use Rattle.archive_words.specs.Program.{archive_app}

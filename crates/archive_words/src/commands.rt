@@ -1,20 +1,6 @@
 //! Commands on the tables of a database.
 use civil_time::Day;
-
-/// What a grant makes of a person on a list.
-#[derive(Debug, Clone, Copy, PartialEq, Eq)]
-pub enum GrantKind {
-    Member,
-    Subscriber,
-    Moderator,
-}
-
-/// Who withdraws a message.
-#[derive(Debug, Clone, Copy, PartialEq, Eq)]
-pub enum WithdrawnBy {
-    Author,
-    Board,
-}
+use policy_core::{Kind, Party};
 
 /// A command with its values. Names, tokens, addresses and keys are as they were given.
 #[derive(Debug, Clone, Copy)]
@@ -38,19 +24,19 @@ pub enum TableCommand<'a> {
     Grant {
         person: &'a str,
         list: &'a str,
-        kind: GrantKind,
+        kind: Kind,
         from: Day,
         until: Day,
     },
     Revoke {
         person: &'a str,
         list: &'a str,
-        kind: GrantKind,
+        kind: Kind,
     },
     Withdraw {
         list: &'a str,
         key: &'a str,
-        by: WithdrawnBy,
+        by: Party,
     },
     Restore {
         list: &'a str,

@@ -11,7 +11,7 @@ mod stops;
 mod table_reading;
 mod values;
 
-pub use commands::{GrantKind, TableCommand, WithdrawnBy};
+pub use commands::TableCommand;
 pub use orders::{
     AskOrder, CheckOrder, GetOrder, ImportOrder, Order, OrderStop, ServeOrder, SiftOrder,
     TableOrder,

@@ -4,11 +4,10 @@ ghost use Rattle.clap.specs.Words.{found_of, rows_of, first_of};
 ghost use Rattle.civil_time.specs.Calendar.{day_of_text};
 ghost use Rattle.archive_words.specs.Orders.{is_decimal, number_up_to, age_of_text, port_of_text, count_of_text, kind_named, party_named, yes_or_no, given, list_of, standing_of, read_in};
 
-use crate::commands::{GrantKind, WithdrawnBy};
 use crate::stops::BadValue;
 use civil_time::Day;
 use clap::ArgMatches;
-use policy_core::{MOST_DAYS, Standing};
+use policy_core::{Kind, MOST_DAYS, Party, Standing};
 
 /// The greatest number of connections that can be asked for.
 const MOST_CONNECTIONS: u32 = 1_000_000;
@@ -145,19 +144,19 @@ pub(crate) fn day_of<'a>(
 }
 
 /// What the word of a kind means.
-fn read_kind(word: &str) -> Option<GrantKind>
+fn read_kind(word: &str) -> Option<Kind>
     ensures { result ≡ kind_named word.now }
 {
     match word {
-        "member" => Some(GrantKind::Member),
-        "subscriber" => Some(GrantKind::Subscriber),
-        "moderator" => Some(GrantKind::Moderator),
+        "member" => Some(Kind::Member),
+        "subscriber" => Some(Kind::Subscriber),
+        "moderator" => Some(Kind::Moderator),
         _ => None,
     }
 }
 
 /// The argument KIND.
-pub(crate) fn kind_of_grant<'a>(inner: &ArgMatches<'a>) -> Result<GrantKind, BadValue<'a>>
+pub(crate) fn kind_of_grant<'a>(inner: &ArgMatches<'a>) -> Result<Kind, BadValue<'a>>
     ensures { MatchResult result
         (λ kind. read_in kind_named (codes "kind") (rows_of (found_of inner.now)) ≡ Some kind)
         (λ _. read_in kind_named (codes "kind") (rows_of (found_of inner.now)) ≡ None) }
@@ -171,18 +170,18 @@ pub(crate) fn kind_of_grant<'a>(inner: &ArgMatches<'a>) -> Result<GrantKind, Bad
 }
 
 /// What the word of a party means.
-fn read_party(word: &str) -> Option<WithdrawnBy>
+fn read_party(word: &str) -> Option<Party>
     ensures { result ≡ party_named word.now }
 {
     match word {
-        "author" => Some(WithdrawnBy::Author),
-        "board" => Some(WithdrawnBy::Board),
+        "author" => Some(Party::Author),
+        "board" => Some(Party::Board),
         _ => None,
     }
 }
 
 /// The argument BY.
-pub(crate) fn party_of_withdrawal<'a>(inner: &ArgMatches<'a>) -> Result<WithdrawnBy, BadValue<'a>>
+pub(crate) fn party_of_withdrawal<'a>(inner: &ArgMatches<'a>) -> Result<Party, BadValue<'a>>
     ensures { MatchResult result
         (λ by. read_in party_named (codes "by") (rows_of (found_of inner.now)) ≡ Some by)
         (λ _. read_in party_named (codes "by") (rows_of (found_of inner.now)) ≡ None) }

@@ -23,7 +23,8 @@ use Rattle.archive_store.specs.declared.faults.StoreFault.TheVariants.{NoMessage
 use Rattle.archive_store.proofs.Joins.{stepped as store_stepped, step_failed, stays_there, goes_as, calls_refused, calls_failed}
 use Rattle.archive_store.proofs.RightLemmas.{step_right}
 use Rattle.archive_words.specs.Values.{TableCommand, list_add, merge, person_add, person_address, grant, revoke, withdraw, restore, embargo, lift}
-use Rattle.archive_work.specs.Commands.{answer_to, stepped, keyed, done_by, whether_by, rank_named, party_named}
+use Rattle.archive_work.specs.Commands.{answer_to, stepped, keyed, done_by, whether_by}
+use Rattle.policy_core.specs.Numbers.{kind_rank, party_number}
 use Rattle.archive_work.specs.Working.{Carries}
 use Rattle.archive_work.specs.declared.commands.Answer.{Answer}
 
@@ -66,9 +67,9 @@ refusal_stays a (person_add name token) =
 refusal_stays a (person_address person address) = on_two a _ _ _ (not (has_person a person)) (not (is_address address))
 refusal_stays a (grant person list kind from until) = on_one a _ _ _ _ (not (has_person a person)) (not (has_list a list)) (int_lt until from)
 refusal_stays a (revoke person list kind) =
-    on_whether a _ _ _ (not (has_person a person)) (not (has_list a list)) (has_grant a person list (rank_named kind))
+    on_whether a _ _ _ (not (has_person a person)) (not (has_list a list)) (has_grant a person list (kind_rank kind))
 refusal_stays a (withdraw list key by) =
-    stays_keyed a key (machine.withdraw list key (party_named by))
+    stays_keyed a key (machine.withdraw list key (party_number by))
     (on_one a _ _ _ _ (not (has_list a list)) (not (has_message a list key)) (is_withdrawn (message_of a list key)))
 refusal_stays a (restore list key) =
     stays_keyed a key (machine.restore list key)
@@ -93,9 +94,9 @@ stepped_right (list_add name) a right = step_right (machine.list_add name) a rig
 stepped_right (merge list merged) a right = step_right (machine.merge_set list merged) a right
 stepped_right (person_add name token) a right = step_right (machine.person_add name token) a right
 stepped_right (person_address person address) a right = step_right (machine.address_set person address) a right
-stepped_right (grant person list kind from until) a right = step_right (machine.grant person list (rank_named kind) from until) a right
-stepped_right (revoke person list kind) a right = step_right (machine.revoke person list (rank_named kind)) a right
-stepped_right (withdraw list key by) a right = keyed_right key (machine.withdraw list key (party_named by)) a right
+stepped_right (grant person list kind from until) a right = step_right (machine.grant person list (kind_rank kind) from until) a right
+stepped_right (revoke person list kind) a right = step_right (machine.revoke person list (kind_rank kind)) a right
+stepped_right (withdraw list key by) a right = keyed_right key (machine.withdraw list key (party_number by)) a right
 stepped_right (restore list key) a right = keyed_right key (machine.restore list key) a right
 stepped_right (embargo list key until) a right = keyed_right key (machine.embargo list key until) a right
 stepped_right (lift list key) a right = keyed_right key (machine.lift list key) a right

@@ -1,13 +1,13 @@
 //! The commands over the tables.
 ghost use Rattle.std.specs.Prelude.{◌≡◌};
-ghost use Rattle.archive_store.specs.Words.{party_of, rank_of};
 ghost use Rattle.archive_words.specs.Values.{command_of, embargo as embargo_words, lift as lift_words, restore as restore_words, withdraw as withdraw_words};
-ghost use Rattle.archive_work.specs.Commands.{done_by, party_named, rank_named, whether_by};
+ghost use Rattle.archive_work.specs.Commands.{done_by, whether_by};
 ghost use Rattle.archive_work.specs.Working.{Carries};
 
-use archive_store::{Key, Kind, Party, Store, StoreFault};
-use archive_words::{GrantKind, TableCommand, WithdrawnBy};
+use archive_store::{Key, Store, StoreFault};
+use archive_words::TableCommand;
 use civil_time::Day;
+use policy_core::Party;
 use sqlite::Alter;
 use std::alloc::Global;
 
@@ -85,11 +85,11 @@ pub fn carry_out<S: Alter>(
             from,
             until,
         } => says(
-            store.grant(person, list, kind_of(*kind), *from, *until),
+            store.grant(person, list, *kind, *from, *until),
             Answer::Granted,
         ),
         TableCommand::Revoke { person, list, kind } => whether(
-            store.revoke(person, list, kind_of(*kind)),
+            store.revoke(person, list, *kind),
             Answer::Revoked,
             Answer::NoGrant,
         ),
@@ -104,12 +104,12 @@ fn withdraw<S: Alter>(
     store: &mut Store<S>,
     list: &str,
     key: &str,
-    by: WithdrawnBy,
+    by: Party,
 ) -> Result<Answer, StoreFault>
     ensures carried { Carries S.Store store.old store.new (withdraw_words list.now key.now by) result }
 {
     match Key::read(key) {
-        Some(key) => says(store.withdraw(list, &key, party_by(by)), Answer::Withdrawn),
+        Some(key) => says(store.withdraw(list, &key, by), Answer::Withdrawn),
         None => Err(StoreFault::NoMessage),
     }
 }
@@ -168,26 +168,5 @@ fn whether(
         Ok(true) => Ok(if_there),
         Ok(false) => Ok(if_not),
         Err(fault) => Err(fault),
-    }
-}
-
-/// The store's word for a kind of grant.
-fn kind_of(kind: GrantKind) -> Kind
-    ensures { rank_of result ≡ rank_named kind }
-{
-    match kind {
-        GrantKind::Member => Kind::Member,
-        GrantKind::Subscriber => Kind::Subscriber,
-        GrantKind::Moderator => Kind::Moderator,
-    }
-}
-
-/// The store's word for who withdraws.
-fn party_by(by: WithdrawnBy) -> Party
-    ensures { party_of result ≡ party_named by }
-{
-    match by {
-        WithdrawnBy::Author => Party::Author,
-        WithdrawnBy::Board => Party::Board,
     }
 }

@@ -3,10 +3,10 @@ use Rattle.archive_results.specs.Access.{Ask}
 use Rattle.archive_words.specs.Values.{AskValues}
 use Rattle.archive_run.specs.Databases.{Works}
 use Rattle.archive_run.specs.Orders.{ExportsUnder}
-use Rattle.archive_run.specs.Running.{IsDayBy}
-use Rattle.archive_run.specs.World.{sent}
+use Rattle.sift_run.specs.Running.{IsDayBy}
+use Rattle.sift_run.specs.Streams.{sent}
 use Rattle.archive_run.specs.Working.{ExportsNot, IsExported, NotOpened}
-use Rattle.archive_run.proofs.ResultLemmas.{at_two, by_result}
+use Rattle.sift_run.proofs.ResultLemmas.{at_two, by_result}
 use Rattle.archive_run.proofs.ordering.export_by.Goals as goal
 
 pub returns : goal.returns

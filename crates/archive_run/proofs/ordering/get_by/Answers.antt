@@ -4,10 +4,10 @@ use Rattle.archive_words.specs.Values.{GetValues}
 use Rattle.archive_work.specs.Working.{Gets}
 use Rattle.archive_run.specs.Databases.{Works}
 use Rattle.archive_run.specs.Orders.{GetsUnder}
-use Rattle.archive_run.specs.Running.{IsDayBy}
-use Rattle.archive_run.specs.World.{sent}
+use Rattle.sift_run.specs.Running.{IsDayBy}
+use Rattle.sift_run.specs.Streams.{sent}
 use Rattle.archive_run.specs.Working.{Fails, GetsNot}
-use Rattle.archive_run.proofs.ResultLemmas.{at_three, by_result, err_at, sent_as}
+use Rattle.sift_run.proofs.ResultLemmas.{at_three, by_result, err_at, sent_as}
 use Rattle.archive_run.proofs.ordering.get_by.Goals as goal
 
 pub returns-in_err-text : goal.returns-in_err-text
@@ -60,6 +60,6 @@ returns g c =
     let got = at_three (λ (f : List ℕ) (a : Ask) (k : List ℕ). Works g.Y-Databases-Databases old.databases new.databases f (λ o x. Gets g.Y.Pages.Store o x a k (Ok text)))
     _ _ _ _ _ _ is_file is_ask is_key c.in_ok-text.ensures in
     by_result (GetsUnder old new g.Y.Output.Sink g.Y.Output.Outgoing g.Y.Pages.Store g.Y-Databases-Databases g.Y.Clock.DayClock order c.args.policy.now) _ _
-    c.send.result (sent_as before after c.deref.result.now _ c.send.result c.deref.ensures.value c.send.ensures)
+    c.send.result (sent_as _ before after c.deref.result.now _ c.send.result c.deref.ensures.value c.send.ensures)
     (λ u sends. (clock, day, given, (text, got, (sends, refl))))
     (λ e part. inr (clock, day, given, inr (text, got, (part.0, part.1, refl))))

@@ -1,6 +1,6 @@
 use Rattle.std.proofs.Common.{inr, refl}
 use Rattle.archive_run.specs.Orders.{RunsCheck}
-use Rattle.archive_run.proofs.ResultLemmas.{by_result}
+use Rattle.sift_run.proofs.ResultLemmas.{by_result}
 use Rattle.archive_run.proofs.ordering.run_check.Goals as goal
 
 pub returns-in-Ok : goal.returns-in-Ok

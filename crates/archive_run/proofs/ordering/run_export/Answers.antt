@@ -1,9 +1,10 @@
 use Rattle.std.proofs.Common.{◌≡◌, ap, inl, refl, subst, ℕ, List, Some}
 use Rattle.archive_words.specs.Values.{AskValues}
 use Rattle.archive_run.specs.Orders.{RunsExport, ExportsUnder}
-use Rattle.archive_run.specs.Running.{IsPolicyCause, IsPolicyOf}
+use Rattle.sift_run.specs.Running.{IsPolicyCause, IsPolicyOf}
+use Rattle.archive_run.specs.Refusals.{OfRun}
 use Rattle.archive_run.proofs.OrderLemmas.{by_policy}
-use Rattle.archive_run.proofs.ResultLemmas.{err_at}
+use Rattle.sift_run.proofs.ResultLemmas.{err_at}
 use Rattle.archive_run.proofs.ordering.run_export.Goals as goal
 
 pub returns-in_err-policy : goal.returns-in_err-policy
@@ -12,7 +13,7 @@ returns-in_err-policy g c =
     let order = c.args.order.now in
     let refusal = c.in_err-policy.field-0.0 in
     let named : c.order.inside.policy.now ≡ order.policy = ap (λ (o : AskValues). o.policy) c.order.view_is in
-    let P : List ℕ → Type 0 = λ p. IsPolicyCause g.Y.Files.ReadFiles old.files (Some p) refusal in
+    let P : List ℕ → Type 0 = λ p. OfRun (IsPolicyCause g.Y.Files.ReadFiles old.files (Some p)) refusal in
     err_at (RunsExport old old g.Y.Output.Sink g.Y.Output.Outgoing g.Y.Pages.Store g.Y-Databases-Databases g.Y.Clock.DayClock g.Y.Files.ReadFiles order)
     c.from_residual.result refusal c.from_residual.ensures.1 (inl (subst P named c.in_err-policy.ensures.refused, refl))
 

@@ -1,6 +1,6 @@
 use Rattle.std.proofs.Common.{ap, inl, inr, refl}
 use Rattle.archive_run.specs.Orders.{RunsImport}
-use Rattle.archive_run.proofs.ResultLemmas.{by_result}
+use Rattle.sift_run.proofs.ResultLemmas.{by_result}
 use Rattle.archive_run.proofs.ordering.run_import.Goals as goal
 
 pub returns-in-Ok : goal.returns-in-Ok

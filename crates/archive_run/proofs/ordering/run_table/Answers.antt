@@ -1,7 +1,7 @@
 use Rattle.std.proofs.Common.{◌∙◌, inr, refl}
 use Rattle.archive_run.specs.Orders.{RunsTable}
-use Rattle.archive_run.specs.World.{sent}
-use Rattle.archive_run.proofs.ResultLemmas.{by_result, sent_as}
+use Rattle.sift_run.specs.Streams.{sent}
+use Rattle.sift_run.proofs.ResultLemmas.{by_result, sent_as}
 use Rattle.archive_run.proofs.ordering.run_table.Goals as goal
 
 pub returns-in-Ok : goal.returns-in-Ok
@@ -13,6 +13,6 @@ returns-in-Ok g c =
     let answer = c.in-Ok.answer in
     let worked = c.in-Ok.ensures.worked in
     by_result (RunsTable old new g.Y.Output.Sink g.Y.Output.Outgoing g.Y.Pages.Store g.Y-Databases-Databases c.args.order.now) _ _ c.send.result
-    (sent_as before after c.as_bytes.result.now _ c.send.result (c.as_bytes.ensures.value ∙ c.line.ensures) c.send.ensures)
+    (sent_as _ before after c.as_bytes.result.now _ c.send.result (c.as_bytes.ensures.value ∙ c.line.ensures) c.send.ensures)
     (λ u sends. (answer, worked, (sends, refl)))
     (λ e part. inr (answer, worked, (part.0, part.1, refl)))

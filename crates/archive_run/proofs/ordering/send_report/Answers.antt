@@ -1,7 +1,7 @@
 use Rattle.std.proofs.Common.{◌≡◌, ◌∙◌, inr, append_assoc}
 use Rattle.archive_run.specs.Working.{report_line}
-use Rattle.archive_run.specs.World.{sent}
-use Rattle.archive_run.proofs.ResultLemmas.{sent_as}
+use Rattle.sift_run.specs.Streams.{sent}
+use Rattle.sift_run.proofs.ResultLemmas.{sent_as}
 use Rattle.archive_run.proofs.ordering.send_report.Goals as goal
 
 pub returns : goal.returns
@@ -9,4 +9,4 @@ returns g c =
     let line : c.as_bytes.result.now ≡ report_line c.args.report = c.as_bytes.ensures.value ∙ (c.in-Ok.ensures.ok ∙ simp append_assoc) in
     let before = sent g.O.Sink g.O.Outgoing c.args.output.now in
     let after = sent g.O.Sink g.O.Outgoing c.send.new.output in
-    inr (sent_as before after c.as_bytes.result.now _ c.send.result line c.send.ensures)
+    inr (sent_as _ before after c.as_bytes.result.now _ c.send.result line c.send.ensures)

@@ -1,9 +1,11 @@
-use Rattle.std.proofs.Common.{inl, inr, refl, sym, subst, arith, Ok, Err}
+use Rattle.std.proofs.Common.{ap, inl, inr, refl, sym, subst, arith, Ok, Err}
 use Rattle.archive_words.specs.declared.orders.Order.{Order}
+use Rattle.archive_run.specs.Refusals.{refusal_text}
 use Rattle.archive_run.specs.Runs.{Runs}
 use Rattle.archive_run.specs.World.{devices}
-use Rattle.archive_run.specs.declared.faults.Refusal.TheVariants.{Memory}
-use Rattle.archive_run.proofs.StatusLemmas.{at_most_one, at_one, at_zero, memory_alone, memory_said, same_order, words_bad}
+use Rattle.archive_run.specs.declared.faults.Refusal.TheVariants.{Run}
+use Rattle.sift_run.specs.declared.faults.RunFault.TheVariants.{Memory}
+use Rattle.sift_run.proofs.StatusLemmas.{at_most_one, at_one, at_zero, memory_alone, memory_said, same_order, words_bad}
 use Rattle.archive_run.proofs.running.run.Goals as goal
 
 pub returns-in-Ok-clause-done : goal.returns-in-Ok-clause-done
@@ -27,7 +29,7 @@ returns-in-Ok-clause-refused g c =
     let mid = c.run_order-done.new.world in
     let it = at_one _ _ (Runs dev old mid c.in-Ok.asked) c.run_order-done.result c.finish.result c.finish.ensures c.run_order-done.ensures one in
     let P : Order → Type 0 = λ o. Runs dev old mid o (Err it.0) in
-    record { refusal = it.0; stopped = mid; cause = inr (subst P (same_order _ _ _ c.in-Ok.ensures.ok given.1) it.1); told = (it.2, refl) }
+    record { refusal = it.0; stopped = mid; cause = inr (subst P (same_order _ _ _ c.in-Ok.ensures.ok given.1) it.1); told = (it.2 (refusal_text it.0) refl, refl) }
 
 pub returns-in-Ok-clause-bad : goal.returns-in-Ok-clause-bad
 returns-in-Ok-clause-bad g c =
@@ -42,26 +44,27 @@ returns-in-Ok-clause-stopped g c =
 pub returns-in-Err-clause-done : goal.returns-in-Err-clause-done
 returns-in-Err-clause-done g c =
     λ order given zero.
-    let dev = devices g.Y.Pages.Store g.Y.Files.ReadFiles g.Y.Files.OpenFiles g.Y.Files.Input.Source g.Y-Databases-Databases g.Y.Clock.DayClock
-    g.Y.Ports.Ports.listens g.Y.Ports.Listener.Listener.accepts g.Y.Ports.Listener.Listener.closes g.Y.Threaders.Threaders.makes g.Y.Input.Source g.Y.Output.Sink g.Y.Output.Outgoing g.Y.Faults.Sink in
-    let said = memory_said dev c.args.world.now c.say_stop.new.world c.say_stop.result _ (memory_alone _ _ _ c.in-Err.ensures.refused c.in-Err.ensures.stopped given) c.say_stop.ensures in
+    let old = c.args.world.now in
+    let said = memory_said g.Y.Output.Sink g.Y.Output.Outgoing g.Y.Faults.Sink old.output c.say_stop.new.output old.faults c.say_stop.new.faults c.say_stop.result _
+    (memory_alone _ _ _ c.in-Err.ensures.refused c.in-Err.ensures.stopped given) c.say_stop.ensures in
     let one = said.0 in
     absurd (omega (arith, zero, one))
 
 pub returns-in-Err-clause-refused : goal.returns-in-Err-clause-refused
 returns-in-Err-clause-refused g c =
     λ order given one.
-    let dev = devices g.Y.Pages.Store g.Y.Files.ReadFiles g.Y.Files.OpenFiles g.Y.Files.Input.Source g.Y-Databases-Databases g.Y.Clock.DayClock
-    g.Y.Ports.Ports.listens g.Y.Ports.Listener.Listener.accepts g.Y.Ports.Listener.Listener.closes g.Y.Threaders.Threaders.makes g.Y.Input.Source g.Y.Output.Sink g.Y.Output.Outgoing g.Y.Faults.Sink in
-    let said = memory_said dev c.args.world.now c.say_stop.new.world c.say_stop.result _ (memory_alone _ _ _ c.in-Err.ensures.refused c.in-Err.ensures.stopped given) c.say_stop.ensures in
-    record { refusal = Memory; stopped = c.args.world.now; cause = inl (refl, refl); told = said.1 }
+    let old = c.args.world.now in
+    let faults = c.say_stop.new.faults in
+    let said = memory_said g.Y.Output.Sink g.Y.Output.Outgoing g.Y.Faults.Sink old.output c.say_stop.new.output old.faults faults c.say_stop.result _
+    (memory_alone _ _ _ c.in-Err.ensures.refused c.in-Err.ensures.stopped given) c.say_stop.ensures in
+    record { refusal = Run Memory; stopped = old; cause = inl (refl, refl); told = (said.2, ap (λ o. record old { output = o; faults = faults }) said.1) }
 
 pub returns-in-Err-clause-bad : goal.returns-in-Err-clause-bad
 returns-in-Err-clause-bad g c =
     λ two.
-    let dev = devices g.Y.Pages.Store g.Y.Files.ReadFiles g.Y.Files.OpenFiles g.Y.Files.Input.Source g.Y-Databases-Databases g.Y.Clock.DayClock
-    g.Y.Ports.Ports.listens g.Y.Ports.Listener.Listener.accepts g.Y.Ports.Listener.Listener.closes g.Y.Threaders.Threaders.makes g.Y.Input.Source g.Y.Output.Sink g.Y.Output.Outgoing g.Y.Faults.Sink in
-    words_bad dev c.args.world.now c.say_stop.new.world c.say_stop.result _ _ c.in-Err.ensures.stopped c.in-Err.ensures.refused c.say_stop.ensures two
+    let old = c.args.world.now in
+    words_bad g.Y.Output.Sink g.Y.Output.Outgoing g.Y.Faults.Sink old.output c.say_stop.new.output old.faults c.say_stop.new.faults c.say_stop.result _ _
+    c.in-Err.ensures.stopped c.in-Err.ensures.refused c.say_stop.ensures two
 
 pub returns-in-Err-clause-stopped : goal.returns-in-Err-clause-stopped
-returns-in-Err-clause-stopped g c = inr (_, c.in-Err.ensures.stopped, c.say_stop.ensures)
+returns-in-Err-clause-stopped g c = inr (_, c.in-Err.ensures.stopped, (c.say_stop.ensures, refl))

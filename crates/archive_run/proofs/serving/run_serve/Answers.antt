@@ -1,9 +1,10 @@
 use Rattle.std.proofs.Common.{ap, inl, refl, subst, arith, ℕ, List, Some}
 use Rattle.archive_words.specs.Values.{ServeValues}
-use Rattle.archive_run.specs.Running.{IsPolicyCause, IsPolicyOf}
+use Rattle.sift_run.specs.Running.{IsPolicyCause, IsPolicyOf}
 use Rattle.archive_run.specs.Serving.{RunsServe, ServesUnder}
+use Rattle.archive_run.specs.Refusals.{OfRun}
 use Rattle.archive_run.proofs.OrderLemmas.{by_policy}
-use Rattle.archive_run.proofs.ResultLemmas.{err_at}
+use Rattle.sift_run.proofs.ResultLemmas.{err_at}
 use Rattle.archive_run.proofs.serving.run_serve.Goals as goal
 
 pub returns-in_err-policy : goal.returns-in_err-policy
@@ -11,7 +12,7 @@ returns-in_err-policy g c =
     let old = c.args.world.now in
     let order = c.args.order.now in
     let refusal = c.in_err-policy.field-0.0 in
-    let P : List ℕ → Type 0 = λ p. IsPolicyCause g.Y.Files.ReadFiles old.files (Some p) refusal in
+    let P : List ℕ → Type 0 = λ p. OfRun (IsPolicyCause g.Y.Files.ReadFiles old.files (Some p)) refusal in
     err_at (RunsServe old old g.Y.Output.Sink g.Y.Output.Outgoing g.Y.Faults.Sink g.Y.Pages.Store g.Y.Ports.Ports.listens g.Y.Ports.Listener.Listener.accepts
     g.Y.Ports.Listener.Listener.closes g.Y-Databases-Databases g.Y.Clock.DayClock g.Y.Files.ReadFiles g.Y.Threaders.Threaders.makes order)
     c.from_residual.result refusal c.from_residual.ensures.1

@@ -1,6 +1,6 @@
 use Rattle.std.proofs.Common.{◌≡◌, ap, true, Some}
 use Rattle.archive_words.specs.Values.{ServeValues}
-use Rattle.archive_run.specs.Running.{IsDayBy}
+use Rattle.sift_run.specs.Running.{IsDayBy}
 use Rattle.archive_run.specs.Serving.{ServesIn}
 use Rattle.archive_run.proofs.OrderLemmas.{on_day}
 use Rattle.archive_run.proofs.serving.serve_by.Goals as goal

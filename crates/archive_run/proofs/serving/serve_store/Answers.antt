@@ -1,9 +1,9 @@
 use Rattle.std.proofs.Common.{◌≡◌, ap, inr, refl, subst, ℕ, Result, Ok}
 use Rattle.std.specs.Prelude.{MatchResult, ⊤}
 use Rattle.archive_words.specs.Values.{ServeValues}
-use Rattle.archive_run.specs.Serving.{PortServes, PortServesNot, ServesAll, ServesNot, said}
+use Rattle.archive_run.specs.Serving.{AnswersAll, PortServes, PortServesNot, ServesNot, said}
 use Rattle.archive_run.specs.declared.faults.Refusal.{Refusal}
-use Rattle.archive_run.proofs.ResultLemmas.{by_result}
+use Rattle.sift_run.proofs.ResultLemmas.{by_result}
 use Rattle.archive_run.proofs.serving.serve_store.Goals as goal
 
 pub returns-clause-served : goal.returns-clause-served
@@ -23,7 +23,7 @@ returns-clause-served g c =
     let is_count : c.order.inside.count ≡ order.count = ap (λ (o : ServeValues). o.count) c.order.view_is in
     let P : ℕ → Type 0 = λ p. g.Y.Ports.Ports.listens old.ports ports p (Ok listening) in
     let Q : ℕ → Type 0 = λ n. MatchResult done.result
-    (λ _. ServesAll g.Y.Pages.Store accepts closes c.args.policy.now c.args.day listening open_old open_new before after n)
+    (λ _. AnswersAll g.Y.Pages.Store accepts closes c.args.policy.now c.args.day listening open_old open_new before after n)
     (ServesNot g.Y.Pages.Store accepts closes c.args.policy.now c.args.day listening open_old open_new before after n) in
     let had = subst P is_port c.in_ok-listening.ensures in
     let R : Result ⊤ Refusal → Type 0 = λ r. MatchResult r

@@ -2,7 +2,7 @@ use Rattle.std.proofs.Common.{◌≡◌, ap, inr, subst, ℕ, List, Ok}
 use Rattle.archive_words.specs.Values.{ServeValues}
 use Rattle.archive_run.specs.Serving.{PortServes, PortServesNot, ServesIn, said}
 use Rattle.archive_run.proofs.OrderLemmas.{databases_of, with_databases}
-use Rattle.archive_run.proofs.ResultLemmas.{by_result}
+use Rattle.sift_run.proofs.ResultLemmas.{by_result}
 use Rattle.archive_run.proofs.WorkLemmas.{works}
 use Rattle.archive_run.proofs.serving.work_serve.Goals as goal
 

@@ -1,6 +1,6 @@
 use Rattle.std.proofs.Common.{◌≡◌}
 use Rattle.archive_run.specs.Working.{ExportsNot, IsExported, NotOpened}
-use Rattle.archive_run.specs.World.{sent}
+use Rattle.sift_run.specs.Streams.{sent}
 use Rattle.archive_run.proofs.WorkLemmas.{worked}
 use Rattle.archive_run.proofs.working.work_export.Goals as goal
 

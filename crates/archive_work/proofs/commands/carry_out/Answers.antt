@@ -16,7 +16,7 @@ returns-in-ListAdd g c =
     record {
       carried = subst (λ m. Carries g.S.Store old new (command_of m) c.says.result) (sym c.in-ListAdd.is)
           (subst (λ r. Carries g.S.Store old new words r) (sym c.says.ensures)
-          (carries_done g.S.Store old new words c.list_add.ensures.lasts Added c.list_add.result refl c.list_add.ensures.step));
+          (carries_done g.S.Store old new words c.list_add.ensures.ends.lasts Added c.list_add.result refl c.list_add.ensures.step));
     }
 
 pub returns-in-Merge : goal.returns-in-Merge
@@ -28,7 +28,7 @@ returns-in-Merge g c =
     record {
       carried = subst (λ m. Carries g.S.Store old new (command_of m) c.says-in-Merge.result) (sym arm.is)
           (subst (λ r. Carries g.S.Store old new words r) (sym c.says-in-Merge.ensures)
-          (carries_done g.S.Store old new words c.merge_set.ensures.lasts (Merging arm.merged) c.merge_set.result refl c.merge_set.ensures.step));
+          (carries_done g.S.Store old new words c.merge_set.ensures.ends.lasts (Merging arm.merged) c.merge_set.result refl c.merge_set.ensures.step));
     }
 
 pub returns-in-PersonAdd : goal.returns-in-PersonAdd
@@ -39,7 +39,7 @@ returns-in-PersonAdd g c =
     record {
       carried = subst (λ m. Carries g.S.Store old new (command_of m) c.says-in-PersonAdd.result) (sym c.in-PersonAdd.is)
           (subst (λ r. Carries g.S.Store old new words r) (sym c.says-in-PersonAdd.ensures)
-          (carries_done g.S.Store old new words c.person_add.ensures.lasts Added c.person_add.result refl c.person_add.ensures.step));
+          (carries_done g.S.Store old new words c.person_add.ensures.ends.lasts Added c.person_add.result refl c.person_add.ensures.step));
     }
 
 pub returns-in-PersonAddress : goal.returns-in-PersonAddress
@@ -50,7 +50,7 @@ returns-in-PersonAddress g c =
     record {
       carried = subst (λ m. Carries g.S.Store old new (command_of m) c.says-in-PersonAddress.result) (sym c.in-PersonAddress.is)
           (subst (λ r. Carries g.S.Store old new words r) (sym c.says-in-PersonAddress.ensures)
-          (carries_done g.S.Store old new words c.address_set.ensures.lasts AddressSet c.address_set.result refl c.address_set.ensures.step));
+          (carries_done g.S.Store old new words c.address_set.ensures.ends.lasts AddressSet c.address_set.result refl c.address_set.ensures.step));
     }
 
 pub returns-in-Grant : goal.returns-in-Grant
@@ -62,10 +62,7 @@ returns-in-Grant g c =
     record {
       carried = subst (λ m. Carries g.S.Store old new (command_of m) c.says-in-Grant.result) (sym arm.is)
           (subst (λ r. Carries g.S.Store old new words r) (sym c.says-in-Grant.ensures)
-          (carries_done g.S.Store old new words c.grant.ensures.lasts Granted c.grant.result refl
-          (subst (λ rank. Does g.S.Store (held_of old) (held_of new)
-          (λ a. granted a (record { person = arm.person.now; list = arm.list.now; rank = rank; from_day = arm.from; until_day = arm.until })) (says_done c.grant.result))
-          c.kind_of.ensures c.grant.ensures.step)));
+          (carries_done g.S.Store old new words c.grant.ensures.ends.lasts Granted c.grant.result refl c.grant.ensures.step));
     }
 
 pub returns-in-Revoke : goal.returns-in-Revoke
@@ -77,7 +74,5 @@ returns-in-Revoke g c =
     record {
       carried = subst (λ m. Carries g.S.Store old new (command_of m) c.whether.result) (sym arm.is)
           (subst (λ r. Carries g.S.Store old new words r) (sym c.whether.ensures)
-          (carries_whether g.S.Store old new words c.revoke.ensures.lasts Revoked NoGrant c.revoke.result refl refl
-          (subst (λ rank. Does g.S.Store (held_of old) (held_of new) (λ a. revoked a arm.person.now arm.list.now rank) (says_whether c.revoke.result))
-          c.kind_of-in-Revoke.ensures c.revoke.ensures.step)));
+          (carries_whether g.S.Store old new words c.revoke.ensures.ends.lasts Revoked NoGrant c.revoke.result refl refl c.revoke.ensures.step));
     }

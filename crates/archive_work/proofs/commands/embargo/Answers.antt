@@ -19,7 +19,7 @@ returns-in-Some g c =
     let does = does_keyed g.S.Store old new c.in-Some.key (machine.embargo c.args.list.now c.in-Some.key c.args.until) (says_done c.embargo.result) is (c.embargo.ensures.step) in
     record {
       carried = subst (λ r. Carries g.S.Store old new (embargo c.args.list.now key c.args.until) r) (sym c.says.ensures)
-          (carries_done g.S.Store old new (embargo c.args.list.now key c.args.until) c.embargo.ensures.lasts Embargoed c.embargo.result refl
+          (carries_done g.S.Store old new (embargo c.args.list.now key c.args.until) c.embargo.ensures.ends.lasts Embargoed c.embargo.result refl
           (subst (λ k. Does g.S.Store (held_of old) (held_of new) (λ a. stepped a (embargo c.args.list.now k c.args.until)) (says_done c.embargo.result)) c.in-Some.ensures.some does));
     }
 

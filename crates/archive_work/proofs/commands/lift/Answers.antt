@@ -19,7 +19,7 @@ returns-in-Some g c =
     let does = does_keyed g.S.Store old new c.in-Some.key (machine.lift c.args.list.now c.in-Some.key) (says_whether c.lift.result) is (c.lift.ensures.step) in
     record {
       carried = subst (λ r. Carries g.S.Store old new (lift c.args.list.now key) r) (sym c.whether.ensures)
-          (carries_whether g.S.Store old new (lift c.args.list.now key) c.lift.ensures.lasts Lifted NoEmbargo c.lift.result refl refl
+          (carries_whether g.S.Store old new (lift c.args.list.now key) c.lift.ensures.ends.lasts Lifted NoEmbargo c.lift.result refl refl
           (subst (λ k. Does g.S.Store (held_of old) (held_of new) (λ a. stepped a (lift c.args.list.now k)) (says_whether c.lift.result)) c.in-Some.ensures.some does));
     }
 

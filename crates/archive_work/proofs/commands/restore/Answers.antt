@@ -19,7 +19,7 @@ returns-in-Some g c =
     let does = does_keyed g.S.Store old new c.in-Some.key (machine.restore c.args.list.now c.in-Some.key) (says_done c.restore.result) is (c.restore.ensures.step) in
     record {
       carried = subst (λ r. Carries g.S.Store old new (restore c.args.list.now key) r) (sym c.says.ensures)
-          (carries_done g.S.Store old new (restore c.args.list.now key) c.restore.ensures.lasts Restored c.restore.result refl
+          (carries_done g.S.Store old new (restore c.args.list.now key) c.restore.ensures.ends.lasts Restored c.restore.result refl
           (subst (λ k. Does g.S.Store (held_of old) (held_of new) (λ a. stepped a (restore c.args.list.now k)) (says_done c.restore.result)) c.in-Some.ensures.some does));
     }
 
