@@ -1,0 +1,121 @@
+/* calls.c: each call of the library with what it has to answer, and with what it has to refuse. The last line is
+ * 'N passed, M failed'; status 1 where one failed.
+ *
+ * Under tools/refuse.c with REFUSE_MARKS a growth of memory of the first of two equal calls is refused: it may then say so, and
+ * the second one has to answer. All calls are made twice, and after the second time as much memory is in use as after the first.
+ */
+#include "luvazhimba.h"
+#include <malloc.h>
+#include <stdio.h>
+#include <stdlib.h>
+#include <string.h>
+#include <unistd.h>
+
+#define BYTES(text) (const uint8_t *)(text), sizeof(text) - 1
+#define ROOM(array) (array), sizeof(array) / sizeof *(array)
+#define CALL(call) (mark("begin\n"), status = (call), mark("end\n"), status == LUV_NO_MEMORY ? (call) : status)
+
+static int passed, failed;
+static uint8_t status;
+
+static void check(bool is_right, const char *what) {
+    is_right ? passed++ : failed++;
+    if (!is_right) printf("FAILED %s\n", what);
+}
+
+static void mark(const char *word) {
+    if (getenv("REFUSE_MARKS") && write(2, word, strlen(word)) < 0) failed++;
+}
+
+static void try_subjects(void) {
+    uint8_t text[64];
+    struct luv_base found = {0, false};
+    check(CALL(luv_base_subject(BYTES("Re: [soc] Hello (fwd)"), ROOM(text), &found)) == LUV_DONE, "a base");
+    check(found.len == 5 && found.reply && !memcmp(text, "hello", 5), "of a reply");
+    check(CALL(luv_base_subject(BYTES("a\tB"), ROOM(text), &found)) == LUV_DONE, "another base");
+    check(found.len == 3 && !found.reply && !memcmp(text, "a b", 3), "of no reply");
+    check(CALL(luv_base_subject(BYTES("Re: Hello"), text, 4, &found)) == LUV_NO_ROOM && found.len == 5, "a base that has no room");
+    check(CALL(luv_base_subject(NULL, 0, NULL, 0, &found)) == LUV_DONE && found.len == 0 && !found.reply, "the base of nothing");
+    check(luv_base_subject(text, SIZE_MAX, ROOM(text), &found) == LUV_TOO_LONG, "a subject that is too long");
+}
+
+static void try_ids(void) {
+    uint8_t texts[64];
+    size_t lens[4];
+    struct luv_ids found = {0, 0, 0};
+    check(CALL(luv_message_ids(BYTES("Message-ID: <a@b>\nReferences: <\"c d\"@e> (x)\n <f@g>\n\n"), ROOM(texts), ROOM(lens), &found)) == LUV_DONE, "ids");
+    check(found.own == 1 && found.count == 3 && found.len == 11, "how many");
+    check(!memcmp(texts, "a@bc d@ef@g", 11) && lens[0] == 3 && lens[1] == 5 && lens[2] == 3, "which");
+    check(CALL(luv_message_ids(BYTES("In-Reply-To: <a@b> <c@d>\n\n"), ROOM(texts), ROOM(lens), &found)) == LUV_DONE, "a reply's ids");
+    check(found.own == 0 && found.count == 1 && !memcmp(texts, "a@b", 3), "the first alone");
+    check(CALL(luv_message_ids(BYTES("References: <a@b> <c@d>\n"), texts, 5, ROOM(lens), &found)) == LUV_NO_ROOM && found.len == 6, "no room for texts");
+    check(CALL(luv_message_ids(BYTES("References: <a@b> <c@d>\n"), ROOM(texts), lens, 1, &found)) == LUV_NO_ROOM && found.count == 2, "no room for lens");
+    check(CALL(luv_message_ids(NULL, 0, NULL, 0, NULL, 0, &found)) == LUV_DONE && found.count == 0, "the ids of nothing");
+    check(luv_message_ids(texts, SIZE_MAX, ROOM(texts), ROOM(lens), &found) == LUV_TOO_LONG, "a message that is too long");
+}
+
+static void try_dates(void) {
+    int64_t sent = 0;
+    check(luv_sent_date(BYTES("Date: Tue, 4 Mar 2003 10:00:00 +0100\n\n"), 5, &sent) == LUV_DONE && sent == 1046768400, "a date");
+    check(luv_sent_date(BYTES("Date: soon\n\n"), 5, &sent) == LUV_DONE && sent == 5, "no date");
+    check(luv_sent_date(NULL, 0, -2208988800, &sent) == LUV_DONE && sent == -2208988800, "the first arrival");
+    check(luv_sent_date(NULL, 0, -2208988801, &sent) == LUV_NO_INSTANT, "an arrival in 1899");
+    check(luv_sent_date(NULL, SIZE_MAX, 5, &sent) == LUV_TOO_LONG, "a message that is too long");
+}
+
+#define MBOX "\nFrom a@b Tue Mar  4 10:00:00 2003\nMessage-ID: <a@b>\n\nx\n\nFrom c@d Tue Mar  4 11:00:00 2003\nReferences: <a@b>\n\n"
+
+static void try_cutting(void) {
+    struct luv_message messages[4];
+    size_t count = 9;
+    check(luv_cut(BYTES(MBOX), ROOM(messages), &count) == LUV_DONE && count == 2, "an mbox");
+    check(messages[0].from == 35 && messages[0].to == 56 && messages[0].arrival == 1046772000, "its first message");
+    check(messages[1].from == 91 && messages[1].to == 109 && messages[1].arrival == 1046775600, "its second message");
+    check(luv_cut(BYTES(MBOX), messages, 1, &count) == LUV_NO_ROOM && count == 2, "an mbox that has no room");
+    check(luv_cut(BYTES("\n\nno\n"), ROOM(messages), &count) == LUV_NO_MBOX && count == 2, "no mbox");
+    check(luv_cut(NULL, 0, NULL, 0, &count) == LUV_DONE && count == 0, "an mbox without messages");
+    check(luv_cut(BYTES("From a@b Tue Mar  4 10:00:00 2003"), ROOM(messages), &count) == LUV_DONE && count == 1, "a separator line alone");
+    check(messages[0].from == 33 && messages[0].to == 33, "stands before the end");
+    check(luv_cut(NULL, SIZE_MAX, ROOM(messages), &count) == LUV_TOO_LONG, "an mbox that is too long");
+}
+
+static void try_threads(void) {
+    static const char bytes[] = "Message-ID: <a@b>\n\nReferences: <a@b>\n\n";
+    struct luv_message messages[] = {{0, 19, 5}, {19, 38, 6}};
+    struct luv_row rows[4];
+    size_t count = 9;
+    check(CALL(luv_threads(BYTES(bytes), ROOM(messages), true, 1, 2, ROOM(rows), &count)) == LUV_DONE && count == 2, "threads");
+    check(rows[0].depth == 0 && rows[0].place == 0 && rows[0].is_message, "the first row");
+    check(rows[1].depth == 1 && rows[1].place == 1 && rows[1].is_message, "the second row");
+    check(CALL(luv_threads(BYTES(bytes), ROOM(messages), true, 1, 2, rows, 1, &count)) == LUV_NO_ROOM && count == 2, "threads that have no room");
+    check(CALL(luv_threads(NULL, 0, NULL, 0, true, 1, 2, NULL, 0, &count)) == LUV_DONE && count == 0, "the threads of nothing");
+    check(CALL(luv_threads((const uint8_t *)bytes, 37, ROOM(messages), true, 1, 2, ROOM(rows), &count)) == LUV_OUTSIDE, "a message past the end");
+    messages[1].from = 39;
+    check(CALL(luv_threads(BYTES(bytes), ROOM(messages), true, 1, 2, ROOM(rows), &count)) == LUV_OUTSIDE, "a message that ends before it begins");
+    messages[1].from = 19, messages[1].arrival = INT64_MAX;
+    check(CALL(luv_threads(BYTES(bytes), ROOM(messages), true, 1, 2, ROOM(rows), &count)) == LUV_NO_INSTANT, "a message without an instant");
+    check(luv_threads(BYTES(bytes), messages, SIZE_MAX, true, 1, 2, ROOM(rows), &count) == LUV_TOO_LONG, "messages that are too many");
+    check(CALL(luv_threads_of_mbox(BYTES(MBOX), true, 1, 2, ROOM(rows), &count)) == LUV_DONE && count == 2 && rows[1].depth == 1, "an mbox's threads");
+    check(CALL(luv_threads_of_mbox(BYTES(MBOX), true, 1, 2, NULL, 0, &count)) == LUV_NO_ROOM && count == 2, "those that have no room");
+    check(CALL(luv_threads_of_mbox(BYTES("\nno\n"), true, 1, 2, ROOM(rows), &count)) == LUV_NO_MBOX && count == 1, "the threads of no mbox");
+    check(CALL(luv_threads_of_mbox(NULL, 0, false, 1, 2, NULL, 0, &count)) == LUV_DONE && count == 0, "of an mbox without messages");
+}
+
+static void try_all(void) {
+    try_subjects();
+    try_ids();
+    try_dates();
+    try_cutting();
+    try_threads();
+}
+
+int main(void) {
+    setvbuf(stdout, NULL, _IONBF, 0);
+    try_all();
+    /* (malloc keeps small blocks that were freed for the next call, and counts them as in use) */
+    size_t before = mallinfo2().uordblks;
+    try_all();
+    check(mallinfo2().uordblks == before, "memory that is not given back");
+    printf("%d passed, %d failed\n", passed, failed);
+    return failed != 0;
+}

@@ -1,0 +1,172 @@
+"""Readers of mail that are proved: base subjects, message ids, sent dates, the messages of an mbox, and threads.
+
+    import luvazhimba
+    mbox = open("seeds.mbox", "rb").read()
+    for row in luvazhimba.threads_of_mbox(mbox):
+        print("  " * row.depth, row.place)
+
+What each function gives is said by a contract of the library, and proved; that this module hands over what it is given and gives
+back what it got is tested. Every function raises `Refused` where the library refuses, and MemoryError where no memory is left.
+"""
+import ctypes
+import os
+import pathlib
+import secrets
+import struct
+from ctypes import POINTER, byref, c_bool, c_char, c_char_p, c_int64, c_size_t, c_uint8, c_uint64
+from typing import Callable, Iterable, List, NamedTuple, Optional
+
+__all__ = ["Base", "Ids", "Message", "Refused", "Row", "base_subject", "cut", "message_ids", "sent_date", "threads", "threads_of_mbox"]
+
+
+class Base(NamedTuple):
+    """A base subject, and whether its subject marks a reply or a forward."""
+    text: bytes
+    is_reply: bool
+
+
+class Ids(NamedTuple):
+    """The id of a message, None where it has none, and the ids that it refers to, oldest first."""
+    own: Optional[bytes]
+    references: List[bytes]
+
+
+class Message(NamedTuple):
+    """Where a message stands, as in `mbox[start:end]`, and when it arrived, in seconds since 1970."""
+    start: int
+    end: int
+    arrival: int
+
+
+class Row(NamedTuple):
+    """A row of threads: its depth, from 0, and which message stands there, from 0; None where others refer to one that is not there."""
+    depth: int
+    place: Optional[int]
+
+
+class Refused(ValueError):
+    """The library refuses. `number` is the number of the refusal, `offset` where the line begins that makes the bytes no mbox."""
+
+    def __init__(self, number: int, offset: Optional[int] = None) -> None:
+        super().__init__(_REFUSALS[number] + (f" (it begins at {offset})" if offset is not None else ""))
+        self.number, self.offset = number, offset
+
+
+NO_ROOM, NO_MEMORY, NO_INSTANT, OUTSIDE, NO_MBOX, TOO_LONG = range(1, 7)
+_REFUSALS = {
+    NO_INSTANT: "an arrival lies outside the years 1900 to 9998",
+    OUTSIDE: "a message stands outside the bytes",
+    NO_MBOX: "the first line that is not empty is no separator line",
+    TOO_LONG: "there are more than 2^40 elements",
+}
+
+
+class _Base(ctypes.Structure):
+    _fields_ = [("len", c_size_t), ("reply", c_bool)]
+
+
+class _Ids(ctypes.Structure):
+    _fields_ = [("own", c_size_t), ("count", c_size_t), ("len", c_size_t)]
+
+
+# (as luv_message and luv_row have them)
+_MESSAGE, _ROW = struct.Struct("@NNq"), struct.Struct("@NN?7x")
+_LIBRARY = ctypes.CDLL(os.environ.get("LUVAZHIMBA_LIB") or str(pathlib.Path(__file__).with_name("libluvazhimba.so")))
+
+
+def _export(name: str, *words: type) -> Callable[..., int]:
+    export = getattr(_LIBRARY, name)
+    export.restype, export.argtypes = c_uint8, words
+    return export
+
+
+_BYTES, _OUT = (c_char_p, c_size_t), (ctypes.c_void_p, c_size_t)
+_base_subject = _export("luv_base_subject", *_BYTES, *_OUT, POINTER(_Base))
+_message_ids = _export("luv_message_ids", *_BYTES, *_OUT, *_OUT, POINTER(_Ids))
+_sent_date = _export("luv_sent_date", *_BYTES, c_int64, POINTER(c_int64))
+_cut = _export("luv_cut", *_BYTES, *_OUT, POINTER(c_size_t))
+_threads = _export("luv_threads", *_BYTES, *_OUT, c_bool, c_uint64, c_uint64, *_OUT, POINTER(c_size_t))
+_threads_of_mbox = _export("luv_threads_of_mbox", *_BYTES, c_bool, c_uint64, c_uint64, *_OUT, POINTER(c_size_t))
+
+
+# Room that is enough for most messages and subjects: types of arrays are slow to make, so these are made once.
+_TEXTS_ROOM, _LENS_ROOM = 1_000, 20
+_Texts, _Lens = c_char * _TEXTS_ROOM, c_size_t * _LENS_ROOM
+
+
+def _refuse(status: int, offset: Optional[int] = None) -> None:
+    """Raises what a status that is not 0 means."""
+    if status == NO_MEMORY:
+        raise MemoryError
+    if status:
+        raise Refused(status, offset if status == NO_MBOX else None)
+
+
+def base_subject(subject: bytes) -> Base:
+    """Return the base of an unfolded subject (RFC 5256, section 2.1), in ASCII lower case."""
+    room, found = max(len(subject), _TEXTS_ROOM), _Base()
+    text = _Texts() if room == _TEXTS_ROOM else (c_char * room)()
+    if status := _base_subject(subject, len(subject), text, room, byref(found)):
+        _refuse(status)
+    return Base(text[:found.len], found.reply)
+
+
+def message_ids(message: bytes) -> Ids:
+    """Return the ids that a message names (RFC 5322, section 3.6.4), each as `left@right`."""
+    texts, lens, found = _Texts(), _Lens(), _Ids()
+    while status := _message_ids(message, len(message), texts, len(texts), lens, len(lens), byref(found)):
+        if status != NO_ROOM:
+            _refuse(status)
+        texts, lens = (c_char * found.len)(), (c_size_t * found.count)()
+    text, ids, at = texts[:found.len], [], 0
+    for length in lens[:found.count]:
+        ids.append(text[at:at + length])
+        at += length
+    return Ids(ids[0] if found.own else None, ids[found.own:])
+
+
+def sent_date(message: bytes, arrival: int) -> int:
+    """Return when a message was sent that arrived then, in seconds since 1970: by its Date field, else the arrival."""
+    sent = c_int64()
+    if status := _sent_date(message, len(message), arrival, byref(sent)):
+        _refuse(status)
+    return sent.value
+
+
+def _filled(call: Callable[..., int], layout: struct.Struct, room: int) -> memoryview:
+    """Calls with an array of so many elements, and again where that has no room; returns the elements that were written."""
+    count = c_size_t()
+    while True:
+        array = ctypes.create_string_buffer(room * layout.size)
+        status = call(array, room, byref(count))
+        if status != NO_ROOM:
+            break
+        room = count.value
+    _refuse(status, count.value)
+    return memoryview(array)[:count.value * layout.size]
+
+
+def cut(mbox: bytes) -> List[Message]:
+    """Return the messages of an mbox (RFC 4155), in order."""
+    found = _filled(lambda *out: _cut(mbox, len(mbox), *out), _MESSAGE, 64 + len(mbox) // 1_000)
+    return list(map(Message._make, _MESSAGE.iter_unpack(found)))
+
+
+def _rows(call: Callable[..., int], room: int) -> List[Row]:
+    keys = secrets.randbits(64), secrets.randbits(64)
+    found = _filled(lambda *out: call(*keys, *out), _ROW, room)
+    return [Row(depth, place if is_message else None) for depth, place, is_message in _ROW.iter_unpack(found)]
+
+
+def threads(data: bytes, messages: Iterable[Message], merge: bool = True) -> List[Row]:
+    """Return the threads of messages in some bytes (RFC 5256, section 3, REFERENCES), in preorder.
+
+    Those of one base subject are gathered where `merge` is true."""
+    places = [_MESSAGE.pack(*it) for it in messages]
+    array, count = b"".join(places), len(places)
+    return _rows(lambda *rest: _threads(data, len(data), array, count, merge, *rest), 2 * count)
+
+
+def threads_of_mbox(mbox: bytes, merge: bool = True) -> List[Row]:
+    """Return the threads of the messages of an mbox; a row's place is that of its message in the order of `cut`."""
+    return _rows(lambda *rest: _threads_of_mbox(mbox, len(mbox), merge, *rest), 64 + len(mbox) // 500)

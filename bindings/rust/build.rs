@@ -1,0 +1,12 @@
+//! Links libluvazhimba.a, which bindings/build.sh makes; LUVAZHIMBA_LIB is its folder, where that is not bindings/out.
+use std::env;
+use std::path::PathBuf;
+
+fn main() {
+    let here = PathBuf::from(env::var_os("CARGO_MANIFEST_DIR").unwrap());
+    let folder = env::var_os("LUVAZHIMBA_LIB").map_or(here.join("../out"), PathBuf::from);
+    println!("cargo:rerun-if-env-changed=LUVAZHIMBA_LIB");
+    println!("cargo:rerun-if-changed={}", folder.join("libluvazhimba.a").display());
+    println!("cargo:rustc-link-search=native={}", folder.display());
+    println!("cargo:rustc-link-lib=static=luvazhimba");
+}

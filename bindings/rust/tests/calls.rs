@@ -1,0 +1,55 @@
+//! Each function with what it has to return, and with what it has to refuse.
+use luvazhimba::{base_subject, cut, message_ids, sent_date, threads, threads_of_mbox, Base, Ids, Message, Refusal, Row};
+
+const MBOX: &[u8] = b"\nFrom a@b Tue Mar  4 10:00:00 2003\nMessage-ID: <a@b>\n\nx\n\n\
+    From c@d Tue Mar  4 11:00:00 2003\nReferences: <a@b>\n\n";
+const MESSAGES: [Message; 2] = [Message { from: 35, to: 56, arrival: 1046772000 }, Message { from: 91, to: 109, arrival: 1046775600 }];
+
+fn base(text: &str, is_reply: bool) -> Result<Base, Refusal> {
+    Ok(Base { text: text.into(), is_reply })
+}
+
+fn row(depth: usize, place: usize) -> Row {
+    Row { depth, place: Some(place) }
+}
+
+#[test]
+fn base_subjects() {
+    assert_eq!(base_subject(b"Re: [soc] Hello (fwd)"), base("hello", true));
+    assert_eq!(base_subject(b"a\tB"), base("a b", false));
+    assert_eq!(base_subject(b""), base("", false));
+}
+
+#[test]
+fn ids() {
+    let references = vec![b"c d@e".to_vec(), b"f@g".to_vec()];
+    let message = b"Message-ID: <a@b>\nReferences: <\"c d\"@e> (x)\n <f@g>\n\n";
+    assert_eq!(message_ids(message), Ok(Ids { own: Some(b"a@b".to_vec()), references }));
+    assert_eq!(message_ids(b""), Ok(Ids { own: None, references: vec![] }));
+    let many = (0..5_000).map(|it| format!(" <{it}@x>")).collect::<String>();
+    assert_eq!(message_ids(format!("References:{many}\n\n").as_bytes()).map(|it| it.references.len()), Ok(5_000));
+}
+
+#[test]
+fn sent_dates() {
+    assert_eq!(sent_date(b"Date: Tue, 4 Mar 2003 10:00:00 +0100\n\n", 5), Ok(1046768400));
+    assert_eq!(sent_date(b"", -1), Ok(-1));
+    assert_eq!(sent_date(b"", i64::MAX), Err(Refusal::Instant));
+}
+
+#[test]
+fn messages() {
+    assert_eq!(cut(MBOX), Ok(MESSAGES.to_vec()));
+    assert_eq!(cut(b""), Ok(vec![]));
+    assert_eq!(cut(b"\n\nno\n"), Err(Refusal::Mbox(2)));
+    assert_eq!(cut(&b"From a@b Tue Mar  4 10:00:00 2003\n\n".repeat(1_000)).map(|it| it.len()), Ok(1_000));
+}
+
+#[test]
+fn rows() {
+    assert_eq!(threads(MBOX, &MESSAGES, true), Ok(vec![row(0, 0), row(1, 1)]));
+    assert_eq!(threads(MBOX, &[], true), Ok(vec![]));
+    assert_eq!(threads(MBOX, &[Message { from: 0, to: MBOX.len() + 1, arrival: 5 }], true), Err(Refusal::Outside));
+    assert_eq!(threads_of_mbox(MBOX, false), Ok(vec![row(0, 0), row(1, 1)]));
+    assert!(matches!(threads_of_mbox(b"no\n", true), Err(Refusal::Mbox(_))));
+}

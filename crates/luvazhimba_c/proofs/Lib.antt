@@ -1,0 +1,4 @@
+mod Examples
+pub mod IdLemmas
+pub mod PlaceLemmas
+pub mod ThreadLemmas

@@ -1,0 +1,6 @@
+use Rattle.std.proofs.Common.{◌≡◌, map, take}
+use Rattle.luvazhimba_c.specs.Entries.{entry_at}
+use Rattle.luvazhimba_c.proofs.entries.entries_at.Given as goal
+
+abbrev pub invariant-loop-at : goal.invariant-loop-at
+invariant-loop-at l = l.entries.items ≡ map (entry_at l.bytes) (take l.at l.messages)

@@ -1,0 +1,133 @@
+//! Message ids.
+ghost use Rattle.std.specs.Prelude.{◌≡◌, ◌↔◌, ◌++◌, ◌∷◌, [], length, map, OnOk, IfOk, IfErr};
+ghost use Rattle.std.specs.List.{flat_map};
+ghost use Rattle.mail_core.specs.Headers.{own_id_in, own_id_of, alone};
+ghost use Rattle.luvazhimba_c.specs.Ids.{id_text, text_len, id_texts, id_lens, AreIdsOf, WantRoom};
+ghost use Rattle.luvazhimba_c.specs.Numbers.{done, no_room, too_long, number_of, IsTooLong};
+
+use crate::outputs::put;
+use crate::refusals::{DONE, Refusal, is_too_long};
+use mail_core::{Header, Memory, MsgIdRef, References};
+use std::alloc::Global;
+
+/// How many message ids there are.
+#[repr(C)]
+#[derive(Clone, Copy)]
+pub struct LuvIds {
+    /// 1 where the message has an id of its own, which then comes first, else 0.
+    pub own: usize,
+    /// All of them.
+    pub count: usize,
+    /// How long their texts are together, in bytes.
+    pub len: usize,
+}
+
+/// The texts of ids, one behind the other, and how long each is.
+#[derive(Drop)]
+struct Texts {
+    bytes: Vec<u8>,
+    lens: Vec<usize>,
+}
+
+impl Texts {
+    /// Puts the text of an id behind the others.
+    fn push(&mut self, id: &MsgIdRef<'_>) -> Result<(), Memory>
+        ensures bytes { OnOk result (self.new.bytes.items ≡ self.old.bytes.items ++ id_text id.now) }
+        ensures lens { OnOk result (self.new.lens.items ≡ self.old.lens.items ++ text_len id.now ∷ []) }
+    {
+        self.bytes.extend_from_slice(id.left())?;
+        self.bytes.push(b'@')?;
+        self.bytes.extend_from_slice(id.right())?;
+        self.lens.push(id.left().len() + 1 + id.right().len())?;
+        Ok(())
+    }
+
+    /// Puts the texts of ids behind the others, in order.
+    fn push_all(&mut self, ids: &References) -> Result<(), Memory>
+        ensures bytes { OnOk result (self.new.bytes.items ≡ self.old.bytes.items ++ flat_map id_text ids.now) }
+        ensures lens { OnOk result (self.new.lens.items ≡ self.old.lens.items ++ map text_len ids.now) }
+    {
+        for at in 0..ids.len() {
+            self.push(&ids.get(at))?;
+        }
+        Ok(())
+    }
+}
+
+/// The text of a message's own id, where it has one.
+fn own_text(alloc: Global, header: &Header<'_>) -> Result<Texts, Memory>
+    ensures bytes { IfOk result (λ texts. texts.bytes.items ≡ flat_map id_text (alone (own_id_in header.now))) }
+    ensures lens { IfOk result (λ texts. texts.lens.items ≡ map text_len (alone (own_id_in header.now))) }
+{
+    let mut texts = Texts {
+        bytes: Vec::new(alloc),
+        lens: Vec::new(alloc),
+    };
+    if let Some(id) = header.own_id(alloc)? {
+        texts.push(&id.borrowed())?;
+    }
+    Ok(texts)
+}
+
+/// The texts of all ids of a message, and how many are its own.
+fn texts_of(alloc: Global, message: &[u8]) -> Result<(Texts, usize), Memory>
+    ensures bytes { IfOk result (λ found. found.0.bytes.items ≡ id_texts message.now) }
+    ensures lens { IfOk result (λ found. found.0.lens.items ≡ id_lens message.now) }
+    ensures own { IfOk result (λ found. found.1 ≡ length (alone (own_id_of message.now))) }
+{
+    let header = Header::of(message);
+    let mut texts = own_text(alloc, &header)?;
+    let own = texts.lens.len();
+    texts.push_all(&header.references(alloc)?)?;
+    Ok((texts, own))
+}
+
+/// The ids of a message (RFC 5322, section 3.6.4): its own, by its first Message-ID field, and then those that it refers to, as
+/// threads ask for them (RFC 5256, section 3): all of its first References field, or where that has none the first of its first
+/// In-Reply-To field. The text of each is its left side without quotes, `@` and its right side. The texts are written to the front
+/// of `texts`, one behind the other, and to the front of `lens` how long each is. It refuses where one of these has no room, and
+/// then `found` says what is wanted, where the message is too long, and where a growth of memory is refused.
+#[unsafe(no_mangle)]
+pub extern "C" fn luv_message_ids(
+    alloc: Global,
+    message: &[u8],
+    texts: &mut [u8],
+    lens: &mut [usize],
+    found: &mut LuvIds,
+) -> u8
+    ensures ids { result ≡ done → AreIdsOf message.now texts.new lens.new found.new }
+    ensures no_room { result ≡ no_room → WantRoom message.now texts.old lens.old found.new }
+    ensures too_long { (result ≡ too_long) ↔ IsTooLong message.now }
+{
+    match write_ids(alloc, message, texts, lens, found) {
+        Ok(()) => DONE,
+        Err(refusal) => refusal.number(),
+    }
+}
+
+fn write_ids(
+    alloc: Global,
+    message: &[u8],
+    texts: &mut [u8],
+    lens: &mut [usize],
+    found: &mut LuvIds,
+) -> Result<(), Refusal>
+    ensures ids { OnOk result (AreIdsOf message.now texts.new lens.new found.new) }
+    ensures fits { OnOk result (¬ IsTooLong message.now) }
+    ensures no_room { IfErr result (λ e. number_of e ≡ no_room → WantRoom message.now texts.old lens.old found.new) }
+    ensures too_long { IfErr result (λ e. (number_of e ≡ too_long) ↔ IsTooLong message.now) }
+{
+    if is_too_long(message) {
+        return Err(Refusal::TooLong);
+    }
+    let Ok((ids, own)) = texts_of(alloc, message) else {
+        return Err(Refusal::Memory);
+    };
+    *found = LuvIds {
+        own,
+        count: ids.lens.len(),
+        len: ids.bytes.len(),
+    };
+    put(texts, &ids.bytes)?;
+    put(lens, &ids.lens)
+}

@@ -1,0 +1,13 @@
+//! Messages by their places.
+
+/// Where a message stands in some bytes, and when it arrived, in seconds since 1970-01-01 00:00:00 UTC.
+#[repr(C)]
+#[derive(Clone, Copy)]
+pub struct LuvMessage {
+    /// Where its text begins.
+    pub from: usize,
+    /// Where its text ends.
+    pub to: usize,
+    /// When it arrived.
+    pub arrival: i64,
+}

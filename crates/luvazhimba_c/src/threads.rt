@@ -1,0 +1,153 @@
+//! Threads.
+ghost use Rattle.std.specs.Prelude.{◌≡◌, ◌<◌, ◌≤◌, ◌⊎◌, ◌↔◌, length, map, Contains, IfOk, IfErr};
+ghost use Rattle.mbox_core.specs.Division.{IsPreamble};
+ghost use Rattle.thread_core.specs.Threads.{threads_of};
+ghost use Rattle.luvazhimba_c.specs.declared.messages.LuvMessage.{LuvMessage};
+ghost use Rattle.luvazhimba_c.specs.Entries.{entry_at, entry_of_item, AreThreadsOfMbox, IsOutside, HasNoInstant};
+ghost use Rattle.luvazhimba_c.specs.Numbers.{done, no_room, no_memory, no_instant, outside, no_mbox, too_long, number_of, IsTooLong};
+ghost use Rattle.luvazhimba_c.specs.Rows.{rows_in};
+
+use crate::cutting::answer_fault;
+use crate::entries::{entries_at, entries_of_items};
+use crate::keys::state_of;
+use crate::messages::LuvMessage;
+use crate::refusals::{DONE, Refusal, is_too_long};
+use crate::rows::{LuvRow, put_rows};
+use mbox_core::{Messages, cut};
+use std::alloc::Global;
+use thread_core::{Entry, NodeThreader, Row, threads};
+
+/// The threads of entries, with hash maps of these keys.
+fn rows_of(
+    alloc: Global,
+    entries: &[Entry],
+    merge: bool,
+    key0: u64,
+    key1: u64,
+) -> Result<Vec<Row>, Refusal>
+    ensures rows { IfOk result (λ rows. rows.items ≡ threads_of entries.now merge) }
+    ensures memory { IfErr result (λ e. number_of e ≡ no_memory) }
+{
+    let Some(state) = state_of(key0, key1) else {
+        return Err(Refusal::Memory);
+    };
+    match threads(alloc, &NodeThreader::new(state), entries, merge) {
+        Ok(rows) => Ok(rows),
+        Err(_) => Err(Refusal::Memory),
+    }
+}
+
+/// Writes rows to the front of an array, and how many there are; it says what the call answers.
+fn answer_rows(found: &[Row], rows: &mut [LuvRow], count: &mut usize) -> u8
+    ensures count { count.new ≡ length found.now }
+    ensures rows { result ≡ done → rows_in (length found.now) rows.new ≡ found.now }
+    ensures within { result ≡ done → length found.now ≤ length rows.old }
+    ensures no_room { result ≡ no_room → length rows.old < length found.now }
+    ensures few { result ≤ no_room }
+{
+    *count = found.len();
+    match put_rows(rows, found) {
+        Ok(()) => DONE,
+        Err(refusal) => refusal.number(),
+    }
+}
+
+/// The threads of messages (RFC 5256, section 3, THREAD=REFERENCES), written to the front of `rows` in preorder; `count` is how many
+/// rows there are, at most twice as many as messages. Those of one base subject are gathered (step 5) only where `merge` is true. The
+/// time depends on the keys, which are to be random where somebody else wrote the mail; no row does. It refuses where a message
+/// stands outside the bytes or arrived outside the years 1900 to 9998, where `rows` has no room, where an array is too long, and where a
+/// growth of memory is refused.
+#[unsafe(no_mangle)]
+pub extern "C" fn luv_threads(
+    alloc: Global,
+    bytes: &[u8],
+    messages: &[LuvMessage],
+    merge: bool,
+    key0: u64,
+    key1: u64,
+    rows: &mut [LuvRow],
+    count: &mut usize,
+) -> u8
+    ensures rows { result ≡ done
+        → (rows_in count.new rows.new ≡ threads_of (map (entry_at bytes.now) messages.now) merge) × (count.new ≤ length rows.old) }
+    ensures no_room { result ≡ no_room
+        → (count.new ≡ length (threads_of (map (entry_at bytes.now) messages.now) merge)) × (length rows.old < count.new) }
+    ensures outside { result ≡ outside → (m : LuvMessage) × Contains messages.now m × IsOutside bytes.now m }
+    ensures no_instant { result ≡ no_instant → (m : LuvMessage) × Contains messages.now m × HasNoInstant m }
+    ensures too_long { result ≡ too_long → IsTooLong bytes.now ⊎ IsTooLong messages.now }
+{
+    if is_too_long(bytes) || is_too_long(messages) {
+        return Refusal::TooLong.number();
+    }
+    match rows_of_messages(alloc, bytes, messages, merge, key0, key1) {
+        Ok(found) => answer_rows(&found, rows, count),
+        Err(refusal) => refusal.number(),
+    }
+}
+
+fn rows_of_messages(
+    alloc: Global,
+    bytes: &[u8],
+    messages: &[LuvMessage],
+    merge: bool,
+    key0: u64,
+    key1: u64,
+) -> Result<Vec<Row>, Refusal>
+    ensures rows { IfOk result (λ rows. rows.items ≡ threads_of (map (entry_at bytes.now) messages.now) merge) }
+    ensures high { IfErr result (λ e. no_room < number_of e) }
+    ensures low { IfErr result (λ e. number_of e < too_long) }
+    ensures outside { IfErr result (λ e. number_of e ≡ outside
+        → (m : LuvMessage) × Contains messages.now m × IsOutside bytes.now m) }
+    ensures no_instant { IfErr result (λ e. number_of e ≡ no_instant
+        → (m : LuvMessage) × Contains messages.now m × HasNoInstant m) }
+{
+    let entries = entries_at(alloc, bytes, messages)?;
+    let rows = rows_of(alloc, &entries, merge, key0, key1)?;
+    Ok(rows)
+}
+
+/// The threads of the messages of an mbox (RFC 4155), as `luv_threads` has them: the place of a row is that of its message among
+/// those of the mbox. It refuses where the bytes are no mbox, and then `count` is where the line begins that is no separator
+/// line; where `rows` has no room, where the mbox is too long, and where a growth of memory is refused.
+#[unsafe(no_mangle)]
+pub extern "C" fn luv_threads_of_mbox(
+    alloc: Global,
+    mbox: &[u8],
+    merge: bool,
+    key0: u64,
+    key1: u64,
+    rows: &mut [LuvRow],
+    count: &mut usize,
+) -> u8
+    ensures rows { result ≡ done → AreThreadsOfMbox mbox.now merge (rows_in count.new rows.new) }
+    ensures within { result ≡ done → count.new ≤ length rows.old }
+    ensures no_room { result ≡ no_room → length rows.old < count.new }
+    ensures no_mbox { result ≡ no_mbox → IsPreamble mbox.now count.new }
+    ensures too_long { (result ≡ too_long) ↔ IsTooLong mbox.now }
+{
+    if is_too_long(mbox) {
+        return Refusal::TooLong.number();
+    }
+    match cut(mbox) {
+        Ok(messages) => match rows_of_items(alloc, messages, merge, key0, key1) {
+            Ok(found) => answer_rows(&found, rows, count),
+            Err(refusal) => refusal.number(),
+        },
+        Err(fault) => answer_fault(fault, count),
+    }
+}
+
+fn rows_of_items(
+    alloc: Global,
+    messages: Messages<'_>,
+    merge: bool,
+    key0: u64,
+    key1: u64,
+) -> Result<Vec<Row>, Refusal>
+    ensures rows { IfOk result (λ rows. rows.items ≡ threads_of (map entry_of_item messages.entry) merge) }
+    ensures memory { IfErr result (λ e. number_of e ≡ no_memory) }
+{
+    let entries = entries_of_items(alloc, messages)?;
+    let rows = rows_of(alloc, &entries, merge, key0, key1)?;
+    Ok(rows)
+}
