@@ -3,9 +3,9 @@
 use crate::{LIST, tell};
 use anyhow::bail;
 use archive_desk::{Report, author, export, import, message, month, thread, threads};
-use archive_html::threads_page;
+use archive_html::placed_threads_page;
 use archive_pages::answer;
-use archive_results::{Ask, Asked, Reader, TreeLine, entry_of, line_of};
+use archive_results::{Ask, Asked, Line, Reader, TreeLine, entry_of, line_of};
 use archive_store::{Key, Store, StoreFault};
 use civil_time::{Day, Month};
 use mbox_core::device::Counted;
@@ -15,7 +15,7 @@ use std::alloc::Global;
 use std::hash::RandomState;
 use std::io::{self, Write};
 use std::time::{Duration, Instant};
-use thread_core::{Entry, NodeThreader};
+use thread_core::{Entry, NodeThreader, Row};
 
 /// A writer that keeps the number of its bytes alone.
 #[derive(Drop)]
@@ -302,12 +302,34 @@ fn time_threading(
     tell(rt, best)
 }
 
+/// The lines of threads, and the rows with their places.
+#[derive(Drop)]
+struct Placed {
+    lines: Vec<Line>,
+    rows: Vec<Row>,
+}
+
+/// The lines of these rows apart from them.
+fn apart(alloc: Global, tree: Vec<TreeLine>) -> anyhow::Result<Placed> {
+    let mut lines = Vec::new(alloc);
+    let mut rows = Vec::new(alloc);
+    for TreeLine { depth, line } in tree {
+        let mut place = None;
+        if let Some(line) = line {
+            place = Some(lines.len());
+            lines.push(line)?;
+        }
+        rows.push(Row { depth, place })?;
+    }
+    Ok(Placed { lines, rows })
+}
+
 /// Tells the time of the fastest of so many rounds of writing a page of these rows.
-fn time_page(rt: &HostRuntime, rows: &[TreeLine], rounds: u32) -> anyhow::Result<()> {
+fn time_page(rt: &HostRuntime, page: &Placed, rounds: u32) -> anyhow::Result<()> {
     let mut best = Duration::MAX;
     for _ in 0..rounds {
         let begun = Instant::now(rt)?;
-        if threads_page(rt.alloc(), LIST, rows).is_err() {
+        if placed_threads_page(rt.alloc(), LIST, &page.lines, &page.rows).is_err() {
             bail!("no memory");
         }
         best = best.min(begun.elapsed(rt)?);
@@ -342,9 +364,10 @@ pub fn time_page_questions<S: Alter>(
     for question in BY_REQUESTS {
         time_both(rt, store, &given, question, rounds)?;
     }
-    let rows = threads(store, rt.alloc(), &given.ask(), &given.threader)?;
-    time_page(rt, &rows, rounds)?;
-    println!(rt; "{}", rows.len())?;
+    let tree = threads(store, rt.alloc(), &given.ask(), &given.threader)?;
+    let page = apart(rt.alloc(), tree)?;
+    time_page(rt, &page, rounds)?;
+    println!(rt; "{}", page.rows.len())?;
     Ok(())
 }
 

@@ -1,6 +1,6 @@
 //! Rows that another program changed: `check` names the first, months and authors are by what is filed, and a question that
 //! meets a row that cannot be read is E15.
-use crate::cases::{TWO, by_nobody};
+use crate::cases::{TWO, WITHDRAWN, by_nobody};
 use crate::listings::are_subjects;
 use archive_desk::{DeskFault, ExportStop, author, export, import, month, threads};
 use archive_results::{Ask, Line, TreeLine};
@@ -316,6 +316,40 @@ fn months_are_by_the_column(rt: HostRuntime) -> Result<(), Fail> {
     ] {
         let lines = month_of(rt.alloc(), &mut store, &ask, text)??;
         are_subjects(&rt, &lines, wanted)?;
+    }
+    Ok(())
+}
+
+/// What is set in the row of the second message, which is withdrawn too, and the lines of its month and of its author: where the
+/// policy withholds a message its text is not read, so one that cannot be read is in the way only by its marks.
+const WITHHELD: [(&str, Shown, Shown); 5] = [
+    ("key = 'two'", Some(&[b"one"]), Some(&[])),
+    ("sender = x'0a'", Some(&[b"one"]), Some(&[])),
+    (
+        "text = x'0a46726f6d2061406220547565204d61722020342031303a30303a303020323030330a'",
+        Some(&[b"one"]),
+        Some(&[]),
+    ),
+    ("embargo = -25567", Some(&[b"one"]), Some(&[])),
+    ("arrival = 9223372036854775807", None, None),
+];
+
+#[test]
+fn what_is_withheld_is_not_read(rt: HostRuntime) -> Result<(), Fail> {
+    let policy = Policy::read(rt.alloc(), WITHDRAWN)?;
+    let ask = by_nobody(&policy)?;
+    for (set, march, by_bob) in WITHHELD {
+        let statement = format!(in rt.alloc();
+            "UPDATE message SET withdrawn = 2, {set} WHERE pos = 2"
+        )?;
+        let mut store = changed(rt.alloc(), THREE, statement.as_str())?;
+        are_lines(
+            &rt,
+            month_of(rt.alloc(), &mut store, &ask, "2003-03")?,
+            march,
+        )?;
+        let lines = author(&mut store, rt.alloc(), &ask, b"bob@example.org");
+        are_lines(&rt, lines, by_bob)?;
     }
     Ok(())
 }

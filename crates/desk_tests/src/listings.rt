@@ -2,10 +2,10 @@
 use crate::cases::{TWO, WITHDRAWN, by_nobody, day};
 use archive_desk::{DeskFault, author, import, month, thread, threads};
 use archive_results::{Ask, Line, Reader, TreeLine};
-use archive_store::{Key, Party, Store};
+use archive_store::{Key, Store};
 use civil_time::Month;
 use mbox_core::cut;
-use policy_core::Policy;
+use policy_core::{Party, Policy};
 use sqlite::Alter;
 use std::alloc::Global;
 use std::process::Abort;

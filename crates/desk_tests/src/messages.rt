@@ -2,10 +2,10 @@
 use crate::cases::{TWO, WITHDRAWN, day};
 use archive_desk::{DeskFault, import, message, view};
 use archive_results::{Ask, Asked, Reader};
-use archive_store::{Key, Kind, Party, Store};
+use archive_store::{Key, Store};
 use civil_time::Day;
 use mbox_core::{Item, cut};
-use policy_core::Policy;
+use policy_core::{Kind, Party, Policy};
 use sqlite::Alter;
 use std::alloc::Global;
 use std::process::Abort;

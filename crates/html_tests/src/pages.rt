@@ -1,10 +1,7 @@
 //! Pages byte for byte.
-use archive_html::{
-    author_page, lists_page, month_page, placed_thread_page, placed_threads_page, thread_page,
-    threads_page,
-};
+use archive_html::{author_page, lists_page, month_page, placed_thread_page, placed_threads_page};
 use archive_machine::Key;
-use archive_results::{Line, TreeLine};
+use archive_results::Line;
 use civil_time::{Instant, Month};
 use std::alloc::Global;
 use std::test::Fail;
@@ -155,44 +152,6 @@ fn lines_of(alloc: Global, rows: &[Row]) -> Result<Vec<Line>, Fail> {
     Ok(lines)
 }
 
-fn tree_of(alloc: Global, rows: &[Row]) -> Result<Vec<TreeLine>, Fail> {
-    let mut tree = Vec::new(alloc);
-    for (depth, message) in rows {
-        let line = match message {
-            Some((key, second, author, subject)) => {
-                Some(line_of(alloc, key, *second, author, subject)?)
-            }
-            None => None,
-        };
-        tree.push(TreeLine {
-            depth: *depth,
-            line,
-        })?;
-    }
-    Ok(tree)
-}
-
-fn page_of(alloc: Global, ask: Ask, rows: &[Row]) -> Result<Vec<u8>, Fail> {
-    Ok(match ask {
-        Ask::Month(text) => {
-            let month = Month::read(text).ok_or("a month")?;
-            month_page(alloc, "soc", month, &lines_of(alloc, rows)?)?
-        }
-        Ask::Author(key) => author_page(alloc, "soc", key, &lines_of(alloc, rows)?)?,
-        Ask::Threads => threads_page(alloc, "soc", &tree_of(alloc, rows)?)?,
-        Ask::Thread => thread_page(alloc, "soc", &tree_of(alloc, rows)?)?,
-    })
-}
-
-#[test]
-fn pages_of_a_list_are_these_bytes(rt: HostRuntime) -> Result<(), Fail> {
-    for (number, (ask, rows, page)) in PAGES.iter().enumerate() {
-        let made = page_of(rt.alloc(), *ask, rows)?;
-        assert!(rt; made.as_slice() == *page, "page {number}");
-    }
-    Ok(())
-}
-
 /// The lines of rows, and the rows with the places of their lines.
 #[derive(Drop)]
 struct Placed {
@@ -222,28 +181,27 @@ fn placed_of(alloc: Global, rows: &[Row], missing: Option<usize>) -> Result<Plac
     })
 }
 
-/// The page of threads from lines that stand apart, and none of another page.
-fn placed_page_of(
-    alloc: Global,
-    ask: Ask,
-    rows: &[Row],
-    missing: Option<usize>,
-) -> Result<Option<Vec<u8>>, Fail> {
+/// The page that is asked for, of these rows.
+fn page_of(alloc: Global, ask: Ask, rows: &[Row], missing: Option<usize>) -> Result<Vec<u8>, Fail> {
+    let lines = lines_of(alloc, rows)?;
     let placed = placed_of(alloc, rows, missing)?;
     Ok(match ask {
-        Ask::Threads => Some(placed_threads_page(alloc, "soc", &placed.lines, &placed.rows)?),
-        Ask::Thread => Some(placed_thread_page(alloc, "soc", &placed.lines, &placed.rows)?),
-        Ask::Month(_) | Ask::Author(_) => None,
+        Ask::Month(text) => {
+            let month = Month::read(text).ok_or("a month")?;
+            month_page(alloc, "soc", month, &lines)?
+        }
+        Ask::Author(key) => author_page(alloc, "soc", key, &lines)?,
+        Ask::Threads => placed_threads_page(alloc, "soc", &placed.lines, &placed.rows)?,
+        Ask::Thread => placed_thread_page(alloc, "soc", &placed.lines, &placed.rows)?,
     })
 }
 
 #[test]
-fn pages_from_lines_apart_are_these_bytes(rt: HostRuntime) -> Result<(), Fail> {
+fn pages_of_a_list_are_these_bytes(rt: HostRuntime) -> Result<(), Fail> {
     for (number, (ask, rows, page)) in PAGES.iter().enumerate() {
         for missing in [None, Some(1000)] {
-            if let Some(made) = placed_page_of(rt.alloc(), *ask, rows, missing)? {
-                assert!(rt; made.as_slice() == *page, "page {number}");
-            }
+            let made = page_of(rt.alloc(), *ask, rows, missing)?;
+            assert!(rt; made.as_slice() == *page, "page {number}");
         }
     }
     Ok(())
@@ -287,17 +245,18 @@ fn lists_are_linked_by_name(rt: HostRuntime) -> Result<(), Fail> {
     Ok(())
 }
 
-/// A tree of so many messages, each one deeper than the one before.
-fn deep_tree(alloc: Global, count: usize) -> Result<Vec<TreeLine>, Fail> {
-    let mut tree = Vec::new(alloc);
+/// So many messages, each one deeper than the one before.
+fn deep_rows(alloc: Global, count: usize) -> Result<Placed, Fail> {
+    let mut lines = Vec::new(alloc);
+    let mut rows = Vec::new(alloc);
     for depth in 0..count {
-        let line = line_of(alloc, K1, 0, b"a", b"b")?;
-        tree.push(TreeLine {
+        lines.push(line_of(alloc, K1, 0, b"a", b"b")?)?;
+        rows.push(PlacedRow {
             depth,
-            line: Some(line),
+            place: Some(depth),
         })?;
     }
-    Ok(tree)
+    Ok(Placed { lines, rows })
 }
 
 /// How many times this stands between quotes in a page.
@@ -318,7 +277,8 @@ static CLASSES: [(&[u8], usize); 5] = [
 
 #[test]
 fn rows_deeper_than_twenty_have_one_class(rt: HostRuntime) -> Result<(), Fail> {
-    let page = thread_page(rt.alloc(), "soc", &deep_tree(rt.alloc(), 500)?)?;
+    let deep = deep_rows(rt.alloc(), 500)?;
+    let page = placed_thread_page(rt.alloc(), "soc", &deep.lines, &deep.rows)?;
     for (class, count) in &CLASSES {
         assert_eq!(rt; count_quoted(&page, class), *count);
     }

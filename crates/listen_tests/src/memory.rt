@@ -49,7 +49,7 @@ const ENDS: Peer = Peer::Says {
     writes: 1000,
 };
 
-/// Gives these peers, and then no more. What each of them got is kept, with `+` behind it where its connection lingered.
+/// Gives these peers, and then no more. What each of them got is kept, with `+` behind it where its reply broke off.
 #[derive(Drop)]
 struct Peers<'a> {
     alloc: Global,
@@ -88,12 +88,12 @@ impl<'a> Listener for Peers<'a> {
         })
     }
 
-    fn close(&mut self, connection: Connection<Tap, Gathered<Tap, ROOM>>, lingers: bool)
+    fn close(&mut self, connection: Connection<Tap, Gathered<Tap, ROOM>>, breaks_off: bool)
         ensures closes { ⊤ }
     {
         let output = connection.output.into_inner();
         let _ = self.got.extend_from_slice(output.bytes());
-        if lingers {
+        if breaks_off {
             let _ = self.got.push(b'+');
         }
     }
@@ -126,7 +126,7 @@ const CASES: [Case; 7] = [
         outcome: Ok(()),
         answered: 3,
         found: 2,
-        got: b"200 yes\n404 no\n+200 yes\n",
+        got: b"200 yes\n404 no\n200 yes\n",
         told: b"",
     },
     Case {
@@ -156,7 +156,7 @@ const CASES: [Case; 7] = [
         outcome: Ok(()),
         answered: 2,
         found: 2,
-        got: b"200 y200 yes\n",
+        got: b"200 y+200 yes\n",
         told: b"archive: S1 Read\narchive: S2 Write\n",
     },
     Case {
@@ -165,7 +165,7 @@ const CASES: [Case; 7] = [
         outcome: Ok(()),
         answered: 2,
         found: 1,
-        got: b"200 yes\n",
+        got: b"+200 yes\n",
         told: b"archive: S3 Broken\n",
     },
     Case {
@@ -174,7 +174,7 @@ const CASES: [Case; 7] = [
         outcome: Ok(()),
         answered: 2,
         found: 1,
-        got: b"404 no\n+200 yes\n",
+        got: b"404 no\n200 yes\n",
         told: b"",
     },
     Case {

@@ -12,7 +12,7 @@ use std::process::Abort;
 use std::test::Fail;
 use thread_core::PlainThreader;
 
-/// A peer that fails is told in this line and gets this much, and the next one gets its page.
+/// A peer that fails is told in this line and gets this much, with `+` where its reply broke off, and the next one gets its page.
 fn is_followed<S: Alter>(
     rt: &impl Abort,
     alloc: Global,
@@ -53,14 +53,8 @@ fn all_fail<S: Alter>(rt: &impl Abort, alloc: Global, store: &mut Store<S>) -> R
             reads: ALL,
             writes,
         };
-        is_followed(
-            rt,
-            alloc,
-            store,
-            peer,
-            &LISTS[..writes],
-            b"archive: S2 Write\n",
-        )?;
+        let got = joined(alloc, &[&LISTS[..writes], b"+"])?;
+        is_followed(rt, alloc, store, peer, &got, b"archive: S2 Write\n")?;
     }
     Ok(())
 }

@@ -1,22 +1,40 @@
-//! Threads that are asked for again and again, out of what is kept.
-use crate::cases::today;
+//! Threads, months and authors that are asked for again and again, out of what is kept.
+use crate::cases::{TWO, today};
 use crate::links::{
     FIRST, PAGES, POLICY, Past, WITHDRAWN, fill, first_key, reply, request_for, thread_path,
 };
+use archive_desk::import;
 use archive_kept::Kept;
 use archive_pages::{Pages, answer_kept};
 use archive_requests::Routes;
 use archive_store::Store;
 use desk_tests::noting::Noting;
 use mbox_core::device::Tap;
-use policy_core::Policy;
-use sqlite::Alter;
+use policy_core::{Party, Policy};
+use sqlite::{Alter, MemStore};
 use std::alloc::Global;
 use std::process::Abort;
 use std::test::Fail;
 use thread_core::{PlainThreader, Threader};
 
-/// The threads of two lists and of one that is not there, and those of a message and of one that not everybody is shown.
+/// Months and authors: of messages that all are shown, that some are shown, and that nobody is; of a list that is not there; and a
+/// month that is none.
+const LISTED: [&[u8]; 11] = [
+    b"/l/soc/month/2003-03",
+    b"/l/soc/month/2003-02",
+    b"/l/soc/month/1999-12",
+    b"/l/other/month/2003-03",
+    b"/l/none/month/2003-03",
+    b"/l/soc/month/2003-13",
+    b"/l/soc/by/anna%40example.org",
+    b"/l/soc/by/eve%40example.org",
+    b"/l/soc/by/nobody%40example.org",
+    b"/l/other/by/anna%40example.org",
+    b"/l/none/by/anna%40example.org",
+];
+
+/// The threads of two lists and of one that is not there, those of a message and of one that not everybody is shown, and months and
+/// authors.
 fn paths(alloc: Global) -> Result<Vec<Vec<u8>>, Fail> {
     let mut paths = Vec::new(alloc);
     paths.push(b"/l/soc/threads".to_vec(alloc)?)?;
@@ -24,6 +42,9 @@ fn paths(alloc: Global) -> Result<Vec<Vec<u8>>, Fail> {
     paths.push(b"/l/none/threads".to_vec(alloc)?)?;
     paths.push(thread_path(alloc, &first_key(FIRST)?)?)?;
     paths.push(thread_path(alloc, &first_key(WITHDRAWN)?)?)?;
+    for path in LISTED {
+        paths.push(path.to_vec(alloc)?)?;
+    }
     Ok(paths)
 }
 
@@ -100,4 +121,133 @@ pub fn keeping<S: Alter>(rt: &impl Abort, alloc: Global, store: &mut Store<S>) -
     fill(alloc, store, Past::Withdrawn)?;
     asks_twice(rt, alloc, store, 1 << 20, Some(Routes::new(alloc)?), 5)?;
     asks_twice(rt, alloc, store, 0, None, 24)
+}
+
+const THREADS: &[u8] = b"/l/soc/threads";
+
+const MARCH: &[u8] = b"/l/soc/month/2003-03";
+
+const APRIL: &[u8] = b"/l/soc/month/2003-04";
+
+const ANNA: &[u8] = b"/l/soc/by/anna%40example.org";
+
+/// Two whole lists, months or authors have room in it, and three have not.
+const ROOM_FOR_TWO: usize = 3 * 16_384;
+
+const ROOM_FOR_THREE: usize = 4 * 16_384;
+
+/// What is asked for, and whether the reply is the one of before a change of which what is kept knows nothing, so that no message
+/// was read for it.
+type Step = (&'static [u8], bool);
+
+/// Each is read once.
+const KEPT: [Step; 3] = [(ANNA, true), (MARCH, true), (THREADS, true)];
+
+/// A month that comes now lets the month go, and the list stays; the month then lets the one before it go.
+const MONTH_GONE: [Step; 4] = [
+    (APRIL, false),
+    (THREADS, true),
+    (MARCH, false),
+    (THREADS, true),
+];
+
+/// An author who comes now lets the oldest of a month and an author go, and not the list, which is older.
+const OLDEST_GONE: [Step; 4] = [
+    (b"/l/soc/by/nobody%40example.org", false),
+    (ANNA, true),
+    (THREADS, true),
+    (MARCH, false),
+];
+
+/// The list of two messages, one of which is withdrawn behind the back of what is kept, once these were asked for: then each step's
+/// reply is the one of before, or the one of now.
+fn steps(
+    rt: &impl Abort,
+    alloc: Global,
+    most: usize,
+    before: &[&[u8]],
+    steps: &[Step],
+) -> Result<(), Fail> {
+    let policy = Policy::read(alloc, POLICY)?;
+    let mut store = Store::open_in_memory(alloc)?;
+    store.list_add("soc")?;
+    import(&mut store, alloc, "soc", TWO)?;
+    let mut pages = Pages::new(alloc, &policy, &PlainThreader, today()?, most);
+    for path in before {
+        kept_reply(&mut store, &mut pages, None, path)?;
+    }
+    let mut old = Vec::new(alloc);
+    for (path, _kept) in steps {
+        old.push(reply(alloc, &mut store, &policy, &PlainThreader, None, path)?)?;
+    }
+    store.withdraw("soc", &first_key(TWO)?, Party::Author)?;
+    for ((path, kept), old) in steps.iter().zip(old.iter()) {
+        let new = reply(alloc, &mut store, &policy, &PlainThreader, None, path)?;
+        let got = kept_reply(&mut store, &mut pages, None, path)?;
+        let wanted = if *kept { old } else { &new };
+        assert!(rt; got.bytes() == wanted.bytes());
+        assert!(rt; !*kept || old.bytes() != new.bytes());
+    }
+    Ok(())
+}
+
+/// What was asked for once is read no second time; where there is no room, months and authors are let go before lists, and the
+/// oldest of them first; and where nothing has room, the last alone stays.
+#[test]
+fn what_is_kept_is_let_go_in_order(rt: HostRuntime) -> Result<(), Fail> {
+    let alloc = rt.alloc();
+    steps(&rt, alloc, 1 << 20, &[MARCH, THREADS, ANNA], &KEPT)?;
+    steps(&rt, alloc, ROOM_FOR_TWO, &[MARCH, THREADS], &MONTH_GONE)?;
+    steps(
+        &rt,
+        alloc,
+        ROOM_FOR_THREE,
+        &[THREADS, MARCH, ANNA],
+        &OLDEST_GONE,
+    )?;
+    steps(
+        &rt,
+        alloc,
+        0,
+        &[THREADS, MARCH],
+        &[(MARCH, true), (THREADS, false)],
+    )
+}
+
+/// Another program filed the second message under another month, author and sent date.
+fn filed_otherwise(alloc: Global) -> Result<Store<MemStore>, Fail> {
+    let mut store = Store::open_in_memory(alloc)?;
+    store.list_add("soc")?;
+    import(&mut store, alloc, "soc", TWO)?;
+    let mut connection = store.into_connection();
+    connection.execute(
+        "UPDATE message SET sent = 1046700000, month = 24039, author = x'616e6e61406578616d706c652e6f7267' WHERE pos = 2",
+        &[],
+    )?;
+    match Store::adopt(connection) {
+        Ok(store) => Ok(store),
+        Err(_stop) => Err(Fail::from("a store")),
+    }
+}
+
+/// The replies are those of `answer` all the same, which goes by what is filed: the author's two messages, the second first.
+#[test]
+fn what_is_kept_goes_by_what_is_filed(rt: HostRuntime) -> Result<(), Fail> {
+    let alloc = rt.alloc();
+    let mut store = filed_otherwise(alloc)?;
+    let policy = Policy::open();
+    let mut pages = Pages::new(alloc, &policy, &PlainThreader, today()?, 1 << 20);
+    for _ in 0..2 {
+        for (path, rows) in [(MARCH, 1), (APRIL, 1), (ANNA, 2)] {
+            let wanted = reply(alloc, &mut store, &policy, &PlainThreader, None, path)?;
+            let got = kept_reply(&mut store, &mut pages, None, path)?;
+            assert!(rt; got.bytes() == wanted.bytes());
+            let links = got.bytes().split(|byte| *byte == b'"');
+            assert_eq!(rt;
+                links.filter(|link| link.starts_with(b"/l/soc/m/")).count(),
+                rows
+            );
+        }
+    }
+    Ok(())
 }

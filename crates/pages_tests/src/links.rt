@@ -2,12 +2,12 @@
 use crate::cases::today;
 use archive_desk::import;
 use archive_pages::answer;
-use archive_store::{Key, Kind, Party, Store};
+use archive_store::{Key, Store};
 use civil_time::Day;
 use desk_tests::noting::Noting;
 use mbox_core::cut;
 use mbox_core::device::Tap;
-use policy_core::Policy;
+use policy_core::{Kind, Party, Policy};
 use sqlite::Alter;
 use std::alloc::Global;
 use std::process::Abort;

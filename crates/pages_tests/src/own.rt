@@ -3,9 +3,9 @@
 use crate::cases::{TWO, gets};
 use crate::pages::{DENIED, OF_SECOND, OF_TWO, WITHDRAWN};
 use archive_desk::import;
-use archive_store::{Key, Party, Store};
+use archive_store::{Key, Store};
 use mbox_core::cut;
-use policy_core::Policy;
+use policy_core::{Party, Policy};
 use sqlite::Alter;
 use std::alloc::Global;
 use std::process::Abort;

@@ -2,9 +2,9 @@
 use crate::cases::{SECOND, TWO, gets, today};
 use crate::requests::NOT_FOUND;
 use archive_desk::import;
-use archive_store::{Key, Kind, Party, Store};
+use archive_store::{Key, Store};
 use mbox_core::cut;
-use policy_core::Policy;
+use policy_core::{Kind, Party, Policy};
 use sqlite::Alter;
 use std::alloc::Global;
 use std::process::Abort;

@@ -73,12 +73,12 @@ impl<'a> Listener for Peers<'a> {
         })
     }
 
-    fn close(&mut self, connection: Connection<Tap, Gathered<Tap, ROOM>>, lingers: bool)
+    fn close(&mut self, connection: Connection<Tap, Gathered<Tap, ROOM>>, breaks_off: bool)
         ensures closes { ⊤ }
     {
         let output = connection.output.into_inner();
         let _ = self.got.extend_from_slice(output.bytes());
-        if lingers {
+        if breaks_off {
             let _ = self.got.push(b'+');
         }
     }

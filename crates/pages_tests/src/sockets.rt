@@ -16,7 +16,7 @@ use thread_core::PlainThreader;
 /// A peer connects and asks, is answered, and reads its page to the end: what came.
 fn asks<S: Alter>(rt: &HostRuntime, alloc: Global, store: &mut Store<S>) -> Result<Vec<u8>, Fail> {
     fill(alloc, store)?;
-    let mut listener = Loopback::bind(rt, 0).map_err(|_| "no port")?;
+    let mut listener = Loopback::bind(rt, alloc, 0).map_err(|_| "no port")?;
     let port = listener.port().map_err(|_| "no port")?;
     let mut peer = TcpStream::connect(rt, (Ipv4Addr::LOCALHOST, port))?;
     peer.write_all(GET)?;

@@ -1,11 +1,11 @@
 //! Calls on texts and on entries.
 use crate::{Mark, said, tell};
 use anyhow::bail;
-use archive_run::{SiftFault, SiftWords, sift};
 use civil_time::{Day, Instant};
 use mail_core::{Memory, MsgId, Octets, ids};
 use mbox_core::device::Tap;
 use policy_core::{Policy, PolicyFault, Standing};
+use sift_run::{SiftFault, SiftWords, sift};
 use std::alloc::{AllocError, Global};
 use std::hash::RandomState;
 use subject_core::base;

@@ -6,9 +6,10 @@ use crate::short_files::ShortFiles;
 use archive_listen::{
     AcceptFault, Connection, Gathered, ListenFault, Listener, Listening, Ports, ROOM,
 };
-use archive_run::{DayClock, System, Threaders};
+use archive_run::{System, Threaders};
 use civil_time::Day;
 use mbox_core::device::Tap;
+use sift_run::DayClock;
 use sqlite::FileStore;
 use sqlite_disk::Memory;
 use std::alloc::AllocGlobal;
@@ -55,11 +56,11 @@ impl Listener for NoListener {
         Err(AcceptFault::Listener)
     }
 
-    fn close(&mut self, connection: Connection<Tap, Gathered<Tap, ROOM>>, lingers: bool)
+    fn close(&mut self, connection: Connection<Tap, Gathered<Tap, ROOM>>, breaks_off: bool)
         ensures closes { ⊤ }
     {
         let _connection = connection;
-        let _lingers = lingers;
+        let _breaks_off = breaks_off;
     }
 }
 

@@ -23,12 +23,13 @@ mod short_files;
 
 use anyhow::{Context, bail};
 use archive_listen::{Gathered, Outgoing};
-use archive_run::{SystemFiles, World, run};
+use archive_run::{World, run};
 use civil_time::Day;
 use devices::{NoPorts, NoThreaders, Stand, Still};
 use mbox_core::device::{Counted, Tap, read_all, write_bytes};
 use shelf::Shelf;
 use short_files::ShortFiles;
+use sift_run::SystemFiles;
 use std::alloc::{AllocError, AllocGlobal, Global};
 use std::rt::Files;
 use std::{fs, io, mem};

@@ -1,6 +1,6 @@
 //! Files of a system whose inputs fail after so many bytes.
-use archive_run::{FileFault, OpenFiles, ReadFiles, SystemFiles};
 use mbox_core::device::{Counted, Source};
+use sift_run::{FileFault, OpenFiles, ReadFiles, SystemFiles};
 use std::alloc::{AllocGlobal, Global};
 use std::io::{self, ErrorKind, Read};
 use std::rt::Files;

@@ -4,10 +4,11 @@ ghost use Rattle.std.specs.Prelude.{⊤};
 use archive_listen::{
     AcceptFault, Connection, Gathered, ListenFault, Listener, Listening, Ports, ROOM,
 };
-use archive_run::{Databases, DayClock, FileFault, OpenFiles, ReadFiles, System, Threaders};
+use archive_run::{Databases, System, Threaders};
 use archive_store::{Store, StoreFault};
 use civil_time::Day;
 use mbox_core::device::Tap;
+use sift_run::{DayClock, FileFault, OpenFiles, ReadFiles};
 use sqlite::MemStore;
 use std::alloc::Global;
 use thread_core::NodeThreader;
@@ -185,11 +186,11 @@ impl Listener for Peers {
         })
     }
 
-    fn close(&mut self, connection: Connection<Tap, Gathered<Tap, ROOM>>, lingers: bool)
+    fn close(&mut self, connection: Connection<Tap, Gathered<Tap, ROOM>>, breaks_off: bool)
         ensures closes { ⊤ }
     {
         let _connection = connection;
-        let _lingers = lingers;
+        let _breaks_off = breaks_off;
     }
 }
 

@@ -1,10 +1,10 @@
 //! What each command answers.
 use crate::questions::{are_names, day, item};
 use archive_store::limits::add_limited;
-use archive_store::{Added, Command, Key, Kind, Outcome, Party, Store, StoreFault};
+use archive_store::{Added, Command, Key, Outcome, Store, StoreFault};
 use civil_time::Day;
 use mbox_core::Item;
-use policy_core::Withdrawn;
+use policy_core::{Kind, Party, Withdrawn};
 use sqlite::Alter;
 use std::alloc::Global;
 use std::process::Abort;

@@ -1,8 +1,9 @@
 //! What is filed of messages: commands keep it right, and questions go by it, also where another program changed it.
 use crate::questions::{day, item};
-use archive_store::{Added, Key, Message, Party, Store, StoreFault};
+use archive_store::{Added, Key, Message, Store, StoreFault};
 use civil_time::Month;
 use mbox_core::Item;
+use policy_core::Party;
 use sqlite::{Alter, Connection, MemStore, params};
 use std::alloc::Global;
 use std::process::Abort;

@@ -1,11 +1,9 @@
 //! What each question answers.
 use crate::commands::{TOKEN, add, embargo, run, withdraw};
-use archive_store::{
-    Added, Command, Key, Kind, Message, Outcome, Party, Store, StoreFault, key_of,
-};
+use archive_store::{Added, Command, Key, Message, Outcome, Store, StoreFault, key_of};
 use civil_time::{Day, Instant};
 use mbox_core::{Envelope, Item, Sender};
-use policy_core::{Standing, Withdrawn};
+use policy_core::{Kind, Party, Standing, Withdrawn};
 use sqlite::Alter;
 use std::alloc::Global;
 use std::process::Abort;
@@ -137,6 +135,7 @@ pub fn is_as_filled<S: Alter>(
     messages_by_key(rt, store)?;
     a_walk_that_is_dropped(rt, alloc, store)?;
     a_walk_to_the_end(rt, alloc, store, &rows)?;
+    a_walk_that_passes_by(rt, alloc, store, &rows)?;
     assert_eq!(rt; store.list_add("soc"), Err(StoreFault::ListExists));
     Ok(())
 }
@@ -172,6 +171,36 @@ fn a_walk_to_the_end<S: Alter>(
     for _ in 0..2 {
         assert!(rt; walk.next()?.is_none());
     }
+    Ok(())
+}
+
+/// A walk tells of a message when it came and its marks, and passes it by.
+fn a_walk_that_passes_by<S: Alter>(
+    rt: &impl Abort,
+    alloc: Global,
+    store: &mut Store<S>,
+    rows: &[Message],
+) -> Result<(), Fail> {
+    let mut walk = store.each_row(alloc, "soc")?;
+    for row in rows.iter() {
+        for _ in 0..2 {
+            let marks = walk.next_marks()?.ok_or("marks")?;
+            assert_eq!(rt; marks.arrival, row.item.arrival());
+            assert_eq!(rt;
+                (marks.withdrawn, marks.embargo_until),
+                (row.withdrawn, row.embargo_until)
+            );
+        }
+        walk.pass();
+    }
+    walk.pass();
+    assert_eq!(rt; walk.left(), 0);
+    assert!(rt; walk.next_marks()?.is_none() && walk.next()?.is_none());
+    drop(walk);
+    let mut walk = store.each_row(alloc, "soc")?;
+    walk.pass();
+    let second = walk.next()?.ok_or("a message")?;
+    assert!(rt; rows.get(1).is_some_and(|row| second.key == row.key));
     Ok(())
 }
 

@@ -1,0 +1,18 @@
+//! Laws of the sample policies: each contract is a law over their texts, and no call does anything.
+ghost use Rattle.std.specs.Prelude.{◌≡◌, ◌≢◌, ℕ, ℤ, int_lt, true, List, Ok};
+ghost use Rattle.policy_core.specs.declared.access.Standing.TheVariants.{Moderator};
+ghost use Rattle.policy_core.specs.Written.{written_policy};
+ghost use Rattle.archive_results.specs.Access.{Ask, ReaderMarks};
+ghost use Rattle.archive_results.specs.Promise.{DeniesWithdrawn, DeniesHeldBack};
+ghost use Rattle.example_policies.specs.Samples.{HidesFromAllButModerators, members_text, seeds_text};
+
+/// Under each sample policy a message that was withdrawn, or is held back on the day, is denied to everybody but the moderators of
+/// its list, also to whoever wrote it. So what is promised of withdrawn messages, and of those held back, is promised to all of them.
+pub fn the_sample_policies_hide_what_is_withheld()
+    ensures seeds { HidesFromAllButModerators seeds_text }
+    ensures members { HidesFromAllButModerators members_text }
+    ensures promised { (text : List ℕ) (ask : Ask) (reader : ReaderMarks) → HidesFromAllButModerators text
+        → written_policy text ≡ Ok ask.rules → reader.standing ≢ Moderator → DeniesWithdrawn ask reader }
+    ensures held_back { (text : List ℕ) (ask : Ask) (reader : ReaderMarks) (until : ℤ) → HidesFromAllButModerators text
+        → written_policy text ≡ Ok ask.rules → reader.standing ≢ Moderator → int_lt ask.day until ≡ true → DeniesHeldBack until ask reader }
+{}
