@@ -1,107 +1,224 @@
 #!/usr/bin/env python3
-"""Compares docs/DEFINITIONS.md with the sources, and says what does not agree. Status 1 where something does not.
+"""Compares docs/DEFINITIONS.md and docs/BELIEVE.md with the sources, and says what does not agree. Status 1 where something does not.
 
-  - A definition that a contract of a public function cites stands in no line of the page. It goes by names: a definition is cited
-    where a clause of a `pub fn` has a name that the file imports from a crate's specs.
-  - A line of the page names a module that the crate's specs have not, or a definition that the module does not make, or one that
-    another line of the module names.
+  definitions.py             compares
+  definitions.py --write     makes DEFINITIONS.md anew, and the numbers of BELIEVE.md
+  definitions.py --headline  prints all that the headline is made of: its clause, each definition by file and line, what it is made of that
+                             is declared in the code or by the toolchain, and then what its laws add
+
+  - DEFINITIONS.md lists the definitions that contracts of public functions cite, each with the comment above it, and is made here. It
+    goes by names: a definition is cited where a clause of a `pub fn` has a name that the file imports from a crate's specs.
+  - BELIEVE.md leads through what the headline is made of, by crate and module, and in its last row through what its laws add. A module
+    stands in no row, in two, or in a wrong one; a number of lines, or the sum in the text, is another; or the page does not name
+    something that is declared in the code, or by a crate of the toolchain but its std.
 """
-import collections, pathlib, re, sys
+import re, sys
 
-ROOT = pathlib.Path(__file__).resolve().parent.parent
-CRATES = ROOT / "crates"
-OWN = {it.name for it in CRATES.iterdir()}
-IMPORT = re.compile(r"^\s*ghost use Rattle\.(\w+)\.specs\.([\w.]+)\.\{([^}]*)\};", re.M)
-HEADER = re.compile(r"^\s*pub fn (\w+).*?^\s*\{", re.M | re.S)
-MADE = re.compile(r"^\s*(?:(?:abbrev|unfoldable|pub|record|data|def|inductive)\s+)*([^\s:]+)", re.M)
-SECTION, QUOTED = re.compile(r"## (\w+)"), re.compile(r"`([^`\s]+)`")
+import part, specs
 
+PAGE, BELIEVE = specs.ROOT / "docs" / "DEFINITIONS.md", specs.ROOT / "docs" / "BELIEVE.md"
+HEADER = re.compile(r'^\s*pub (?:extern "C" )?fn (\w+).*?^\s*\{', re.M | re.S)
+CLAUSE = re.compile(r"\b(?:requires|ensures)\b.*?(?=\b(?:requires|ensures)\b|\Z)", re.S)
+# What the page is about: a clause of one call, and laws, by file, function and clause.
+HEADLINE = (("archive_pages/src/running.rt", "run_and_answer_in_memory", "answered"),)
+LAWS = tuple(("archive_pages/src/laws.rt", it, "") for it in (
+    "what_is_allowed_is_served", "what_is_denied_is_denied_by_its_rule", "results_are_of_what_is_allowed", "what_is_withdrawn_might_never_have_come")) + (
+    ("archive_pages/src/laws.rt", "what_is_withheld_leaves_no_trace", "always"),)
+# How what the headline's call is given is read: the models of its types, by file and type.
+MODELS = (("policy_core/src/rules.rt", "Policy"), ("policy_core/src/rules.rt", "Rule"), ("civil_time/src/days.rt", "Day"), ("civil_time/src/instants.rt", "Instant"),
+    ("archive_machine/src/keys.rt", "Key"), ("mbox_items/src/items.rt", "Item"), ("mbox_items/src/separators.rt", "Envelope"))
+HEAD = """# Definitions
 
-def imports(text):
-    """Returns the crate and module, and the name there, of each name that a file imports from the specs of a crate of the repository."""
-    found = {}
-    for crate, module, names in IMPORT.findall(text):
-        if crate in OWN and not module.startswith(("declared.", "contracts.")):
-            found.update({name.split(" as ")[-1].strip(): (f"{crate}::{module}", name.split(" as ")[0].strip()) for name in names.split(",")})
-    return found
+The definitions that contracts of public functions cite, each with the comment above it; what these are made of stands beside them in the same modules. A module is `crates/CRATE/specs/MODULE.antt`. The headline is made of those with a star and of more that no contract cites; its laws add those with a plus. [BELIEVE.md](BELIEVE.md) leads through all of them, and `tools/definitions.py --headline` lists them. *Profile* in a comment means that the rule is this project's, where a standard leaves room or is silent.
+
+This page is made by `tools/definitions.py --write`; `./check` compares it with the sources.
+"""
+QUOTED, BRACKETS = re.compile(r"`([^`]+)`"), re.compile(r"\([^)]*\)")
 
 
 def clauses(header):
-    """Returns the text of the clauses of a function's header."""
-    return " ".join(re.findall(r"\b(?:requires|ensures)\b.*?(?=\b(?:requires|ensures)\b|\Z)", header, re.S))
+    """Returns the text of each clause of a function's header."""
+    return CLAUSE.findall(header)
 
 
-def cited():
-    """Returns the names that public clauses cite, by crate and module."""
-    found = collections.defaultdict(set)
-    for file in sorted(CRATES.glob("*/src/**/*.rt")):
+def cited(text, clause_texts):
+    """Returns the definitions of this repository that some clauses of a file cite."""
+    words, names = set(specs.WORD.findall(" ".join(clause_texts))), specs.places(text)
+    return {found for it in words & {*names} if (found := specs.origin(*names[it]))}
+
+
+def roots(claims):
+    """Returns the definitions that some clauses cite, each given by file, function and the name of the clause."""
+    found = set()
+    for file, function, name in claims:
+        text = (specs.CRATES / file).read_text(encoding="utf-8")
+        headers = [it[0] for it in HEADER.finditer(text) if it[1] == function]
+        found |= cited(text, [it for header in headers for it in clauses(header) if re.match(rf"ensures {name}\W", it)])
+    return found
+
+
+def views(models):
+    """Returns the definitions by which some models, each given by file and type, read a value."""
+    found = set()
+    for file, name in models:
+        text = (specs.CRATES / file).read_text(encoding="utf-8")
+        for block in re.findall(rf"^impl(?:<[^>]*>)? Model for {name}\b.*?^\}}", text, re.M | re.S):
+            found |= cited(text, re.findall(r"ghost (?:Value|view) = .*", block))
+    return found
+
+
+def headline_definitions():
+    """Returns what the headline is made of."""
+    return specs.with_parts(roots(HEADLINE) | views(MODELS))
+
+
+def public_definitions():
+    """Returns the definitions that contracts of public functions cite."""
+    found = set()
+    for file in sorted(specs.CRATES.glob("*/src/**/*.rt")):
         text = file.read_text(encoding="utf-8")
-        names = imports(text)
-        for header in HEADER.finditer(text):
-            words = set(re.findall(r"[A-Za-z_][\w'-]*", clauses(header[0])))
-            for name in words & set(names):
-                where, own = names[name]
-                found[where].add(own)
+        found |= cited(text, [it for header in HEADER.finditer(text) for it in clauses(header[0])])
     return found
 
 
-def lines(page):
-    """Returns the crate, the modules and the names of each line of the page's tables. Where a line names no crate it is the section's."""
-    found, crate = [], None
-    for line in page.splitlines():
-        if section := SECTION.match(line):
-            crate = section[1]
-        cells = [it.strip() for it in line.strip().strip("|").split(" | ")]
-        if line.startswith("| `") and len(cells) > 2:
-            own = re.match(r"`(\w+)`: (.*)", cells[1])
-            found.append((own[1] if own else crate, QUOTED.findall(own[2] if own else cells[1]), QUOTED.findall(cells[0])))
-    return found
+def section(module, names, marks):
+    """Returns the lines of the page for the definitions of a module, in their order, with their marks."""
+    made = specs.modules()[module]
+    lines = [f"### {module[1]}", *([made.head] if made.head else []), ""]
+    for name in (it for it in made.definitions if it in names):
+        lines.append(f"- `{name}`{marks.get((module, name), '')}" + (f": {made.definitions[name].comment}" if made.definitions[name].comment else ""))
+    return [*lines, ""]
 
 
-def named_by_module(page):
-    """Returns the names that the lines of the page's tables name, by crate and module."""
-    found = collections.defaultdict(set)
-    for crate, modules, names in lines(page):
+def made_page(found, marks):
+    """Returns the page of some definitions, by crate, lowest first, and by module."""
+    lines = [HEAD]
+    for crate in part.lines():
+        modules = sorted({module for module, _ in found if module[0] == crate})
+        lines += [f"## {crate}", ""] if modules else []
         for module in modules:
-            found[f"{crate}::{module}"].update(names)
+            lines += section(module, {name for it, name in found if it == module}, marks)
+    return "\n".join(lines)
+
+
+def by_module(found):
+    """Returns how many definitions each module has among these, and how many lines they have."""
+    sizes = {}
+    for module, name in found:
+        count, lines = sizes.get(module, (0, 0))
+        sizes[module] = count + 1, lines + len(specs.modules()[module].definitions[name].lines)
+    return sizes
+
+
+def named(cell):
+    """Returns the modules that a cell of BELIEVE.md names, as `crate`: `Module`, `Module` (`parts`); `crate`: `Module`."""
+    found = []
+    for part in BRACKETS.sub("", cell).split(";"):
+        crate, *names = QUOTED.findall(part) or [""]
+        found += [(crate, it) for it in names]
     return found
 
 
-def made(crate, modules):
-    """Returns the names that some modules of a crate's specs make, or None where one of them is not there."""
-    files = [CRATES / crate / "specs" / f"{it}.antt" for it in modules]
-    if not files or not all(it.is_file() for it in files):
-        return None
-    return {name for it in files for name in MADE.findall(it.read_text(encoding="utf-8"))}
+def rows(page):
+    """Returns the cells of each row of the table of BELIEVE.md."""
+    return [[it.strip() for it in line.strip("|").split(" | ")] for line in page.splitlines() if re.match(r"\| \d+ \|", line)]
 
 
-def faults(page):
-    """Returns what the page lacks, and what it names that is not there."""
-    named, found = named_by_module(page), []
-    anywhere = set().union(*named.values())
-    for where, names in sorted(cited().items()):
-        # (what a module hands on is named where it is made)
-        crate, module = where.split("::")
-        handed_on = anywhere - (made(crate, [module]) or set())
-        if lacking := sorted(names - named[where] - handed_on):
-            found.append(f"{where}: contracts cite {', '.join(lacking)}, which no line names")
-    seen = collections.Counter((crate, *modules, name) for crate, modules, names in lines(page) for name in names)
-    found += [f"{crate}::{', '.join(modules)}: {name} stands in {count} lines" for (crate, *modules, name), count in seen.items() if count > 1]
-    for crate, modules, names in lines(page):
-        there = made(crate, modules)
-        if there is None:
-            found.append(f"{crate}: the specs have no module {', '.join(modules) or '(none is named)'}")
-        elif lacking := sorted({*names} - there):
-            found.append(f"{crate}::{', '.join(modules)} makes no {', '.join(lacking)}")
+def sum_of(sizes):
+    """Returns the sentence that says how large these are."""
+    return (f"{sum(count for count, _ in sizes.values()):,} definitions, {sum(lines for _, lines in sizes.values()):,} lines, "
+            f"in {len(sizes)} modules")
+
+
+def numbered(page, headline, laws):
+    """Returns BELIEVE.md with its numbers as the sources have them: each row's of the headline, and the last row's of what the laws add."""
+    page = re.sub(r"[\d,]+ definitions, [\d,]+ lines, in \d+ modules", sum_of(headline), page, count=1)
+    out, left = [], len(rows(page))
+    for line in page.split("\n"):
+        if re.match(r"\| \d+ \|", line):
+            left -= 1
+            first, cell, _, rest = line.split(" | ", 3)
+            counted = [headline.get(it, (0, 0)) for it in named(cell)] if left else laws.values()
+            line = " | ".join([first, cell, str(sum(lines for _, lines in counted)), rest])
+        out.append(line)
+    return "\n".join(out)
+
+
+def title(crate, module, name):
+    """Returns the name under which BELIEVE.md speaks of what is declared: for a type, its cases and what a trait counts the type or trait."""
+    parts = [it for it in module.split(".") if it != "TheVariants"]
+    return parts[-1] if module.startswith(specs.DECLARED) and parts[-1] != "TheConstants" else name
+
+
+def believe_faults(page, headline, laws, beyond):
+    """Returns what BELIEVE.md lacks, and what it has that is not so."""
+    there, only_laws = [[it for row in part for it in named(row[1])] for part in (rows(page), rows(page)[-1:])]
+    whole, quoted = {*headline, *laws}, set(re.findall(r"\w+", " ".join(QUOTED.findall(page))))
+    found = [f"BELIEVE.md has no row for {crate}::{module}, of which the headline is made" for crate, module in sorted(whole - {*there})]
+    found += [f"BELIEVE.md has {crate}::{module}, of which the headline is not made" for crate, module in sorted({*there} - whole)]
+    found += [f"BELIEVE.md has {crate}::{module} twice" for crate, module in sorted({it for it in there if there.count(it) > 1})]
+    found += [f"BELIEVE.md has {crate}::{module} in a wrong row: the last is of what the laws add" for crate, module in sorted({*there} & whole)
+              if ((crate, module) in only_laws) == ((crate, module) in headline)]
+    found += [f"BELIEVE.md does not name {it}, of which the headline is made" for it in sorted({title(*it) for it in beyond if it[0] != "std"} - quoted)]
+    if not found and numbered(page, headline, laws) != page:
+        found.append("BELIEVE.md has other numbers than the sources (tools/definitions.py --write)")
     return found
 
 
-def main():
-    found = faults((ROOT / "docs" / "DEFINITIONS.md").read_text(encoding="utf-8"))
+def place(crate, module, name):
+    """Returns where something that no file of specs here makes is to be found."""
+    if crate not in specs.own_crates():
+        return f"of the toolchain: {crate}: {module}: {name}"
+    files = [specs.CRATES / crate / "src" / f"{'/'.join(it for it in module.split('.')[1:] if it[:1].islower())}{end}" for end in (".rt", "/mod.rt")]
+    file = next((it for it in files if it.is_file()), specs.CRATES / crate / "src")
+    return f"declared: {file.relative_to(specs.ROOT)}: {title(crate, module, name)}"
+
+
+def listed(found):
+    """Returns a line for each of some definitions, by crate, lowest first, module and line."""
+    order, lines = [*part.lines()], [(module, specs.modules()[module].definitions[name].line, name) for module, name in found]
+    return [f"crates/{module[0]}/specs/{module[1].replace('.', '/')}.antt:{line}: {name}"
+            for module, line, name in sorted(lines, key=lambda it: (order.index(it[0][0]), *it))]
+
+
+def clause_line(file, function, name):
+    """Returns where a clause of a function begins, by file and line."""
+    text = (specs.CRATES / file).read_text(encoding="utf-8")
+    at = re.search(rf"fn {function}\b.*?^ *ensures {name}\b", text, re.M | re.S)
+    return f"crates/{file}:{text[:at.end()].count(chr(10)) + 1}: {function}: {name}"
+
+
+def told(headline, laws):
+    """Returns the lines that say all that the headline is made of, and what its laws add."""
+    declared = specs.beyond(headline)
+    return ["# the headline", *(clause_line(*it) for it in HEADLINE), "# the models by which it reads what it is given",
+            *(f"crates/{file}: {name}" for file, name in MODELS), f"# {sum_of(by_module(headline))}", *listed(headline),
+            "# beyond specs", *sorted({place(*it) for it in declared}), f"# its laws add {sum_of(by_module(laws))}", *listed(laws),
+            *sorted({place(*it) for it in specs.beyond(laws) - declared})]
+
+
+def main(words):
+    if words not in ([], ["--write"], ["--headline"]):
+        sys.exit(__doc__)
+    headline = headline_definitions()
+    laws = specs.with_parts(roots(LAWS)) - headline
+    if words == ["--headline"]:
+        print(*told(headline, laws), sep="\n")
+        return 0
+    marks = {**dict.fromkeys(headline, "*"), **dict.fromkeys(laws, "+")}
+    sizes, added = by_module(headline), by_module(laws)
+    wanted, believe = made_page(public_definitions(), marks), BELIEVE.read_text(encoding="utf-8")
+    if words:
+        PAGE.write_text(wanted, encoding="utf-8")
+        BELIEVE.write_text(numbered(believe, sizes, added), encoding="utf-8")
+        return 0
+    found = believe_faults(believe, sizes, added, specs.beyond(headline | laws))
+    if PAGE.read_text(encoding="utf-8") != wanted:
+        found.append("DEFINITIONS.md is not what the sources say (tools/definitions.py --write)")
     for it in found:
         print(f"definitions: {it}")
     return 1 if found else 0
 
 
 if __name__ == "__main__":
-    sys.exit(main())
+    sys.exit(main(sys.argv[1:]))

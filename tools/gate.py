@@ -8,12 +8,12 @@
   --record   writes tools/refused.txt: of which crates all wrong bodies were refused, over which text
 
 The last line is 'N passed, M failed', as `rt ci` counts, but that a wrong body that cannot be applied has failed; and the
-worked calls under refused growths of memory (refused.py) are one more that passed or failed. Where something failed, the lines
-that say why stand together before it.
+worked calls under refused growths of memory (refused.py) are one more that passed or failed, and so are the callers of the
+library (callers.py). Where something failed, the lines that say why stand together before it.
 """
 import filecmp, re, resource, subprocess, sys, tempfile
 
-import due, part, refused, why
+import callers, due, part, refused, why
 
 COUNT = re.compile(r"(\d+) passed, (\d+) failed")
 EDIT = re.compile(r"rt: must-fail (\w+)/(\S+\.edit): (refused, as it must be.*|[A-Z]+.*)")
@@ -80,6 +80,15 @@ def rows_hold(top):
     return not wrong
 
 
+def callers_answered(top):
+    """Returns whether callers in C, Python and Rust get from the library what they have to, which is proved once more."""
+    crate = top / "crates" / callers.CRATE
+    if subprocess.run(["rt", "lib"], cwd=crate, stdin=subprocess.DEVNULL, stdout=subprocess.DEVNULL, check=False).returncode:
+        return False
+    passed, failed = callers.called(crate / "out" / callers.LIBRARY)
+    return bool(passed) and not failed
+
+
 def tell(heard, left, due_count):
     """Says what was tried and left, what it took, and the count."""
     for name, count in left.items():
@@ -110,6 +119,8 @@ def main(words):
             print(f"check: run rt fmt in {', '.join(wanting)}\n0 passed, {len(wanting)} failed")
             return 1
         heard.end(part.run_ci(top, ["--anew"] if "--anew" in words else [], heard.hear))
+        if callers.CRATE in names:
+            heard.count(callers_answered(top), "callers of the library in C, Python and Rust did not get what they have to, or it was not built")
         heard.count(rows_hold(top), "worked calls under refused growths of memory: refused_rows was not built, or did not come to its answers")
     if "--record" in words:
         for name in {*counts} - {*left}:

@@ -6,13 +6,14 @@
 Where a script calls the toolchain's command it gets a stand-in, which says what the case has it say and writes down what it was asked.
 The last line is 'N passed, M failed'; status 0 where M is 0.
 """
-import concurrent.futures, contextlib, hashlib, os, pathlib, re, shutil, subprocess, sys, tempfile
+import concurrent.futures, contextlib, hashlib, importlib.util, os, pathlib, re, shutil, subprocess, sys, tempfile
 
 TOOLS = pathlib.Path(__file__).resolve().parent
 
 # The stand-in of the toolchain's command: `ci` notes its words and the files that it was given, builds what `builds` names out of
 # `program`, says what `says` holds, and ends with the number of `status`; `fmt` lays out by taking double spaces away; beside the
-# page that `doc` names lies a compiler, which makes an empty file.
+# page that `doc` names lies a compiler, which makes an empty file. `try` notes its words, its input and the file of `--data`, writes
+# what `writes` holds, says what `tells` holds, and ends with the number of `ends`.
 STAND_IN = r'''#!/bin/sh
 case $1 in
   version) cat "$STAND_IN/version";;
@@ -25,6 +26,10 @@ case $1 in
     cat "$STAND_IN/says"
     exit "$(cat "$STAND_IN/status")";;
   doc) echo "$STAND_IN/page.md";;
+  try) shift
+    { for word in "$@"; do echo "$word"; case $word in policy=*) cat "${word#policy=}";; esac; done; echo "in ${PWD##*/}"; cat; } >> "$STAND_IN/asked"
+    cat "$STAND_IN/writes"; cat "$STAND_IN/tells" >&2
+    exit "$(cat "$STAND_IN/ends")";;
 esac
 '''
 COMPILER = '''#!/bin/sh
@@ -38,6 +43,9 @@ case $REFUSE in
   *) echo "sift: answer, exact true, then answer"; echo "base: answer, then answer"; echo 1 0 >&9;;
 esac
 '''
+
+# What a trial says of a program that ended.
+TRIED = "checked: ended status=0\nrun=ended status=0 runners=1 proved=no\n"
 
 CHAIN = {
     "crates.txt": "# lowest first\nlow: memchr\nmiddle: low\nbeside: low\n# of tests\ntop tests=1: middle low sqlite\n",
@@ -59,23 +67,24 @@ def repository(files, /, **told):
     """Gives a small repository with the scripts in it, and the place of the stand-in's texts."""
     with tempfile.TemporaryDirectory(prefix="archive-try-") as room:
         top, stand_in = pathlib.Path(room, "top"), pathlib.Path(room, "stand-in")
-        shutil.copytree(TOOLS, top / "tools", ignore=shutil.ignore_patterns("__pycache__", "refused.txt", "try.py"))
+        shutil.copytree(TOOLS, top / "tools", ignore=shutil.ignore_patterns("__pycache__", "refused.txt", "clauses.txt", "wants.txt", "try.py"))
         for name, text in files.items():
             (top / name).parent.mkdir(parents=True, exist_ok=True)
             (top / name).write_text(text, encoding="utf-8")
             (top / name).chmod(0o755 if text.startswith("#!") else 0o644)
         (stand_in / "toolchain" / "bin").mkdir(parents=True)
-        usual = {"version": "kit of today", "says": "1 passed, 0 failed\n", "status": "0", "builds": "refused_rows", "program": ROWS}
+        usual = {"version": "kit of today", "says": "1 passed, 0 failed\n", "status": "0", "builds": "refused_rows", "program": ROWS,
+            "writes": "", "tells": TRIED, "ends": "0"}
         for name, text in {**usual, "rt": STAND_IN, "toolchain/bin/clang": COMPILER, **told}.items():
             (stand_in / name).write_text(text, encoding="utf-8")
             (stand_in / name).chmod(0o755)
         yield top, stand_in
 
 
-def run(top, stand_in, script, words):
-    """Runs a script of the small repository: its status, what it wrote, and what it wrote of faults."""
+def run(top, stand_in, script, words, given=""):
+    """Runs a script of the small repository on this input: its status, what it wrote, and what it wrote of faults."""
     known = {"PATH": f"{stand_in}:{os.environ['PATH']}", "STAND_IN": str(stand_in), "GIT_CEILING_DIRECTORIES": str(top.parent)}
-    how = {"capture_output": True, "text": True, "stdin": subprocess.DEVNULL, "check": False}
+    how = {"capture_output": True, "text": True, "input": given, "check": False}
     ran = subprocess.run([sys.executable, f"tools/{script}", *words], cwd=top, env={**os.environ, **known}, **how)
     return ran.returncode, ran.stdout, ran.stderr
 
@@ -135,42 +144,103 @@ def equal(found, wanted):
 # ---- build.py
 
 BUILT = {"says": "rt: low proved\nrt: middle is kept: 3 files\nrt: ok\n1 passed, 0 failed\n", "builds": "middle", "program": "a program"}
+MADE = {**CHAIN, "made": "of this\n", "tools/minutes.txt": "# minutes\nlow 2.0\nmiddle 6.0\n"}
+TO_BUILD = ["log", "middle=made"]
 
 
 def takes_the_program():
-    """The program is there, can be run, and nothing else was taken; the log has what the toolchain said."""
-    with repository(CHAIN, **BUILT) as (top, stand_in):
-        ended, _, errors = run(top, stand_in, "build.py", ["middle", "log"])
-        program = top / "crates" / "middle" / "out" / "middle"
-        told = [ended == 0, program.read_text() == "a program", os.access(program, os.X_OK), [*program.parent.iterdir()] == [program],
+    """The program is there, can be run, and what it is made of is beside it; the log has what the toolchain said."""
+    with repository(MADE, **BUILT) as (top, stand_in):
+        ended, _, errors = run(top, stand_in, "build.py", TO_BUILD)
+        out = top / "crates" / "middle" / "out"
+        told = [ended == 0, (out / "middle").read_text() == "a program", os.access(out / "middle", os.X_OK),
+                (out / "built-by-the-front-door").read_text() == "of this\n", len([*out.iterdir()]) == 2, not (top / "made").exists(),
                 (top / "log").read_text() == BUILT["says"],
-                re.findall(r"^middle: (.*?); \d+ % of the work is done, after 0 minutes; some \d+ more$", errors, re.M)
-                == ["proved low (1 of 2)", "proved middle (2 of 2)"]]
+                re.findall(r"^archive: (.*?); (\d+) % of the work is done, after 0 minutes; some (\d+) more$", errors, re.M)
+                == [("proved low (1 of 2)", "25", "2"), ("proved middle (2 of 2)", "100", "1")]]
         return [] if all(told) else [str(told), errors]
 
 
 def leaves_the_old_program():
     """Where the gate fails the program that was there stays."""
-    with repository({**CHAIN, "crates/middle/out/middle": "the old one"}, says="1 passed, 1 failed\n", status="1",
+    with repository({**MADE, "crates/middle/out/middle": "the old one"}, says="1 passed, 1 failed\n", status="1",
                     **{it: BUILT[it] for it in ("builds", "program")}) as (top, stand_in):
-        ended = run(top, stand_in, "build.py", ["middle", "log"])[0]
-        return equal((ended, (top / "crates/middle/out/middle").read_text()), (1, "the old one"))
+        ended = run(top, stand_in, "build.py", TO_BUILD)[0]
+        return equal((ended, (top / "crates/middle/out/middle").read_text(), (top / "made").exists()), (1, "the old one", True))
+
+
+def takes_an_early_program(writes, wanted):
+    """A program that is named first is there though the gate fails, if it writes what it has to."""
+    def holds():
+        files = {**MADE, "crates/low/stdin": "in\n", "crates/low/stdout": "in\n"}
+        with repository(files, says="rt: low proved\n1 passed, 1 failed\n", status="1", builds="low", program=f"#!/bin/sh\n{writes}\n") as (top, stand_in):
+            ended, _, errors = run(top, stand_in, "build.py", ["log", "low=made", "middle=other"])
+            out = top / "crates" / "low" / "out"
+            return equal((ended, (out / "low").exists(), (out / "built-by-the-front-door").exists(), "archive: ./archive low runs from here on\n" in errors), wanted)
+    return holds
+
+
+def schedule(takes, below, lanes, wanted):
+    """A case of how long crates take, so many side by side."""
+    def holds():
+        with tools() as build:
+            return equal(build.span({it: {*below.get(it, "")} for it in takes}, takes, lanes), wanted)
+    return holds
+
+
+def never_rises():
+    """What is said to be left never rises, however long it takes; and what is kept counts for nothing."""
+    with tools() as build, repository(MADE) as (top, _):
+        build.part.ROOT = top
+        work = build.Work(["low", "middle"], {"low": 2.0, "middle": 6.0}, 4)
+        said = [work.left(0)]
+        for at in (1, 2, 30, 60):
+            said.append(work.left(at))
+        work.take("low", False, 60)
+        said.append(work.left(60))
+        work.take("middle", True, 61)
+        said.append(work.left(61))
+        return equal((said == sorted(said, reverse=True), said[0], said[-1], work.share()), (True, 8.0, 1, 1.0))
+
+
+@contextlib.contextmanager
+def tools():
+    """Gives the module of build.py, as one of its own."""
+    sys.path.insert(0, str(TOOLS))
+    try:
+        spec = importlib.util.spec_from_file_location("build", TOOLS / "build.py")
+        module = importlib.util.module_from_spec(spec)
+        spec.loader.exec_module(module)
+        yield module
+    finally:
+        sys.path.remove(str(TOOLS))
 
 
 BUILD = {
     "the program is taken": takes_the_program,
     "a gate that fails leaves the old one": leaves_the_old_program,
-    "why it fails is said": says("build.py", ["middle", "log"], CHAIN, 1, faults="middle: what failed, and why (what was said before says more):\n"
+    "a program that is named first is there before": takes_an_early_program("cat", (1, True, True, True)),
+    "unless it writes something else": takes_an_early_program("echo out", (1, False, False, False)),
+    "why it fails is said": says("build.py", TO_BUILD, MADE, 1, faults="archive: what failed, and why (what was said before says more):\n"
         "  low: src/lib.rt:3:1: error: not so\n  rt: low NOT PROVED\n",
         says="== low\nsrc/lib.rt:3:1: error: not so\n  more of it\nrt: low NOT PROVED\n0 passed, 1 failed\n", status="1", builds=""),
-    "the copy holds the crates below alone": asks("build.py", ["middle", "log"], WITH_EDITS,
+    "the copy holds the crates below alone": asks("build.py", TO_BUILD, {**WITH_EDITS, "made": ""},
         ["crates/low/src/lib.rt", "crates/middle/src/lib.rt", "low: memchr", "middle: low", "HANDLES"],
         ["crates/beside/src/lib.rt", "crates/top/src/lib.rt", "beside: low", "crates/low/must-fail/f.turns_it.edit"], **BUILT),
-    "what a check left is not copied": asks("build.py", ["middle", "log"], {**CHAIN, "crates/low/out/kept": ""},
+    "and those below each program": asks("build.py", ["log", "beside=other", *TO_BUILD[1:]], MADE,
+        ["crates/low/src/lib.rt", "crates/middle/src/lib.rt", "crates/beside/src/lib.rt"], ["crates/top/src/lib.rt"], **BUILT),
+    "what a check left is not copied": asks("build.py", TO_BUILD, {**MADE, "crates/low/out/kept": ""},
         ["crates/low/src/lib.rt"], ["crates/low/out/kept"], **BUILT),
-    "a folder out further in is copied": asks("build.py", ["middle", "log"], {**CHAIN, "crates/low/proofs/out/F.antt": ""},
+    "a folder out further in is copied": asks("build.py", TO_BUILD, {**MADE, "crates/low/proofs/out/F.antt": ""},
         ["crates/low/proofs/out/F.antt"], [], **BUILT),
-    "one word": says("build.py", ["middle"], CHAIN, 1, faults="build.py NAME LOG"),
+    "one word": says("build.py", ["log"], CHAIN, 1, faults="build.py LOG NAME=MADE"),
+    "crates side by side": schedule({"a": 2.0, "b": 3.0}, {}, 2, 3.0),
+    "one after the other": schedule({"a": 2.0, "b": 3.0}, {}, 1, 5.0),
+    "one above the other": schedule({"a": 2.0, "b": 3.0}, {"b": "a"}, 4, 5.0),
+    "the longest chain first": schedule({"a": 1.0, "b": 3.0, "c": 3.0}, {"c": "a"}, 1, 7.0),
+    "what stands on two waits for both": schedule({"a": 1.0, "b": 4.0, "c": 2.0}, {"c": "ab"}, 2, 6.0),
+    "nothing": schedule({}, {}, 2, 0.0),
+    "what is left never rises": never_rises,
 }
 
 
@@ -291,6 +361,96 @@ GATE = {
 }
 
 
+# ---- trial.py
+
+SIFT = ["middle", "here is how", "sift"]
+UNPROVED = "archive: a trial answers, which is compiled now, in minutes, and is not proved; here is how\n"
+
+
+def answers(words, wanted, given="", files=CHAIN, /, **told):
+    """A case of a trial: its status, output and faults behind the first line of them."""
+    def holds():
+        with repository(files, **told) as (top, stand_in):
+            ended, output, errors = run(top, stand_in, "trial.py", words, given)
+            return equal((ended, output, errors), (*wanted[:2], UNPROVED + wanted[2]))
+    return holds
+
+
+def hands_on(words, wanted, given="", files=CHAIN):
+    """A case of a trial that calls `rt try` so: its words, the policy behind its own, where it stands, and its input."""
+    def holds():
+        with repository(files) as (top, stand_in):
+            run(top, stand_in, "trial.py", words, given)
+            asked = (stand_in / "asked").read_text(encoding="utf-8")
+            return equal(re.sub(r"=/\S*/archive-trial-[^/]*/", "=", asked), wanted)
+    return holds
+
+
+REFUSES = "checked: ended status=1\nrun=ended status=1 runners=1 proved=no\n"
+TRIAL = {
+    "what the program writes goes on, to the byte": answers(SIFT, (0, "a\n\nb", ""), writes="a\n\nb"),
+    "so does what it says, and its status": answers(SIFT, (1, "", "archive: F1 Read\n"), tells="archive: F1 Read\n" + REFUSES),
+    "what it says last without an end of a line": answers(SIFT, (1, "", "archive: F1"), tells="archive: F1" + REFUSES),
+    "a program that says what a trial says": answers(SIFT, (0, "", TRIED), tells=TRIED + TRIED),
+    "an answer that is too long": answers(SIFT, (75, "", "archive: the answer has more than 1 MiB, and a trial gives no more; here is how\n"), writes="From",
+        tells="checked: no-answer: the program wrote more than 1048576 bytes to standard output or to standard error, the limit on each\nrun=no-answer proved=no\n"),
+    "a fault": answers(SIFT, (75, "", "archive: the trial came to no answer: checked: fault: index; here is how\n"), writes="From",
+        tells="checked: fault: index\nrun=fault runners=1 proved=no\n"),
+    "a source that is refused": answers(SIFT, (1, "", "archive: the trial came to no answer: src/main.rt:1:1: error: no such name; here is how\n"),
+        tells="src/main.rt:1:1: error: no such name\nrun=none proved=no\n", ends="1"),
+    "a trial that fails itself": answers(SIFT, (75, "", "archive: the trial came to no answer: run=none proved=no; here is how\n"),
+        tells="run=none proved=no\n", ends="2"),
+    "a trial that says nothing": answers(SIFT, (75, "", "archive: the trial came to no answer: it said nothing; here is how\n"), tells=""),
+    "words and input": hands_on([*SIFT, "--day", "2003-03-20"], "--seconds\n600\n--\nsift\n--day\n2003-03-20\nin middle\nFrom a\n", "From a\n"),
+    "no words": hands_on(SIFT[:2], "--seconds\n600\n--\nin middle\n"),
+    "a policy": hands_on([*SIFT, "--policy", "own.toml"], "--seconds\n600\n--data\npolicy=policy\nallow = 1\n--\nsift\n--policy\npolicy\nin middle\n",
+        "", {**CHAIN, "own.toml": "allow = 1\n"}),
+    "one behind the sign =": hands_on([*SIFT, "--policy=a=b.toml"], "--seconds\n600\n--data\npolicy=policy\nallow = 2\n--\nsift\n--policy=policy\nin middle\n",
+        "", {**CHAIN, "a=b.toml": "allow = 2\n"}),
+    "one that is not there": hands_on([*SIFT, "--policy", "none.toml"], "--seconds\n600\n--\nsift\n--policy\npolicy\nin middle\n"),
+    "an option without its file": hands_on([*SIFT, "--policy"], "--seconds\n600\n--\nsift\n--policy\nin middle\n"),
+    "no such crate": says("trial.py", ["none", "how"], CHAIN, 1, faults="trial.py NAME"),
+}
+
+
+# ---- quick.py
+
+TESTED = {
+    "crates.txt": "low: memchr\nlow_tests: low\nshown: low\n",
+    "crates/shown/status": "3\n",
+    "HANDLES": "Handles allowed: none.\n",
+    "crates/low/src/lib.rt": "fn f() {}\n",
+    "crates/low_tests/src/lib.rt": "#[test]\nfn f() {}\n",
+    "crates/shown/src/main.rt": "fn main() {}\n",
+    "crates/shown/stdin": "in\n",
+    "crates/shown/stdout": "test a::b ... ok\n",
+    "crates/shown/args": "one\n",
+    "crates/shown/data/a.toml": "x",
+}
+# (both of the stand-in's trials write the same)
+PASSES = {"writes": "test a::b ... ok\n", "tells": "run=ended status=3 runners=1 proved=no\n"}
+QUICK = {
+    "all passes": says("quick.py", ["shown"], TESTED, 0, "1 passed, 0 failed, 0 cut; nothing is proved: ./check proves", **PASSES),
+    "tests": says("quick.py", ["low_tests"], TESTED, 0, "1 passed, 0 failed, 0 cut; nothing is proved: ./check proves", **{**PASSES, "tells": TRIED}),
+    "a test that fails": says("quick.py", ["low_tests"], TESTED, 1, "quick: low_tests: test a::b ... FAILED", "0 passed, 1 failed, 0 cut; nothing is proved: ./check proves",
+        **{**PASSES, "writes": "test a::b ... FAILED\n"}),
+    "a test that is cut": says("quick.py", ["low_tests"], TESTED, 0, "quick: low_tests: test a::b was cut after 60 seconds: no cause is known, so this machine may be busy", "0 passed, 0 failed, 1 cut; nothing is proved: ./check proves",
+        **{**PASSES, "writes": "test a::b ... FAILED\n    checked: no-answer: the program did not end within the time limit\n    run=no-answer\ntest result: FAILED.\n"}),
+    "a program that is cut": says("quick.py", ["shown"], TESTED, 0, "quick: shown was cut after 120 seconds", "0 passed, 0 failed, 1 cut; nothing is proved: ./check proves",
+        writes="", tells="checked: no-answer: the program did not end within the time limit\nrun=no-answer proved=no\n"),
+    "tests that do not end": says("quick.py", ["low_tests"], TESTED, 1, "0 passed, 1 failed, 0 cut; nothing is proved: ./check proves", **{**PASSES, "writes": "", "tells": "run=none proved=no\n"}),
+    "a test that is not tried": says("quick.py", ["low_tests"], {**TESTED, "crates/low_tests/src/lib.rt": "#[test]\nfn f() {}\n\n#[test]\nfn g() {}\n"}, 1,
+        "quick: low_tests: of its 2 tests 1 were tried: run=ended status=3 runners=1 proved=no", "1 passed, 1 failed, 0 cut; nothing is proved: ./check proves", **PASSES),
+    "a program that writes something else": says("quick.py", ["shown"], TESTED, 1, "quick: shown: it wrote something else than its file stdout",
+        "0 passed, 1 failed, 0 cut; nothing is proved: ./check proves", **{**PASSES, "writes": "other\n"}),
+    "one that ends with another status": says("quick.py", ["shown"], TESTED, 1, "0 passed, 1 failed, 0 cut; nothing is proved: ./check proves", **{**PASSES, "tells": TRIED}),
+    "a crate with neither is left": says("quick.py", ["low"], TESTED, 0, "0 passed, 0 failed, 0 cut; nothing is proved: ./check proves"),
+    "all of them": says("quick.py", [], TESTED, 1, "1 passed, 1 failed, 0 cut; nothing is proved: ./check proves", **{**PASSES, "tells": TRIED}),
+    "an unknown crate": says("quick.py", ["none"], TESTED, 1, faults="quick: crates.txt has no crate none"),
+    "what a program is run on": asks("quick.py", ["shown"], TESTED, ["--data", "--", "one", "in shown", "in"], [], **PASSES),
+}
+
+
 # ---- edits.py
 
 def with_edit(edit, **changed):
@@ -382,35 +542,122 @@ CASES = {
 
 # ---- definitions.py
 
+# Of a small repository: the headline's clause cites Fits, which is made of Rule, which is made of is_day, of a module that another crate hands
+# on; its model cites seen, which is made of Moon, declared in the code, and of an operator, which is made of digest, of the toolchain; one law
+# cites Goes.
 DEFINED = {
-    "docs/DEFINITIONS.md": "## low: text\n| Definition | Module |\n|---|---|\n| `Fits`, `step` | `Rules` | words |\n",
-    "crates/low/specs/Rules.antt": "abbrev pub Fits : Type 0\nFits = T\n\npub record step where\n",
-    "crates/low/src/lib.rt": "ghost use Rattle.low.specs.Rules.{Fits};\n\npub fn f(a: u8) -> u8\n    ensures { Fits result }\n{\n    a\n}\n",
+    "crates.txt": "low: memchr\narchive_pages: low\n",
+    "crates/low/specs/Days.antt": "-- Days.\nuse Rattle.std.specs.Prelude.{List}\n\n-- a day\nabbrev pub is_day : Type 0\nis_day = T\n",
+    "crates/low/specs/Rules.antt": "use Rattle.low.specs.Days.{is_day as day}\n\n-- ---- rules\n\n-- One rule.\n-- It has a day.\npub record Rule where\n  pub on : day\n\n"
+                                   "abbrev pub Fits : Rule → Type 0\nFits r = T\n\n-- by steps\npub data Step where\n  up : Step\n",
+    "crates/low/specs/Views.antt": "use Rattle.low.specs.declared.days.Moon.{Moon}\nuse Rattle.sums.specs.Sums.{digest}\n\ninfixl 10 ◌>>=◌\nabbrev pub ◌>>=◌ : Type 0\n"
+                                   "a >>= f = digest a\n\nmodule _ (m : Moon) where\n  abbrev pub seen : Type 0\n  seen = do\n    T\n\nabbrev pub unseen : Type 0\nunseen = T\n",
+    "crates/low/src/days.rt": "pub struct Moon;\n",
+    "crates/policy_core/src/rules.rt": "ghost use Rattle.low.specs.Views.{seen, unseen};\n\nimpl Model for Policy {\n    ghost Value = { T };\n\n    ghost view = { λ p. seen p };\n\n"
+                                       "    ghost invariant = { λ p. unseen p };\n}\n",
+    **{f"crates/{it}.rt": "" for it in ("civil_time/src/days", "civil_time/src/instants", "archive_machine/src/keys", "mbox_items/src/items", "mbox_items/src/separators")},
+    "crates/low/specs/Other.antt": "pub use Rattle.low.specs.Rules.{Fits}\n",
+    "crates/high/specs/Lib.antt": "pub use Rattle.low.specs.Days\n",
+    "crates/low/src/lib.rt": "ghost use Rattle.low.specs.Rules.{up as rises};\n\npub fn f(a: u8) -> u8\n    ensures { rises result }\n{\n    a\n}\n",
+    "crates/archive_pages/specs/Laws.antt": "-- it goes\nabbrev pub Goes : Type 0\nGoes = T\n",
+    "crates/archive_pages/src/running.rt": "ghost use Rattle.low.specs.Other.{Fits};\nghost use Rattle.high.specs.Days.{is_day};\n\n"
+                                           "pub fn run_and_answer_in_memory()\n    ensures quiet { is_day }\n    ensures answered { Fits result }\n{\n}\n",
+    "crates/archive_pages/src/laws.rt": "ghost use Rattle.archive_pages.specs.Laws.{Goes};\n\npub fn what_is_allowed_is_served()\n    ensures { Goes }\n{}\n",
+    "docs/BELIEVE.md": "Of 5 definitions, 11 lines, in 3 modules, `Moon` and `digest`.\n| | Read | Lines | With |\n|---|---|---|---|\n| 1 | `low`: `Rules` (`Fits`), `Days`, `Views` | 11 | a; b |\n"
+                       "| 2 | `archive_pages`: `Laws` | 2 | c |\n",
+    "docs/DEFINITIONS.md": "",
 }
-RENAMED = DEFINED["crates/low/src/lib.rt"].replace("{Fits}", "{Fits as Suits}").replace("{ Fits result }", "{ Suits result }")
-PRIVATE = DEFINED["crates/low/src/lib.rt"].replace("{Fits}", "{Other}").replace("Fits result", "Other result").replace("pub fn", "fn")
+LISTED = """## low
+
+### Days
+Days.
+
+- `is_day`*: a day
+
+### Rules
+
+- `Fits`*
+- `Step`: by steps
+
+## archive_pages
+
+### Laws
+
+- `Goes`+: it goes
+"""
+TOLD = """# the headline
+crates/archive_pages/src/running.rt:6: run_and_answer_in_memory: answered
+# the models by which it reads what it is given
+crates/policy_core/src/rules.rt: Policy
+crates/policy_core/src/rules.rt: Rule
+crates/civil_time/src/days.rt: Day
+crates/civil_time/src/instants.rt: Instant
+crates/archive_machine/src/keys.rt: Key
+crates/mbox_items/src/items.rt: Item
+crates/mbox_items/src/separators.rt: Envelope
+# 5 definitions, 11 lines, in 3 modules
+crates/low/specs/Days.antt:5: is_day
+crates/low/specs/Rules.antt:7: Rule
+crates/low/specs/Rules.antt:10: Fits
+crates/low/specs/Views.antt:5: ◌>>=◌
+crates/low/specs/Views.antt:9: seen
+# beyond specs
+declared: crates/low/src/days.rt: Moon
+of the toolchain: sums: Sums: digest
+# its laws add 1 definitions, 2 lines, in 1 modules
+crates/archive_pages/specs/Laws.antt:2: Goes
+"""
+
+
+def pages_made(files):
+    """Returns the two pages as definitions.py makes them in a small repository."""
+    with repository(files) as (top, stand_in):
+        run(top, stand_in, "definitions.py", ["--write"])
+        return [(top / it).read_text(encoding="utf-8") for it in ("docs/DEFINITIONS.md", "docs/BELIEVE.md")]
+
+
+def once_made(changed, *lines):
+    """A case of definitions.py where its pages were made, and then something changed: it says these lines, or nothing."""
+    def holds():
+        listed, believe = pages_made(DEFINED)
+        files = {**DEFINED, "docs/DEFINITIONS.md": listed, "docs/BELIEVE.md": believe}
+        files.update({name: files[name].replace(*change) for name, change in changed.items()})
+        return (says("definitions.py", [], files, 1, *lines) if lines else is_silent("definitions.py", files))()
+    return holds
+
+
+DIFFERS = "definitions: DEFINITIONS.md is not what the sources say (tools/definitions.py --write)"
 DEFINITIONS = {
-    "page and sources agree": is_silent("definitions.py", DEFINED),
-    "a cited definition that no line names": says("definitions.py", [], {**DEFINED,
-        "crates/low/src/lib.rt": DEFINED["crates/low/src/lib.rt"].replace("Fits", "Suits"),
-        "crates/low/specs/Rules.antt": DEFINED["crates/low/specs/Rules.antt"] + "Suits = T\n"}, 1,
-        "definitions: low::Rules: contracts cite Suits, which no line names"),
-    "one that another module's line names": says("definitions.py", [], {**DEFINED,
-        "crates/low/src/lib.rt": DEFINED["crates/low/src/lib.rt"].replace("Rules", "Other"),
-        "crates/low/specs/Other.antt": "Fits = T\n"}, 1, "definitions: low::Other: contracts cite Fits, which no line names"),
-    "one that another module hands on": is_silent("definitions.py", {**DEFINED,
-        "crates/low/src/lib.rt": DEFINED["crates/low/src/lib.rt"].replace("Rules", "Other"),
-        "crates/low/specs/Other.antt": "pub use Rattle.low.specs.Rules.{Fits}\n"}),
-    "one that is cited under another name": is_silent("definitions.py", {**DEFINED, "crates/low/src/lib.rt": RENAMED}),
-    "one that a private function cites": is_silent("definitions.py", {**DEFINED, "crates/low/src/lib.rt": PRIVATE}),
-    "one that stands in two lines": says("definitions.py", [], {**DEFINED,
-        "docs/DEFINITIONS.md": DEFINED["docs/DEFINITIONS.md"] + "| `step` | `Rules` | words again |\n"}, 1, "definitions: low::Rules: step stands in 2 lines"),
-    "a definition that is gone": says("definitions.py", [], {**DEFINED, "crates/low/specs/Rules.antt": "Fits = T\n"}, 1,
-        "definitions: low::Rules makes no step"),
-    "a module that is gone": says("definitions.py", [], {**DEFINED,
-        "docs/DEFINITIONS.md": DEFINED["docs/DEFINITIONS.md"].replace("`Rules`", "`Rule`")}, 1, "definitions: low: the specs have no module Rule"),
-    "a line that names its crate": is_silent("definitions.py", {**DEFINED,
-        "docs/DEFINITIONS.md": DEFINED["docs/DEFINITIONS.md"].replace("## low", "## high, low").replace("`Rules`", "`low`: `Rules`")}),
+    "what is made": lambda: equal(pages_made(DEFINED)[0].partition("## ")[1:], ("## ", LISTED.removeprefix("## "))),
+    "numbers are put right": lambda: equal(pages_made({**DEFINED, "docs/BELIEVE.md": DEFINED["docs/BELIEVE.md"].replace("11", "12")})[1], DEFINED["docs/BELIEVE.md"]),
+    "pages and sources agree": once_made({}),
+    "another comment": once_made({"crates/low/specs/Days.antt": ("a day", "one day")}, DIFFERS),
+    "another definition is cited": once_made({"crates/low/src/lib.rt": ("up as", "Rule as")}, DIFFERS),
+    "one that a private function cites": once_made({"crates/low/src/lib.rt": ("{\n    a\n}\n", "{\n    a\n}\n\nfn g()\n    ensures { Rule }\n{}\n")}),
+    "the text of a definition that no headline is made of": once_made({"crates/low/specs/Rules.antt": ("  up : Step", "  up : Step\n  down : Step")}),
+    "a definition of the headline that is longer": once_made({"crates/low/specs/Rules.antt": ("  pub on : day", "  pub on : day\n  pub at : day")},
+        "definitions: BELIEVE.md has other numbers than the sources (tools/definitions.py --write)"),
+    "a module that the headline is made of no more": once_made({"crates/low/specs/Rules.antt": ("  pub on : day", "  pub on : T")},
+        "definitions: BELIEVE.md has low::Days, of which the headline is not made"),
+    "a module that no row has": once_made({"docs/BELIEVE.md": (", `Days`", "")},
+        "definitions: BELIEVE.md has no row for low::Days, of which the headline is made"),
+    "a module that two rows have": once_made({"docs/BELIEVE.md": ("`archive_pages`: `Laws`", "`archive_pages`: `Laws`; `low`: `Days`")},
+        "definitions: BELIEVE.md has low::Days twice"),
+    "a law that cites another": once_made({"crates/archive_pages/src/laws.rt": ("Goes", "Gone")},
+        "definitions: BELIEVE.md has archive_pages::Laws, of which the headline is not made", DIFFERS),
+    "a module of the headline in the row of its laws": once_made({"docs/BELIEVE.md": ("`Days`, `Views` | 11 | a; b |\n| 2 | `archive_pages`: `Laws`",
+        "`Views` | 9 | a; b |\n| 2 | `archive_pages`: `Laws`; `low`: `Days`")},
+        "definitions: BELIEVE.md has low::Days in a wrong row: the last is of what the laws add"),
+    "a definition of a law that is longer": once_made({"crates/archive_pages/specs/Laws.antt": ("Goes = T", "Goes = T\n  × T")},
+        "definitions: BELIEVE.md has other numbers than the sources (tools/definitions.py --write)"),
+    "a model that reads by another": once_made({"crates/policy_core/src/rules.rt": ("λ p. seen p", "λ p. unseen p")},
+        "definitions: BELIEVE.md has other numbers than the sources (tools/definitions.py --write)"),
+    "what is declared, and no page names": once_made({"docs/BELIEVE.md": ("`Moon`", "Moon")},
+        "definitions: BELIEVE.md does not name Moon, of which the headline is made"),
+    "what the toolchain states, and no page names": once_made({"docs/BELIEVE.md": ("`digest`", "digest")},
+        "definitions: BELIEVE.md does not name digest, of which the headline is made"),
+    "all that the headline is made of": lambda: equal(output_of("definitions.py", ["--headline"], DEFINED), TOLD),
+    "other words": says("definitions.py", ["--make"], DEFINED, 1, faults="definitions.py --write"),
 }
 
 
@@ -418,12 +665,16 @@ DEFINITIONS = {
 
 PAGES_FILES = {
     "crates.txt": "low: memchr\nbeside: low\narchive: low\n",
-    "README.md": "[a](docs/A.md) [whole](docs/ARCHITECTURE.md) [out](https://example.org/x) [here](#here) `low`, `archive`\n",
+    "README.md": "[a](docs/A.md) [in](docs/INSTALL.md) [whole](docs/ARCHITECTURE.md) [out](https://example.org/x) [here](#here) `low`, `archive` "
+                 "program 0.3.1, tables 3\n",
     "docs/A.md": "[back](../README.md#top)\n",
     "docs/ARCHITECTURE.md": "archive: low\n",
-    "docs/archive.1": '.TH ARCHIVE 1 "" "archive 0.2.0" "User Commands"\n',
-    "CHANGELOG.md": "# Changes\n\n## Program 0.2.0, tables 3\n\n## Program 0.1.0, tables 0\n",
-    "crates/archive_usage/src/building.rt": 'const VERSION: &str = "0.2.0";\n',
+    "docs/layers/low.md": "## low\n| Calls | Clause |\n|---|---|\n| `Row::eat`, `low` | `eaten`, `left` | it eats |\n| `drink` | – | it drinks |\n\n## archive\n`main`\n",
+    "crates/low/src/low.rt": "pub fn eat()\n    ensures eaten { T }\n    requires left { T }\n{}\n\nfn drink(&self)\n    ensures { T }\n{}\n",
+    "docs/archive.1": '.TH ARCHIVE 1 "" "archive 0.3.1" "User Commands"\n',
+    "docs/INSTALL.md": "    apt install ./luvazhimba_0.3.1+git*_amd64.deb\n",
+    "CHANGELOG.md": "# Changes\n\n## Program 0.3.1, tables 3\n\n## Program 0.0.x, tables 0\n",
+    "crates/archive_usage/src/building.rt": 'const VERSION: &str = "0.3.1";\n',
     "crates/archive_tables/src/texts/schema.rt": "pub const VERSION: i64 = 3;\n",
 }
 PAGES = {
@@ -432,24 +683,249 @@ PAGES = {
     "a page without a link": says("pages.py", [], {**PAGES_FILES, "docs/B.md": "text"}, 1, "pages: README.md has no link to docs/B.md"),
     "another number of the program": says("pages.py", [],
         {**PAGES_FILES, "crates/archive_usage/src/building.rt": 'const VERSION: &str = "0.3.0";\n'}, 1,
-        "pages: docs/archive.1 is not of the program 0.3.0", "pages: CHANGELOG.md does not begin with 'Program 0.3.0, tables 3'"),
+        "pages: docs/archive.1 is not of the program 0.3.0", "pages: CHANGELOG.md does not begin with 'Program 0.3.0, tables 3'",
+        "pages: docs/INSTALL.md has no package of the program 0.3.0 alone"),
+    "a number that is not that of the tables": says("pages.py", [], {**PAGES_FILES, "CHANGELOG.md": PAGES_FILES["CHANGELOG.md"].replace("0.0.x", "0.1.0")}, 1,
+        "pages: CHANGELOG.md has a program 0.1.0 of tables 0"),
+    "packages of two numbers": says("pages.py", [], {**PAGES_FILES, "docs/INSTALL.md": PAGES_FILES["docs/INSTALL.md"] + "    tar -xf luvazhimba-0.3.0+git.tar.gz\n"}, 1,
+        "pages: docs/INSTALL.md has no package of the program 0.3.1 alone"),
     "words that sources have": is_silent("pages.py", {**PAGES_FILES, "docs/A.md": "`low::eat_row`, `EatRow`, `count.adds_one.edit`, `find_..`, `fits_*`, no_word, `archive`",
         "crates/low/src/lib.rt": "fn eat_row() -> EatRow {}", "crates/low/must-fail/count.adds_one.edit": ""}),
     "a word that no source has": says("pages.py", [], {**PAGES_FILES, "docs/A.md": "`low::eat_row(EatRow)`, `eat_row`"}, 1,
         "pages: docs/A.md names EatRow, which stands in no source", "pages: docs/A.md names eat_row, which stands in no source"),
     "a word of a page of what was": is_silent("pages.py", {**PAGES_FILES, "CHANGELOG.md": PAGES_FILES["CHANGELOG.md"] + "`eat_row`\n"}),
+    "a function of a layer that is not there": says("pages.py", [], {**PAGES_FILES, "docs/layers/low.md": PAGES_FILES["docs/layers/low.md"].replace("drink`", "sip`")}, 1,
+        "pages: docs/layers/low.md: low has no function sip"),
+    "a clause of a layer that is not there": says("pages.py", [], {**PAGES_FILES, "docs/layers/low.md": PAGES_FILES["docs/layers/low.md"].replace("–", "`eaten`")}, 1,
+        "pages: docs/layers/low.md: low::drink has no clause eaten"),
+    "a clause that is gone": says("pages.py", [], {**PAGES_FILES, "crates/low/src/low.rt": PAGES_FILES["crates/low/src/low.rt"].replace("left", "kept")}, 1,
+        "pages: docs/layers/low.md: low::eat has no clause left"),
+    "a crate of the program that no page of a layer has": says("pages.py", [], {**PAGES_FILES, "docs/layers/low.md": PAGES_FILES["docs/layers/low.md"].replace("## archive", "## beside")}, 1,
+        "pages: docs/layers has no part on archive"),
     "a crate of the program that no page shows": says("pages.py", [], {**PAGES_FILES, "docs/ARCHITECTURE.md": "archive: lower\n"}, 1,
         "pages: docs/ARCHITECTURE.md does not name low"),
-    "a README of many lines": says("pages.py", [], {**PAGES_FILES, "README.md": PAGES_FILES["README.md"] + "line\n" * 149}, 1, "pages: README.md has 150 lines"),
-    "a point of many words": says("pages.py", [], {**PAGES_FILES, "README.md": PAGES_FILES["README.md"] + f"- {'of ' * 26}\n2. {'of ' * 25}\n"}, 1,
+    "a README as long as it may be": is_silent("pages.py", {**PAGES_FILES, "README.md": PAGES_FILES["README.md"] + "line\n" * 109}),
+    "a README of many lines": says("pages.py", [], {**PAGES_FILES, "README.md": PAGES_FILES["README.md"] + "line\n" * 110}, 1, "pages: README.md has 111 lines"),
+    "a README of many words": says("pages.py", [], {**PAGES_FILES, "README.md": PAGES_FILES["README.md"] + "of " * 1500}, 1, "pages: README.md has 1,511 words"),
+    "many words of proofs": says("pages.py", [], {**PAGES_FILES, "docs/PROVED.md": "of " * 15_900, "docs/DECISIONS.md": "of " * 100,
+        "README.md": PAGES_FILES["README.md"] + "[p](docs/PROVED.md) [d](docs/DECISIONS.md)"}, 1, "pages: PROVED.md, DECISIONS.md and the pages of layers have 16,029 words"),
+    "another number at the front": says("pages.py", [], {**PAGES_FILES, "README.md": PAGES_FILES["README.md"].replace("tables 3", "tables 2")}, 1,
+        "pages: README.md is not of the program 0.3.1, tables 3"),
+    "a point of many words": says("pages.py", [], {**PAGES_FILES, "README.md": PAGES_FILES["README.md"] + f"- {'of ' * 41}\n2. {'of ' * 40}\n"}, 1,
         "pages: README.md has a long point: - of of of of of of of of of of of of of of of of of of of o .."),
     "a page of the samples": says("pages.py", [], {**PAGES_FILES, "samples/a/README.md": "[b](../b.sh)"}, 1,
         "pages: samples/a/README.md leads to ../b.sh, which is not there"),
+    "a sample policy as it is proved of": is_silent("pages.py", {**PAGES_FILES, "samples/a.toml": '# a\nb = "c"\n',
+        "crates/example_policies/specs/Samples.antt": 'a_text =\n    codes "# a\\n"\n    ++ codes "b = \\"c\\"\\n"\n\n-- more\n'}),
+    "a sample policy that is another text than the one that is proved of": says("pages.py", [], {**PAGES_FILES, "samples/a.toml": "b = 1\n",
+        "crates/example_policies/specs/Samples.antt": 'a_text =\n    codes "b = 2\\n"\n'}, 1, "pages: samples/a.toml is not the text a_text of example_policies"),
     "another number of the tables": says("pages.py", [], {**PAGES_FILES, "crates/archive_tables/src/texts/schema.rt": "pub const VERSION: i64 = 4;\n"}, 1,
-        "pages: CHANGELOG.md does not begin with 'Program 0.2.0, tables 4'"),
+        "pages: CHANGELOG.md does not begin with 'Program 0.3.1, tables 4'"),
 }
 
-TABLES = {"part.py": PART, "build.py": BUILD, "gate.py": GATE, "edits.py": FITS, "refused.py": ROWS_CASES, "cases.py": CASES, "definitions.py": DEFINITIONS, "pages.py": PAGES}
+# ---- clauses.py
+
+NARROW = """pub fn half(n: u8) -> u8
+    requires even { n % 2 ≡ 0 }
+    ensures half { result * 2 ≡ n } // not of odd ones; those { round
+    ensures {
+        result ≤ n
+    }
+{
+    n / 2
+}
+
+fn plain<F: Fn(u8) -> u8>(f: F) -> u8 {
+    f(1)
+}
+"""
+WIDE = NARROW.replace("half", "wide").replace("    ensures {", "    ensures a { ℕ }\n    ensures b { record { n = n } ≡ n }\n    ensures c { ℕ }\n    ensures {")
+METHOD = "impl Half {\n    pub fn take<'a, T: Drop>(&mut self, of: &'a T) -> Result<T, ()>\n        ghost top: { ℕ }\n        ensures kept { ℕ }\n    {\n    }\n}\n\ntrait Take {\n    fn take(self)\n        ensures { ℕ };\n}\n"
+COUNTED = {"crates.txt": "low: memchr\nlow_tests: low\n", "crates/low/src/lib.rt": NARROW, "crates/low_tests/src/lib.rt": WIDE}
+OVER = {**COUNTED, "crates/low/src/deep/er.rt": WIDE}
+CLAUSES = {
+    "clauses and their lines": lambda: equal(output_of("clauses.py", [], COUNTED),
+        "clauses: low: 2 functions, 3 clauses in 5 lines, 0 functions with more than 5\nclauses: all: 2 functions, 3 clauses in 5 lines, 0 functions with more than 5\n"),
+    "methods": says("clauses.py", [], {**COUNTED, "crates/low/src/lib.rt": METHOD}, 0,
+        "clauses: low: 2 functions, 2 clauses in 2 lines, 0 functions with more than 5"),
+    "too many on one function": says("clauses.py", [], OVER, 1, "clauses: low::deep::er::wide has 6 clauses, more than 5",
+        "clauses: low: 4 functions, 9 clauses in 13 lines, 1 functions with more than 5"),
+    "one that may have as many": says("clauses.py", [], {**OVER, "tools/clauses.txt": "# text\nlow::deep::er::wide 6\n"}, 0),
+    "one that has fewer now": says("clauses.py", [], {**OVER, "tools/clauses.txt": "low::deep::er::wide 7\n"}, 1,
+        "clauses: clauses.txt gives low::deep::er::wide 7 clauses, and it has 6"),
+    "one that has more now": says("clauses.py", [], {**COUNTED, "crates/low/src/lib.rt": WIDE.replace("    ensures a {", "    ensures d { ℕ }\n    ensures a {"),
+        "tools/clauses.txt": "low::lib::wide 6\n"}, 1, "clauses: clauses.txt gives low::lib::wide 6 clauses, and it has 7"),
+    "one that is gone": says("clauses.py", [], {**COUNTED, "tools/clauses.txt": "low::lib::wide 6\n"}, 1, "clauses: clauses.txt names low::lib::wide, which is not there"),
+    "one that needs no exception": says("clauses.py", [], {**COUNTED, "tools/clauses.txt": "low::lib::half 3\n"}, 1,
+        "clauses: clauses.txt names low::lib::half, which needs no exception"),
+    "a word": says("clauses.py", ["low"], COUNTED, 1, faults="clauses.py"),
+}
+
+# ---- wants.py
+
+# Wants of memory that are handed on, and what only looks like one.
+HANDED_ON = """use std::alloc::AllocError;
+pub enum Fault {
+    /// Memory.
+    Memory,
+    Read,
+}
+impl From<AllocError> for Fault {
+    fn from(_: AllocError) -> Fault {
+        Fault::Memory
+    }
+}
+pub fn copied(alloc: Global, bytes: &[u8]) -> Result<Vec<u8>, Fault>
+    ensures memory { result ≡ Err Fault.Memory → bytes.now ≢ [] }
+{
+    let text = bytes.to_vec(alloc)?; // Fault::Memory
+    match said(&text) {
+        Err(Fault::Memory) | Err(Fault::Read) if text.is_empty() => Ok(text),
+        Err(fault) if fault == Fault::Memory => Err(fault),
+        other => Ok(text),
+    }
+}
+"""
+# Each place that tells of one by hand, in a function of its own.
+BY_HAND = HANDED_ON + """fn pushed(all: &mut Vec<u8>) -> Result<(), Fault> {
+    if all.push(1).is_err() {
+        return Err(Fault::Memory);
+    }
+    let Ok(more) = all.to_vec() else {
+        return Err(Stop {
+            done: 0,
+            fault: Fault::Memory,
+        });
+    };
+    match more.push(2) {
+        Ok(()) => {
+            done(&more);
+        }
+        Err(_) => {
+            wants.raise();
+            Err(Fault::Memory)
+        }
+    }
+}
+fn told(stop: Stop) -> Fault {
+    match stop {
+        Stop::Memory(Held { at }) => Fault::Memory,
+        Stop::Io(kind) if kind == ErrorKind::OutOfMemory => Fault::Memory,
+        Stop::Other => Fault::Read,
+    }
+}
+fn short(length: usize) -> Result<u32, Fault> {
+    if length > 4_294_967_295 {
+        return Err(Fault::Memory);
+    }
+    sum.checked_add(1).ok_or(Fault::Memory)
+}
+"""
+PLACES = "low::lib::pushed refused\n" * 4 + "low::lib::told named\n" * 2 + "low::lib::short bare 2^32 bytes\n" * 2
+WANTING = {"crates.txt": "low: memchr\nlow_tests: low\n", "crates/low/src/lib.rt": BY_HAND, "crates/low_tests/src/lib.rt": BY_HAND, "tools/wants.txt": "# text\n" + PLACES}
+
+
+def with_more(more):
+    """The same with a function that tells of a want where nothing was refused."""
+    return {**WANTING, "crates/low/src/lib.rt": BY_HAND + more}
+
+
+WANTS = {
+    "handed on alone": is_silent("wants.py", {**WANTING, "crates/low/src/lib.rt": HANDED_ON, "tools/wants.txt": ""}),
+    "each place listed": is_silent("wants.py", WANTING),
+    "the places": lambda: equal(output_of("wants.py", ["--list"], WANTING), PLACES),
+    "a body that gives up": says("wants.py", [], with_more("fn f(list: &str) -> Result<(), Fault> {\n    if list.is_empty() {\n        return Err(Fault::Memory);\n    }\n    Ok(())\n}\n"), 1,
+        "wants: low::lib::f tells of a want of memory by hand (bare): hand on what was refused by `?` or `From`"),
+    "a denial that is counted": says("wants.py", [], with_more("fn f() -> Found {\n    match asked() {\n        Ok(Asked::Denied(_)) => {\n            store.wants.raise();\n            Err(Unavailable)\n        }\n        _ => Ok(()),\n    }\n}\n"), 1,
+        "wants: low::lib::f tells of a want of memory by hand (bare): hand on what was refused by `?` or `From`"),
+    "a refusal that is let go": says("wants.py", [], with_more("fn f() -> Result<(), Fault> {\n    match copied() {\n        Ok(text) => Ok(()),\n        Err(_) => Err(Fault::Memory),\n    }\n}\n"), 1,
+        "wants: low::lib::f tells of a want of memory by hand (refused): hand on what was refused by `?` or `From`"),
+    "one more where there is one": says("wants.py", [], {**WANTING, "crates/low/src/lib.rt": BY_HAND.replace("    if length >", "    if length == 7 {\n        return Err(Fault::Memory);\n    }\n    if length >")}, 1,
+        "wants: low::lib::short tells of a want of memory by hand (bare): hand on what was refused by `?` or `From`"),
+    "another arm than the one that is listed": says("wants.py", [], {**WANTING, "crates/low/src/lib.rt": BY_HAND.replace("        Err(_) => {", "        Ok(_) => {")}, 1,
+        "wants: low::lib::pushed tells of a want of memory by hand (bare): hand on what was refused by `?` or `From`",
+        "wants: wants.txt names low::lib::pushed refused, which is not there"),
+    "one that is gone": says("wants.py", [], {**WANTING, "crates/low/src/lib.rt": HANDED_ON, "tools/wants.txt": "low::lib::f named\n"}, 1, "wants: wants.txt names low::lib::f named, which is not there"),
+    "no reason": says("wants.py", [], {**WANTING, "tools/wants.txt": PLACES.replace(" 2^32 bytes", "")}, 1, "wants: wants.txt gives no reason for low::lib::short"),
+    "a word": says("wants.py", ["low"], WANTING, 1, faults="wants.py"),
+}
+
+# ---- identity.py, twice.py, owner_page.py
+
+# The program's crates, with what is no part of the text that is proved.
+PROVED_FILES = {
+    **{it: PAGES_FILES[it] for it in ("CHANGELOG.md", "crates/archive_usage/src/building.rt", "crates/archive_tables/src/texts/schema.rt")},
+    "crates.txt": "low: memchr\nbeside: low\narchive: low\n",
+    "HANDLES": "Handles allowed: Net.\n",
+    "crates/low/src/lib.rt": "pub fn f() {}\nimpl A {\n    pub(crate) const fn g(&self) {}\n    fn h() {}\n}\n// fn no() {}\n",
+    "crates/low/proofs/f/Answers.antt": "x = y\n",
+    "crates/low/must-fail/f.turns_it.edit": "file: src/lib.rt\n",
+    "crates/archive/src/main.rt": "fn main() {}\n",
+    "crates/beside/src/lib.rt": "fn beside() {}\n",
+}
+OF_THE_WALK = "Run `./archive` once, and `./archive sift`: [whole](ARCHITECTURE.md), [commands](COMMANDS.md#sift), [tls](../samples/proxy/README.md), [out](https://example.org/x).\n"
+
+
+def identity(files, *words):
+    """Returns what is said of a proof by its names, and the lines of what is changed."""
+    with repository(files) as (top, stand_in):
+        git = ("git", "-c", "user.name=a", "-c", "user.email=a@example.org", "-C", str(top))
+        for it in (["init", "-q"], ["add", "-A"], ["commit", "-q", "-m", "x"]):
+            subprocess.run([*git, *it], check=True)
+        (top / "crates" / "low" / "src" / "more.rt").write_text("fn more() {}\n", encoding="utf-8")
+        lines = run(top, stand_in, "identity.py", words)[1].splitlines()
+        return dict(it.split(": ", 1) for it in lines), [it for it in lines if it.startswith("changed")]
+
+
+def same_text(files, is_same):
+    """A case of two trees whose text to prove is the same or another one."""
+    return lambda: equal(identity(PROVED_FILES)[0]["text"] == identity(files)[0]["text"], is_same)
+
+
+IDENTITY = {
+    "of which program, by what, and how many functions": lambda: equal(
+        {it: identity(PROVED_FILES)[0][it] for it in ("program", "toolchain", "functions", "handles")},
+        {"program": "archive 0.3.1, tables 3", "toolchain": "kit of today", "functions": "5", "handles": "Net."}),
+    "by a toolchain that is named": lambda: equal(identity(PROVED_FILES, "kit of yesterday")[0]["toolchain"], "kit of yesterday"),
+    "what is not as the commit has it": lambda: equal(identity(PROVED_FILES)[1], ["changed: crates/low/src/more.rt"]),
+    "a source is part of the text": same_text({**PROVED_FILES, "crates/low/src/lib.rt": "fn f() {}\n"}, False),
+    "a proof is part of it": same_text({**PROVED_FILES, "crates/low/proofs/f/Answers.antt": "x = z\n"}, False),
+    "what may be done is part of it": same_text({**PROVED_FILES, "HANDLES": "Handles allowed: none.\n"}, False),
+    "what a crate stands on is part of it": same_text({**PROVED_FILES, "crates.txt": PROVED_FILES["crates.txt"].replace("memchr", "toml")}, False),
+    "a wrong body is none": same_text({**PROVED_FILES, "crates/low/must-fail/f.turns_it.edit": "file: src/main.rt\n"}, True),
+    "a crate beside the program is none": same_text({**PROVED_FILES, "crates/beside/src/lib.rt": "fn other() {}\n"}, True),
+    "two words": says("identity.py", ["a", "b"], PROVED_FILES, 1, faults="identity.py [TOOLCHAIN]"),
+}
+# A program that is built, and what the toolchain says where it compiles that again.
+BUILT_HERE = {**CHAIN, "crates.txt": "low: memchr\narchive: low\n", "crates/archive/src/main.rt": "fn main() {}\n", "crates/archive/out/built-by-the-front-door": "kit of today\n",
+    "crates/archive/out/archive": "a program"}
+COMPILED = {"says": "rt: low is kept: 3 files\nrt: archive proved\n1 passed, 0 failed\n", "builds": "archive", "program": "a program"}
+TWICE = {
+    "the same bytes": says("twice.py", [], BUILT_HERE, 0, "twice, in two folders: the same bytes", **COMPILED),
+    "other bytes": says("twice.py", [], BUILT_HERE, 0, f"twice, in two folders: other bytes, sha256 {hashlib.sha256(b'another one').hexdigest()}",
+        **{**COMPILED, "program": "another one"}),
+    "it does not pass": says("twice.py", [], BUILT_HERE, 1, faults="not compiled again", **{**COMPILED, "status": "1"}),
+    "the program that is kept is no second one": says("twice.py", [], BUILT_HERE, 1, faults="not compiled again",
+        **{**COMPILED, "says": "rt: archive is kept: 3 files\n1 passed, 0 failed\n"}),
+    "nothing is built": says("twice.py", [], CHAIN, 1, faults="not built here"),
+}
+OWNER_PAGE = {
+    "links and commands": lambda: equal(output_of("owner_page.py", ["docs/WALKTHROUGH.md"], {"docs/WALKTHROUGH.md": OF_THE_WALK}),
+        "Run `./archive` once, and `luvazhimba sift`: whole, [commands](COMMANDS.md#sift), [tls](examples/proxy/README.md), [out](https://example.org/x).\n"),
+    "a page below": lambda: equal(output_of("owner_page.py", ["samples/proxy/README.md"], {"samples/proxy/README.md": "[b](../../docs/HTTP.md) `samples/keep.sh` samples/soc.mbox\n"}),
+        "[b](../../HTTP.md) `/usr/libexec/luvazhimba/keep.sh` /usr/share/doc/luvazhimba/examples/soc.mbox\n"),
+    "units": lambda: equal(output_of("owner_page.py", ["docs/SCALE.md"], {"docs/SCALE.md": "`samples/archive-once.path` `-u archive.service` `archive-copy@.service` archive.db\n"}),
+        "`/usr/lib/systemd/system/luvazhimba-once.path` `-u luvazhimba.service` `luvazhimba-copy@.service` archive.db\n"),
+    "what only a clone can do": lambda: equal(output_of("owner_page.py", ["docs/INSTALL.md"], {"docs/INSTALL.md": "`./archive package --twice`, `./archive --version`, `./archive --help`\n"}),
+        "`./archive package --twice`, `./archive --version`, `luvazhimba --help`\n"),
+    "a command of a clone alone": lambda: equal(output_of("owner_page.py", ["docs/COMMANDS.md"],
+        {"docs/COMMANDS.md": "| `package [FOLDER]` | packs |\n| `check` | looks |\n\n    archive check --db FILE\n"}),
+        "| `check` | looks |\n\n    luvazhimba check --db FILE\n"),
+    "a page that no owner wants": says("owner_page.py", ["docs/STYLE.md"], {"docs/STYLE.md": ""}, 1, faults="owner_page.py FILE"),
+}
+
+TABLES = {"part.py": PART, "build.py": BUILD, "gate.py": GATE, "trial.py": TRIAL, "quick.py": QUICK, "edits.py": FITS, "refused.py": ROWS_CASES, "cases.py": CASES,
+          "definitions.py": DEFINITIONS, "pages.py": PAGES, "identity.py": IDENTITY, "twice.py": TWICE, "owner_page.py": OWNER_PAGE, "clauses.py": CLAUSES, "wants.py": WANTS}
 
 
 def main(words):
