@@ -4,7 +4,8 @@
 #   samples/backup.sh FOLDER TO [COUNT]
 #
 # FOLDER is the archive's. TO gets archive-DAY.db, of which the last COUNT stay (14), tried by stock sqlite3 before they take
-# their names, and what an archive can be made anew from: policy.toml, commands.done, and mail.done, which only grow.
+# their names, and what an archive can be made anew from: policy.toml, commands.done, and mail.done, which only grow. Where one
+# of these is a link, what it leads to is taken.
 # Status 1, and a line on standard error, where something is missing; then nothing older is taken away.
 set -eu
 case ${1-} in -h | --help) sed -n '2,/^[^#]/s/^# \{0,1\}//p' -- "$0"; exit ;; esac
@@ -24,7 +25,10 @@ rm -f -- "$name.new-wal" "$name.new-shm"
 mv -- "$name.new" "$name"
 
 for it in policy.toml commands.done mail.done; do
-  [ ! -e "$folder/$it" ] || cp -au -- "$folder/$it" "$to/"
+  [ -e "$folder/$it" ] || [ -L "$folder/$it" ] || continue
+  # (a backup that holds a link holds nothing)
+  [ ! -L "$to/$it" ] || rm -- "$to/$it"
+  cp -auL -- "$folder/$it" "$to/"
 done
 sync -- "$name"
 

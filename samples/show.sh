@@ -23,8 +23,9 @@ has() {
   [ "$(ask "SELECT count(*) FROM sqlite_schema WHERE type = 'table' AND name = '$1'")" -eq 1 ]
 }
 
-echo '# lists: name, messages, bytes, withdrawn, held back'
-ask "SELECT l.name, count(m.pos), coalesce(sum(length(m.text)), 0), count(nullif(m.withdrawn, 0)), count(m.embargo)
+echo '# lists: name, messages, bytes, withdrawn, held back, how full (of 50,000 messages)'
+ask "SELECT l.name, count(m.pos), coalesce(sum(length(m.text)), 0), count(nullif(m.withdrawn, 0)), count(m.embargo),
+  printf('%.1f%%', count(m.pos) / 500.0)
   FROM list l LEFT JOIN message m ON m.list = l.name GROUP BY l.name ORDER BY l.name"
 echo '# lists whose threads are not joined by subject'
 ! has list_option || ask "SELECT list FROM list_option WHERE merge = 0 ORDER BY list"
