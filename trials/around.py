@@ -1,5 +1,6 @@
 #!/usr/bin/env python3
-"""around.py: what stands beside the program: samples/*.sh and *.py, the units, the help, and the surprises that the pages speak of.
+"""around.py: what stands beside the program: samples/*.sh and *.py, the policies, the units, the help, and the surprises that the pages
+speak of.
 
   trials/around.py [--archive PROGRAM]
 
@@ -130,16 +131,20 @@ def backups(trial, program, room):
     kept, to = room / "kept", room / "to"
     kept.mkdir()
     db = make_archive(program, kept)
-    (kept / "policy.toml").write_text("x = 1\n")
+    # (the policy is a link, as in the package, and so it is in a backup that was taken before)
+    (room / "rules.toml").write_text("x = 1\n")
+    (kept / "policy.toml").symlink_to(room / "rules.toml")
     (kept / "mail.done" / "seeds").mkdir(parents=True)
     (kept / "mail.done" / "seeds" / "1.mbox").write_text("x")
     to.mkdir()
+    (to / "policy.toml").symlink_to(room / "rules.toml")
     for day in range(1, 10):
         (to / f"archive-2001-01-0{day}.db").write_text("old")
     trial.check("backup.sh says nothing", output(SAMPLES / "backup.sh", kept, to, 4), "")
     names = sorted(it.name for it in to.iterdir())
     trial.check("backup.sh: what is there then", ([it for it in names if it.startswith("archive-2001")], len(names), (to / "mail.done" / "seeds" / "1.mbox").exists()),
                 (["archive-2001-01-07.db", "archive-2001-01-08.db", "archive-2001-01-09.db"], 6, True))
+    trial.check("backup.sh: of a link what it leads to is taken", ((to / "policy.toml").is_symlink(), (to / "policy.toml").read_text()), (False, "x = 1\n"))
     trial.check("the copy is whole, as check finds", [refused(program, "check", "--db", it) for it in to.glob("archive-20[2-9]*.db")], [(0, "ok")])
     trial.check("backup.sh: the copy is its owner's alone", {oct(stat.S_IMODE(it.stat().st_mode)) for it in to.glob("archive-20[2-9]*")}, {"0o600"})
     text = bytearray(db.read_bytes())
@@ -152,7 +157,7 @@ def backups(trial, program, room):
 
 
 def moved_in(trial, program, room):
-    """samples/from-news.sh and from-public-inbox.py: what they do with what goes wrong; what they make of the samples the walk shows."""
+    """samples/from-news.sh, from-public-inbox.py and from-maildir.py: what they do with what goes wrong; what they make of the samples the walk shows."""
     trial.check("from-news.sh: no such folder", ran_to(SAMPLES / "from-news.sh", room / "none"), (1, 0))
     (room / "empty").mkdir()
     trial.check("from-news.sh: a folder without articles", ran_to(SAMPLES / "from-news.sh", room / "empty"), (1, 0))
@@ -170,6 +175,16 @@ def moved_in(trial, program, room):
     trial.check("the program takes in each of them", archive(program, "import", "--db", room / "news.db", "x", room / "news.mbox"), b"new 4 known 0 too-large 0\n")
     trial.check("from-public-inbox.py: no such repository", ran_to(SAMPLES / "from-public-inbox.py", room / "none"), (1, 0))
     trial.holds("it says so", output(SAMPLES / "from-public-inbox.py", room / "none").endswith(f"from-public-inbox.py: {room / 'none'}: no repository of mails"))
+    maildir, folder = room / "maildir", room / "taken"
+    for it in (maildir / "new", maildir / "cur", maildir / "tmp", folder):
+        it.mkdir(parents=True)
+    trial.check("from-maildir.py: nothing is new", ran_to(SAMPLES / "from-maildir.py", maildir, folder), (0, 0))
+    (maildir / "new" / "1").write_bytes(b"Subject: x\n\nFrom a@b Mon Jan  8 09:12:47 2024\rnot one\nFrom a@b Mon Jan  8 09:12:47 2024\n\nFrom a@b Mon Jan  8 09:12:47 2024")
+    trial.holds("a mail with a line that would begin another one", output(SAMPLES / "from-maildir.py", maildir, folder) == "1 mails, 1 of them with a line that begins another one")
+    written = [it for it in folder.iterdir() if it.suffix == ".mbox"]
+    trial.holds("it is one message, and in one mbox", len(written) == 1 and len(output(SAMPLES / "mbox.py", "list", written[0]).splitlines()) == 1)
+    trial.holds("it is put away", [it.name for it in maildir.glob("*/*")] == ["1:2,"])
+    trial.check("from-maildir.py: no Maildir", ran_to(SAMPLES / "from-maildir.py", room / "none"), (1, 0))
     trial.check("mbox.py: no such file", output(SAMPLES / "mbox.py", "list", room / "none"), f"mbox.py: [Errno 2] No such file or directory: '{room / 'none'}'")
 
 
@@ -182,18 +197,21 @@ def ran_to(*words):
 def units(trial):
     """What systemd says of the units; of a unit with a word that is none it has to say something."""
     if trial.has("systemd-analyze"):
-        for name in ("archive.service", "archive-backup.service", "archive-backup.timer"):
+        for name in ("archive.service", "archive-once.service", "archive-once.path", "archive-backup.service", "archive-backup.timer"):
             # (what it begins is this repository's)
             text = (SAMPLES / name).read_text().replace("/opt/archive", str(ROOT)).replace("User=archive", "User=root")
             trial.check(f"systemd-analyze verify {name}", found_in_unit(name, text), [])
             trial.holds(f"and of {name} with a word that is none it says something", found_in_unit(name, text.replace("]\n", "]\nNoSuchWord=1\n")))
+        for name in ("archive.service", "archive-once.service", "archive-backup.service"):
+            said = output("systemd-analyze", "security", "--offline=yes", "--no-pager", SAMPLES / name).splitlines()[-1]
+            trial.holds(f"exposure of {name}, at most 1.5", float(re.search(r"[0-9.]+(?= [A-Z])", said)[0]) <= 1.5, said)
 
 
 def found_in_unit(name, text):
     with tempfile.TemporaryDirectory() as folder:
         file = pathlib.Path(folder) / name
-        if name.endswith(".timer"):
-            file.with_name("archive-backup.service").write_text("[Service]\nExecStart=/bin/true\n")
+        if name.endswith((".timer", ".path")):
+            file.with_suffix(".service").write_text("[Service]\nExecStart=/bin/true\n")
         file.write_text(text)
         return [it for it in output("systemd-analyze", "verify", "--man=no", file).splitlines() if name in it]
 
@@ -205,11 +223,47 @@ def helped(trial):
         trial.check(f"{script.name} --help: status, errors, whether it shows how it is called", (ran.returncode, ran.stderr, f"  samples/{script.name} " in ran.stdout), (0, "", True))
 
 
+def sound(trial):
+    """What shellcheck says of the scripts."""
+    if trial.has("shellcheck"):
+        for script in sorted([*SAMPLES.glob("*.sh"), *SAMPLES.glob("keep/haproxy.sh")]):
+            trial.check(f"shellcheck {script.name}", output("shellcheck", "-x", script.relative_to(ROOT), cwd=ROOT), "")
+
+
+def examples():
+    """The sample policies, and the examples of docs/POLICY.md, each with its name."""
+    page = (ROOT / "docs" / "POLICY.md").read_text().partition("## Examples")[2].partition("\n## ")[0]
+    texts = re.findall(r"```toml\n(.*?)```", page, re.DOTALL)
+    return {**{it.name: it.read_text() for it in SAMPLES.glob("*.toml")}, **{f"example {at}": text for at, text in enumerate(texts, 1)}}
+
+
+def tried(program, file, *day):
+    """The status of samples/check-policy.sh, what it prints, and how many mails it says that the public should not be shown."""
+    ran = subprocess.run([SAMPLES / "check-policy.sh", file, *day], env={**os.environ, "ARCHIVE": str(program)}, capture_output=True, text=True, check=False)
+    return ran.returncode, ran.stdout, ran.stdout.count("The public is shown what is withheld: ")
+
+
+def policies(trial, program, room):
+    """Each policy that is shown hides what is withheld from the public, as samples/check-policy.sh finds; of one that does not it says so."""
+    for name, text in examples().items():
+        (room / "example.toml").write_text(text)
+        status, said, shown = tried(program, room / "example.toml")
+        trial.check(f"check-policy.sh {name}: status, whether it is tried as a moderator, what the public is shown of what is withheld", (status, "moderator" in said, shown), (0, True, 0))
+    (room / "open.toml").write_text('[[rule]]\nname = "all"\neffect = "allow"\n')
+    status, said, shown = tried(program, room / "open.toml")
+    trial.check("check-policy.sh of a policy that hides nothing: status, denials, lines that say so", (status, said.count("denied"), shown), (0, 0, 6))
+    (room / "none.toml").write_text("[[rule]]\n")
+    trial.check("check-policy.sh of a text that is no policy", tried(program, room / "none.toml"), (1, "", 0))
+    page = (ROOT / "docs" / "POLICY.md").read_text()
+    shown = re.search(r"^    samples/check-policy.sh samples/members.toml (\S+)\n\n((?:    .*\n)+)", page, re.MULTILINE)
+    trial.check("and of members.toml what docs/POLICY.md shows", tried(program, SAMPLES / "members.toml", shown[1])[1], re.sub("^    ", "", shown[2], flags=re.MULTILINE))
+
+
 def commands():
-    """The commands of docs/COMMANDS.md: the words of each, and what it prints."""
-    table = (ROOT / "docs" / "COMMANDS.md").read_text().split("\n\n")[2]
+    """The program's commands in docs/COMMANDS.md: the words of each, and what it prints."""
+    table = next(it for it in (ROOT / "docs" / "COMMANDS.md").read_text().split("\n\n") if it.startswith("| Words |"))
     rows = re.findall(r"^\| `([a-z-]+)( [^`]*)` \|[^|]*\| ([^|]*) \|$", table, re.MULTILINE)
-    return {command: (words, re.findall("`([^`]*)`", printed)) for command, words, printed in rows}
+    return {command: (words, re.findall("`([^`]*)`", printed)) for command, words, printed in rows if command != "package"}
 
 
 def told(trial, program):
@@ -247,10 +301,11 @@ def main():
     with Trial() as trial:
         units(trial)
         helped(trial)
+        sound(trial)
         completed(trial)
         told(trial, asked.archive)
-        for what in (surprises, cutting, backups, moved_in):
-            if what is cutting or trial.has("sqlite3", what.__name__):
+        for what in (surprises, cutting, policies, backups, moved_in):
+            if what in (cutting, policies) or trial.has("sqlite3", what.__name__):
                 with tempfile.TemporaryDirectory() as room:
                     room = pathlib.Path(room)
                     (room / "policy.toml").write_text(POLICY.read_text())

@@ -5,7 +5,8 @@
 
 Each case starts a server of its own on 127.0.0.1, lets one or more peers do what its name says, and has a last peer ask for all
 lists. It measures how long that one waits, beside the time that docs/HTTP.md gives to the peers before it; the reply has to be the
-page, the server has to end by itself with status 0, and its lines of faults have to be those of the case. Three minutes in all.
+page, the server has to end by itself with status 0, and its lines of faults have to be those of the case; a reply that breaks off has
+to end in a reset. Three minutes in all.
 The last line is 'N passed, N failed, N skipped'; status 1 where one failed. Build the program first: ./archive --version.
 """
 import pathlib, socket, struct, tempfile, threading, time
@@ -173,6 +174,15 @@ CASES = [
 ASK_FOR_MUCH = [gone_in_the_reply, never_reads]
 
 
+def is_reset(peer):
+    """Whether a reply that broke off is told from one that ended."""
+    try:
+        heard(peer)
+        return False
+    except ConnectionResetError:
+        return True
+
+
 def run_case(program, db, peers, count, most, told):
     """What the last peer waited, what the server said, and whether all is as it shall be."""
     server, kept, replied = Server(program, db, count + 1), [], True
@@ -186,6 +196,8 @@ def run_case(program, db, peers, count, most, told):
     reply = heard(last)
     waited = time.perf_counter() - begun
     status, lines = server.finish()
+    if peers is never_reads:
+        replied = replied and is_reset(kept[0])
     for peer in kept:
         peer.close()
     good = replied and b"<h1>Lists</h1>" in reply and status == 0 and lines in told and waited <= most + SLACK

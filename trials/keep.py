@@ -6,143 +6,16 @@
 A reader asks all the time, while a command comes, a large mbox, another policy, a text that is no policy; then as fast as it can;
 then the script is killed or stopped in the middle of its work, and begun again. It prints the longest time between two answers,
 beside the time of one command on the same file, and asks for at most three times that and a second. The archive holds --mails
-messages at first, and --more come. The last line is 'N passed, N failed, N skipped'.
+messages at first, and --more come. Then eight writers give a hundred orders while an import runs, `--once` works without serving,
+and a list gets full. The last line is 'N passed, N failed, N skipped'.
 """
-import os, pathlib, shutil, signal, socket, sqlite3, subprocess, sys, tempfile, threading, time
+import pathlib, shutil, signal, socket, sqlite3, subprocess, sys, tempfile, threading, time
 
-from trial import ROOT, SAMPLES, Trial, begun, free_ports, output, words_of
-from serving import get, heard
+from trial import ROOT, SAMPLES, Trial, output, words_of
+from keeper import OPEN, SHUT, Keeper, Reader, one_command
 import mbox
 
-OPEN = (SAMPLES / "seeds.toml").read_text()
-SHUT = OPEN.replace('name = "open"\neffect = "allow"', 'name = "shut"\neffect = "deny"')
-
-
-class Reader(threading.Thread):
-    """Asks for the page of lists again and again, and knows the times between two answers, beside its own pause."""
-
-    def __init__(self, port, pause):
-        super().__init__(daemon=True)
-        self.port, self.pause, self.answered, self.refused, self.longest, self.gaps, self.ended = port, pause, 0, 0, 0, [], False
-        self.last = time.monotonic()
-        self.start()
-
-    def ask(self):
-        try:
-            with socket.create_connection(("127.0.0.1", self.port), timeout=60) as peer:
-                peer.sendall(get("/"))
-                return heard(peer).startswith((b"HTTP/1.1 200", b"HTTP/1.0 200"))
-        except OSError:
-            return False
-
-    def run(self):
-        was_there = True
-        while not self.ended:
-            good, now = self.ask(), time.monotonic()
-            self.longest = max(self.longest, now - self.last - self.pause)
-            if good:
-                self.answered += 1
-                if not was_there:
-                    self.gaps.append(now - self.last)
-                self.last = now
-            else:
-                self.refused += 1
-                time.sleep(0.01)
-            was_there = good
-            time.sleep(self.pause)
-
-    def end(self):
-        """The longest time without an answer, whether nobody was there or somebody was slow."""
-        self.ended = True
-        self.join()
-        return self.longest
-
-
-class Keeper:
-    """keep.sh over a folder."""
-
-    def __init__(self, script, program, folder):
-        self.folder, self.port, self.words = pathlib.Path(folder), free_ports(1)[0], [script, folder]
-        self.env = {**os.environ, "ARCHIVE": str(program), "AGAIN": "6"}
-
-    def begin(self):
-        with open(self.folder.parent / "errors", "ab") as errors:
-            self.process = begun(subprocess.Popen([*map(str, self.words), str(self.port)], env=self.env, stdout=subprocess.DEVNULL, stderr=errors,
-                                                  start_new_session=True))
-
-    def page(self, path):
-        try:
-            with socket.create_connection(("127.0.0.1", self.port), timeout=60) as peer:
-                peer.sendall(get(path))
-                return heard(peer)
-        except OSError:
-            return b""
-
-    def until(self, what, seconds=300):
-        """How long it takes until this is so."""
-        begun = time.monotonic()
-        while not what() and time.monotonic() - begun < seconds:
-            time.sleep(0.05)
-        return time.monotonic() - begun
-
-    def shows(self, path, text, seconds=300):
-        return self.until(lambda: text in self.page(path), seconds)
-
-    def put(self, name, text):
-        """Writes a file that comes whole."""
-        (self.folder / f"{name}.new").write_text(text)
-        os.replace(self.folder / f"{name}.new", self.folder / name)
-
-    def mail(self, name, mbox):
-        (self.folder / "mail" / name).mkdir(parents=True, exist_ok=True)
-        shutil.copyfile(mbox, self.folder / "mail" / name / "come")
-        os.replace(self.folder / "mail" / name / "come", self.folder / "mail" / name / "come.mbox")
-
-    def log(self):
-        return (self.folder / "log").read_text() if (self.folder / "log").exists() else ""
-
-    def counts(self):
-        """The messages of each list, in a copy of the file."""
-        copy = self.folder.parent / "counted.db"
-        subprocess.run([SAMPLES / "copy.sh", self.folder / "archive.db", copy], check=True)
-        stock = sqlite3.connect(copy)
-        found = dict(stock.execute("SELECT l.name, count(m.pos) FROM list l LEFT JOIN message m ON m.list = l.name GROUP BY l.name"))
-        sound = stock.execute("PRAGMA integrity_check").fetchone()[0]
-        stock.close()
-        return found, sound
-
-    def running(self):
-        """The processes of the script: it is a session of its own, and the work beside a server a group in that."""
-        found = []
-        for it in pathlib.Path("/proc").glob("[0-9]*/stat"):
-            try:
-                words = it.read_text().rpartition(")")[2].split()
-            except OSError:
-                continue
-            # (its state, its parent, its group, its session)
-            if int(words[3]) == self.process.pid and words[0] != "Z":
-                found.append(int(it.parent.name))
-        return found
-
-    def kill(self):
-        """Ends the script and what it began, at once."""
-        while found := self.running():
-            for it in found:
-                try:
-                    os.kill(it, signal.SIGKILL)
-                except ProcessLookupError:
-                    pass
-            time.sleep(0.01)
-        self.process.wait()
-
-
-def one_command(program, keeper):
-    """How long one command takes on a copy of the file."""
-    copy = keeper.folder.parent / "one.db"
-    subprocess.run([SAMPLES / "copy.sh", keeper.folder / "archive.db", copy], check=True)
-    begun = time.monotonic()
-    output(program, "list-add", "--db", copy, "one")
-    return time.monotonic() - begun
+FULL = 50_000  # messages of a list
 
 
 def while_read(trial, keeper, program, what, change, seen, commands=None, pause=0.02):
@@ -274,7 +147,7 @@ def without_tokens(trial, room, keeper):
     lock.close()
     trial.check("a database that is locked: status, standard error", (ran.returncode, ran.stderr),
                 (1, "keep.sh: person-add --db archive.db ..: archive: E15 Store\nkeep.sh: what is left is tried again in 6 seconds\narchive: E15 Store\n"))
-    trial.holds("its commands stay for the next beginning", token in (keeper.folder / "commands.now").read_text())
+    trial.check("its commands stay for the next beginning", [it.read_text() for it in (keeper.folder / "commands.now").iterdir()], [f"person-add mo {token}\n"])
     modes = {it.name: oct(it.stat().st_mode & 0o077) for it in keeper.folder.rglob("*") if it.name in ("archive.db", "log", "commands.done")}
     trial.check("what it makes, and holds tokens, is its owner's alone", modes, dict.fromkeys(("archive.db", "log", "commands.done"), "0o0"))
 
@@ -289,17 +162,153 @@ def not_begun(trial, keeper):
     trial.holds("a policy.toml that is none, at the beginning", ran.returncode == 1 and ran.stderr.startswith("keep.sh: policy.toml: archive: P"), ran.stderr.strip())
 
 
+def keys_of(file):
+    with open(file, "rb") as lines:
+        return [mbox.key_of(text) for _, _, text in mbox.messages(lines)]
+
+
+def ordered(trial, program, script, room, few, more):
+    """Eight writers give a hundred orders at once, while an import runs: all are carried out, each writer's in its order."""
+    keeper = Keeper(script, program, room / "ordered")
+    keeper.put("policy.toml", OPEN)
+    keeper.order("first", "list-add soc\nlist-add more\n")
+    keeper.mail("soc", few)
+    keeper.begin()
+    keys = keys_of(few)[:100]
+    keeper.shows(f"/l/soc/m/{keys[0]}", b" 200 OK")
+    (keeper.folder / "commands.d" / "folder").mkdir()
+    (keeper.folder / "commands.d" / "nowhere").symlink_to("none")
+    keeper.mail("more", more)
+    keeper.until(lambda: (keeper.folder / "archive.next").exists(), 60)
+
+    def write(writer):
+        for number, key in enumerate(keys[writer::8]):
+            keeper.order(f"{time.time_ns()}-{writer}-{number}", f"withdraw soc {key} author\n")
+
+    writers = [threading.Thread(target=write, args=(it,)) for it in range(8)]
+    runs = "import --db archive.next more" not in keeper.log()
+    for it in writers:
+        it.start()
+    for it in writers:
+        it.join()
+    trial.holds("eight writers give a hundred orders while an import runs", runs and "import --db archive.next more" not in keeper.log())
+    keeper.until(lambda: keeper.log().count(": withdrawn\n") == 100 and not (keeper.folder / "commands.now").exists(), 1200)
+    said = [line.split()[5] for line in keeper.log().splitlines() if " withdraw " in line]
+    trial.check("orders that were carried out, and refused", (len({*said}), len(said), keeper.log().count(": archive: E")), (100, 100, 0))
+    trial.check("writers whose orders are not in their order", [writer for writer in range(8) if [it for it in said if it in keys[writer::8]] != keys[writer::8]], [])
+    keeper.shows(f"/l/soc/m/{said[-1]}", b" 403 Forbidden")
+    trial.check("those that are not seen", [it for it in keys if b" 403 Forbidden" not in keeper.page(f"/l/soc/m/{it}")], [])
+    named = [keeper.log().count(f"commands.d/{it}: it cannot be read, and stays\n") for it in ("folder", "nowhere")]
+    trial.check("what cannot be read stays, and is named once", (named, sorted(it.name for it in (keeper.folder / "commands.d").iterdir())), ([1, 1], ["folder", "nowhere"]))
+    trial.check("stopped: status", keeper.stop(), 0)
+
+
+def behind_mail(trial, program, script, room, few):
+    """Orders are carried out while mail is wanting memory, and waits."""
+    stand_in = room / "wanting"
+    stand_in.write_text(f'#!/bin/sh\n[ "$1" != import ] || [ ! -e wanting ] || {{ echo "archive: E14 Memory" >&2; exit 1; }}\nexec {program} "$@"\n')
+    stand_in.chmod(0o700)
+    keeper = Keeper(script, stand_in, room / "behind", AGAIN="300")
+    keeper.put("policy.toml", OPEN)
+    keeper.put("wanting", "")
+    keeper.put("commands", "list-add soc\n")
+    keeper.begin()
+    keeper.shows("/", b"/l/soc/", 60)
+    keeper.mail("soc", few)
+    keeper.until(lambda: keeper.log().count(": archive: E14 Memory\n") == 2, 60)
+    keeper.order("1", "list-add board\n")
+    keeper.shows("/", b"/l/board/", 60)
+    left = keeper.folder / "mail" / "soc" / "come.mbox"
+    trial.check("mail is wanting memory, and put off: an order is carried out, the mail waits, and is not tried for it",
+                (b"/l/board/" in keeper.page("/"), left.exists(), keeper.log().count(": archive: E14 Memory\n")), (True, True, 2))
+    (keeper.folder / "wanting").unlink()
+    keeper.stop()
+    keeper.begin()
+    keeper.until(lambda: not left.exists() and keeper.page("/"), 60)
+    trial.check("begun again it takes the mail in", (keeper.counts()[0], keeper.stop()), ({"soc": 1000, "board": 0}, 0))
+
+
+def without_serving(trial, program, script, room, few):
+    """`--once` does what waits, and says by its status whether all is settled."""
+    keeper = Keeper(script, program, room / "once")
+    keeper.order("first", "list-add soc\n")
+    keeper.mail("soc", few)
+    trial.check("--once: commands and mail, without a policy", (keeper.once(), keeper.counts()), ((0, ""), ({"soc": 1000}, "ok")))
+    trial.check("--once: nothing waits", keeper.once(), (0, ""))
+    keeper.order("1", "list-add unended")
+    keeper.order("2", "list-add last\n")
+    done = keeper.folder / "commands.done"
+    trial.check("--once: a line without an end is one", (keeper.once(), done.read_text()), ((0, ""), "list-add soc\nlist-add unended\nlist-add last\n"))
+    lock = sqlite3.connect(keeper.folder / "archive.db")
+    lock.execute("BEGIN EXCLUSIVE")
+    keeper.order("second", "list-add board\n")
+    trial.check("--once: a database that another program has", keeper.once(), (1, "keep.sh: list-add --db archive.db board: archive: E15 Store\n"))
+    lock.close()
+    trial.check("--once: and again, without it", (keeper.once(), keeper.counts()[0]), ((0, ""), {"soc": 1000, "board": 0, "unended": 0, "last": 0}))
+    (keeper.folder / "commands.d" / "folder").mkdir()
+    trial.check("--once: a file of commands that cannot be read", keeper.once(), (1, ""))
+    (keeper.folder / "commands.d" / "folder").rmdir()
+    keeper.put("policy.toml", OPEN)
+    keeper.begin()
+    keeper.shows("/", b"/l/board/")
+    trial.check("--once: beside one that serves", keeper.once(), (1, "keep.sh: another one has this folder, or what it began still runs\n"))
+    keeper.stop()
+    ran = [subprocess.run([script, *words], env=keeper.env, capture_output=True, text=True, check=False) for words in ((), ("--once",), ("--once", "a", "80"), ("a", "80", "b"))]
+    trial.check("bad words: statuses, and lines", {(it.returncode, it.stderr) for it in ran}, {(2, "keep.sh: the words are FOLDER [PORT], or --once FOLDER\n")})
+
+
+def small_mails(file, numbers):
+    file.write_text("".join(f"From a@b Tue Mar  4 10:00:00 2003\nSubject: {it}\n\n" for it in numbers))
+    return keys_of(file)
+
+
+def filled(trial, program, script, room):
+    """A list gets full: what it refuses is told, or goes on in the next list, if it may."""
+    keeper = Keeper(script, program, room / "full")
+    mails, over = room / "full.mbox", room / "over.mbox"
+    keys = small_mails(mails, range(FULL))
+    keeper.order("1", f"list-add soc\nmerge soc no\nperson-add mo 0123456789abcdef\ngrant mo soc moderator 2003-01-01 2003-12-31\n")
+    keeper.mail("soc", mails)
+    trial.check("a list that is just full", (keeper.once(), keeper.counts()), ((0, ""), ({"soc": FULL}, "ok")))
+    shown = output(SAMPLES / "show.sh", keeper.folder / "archive.db").splitlines()[1]
+    trial.holds("show.sh says how full it is", shown.startswith(f"soc\t{FULL}\t") and shown.endswith("\t100.0%"), shown)
+    keeper.order("2", f"withdraw soc {keys[0]} author\n")
+    keeper.once()
+    # (the second one that is refused is new, and between new ones stands one that was withdrawn)
+    new = small_mails(over, [1, FULL, 0, FULL + 1])
+    keeper.mail("soc", over)
+    trial.check("without `continue` it is refused", (keeper.once(), keeper.counts()[0]), ((0, ""), {"soc": FULL}))
+    full = (keeper.folder / "full").read_text().split(" ", 1)[1].split(": ")
+    trial.check("the file `full` says of which list, after how many, and where it lies",
+                (full[:2], [str(it.relative_to(keeper.folder)) for it in (keeper.folder / "mail.refused").glob("soc/*.mbox")]), (["soc", "E12 ListFull after 1"], [full[2].strip()]))
+    (keeper.folder / "continue").touch()
+    (keeper.folder / "policy.toml").write_text('[[rule]]\nname = "a"\neffect = "allow"\nlists = ["soc"]\n')
+    keeper.mail("soc", over)
+    keeper.once()
+    trial.check("a policy that names the list alone: it is not continued", (keeper.log().count("soc is full, and is not continued: policy.toml names soc, and not soc-2\n"),
+                keeper.counts()[0]), (1, {"soc": FULL}))
+    (keeper.folder / "policy.toml").write_text(OPEN)
+    keeper.mail("soc", over)
+    trial.check("it goes on in the next list", (keeper.once(), keeper.counts()), ((0, ""), ({"soc": FULL, "soc-2": 2}, "ok")))
+    stock = sqlite3.connect(keeper.folder / "archive.db")
+    trial.check("of what it does not hold, in its order", [it for (it,) in stock.execute("SELECT key FROM message WHERE list = 'soc-2' ORDER BY pos")], [new[1], new[3]])
+    trial.check("with its grants, and its threading", (stock.execute("SELECT person, kind FROM grant_row WHERE list = 'soc-2'").fetchall(),
+                stock.execute("SELECT merge FROM list_option WHERE list = 'soc-2'").fetchall()), ([("mo", 3)], [(0,)]))
+    stock.close()
+    keeper.mail("soc", over)
+    trial.check("the same again changes nothing", (keeper.once(), keeper.counts()[0]), ((0, ""), {"soc": FULL, "soc-2": 2}))
+
+
 def main():
     asked = words_of(__doc__, script={"default": SAMPLES / "keep.sh", "help": "another keep.sh"}, mails={"type": int, "default": 7000, "help": "messages at first"},
                      more={"type": int, "default": 20000, "help": "messages that come"})
-    program = asked.archive
+    program, script = asked.archive, pathlib.Path(asked.script).resolve()
     with Trial() as trial, tempfile.TemporaryDirectory() as room:
         room = pathlib.Path(room)
         mails, more, few = room / "mails.mbox", room / "more.mbox", room / "few.mbox"
         for file, count in ((mails, asked.mails), (more, asked.more), (few, 1000)):
             output(sys.executable, ROOT / "bench" / "gen_mbox.py", "--n", count, "--out", file)
-        (room / "kept").mkdir()
-        keeper = Keeper(pathlib.Path(asked.script).resolve(), program, room / "kept")
+        keeper = Keeper(script, program, room / "kept")
         keeper.put("policy.toml", OPEN)
         keeper.put("commands", "list-add soc\n")
         keeper.mail("soc", mails)
@@ -318,11 +327,15 @@ def main():
         finally:
             if keeper.process.poll() is None:
                 keeper.kill()
-        expected = ("keep.sh: policy.toml: ", "keep.sh: list-add --db archive.next roomless: ", "mv: ", "cat: ", "keep.sh: what is left is tried again in ")
+        expected = ("keep.sh: policy.toml: ", "keep.sh: list-add --db archive.next roomless: ", "mv: ", "sed: ", "keep.sh: what is left is tried again in ")
         told = (room / "errors").read_text().splitlines()
         trial.check("what it said on standard error, beside what was to be said", [it for it in told if not it.startswith(expected)], [])
         without_tokens(trial, room, keeper)
         not_begun(trial, keeper)
+        ordered(trial, program, script, room, few, more)
+        behind_mail(trial, program, script, room, few)
+        without_serving(trial, program, script, room, few)
+        filled(trial, program, script, room)
 
 
 main()

@@ -1,9 +1,9 @@
 """trial.py: what the scripts beside this one share: counting, programs that may be missing, a browser, the helpers of bench.
 
-All that they can want, of Debian: nginx-light chromium curl sqlite3 procmail mutt notmuch git openssl bsdutils systemd gcc libc6-dev,
-and pngquant for smaller pictures.
+All that they can want, of Debian: nginx-light chromium firefox-esr curl sqlite3 procmail mutt notmuch git openssl bsdutils systemd gcc libc6-dev
+haproxy socat rsync openssh-server iproute2, postfix mailman3 isync dovecot-imapd for new mail, and pngquant for smaller pictures.
 """
-import argparse, base64, json, os, pathlib, re, select, shutil, signal, socket, subprocess, sys, time, traceback
+import argparse, base64, fcntl, json, os, pathlib, re, select, shutil, signal, socket, subprocess, sys, time, traceback
 
 sys.dont_write_bytecode = True
 # (what programs say is read here, and all of it is on this machine)
@@ -105,6 +105,15 @@ def free_ports(count):
     return ports
 
 
+def clone(folder):
+    """A fresh clone of the repository, with what is changed here and not committed."""
+    subprocess.run(["git", "clone", "-q", ROOT, folder], check=True)
+    listed = subprocess.run(["git", "ls-files", "-mo", "--exclude-standard"], cwd=ROOT, stdout=subprocess.PIPE, check=True, text=True).stdout
+    for name in filter(lambda it: (ROOT / it).is_file(), listed.splitlines()):
+        (folder / name).parent.mkdir(parents=True, exist_ok=True)
+        shutil.copy2(ROOT / name, folder / name)
+
+
 def output(*words, **more):
     """What a program prints, on both its streams."""
     ran = subprocess.run([*map(str, words)], stdout=subprocess.PIPE, stderr=subprocess.STDOUT, text=True, errors="replace", **more)
@@ -127,13 +136,19 @@ def words_of(about, **more):
 class Browser:
     """A headless browser with a profile of its own, told what to do by its pipe (DevTools, `--remote-debugging-pipe`)."""
 
+    patience = 60  # the seconds in which it has to answer
+
     def __init__(self, program, profile):
         to_it, ours = os.pipe()
         theirs, from_it = os.pipe()
         words = [program, "--headless", "--disable-gpu", "--hide-scrollbars", "--ignore-certificate-errors", "--no-first-run",
                  "--disable-background-networking", "--remote-debugging-pipe", f"--user-data-dir={profile}"]
         words += ["--no-sandbox"] if os.getuid() == 0 else []
-        # (it reads from 3 and writes to 4)
+        # (it reads from 3 and writes to 4, so what it is given lies above)
+        low = to_it, from_it
+        to_it, from_it = (fcntl.fcntl(it, fcntl.F_DUPFD, 10) for it in low)
+        for it in low:
+            os.close(it)
         moved = ["bash", "-c", f'exec "$@" 3<&{to_it} 4>&{from_it} {to_it}<&- {from_it}>&-', "bash"]
         self.process = begun(subprocess.Popen([*moved, *words], pass_fds=(to_it, from_it), stdout=subprocess.DEVNULL, stderr=subprocess.DEVNULL))
         os.close(to_it)
@@ -162,7 +177,7 @@ class Browser:
     def tell(self, method, session=None, **words):
         self.number += 1
         self.out.write(json.dumps({"id": self.number, "method": method, "params": words, **(session or {})}).encode() + b"\0")
-        while (said := self.next(60)).get("id") != self.number:
+        while (said := self.next(self.patience)).get("id") != self.number:
             pass
         if "error" in said:
             raise ValueError(f"{method}: {said['error']}")

@@ -6,17 +6,24 @@
 A block of a page that is indented and begins with a command is given to a shell, all blocks of a page to one; where a second part
 follows behind an empty line, that is what has to come, with `..` for any lines, and DAY for a day. Where nothing is shown, no
 refusal may come, and the last command may not fail; what the README says of its blocks in its own words stands in SAID. The clone
-is of the repository as it is committed, with what is changed but not committed, and runs the program that is given, with the stamp
-beside it: nothing is built, and blocks that would (./check) are left out. Port 8080 becomes a free one; FACTOR makes each `sleep`
-longer, on a busy machine. The last line is 'N passed, N failed, N skipped'.
+is of the repository as it is committed, with what is changed but not committed, and runs the program that is given, as if it
+were built there: nothing is proved, and lines that would prove (./check) are left out. Port 8080 becomes a free one; FACTOR makes each `sleep`
+longer, on a busy machine. New mail comes by mailers.py. The last line is 'N passed, N failed, N skipped'.
 """
 import os, pathlib, re, shutil, signal, subprocess, tempfile, time
 
-from trial import ROOT, Trial, begun, free_ports, words_of
-import part
+from trial import Trial, begun, clone, free_ports, words_of
+import mailers
 
 PAGES = ("README.md", "docs/WALKTHROUGH.md")
 KEYWORDS = ("for", "{", "if", "while", "umask", "cd", "export")
+# A stand-in for the toolchain, by which the front door of a clone builds the program that is given.
+STAND_IN = """#!/bin/sh
+case $1 in
+  version) echo 'the program that was given' ;;
+  ci) mkdir -p crates/archive/out && cp -- "$PROGRAM" crates/archive/out/archive && echo '1 passed, 0 failed' ;;
+esac
+"""
 # What takes an hour or more, or another machine.
 LEFT_OUT = {"./check": "it proves everything", "apt-get": "it changes the machine"}
 END = "--- end of block"
@@ -63,13 +70,13 @@ def is_command(line, folder):
 class Shell:
     """One shell for a page, in its clone."""
 
-    def __init__(self, folder, port, patience, path):
-        self.port, self.said = port, folder.parent / f"{folder.name}.said"
+    def __init__(self, folder, port, patience, path, words, known):
+        self.words, self.said = {"8080": str(port), **words}, folder.parent / f"{folder.name}.said"
         self.out = open(self.said, "wb")
         # (its session is its own, so that what it began can be ended with it)
         self.process = begun(subprocess.Popen(
             ["bash"], cwd=folder, stdin=subprocess.PIPE, stdout=self.out, stderr=subprocess.STDOUT, start_new_session=True, text=True,
-            env={**os.environ, "PATH": path, "LC_ALL": "C.UTF-8"}), group=True)
+            env={**os.environ, "PATH": path, "LC_ALL": "C.UTF-8", **known}, **mailers.as_user()), group=True)
         self.tell(f"sleep() {{ command sleep $(({patience} * $1)); }}")
 
     def tell(self, text):
@@ -91,7 +98,9 @@ class Shell:
         return self.said.read_bytes()[before:].decode("utf-8", "replace")
 
     def here(self, text):
-        return text.replace("8080", str(self.port))
+        for word, other in self.words.items():
+            text = text.replace(word, other)
+        return text
 
     def end(self):
         """Ends the shell and all that it began: first in a way in which keep.sh can stop what it began."""
@@ -125,15 +134,20 @@ def short(text):
     return text if len(text) < 3000 else f"{text[:1500]}\n[..]\n{text[-1500:]}"
 
 
-def walk(trial, page, folder, port, patience, path):
-    shell = Shell(folder, port, patience, path)
+def walk(trial, page, folder, shell, lacking):
     for line, heading, commands, shown in blocks((folder / page).read_text(encoding="utf-8")):
         what, first = f"{page}:{line} ({heading})", commands.split()[0]
         if not is_command(commands.splitlines()[0], folder):
             print(f"no command: {what}: {first} ..")
             continue
-        if first in LEFT_OUT:
-            trial.skip(what, f"{first}: {LEFT_OUT[first]}")
+        left_out = [it for it in commands.splitlines() if it.split()[0] in LEFT_OUT]
+        for it in left_out:
+            trial.skip(what, f"{it}: {LEFT_OUT[it.split()[0]]}")
+        commands = "\n".join(it for it in commands.splitlines() if it not in left_out)
+        if not commands:
+            continue
+        if wanted := [it for it in lacking if it in commands]:
+            trial.skip(what, lacking[wanted[0]])
             continue
         text, status = shell.run(commands)
         said, in_words = said_by(text), [it for (where, begins), it in SAID.items() if where == page and commands.startswith(begins)]
@@ -151,25 +165,14 @@ def walk(trial, page, folder, port, patience, path):
     shell.end()
 
 
-def clone(folder, program):
-    """A fresh clone with what is changed here, and the program."""
-    subprocess.run(["git", "clone", "-q", ROOT, folder], check=True)
-    listed = subprocess.run(["git", "ls-files", "-mo", "--exclude-standard"], cwd=ROOT, stdout=subprocess.PIPE, check=True, text=True).stdout
-    for name in filter(lambda it: (ROOT / it).is_file(), listed.splitlines()):
-        (folder / name).parent.mkdir(parents=True, exist_ok=True)
-        shutil.copy2(ROOT / name, folder / name)
-    out = folder / "crates" / "archive" / "out"
-    out.mkdir(parents=True)
-    shutil.copy2(program, out / "archive")
-    (out / "built-by-the-front-door").write_text(stamp(folder))
-
-
-def stamp(folder):
-    """What the front door of a clone writes down of a program that is built there (its function `parts`)."""
-    crates = [it for it in (folder / "crates.txt").read_text().splitlines() if not it.startswith("#")]
-    files = [it.relative_to(folder) for name in part.with_those_below("archive") for it in (folder / "crates" / name).rglob("*") if it.suffix in (".rt", ".antt")]
-    sources = sorted(str(it) for it in files if it.parts[2] != "out")
-    return "".join(f"{it}\n" for it in ["the program that was given", *crates, *sources])
+def build(folder, program):
+    """Has the front door of a clone take the program for one that it built: by a stand-in for the toolchain, which copies it."""
+    with tempfile.TemporaryDirectory() as room:
+        stand_in = pathlib.Path(room) / "rt"
+        stand_in.write_text(STAND_IN)
+        stand_in.chmod(0o755)
+        known = {"PATH": f"{room}:{os.environ['PATH']}", "PROGRAM": str(program)}
+        subprocess.run([folder / "archive", "--version"], stdout=subprocess.DEVNULL, stderr=subprocess.DEVNULL, check=True, env={**os.environ, **known})
 
 
 def without_toolchain(folder):
@@ -196,8 +199,10 @@ def main():
         path = without_toolchain(room)
         for page in [asked.page] if asked.page else PAGES:
             folder = room / re.sub(r"\W", "-", page)
-            clone(folder, asked.archive)
-            walk(trial, page, folder, free_ports(1)[0], asked.patience, path)
+            clone(folder)
+            build(folder, asked.archive)
+            with mailers.ready(room / f"{folder.name}.mail", folder) as (words, known, lacking):
+                walk(trial, page, folder, Shell(folder, free_ports(1)[0], asked.patience, path, words, known), lacking)
 
 
 main()
