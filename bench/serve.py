@@ -14,7 +14,7 @@ Build the programs first: ./archive --version, (cd crates/listen_probe && rt run
 """
 import argparse, pathlib, re, subprocess, sys, tempfile, time
 
-from serving import ROOT, Server, get, heard, make_archive
+from serving import ROOT, Bare, Server, get, heard, make_archive
 
 OPEN = '[[rule]]\nname = "all"\neffect = "allow"\n'
 
@@ -26,20 +26,6 @@ def asked(connect, path):
         peer.sendall(get(path))
         reply = heard(peer)
     return time.perf_counter() - begun, reply
-
-
-class Bare:
-    """The bare loop, which answers each connection with so many bytes."""
-
-    def __init__(self, probe, size):
-        self.process = subprocess.Popen([probe, "10000000", str(size)], stdout=subprocess.PIPE, text=True)
-        self.port = int(self.process.stdout.readline())
-
-    connect = Server.connect
-
-    def stop(self):
-        self.process.kill()
-        self.process.wait()
 
 
 def written(probe, size, rounds):

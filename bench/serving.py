@@ -50,6 +50,20 @@ class Server:
         return status, self.faults.read().decode(errors="replace").splitlines()
 
 
+class Bare:
+    """The bare loop, which answers each connection with so many bytes."""
+
+    def __init__(self, probe, size):
+        self.process = subprocess.Popen([probe, "10000000", str(size)], stdout=subprocess.PIPE, text=True)
+        self.port = int(self.process.stdout.readline())
+
+    connect = Server.connect
+
+    def stop(self):
+        self.process.kill()
+        self.process.wait()
+
+
 def get(path, token=None):
     """The bytes of a request."""
     bearer = f"Authorization: Bearer {token}\r\n" if token else ""
