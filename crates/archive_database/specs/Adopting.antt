@@ -1,8 +1,13 @@
 -- Which databases are taken over.
 use Rattle.std.specs.Prelude.{◌≡◌, ◌⊎◌, ◌≤◌, ◌<◌, ℕ, length}
+use Rattle.sqlite.specs.Effect.{Database}
+use Rattle.sqlite.specs.Held.{Held, state}
 use Rattle.sqlite.specs.Schema.{Schema}
+use Rattle.sqlite.specs.Store.{Ghosts}
 use Rattle.archive_tables.specs.Schema.{no_schema, schema_of}
 use Rattle.archive_tables.specs.Tables.{IsKnown, newest_number}
+use Rattle.archive_tables.specs.Crashes.{AddsNothing}
+use Rattle.archive_tables.specs.Making.{IsMaking}
 
 -- so many tables and indexes, and no view
 pub record HasObjects (tables indexes : ℕ) (schema : Schema) : Type 0 where
@@ -28,3 +33,7 @@ IsUnderstood schema = (schema ≡ no_schema) ⊎ ((number : ℕ) × IsKnown numb
 pub record IsOlder (number : ℕ) : Type 0 where
   pub least : 1 ≤ number
   pub most : number < newest_number
+
+-- within a transaction over the tables of this schema, without rows, a stop of the machine leaves nothing that it did not leave before
+abbrev pub QuietFrom : {S : Type 0} → Ghosts S → Held S → Held S → Schema → Type 0
+QuietFrom g old new schema = (before : Database) → IsMaking (state g old) schema before → AddsNothing g old new

@@ -1,5 +1,5 @@
 -- What becomes of the messages of a file that are added to a list.
-use Rattle.std.specs.Prelude.{◌≡◌, ◌⊎◌, ◌≤◌, ℕ, true, false, List, length, take, Option, Some, None, option_map}
+use Rattle.std.specs.Prelude.{◌≡◌, ◌⊎◌, ◌≤◌, ℕ, ⊤, true, false, List, length, take, Option, Some, None, option_map}
 use Rattle.mbox_core.specs.Division.{Item, Divides, IsPreamble}
 use Rattle.mbox_core.specs.Faults.{IsCutFault}
 use Rattle.mbox_core.specs.declared.faults.MboxFault.TheVariants.{Preamble, Read, Memory, Failed}
@@ -14,6 +14,8 @@ use Rattle.archive_desk.specs.declared.importing.Report.{Report}
 use Rattle.archive_desk.specs.declared.importing.ImportStop.{ImportStop}
 use Rattle.archive_desk.specs.declared.importing.ImportFault.{ImportFault}
 use Rattle.archive_desk.specs.declared.importing.ImportFault.TheVariants.{Mbox, Store}
+use Rattle.archive_desk.specs.declared.importing.Uncut.{Uncut}
+use Rattle.archive_desk.specs.declared.importing.Uncut.TheVariants.{Mbox as NotMbox, Refused}
 
 abbrev pub tally_of : Report → Tally
 tally_of r = record { new = r.new; known = r.known; too_large = r.too_large }
@@ -65,9 +67,9 @@ IsBrokenAdd list items a b done (Store fault) = HasAddedFirst list items done a 
 -- ---- the messages of a file
 
 -- why it is not cut: M1, or there is no memory
-abbrev pub IsCutStop : List ℕ → ImportFault → Type 0
-IsCutStop text (Mbox fault) = IsCutFault text fault
-IsCutStop text (Store fault) = fault ≡ NoMemory
+abbrev pub IsUncut : List ℕ → Uncut → Type 0
+IsUncut text (NotMbox fault) = IsCutFault text fault
+IsUncut text (Refused why) = ⊤
 
 -- all messages of the file were added
 pub record IsImported (list text : List ℕ) (a b : Archive) (report : Report) : Type 0 where

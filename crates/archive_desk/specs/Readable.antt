@@ -55,6 +55,17 @@ AreListsUnreadable archive = ¬ All IsUtf8 archive.lists
 abbrev pub IsHolderUnreadable : Archive → (token : List ℕ) → Type 0
 IsHolderUnreadable archive token = IsSomeAnd (person_of_token archive token) (λ name. ¬ IsUtf8 name)
 
+-- Nothing is so of it that E15 of a question could mean: not of the messages of a list, of a month or of an author, nor of the
+-- message of a key, nor of who asks, nor of the names of lists and of who has a token.
+pub record BreaksNoQuestion (archive : Archive) : Type 0 where
+  pub list : (ask : Ask) → ¬ IsUnreadable archive ask (messages_in archive ask.list)
+  pub month : (ask : Ask) (month : ℤ) → ¬ IsUnreadable archive ask (in_month archive ask.list month)
+  pub author : (ask : Ask) (key : List ℕ) → ¬ IsUnreadable archive ask (by_author archive ask.list key)
+  pub message : (ask : Ask) (key : List ℕ) → ¬ IsMessageUnreadable archive ask key
+  pub reader : (ask : Ask) → ¬ IsReaderUnreadable archive ask
+  pub lists : ¬ AreListsUnreadable archive
+  pub holder : (token : List ℕ) → ¬ IsHolderUnreadable archive token
+
 -- ---- a question
 
 -- its answer is not G4 that carries E15

@@ -14,6 +14,8 @@ use Rattle.archive_desk.specs.Causes.{AreUnreadable}
 use Rattle.archive_desk.specs.Exporting.{HasWritten, shown_text}
 use Rattle.archive_desk.specs.Faults.{reason}
 use Rattle.archive_desk.specs.declared.exporting.ExportStop.{ExportStop}
+use Rattle.archive_desk.specs.declared.exporting.Unshown.{Unshown}
+use Rattle.archive_desk.specs.declared.exporting.Unshown.TheVariants.{Write as Unwritten, Refused}
 use Rattle.archive_desk.specs.declared.faults.DeskFault.{DeskFault}
 use Rattle.archive_desk.specs.declared.faults.DeskFault.TheVariants.{Store as Stored, Memory, Write}
 
@@ -23,10 +25,14 @@ CountsMore before after counted counts =
     (part : List ℕ) × (after ≡ before ++ part) × (counts ≡ min (counted + length part) (2 ^ 64 - 1))
 
 -- a message was not written: the writer failed; or memory was wanting, and nothing was written
-abbrev pub IsShownStop : List ℕ → List ℕ → ℕ → ℕ → ℕ → DeskFault → Type 0
-IsShownStop before after failed fails count Write = failed < fails
-IsShownStop before after failed fails count Memory = (count ≡ 0) × (after ≡ before) × (fails ≡ failed)
-IsShownStop before after failed fails count other = ⊥
+abbrev pub IsShownStop : List ℕ → List ℕ → ℕ → ℕ → Unshown → Type 0
+IsShownStop before after failed fails (Unwritten count) = failed < fails
+IsShownStop before after failed fails (Refused why) = (after ≡ before) × (fails ≡ failed)
+
+-- how many bytes of a message were written that was not written whole
+abbrev pub unshown_bytes : Unshown → ℕ
+unshown_bytes (Unwritten count) = count
+unshown_bytes (Refused why) = 0
 
 -- the writer failed; or the store did or memory was wanting, and so many bytes more were written
 abbrev pub IsRowsStop : List ℕ → List ℕ → ℕ → ℕ → ℕ → ℕ → DeskFault → Type 0

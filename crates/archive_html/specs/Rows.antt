@@ -1,9 +1,10 @@
 -- The rows of pages, one a line. (profile)
-use Rattle.std.specs.Prelude.{ℕ, min, decimal, List, [], ◌∷◌, ◌++◌, codes}
+use Rattle.std.specs.Prelude.{◌≡◌, ℕ, min, decimal, List, [], ◌∷◌, ◌++◌, codes, flat_map, length, slice_index_or, take}
 use Rattle.std.specs.Option.{option_map_or}
 use Rattle.mbox_items.specs.Separator.{spaced}
 use Rattle.archive_results.specs.Shown.{Line}
-use Rattle.archive_results.specs.Results.{TreeLine}
+use Rattle.archive_results.specs.Results.{TreeLine, tree_line}
+use Rattle.thread_core.specs.declared.row.Row.{Row}
 use Rattle.archive_html.specs.Links.{link, list_path, month_link, author_link, message_link, thread_link}
 
 -- a row: its parts with one space between them, at a depth of 20 at most
@@ -28,3 +29,12 @@ missing_row = row 0 (codes "(missing)" ∷ [])
 -- a row of a thread
 unfoldable pub tree_row : (list : List ℕ) → TreeLine → List ℕ
 tree_row list tree = option_map_or (message_row list tree.depth) tree.line missing_row
+
+-- the rows of threads, one after the other, each of which names its message by the place of the line
+abbrev pub rows_text : (list : List ℕ) → List Line → List Row → List ℕ
+rows_text list lines rows = flat_map (λ row. tree_row list (tree_line lines row)) rows
+
+-- These bytes are the texts of the rows, and each row begins at its start; one that is not there at the end.
+pub record AreRowTexts (list : List ℕ) (lines : List Line) (rows : List Row) (bytes starts : List ℕ) : Type 0 where
+  pub whole : bytes ≡ rows_text list lines rows
+  pub each : (i : ℕ) → slice_index_or starts i (length bytes) ≡ length (rows_text list lines (take i rows))

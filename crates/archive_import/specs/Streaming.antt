@@ -1,9 +1,11 @@
 -- What becomes of the messages of an mbox that is read piece by piece into a list.
-use Rattle.std.specs.Prelude.{◌≡◌, ◌⊎◌, ◌≤◌, ℕ, true, false, List, [], length, Option, Some, None, option_map, Result, Ok, Err}
+use Rattle.std.specs.Prelude.{◌≡◌, ◌⊎◌, ◌≤◌, ◌+◌, ◌++◌, ℕ, true, false, List, [], length, Option, Some, None, option_map, Result, Ok, Err, IfErr, OnOk}
 use Rattle.sqlite.specs.Store.{Ghosts}
 use Rattle.mbox_core.specs.Division.{Item, Divides, IsPreamble}
 use Rattle.mbox_core.specs.declared.faults.MboxFault.TheVariants.{Preamble, Read, Memory, Failed}
+use Rattle.mbox_stream.specs.Cutter.{CutterState, IsCutter}
 use Rattle.mbox_stream.specs.Stream.{settled_items, IsCounted}
+use Rattle.mbox_stream.specs.declared.cutter.Phase.TheVariants.{Open as Running}
 use Rattle.archive_machine.specs.Records.{Archive}
 use Rattle.archive_machine.specs.Commands.{Refusal, no_list, list_full}
 use Rattle.archive_machine.specs.Questions.{has_list}
@@ -91,6 +93,34 @@ IsBroken list text ends a b done (Store fault) = (items : List Item) × AreRead 
 -- all messages of the input, which was read to its end
 abbrev pub IsReadIn : (list text : List ℕ) → (ends : ℕ) → (a b : Archive) → Report → Type 0
 IsReadIn list text ends a b report = (ends ≡ 1) × IsImported list text a b report
+
+-- ---- how a cutter and its input stand
+
+-- nothing was read
+pub record IsFresh (cutter : CutterState) : Type 0 where
+  pub empty : cutter ≡ record { stream = []; taken = []; waiting = []; phase = Running }
+  pub given : IsCutter cutter
+
+-- all messages that are settled were taken, and it goes on
+pub record IsSettled (cutter : CutterState) : Type 0 where
+  pub goes_on : cutter.phase ≡ Running
+  pub none : cutter.waiting ≡ []
+  pub given : IsCutter cutter
+
+-- The messages that waited were taken, where all were held; nothing more was read.
+pub record TakesWaiting {A F : Type 0} (old new : CutterState) (result : Result A F) : Type 0 where
+  pub taken : OnOk result ((new.taken ≡ old.taken ++ old.waiting) × (new.waiting ≡ []))
+  pub stream : new.stream ≡ old.stream
+  pub phase : new.phase ≡ old.phase
+  pub given : IsCutter new
+
+-- This was read of an input, by what it told before and after: after Ok to its end, which was met once, and else never; and so many
+-- reads failed.
+pub record ReadsIn (before after : List ℕ) (ended ends failed fails : ℕ) (stream : List ℕ) {A : Type 0} (result : Result A ImportStop) : Type 0 where
+  pub told : after ≡ before ++ stream
+  pub end : OnOk result (ends ≡ ended + 1)
+  pub no_end : IfErr result (λ _. ends ≡ ended)
+  pub failures : (more : ℕ) × (fails ≡ failed + more) × HasFailed result more
 
 -- ---- what becomes of a store
 

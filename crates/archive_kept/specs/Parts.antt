@@ -1,8 +1,5 @@
 -- What of a list is asked for: all that its reader is shown, with the threads, or the messages of a month or of an author key.
-use Rattle.std.specs.Prelude.{◌==◌, ℕ, pos, Bool, true, false, List, length, bytes_eq}
-use Rattle.archive_machine.specs.Records.{Archive, Message}
-use Rattle.archive_machine.specs.Filing.{in_month, by_author}
-use Rattle.archive_machine.specs.Questions.{messages_in}
+use Rattle.std.specs.Prelude.{◌==◌, ℕ, Bool, true, false, List, length, bytes_eq}
 use Rattle.archive_kept.specs.declared.parts.Part.{Part as Named}
 use Rattle.archive_kept.specs.declared.parts.Part.TheVariants as named
 use Rattle.archive_kept.specs.declared.parts.OwnPart.{OwnPart}
@@ -40,9 +37,3 @@ abbrev pub part_weight : Part → ℕ
 part_weight whole = 0
 part_weight (month m) = 0
 part_weight (author key) = length key
-
--- the messages that are read for it: all of a list, or those that are filed so
-abbrev pub messages_of : Archive → (list : List ℕ) → Part → List Message
-messages_of archive list whole = messages_in archive list
-messages_of archive list (month m) = in_month archive list (pos m)
-messages_of archive list (author key) = by_author archive list key

@@ -1,10 +1,10 @@
 -- What is kept of views: the outlines, how one is looked for, and how many bytes they take, about.
-use Rattle.std.specs.Prelude.{◌≡◌, ◌==◌, ◌&&◌, ◌⊎◌, ◌+◌, ◌*◌, ◌≤◌, ℕ, Bool, true, false, List, [], length, drop, position, sum_by, slice_get, bytes_eq, Option, None, Some, option_map}
+use Rattle.std.specs.Prelude.{◌≡◌, ◌==◌, ◌&&◌, ◌⊎◌, ◌+◌, ◌*◌, ◌≤◌, ℕ, Bool, true, false, List, [], length, drop, insert, position, sum_by, slice_get, bytes_eq, Option, None, Some, option_map, Result, MatchResult}
 use Rattle.std.specs.Option.{option_map_or}
 use Rattle.policy_core.specs.Facts.{rank_of}
 use Rattle.archive_results.specs.Access.{ReaderMarks}
 use Rattle.archive_results.specs.Shown.{Line}
-use Rattle.archive_kept.specs.Outlines.{Outline}
+use Rattle.archive_kept.specs.Outlines.{Outline, text_of}
 use Rattle.archive_kept.specs.Parts.{Part, whole, month, author, part_weight, same_part}
 
 -- The outline of a part of what the readers of these marks are shown of a list.
@@ -48,9 +48,9 @@ outline_at kept place = option_map (λ v. v.outline) (slice_get kept.views place
 abbrev pub line_weight : Line → ℕ
 line_weight line = 192 + length line.author + length line.subject
 
--- a row counts 24 bytes
+-- a row counts the bytes of its text, and 32 for all else
 abbrev pub outline_weight : Outline → ℕ
-outline_weight outline = sum_by line_weight outline.lines + 24 * length outline.rows
+outline_weight outline = sum_by line_weight outline.lines + 32 * length outline.rows + length (text_of outline outline.rows)
 
 -- A view counts the bytes of its list's name, its reader's address and its author key too, and 16,384, so that there are few of them.
 abbrev pub view_weight : KeptView → ℕ
@@ -82,3 +82,9 @@ put_place (author key) views = first_whole views
 -- the first are let go, or none
 abbrev pub DropsOldest : (old new : List KeptView) → Type 0
 DropsOldest old new = (n : ℕ) × (new ≡ drop n old)
+
+-- One view more is kept, where it is put, and the oldest are let go for it; or it is not, for want of memory, and none comes in their
+-- stead.
+abbrev pub PutsView : {F : Type 0} (old new : List KeptView) → KeptView → Result ℕ F → Type 0
+PutsView old new view result = (rest : List KeptView) × DropsOldest old rest
+    × MatchResult result (λ place. (place ≡ put_place view.part rest) × (new ≡ insert rest place view)) (λ _. new ≡ rest)

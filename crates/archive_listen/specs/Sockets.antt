@@ -1,5 +1,21 @@
--- What is read of a socket.
-use Rattle.std.specs.Prelude.{ℕ, List, []}
+-- Sockets of the loopback interface, and the times that a peer has.
+use Rattle.std.specs.Prelude.{◌≡◌, ◌<◌, ◌*◌, ◌⊎◌, ◌++◌, ℕ, Bool, true, false, List, [], ◌∷◌, Option}
+use Rattle.std.specs.Duration.{as_nanos}
+use Rattle.std.specs.Net.Addr.{ipv4_octets}
+use Rattle.std.specs.Net.Socket.{socket_ip, socket_port}
+use Rattle.std.specs.declared.net.ip_addr.IpAddr.{IpAddr}
+use Rattle.std.specs.declared.net.ip_addr.IpAddr.TheVariants.{V4, V6}
+use Rattle.std.specs.declared.net.socket_addr.SocketAddr.{SocketAddr}
+use Rattle.std.specs.declared.time.Instant.{Instant}
+use Rattle.std_io.specs.declared.io.kind.ErrorKind.{ErrorKind}
+use Rattle.std_io.specs.declared.io.kind.ErrorKind.TheVariants.{ConnectionAborted, ConnectionReset, HostUnreachable, Interrupted, NetworkDown, NetworkUnreachable, TimedOut}
+use Rattle.archive_listen.specs.Connections.{Exchange}
+use Rattle.archive_listen.specs.declared.connections.Listening.{Listening}
+use Rattle.archive_listen.specs.declared.faults.AcceptFault.{AcceptFault}
+use Rattle.archive_listen.specs.declared.faults.AcceptFault.TheVariants.{Peer, Listener}
+use Rattle.archive_listen.specs.declared.waiting.Span.{Span}
+
+-- ---- what is read of a socket, and what is written to it
 
 -- the bytes that it told, and how often a read failed or met the end
 pub record InputState : Type 0 where
@@ -9,3 +25,75 @@ pub record InputState : Type 0 where
 
 abbrev pub nothing_read : InputState
 nothing_read = record { told = []; failures = 0; ends = 0 }
+
+-- the bytes that it took, and how often a write failed
+pub record OutputState : Type 0 where
+  pub told : List ℕ
+  pub failures : ℕ
+
+abbrev pub nothing_written : OutputState
+nothing_written = record { told = []; failures = 0 }
+
+-- ---- where it is listened
+
+-- 127.0.0.1 (RFC 1122, section 3.2.1.3), which no other machine reaches
+abbrev pub IsLocalhost : IpAddr → Type 0
+IsLocalhost (V4 ip) = ipv4_octets ip ≡ 127 ∷ 0 ∷ 0 ∷ 1 ∷ []
+IsLocalhost (V6 ip) = ⊥
+
+-- An address that was had is the one that was asked for; but the system picks a port where port 0 was. No port that is had is 0.
+pub record IsHad (asked had : SocketAddr) : Type 0 where
+  pub ip : socket_ip had ≡ socket_ip asked
+  pub port : (socket_port asked ≡ 0) ⊎ (socket_port had ≡ socket_port asked)
+  pub some : 0 < socket_port had
+
+-- what listens: its address, as the system tells it, and what went over the connections that it took back, in their order
+pub record LoopbackState : Type 0 where
+  pub address : SocketAddr
+  pub exchanges : List Exchange
+
+-- It listens on 127.0.0.1 alone, on the port that was asked for, or on one that the system picked where port 0 was. It took no
+-- connection back yet.
+pub record Listens (asked : ℕ) (loopback : LoopbackState) : Type 0 where
+  pub local : IsLocalhost (socket_ip loopback.address)
+  pub port : (asked ≡ 0) ⊎ (socket_port loopback.address ≡ asked)
+  pub some : 0 < socket_port loopback.address
+  pub fresh : loopback.exchanges ≡ []
+
+-- it does, and the port that is told is the one that it listens on
+pub record ListensOn (asked : ℕ) (listening : Listening LoopbackState) : Type 0 where
+  pub listens : Listens asked listening.listener
+  pub told : listening.port ≡ socket_port listening.listener.address
+
+-- It gives a connection, or none for this fault: nothing is written down yet.
+abbrev pub Accepted : (before after : LoopbackState) → Option AcceptFault → Type 0
+Accepted before after fault = after ≡ before
+
+-- It takes a connection back: what went over it is written down, whether its reply broke off or not.
+abbrev pub Closed : (before after : LoopbackState) → Exchange → (broke_off : Bool) → Type 0
+Closed before after over broke_off = after ≡ record before { exchanges = before.exchanges ++ over ∷ [] }
+
+-- ---- who is at fault, and how long a peer is waited for
+
+-- What an `accept` that failed stands for (accept(2)): these are of one connection, whose peer or network was gone, or of a signal, and the
+-- next call may give another; after all others it could fail for ever.
+abbrev pub accept_fault : ErrorKind → AcceptFault
+accept_fault ConnectionAborted = Peer
+accept_fault ConnectionReset = Peer
+accept_fault HostUnreachable = Peer
+accept_fault Interrupted = Peer
+accept_fault NetworkDown = Peer
+accept_fault NetworkUnreachable = Peer
+accept_fault TimedOut = Peer
+accept_fault _ = Listener
+
+-- how many seconds the next bytes of a request may take: the first ones, and those behind them (profile)
+abbrev pub wait_seconds : (begun : Bool) → ℕ
+wait_seconds false = 2
+wait_seconds true = 5
+
+-- The time that the next bytes of a request may take, which is not past ten seconds of the whole head (profile).
+pub record IsHeadSpan (since : Instant) (begun : Bool) (span : Span) : Type 0 where
+  pub begins : span.since ≡ since
+  pub most : as_nanos span.most ≡ wait_seconds begun * 1_000_000_000
+  pub whole : as_nanos span.whole ≡ 10 * 1_000_000_000

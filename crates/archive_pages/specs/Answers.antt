@@ -1,6 +1,6 @@
 -- The reply to a request, as a function of the archive, the policy, the day and the head (RFC 9110, RFC 9112; RFC 6750, section
 -- 3; profile: the routes and the order of the checks).
-use Rattle.std.specs.Prelude.{ℕ, ℤ, Bool, List, map, Option, Some, None, option_map, if◌then◌else◌}
+use Rattle.std.specs.Prelude.{ℕ, ℤ, Bool, true, false, List, map, Option, Some, None, option_map, if◌then◌else◌}
 use Rattle.std.specs.Option.{is_none, option_map_or}
 use Rattle.httparse.specs.Grammar.{RequestHead}
 use Rattle.civil_time.specs.Calendar.{month_of_text}
@@ -62,29 +62,13 @@ view_reply merge (mbox list) view = mbox_reply (export_text view)
 abbrev pub listed_reply : Archive → (list : List ℕ) → Reply → Reply
 listed_reply archive list reply = if has_list archive list then reply else not_found
 
--- of each thing that is asked of a list
+-- of one message of a list
 abbrev pub message_for : Ask → (key : List ℕ) → Archive → Reply
 message_for ask key archive = listed_reply archive ask.list (keyed_reply archive ask key)
 
-abbrev pub month_for : Ask → (text : List ℕ) → Archive → Reply
-month_for ask text archive = listed_reply archive ask.list (month_reply ask.list text (shown_view archive ask))
-
-abbrev pub author_for : Ask → (key : List ℕ) → Archive → Reply
-author_for ask key archive = listed_reply archive ask.list (page_reply (author_page ask.list key (author_lines key (shown_view archive ask))))
-
-abbrev pub threads_for : Ask → Archive → Reply
-threads_for ask archive = listed_reply archive ask.list (page_reply (threads_page ask.list (tree_lines (merge_of archive ask.list) (shown_view archive ask))))
-
-abbrev pub thread_for : Ask → (key : List ℕ) → Archive → Reply
-thread_for ask key archive = listed_reply archive ask.list (thread_reply (merge_of archive ask.list) ask.list key (shown_view archive ask))
-
-abbrev pub mbox_for : Ask → Archive → Reply
-mbox_for ask archive = listed_reply archive ask.list (mbox_reply (export_text (shown_view archive ask)))
-
--- of a route on this list, where it is there
-abbrev pub list_reply : Archive → (ask_of : List ℕ → Ask) → (list : List ℕ) → Route → Reply
-list_reply archive ask_of list route =
-    listed_reply archive list (view_reply (merge_of archive list) route (shown_view archive (ask_of list)))
+-- of every other route on a list
+abbrev pub list_reply : Archive → Ask → Route → Reply
+list_reply archive ask route = listed_reply archive ask.list (view_reply (merge_of archive ask.list) route (shown_view archive ask))
 
 -- of all lists
 abbrev pub lists_reply : Archive → Reply
@@ -93,11 +77,20 @@ lists_reply archive = page_reply (lists_page (list_names archive))
 abbrev pub route_reply : Archive → (ask_of : List ℕ → Ask) → Route → Reply
 route_reply archive ask_of lists = page_reply (lists_page (list_names archive))
 route_reply archive ask_of (message list key) = listed_reply archive list (keyed_reply archive (ask_of list) key)
-route_reply archive ask_of (month list text) = list_reply archive ask_of list (month list text)
-route_reply archive ask_of (threads list) = list_reply archive ask_of list (threads list)
-route_reply archive ask_of (thread list key) = list_reply archive ask_of list (thread list key)
-route_reply archive ask_of (author list key) = list_reply archive ask_of list (author list key)
-route_reply archive ask_of (mbox list) = list_reply archive ask_of list (mbox list)
+route_reply archive ask_of (month list text) = list_reply archive (ask_of list) (month list text)
+route_reply archive ask_of (threads list) = list_reply archive (ask_of list) (threads list)
+route_reply archive ask_of (thread list key) = list_reply archive (ask_of list) (thread list key)
+route_reply archive ask_of (author list key) = list_reply archive (ask_of list) (author list key)
+route_reply archive ask_of (mbox list) = list_reply archive (ask_of list) (mbox list)
+
+-- an mbox is written message by message, any other reply is made before it is written
+abbrev pub is_mbox : Route → Bool
+is_mbox (mbox list) = true
+is_mbox _ = false
+
+-- what is made for a route; for an mbox nothing is, and that is 404
+abbrev pub made_reply : Archive → (ask_of : List ℕ → Ask) → Route → Reply
+made_reply archive ask_of route = if is_mbox route then not_found else route_reply archive ask_of route
 
 -- ---- the checks, in their order
 

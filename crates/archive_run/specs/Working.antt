@@ -6,8 +6,11 @@ use Rattle.byte_device.specs.declared.devices.Source.{Ghosts as Reads}
 use Rattle.archive_store.specs.declared.store.Store.{Store as Open}
 use Rattle.archive_store.specs.declared.faults.StoreFault.TheVariants as store
 use Rattle.archive_store.specs.Checking.{Checks}
+use Rattle.archive_store.specs.Told.{WasRefused}
+use Rattle.archive_store.specs.Wanting.{IsWant}
 use Rattle.archive_store.specs.declared.checking.CheckStop.TheVariants as check
 use Rattle.archive_results.specs.Access.{Ask}
+use Rattle.archive_desk.specs.Causes.{IsWanting}
 use Rattle.archive_desk.specs.Exporting.{ExportsPart, IsExportStop, exported}
 use Rattle.archive_desk.specs.declared.importing.Report.{Report}
 use Rattle.archive_words.specs.Values.{TableCommand}
@@ -33,9 +36,9 @@ report_line report =
 -- ---- what becomes of an open store where an order is refused
 
 module _ {S : Type 0} (g : Ghosts S) (old new : Open S) where
-  -- a command: E1 to E15
+  -- a command: E1 to E15; E14 only where memory was refused in that call
   abbrev pub CarriesNot : TableCommand → Refusal → Type 0
-  CarriesNot command (Store fault) = Carries g old new command (Err fault)
+  CarriesNot command (Store fault) = Carries g old new command (Err fault) × (IsWant fault → WasRefused old new)
   CarriesNot command _ = ⊥
 
   -- An import of the file of this name, of which an input tells these bytes, meets its end and fails so often.
@@ -55,23 +58,24 @@ module _ {S : Type 0} (g : Ghosts S) (old new : Open S) where
         (λ text ended failed. FailedBy stop.fault failed × Imports g old new list text ended (Err stop))
     ImportsNot _ = ⊥
 
-  -- a message that is asked for: E8, G1, G2, G4, G5, or the rule that denies it, where there was memory for its name
+  -- A message that is asked for: E8, G1, G2, G4, G5, or the rule that denies it; or there was no memory for its name (F5). Memory was refused
+  -- in that call where this or G5 says so.
   abbrev pub GetsNot : Ask → (key : List ℕ) → Refusal → Type 0
   GetsNot ask key (Store fault) = (fault ≡ store.NoMessage) × Gets g old new ask key (Err got.NoMessage)
-  GetsNot ask key (Desk fault) = Gets g old new ask key (Err (got.Fault fault))
+  GetsNot ask key (Desk fault) = Gets g old new ask key (Err (got.Fault fault)) × (IsWanting fault → WasRefused old new)
   GetsNot ask key (Denied rule) = (name : _) × (name.now ≡ string_bytes rule) × Gets g old new ask key (Err (got.Denied name))
-  GetsNot ask key (Run Memory) = (name : _) × Gets g old new ask key (Err (got.Denied name))
+  GetsNot ask key (Run Memory) = WasRefused old new × (name : _) × Gets g old new ask key (Err (got.Denied name))
   GetsNot ask key _ = ⊥
 
   -- a check that says E16 of a message
   abbrev pub FindsDamage : (list key : List ℕ) → Type 0
   FindsDamage list key = (l : Vec ℕ Global) × (k : Vec ℕ Global) × (list ≡ visible l.items) × (key ≡ visible k.items) × Checks g old new (Err (check.Damaged l k))
 
-  -- a check: E14, E15; or E16, where there was memory for the list and the key
+  -- A check: E14, E15; or E16; or there was no memory for the list and the key (F5). Memory was refused in that call where this or E14 says so.
   abbrev pub ChecksNot : Refusal → Type 0
-  ChecksNot (Store fault) = Checks g old new (Err (check.Failed fault))
+  ChecksNot (Store fault) = Checks g old new (Err (check.Failed fault)) × (IsWant fault → WasRefused old new)
   ChecksNot (Damaged list key) = FindsDamage (string_bytes list) (string_bytes key)
-  ChecksNot (Run Memory) = (list : List ℕ) × (key : List ℕ) × FindsDamage list key
+  ChecksNot (Run Memory) = WasRefused old new × (list : List ℕ) × (key : List ℕ) × FindsDamage list key
   ChecksNot _ = ⊥
 
   -- an export: its text went out, whole, and was passed on

@@ -1,12 +1,12 @@
 -- What an archive answers on a connection.
-use Rattle.std.specs.Prelude.{◌≡◌, ℕ, ℤ, List, Result, Ok, Err, OnOk, IfErr}
+use Rattle.std.specs.Prelude.{◌≡◌, ⊤, ℕ, ℤ, Bool, true, List, Result, Ok, Err, OnOk, IfErr}
 use Rattle.sqlite.specs.Store.{Ghosts}
 use Rattle.policy_core.specs.Rules.{Rule}
 use Rattle.archive_machine.specs.Records.{Archive}
 use Rattle.archive_store.specs.declared.store.Store.{Store}
 use Rattle.archive_kept.specs.Views.{IsBounded, Keeping}
 use Rattle.archive_kept.specs.Kept.{AreOf, Keeps}
-use Rattle.archive_pages.specs.Answered.{AnswersBy}
+use Rattle.archive_pages.specs.Answered.{AnswersBy, ByOutcome, IsUnrouted, Reads}
 use Rattle.archive_pages.specs.Causes.{IsUnread, ServesOr}
 use Rattle.archive_pages.specs.KeptServing.{OfReady}
 use Rattle.archive_pages.specs.Replies.{IsServeStop}
@@ -32,12 +32,18 @@ pub record EndsAs {S : Type 0} (g : Ghosts S) (old new : Store S) (before after 
       before.read_failures after.read_failures before.write_failures after.write_failures fault)
   pub caused : ServesOr g old new result IsUnread
 
+-- A head without a token that asks for a path that no route fits got 404 and nothing else: never 503, whatever the store is.
+abbrev pub TellsUnrouted : (before after : Telling) → Result ℕ ServeFault → Type 0
+TellsUnrouted before after result = ByOutcome result
+    (Reads before.read after.read before.ends after.ends (λ given all. IsUnrouted all before.written after.written result)) ⊤
+
 -- ---- with what is kept from one connection to the next
 
--- what answers: by which rules, on which day, and what it keeps
+-- what answers: by which rules, on which day, whether it has routes, and what it keeps
 pub record Keeper : Type 0 where
   pub rules : List Rule
   pub day : ℤ
+  pub routes : Bool
   pub kept : Keeping
 
 -- what it keeps is of this archive, by the rules and on the day
@@ -53,15 +59,18 @@ pub record AnswersKept {S : Type 0} (g : Ghosts S) (keeper later : Keeper) (old 
   pub answered : OfReady g old new (IsKept keeper) → AnswersBy g old new keeper.rules keeper.day
       before.read after.read before.ends after.ends before.written after.written result
   pub ends : EndsAs g old new before after result
+  pub unrouted : keeper.routes ≡ true → TellsUnrouted before after result
   pub same_rules : later.rules ≡ keeper.rules
   pub same_day : later.day ≡ keeper.day
+  pub same_routes : later.routes ≡ keeper.routes
   pub keeps : Keeps g old new keeper.rules keeper.day keeper.kept later.kept
 
--- What a run of connections leaves of what answers: the rules and the day; what is kept stays of the archive that the store remembered
+-- What a run of connections leaves of what answers: the rules, the day and the routes; what is kept stays of the archive that the store remembered
 -- before the first of them, and weighs no more than it may.
 pub record LeavesKept {S : Type 0} (g : Ghosts S) (keeper later : Keeper) (old new : Store S) : Type 0 where
   pub same_rules : later.rules ≡ keeper.rules
   pub same_day : later.day ≡ keeper.day
+  pub same_routes : later.routes ≡ keeper.routes
   pub kept : OfReady g old new (IsKept keeper) → OfReady g old new (IsKept later)
   pub most : later.kept.most ≡ keeper.kept.most
   pub bounded : IsBounded keeper.kept → IsBounded later.kept

@@ -1,5 +1,5 @@
 -- Connections one after the other, answered out of one archive.
-use Rattle.std.specs.Prelude.{◌≡◌, ◌≢◌, ℕ, ℤ, List, Bool, Option, Result, Ok, Err, ⊤}
+use Rattle.std.specs.Prelude.{◌≡◌, ◌≢◌, ◌<◌, ◌⊎◌, ◌++◌, ℕ, ℤ, List, [], ◌∷◌, Bool, true, Option, Result, Ok, Err, ⊤}
 use Rattle.std.specs.List.{AllByRecursion}
 use Rattle.sqlite.specs.Store.{Ghosts}
 use Rattle.policy_core.specs.Rules.{Rule}
@@ -8,11 +8,12 @@ use Rattle.archive_store.specs.Told.{HasReturned, IsOpen, IsReady, archive_in}
 use Rattle.archive_store.specs.declared.store.Store.{Store}
 use Rattle.archive_pages.specs.Running.{AnswersFrom}
 use Rattle.archive_pages.specs.declared.faults.ServeFault.{ServeFault}
-use Rattle.archive_listen.specs.Connections.{Telling, Outcome, Exchange}
+use Rattle.archive_listen.specs.Connections.{Telling, Outcome, Exchange, Reaches}
 use Rattle.archive_listen.specs.declared.faults.AcceptFault.{AcceptFault}
 use Rattle.archive_listen.specs.declared.faults.ConnectionFault.TheVariants.{Read, Write, Broken}
 use Rattle.archive_listen.specs.Serving.{ServesEach, served}
-use Rattle.archive_serve.specs.Pages.{EndsAs, IsKept, Keeper, outcome_of}
+use Rattle.archive_listen.specs.Sockets.{Accepted, Closed, LoopbackState}
+use Rattle.archive_serve.specs.Pages.{EndsAs, IsKept, Keeper, TellsUnrouted, outcome_of}
 
 -- a reply other than 503 went out whole, or no request came
 abbrev pub IsSteady : Outcome → Type 0
@@ -23,12 +24,13 @@ IsSteady (Err Broken) = ⊥
 
 -- What one connection of a run was answered, why, and what is left of the store. The reply and its cause are of one answer. The
 -- reply is by these rules, on this day and out of this archive, which the store remembered before the first connection and remembers
--- still, where `If` is so.
-pub record AnswersIn {S : Type 0} (g : Ghosts S) (If : Type 0) (archive : Archive) (rules : List Rule) (day : ℤ) (old new : Store S)
-    (before after : Telling) (outcome : Outcome) : Type 0 where
+-- still, where `If` is so. With routes, a path that no route fits is 404 to nobody, whatever the store is.
+pub record AnswersIn {S : Type 0} (g : Ghosts S) (If : Type 0) (archive : Archive) (rules : List Rule) (day : ℤ) (routes : Bool)
+    (old new : Store S) (before after : Telling) (outcome : Outcome) : Type 0 where
   pub result : Result ℕ ServeFault
   pub is : outcome ≡ outcome_of result
   pub ends : EndsAs g old new before after result
+  pub unrouted : routes ≡ true → TellsUnrouted before after result
   -- the reply of the definition, or 503, or a beginning of it
   pub reply : If → AnswersFrom archive rules day before.read after.read before.ends after.ends before.written after.written result
   -- the store, if it is still open, remembers the archive; and open it is, if it was, behind a whole reply other than 503
@@ -42,7 +44,7 @@ CanServe g keeper old new = HasReturned g new × IsReady g old × IsKept keeper 
 
 -- how each connection of such a run is answered
 abbrev pub RunLaw : {S : Type 0} → Ghosts S → Keeper → (first last : Store S) → (old new : Store S) → (before after : Telling) → Outcome → Type 0
-RunLaw g keeper first last = AnswersIn g (CanServe g keeper first last) (archive_in g first) keeper.rules keeper.day
+RunLaw g keeper first last = AnswersIn g (CanServe g keeper first last) (archive_in g first) keeper.rules keeper.day keeper.routes
 
 -- Where each connection of such a run got a whole reply other than 503, or asked for nothing, the store is ready after the last, too,
 -- and remembers the same.
@@ -51,3 +53,32 @@ abbrev pub LeaveItReady : {S L : Type 0} → Ghosts S → (accepts : L → L →
 LeaveItReady {S} {L} g accepts closes = (keeper : Keeper) (outcomes : List Outcome) (listener later : L) (old new : Store S)
     → ServesEach (RunLaw g keeper old new) accepts closes outcomes (served listener old) (served later new) → CanServe g keeper old new
     → AllByRecursion IsSteady outcomes → IsReady g new × (archive_in g new ≡ archive_in g old)
+
+-- ---- over sockets
+
+-- By these rules, on this day and out of this archive: to what was read of one peer its reply was made, or 503, or a beginning of it; and
+-- that is what was sent to this peer, as far as it could be passed on.
+pub record IsReplied (archive : Archive) (rules : List Rule) (day : ℤ) (outcome : Outcome) (over : Exchange) : Type 0 where
+  pub result : Result ℕ ServeFault
+  pub ends : ℕ
+  pub written : List ℕ
+  pub reply : AnswersFrom archive rules day [] over.read 0 ends [] written result
+  -- how often a write failed when the reply was made, and when it had been passed on
+  pub made : ℕ
+  pub passed : ℕ
+  pub sent : Reaches (outcome_of result) outcome written (made < passed) over.sent
+
+-- what went over each connection, by how it ended; over one whose peer was gone before it was taken nothing went
+abbrev pub AreReplied : Archive → List Rule → (day : ℤ) → List Outcome → List Exchange → Type 0
+AreReplied archive rules day [] [] = ⊤
+AreReplied archive rules day [] (over ∷ others) = ⊥
+AreReplied archive rules day (outcome ∷ outcomes) [] = (outcome ≡ Err Read) × AreReplied archive rules day outcomes []
+AreReplied archive rules day (outcome ∷ outcomes) (over ∷ others) =
+    (IsReplied archive rules day outcome over × AreReplied archive rules day outcomes others)
+    ⊎ ((outcome ≡ Err Read) × AreReplied archive rules day outcomes (over ∷ others))
+
+-- What a listener on the loopback interface has written down of such a run, behind what stood there: each peer's own bytes, and its own reply.
+abbrev pub EachGetsItsReply : {S : Type 0} → Ghosts S → Type 0
+EachGetsItsReply {S} g = (keeper : Keeper) (outcomes : List Outcome) (first last : LoopbackState) (old new : Store S)
+    → ServesEach (RunLaw g keeper old new) Accepted Closed outcomes (served first old) (served last new) → CanServe g keeper old new
+    → (all : List Exchange) × (last.exchanges ≡ first.exchanges ++ all) × AreReplied (archive_in g old) keeper.rules keeper.day outcomes all

@@ -15,17 +15,17 @@ use Rattle.archive_tables.specs.Tables.{IsHeld, IsKept, archive_of}
 use Rattle.archive_tables.specs.Calls.{RestsOver, IsHeldOrBack}
 use Rattle.archive_store.specs.Replies.{refusal, Steps, says_added}
 use Rattle.archive_store.specs.declared.words.Added.{Added}
-use Rattle.archive_store.specs.declared.batches.Report.{Report}
+use Rattle.archive_store.specs.declared.batches.AddReport.{AddReport}
 use Rattle.archive_store.specs.declared.batches.Taken.{Taken}
 use Rattle.archive_store.specs.declared.batches.Taken.TheVariants.{New, Known, TooLarge, Full}
 use Rattle.archive_store.specs.declared.batches.AddStop.{AddStop}
 use Rattle.archive_store.specs.declared.faults.StoreFault.{StoreFault}
 
-abbrev pub tally_of : Report → Tally
+abbrev pub tally_of : AddReport → Tally
 tally_of r = record { new = r.new; known = r.known; too_large = r.too_large }
 
 -- how many messages a report tells of
-abbrev pub told_in : Report → ℕ
+abbrev pub told_in : AddReport → ℕ
 told_in r = r.new + r.known + r.too_large
 
 -- the bytes of their texts, as they stand in a file
@@ -49,7 +49,7 @@ AddsTo behind old new list item after reply =
     IsHeld behind new × ((archive_of new, reply) ≡ added_within message_limit (archive_of old) list item) × IsCounted (archive_of new) list after
 
 -- the archive is what these items make of that one, and the count and the report are right
-pub record HasTaken (behind : Option Database) (s : State) (a : Archive) (list : List ℕ) (items : List Item) (count : ℕ) (report : Report) : Type 0 where
+pub record HasTaken (behind : Option Database) (s : State) (a : Archive) (list : List ℕ) (items : List Item) (count : ℕ) (report : AddReport) : Type 0 where
   pub held : IsHeld behind s
   pub archive_is : archive_of s ≡ (taken a list items).archive
   pub counted : IsCounted (archive_of s) list count
@@ -72,13 +72,13 @@ IsRefusedAt a list items at list_full = IsFullAt a list items at
 IsRefusedAt a list items at _ = ⊥
 
 -- Items from one place to another of a list of them, and the report tells of all before.
-pub record BeginsAt (items : List Item) (from to : ℕ) (telling : Report) : Type 0 where
+pub record BeginsAt (items : List Item) (from to : ℕ) (telling : AddReport) : Type 0 where
   pub place : to ≤ length items
   pub order : from ≤ to
   pub told : told_in telling ≡ from
 
 -- It came to a place between these, up to which the report tells, or memory or the database was at fault.
-abbrev pub EndsAt : Result ℕ StoreFault → (from to : ℕ) → Report → Type 0
+abbrev pub EndsAt : Result ℕ StoreFault → (from to : ℕ) → AddReport → Type 0
 EndsAt result from to telling = MatchResult result (λ at. (told_in telling ≡ at) × (from ≤ at) × (at ≤ to)) (λ fault. refusal fault ≡ None)
 
 module _ {S : Type 0} (g : Ghosts S) (old new : Held S) where
@@ -89,14 +89,14 @@ module _ {S : Type 0} (g : Ghosts S) (old new : Held S) where
 
   -- Within a transaction, where the first `from` items are taken: the items up to where it came are taken, which is the end
   -- unless the list is full. After a fault the connection is within it still, or back already, if it is open.
-  abbrev pub AddsSome : Result ℕ StoreFault → List ℕ → List Item → ℕ → ℕ → ℕ → Report → ℕ → Report → Type 0
+  abbrev pub AddsSome : Result ℕ StoreFault → List ℕ → List Item → ℕ → ℕ → ℕ → AddReport → ℕ → AddReport → Type 0
   AddsSome result list items from to before told after telling =
       HasCleanDisk (state g new) → (db : Database) (a : Archive) → HasTaken (Some db) (state g old) a list (take from items) before told
       → MatchResult result
       (λ at. HasTaken (Some db) (state g new) a list (take at items) after telling × ((at ≡ to) ⊎ IsFullAt a list items at)) (λ _. IsHeldOrBack db (state g new))
 
   -- A transaction of its own: the same, and after a fault the first `from` items are taken, if the connection is open.
-  abbrev pub AddsBatch : Result ℕ StoreFault → List ℕ → List Item → ℕ → ℕ → ℕ → Report → ℕ → Report → Type 0
+  abbrev pub AddsBatch : Result ℕ StoreFault → List ℕ → List Item → ℕ → ℕ → ℕ → AddReport → ℕ → AddReport → Type 0
   AddsBatch result list items from to before told after telling =
       HasCleanDisk (state g new) → (a : Archive) → HasTaken None (state g old) a list (take from items) before told
       → MatchResult result
@@ -104,7 +104,7 @@ module _ {S : Type 0} (g : Ghosts S) (old new : Held S) where
 
   -- All items, and the report counts the machine's replies. After a stop the first `done`, those of finished transactions: for
   -- a refusal with its cause, and where memory or the database was at fault, if the connection is still open.
-  abbrev pub AddsAll : Result Report AddStop → List ℕ → List Item → Type 0
+  abbrev pub AddsAll : Result AddReport AddStop → List ℕ → List Item → Type 0
   AddsAll result list items = HasCleanDisk (state g new) → IsKept (state g old) →
       let a = archive_of (state g old) in
       MatchResult result

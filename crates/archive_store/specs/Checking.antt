@@ -4,6 +4,8 @@ use Rattle.std.specs.declared.alloc.Global.{Global}
 use Rattle.sqlite.specs.Store.{Ghosts}
 use Rattle.archive_machine.specs.Filing.{Filed}
 use Rattle.archive_machine.specs.Damage.{IsWhole, IsFirstDamaged}
+use Rattle.archive_machine.specs.Records.{Archive}
+use Rattle.archive_machine.specs.Sound.{IsFiledRight, IsSound}
 use Rattle.archive_tables.specs.Listed.{all_places, filed_at}
 use Rattle.archive_database.specs.Checking.{SaysOf}
 use Rattle.archive_database.specs.declared.checking.Damage.{Damage}
@@ -20,12 +22,19 @@ abbrev pub damage : CheckStop → Option (List ℕ × List ℕ)
 damage (Damaged list key) = Some (list.items, key.items)
 damage (Failed fault) = None
 
+-- What Ok says of an archive: every message is undamaged. So each can be written to an mbox as it is, under the key of its text, and
+-- what is filed of each is what its text says: a store that holds these tables is ready.
+pub record IsFoundWhole (archive : Archive) : Type 0 where
+  pub whole : IsWhole archive
+  pub sound : IsSound archive
+  pub filed_right : IsFiledRight archive
+
 module _ {S : Type 0} (g : Ghosts S) (old new : Store S) where
   -- It changes nothing. Ok where all messages are sound; else the list and the key of the first that is not, lists by name and then
   -- in mailbox order.
   abbrev pub Checks : Result (Unit {0}) CheckStop → Type 0
   Checks result = CallsIn g (HoldsTables g) old new damage result
-      (λ a b _. (b ≡ a) × IsWhole a) (λ a b d. (b ≡ a) × IsFirstDamaged a d.0 d.1) (λ a b _. b ≡ a)
+      (λ a b _. (b ≡ a) × IsFoundWhole a) (λ a b d. (b ≡ a) × IsFirstDamaged a d.0 d.1) (λ a b _. b ≡ a)
 
   -- the rows are as they were
   abbrev pub RowsStay : Type 0

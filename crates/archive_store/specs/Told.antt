@@ -1,6 +1,7 @@
 -- The words in which the layers above speak of a store: they name neither its tables nor its database.
 use Rattle.std.specs.Prelude.{◌≡◌, ◌⊎◌, ◌<◌, ℕ, ⊤, IsTrue, List, Option, None, Some, Result, IfErr, OnOk, MatchResult, MatchOption}
 use Rattle.sqlite_disk.specs.Disk.{MoreFaults}
+use Rattle.sqlite.specs.Effect.{Database}
 use Rattle.sqlite.specs.Store.{Ghosts}
 use Rattle.sqlite.specs.Held.{Held, state}
 use Rattle.sqlite.specs.State.{HasCleanDisk}
@@ -124,6 +125,11 @@ module _ {S : Type 0} (g : Ghosts S) where
     -- the same, or this is so of the archive, which holds what no command writes
     abbrev pub EndsAskOr : {A : Type 0} → Result A StoreFault → List Refusal → (Archive → Type 0) → Type 0
     EndsAskOr result reasons Unread = EndsBy (HasFailed ⊎ Unread (archive_in old)) result reasons
+
+    -- A command whose E15 means that the disk failed in that call, or that the rows which the store held refuse what it writes: a fact
+    -- about these rows alone.
+    abbrev pub EndsOr : {A : Type 0} → Result A StoreFault → List Refusal → (Database → Type 0) → Type 0
+    EndsOr result reasons Refused = EndsBy (HasFailed ⊎ Refused (state g (held_of old)).now) result reasons
 
     -- A call that no reason of the archive's refuses, and that may answer without asking the database: memory or the database is at
     -- fault where it fails.

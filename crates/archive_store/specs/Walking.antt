@@ -1,5 +1,5 @@
 -- Walks over the messages of a list, one message at a time.
-use Rattle.std.specs.Prelude.{◌≡◌, ◌⊎◌, ◌-◌, ◌≤◌, ℕ, ℤ, true, bytes_eq, List, [], ◌∷◌, ◌++◌, length, drop, map, pos, Option, Some, None, Result, IfOk, IfErr, MatchResult, MatchOption, Vec, ◌<◌, IfSome}
+use Rattle.std.specs.Prelude.{◌≡◌, ◌⊎◌, ◌-◌, ◌+◌, ◌≤◌, ℕ, ℤ, true, bytes_eq, List, [], ◌∷◌, ◌++◌, length, drop, map, pos, Option, Some, None, Result, IfOk, IfErr, MatchResult, MatchOption, Vec, ◌<◌, IfSome}
 use Rattle.std.specs.declared.alloc.Global.{Global}
 use Rattle.std.specs.List.{All, AllByRecursion}
 use Rattle.std.specs.Option.{IsSomeAnd}
@@ -39,6 +39,12 @@ selected_places trees list (ByAuthor key) = author_places trees list key.now
 -- how many messages it has not given yet
 abbrev pub left_of : {S : Type 0} → Walk S → ℕ
 left_of walk = length walk.places.items - walk.at
+
+-- the walk is where it was, and its store counts one want of memory more
+pub record CountsOne {S : Type 0} (old new : Walk S) : Type 0 where
+  pub store : new.store.now ≡ record old.store.now { wants = wants_of old.store.now + 1 }
+  pub places : new.places ≡ old.places
+  pub at : new.at ≡ old.at
 
 module _ {S : Type 0} (g : Ghosts S) where
   -- what a store's database holds now, and its rows

@@ -11,6 +11,8 @@ use Rattle.sqlite.specs.Held.{Held, state}
 use Rattle.sqlite.specs.State.{State, HasCleanDisk}
 use Rattle.archive_machine.specs.Records.{Archive}
 use Rattle.archive_tables.specs.Tables.{IsHeld, IsKept, archive_in, archive_of}
+use Rattle.archive_tables.specs.Statements.{Statement, IsRefused, IsCarriedOut}
+use Rattle.archive_tables.specs.Crashes.{AddsNothing, CrashesOver}
 
 -- the tables are held, and hold what this makes of what they held
 abbrev pub ChangesOver : Option Database → State → State → (Archive → Archive) → Type 0
@@ -96,6 +98,23 @@ module _ {S : Type 0} (g : Ghosts S) (old new : Held S) where
   FailsByFaultOr result Unread =
       HasCleanDisk (state g new) → IsKept (state g old) → (state g old).step_limit ≡ None → IfErr result (λ e. IsCaused (state g old) (state g new) e ⊎ Unread)
 
+  -- Where the connection has no limit on the steps of a query, a write on such tables fails for want of memory, or by a fault of the
+  -- disk, or since its rows are refused, and for nothing else.
+  abbrev pub FailsByFaultOrRefusal : {A : Type 0} → Result A Error → Statement → Type 0
+  FailsByFaultOrRefusal result statement =
+      HasCleanDisk (state g new) → (behind : Option Database) → IsHeld behind (state g old) → (state g old).step_limit ≡ None
+      → IfErr result (λ e. IsCaused (state g old) (state g new) e ⊎ IsRefused statement (state g old).now)
+
+  -- and where it succeeds, the connection sees what the statement makes
+  abbrev pub CarriesOut : {A : Type 0} → Result A Error → Statement → Type 0
+  CarriesOut result statement =
+      HasCleanDisk (state g new) → (behind : Option Database) → IsHeld behind (state g old) → (state g old).step_limit ≡ None
+      → OnOk result (IsCarriedOut statement (state g old).now (state g new).now)
+
+  -- who is answered sees what was seen before, whatever the tables are
+  abbrev pub SeesTheSame : {A : Type 0} → Result A Error → Type 0
+  SeesTheSame result = HasCleanDisk (state g new) → OnOk result ((state g new).now ≡ (state g old).now)
+
   -- ---- clauses of a whole call
 
   -- How a call ends, whatever the tables are and whatever it answers: what it does to the connection, and that one that is shut
@@ -104,19 +123,28 @@ module _ {S : Type 0} (g : Ghosts S) (old new : Held S) where
     pub lasts : Lasts (state g old) (state g new)
     pub was_open : AnswersOpen result
 
-  -- A question on the tables, outside a transaction or within one: what it says of them and leaves, why it fails, and how it ends.
+  -- A question on the tables, outside a transaction or within one: what it says of them and leaves, why it fails, that it changes
+  -- neither what is seen nor what a stop of the machine leaves, and how it ends.
   pub record Asks {A : Type 0} (result : Result A Error) (Says : Archive → A → Type 0) (Unread : Type 0) : Type 0 where
     pub over : AsksOver result Says
     pub caused : FailsByFaultOr result Unread
+    pub same : SeesTheSame result
+    pub quiet : AddsNothing g old new
     pub ends : Ends result
 
   -- A question on the rows themselves.
   pub record AsksRows {A : Type 0} (result : Result A Error) (Says : Trees → A → Type 0) (Unread : Type 0) : Type 0 where
     pub over : AsksRowsOver result Says
     pub caused : FailsByFaultOr result Unread
+    pub same : SeesTheSame result
+    pub quiet : AddsNothing g old new
     pub ends : Ends result
 
-  -- A write on tables that are as it needs them, outside a transaction or within one: what it makes of them, and how it ends.
-  pub record Writes {A : Type 0} (result : Result A Error) (Needs : Archive → Type 0) (change : Archive → Archive) : Type 0 where
+  -- A write by a statement on tables that are as it needs them, outside a transaction or within one: what it makes of them, why it
+  -- fails, what a stop of the machine may leave, and how it ends.
+  pub record Writes {A : Type 0} (result : Result A Error) (Needs : Archive → Type 0) (change : Archive → Archive) (statement : Statement) : Type 0 where
     pub over : WritesOver result Needs change
+    pub caused : FailsByFaultOrRefusal result statement
+    pub made : CarriesOut result statement
+    pub crash : CrashesOver g old new Needs change
     pub ends : Ends result

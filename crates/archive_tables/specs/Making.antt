@@ -1,5 +1,5 @@
 -- How the tables are made: all within one transaction, so that all of them are there or none.
-use Rattle.std.specs.Prelude.{◌≡◌, ◌⊎◌, ℕ, ℤ, true, false, [], IsTrue, Result, OnOk, OnErr}
+use Rattle.std.specs.Prelude.{◌≡◌, ◌⊎◌, ℕ, ℤ, Bool, true, false, [], IsTrue, Result, OnOk, OnErr, IfErr}
 use Rattle.std.specs.List.{AllByRecursion}
 use Rattle.sqlite.specs.declared.error.Error.{Error}
 use Rattle.sqlite.specs.Effect.{Database}
@@ -10,7 +10,8 @@ use Rattle.sqlite.specs.Store.{Ghosts}
 use Rattle.sqlite.specs.Table.{Table}
 use Rattle.archive_machine.specs.Records.{Archive}
 use Rattle.archive_tables.specs.Schema.{archive_schema}
-use Rattle.archive_tables.specs.Calls.{Lasts, AnswersOpen}
+use Rattle.archive_tables.specs.Calls.{Lasts, AnswersOpen, IsCaused, SeesTheSame}
+use Rattle.archive_tables.specs.Crashes.{AddsNothing, CrashesAtCommit}
 use Rattle.archive_tables.specs.Tables.{AreTablesWith, newest_number, archive_by}
 use Rattle.archive_tables.specs.declared.texts.schema.TheConstants.{VERSION}
 
@@ -55,6 +56,40 @@ pub record EndsStep {S A : Type 0} (g : Ghosts S) (old new : Held S) (result : R
   pub lasts : Lasts (state g old) (state g new)
   pub was_open : AnswersOpen g old new result
   pub stopped : Stops g old new result
+
+-- within a transaction over this schema, whatever the rows are, a stop of the machine leaves nothing that it did not leave before
+abbrev pub QuietWithin : {S : Type 0} → Ghosts S → Held S → Held S → Schema → Type 0
+QuietWithin g old new schema = (before : Database) → IsWithin (state g old) before schema → AddsNothing g old new
+
+-- Outside a transaction or within one, as BEGIN, COMMIT and ROLLBACK need it, on a connection that is open: it fails for want of memory
+-- or by a fault of the disk, and for nothing else.
+abbrev pub FailsInPlace : {S A : Type 0} → Ghosts S → Held S → Held S → Result A Error → (within : Bool) → Type 0
+FailsInPlace g old new result within =
+    HasCleanDisk (state g new) → IsTrue (state g old).is_open → (state g old).in_transaction ≡ within → IfErr result (IsCaused (state g old) (state g new))
+
+-- How BEGIN ends: as a step; why it fails outside a transaction; and that what is seen stays, and what a stop of the machine leaves.
+pub record EndsBegin {S A : Type 0} (g : Ghosts S) (old new : Held S) (result : Result A Error) : Type 0 where
+  pub lasts : Lasts (state g old) (state g new)
+  pub was_open : AnswersOpen g old new result
+  pub stopped : Stops g old new result
+  pub caused : FailsInPlace g old new result false
+  pub same : SeesTheSame g old new result
+  pub quiet : AddsNothing g old new
+
+-- How COMMIT ends: as a step; why it fails within a transaction; and that a stop of the machine may leave what was seen.
+pub record EndsCommit {S A : Type 0} (g : Ghosts S) (old new : Held S) (result : Result A Error) : Type 0 where
+  pub lasts : Lasts (state g old) (state g new)
+  pub was_open : AnswersOpen g old new result
+  pub stopped : Stops g old new result
+  pub caused : FailsInPlace g old new result true
+  pub same : SeesTheSame g old new result
+  pub crash : CrashesAtCommit g old new
+
+-- How ROLLBACK ends: where it fails as a step does; why, within a transaction; and a stop of the machine leaves nothing new.
+pub record EndsRollback {S A : Type 0} (g : Ghosts S) (old new : Held S) (result : Result A Error) : Type 0 where
+  pub stopped : Stops g old new result
+  pub caused : FailsInPlace g old new result true
+  pub quiet : AddsNothing g old new
 
 -- what is committed is what was there before, if the connection is still open
 abbrev pub IsUndone : State → Database → Type 0

@@ -3,6 +3,7 @@ use Rattle.std.specs.Prelude.{ℕ, List, Option, Some, None, Result, Ok, Err, if
 use Rattle.archive_machine.specs.Records.{Archive}
 use Rattle.archive_machine.specs.Keys.{is_key}
 use Rattle.archive_results.specs.Access.{Ask, Asked, served, denied_by, absent, asked_of}
+use Rattle.archive_desk.specs.Causes.{IsWanting}
 use Rattle.archive_desk.specs.Faults.{Reason, reason, ask_reason}
 use Rattle.archive_work.specs.declared.getting.GetStop.{GetStop}
 use Rattle.archive_work.specs.declared.getting.GetStop.TheVariants.{Fault, NoMessage, Denied}
@@ -32,3 +33,9 @@ abbrev pub not_given : GetStop → Option NotGiven
 not_given (Fault fault) = option_map unanswered (reason fault)
 not_given NoMessage = Some no_message
 not_given (Denied rule) = Some (denied rule.now)
+
+-- memory was refused, which no other reason is
+abbrev pub IsGetWant : GetStop → Type 0
+IsGetWant (Fault fault) = IsWanting fault
+IsGetWant NoMessage = ⊥
+IsGetWant (Denied rule) = ⊥

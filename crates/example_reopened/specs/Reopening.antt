@@ -10,8 +10,10 @@ use Rattle.sqlite.specs.Closing.{IsCopied}
 use Rattle.sqlite.specs.Files.{over_files, file_state, Finds, IsOpened}
 use Rattle.archive_machine.specs.Records.{Archive}
 use Rattle.archive_machine.specs.Questions.{merge_of}
+use Rattle.archive_machine.specs.Sound.{IsFiledRight}
+use Rattle.archive_tables.specs.Tables.{IsKnown, IsHeldAs, form_of, archive_by}
 use Rattle.archive_store.specs.Held.{held_of}
-use Rattle.archive_store.specs.Told.{HoldsArchive, HoldsTables, HasReturned, IsOpen, IsReady, archive_in}
+use Rattle.archive_store.specs.Told.{HoldsTables, HasReturned, IsOpen, IsReady, archive_in}
 use Rattle.archive_store.specs.declared.store.Store.{Store}
 use Rattle.archive_results.specs.Access.{Ask, view_of}
 use Rattle.archive_results.specs.Results.{TreeLine, month_lines, tree_lines}
@@ -20,16 +22,29 @@ use Rattle.archive_pages.specs.Reopened.{IsReopened}
 
 -- ---- files, and a store that was opened from them
 
--- A connection that held this archive was closed to these files (`close_files`).
-abbrev pub Hold : {D : Type 0} (g : Ghosts D) → Files D → Archive → Type 0
-Hold {D} g files archive = (closed : Held (FileStore D g)) × HoldsArchive over_files closed archive × IsLive (file_state closed)
-    × (AreClean g files.log files.db → IsCopied closed files)
+-- A connection to the tables of some version, 1 to 3, was closed to these files (`close_files`), and its tables stood for this
+-- archive, whatever is filed of a message.
+pub record HoldRows {D : Type 0} (g : Ghosts D) (files : Files D) (archive : Archive) : Type 0 where
+  pub number : ℕ
+  pub known : IsKnown number
+  pub closed : Held (FileStore D g)
+  pub tables : IsHeldAs (form_of number) None (file_state closed)
+  pub stand_for : archive_by number (file_state closed).now.trees ≡ archive
+  pub live : IsLive (file_state closed)
+  pub copied : AreClean g files.log files.db → IsCopied closed files
+
+-- The files hold this archive, of whatever version: the same, and what is filed of each message is what its text says.
+pub record Hold {D : Type 0} (g : Ghosts D) (files : Files D) (archive : Archive) : Type 0 where
+  pub rows : HoldRows g files archive
+  pub filed_right : IsFiledRight archive
 
 module _ {D : Type 0} {g : Ghosts D} where
-  -- where the disk has returned what was written to it, a connection was opened from the files, and the store took it over
+  -- Where the disk has returned what was written to it, a connection was opened from the files, and the store took it over: tables
+  -- of whatever version stand for the same archive as before.
   abbrev pub TakesOver : Files D → Store (FileStore D g) → Type 0
   TakesOver files store = HasReturned over_files store → (opened : Held (FileStore D g)) × Finds files opened × IsOpened opened
-      × ((archive : Archive) → HoldsArchive over_files opened archive → HoldsTables over_files store × (archive_in over_files store ≡ archive))
+      × ((number : ℕ) → IsKnown number → IsHeldAs (form_of number) None (file_state opened)
+      → HoldsTables over_files store × (archive_in over_files store ≡ archive_by number (file_state opened).now.trees))
 
   module _ (files : Files D) (store : Store (FileStore D g)) where
     -- Where the disk has returned what was written to it, and the files held an archive before they were opened, the store is
