@@ -3,3 +3,4 @@ pub mod RankLemmas
 pub mod ReadingLemmas
 pub mod TakingLemmas
 mod HeldLemmas
+mod CauseLemmas

@@ -1,5 +1,6 @@
 -- What a database holds that is taken over, or is left.
-use Rattle.std.proofs.Common.{◌≡◌, ℤ, true, ◌<◌, ◌≤◌, List, [], ◌∷◌, length, get_or, map, refl, ap, sym, ◌∙◌, subst, arith, ◌⊎◌, inl, inr, Result, Ok, Err, OnErr}
+use Rattle.std.specs.Prelude.{IsTrue}
+use Rattle.std.proofs.Common.{◌≡◌, ℕ, ℤ, None, true, ◌<◌, ◌≤◌, List, [], ◌∷◌, length, get_or, map, refl, ap, sym, ◌∙◌, subst, arith, ◌⊎◌, inl, inr, Result, Ok, Err, OnErr}
 use Rattle.std.specs.List.Sorted.{IsPermutation}
 use Rattle.sqlite.specs.declared.types.Value.TheVariants.{Int}
 use Rattle.sqlite.specs.Order.{Row, column}
@@ -8,7 +9,8 @@ use Rattle.sqlite.specs.Effect.{Database}
 use Rattle.sqlite.specs.State.{State, IsUnchanged, IsRolledBack}
 use Rattle.sqlite.proofs.Callers.{one_permutation}
 use Rattle.std.proofs.lemmas.List.Sorted.{IsPermutation-sym}
-use Rattle.archive_tables.specs.Tables.{IsOfVersion}
+use Rattle.archive_tables.specs.Tables.{IsOfVersion, IsHeldAs, HasForm, form_of}
+use Rattle.archive_database.specs.Adopting.{HasAsManyObjects}
 use Rattle.archive_tables.specs.Making.{IsIdle, IsBackTo, IsStopped}
 use Rattle.archive_tables.specs.Rows.{versions_shown}
 
@@ -45,3 +47,23 @@ back_by old new idle (inr back) up = ((back.undone up).0 ∙ idle.settled, (back
 pub on_err : {A E : Type 0} (r : Result A E) (P : Type 0) → P → OnErr r P
 on_err (Ok a) P p = tt
 on_err (Err e) P p = p
+
+-- ---- tables of a version that are found
+
+pub has_form : (number : ℕ) (s : State) → IsHeldAs (form_of number) None s → HasForm (form_of number) s
+has_form number s k = record { is_open = k.is_open; autocommit = k.autocommit; settled = k.settled; schema = k.schema }
+
+pub as_many : (number : ℕ) (s : State) → IsHeldAs (form_of number) None s → HasAsManyObjects number s.now.schema
+as_many number s k = rw k.schema (record { tables = refl; indexes = refl; views = refl })
+
+-- a call that left them leaves them held
+pub held_again : (number : ℕ) (old new : State) → IsHeldAs (form_of number) None old → IsTrue new.is_open → IsBackTo new old.now → IsHeldAs (form_of number) None new
+held_again number old new k up back = let it = back up in
+    record {
+      is_open = up;
+      autocommit = it.2;
+      settled = it.1 ∙ sym it.0;
+      schema = rw it.0 k.schema;
+      tables = rw it.0 k.tables;
+      whole = tt;
+    }

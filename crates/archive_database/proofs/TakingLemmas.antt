@@ -1,6 +1,7 @@
 -- A list that is not full.
-use Rattle.std.proofs.Common.{◌≡◌, ◌≤◌, ◌<◌, ℕ, suc, length, arith, List, [], ◌∷◌, Bool, true, false, cond, Result, Ok, Err, IfOk, OnOk}
-use Rattle.std.specs.Prelude.{nat_le, filter, MatchResult}
+use Rattle.std.proofs.Common.{◌≡◌, ◌≤◌, ◌<◌, ℕ, suc, length, arith, List, [], ◌∷◌, Bool, true, false, cond, inl, inr}
+use Rattle.std.specs.Prelude.{nat_le, filter, ◌==◌, ◌||◌}
+use Rattle.std.proofs.lemmas.Bool.{cases_Bool}
 use Rattle.std.proofs.lemmas.Bool.Decides.{nat_tests}
 
 keeps_some : {X : Type 0} (b : Bool) (x : X) (ys : List X) (n : ℕ) → length ys ≤ n → length (cond b (x ∷ ys) ys) ≤ suc n
@@ -14,11 +15,9 @@ fewer p (x ∷ xs) = keeps_some (p x) x (filter p xs) (length xs) (fewer p xs)
 pub not_full : {X : Type 0} (p : X → Bool) (xs : List X) (limit : ℕ) → length xs < limit → false ≡ nat_le limit (length (filter p xs))
 not_full p xs limit h = let few = fewer p xs in grind (arith, nat_tests, h, few)
 
-pub open_unless : {E : Type 0} (P : Type 0) (r : Result Bool E) → OnOk r P → IfOk r (λ may_be. may_be ≡ false → P)
-open_unless P (Ok may_be) p = λ _. p
-open_unless P (Err e) p = tt
-
--- what follows of an answer
-pub says_then : {A E : Type 0} (r : Result A E) (P Q : A → Type 0) (R : E → Type 0) → ((a : A) → P a → Q a) → MatchResult r P R → MatchResult r Q R
-says_then (Ok a) P Q R f it = f a it
-says_then (Err e) P Q R f it = it
+-- neither is so
+pub above_zero : (n : ℕ) (b : Bool) → ((n == 0) || b) ≡ false → (0 < n) × (b ≡ false)
+above_zero n b none = elim (cases_Bool (n == 0)) [
+  | inl zero ↦ absurd (let bad = rw zero at none in cc)
+  | inr some ↦ (grind (arith, nat_tests, some), rw some at none)
+]

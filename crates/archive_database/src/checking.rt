@@ -30,7 +30,8 @@ pub struct Damage {
 /// it, and no bytes of the row.
 pub fn find_damage(alloc: Global, row: &Row) -> Result<Option<Damage>, Fault>
     ensures found { (f : Filed) → row.now ≡ filed_shown f → IfOk result (SaysOf f) }
-    ensures fault { (f : Filed) → row.now ≡ filed_shown f → IfErr result (λ fault. fault ≡ Fault.Memory) }
+    ensures fault { (f : Filed) → row.now ≡ filed_shown f
+        → IfErr result (λ fault. fault ≡ Fault.Memory) }
 {
     let Some(filed) = read_filed(row) else {
         return Err(Fault::Database);
@@ -47,7 +48,8 @@ pub fn find_damage(alloc: Global, row: &Row) -> Result<Option<Damage>, Fault>
 /// Whether a row is sound: its sender, arrival and text make a complete message, its key is that of the text, and it is filed by
 /// what the text says. It copies no text.
 fn is_sound(alloc: Global, row: &FiledRow<'_>) -> Result<bool, Fault>
-    ensures sound { IfOk result (λ sound. (withdrawn : ℤ) (embargo : Option ℤ) → IsTrue sound ↔ IsSoundFiled (filed_in withdrawn embargo row.now)) }
+    ensures sound { IfOk result (λ sound. (withdrawn : ℤ) (embargo : Option ℤ)
+        → IsTrue sound ↔ IsSoundFiled (filed_in withdrawn embargo row.now)) }
     ensures fault { IfErr result (λ fault. fault ≡ Fault.Memory) }
 {
     let Some(item) = read_item(row) else {

@@ -6,9 +6,10 @@ ghost use Rattle.sqlite.specs.State.{HasCleanDisk};
 ghost use Rattle.archive_machine.specs.Records.{Archive};
 ghost use Rattle.archive_tables.specs.Schema.{no_schema, with_person, with_message, schema_1, schema_2, schema_of};
 ghost use Rattle.archive_tables.specs.Tables.{IsHeldAs, IsKept, IsKnown, IsOfArchive, HasForm, IsOfVersion, newest_number, form_of, archive_by, archive_of};
-ghost use Rattle.archive_tables.specs.Calls.{Rests, Lasts, AnswersOpen};
-ghost use Rattle.archive_tables.specs.Making.{IsMaking, IsWithin, IsMoving, IsMade, Makes, StopsFrom, IsUndone, IsIdle, IsBackTo, IsStopped, empty_archive};
-ghost use Rattle.archive_database.specs.Adopting.{HasObjects, HasAsManyObjects, MayBeTaken, IsOlder};
+ghost use Rattle.archive_tables.specs.Calls.{Rests, Lasts, AnswersOpen, Ends};
+ghost use Rattle.archive_tables.specs.Crashes.{AddsNothing, AddsOnly, IsStored};
+ghost use Rattle.archive_tables.specs.Making.{IsMaking, IsWithin, IsMoving, IsMade, Makes, QuietWithin, StopsFrom, IsUndone, IsIdle, IsBackTo, IsStopped, empty_archive};
+ghost use Rattle.archive_database.specs.Adopting.{HasObjects, HasAsManyObjects, MayBeTaken, IsOlder, QuietFrom};
 
 use crate::faults::Fault;
 use archive_tables::texts;
@@ -28,8 +29,10 @@ pub fn has_nothing<S: Alter>(conn: &Connection<S>) -> bool
 /// The version whose tables these may be: that which has as many tables, indexes and views, that of AUTOINCREMENT among the
 /// tables. `None` where none has.
 pub fn version_of_objects<S: Alter>(conn: &Connection<S>) -> Option<u8>
-    ensures some { IfSome result (λ number. IsKnown number × HasAsManyObjects number (state S.Store conn.now).now.schema) }
-    ensures own { (number : _) → IsKnown number → HasAsManyObjects number (state S.Store conn.now).now.schema → result ≡ Some number }
+    ensures some { IfSome result (λ number. IsKnown number
+        × HasAsManyObjects number (state S.Store conn.now).now.schema) }
+    ensures own { (number : _) → IsKnown number
+        → HasAsManyObjects number (state S.Store conn.now).now.schema → result ≡ Some number }
 {
     if has_objects(conn, 6, 7) {
         Some(1)
@@ -52,16 +55,21 @@ fn has_objects<S: Alter>(conn: &Connection<S>, tables: usize, indexes: usize) ->
 
 /// Refuses tables of a version whose `version` does not hold one row, of its number.
 pub fn find_version<S: Alter>(conn: &mut Connection<S>, number: u8) -> Result<(), Fault>
-    ensures version { HasCleanDisk (state S.Store conn.new) → IsKnown number → HasForm (form_of number) (state S.Store conn.old)
+    ensures version { HasCleanDisk (state S.Store conn.new) → IsKnown number
+        → HasForm (form_of number) (state S.Store conn.old)
         → OnOk result (IsOfVersion (pos number) (state S.Store conn.old).now.trees) }
-    ensures back { HasCleanDisk (state S.Store conn.new) → IsKnown number → HasForm (form_of number) (state S.Store conn.old)
+    ensures back { HasCleanDisk (state S.Store conn.new) → IsKnown number
+        → HasForm (form_of number) (state S.Store conn.old)
         → IsBackTo (state S.Store conn.new) (state S.Store conn.old).now }
-    ensures up { HasCleanDisk (state S.Store conn.new) → IsKnown number → HasForm (form_of number) (state S.Store conn.old)
+    ensures up { HasCleanDisk (state S.Store conn.new) → IsKnown number
+        → HasForm (form_of number) (state S.Store conn.old)
         → OnOk result (IsTrue (state S.Store conn.new).is_open) }
-    ensures lasts { Lasts (state S.Store conn.old) (state S.Store conn.new) }
-    ensures was_open { AnswersOpen S.Store conn.old conn.new result }
-    ensures caused { HasCleanDisk (state S.Store conn.new) → number ≡ newest_number → IsKept (state S.Store conn.old) → (state S.Store conn.old).step_limit ≡ None
-        → IfErr result (λ fault. fault ≡ Fault.Database → MoreFaults (state S.Store conn.old).faults (state S.Store conn.new).faults) }
+    ensures quiet { AddsNothing S.Store conn.old conn.new }
+    ensures ends { Ends S.Store conn.old conn.new result }
+    ensures caused { HasCleanDisk (state S.Store conn.new) → number ≡ newest_number
+        → IsKept (state S.Store conn.old) → (state S.Store conn.old).step_limit ≡ None
+        → IfErr result (λ fault. fault ≡ Fault.Database
+        → MoreFaults (state S.Store conn.old).faults (state S.Store conn.new).faults) }
 {
     let rows = texts::schema::versions(conn)?;
     let [row] = rows.as_slice() else {
@@ -78,24 +86,37 @@ pub fn find_version<S: Alter>(conn: &mut Connection<S>, number: u8) -> Result<()
 /// Takes tables of any version over: those of an older one become those of the newest. A database that has the objects of no
 /// version, or another number, is refused.
 pub fn take_over<S: Alter>(conn: &mut Connection<S>) -> Result<(), Fault>
-    ensures found { HasCleanDisk (state S.Store conn.new) → (number : _) → IsKnown number → IsHeldAs (form_of number) None (state S.Store conn.old)
-        → OnOk result (IsKept (state S.Store conn.new) × (archive_of (state S.Store conn.new) ≡ archive_by number (state S.Store conn.old).now.trees)) }
-    ensures back { HasCleanDisk (state S.Store conn.new) → IsIdle (state S.Store conn.old) → (number : _) → IsKnown number → (state S.Store conn.old).now.schema ≡ schema_of number
+    ensures found { HasCleanDisk (state S.Store conn.new) → (number : _) → IsKnown number
+        → IsHeldAs (form_of number) None (state S.Store conn.old)
+        → OnOk result (IsKept (state S.Store conn.new)
+        × (archive_of (state S.Store conn.new) ≡ archive_by number
+        (state S.Store conn.old).now.trees)) }
+    ensures back { HasCleanDisk (state S.Store conn.new) → IsIdle (state S.Store conn.old)
+        → (number : _) → IsKnown number → (state S.Store conn.old).now.schema ≡ schema_of number
         → OnErr result (IsBackTo (state S.Store conn.new) (state S.Store conn.old).now) }
-    ensures version { HasCleanDisk (state S.Store conn.new) → (number : _) → IsKnown number → HasForm (form_of number) (state S.Store conn.old)
+    ensures version { HasCleanDisk (state S.Store conn.new) → (number : _) → IsKnown number
+        → HasForm (form_of number) (state S.Store conn.old)
         → OnOk result (IsOfVersion (pos number) (state S.Store conn.old).now.trees) }
     ensures kept { HasCleanDisk (state S.Store conn.new) → IsKept (state S.Store conn.old)
-        → OnOk result (IsKept (state S.Store conn.new) × (archive_of (state S.Store conn.new) ≡ archive_of (state S.Store conn.old))) }
-    ensures left { HasCleanDisk (state S.Store conn.new) → IsKept (state S.Store conn.old) → OnErr result (Rests (state S.Store conn.old) (state S.Store conn.new)) }
+        → OnOk result (IsKept (state S.Store conn.new)
+        × (archive_of (state S.Store conn.new) ≡ archive_of (state S.Store conn.old))) }
+    ensures left { HasCleanDisk (state S.Store conn.new) → IsKept (state S.Store conn.old)
+        → OnErr result (Rests (state S.Store conn.old) (state S.Store conn.new)) }
     ensures rows { HasCleanDisk (state S.Store conn.new) → IsOfArchive (state S.Store conn.old)
         → OnOk result (IsBackTo (state S.Store conn.new) (state S.Store conn.old).now) }
-    ensures caused { HasCleanDisk (state S.Store conn.new) → IsKept (state S.Store conn.old) → (state S.Store conn.old).step_limit ≡ None
-        → IfErr result (λ fault. fault ≡ Fault.Database → MoreFaults (state S.Store conn.old).faults (state S.Store conn.new).faults) }
+    ensures caused { HasCleanDisk (state S.Store conn.new) → IsKept (state S.Store conn.old)
+        → (state S.Store conn.old).step_limit ≡ None
+        → IfErr result (λ fault. fault ≡ Fault.Database
+        → MoreFaults (state S.Store conn.old).faults (state S.Store conn.new).faults) }
     ensures objects { OnOk result (MayBeTaken (state S.Store conn.old).now.schema) }
     ensures foreign { ¬ MayBeTaken (state S.Store conn.old).now.schema → conn.new ≡ conn.old }
-    ensures why { ¬ MayBeTaken (state S.Store conn.old).now.schema → IfErr result (λ fault. fault ≡ Fault.Database) }
-    ensures lasts { Lasts (state S.Store conn.old) (state S.Store conn.new) }
-    ensures was_open { AnswersOpen S.Store conn.old conn.new result }
+    ensures why { ¬ MayBeTaken (state S.Store conn.old).now.schema
+        → IfErr result (λ fault. fault ≡ Fault.Database) }
+    ensures crash { (number : _) → IsKnown number
+        → IsHeldAs (form_of number) None (state S.Store conn.old)
+        → AddsOnly S.Store conn.old conn.new (IsStored
+        (archive_by number (state S.Store conn.old).now.trees)) }
+    ensures ends { Ends S.Store conn.old conn.new result }
 {
     let Some(number) = version_of_objects(conn) else {
         return Err(Fault::Database);
@@ -109,10 +130,17 @@ pub fn take_over<S: Alter>(conn: &mut Connection<S>) -> Result<(), Fault>
 
 /// Makes the tables of an older version those of the newest, in one transaction.
 fn bring_over<S: Alter>(conn: &mut Connection<S>, number: u8) -> Result<(), Fault>
-    ensures moved { HasCleanDisk (state S.Store conn.new) → IsOlder number → IsHeldAs (form_of number) None (state S.Store conn.old)
-        → OnOk result (IsKept (state S.Store conn.new) × (archive_of (state S.Store conn.new) ≡ archive_by number (state S.Store conn.old).now.trees)) }
-    ensures back { HasCleanDisk (state S.Store conn.new) → IsOlder number → IsIdle (state S.Store conn.old) → (state S.Store conn.old).now.schema ≡ schema_of number
+    ensures moved { HasCleanDisk (state S.Store conn.new) → IsOlder number
+        → IsHeldAs (form_of number) None (state S.Store conn.old)
+        → OnOk result (IsKept (state S.Store conn.new)
+        × (archive_of (state S.Store conn.new) ≡ archive_by number
+        (state S.Store conn.old).now.trees)) }
+    ensures back { HasCleanDisk (state S.Store conn.new) → IsOlder number
+        → IsIdle (state S.Store conn.old) → (state S.Store conn.old).now.schema ≡ schema_of number
         → OnErr result (IsBackTo (state S.Store conn.new) (state S.Store conn.old).now) }
+    ensures crash { IsOlder number → IsHeldAs (form_of number) None (state S.Store conn.old)
+        → AddsOnly S.Store conn.old conn.new (IsStored
+        (archive_by number (state S.Store conn.old).now.trees)) }
     ensures lasts { Lasts (state S.Store conn.old) (state S.Store conn.new) }
     ensures was_open { AnswersOpen S.Store conn.old conn.new result }
 {
@@ -126,11 +154,17 @@ fn bring_over<S: Alter>(conn: &mut Connection<S>, number: u8) -> Result<(), Faul
 
 /// Brings the tables of an older version over in a transaction, a step for each version, and commits it behind the last.
 fn move_tables<S: Alter>(conn: &mut Connection<S>, number: u8) -> Result<(), Error>
-    ensures moved { HasCleanDisk (state S.Store conn.new) → IsOlder number → (before : _) (archive : Archive)
+    ensures moved { HasCleanDisk (state S.Store conn.new) → IsOlder number
+        → (before : _) (archive : Archive)
         → IsMoving (state S.Store conn.old) before (schema_of number) (pos number) number archive
-        → OnOk result (IsKept (state S.Store conn.new) × (archive_of (state S.Store conn.new) ≡ archive)) }
-    ensures stopped { HasCleanDisk (state S.Store conn.new) → IsOlder number → (before : _) → IsWithin (state S.Store conn.old) before (schema_of number)
+        → OnOk result (IsKept (state S.Store conn.new)
+        × (archive_of (state S.Store conn.new) ≡ archive)) }
+    ensures stopped { HasCleanDisk (state S.Store conn.new) → IsOlder number → (before : _)
+        → IsWithin (state S.Store conn.old) before (schema_of number)
         → OnErr result (IsStopped (state S.Store conn.new) before) }
+    ensures crash { IsOlder number → (before : _) (archive : Archive)
+        → IsMoving (state S.Store conn.old) before (schema_of number) (pos number) number archive
+        → AddsOnly S.Store conn.old conn.new (IsStored archive) }
     ensures lasts { Lasts (state S.Store conn.old) (state S.Store conn.new) }
 {
     move_options(conn, number)?;
@@ -142,13 +176,17 @@ fn move_tables<S: Alter>(conn: &mut Connection<S>, number: u8) -> Result<(), Err
 
 /// From version 1 to 2: each list has its option. The tables of version 2 stay as they are.
 fn move_options<S: Alter>(conn: &mut Connection<S>, number: u8) -> Result<(), Error>
-    ensures moved { HasCleanDisk (state S.Store conn.new) → IsOlder number → (before : _) (archive : Archive)
+    ensures moved { HasCleanDisk (state S.Store conn.new) → IsOlder number
+        → (before : _) (archive : Archive)
         → IsMoving (state S.Store conn.old) before (schema_of number) (pos number) number archive
         → OnOk result (IsMoving (state S.Store conn.new) before schema_2 (pos number) 2 archive) }
-    ensures within { HasCleanDisk (state S.Store conn.new) → IsOlder number → (before : _) → IsWithin (state S.Store conn.old) before (schema_of number)
+    ensures within { HasCleanDisk (state S.Store conn.new) → IsOlder number → (before : _)
+        → IsWithin (state S.Store conn.old) before (schema_of number)
         → OnOk result (IsWithin (state S.Store conn.new) before schema_2) }
-    ensures stopped { HasCleanDisk (state S.Store conn.new) → IsOlder number → (before : _) → IsWithin (state S.Store conn.old) before (schema_of number)
+    ensures stopped { HasCleanDisk (state S.Store conn.new) → IsOlder number → (before : _)
+        → IsWithin (state S.Store conn.old) before (schema_of number)
         → OnErr result (IsStopped (state S.Store conn.new) before) }
+    ensures quiet { IsOlder number → QuietWithin S.Store conn.old conn.new (schema_of number) }
     ensures lasts { Lasts (state S.Store conn.old) (state S.Store conn.new) }
 {
     if number != 1 {
@@ -161,14 +199,19 @@ fn move_options<S: Alter>(conn: &mut Connection<S>, number: u8) -> Result<(), Er
 
 /// Makes the tables, all of them or none.
 pub fn make_tables<S: Alter>(conn: &mut Connection<S>) -> Result<(), Fault>
-    ensures made { HasCleanDisk (state S.Store conn.new) → (state S.Store conn.old).now.schema ≡ no_schema
-        → OnOk result (IsKept (state S.Store conn.new) × (archive_of (state S.Store conn.new) ≡ empty_archive)) }
-    ensures undone { HasCleanDisk (state S.Store conn.new) → (state S.Store conn.old).now.schema ≡ no_schema
+    ensures made { HasCleanDisk (state S.Store conn.new)
+        → (state S.Store conn.old).now.schema ≡ no_schema
+        → OnOk result (IsKept (state S.Store conn.new)
+        × (archive_of (state S.Store conn.new) ≡ empty_archive)) }
+    ensures undone { HasCleanDisk (state S.Store conn.new)
+        → (state S.Store conn.old).now.schema ≡ no_schema
         → OnErr result (IsUndone (state S.Store conn.new) (state S.Store conn.old).committed) }
-    ensures back { HasCleanDisk (state S.Store conn.new) → (state S.Store conn.old).now.schema ≡ no_schema → IsIdle (state S.Store conn.old)
+    ensures back { HasCleanDisk (state S.Store conn.new)
+        → (state S.Store conn.old).now.schema ≡ no_schema → IsIdle (state S.Store conn.old)
         → OnErr result (IsBackTo (state S.Store conn.new) (state S.Store conn.old).now) }
-    ensures lasts { Lasts (state S.Store conn.old) (state S.Store conn.new) }
-    ensures was_open { AnswersOpen S.Store conn.old conn.new result }
+    ensures crash { (state S.Store conn.old).now.schema ≡ no_schema
+        → AddsOnly S.Store conn.old conn.new (IsStored empty_archive) }
+    ensures ends { Ends S.Store conn.old conn.new result }
 {
     texts::schema::begin(conn)?;
     if let Err(error) = fill(conn) {
@@ -180,9 +223,13 @@ pub fn make_tables<S: Alter>(conn: &mut Connection<S>) -> Result<(), Fault>
 
 /// Makes the tables in a transaction, and commits it.
 fn fill<S: Alter>(conn: &mut Connection<S>) -> Result<(), Error>
-    ensures kept { HasCleanDisk (state S.Store conn.new) → (before : _) → IsMaking (state S.Store conn.old) no_schema before
-        → OnOk result (IsKept (state S.Store conn.new) × (archive_of (state S.Store conn.new) ≡ empty_archive)) }
+    ensures kept { HasCleanDisk (state S.Store conn.new) → (before : _)
+        → IsMaking (state S.Store conn.old) no_schema before
+        → OnOk result (IsKept (state S.Store conn.new)
+        × (archive_of (state S.Store conn.new) ≡ empty_archive)) }
     ensures stopped { StopsFrom S.Store conn.old conn.new result no_schema }
+    ensures crash { (before : _) → IsMaking (state S.Store conn.old) no_schema before
+        → AddsOnly S.Store conn.old conn.new (IsStored empty_archive) }
     ensures lasts { Lasts (state S.Store conn.old) (state S.Store conn.new) }
 {
     make_first(conn)?;
@@ -197,6 +244,7 @@ fn fill<S: Alter>(conn: &mut Connection<S>) -> Result<(), Error>
 fn make_first<S: Alter>(conn: &mut Connection<S>) -> Result<(), Error>
     ensures made { Makes S.Store conn.old conn.new result no_schema with_person }
     ensures stopped { StopsFrom S.Store conn.old conn.new result no_schema }
+    ensures quiet { QuietFrom S.Store conn.old conn.new no_schema }
     ensures lasts { Lasts (state S.Store conn.old) (state S.Store conn.new) }
 {
     texts::schema::create_version(conn)?;
@@ -209,6 +257,7 @@ fn make_first<S: Alter>(conn: &mut Connection<S>) -> Result<(), Error>
 fn make_second<S: Alter>(conn: &mut Connection<S>) -> Result<(), Error>
     ensures made { Makes S.Store conn.old conn.new result with_person with_message }
     ensures stopped { StopsFrom S.Store conn.old conn.new result with_person }
+    ensures quiet { QuietFrom S.Store conn.old conn.new with_person }
     ensures lasts { Lasts (state S.Store conn.old) (state S.Store conn.new) }
 {
     texts::schema::create_grant(conn)?;
@@ -220,6 +269,7 @@ fn make_second<S: Alter>(conn: &mut Connection<S>) -> Result<(), Error>
 fn make_indexes<S: Alter>(conn: &mut Connection<S>) -> Result<(), Error>
     ensures made { Makes S.Store conn.old conn.new result with_message schema_1 }
     ensures stopped { StopsFrom S.Store conn.old conn.new result with_message }
+    ensures quiet { QuietFrom S.Store conn.old conn.new with_message }
     ensures lasts { Lasts (state S.Store conn.old) (state S.Store conn.new) }
 {
     texts::schema::create_month_index(conn)?;
@@ -229,9 +279,11 @@ fn make_indexes<S: Alter>(conn: &mut Connection<S>) -> Result<(), Error>
 
 /// Makes the tables of the later versions, and writes the version down.
 fn make_later<S: Alter>(conn: &mut Connection<S>) -> Result<(), Error>
-    ensures made { HasCleanDisk (state S.Store conn.new) → (before : _) → IsMaking (state S.Store conn.old) schema_1 before
+    ensures made { HasCleanDisk (state S.Store conn.new) → (before : _)
+        → IsMaking (state S.Store conn.old) schema_1 before
         → OnOk result (IsMade (state S.Store conn.new) before empty_archive) }
     ensures stopped { StopsFrom S.Store conn.old conn.new result schema_1 }
+    ensures quiet { QuietFrom S.Store conn.old conn.new schema_1 }
     ensures lasts { Lasts (state S.Store conn.old) (state S.Store conn.new) }
 {
     texts::schema::create_option(conn)?;

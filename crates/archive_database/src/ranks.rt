@@ -10,8 +10,10 @@ use sqlite::{Error, Row};
 
 /// The highest rank of the grants that hold on a day, 0 where none does. A person has three grants on a list at most.
 pub fn highest_rank(grants: &[Row], day: i64) -> Result<i64, Error>
-    ensures found { IfOk result (λ rank. (shown : List Grant) → grants.now ≡ map grant_shown shown → rank ≡ rank_on day shown) }
-    ensures fault { IfErr result (λ e. (shown : List Grant) → grants.now ≡ map grant_shown shown → e ≡ no_memory) }
+    ensures found { IfOk result (λ rank. (shown : List Grant) → grants.now ≡ map grant_shown shown
+        → rank ≡ rank_on day shown) }
+    ensures fault { IfErr result (λ e. (shown : List Grant) → grants.now ≡ map grant_shown shown
+        → e ≡ no_memory) }
 {
     match grants {
         [first, rest @ ..] => {
@@ -24,7 +26,8 @@ pub fn highest_rank(grants: &[Row], day: i64) -> Result<i64, Error>
 
 /// The higher of this rank and that of a grant, if the grant holds on the day.
 fn rank_with(row: &Row, above: &i64, day: i64) -> Result<i64, Error>
-    ensures found { IfOk result (λ rank. (g : Grant) → row.now ≡ grant_shown g → rank ≡ higher_on day g above.now) }
+    ensures found { IfOk result (λ rank. (g : Grant) → row.now ≡ grant_shown g
+        → rank ≡ higher_on day g above.now) }
     ensures fault { IfErr result (λ e. (g : Grant) → row.now ≡ grant_shown g → e ≡ no_memory) }
 {
     let grant = read_grant(row)?;

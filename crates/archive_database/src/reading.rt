@@ -29,8 +29,10 @@ pub struct DatedMarks {
 
 /// The names that rows show.
 pub fn read_names(alloc: Global, rows: &[Row]) -> Result<Vec<String>, Fault>
-    ensures read { IfOk result (λ found. (names : List (List ℕ)) → rows.now ≡ map name_shown names → map string_bytes found.items ≡ names) }
-    ensures unread { IfErr result (λ fault. fault ≡ Fault.Database → (names : List (List ℕ)) → rows.now ≡ map name_shown names → ¬ All IsUtf8 names) }
+    ensures read { IfOk result (λ found. (names : List (List ℕ)) → rows.now ≡ map name_shown names
+        → map string_bytes found.items ≡ names) }
+    ensures unread { IfErr result (λ fault. fault ≡ Fault.Database → (names : List (List ℕ))
+        → rows.now ≡ map name_shown names → ¬ All IsUtf8 names) }
 {
     let mut found = Vec::with_capacity(alloc, rows.len())?;
     for row in rows.iter() {
@@ -42,8 +44,10 @@ pub fn read_names(alloc: Global, rows: &[Row]) -> Result<Vec<String>, Fault>
 
 /// The numbers that rows show.
 pub fn read_places(alloc: Global, rows: &[Row]) -> Result<Vec<i64>, Fault>
-    ensures read { IfOk result (λ found. (places : List ℤ) → rows.now ≡ map place_shown places → found.items ≡ places) }
-    ensures unread { IfErr result (λ fault. (places : List ℤ) → rows.now ≡ map place_shown places → fault ≡ Fault.Memory) }
+    ensures read { IfOk result (λ found. (places : List ℤ) → rows.now ≡ map place_shown places
+        → found.items ≡ places) }
+    ensures unread { IfErr result (λ fault. (places : List ℤ) → rows.now ≡ map place_shown places
+        → fault ≡ Fault.Memory) }
 {
     let mut found = Vec::with_capacity(alloc, rows.len())?;
     for row in rows.iter() {
@@ -55,8 +59,10 @@ pub fn read_places(alloc: Global, rows: &[Row]) -> Result<Vec<i64>, Fault>
 
 /// The message of a row. It refuses a row that is of none.
 pub fn read_or_fail(row: MessageRow) -> Result<Message, Fault>
-    ensures read { IfOk result (λ message. (list : List ℕ) → remembered list message ≡ message_in list row) }
-    ensures unread { IfErr result (λ fault. (fault ≡ Fault.Database) × ((list : List ℕ) → ¬ IsReadable (message_in list row))) }
+    ensures read { IfOk result (λ message. (list : List ℕ)
+        → remembered list message ≡ message_in list row) }
+    ensures unread { IfErr result (λ fault. (fault ≡ Fault.Database)
+        × ((list : List ℕ) → ¬ IsReadable (message_in list row))) }
 {
     match read(row) {
         Some(message) => Ok(message),
@@ -66,7 +72,8 @@ pub fn read_or_fail(row: MessageRow) -> Result<Message, Fault>
 
 /// The same. `None` where the row is of none.
 fn read(row: MessageRow) -> Option<Message>
-    ensures some { IfSome result (λ message. (list : List ℕ) → remembered list message ≡ message_in list row) }
+    ensures some { IfSome result (λ message. (list : List ℕ)
+        → remembered list message ≡ message_in list row) }
     ensures none { IfNone result ((list : List ℕ) → ¬ IsReadable (message_in list row)) }
 {
     let key = Key::read(&row.key)?;
@@ -87,8 +94,10 @@ fn read(row: MessageRow) -> Option<Message>
 
 /// The arrival and the marks of a row. It refuses those that no message has.
 pub fn marks_or_fail(row: DatedMarksRow) -> Result<DatedMarks, Fault>
-    ensures read { IfOk result (λ marks. (m : Remembered) → row ≡ dated_marks_of m → AreMarksOf marks m) }
-    ensures unread { IfErr result (λ fault. (fault ≡ Fault.Database) × ((m : Remembered) → row ≡ dated_marks_of m → ¬ IsReadable m)) }
+    ensures read { IfOk result (λ marks. (m : Remembered) → row ≡ dated_marks_of m
+        → AreMarksOf marks m) }
+    ensures unread { IfErr result (λ fault. (fault ≡ Fault.Database)
+        × ((m : Remembered) → row ≡ dated_marks_of m → ¬ IsReadable m)) }
 {
     match read_marks(row) {
         Some(marks) => Ok(marks),
@@ -98,7 +107,8 @@ pub fn marks_or_fail(row: DatedMarksRow) -> Result<DatedMarks, Fault>
 
 /// The same. `None` where no message has them.
 fn read_marks(row: DatedMarksRow) -> Option<DatedMarks>
-    ensures some { IfSome result (λ marks. (m : Remembered) → row ≡ dated_marks_of m → AreMarksOf marks m) }
+    ensures some { IfSome result (λ marks. (m : Remembered) → row ≡ dated_marks_of m
+        → AreMarksOf marks m) }
     ensures none { IfNone result ((m : Remembered) → row ≡ dated_marks_of m → ¬ IsReadable m) }
 {
     let arrival = Instant::new(row.arrival)?;

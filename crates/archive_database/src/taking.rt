@@ -1,12 +1,10 @@
 //! A message that is taken in.
-ghost use Rattle.std.specs.Prelude.{◌≡◌, ◌<◌, false, nat_lt, nat_le, length, IfOk, IsTrue, MatchOption};
-ghost use Rattle.sqlite.specs.Held.{state};
-ghost use Rattle.sqlite.specs.State.{HasCleanDisk};
+ghost use Rattle.std.specs.Prelude.{◌≡◌, ◌<◌, false, nat_lt, nat_le, length, IfOk, MatchOption};
 ghost use Rattle.mbox_items.specs.Division.{whole};
 ghost use Rattle.archive_machine.specs.Machine.{longest_text};
 ghost use Rattle.archive_machine.specs.Questions.{messages_in};
-ghost use Rattle.archive_tables.specs.Calls.{AsksOver, Ends, Lasts};
-ghost use Rattle.archive_database.specs.Taking.{TakesIn};
+ghost use Rattle.archive_tables.specs.Calls.{Asks, Ends};
+ghost use Rattle.archive_database.specs.Taking.{TakesIn, FailsToTake, TakesWhole};
 
 use crate::faults::Fault;
 use crate::filing::file;
@@ -33,9 +31,8 @@ pub fn is_too_large(item: &Item<'_>) -> bool
 /// Whether a list holds as many messages as the limit. Its messages are counted only where some message's number
 /// reaches the limit.
 pub fn is_full<S: Alter>(conn: &mut Connection<S>, list: &str, limit: u32) -> Result<bool, Error>
-    ensures over { AsksOver S.Store conn.old conn.new result
-        (λ a full. full ≡ nat_le limit (length (messages_in a list.now))) }
-    ensures ends { Ends S.Store conn.old conn.new result }
+    ensures { Asks S.Store conn.old conn.new result
+        (λ a full. full ≡ nat_le limit (length (messages_in a list.now))) ⊥ }
 {
     if !may_be_full(conn, limit)? {
         return Ok(false);
@@ -46,15 +43,11 @@ pub fn is_full<S: Alter>(conn: &mut Connection<S>, list: &str, limit: u32) -> Re
 
 /// Whether a list may hold as many messages as the limit. It takes the same time however many messages there are.
 fn may_be_full<S: Alter>(conn: &mut Connection<S>, limit: u32) -> Result<bool, Error>
-    ensures over { AsksOver S.Store conn.old conn.new result
-        (λ a may_be. may_be ≡ false → length a.messages < limit) }
-    ensures lasts { Lasts (state S.Store conn.old) (state S.Store conn.new) }
-    ensures was_open { HasCleanDisk (state S.Store conn.new) → IfOk result (λ may_be. may_be ≡ false → IsTrue (state S.Store conn.old).is_open) }
+    ensures { Asks S.Store conn.old conn.new result
+        (λ a may_be. may_be ≡ false → length a.messages < limit) ⊥ }
 {
-    if limit == 0 {
-        return Ok(true);
-    }
-    texts::messages::reaches(conn, limit)
+    let reached = texts::messages::reaches(conn, limit)?;
+    Ok((limit == 0) | reached)
 }
 
 /// Writes a message down after the others.
@@ -66,6 +59,8 @@ pub fn take_in<S: Alter>(
     item: &Item<'_>,
 ) -> Result<(), Fault>
     ensures taken { TakesIn S.Store conn.old conn.new result list.now key.now item.now }
+    ensures caused { FailsToTake S.Store conn.old conn.new result list.now key.now item.now }
+    ensures crash { TakesWhole S.Store conn.old conn.new list.now key.now item.now }
     ensures ends { Ends S.Store conn.old conn.new result }
 {
     if let Some(text) = with_line_end(alloc, item)? {
@@ -85,6 +80,10 @@ fn write_down<S: Alter>(
 ) -> Result<(), Fault>
     ensures taken { text.now ≡ whole item.now.text
         → TakesIn S.Store conn.old conn.new result list.now key.now item.now }
+    ensures caused { text.now ≡ whole item.now.text
+        → FailsToTake S.Store conn.old conn.new result list.now key.now item.now }
+    ensures crash { text.now ≡ whole item.now.text
+        → TakesWhole S.Store conn.old conn.new list.now key.now item.now }
     ensures ends { Ends S.Store conn.old conn.new result }
 {
     let sender = sender_of(alloc, item)?;
@@ -124,7 +123,8 @@ fn text_of<'a>(item: &'a Item<'_>) -> &'a [u8]
 
 /// The text of a message and LF, where the whole text is this; `None` where it is the text.
 fn with_line_end(alloc: Global, item: &Item<'_>) -> Result<Option<Vec<u8>>, AllocError>
-    ensures { IfOk result (λ ended. MatchOption ended (item.now.text ≡ whole item.now.text) (λ text. text.items ≡ whole item.now.text)) }
+    ensures { IfOk result (λ ended. MatchOption ended (item.now.text ≡ whole item.now.text)
+        (λ text. text.items ≡ whole item.now.text)) }
 {
     if item.complete {
         return Ok(None);

@@ -1,5 +1,5 @@
 -- Whole clauses of a call, from what the database says of its statement.
-use Rattle.std.proofs.Common.{◌≡◌, ◌⊎◌, inl, inr, ◌∙◌, List, ℕ, Ok, Err, Result, None, Some, Option}
+use Rattle.std.proofs.Common.{◌≡◌, ◌⊎◌, inl, inr, ◌∙◌, List, ℕ, Ok, Err, Result, None, Some, Option, refl}
 use Rattle.std.specs.Prelude.{⊤, IsTrue, IsErrAnd, IfOk, IfErr, OnOk, OnErr, MatchResult, Vec}
 use Rattle.std.specs.declared.alloc.Global.{Global}
 use Rattle.sqlite.specs.declared.error.Error.{Error}
@@ -8,14 +8,17 @@ use Rattle.sqlite.specs.Order.{Row}
 use Rattle.sqlite.specs.Tree.{Trees}
 use Rattle.sqlite.specs.Store.{Ghosts}
 use Rattle.sqlite.specs.Held.{Held, state}
-use Rattle.sqlite.specs.State.{State, HasCleanDisk, Survives, Executes, Shown, FailsToQuery, IsUnchanged, IsRolledBack}
+use Rattle.sqlite.specs.State.{State, HasCleanDisk, Survives, Executes, Shown, FailsToQuery, IsUnchanged, IsRolledBack, CommitsBy, CommitsShowing}
 use Rattle.sqlite_resolve.specs.Compile.{first}
 use Rattle.archive_machine.specs.Records.{Archive}
 use Rattle.archive_tables.specs.Tables.{IsHeld, IsKept, archive_of}
-use Rattle.archive_tables.specs.Calls.{StaysOver, RestsOver, RowsRest, IsCaused, Ends, Asks, AsksRows}
+use Rattle.archive_tables.specs.Calls.{StaysOver, RestsOver, RowsRest, IsCaused, ChangesOver, AsksOver, AsksRowsOver, FailsByFaultOr, Ends, Asks, AsksRows, Writes as WritesBy}
+use Rattle.archive_tables.specs.Statements.{Statement}
 use Rattle.archive_tables.specs.Making.{EndsStep}
 use Rattle.archive_tables.proofs.RunLemmas.{execute_fails, on_fault}
 use Rattle.archive_tables.proofs.CauseLemmas.{carried, answers_none}
+use Rattle.archive_tables.proofs.RefusalLemmas.{Knows, write_fails, write_carries_out}
+use Rattle.archive_tables.proofs.CrashLemmas.{IsQuestionText, question_sees, question_adds_nothing, crash_over}
 use Rattle.archive_tables.proofs.LastLemmas.{IsOurText, execute_lasts, execute_open, query_lasts, query_open, shown_open}
 
 -- ---- one call after the other
@@ -52,13 +55,47 @@ module _ {S : Type 0} {g : Ghosts S} {old new : Held S} (sql : List ℕ) (params
         stops (Ok count) h = tt
         stops (Err e) h = execute_fails (state g old) (state g new) sql params e h
 
-  -- ---- a question
+-- ---- a write of an archive
 
-  module _ (q : Result (Vec Row Global) Error) (s : Survives (state g old) (state g new) P)
+module _ (st : Statement) (Needs : Archive → Type 0) (change : Archive → Archive) where
+  -- what the statement makes of tables that are held
+  abbrev pub Tries : Type 1
+  Tries = (behind : Option Database) (old new : State) (r : Result ℕ Error) → IsHeld behind old → Executes st.sql st.given old new r
+      → MatchResult r (λ _. Needs (archive_of old) → ChangesOver behind old new change) (λ _. RestsOver behind old new)
+
+  module _ (knows : Knows st) (ours : IsOurText (first st.sql)) (tries : Tries) where
+    pub write_whole : {S : Type 0} {g : Ghosts S} {old new : Held S} (r : Result ℕ Error) → Survives (state g old) (state g new) (CommitsBy st.sql st.given (state g old))
+        → (HasCleanDisk (state g new) → Executes st.sql st.given (state g old) (state g new) r) → WritesBy g old new r Needs change st
+    write_whole {S} {g} {old} {new} r s runs = record {
+      over = λ clean behind k. tries behind (state g old) (state g new) r k (runs clean);
+      caused = λ clean behind k free. write_fails st knows (state g old) (state g new) k free r (runs clean);
+      made = λ clean behind k free. write_carries_out st knows (state g old) (state g new) k free r (runs clean);
+      crash = λ behind k needs. crash_over st.sql _ refl knows.plain knows.writes st.given change (state g old) (state g new) behind k
+          (λ kept next count ran. tries None (state g old) next (Ok count) kept ran needs) s;
+      ends = execute_ends st.sql st.given _ r ours s runs;
+    }
+
+-- where it needs nothing
+pub write_freely : (st : Statement) (change : Archive → Archive) → Knows st → IsOurText (first st.sql)
+    → ((behind : Option Database) (old new : State) (r : Result ℕ Error) → IsHeld behind old → Executes st.sql st.given old new r
+    → MatchResult r (λ _. ChangesOver behind old new change) (λ _. RestsOver behind old new))
+    → {S : Type 0} {g : Ghosts S} {old new : Held S} (r : Result ℕ Error) → Survives (state g old) (state g new) (CommitsBy st.sql st.given (state g old))
+    → (HasCleanDisk (state g new) → Executes st.sql st.given (state g old) (state g new) r) → WritesBy g old new r (λ _. ⊤) change st
+write_freely st change knows ours tries = write_whole st (λ _. ⊤) change knows ours (λ behind old new r k h. needs_nothing r _ _ (tries behind old new r k h))
+
+-- ---- a question
+
+shown_same : (old new : State) (sql : List ℕ) (params : Row) → IsQuestionText (first sql) → (r : Result (Vec Row Global) Error) → IfOk r (λ rows. Shown sql params old new rows.items)
+    → OnOk r (new.now ≡ old.now)
+shown_same old new sql params asks (Ok rows) shown = question_sees old new sql params rows.items asks shown
+shown_same old new sql params asks (Err e) shown = tt
+
+module _ {S : Type 0} {g : Ghosts S} {old new : Held S} (sql : List ℕ) (params : Row) (asks : IsQuestionText (first sql)) where
+  module _ (q : Result (Vec Row Global) Error) (s : Survives (state g old) (state g new) (CommitsShowing sql params (state g old)))
       (ok : HasCleanDisk (state g new) → IfOk q (λ rows. Shown sql params (state g old) (state g new) rows.items))
       (err : HasCleanDisk (state g new) → IfErr q (FailsToQuery sql params (state g old) (state g new))) where
     query_ends : {A : Type 0} (r : Result A Error) → (HasCleanDisk (state g new) → OnOk r (IsTrue (state g old).is_open)) → Ends g old new r
-    query_ends r was_open = record { lasts = query_lasts (state g old) (state g new) sql params P q s ok err; was_open = was_open }
+    query_ends r was_open = record { lasts = query_lasts (state g old) (state g new) sql params _ q s ok err; was_open = was_open }
 
     -- where its rows are the answer
     pub shown_ends : Ends g old new q
@@ -81,6 +118,8 @@ module _ {S : Type 0} {g : Ghosts S} {old new : Held S} (sql : List ℕ) (params
     asks_fails {A} {Says} {Unread} r e is rests why = record {
       over = λ clean behind k. on_fault _ _ r is (rests clean behind k);
       caused = λ clean k free. carried r e (λ f. IsCaused (state g old) (state g new) f ⊎ Unread) is (why clean k free);
+      same = λ clean. answers_none r _ _ is;
+      quiet = λ clean db may. question_adds_nothing (state g old) (state g new) sql params asks s clean db may;
       ends = failed_ends r _ is;
     }
 
@@ -91,19 +130,40 @@ module _ {S : Type 0} {g : Ghosts S} {old new : Held S} (sql : List ℕ) (params
     asks_rows_fails {A} {Says} {Unread} r e is rests why = record {
       over = λ clean behind k. on_fault _ _ r is (rests clean behind k);
       caused = λ clean k free. carried r e (λ f. IsCaused (state g old) (state g new) f ⊎ Unread) is (why clean k free);
+      same = λ clean. answers_none r _ _ is;
+      quiet = λ clean db may. question_adds_nothing (state g old) (state g new) sql params asks s clean db may;
       ends = failed_ends r _ is;
     }
+
+    -- where its rows are the answer
+    pub asks_shows : {Says : Archive → Vec Row Global → Type 0} {Unread : Type 0} → AsksOver g old new q Says → FailsByFaultOr g old new q Unread → Asks g old new q Says Unread
+    asks_shows over caused = record { over = over; caused = caused; same = λ clean. shown_same (state g old) (state g new) sql params asks q (ok clean); quiet = λ clean db may. question_adds_nothing (state g old) (state g new) sql params asks s clean db may; ends = shown_ends }
+
+    pub asks_rows_shows : {Says : Trees → Vec Row Global → Type 0} {Unread : Type 0} → AsksRowsOver g old new q Says → FailsByFaultOr g old new q Unread → AsksRows g old new q Says Unread
+    asks_rows_shows over caused = record { over = over; caused = caused; same = λ clean. shown_same (state g old) (state g new) sql params asks q (ok clean); quiet = λ clean db may. question_adds_nothing (state g old) (state g new) sql params asks s clean db may; ends = shown_ends }
 
     -- and where it answers
     pub asks_answers : {A : Type 0} {Says : Archive → A → Type 0} {Unread : Type 0} (a : A) (rows : List Row)
         → (HasCleanDisk (state g new) → Shown sql params (state g old) (state g new) rows)
         → (HasCleanDisk (state g new) → (behind : Option Database) → IsHeld behind (state g old) → Says (archive_of (state g old)) a × StaysOver behind (state g old) (state g new))
         → Asks g old new (Ok a) Says Unread
-    asks_answers a rows shown over = record { over = over; caused = λ clean k free. tt; ends = answered_ends a rows shown }
+    asks_answers a rows shown over = record {
+      over = over;
+      caused = λ clean k free. tt;
+      same = λ clean. question_sees (state g old) (state g new) sql params rows asks (shown clean);
+      quiet = λ clean db may. question_adds_nothing (state g old) (state g new) sql params asks s clean db may;
+      ends = answered_ends a rows shown;
+    }
 
     pub asks_rows_answers : {A : Type 0} {Says : Trees → A → Type 0} {Unread : Type 0} (a : A) (rows : List Row)
         → (HasCleanDisk (state g new) → Shown sql params (state g old) (state g new) rows)
         → (HasCleanDisk (state g new) → (behind : Option Database) → IsHeld behind (state g old)
         → Says (state g old).now.trees a × ((state g new).now ≡ (state g old).now) × IsHeld behind (state g new))
         → AsksRows g old new (Ok a) Says Unread
-    asks_rows_answers a rows shown over = record { over = over; caused = λ clean k free. tt; ends = answered_ends a rows shown }
+    asks_rows_answers a rows shown over = record {
+      over = over;
+      caused = λ clean k free. tt;
+      same = λ clean. question_sees (state g old) (state g new) sql params rows asks (shown clean);
+      quiet = λ clean db may. question_adds_nothing (state g old) (state g new) sql params asks s clean db may;
+      ends = answered_ends a rows shown;
+    }

@@ -210,7 +210,7 @@ module _ (schema : Schema) where
   command_other formats base (written.CreateIndex def) ours = create_index_other def
   command_other formats base _ ours = absurd ours
 
-then_gives : {A B : Type 0} {X : Type 0} (r : Checked A) (f : A → Checked B) (b : B) → and_then r f ≡ Ok b → ((a : A) → r ≡ Ok a → f a ≡ Ok b → X) → X
+pub then_gives : {A B : Type 0} {X : Type 0} (r : Checked A) (f : A → Checked B) (b : B) → and_then r f ≡ Ok b → ((a : A) → r ≡ Ok a → f a ≡ Ok b → X) → X
 then_gives (Ok a) f b is next = next a refl is
 then_gives (Err e) f b is next = absurd cc
 
@@ -231,7 +231,7 @@ from_parsed schema (Ok p) c ours is =
     let last_is : plan.1.0 ≡ c.command = ap (λ (x : Compiled). x.command) (value_is made) in
     subst IsOther (first_is ∙ next_is ∙ last_is) (subst GivesOther commands (command_other schema p.formats base p.statement ours))))))
 
-select_gives : (r : Checked Compiled) (c : Compiled) → if_select r ≡ Ok c → r ≡ Ok c
+pub select_gives : (r : Checked Compiled) (c : Compiled) → if_select r ≡ Ok c → r ≡ Ok c
 select_gives (Ok d) c is = one_of (is_select d.command) is
   where
     one_of : (t : Bool) → (if t then Ok d else Err NoSuchTable) ≡ Ok c → ◌≡◌ {A = Checked Compiled} (Ok d) (Ok c)

@@ -23,8 +23,10 @@ pub mod WalkLemmas
 pub mod FiledLemmas
 pub mod LastLemmas
 pub mod LastExamples
-pub mod EndLemmas
 pub mod CauseLemmas
+pub mod RefusalLemmas
+pub mod CrashLemmas
+pub mod EndLemmas
 pub mod ApartLemmas
 pub mod OptionLemmas
 pub mod AddressLemmas

@@ -342,11 +342,11 @@ abbrev pub rollback_text : List ℕ
 rollback_text = codes "ROLLBACK"
 
 -- whatever the schema is
-rollback_is : (s : Schema) → command_of (understood s rollback_text) ≡ Rollback
+pub rollback_is : (s : Schema) → command_of (understood s rollback_text) ≡ Rollback
 unfolding understood everything
 rollback_is s = refl
 
-rollback_plain : (s : Schema) → IsPlain (understood s rollback_text)
+pub rollback_plain : (s : Schema) → IsPlain (understood s rollback_text)
 unfolding understood everything
 rollback_plain s = (refl, refl)
 

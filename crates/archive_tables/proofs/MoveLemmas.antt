@@ -109,11 +109,11 @@ stays_within old new before schema next k shown is = record {
 
 -- ---- BEGIN, whatever the version
 
-begin_is : (s : Schema) → command_of (understood s begin_text) ≡ Begin
+pub begin_is : (s : Schema) → command_of (understood s begin_text) ≡ Begin
 unfolding understood everything
 begin_is s = refl
 
-begin_plain : (s : Schema) → IsPlain (understood s begin_text)
+pub begin_plain : (s : Schema) → IsPlain (understood s begin_text)
 unfolding understood everything
 begin_plain s = (refl, refl)
 

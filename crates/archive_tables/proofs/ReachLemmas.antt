@@ -1,5 +1,5 @@
 -- Numbers that rise from 1: as long as none reaches a limit, there are fewer messages than the limit.
-use Rattle.std.proofs.Common.{◌≡◌, inl, inr, ℕ, ◌<◌, ℤ, pos, ◌+ℤ◌, List, [], ◌∷◌, map, filter, take, length, codes, refl, sym, ap, ap₂, subst, ◌∙◌, false, arith}
+use Rattle.std.proofs.Common.{◌≡◌, inl, inr, ℕ, ◌<◌, ℤ, pos, ◌+ℤ◌, List, [], ◌∷◌, map, filter, take, length, codes, refl, sym, ap, ap₂, subst, ◌∙◌, false, true, None, arith}
 use Rattle.std.specs.Prelude.{Option, not, nat_eq, int_le, ◌==◌, ◌||◌}
 use Rattle.std.specs.List.{AllByRecursion, list_any}
 use Rattle.std.specs.Int.Signed.{◌<ℤ◌}
@@ -33,9 +33,12 @@ use Rattle.sqlite_value.proofs.OrderLemmas.{value_cmp-Int}
 use Rattle.archive_machine.specs.Filing.{Filed}
 use Rattle.archive_tables.specs.Schema.{archive_schema}
 use Rattle.archive_tables.specs.Tables.{IsHeld, Numbered, row_of, read_of, Holds, message_read, filed_cells, filed_read, archive_of, reaches_number}
-use Rattle.archive_tables.specs.Calls.{StaysOver, RestsOver}
+use Rattle.archive_tables.specs.Calls.{StaysOver, RestsOver, IsCaused}
 use Rattle.archive_tables.proofs.RunLemmas.{query_fails, query_leaves, rests, stays}
 use Rattle.archive_tables.proofs.RowLemmas.{int_less}
+use Rattle.archive_tables.proofs.CauseLemmas.{Fits, any_question_fails_by}
+use Rattle.sqlite_sql.specs.Program.{ProgramOverflows}
+use Rattle.sqlite_typing.specs.Types.{accepts_program}
 use Rattle.archive_tables.proofs.SelectLemmas.{plain_query, env_of, passes, each_passing, any_is_some, alone, truth_back}
 
 abbrev pub reach_text : List ℕ
@@ -57,6 +60,18 @@ reach_is = (refl, refl)
 reach_plain : IsPlain (understood archive_schema reach_text)
 unfolding understood everything
 reach_plain = (refl, refl)
+
+reach_fit : Fits reach_text 1 (understood archive_schema reach_text)
+unfolding understood everything
+reach_fit = (refl, refl)
+
+reach_typed : (limit : ℕ) → accepts_program archive_schema [] query (Int (pos limit) ∷ []) ≡ true
+unfolding everything
+reach_typed limit = refl
+
+calm : (params : Row) (db : Trees) → ¬ ProgramOverflows db params [] [] query
+calm params db (inl grouped) = grouped
+calm params db (inr (i, row, low, at, none)) = none
 
 -- ---- an answer without rows
 
@@ -165,3 +180,6 @@ module _ (old new : State) (limit : ℕ) {behind : Option Database} (k : IsHeld 
 
   pub not_reached : (e : Error) → FailsToQuery reach_text params old new e → RestsOver behind old new
   not_reached e h = rests old new k (query_fails old new reach_text params e plain_here h)
+
+  pub not_reached_caused : (e : Error) → FailsToQuery reach_text params old new e → old.step_limit ≡ None → IsCaused old new e
+  not_reached_caused e h free = any_question_fails_by reach_text query _ reach_is.0 reach_plain reach_is.1 params reach_fit (reach_typed limit) (calm params) old new k free e h

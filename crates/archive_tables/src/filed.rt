@@ -32,7 +32,8 @@ pub struct FiledRow<'a> {
 
 /// The message in a row that shows one with what is filed of it. It reads each such row, whatever its bytes.
 pub fn read_filed(row: &Row) -> Option<FiledRow<'_>>
-    ensures { (f : Filed) → row.now ≡ filed_shown f → MatchOption result ⊥ (λ r. filed_in f.0.withdrawn f.0.embargo r ≡ f) }
+    ensures { (f : Filed) → row.now ≡ filed_shown f
+        → MatchOption result ⊥ (λ r. filed_in f.0.withdrawn f.0.embargo r ≡ f) }
 {
     Some(FiledRow {
         list: bytes_at(row, 0)?,

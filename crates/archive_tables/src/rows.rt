@@ -74,8 +74,10 @@ pub fn read_place(row: &Row) -> Result<i64, Error>
 
 /// The message in a row that shows one.
 pub fn read_message(row: &Row) -> Result<MessageRow, Error>
-    ensures read { IfOk result (λ r. (m : Message) → row.now ≡ message_shown m → message_in m.list r ≡ m) }
-    ensures fault { IfErr result (λ e. (m : Message) → row.now ≡ message_shown m → IsTextFault m.key e) }
+    ensures read { IfOk result (λ r. (m : Message) → row.now ≡ message_shown m
+        → message_in m.list r ≡ m) }
+    ensures fault { IfErr result (λ e. (m : Message) → row.now ≡ message_shown m
+        → IsTextFault m.key e) }
 {
     Ok(MessageRow {
         key: row.get(0)?,
@@ -100,8 +102,10 @@ pub fn read_marks(row: &Row) -> Result<MarksRow, Error>
 
 /// The arrival and the marks in a row that shows those of a message.
 pub fn read_dated_marks(row: &Row) -> Result<DatedMarksRow, Error>
-    ensures read { IfOk result (λ r. (m : Message) → row.now ≡ dated_marks_shown m → r ≡ dated_marks_of m) }
-    ensures fault { IfErr result (λ e. (m : Message) → row.now ≡ dated_marks_shown m → e ≡ no_memory) }
+    ensures read { IfOk result (λ r. (m : Message) → row.now ≡ dated_marks_shown m
+        → r ≡ dated_marks_of m) }
+    ensures fault { IfErr result (λ e. (m : Message) → row.now ≡ dated_marks_shown m
+        → e ≡ no_memory) }
 {
     Ok(DatedMarksRow {
         arrival: row.get(0)?,
@@ -112,7 +116,8 @@ pub fn read_dated_marks(row: &Row) -> Result<DatedMarksRow, Error>
 
 /// What is said of the threads of a list, in a row that shows it: whether they are gathered by subject.
 pub fn read_merge(row: &Row) -> Result<bool, Error>
-    ensures read { IfOk result (λ merge. (o : ListOption) → row.now ≡ merge_shown o → merge ≡ o.merge) }
+    ensures read { IfOk result (λ merge. (o : ListOption) → row.now ≡ merge_shown o
+        → merge ≡ o.merge) }
     ensures fault { IfErr result (λ e. (o : ListOption) → row.now ≡ merge_shown o → e ≡ no_memory) }
 {
     let number: i64 = row.get(0)?;
@@ -121,7 +126,8 @@ pub fn read_merge(row: &Row) -> Result<bool, Error>
 
 /// The grant in a row that shows one.
 pub fn read_grant(row: &Row) -> Result<GrantRow, Error>
-    ensures read { IfOk result (λ r. (g : Grant) → row.now ≡ grant_shown g → grant_in g.person g.list r ≡ g) }
+    ensures read { IfOk result (λ r. (g : Grant) → row.now ≡ grant_shown g
+        → grant_in g.person g.list r ≡ g) }
     ensures fault { IfErr result (λ e. (g : Grant) → row.now ≡ grant_shown g → e ≡ no_memory) }
 {
     Ok(GrantRow {

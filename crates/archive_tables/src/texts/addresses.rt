@@ -7,6 +7,7 @@ ghost use Rattle.sqlite.specs.Held.{state};
 ghost use Rattle.archive_machine.specs.Questions.{is_address_of};
 ghost use Rattle.archive_machine.specs.Machine.{readdressed};
 ghost use Rattle.archive_tables.specs.Tables.{archive_of};
+ghost use Rattle.archive_tables.specs.Statements.{adding_address, changing_address};
 ghost use Rattle.archive_tables.specs.Calls.{Asks, Writes};
 
 use crate::rows::read_name;
@@ -21,7 +22,8 @@ pub fn add_address<S: Alter>(
     ensures { Writes S.Store conn.old conn.new result (λ _. ⊤)
         (λ a. record a {
           addresses = a.addresses ++ record { person = person.now; address = address.now } ∷ [];
-        }) }
+        })
+        (adding_address (record { person = person.now; address = address.now })) }
 {
     conn.execute(
         "INSERT INTO address (person, address) VALUES (?1, ?2)",
@@ -51,7 +53,8 @@ pub fn change_address<S: Alter>(
         (λ a. record a {
           addresses = map
               (readdressed (record { person = person.now; address = address.now })) a.addresses;
-        }) }
+        })
+        (changing_address (record { person = person.now; address = address.now })) }
 {
     conn.execute(
         "UPDATE address SET address = ?2 WHERE person = ?1",

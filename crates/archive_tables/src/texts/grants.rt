@@ -4,6 +4,7 @@ ghost use Rattle.std.specs.Prelude.{⊤, ◌≡◌, ◌++◌, ◌∷◌, [], ◌
 ghost use Rattle.std.specs.List.{list_any};
 ghost use Rattle.archive_machine.specs.Questions.{is_grant};
 ghost use Rattle.archive_tables.specs.Rows.{grant_shown};
+ghost use Rattle.archive_tables.specs.Statements.{adding_grant, changing_grant, removing_grant};
 ghost use Rattle.archive_tables.specs.Calls.{Asks, Writes};
 
 use sqlite::{Alter, Connection, Error, Row, params};
@@ -27,7 +28,8 @@ pub fn add_grant<S: Alter>(
             from_day = from_day;
             until_day = until_day;
           } ∷ [];
-        }) }
+        })
+        (adding_grant (record { person = person.now; list = list.now; rank = rank; from_day = from_day; until_day = until_day })) }
 {
     conn.execute(
         "INSERT INTO grant_row (person, list, kind, from_day, until_day) VALUES (?1, ?2, ?3, ?4, ?5)",
@@ -65,7 +67,8 @@ pub fn change_grant<S: Alter>(
         (λ a. record a {
           grants = map (λ g. if is_grant person.now list.now rank g
               then record g { from_day = from_day; until_day = until_day } else g) a.grants;
-        }) }
+        })
+        (changing_grant (record { person = person.now; list = list.now; rank = rank; from_day = from_day; until_day = until_day })) }
 {
     conn.execute(
         "UPDATE grant_row SET from_day = ?4, until_day = ?5 WHERE person = ?1 AND list = ?2 AND kind = ?3",
@@ -83,7 +86,8 @@ pub fn remove_grant<S: Alter>(
     ensures { Writes S.Store conn.old conn.new result (λ _. ⊤)
         (λ a. record a {
           grants = filter (λ g. not (is_grant person.now list.now rank g)) a.grants;
-        }) }
+        })
+        (removing_grant person.now list.now rank) }
 {
     conn.execute(
         "DELETE FROM grant_row WHERE person = ?1 AND list = ?2 AND kind = ?3",

@@ -5,6 +5,7 @@ ghost use Rattle.std.specs.List.{list_any};
 ghost use Rattle.std.specs.Ordering.{nat_cmp};
 ghost use Rattle.std.specs.Cmp.Lexicographic.{slice_cmp};
 ghost use Rattle.archive_tables.specs.Rows.{name_shown};
+ghost use Rattle.archive_tables.specs.Statements.{adding_list};
 ghost use Rattle.archive_tables.specs.Calls.{Writes, Asks};
 
 use sqlite::{Alter, Connection, Error, Row, params};
@@ -12,7 +13,8 @@ use sqlite::{Alter, Connection, Error, Row, params};
 /// Adds a list after the others.
 pub fn add_list<S: Alter>(conn: &mut Connection<S>, name: &str) -> Result<usize, Error>
     ensures { Writes S.Store conn.old conn.new result (λ _. ⊤)
-        (λ a. record a { lists = a.lists ++ name.now ∷ [] }) }
+        (λ a. record a { lists = a.lists ++ name.now ∷ [] })
+        (adding_list name.now) }
 {
     conn.execute("INSERT INTO list (name) VALUES (?1)", params![name])
 }

@@ -8,7 +8,8 @@ ghost use Rattle.sqlite.specs.Held.{state};
 ghost use Rattle.sqlite.specs.State.{HasCleanDisk};
 ghost use Rattle.archive_tables.specs.Tables.{IsKept, reaches_number};
 ghost use Rattle.archive_tables.specs.Rows.{new_message, message_shown, message_in, marks_of, dated_marks_of, places_in, month_places, author_places, message_at, place_shown};
-ghost use Rattle.archive_tables.specs.Calls.{Asks, AsksOver, AsksRows, Ends, Writes};
+ghost use Rattle.archive_tables.specs.Statements.{adding_message, withdrawing, holding_back, freeing};
+ghost use Rattle.archive_tables.specs.Calls.{Asks, AsksRows, Writes};
 
 use crate::rows::{
     DatedMarksRow, MarksRow, MessageRow, read_dated_marks, read_marks, read_message,
@@ -33,7 +34,9 @@ pub fn add_message<S: Alter>(
         (λ a. record a {
           messages = a.messages ++ new_message list.now key.now sender.now arrival text.now ∷ [];
           filings = a.filings ++ record { sent = sent; month = month; author = author.now } ∷ [];
-        }) }
+        })
+        (adding_message (new_message list.now key.now sender.now arrival text.now)
+        (record { sent = sent; month = month; author = author.now })) }
 {
     conn.execute(
         "INSERT INTO message (list, key, sender, arrival, text, withdrawn, embargo, sent, month, author) VALUES (?1, ?2, ?3, ?4, ?5, 0, NULL, ?6, ?7, ?8)",
@@ -196,11 +199,10 @@ pub fn count_messages<S: Alter>(conn: &mut Connection<S>, list: &str) -> Result<
 /// Whether some message has a number of at least the limit. Where none has, there are fewer messages than the limit. It takes
 /// the same time however many messages there are.
 pub fn reaches<S: Alter>(conn: &mut Connection<S>, limit: u32) -> Result<bool, Error>
-    ensures over { AsksOver S.Store conn.old conn.new result
-        (λ a found. 0 < limit → found ≡ false → length a.messages < limit) }
+    ensures asks { Asks S.Store conn.old conn.new result
+        (λ a found. 0 < limit → found ≡ false → length a.messages < limit) ⊥ }
     ensures number { HasCleanDisk (state S.Store conn.new) → IsKept (state S.Store conn.old) →
         IfOk result (λ found. found ≡ reaches_number (state S.Store conn.old).now.trees limit) }
-    ensures ends { Ends S.Store conn.old conn.new result }
 {
     let rows = conn.query_all(
         "SELECT pos FROM message WHERE pos >= ?1 LIMIT 1",
@@ -219,8 +221,10 @@ pub fn set_withdrawn<S: Alter>(
     ensures { Writes S.Store conn.old conn.new result (λ _. ⊤)
         (λ a. record a {
           messages = map
-              (λ m. if is_message list.now key.now m then record m { withdrawn = by } else m) a.messages;
-        }) }
+              (λ m. if is_message list.now key.now m then record m
+              { withdrawn = by } else m) a.messages;
+        })
+        (withdrawing list.now key.now by) }
 {
     conn.execute(
         "UPDATE message SET withdrawn = ?3 WHERE list = ?1 AND key = ?2",
@@ -238,8 +242,10 @@ pub fn set_embargo<S: Alter>(
     ensures { Writes S.Store conn.old conn.new result (λ _. ⊤)
         (λ a. record a {
           messages = map
-              (λ m. if is_message list.now key.now m then record m { embargo = Some until } else m) a.messages;
-        }) }
+              (λ m. if is_message list.now key.now m then record m
+              { embargo = Some until } else m) a.messages;
+        })
+        (holding_back list.now key.now until) }
 {
     conn.execute(
         "UPDATE message SET embargo = ?3 WHERE list = ?1 AND key = ?2",
@@ -256,8 +262,10 @@ pub fn clear_embargo<S: Alter>(
     ensures { Writes S.Store conn.old conn.new result (λ _. ⊤)
         (λ a. record a {
           messages = map
-              (λ m. if is_message list.now key.now m then record m { embargo = None } else m) a.messages;
-        }) }
+              (λ m. if is_message list.now key.now m then record m
+              { embargo = None } else m) a.messages;
+        })
+        (freeing list.now key.now) }
 {
     conn.execute(
         "UPDATE message SET embargo = NULL WHERE list = ?1 AND key = ?2",

@@ -8,7 +8,8 @@ ghost use Rattle.archive_machine.specs.Questions.{is_option_of};
 ghost use Rattle.archive_machine.specs.Machine.{with_merge};
 ghost use Rattle.archive_tables.specs.Schema.{schema_2};
 ghost use Rattle.archive_tables.specs.Tables.{merge_number};
-ghost use Rattle.archive_tables.specs.Making.{IsMoving, MovesWithin, EndsStep};
+ghost use Rattle.archive_tables.specs.Making.{IsMoving, MovesWithin, QuietWithin, EndsStep};
+ghost use Rattle.archive_tables.specs.Statements.{adding_option, changing_option};
 ghost use Rattle.archive_tables.specs.Calls.{Asks, Writes};
 
 use crate::rows::read_merge;
@@ -21,7 +22,8 @@ pub fn add_option<S: Alter>(
     merge: bool,
 ) -> Result<usize, Error>
     ensures { Writes S.Store conn.old conn.new result (λ _. ⊤)
-        (λ a. record a { options = a.options ++ record { list = list.now; merge = merge } ∷ [] }) }
+        (λ a. record a { options = a.options ++ record { list = list.now; merge = merge } ∷ [] })
+        (adding_option (record { list = list.now; merge = merge })) }
 {
     let number = merge_number(merge);
     conn.execute(
@@ -37,7 +39,8 @@ pub fn set_option<S: Alter>(
     merge: bool,
 ) -> Result<usize, Error>
     ensures { Writes S.Store conn.old conn.new result (λ _. ⊤)
-        (λ a. record a { options = map (with_merge list.now merge) a.options }) }
+        (λ a. record a { options = map (with_merge list.now merge) a.options })
+        (changing_option (record { list = list.now; merge = merge })) }
 {
     let number = merge_number(merge);
     conn.execute(
@@ -69,6 +72,7 @@ pub fn copy_options<S: Alter>(conn: &mut Connection<S>) -> Result<usize, Error>
         → (state S.Store conn.old).now.trees 13 ≡ []
         → OnOk result (IsMoving (state S.Store conn.new) before schema_2 said 2 archive) }
     ensures within { MovesWithin S.Store conn.old conn.new result schema_2 schema_2 }
+    ensures quiet { QuietWithin S.Store conn.old conn.new schema_2 }
     ensures ends { EndsStep S.Store conn.old conn.new result }
 {
     conn.execute(

@@ -5,6 +5,7 @@ ghost use Rattle.std.specs.List.{list_any};
 ghost use Rattle.std.specs.Option.{IsSomeAnd};
 ghost use Rattle.sqlite.specs.Held.{state};
 ghost use Rattle.archive_tables.specs.Tables.{archive_of};
+ghost use Rattle.archive_tables.specs.Statements.{adding_person};
 ghost use Rattle.archive_tables.specs.Calls.{Writes, Asks};
 
 use crate::rows::read_name;
@@ -19,7 +20,8 @@ pub fn add_person<S: Alter>(
     ensures { Writes S.Store conn.old conn.new result (λ _. ⊤)
         (λ a. record a {
           persons = a.persons ++ record { name = name.now; token = token.now } ∷ [];
-        }) }
+        })
+        (adding_person (record { name = name.now; token = token.now })) }
 {
     conn.execute(
         "INSERT INTO person (name, token) VALUES (?1, ?2)",

@@ -8,7 +8,7 @@ ghost use Rattle.archive_tables.specs.Schema.{no_schema, with_version, with_list
 ghost use Rattle.archive_tables.specs.Tables.{IsHeld, IsHeldAs, IsKept, IsKnown, HasForm, form_of, newest_number, archive_by, archive_of};
 ghost use Rattle.archive_machine.specs.Records.{Archive};
 ghost use Rattle.archive_tables.specs.Rows.{versions_shown};
-ghost use Rattle.archive_tables.specs.Making.{IsMaking, IsWithin, IsMoving, IsMade, Makes, MovesWithin, Stops, EndsStep, IsBackTo, IsStopped, empty_archive};
+ghost use Rattle.archive_tables.specs.Making.{IsMaking, IsWithin, IsMoving, IsMade, Makes, MovesWithin, EndsStep, EndsBegin, EndsCommit, EndsRollback, QuietWithin, IsBackTo, IsStopped, empty_archive};
 ghost use Rattle.archive_tables.specs.Calls.{StaysOver, RestsOver, Rests, IsBackAt, IsHeldOrBack, Lasts, Asks};
 
 use sqlite::{Alter, Connection, Error, Row, params};
@@ -20,7 +20,8 @@ pub const VERSION: i64 = 3;
 pub fn begin<S: Alter>(conn: &mut Connection<S>) -> Result<usize, Error>
     ensures begun { HasCleanDisk (state S.Store conn.new)
         → (state S.Store conn.old).now.schema ≡ no_schema
-        → OnOk result (IsMaking (state S.Store conn.new) no_schema (state S.Store conn.old).committed) }
+        → OnOk result (IsMaking (state S.Store conn.new) no_schema
+        (state S.Store conn.old).committed) }
     ensures held { HasCleanDisk (state S.Store conn.new) → IsKept (state S.Store conn.old)
         → MatchResult result
         (λ _. StaysOver (Some (state S.Store conn.old).now) (state S.Store conn.old)
@@ -33,7 +34,7 @@ pub fn begin<S: Alter>(conn: &mut Connection<S>) -> Result<usize, Error>
     ensures within { HasCleanDisk (state S.Store conn.new) → OnOk result
         (IsWithin (state S.Store conn.new) (state S.Store conn.old).committed
         (state S.Store conn.old).now.schema) }
-    ensures ends { EndsStep S.Store conn.old conn.new result }
+    ensures ends { EndsBegin S.Store conn.old conn.new result }
 {
     conn.execute("BEGIN", &[])
 }
@@ -41,6 +42,7 @@ pub fn begin<S: Alter>(conn: &mut Connection<S>) -> Result<usize, Error>
 /// Makes the table `version`.
 pub fn create_version<S: Alter>(conn: &mut Connection<S>) -> Result<usize, Error>
     ensures made { Makes S.Store conn.old conn.new result no_schema with_version }
+    ensures quiet { QuietWithin S.Store conn.old conn.new no_schema }
     ensures ends { EndsStep S.Store conn.old conn.new result }
 {
     conn.execute("CREATE TABLE version (number INTEGER NOT NULL) STRICT", &[])
@@ -49,6 +51,7 @@ pub fn create_version<S: Alter>(conn: &mut Connection<S>) -> Result<usize, Error
 /// Makes the table `list`.
 pub fn create_list<S: Alter>(conn: &mut Connection<S>) -> Result<usize, Error>
     ensures made { Makes S.Store conn.old conn.new result with_version with_list }
+    ensures quiet { QuietWithin S.Store conn.old conn.new with_version }
     ensures ends { EndsStep S.Store conn.old conn.new result }
 {
     conn.execute(
@@ -60,6 +63,7 @@ pub fn create_list<S: Alter>(conn: &mut Connection<S>) -> Result<usize, Error>
 /// Makes the table `person`.
 pub fn create_person<S: Alter>(conn: &mut Connection<S>) -> Result<usize, Error>
     ensures made { Makes S.Store conn.old conn.new result with_list with_person }
+    ensures quiet { QuietWithin S.Store conn.old conn.new with_list }
     ensures ends { EndsStep S.Store conn.old conn.new result }
 {
     conn.execute(
@@ -71,6 +75,7 @@ pub fn create_person<S: Alter>(conn: &mut Connection<S>) -> Result<usize, Error>
 /// Makes the table `grant_row`.
 pub fn create_grant<S: Alter>(conn: &mut Connection<S>) -> Result<usize, Error>
     ensures made { Makes S.Store conn.old conn.new result with_person with_grant }
+    ensures quiet { QuietWithin S.Store conn.old conn.new with_person }
     ensures ends { EndsStep S.Store conn.old conn.new result }
 {
     conn.execute(
@@ -82,6 +87,7 @@ pub fn create_grant<S: Alter>(conn: &mut Connection<S>) -> Result<usize, Error>
 /// Makes the table `message`, and with it the one in which AUTOINCREMENT counts.
 pub fn create_message<S: Alter>(conn: &mut Connection<S>) -> Result<usize, Error>
     ensures made { Makes S.Store conn.old conn.new result with_grant with_message }
+    ensures quiet { QuietWithin S.Store conn.old conn.new with_grant }
     ensures ends { EndsStep S.Store conn.old conn.new result }
 {
     conn.execute(
@@ -93,6 +99,7 @@ pub fn create_message<S: Alter>(conn: &mut Connection<S>) -> Result<usize, Error
 /// Makes the index of `message` by month.
 pub fn create_month_index<S: Alter>(conn: &mut Connection<S>) -> Result<usize, Error>
     ensures made { Makes S.Store conn.old conn.new result with_message with_month_index }
+    ensures quiet { QuietWithin S.Store conn.old conn.new with_message }
     ensures ends { EndsStep S.Store conn.old conn.new result }
 {
     conn.execute(
@@ -104,6 +111,7 @@ pub fn create_month_index<S: Alter>(conn: &mut Connection<S>) -> Result<usize, E
 /// Makes the index of `message` by author key.
 pub fn create_author_index<S: Alter>(conn: &mut Connection<S>) -> Result<usize, Error>
     ensures made { Makes S.Store conn.old conn.new result with_month_index schema_1 }
+    ensures quiet { QuietWithin S.Store conn.old conn.new with_month_index }
     ensures ends { EndsStep S.Store conn.old conn.new result }
 {
     conn.execute(
@@ -121,6 +129,7 @@ pub fn create_option<S: Alter>(conn: &mut Connection<S>) -> Result<usize, Error>
         → OnOk result (IsMoving (state S.Store conn.new) before schema_2 said 1 archive
         × ((state S.Store conn.new).now.trees 13 ≡ [])) }
     ensures within { MovesWithin S.Store conn.old conn.new result schema_1 schema_2 }
+    ensures quiet { QuietWithin S.Store conn.old conn.new schema_1 }
     ensures ends { EndsStep S.Store conn.old conn.new result }
 {
     conn.execute(
@@ -138,6 +147,7 @@ pub fn create_address<S: Alter>(conn: &mut Connection<S>) -> Result<usize, Error
         → OnOk result
         (IsMoving (state S.Store conn.new) before archive_schema said newest_number archive) }
     ensures within { MovesWithin S.Store conn.old conn.new result schema_2 archive_schema }
+    ensures quiet { QuietWithin S.Store conn.old conn.new schema_2 }
     ensures ends { EndsStep S.Store conn.old conn.new result }
 {
     conn.execute(
@@ -151,6 +161,7 @@ pub fn add_version<S: Alter>(conn: &mut Connection<S>) -> Result<usize, Error>
     ensures made { HasCleanDisk (state S.Store conn.new) → (before : _)
         → IsMaking (state S.Store conn.old) archive_schema before
         → OnOk result (IsMade (state S.Store conn.new) before empty_archive) }
+    ensures quiet { QuietWithin S.Store conn.old conn.new archive_schema }
     ensures ends { EndsStep S.Store conn.old conn.new result }
 {
     conn.execute("INSERT INTO version (number) VALUES (?1)", params![VERSION])
@@ -163,6 +174,7 @@ pub fn set_version<S: Alter>(conn: &mut Connection<S>) -> Result<usize, Error>
         → IsMoving (state S.Store conn.old) before archive_schema said newest_number archive
         → OnOk result (IsMade (state S.Store conn.new) before archive) }
     ensures within { MovesWithin S.Store conn.old conn.new result archive_schema archive_schema }
+    ensures quiet { QuietWithin S.Store conn.old conn.new archive_schema }
     ensures ends { EndsStep S.Store conn.old conn.new result }
 {
     conn.execute("UPDATE version SET number = ?1", params![VERSION])
@@ -172,13 +184,16 @@ pub fn set_version<S: Alter>(conn: &mut Connection<S>) -> Result<usize, Error>
 pub fn commit<S: Alter>(conn: &mut Connection<S>) -> Result<usize, Error>
     ensures kept { HasCleanDisk (state S.Store conn.new) → (before : _) (archive : Archive)
         → IsMade (state S.Store conn.old) before archive
-        → OnOk result (IsKept (state S.Store conn.new) × (archive_of (state S.Store conn.new) ≡ archive)) }
+        → OnOk result (IsKept (state S.Store conn.new)
+        × (archive_of (state S.Store conn.new) ≡ archive)) }
     ensures held { HasCleanDisk (state S.Store conn.new) → (db : _)
         → IsHeld (Some db) (state S.Store conn.old) → MatchResult result
         (λ _. StaysOver None (state S.Store conn.old) (state S.Store conn.new))
         (λ _. RestsOver (Some db) (state S.Store conn.old) (state S.Store conn.new)) }
-    ensures ends { EndsStep S.Store conn.old conn.new result }
+    ensures ends { EndsCommit S.Store conn.old conn.new result }
 {
+    // It says that an open connection shows a database.
+    let _schema = conn.schema();
     conn.execute("COMMIT", &[])
 }
 
@@ -195,7 +210,7 @@ pub fn rollback<S: Alter>(conn: &mut Connection<S>) -> Result<usize, Error>
         → IsTrue (state S.Store conn.new).is_open → IsBackAt db (state S.Store conn.new) }
     ensures back { HasCleanDisk (state S.Store conn.new) → (before : _)
         → IsStopped (state S.Store conn.old) before → IsBackTo (state S.Store conn.new) before }
-    ensures stopped { Stops S.Store conn.old conn.new result }
+    ensures ends { EndsRollback S.Store conn.old conn.new result }
     ensures lasts { Lasts (state S.Store conn.old) (state S.Store conn.new) }
 {
     conn.execute("ROLLBACK", &[])
@@ -207,7 +222,8 @@ pub fn versions<S: Alter>(conn: &mut Connection<S>) -> Result<Vec<Row>, Error>
         (λ _ rows. rows.items ≡ (Int VERSION ∷ []) ∷ []) ⊥ }
     ensures numbers { HasCleanDisk (state S.Store conn.new) → (number : _) → IsKnown number
         → HasForm (form_of number) (state S.Store conn.old)
-        → IfOk result (λ rows. IsPermutation (versions_shown (state S.Store conn.old).now.trees) rows.items) }
+        → IfOk result (λ rows. IsPermutation (versions_shown
+        (state S.Store conn.old).now.trees) rows.items) }
     ensures left { HasCleanDisk (state S.Store conn.new) → (number : _) → IsKnown number
         → HasForm (form_of number) (state S.Store conn.old)
         → IsBackTo (state S.Store conn.new) (state S.Store conn.old).now }

@@ -1,4 +1,4 @@
-use Rattle.std.proofs.Common.{subst, ◌∙◌}
+use Rattle.std.proofs.Common.{subst, ◌∙◌, inl, inr}
 use Rattle.sqlite.specs.Held.{state}
 use Rattle.sqlite.specs.Schema.{Schema}
 use Rattle.archive_tables.specs.Tables.{archive_by}
@@ -18,3 +18,29 @@ pub returns-clause-moved : goal.returns-clause-moved
 returns-clause-moved g c = λ clean older kept.
     let first = state g.S.Store c.args.conn.now in
     c.in_default.ensures.moved clean older first.now (archive_by c.args.number first.now.trees) (c.in_ok-begin.ensures.moving (c.in_default.ensures.lasts.returned clean) c.args.number kept)
+
+-- ---- what a stop of the machine leaves
+
+pub returns-in_err-begin-clause-crash : goal.returns-in_err-begin-clause-crash
+returns-in_err-begin-clause-crash g c = λ older kept clean db may. inl (c.begin.ensures.ends.quiet clean db may)
+
+pub returns-in-Err-clause-crash : goal.returns-in-Err-clause-crash
+returns-in-Err-clause-crash g c = λ older kept clean db may.
+    let first = state g.S.Store c.args.conn.now in
+    let clean_2 = c.rollback-back.ensures.lasts.returned clean in
+    let clean_1 = c.move_tables.ensures.lasts.returned clean_2 in
+    let moving = c.in_ok-begin.ensures.moving clean_1 c.args.number kept in
+    elim (c.move_tables.ensures.crash older first.now (archive_by c.args.number first.now.trees) moving clean_2 db (c.rollback-back.ensures.ends.quiet clean db may)) [
+      | inl before ↦ inl (c.begin.ensures.ends.quiet clean_1 db before)
+      | inr stored ↦ inr stored
+    ]
+
+pub returns-clause-crash : goal.returns-clause-crash
+returns-clause-crash g c = λ older kept clean db may.
+    let first = state g.S.Store c.args.conn.now in
+    let clean_1 = c.move_tables.ensures.lasts.returned clean in
+    let moving = c.in_ok-begin.ensures.moving clean_1 c.args.number kept in
+    elim (c.move_tables.ensures.crash older first.now (archive_by c.args.number first.now.trees) moving clean db may) [
+      | inl before ↦ inl (c.begin.ensures.ends.quiet clean_1 db before)
+      | inr stored ↦ inr stored
+    ]

@@ -1,6 +1,8 @@
 use Rattle.archive_database.proofs.MakingLemmas.{on_err, stopped_by}
 use Rattle.sqlite.specs.Held.{state}
 use Rattle.archive_tables.specs.Making.{empty_archive}
+use Rattle.std.proofs.Common.{inl, inr}
+use Rattle.archive_tables.proofs.CrashLemmas.{commit_made}
 use Rattle.archive_tables.proofs.LastLemmas.{lasts_then}
 use Rattle.archive_database.proofs.making.fill.Goals as goal
 
@@ -50,3 +52,65 @@ returns-in_err-commit-clause-stopped g c = λ clean before making.
     let made = c.in_ok-make_later.ensures.made clean_3 before (c.in_ok-make_indexes.ensures.made clean_2 before first) in
     on_err c.from_residual-in_err-commit.result _
     (stopped_by (state g.S.Store c.make_later.new.conn) (state g.S.Store c.commit.new.conn) before made.behind made.within (c.in_err-commit.ensures.ends.stopped clean))
+
+-- ---- what a stop of the machine leaves
+
+pub returns-in_err-make_first-clause-crash : goal.returns-in_err-make_first-clause-crash
+returns-in_err-make_first-clause-crash g c = λ before making clean db may.
+    inl (c.make_first.ensures.quiet before making clean db may)
+
+pub returns-in_err-make_second-clause-crash : goal.returns-in_err-make_second-clause-crash
+returns-in_err-make_second-clause-crash g c = λ before making clean db may.
+    let clean_1 = c.make_second.ensures.lasts.returned clean in
+    let made_1 = c.in_ok-make_first.ensures.made clean_1 before making in
+    inl (c.make_first.ensures.quiet before making clean_1 db (c.make_second.ensures.quiet before made_1 clean db may))
+
+pub returns-in_err-make_indexes-clause-crash : goal.returns-in_err-make_indexes-clause-crash
+returns-in_err-make_indexes-clause-crash g c = λ before making clean db may.
+    let clean_2 = c.make_indexes.ensures.lasts.returned clean in
+    let clean_1 = c.make_second.ensures.lasts.returned clean_2 in
+    let made_1 = c.in_ok-make_first.ensures.made clean_1 before making in
+    let made_2 = c.in_ok-make_second.ensures.made clean_2 before made_1 in
+    inl (c.make_first.ensures.quiet before making clean_1 db (c.make_second.ensures.quiet before made_1 clean_2 db (c.make_indexes.ensures.quiet before made_2 clean db may)))
+
+pub returns-in_err-make_later-clause-crash : goal.returns-in_err-make_later-clause-crash
+returns-in_err-make_later-clause-crash g c = λ before making clean db may.
+    let clean_3 = c.make_later.ensures.lasts.returned clean in
+    let clean_2 = c.make_indexes.ensures.lasts.returned clean_3 in
+    let clean_1 = c.make_second.ensures.lasts.returned clean_2 in
+    let made_1 = c.in_ok-make_first.ensures.made clean_1 before making in
+    let made_2 = c.in_ok-make_second.ensures.made clean_2 before made_1 in
+    let made_3 = c.in_ok-make_indexes.ensures.made clean_3 before made_2 in
+    inl (c.make_first.ensures.quiet before making clean_1 db (c.make_second.ensures.quiet before made_1 clean_2 db (c.make_indexes.ensures.quiet before made_2 clean_3 db (c.make_later.ensures.quiet before made_3 clean db may))))
+
+pub returns-in_err-commit-clause-crash : goal.returns-in_err-commit-clause-crash
+returns-in_err-commit-clause-crash g c = λ before making clean db may.
+    let clean_4 = c.commit.ensures.ends.lasts.returned clean in
+    let clean_3 = c.make_later.ensures.lasts.returned clean_4 in
+    let clean_2 = c.make_indexes.ensures.lasts.returned clean_3 in
+    let clean_1 = c.make_second.ensures.lasts.returned clean_2 in
+    let made_1 = c.in_ok-make_first.ensures.made clean_1 before making in
+    let made_2 = c.in_ok-make_second.ensures.made clean_2 before made_1 in
+    let made_3 = c.in_ok-make_indexes.ensures.made clean_3 before made_2 in
+    let made = c.in_ok-make_later.ensures.made clean_4 before made_3 in
+    elim (commit_made g.S.Store c.make_later.new.conn c.commit.new.conn before empty_archive made c.commit.ensures.ends.crash clean db may) [
+      | inl earlier ↦ inl (c.make_first.ensures.quiet before making clean_1 db (c.make_second.ensures.quiet before made_1 clean_2 db
+          (c.make_indexes.ensures.quiet before made_2 clean_3 db (c.make_later.ensures.quiet before made_3 clean_4 db earlier))))
+      | inr stored ↦ inr stored
+    ]
+
+pub returns-clause-crash : goal.returns-clause-crash
+returns-clause-crash g c = λ before making clean db may.
+    let clean_4 = c.commit.ensures.ends.lasts.returned clean in
+    let clean_3 = c.make_later.ensures.lasts.returned clean_4 in
+    let clean_2 = c.make_indexes.ensures.lasts.returned clean_3 in
+    let clean_1 = c.make_second.ensures.lasts.returned clean_2 in
+    let made_1 = c.in_ok-make_first.ensures.made clean_1 before making in
+    let made_2 = c.in_ok-make_second.ensures.made clean_2 before made_1 in
+    let made_3 = c.in_ok-make_indexes.ensures.made clean_3 before made_2 in
+    let made = c.in_ok-make_later.ensures.made clean_4 before made_3 in
+    elim (commit_made g.S.Store c.make_later.new.conn c.commit.new.conn before empty_archive made c.commit.ensures.ends.crash clean db may) [
+      | inl earlier ↦ inl (c.make_first.ensures.quiet before making clean_1 db (c.make_second.ensures.quiet before made_1 clean_2 db
+          (c.make_indexes.ensures.quiet before made_2 clean_3 db (c.make_later.ensures.quiet before made_3 clean_4 db earlier))))
+      | inr stored ↦ inr stored
+    ]

@@ -1,5 +1,7 @@
 use Rattle.sqlite.specs.Held.{state}
 use Rattle.archive_database.proofs.MakingLemmas.{stopped_by, on_err}
+use Rattle.archive_tables.specs.Schema.{with_person, with_grant}
+use Rattle.archive_tables.proofs.CrashLemmas.{making_within}
 use Rattle.archive_database.proofs.making.make_second.Goals as goal
 
 pub returns-clause-made : goal.returns-clause-made
@@ -13,3 +15,21 @@ returns-in_err-create_message-clause-stopped g c = λ clean before making.
     let made = c.in_ok-create_grant.ensures.made clean_1 before making in
     on_err c.from_residual-in_err-create_message.result _
     (stopped_by (state g.S.Store c.create_grant.new.conn) (state g.S.Store c.create_message.new.conn) before made.behind made.within (c.in_err-create_message.ensures.ends.stopped clean))
+
+-- ---- what a stop of the machine leaves
+
+pub returns-in_err-create_grant-clause-quiet : goal.returns-in_err-create_grant-clause-quiet
+returns-in_err-create_grant-clause-quiet g c = λ before making clean db may.
+    c.create_grant.ensures.quiet before (making_within (state g.S.Store c.args.conn.now) before with_person making) clean db may
+
+pub returns-in_err-create_message-clause-quiet : goal.returns-in_err-create_message-clause-quiet
+returns-in_err-create_message-clause-quiet g c = λ before making clean db may.
+    let clean_1 = c.create_message.ensures.ends.lasts.returned clean in
+    let made_1 = c.in_ok-create_grant.ensures.made clean_1 before making in
+    c.create_grant.ensures.quiet before (making_within (state g.S.Store c.args.conn.now) before with_person making) clean_1 db (c.create_message.ensures.quiet before (making_within (state g.S.Store c.create_grant.new.conn) before with_grant made_1) clean db may)
+
+pub returns-clause-quiet : goal.returns-clause-quiet
+returns-clause-quiet g c = λ before making clean db may.
+    let clean_1 = c.create_message.ensures.ends.lasts.returned clean in
+    let made_1 = c.in_ok-create_grant.ensures.made clean_1 before making in
+    c.create_grant.ensures.quiet before (making_within (state g.S.Store c.args.conn.now) before with_person making) clean_1 db (c.create_message.ensures.quiet before (making_within (state g.S.Store c.create_grant.new.conn) before with_grant made_1) clean db may)

@@ -1,4 +1,4 @@
-use Rattle.std.proofs.Common.{◌∙◌}
+use Rattle.std.proofs.Common.{inl, inr, ◌∙◌}
 use Rattle.sqlite.specs.Held.{state}
 use Rattle.archive_tables.proofs.LastLemmas.{lasts_then}
 use Rattle.archive_database.proofs.making.make_tables.Goals as goal
@@ -18,9 +18,34 @@ returns-in-Err-clause-undone g c = λ clean none up.
     let making = c.in_ok-begin.ensures.begun (c.in-Err.ensures.lasts.returned clean_2) none in
     (c.rollback-undone.ensures.back clean first.committed (c.in-Err.ensures.stopped clean_2 first.committed making) up).1
 
-pub returns-in-Err-clause-lasts : goal.returns-in-Err-clause-lasts
-returns-in-Err-clause-lasts g c = lasts_then _ _ _ (lasts_then _ _ _ c.begin.ensures.ends.lasts c.fill.ensures.lasts) c.rollback-undone.ensures.lasts
+pub returns-in-Err-clause-ends : goal.returns-in-Err-clause-ends
+returns-in-Err-clause-ends g c =
+    record { lasts = lasts_then _ _ _ (lasts_then _ _ _ c.begin.ensures.ends.lasts c.fill.ensures.lasts) c.rollback-undone.ensures.lasts; was_open = λ clean. tt }
 
 pub returns-clause-made : goal.returns-clause-made
 returns-clause-made g c = λ clean none.
     c.in_default.ensures.kept clean (state g.S.Store c.args.conn.now).committed (c.in_ok-begin.ensures.begun (c.in_default.ensures.lasts.returned clean) none)
+
+-- ---- what a stop of the machine leaves
+
+pub returns-in_err-begin-clause-crash : goal.returns-in_err-begin-clause-crash
+returns-in_err-begin-clause-crash g c = λ none clean db may. inl (c.begin.ensures.ends.quiet clean db may)
+
+pub returns-in-Err-clause-crash : goal.returns-in-Err-clause-crash
+returns-in-Err-clause-crash g c = λ none clean db may.
+    let first = state g.S.Store c.args.conn.now in
+    let clean_2 = c.rollback-undone.ensures.lasts.returned clean in
+    let clean_1 = c.fill.ensures.lasts.returned clean_2 in
+    elim (c.fill.ensures.crash first.committed (c.in_ok-begin.ensures.begun clean_1 none) clean_2 db (c.rollback-undone.ensures.ends.quiet clean db may)) [
+      | inl before ↦ inl (c.begin.ensures.ends.quiet clean_1 db before)
+      | inr stored ↦ inr stored
+    ]
+
+pub returns-clause-crash : goal.returns-clause-crash
+returns-clause-crash g c = λ none clean db may.
+    let first = state g.S.Store c.args.conn.now in
+    let clean_1 = c.fill.ensures.lasts.returned clean in
+    elim (c.fill.ensures.crash first.committed (c.in_ok-begin.ensures.begun clean_1 none) clean db may) [
+      | inl before ↦ inl (c.begin.ensures.ends.quiet clean_1 db before)
+      | inr stored ↦ inr stored
+    ]

@@ -1,7 +1,9 @@
-use Rattle.std.proofs.Common.{pos}
+use Rattle.std.proofs.Common.{pos, inl, inr}
 use Rattle.sqlite.specs.Held.{state}
 use Rattle.archive_tables.proofs.LastLemmas.{lasts_then}
 use Rattle.archive_database.proofs.MakingLemmas.{stopped_by, on_err}
+use Rattle.archive_tables.specs.Schema.{schema_of}
+use Rattle.archive_tables.proofs.CrashLemmas.{is_within, commit_made}
 use Rattle.archive_database.proofs.making.move_tables.Goals as goal
 
 pub returns-clause-moved : goal.returns-clause-moved
@@ -45,3 +47,58 @@ returns-in_err-commit-clause-lasts g c = lasts_then _ _ _ (lasts_then _ _ _ (las
 
 pub returns-clause-lasts : goal.returns-clause-lasts
 returns-clause-lasts g c = lasts_then _ _ _ (lasts_then _ _ _ (lasts_then _ _ _ c.move_options.ensures.lasts c.create_address.ensures.ends.lasts) c.set_version.ensures.ends.lasts) c.commit.ensures.ends.lasts
+
+-- ---- what a stop of the machine leaves
+
+pub returns-in_err-move_options-clause-crash : goal.returns-in_err-move_options-clause-crash
+returns-in_err-move_options-clause-crash g c = λ older before archive moving clean db may.
+    let within = is_within (state g.S.Store c.args.conn.now) before (schema_of c.args.number) (pos c.args.number) c.args.number archive moving in
+    inl (c.move_options.ensures.quiet older before within clean db may)
+
+pub returns-in_err-create_address-clause-crash : goal.returns-in_err-create_address-clause-crash
+returns-in_err-create_address-clause-crash g c = λ older before archive moving clean db may.
+    let within = is_within (state g.S.Store c.args.conn.now) before (schema_of c.args.number) (pos c.args.number) c.args.number archive moving in
+    let clean_1 = c.create_address.ensures.ends.lasts.returned clean in
+    let k = c.in_ok-move_options.ensures.within clean_1 older before within in
+    inl (c.move_options.ensures.quiet older before within clean_1 db (c.create_address.ensures.quiet before k clean db may))
+
+pub returns-in_err-set_version-clause-crash : goal.returns-in_err-set_version-clause-crash
+returns-in_err-set_version-clause-crash g c = λ older before archive moving clean db may.
+    let within = is_within (state g.S.Store c.args.conn.now) before (schema_of c.args.number) (pos c.args.number) c.args.number archive moving in
+    let clean_2 = c.set_version.ensures.ends.lasts.returned clean in
+    let clean_1 = c.create_address.ensures.ends.lasts.returned clean_2 in
+    let k = c.in_ok-move_options.ensures.within clean_1 older before within in
+    let l = c.in_ok-create_address.ensures.within clean_2 before k in
+    inl (c.move_options.ensures.quiet older before within clean_1 db (c.create_address.ensures.quiet before k clean_2 db (c.set_version.ensures.quiet before l clean db may)))
+
+pub returns-in_err-commit-clause-crash : goal.returns-in_err-commit-clause-crash
+returns-in_err-commit-clause-crash g c = λ older before archive moving clean db may.
+    let said = pos c.args.number in
+    let within = is_within (state g.S.Store c.args.conn.now) before (schema_of c.args.number) said c.args.number archive moving in
+    let clean_3 = c.commit.ensures.ends.lasts.returned clean in
+    let clean_2 = c.set_version.ensures.ends.lasts.returned clean_3 in
+    let clean_1 = c.create_address.ensures.ends.lasts.returned clean_2 in
+    let k = c.in_ok-move_options.ensures.within clean_1 older before within in
+    let l = c.in_ok-create_address.ensures.within clean_2 before k in
+    let moved = c.in_ok-create_address.ensures.moved clean_2 before said archive (c.in_ok-move_options.ensures.moved clean_1 older before archive moving) in
+    let made = c.in_ok-set_version.ensures.moved clean_3 before said archive moved in
+    elim (commit_made g.S.Store c.set_version.new.conn c.commit.new.conn before archive made c.commit.ensures.ends.crash clean db may) [
+      | inl earlier ↦ inl (c.move_options.ensures.quiet older before within clean_1 db (c.create_address.ensures.quiet before k clean_2 db (c.set_version.ensures.quiet before l clean_3 db earlier)))
+      | inr stored ↦ inr stored
+    ]
+
+pub returns-clause-crash : goal.returns-clause-crash
+returns-clause-crash g c = λ older before archive moving clean db may.
+    let said = pos c.args.number in
+    let within = is_within (state g.S.Store c.args.conn.now) before (schema_of c.args.number) said c.args.number archive moving in
+    let clean_3 = c.commit.ensures.ends.lasts.returned clean in
+    let clean_2 = c.set_version.ensures.ends.lasts.returned clean_3 in
+    let clean_1 = c.create_address.ensures.ends.lasts.returned clean_2 in
+    let k = c.in_ok-move_options.ensures.within clean_1 older before within in
+    let l = c.in_ok-create_address.ensures.within clean_2 before k in
+    let moved = c.in_ok-create_address.ensures.moved clean_2 before said archive (c.in_ok-move_options.ensures.moved clean_1 older before archive moving) in
+    let made = c.in_ok-set_version.ensures.moved clean_3 before said archive moved in
+    elim (commit_made g.S.Store c.set_version.new.conn c.commit.new.conn before archive made c.commit.ensures.ends.crash clean db may) [
+      | inl earlier ↦ inl (c.move_options.ensures.quiet older before within clean_1 db (c.create_address.ensures.quiet before k clean_2 db (c.set_version.ensures.quiet before l clean_3 db earlier)))
+      | inr stored ↦ inr stored
+    ]

@@ -1,15 +1,31 @@
-use Rattle.std.proofs.Common.{refl, arith}
-use Rattle.archive_database.proofs.TakingLemmas.{open_unless, says_then}
+use Rattle.std.proofs.Common.{◌⊎◌}
+use Rattle.sqlite.specs.Held.{state}
+use Rattle.archive_tables.specs.Calls.{IsCaused}
+use Rattle.archive_tables.proofs.CauseLemmas.{carried, answers_none}
+use Rattle.archive_tables.proofs.RunLemmas.{on_fault}
+use Rattle.archive_database.proofs.TakingLemmas.{above_zero}
 use Rattle.archive_database.proofs.taking.may_be_full.Goals as goal
 
-pub returns-then-limit-eq0-clause-over : goal.returns-then-limit-eq0-clause-over
-returns-then-limit-eq0-clause-over g c = λ clean behind k. (λ none. absurd cc, (k, refl))
+pub returns : goal.returns
+returns g c = record {
+  over = λ clean behind k.
+      let it = c.in_ok-reached.ensures.asks.over clean behind k in
+      (λ none. let neither = above_zero c.args.limit c.in_ok-reached.reached none in it.0 neither.0 neither.1, it.1);
+  caused = λ clean k free. tt;
+  same = λ clean. c.in_ok-reached.ensures.asks.same clean;
+  quiet = λ clean db may. c.reaches.ensures.asks.quiet clean db may;
+  ends = record { lasts = c.reaches.ensures.asks.ends.lasts; was_open = λ clean. c.in_ok-reached.ensures.asks.ends.was_open clean };
+}
 
-pub returns-clause-over : goal.returns-clause-over
-returns-clause-over g c = λ clean behind k. says_then c.reaches.result _ _ _ (λ found it. (λ none. it.0 (omega arith) none, it.1)) (c.reaches.ensures.over clean behind k)
-
-pub returns-then-limit-eq0-clause-was_open : goal.returns-then-limit-eq0-clause-was_open
-returns-then-limit-eq0-clause-was_open g c = λ clean none. absurd cc
-
-pub returns-clause-was_open : goal.returns-clause-was_open
-returns-clause-was_open g c = λ clean. open_unless _ c.reaches.result (c.reaches.ensures.ends.was_open clean)
+pub returns-in_err-reached : goal.returns-in_err-reached
+returns-in_err-reached g c =
+    let old = state g.S.Store c.args.conn.now in
+    let new = state g.S.Store c.reaches.new.conn in
+    record {
+      over = λ clean behind k. on_fault _ _ c.from_residual.result c.from_residual.ensures.1 (c.in_err-reached.ensures.asks.over clean behind k);
+      caused = λ clean k free. carried c.from_residual.result c.in_err-reached.field-0.0 (λ e. IsCaused old new e ⊎ ⊥) c.from_residual.ensures.1
+          (c.in_err-reached.ensures.asks.caused clean k free);
+      same = λ clean. answers_none c.from_residual.result _ _ c.from_residual.ensures.1;
+      quiet = λ clean db may. c.reaches.ensures.asks.quiet clean db may;
+      ends = record { lasts = c.reaches.ensures.asks.ends.lasts; was_open = λ clean. answers_none c.from_residual.result _ _ c.from_residual.ensures.1 };
+    }

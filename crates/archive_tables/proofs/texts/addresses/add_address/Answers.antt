@@ -1,21 +1,26 @@
-use Rattle.sqlite.specs.Held.{state}
-use Rattle.archive_tables.proofs.AddressLemmas.{tries_to_add, add_text}
+use Rattle.std.proofs.Common.{refl}
+use Rattle.std.specs.Prelude.{◌++◌, ◌∷◌, []}
+use Rattle.archive_tables.proofs.AddressLemmas.{tries_to_add}
 use Rattle.sqlite_tied.specs.Compute.{everything}
 use Rattle.sqlite_resolve.specs.Compile.{first}
 use Rattle.archive_tables.proofs.LastLemmas.{IsOurText}
-use Rattle.archive_tables.proofs.EndLemmas.{needs_nothing, execute_ends}
+use Rattle.archive_machine.specs.Records.{Address}
+use Rattle.sqlite.specs.Listing.{understood}
+use Rattle.archive_tables.specs.Statements.{adding_address}
+use Rattle.archive_tables.proofs.RefusalLemmas.{Knows}
+use Rattle.archive_tables.proofs.EndLemmas.{write_freely}
 use Rattle.archive_tables.proofs.texts.addresses.add_address.Goals as goal
 
-ours : IsOurText (first add_text)
+knows : (a : Address) → Knows (adding_address a)
+unfolding understood everything
+knows a = record { fits = (refl, refl); plain = (refl, refl); writes = tt }
+
+ours : (a : Address) → IsOurText (first (adding_address a).sql)
 unfolding first everything
-ours = tt
+ours a = tt
 
 pub returns : goal.returns
 returns g c =
-    let old = state g.S.Store c.args.conn.now in
-    let new = state g.S.Store c.execute.new.self in
-    record {
-      over = λ clean behind k. needs_nothing c.execute.result _ _
-          (tries_to_add behind old new (record { person = c.args.person.now; address = c.args.address.now }) c.execute.result k (rw (c.params-to_sql.ensures, c.params-to_sql-2.ensures) at (c.execute.ensures.runs clean)));
-      ends = execute_ends _ _ _ c.execute.result ours c.execute.ensures.survives c.execute.ensures.runs;
-    }
+    write_freely (adding_address (record { person = c.args.person.now; address = c.args.address.now })) (λ a. record a { addresses = a.addresses ++ record { person = c.args.person.now; address = c.args.address.now } ∷ [] }) (knows (record { person = c.args.person.now; address = c.args.address.now })) (ours (record { person = c.args.person.now; address = c.args.address.now }))
+    (λ behind old new r. tries_to_add behind old new (record { person = c.args.person.now; address = c.args.address.now }) r) c.execute.result
+    (rw (c.params-to_sql.ensures, c.params-to_sql-2.ensures) at c.execute.ensures.survives) (λ clean. rw (c.params-to_sql.ensures, c.params-to_sql-2.ensures) at (c.execute.ensures.runs clean))

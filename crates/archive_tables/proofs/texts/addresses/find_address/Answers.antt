@@ -9,14 +9,22 @@ use Rattle.sqlite.specs.Held.{state}
 use Rattle.archive_tables.proofs.SelectLemmas.{first_found, none_found}
 use Rattle.archive_tables.proofs.AddressLemmas.{found, not_found, not_found_caused}
 use Rattle.archive_tables.proofs.EndLemmas.{asks_answers, asks_fails}
+use Rattle.sqlite_tied.specs.Compute.{everything}
+use Rattle.sqlite_resolve.specs.Compile.{first}
+use Rattle.archive_tables.proofs.CrashLemmas.{IsQuestionText}
+use Rattle.std.specs.Prelude.{codes}
 use Rattle.archive_tables.proofs.texts.addresses.find_address.Goals as goal
+
+asks : IsQuestionText (first (codes "SELECT address FROM address WHERE person = ?1 ORDER BY rowid"))
+unfolding first everything
+asks = tt
 
 pub returns-in_err-rows : goal.returns-in_err-rows
 returns-in_err-rows g c =
     let old = state g.S.Store c.args.conn.now in
     let new = state g.S.Store c.query_all.new.self in
     let error = c.in_err-rows.field-0.0 in
-    asks_fails _ _ _ c.query_all.result c.query_all.ensures.survives c.query_all.ensures.ok c.query_all.ensures.err c.from_residual.result error c.from_residual.ensures.1
+    asks_fails _ _ asks c.query_all.result c.query_all.ensures.survives c.query_all.ensures.ok c.query_all.ensures.err c.from_residual.result error c.from_residual.ensures.1
     (λ clean behind k. not_found c.args.person.now old new k error (rw c.params-to_sql.ensures at (c.in_err-rows.ensures.err clean)))
     (λ clean k free. inl (not_found_caused c.args.person.now old new k error (rw c.params-to_sql.ensures at (c.in_err-rows.ensures.err clean)) free))
 
@@ -28,7 +36,7 @@ returns-in_err-read_name-in-Some g c =
     let error = c.in_err-read_name-in-Some.field-0.0 in
     let last = c.from_residual-in_err-read_name-in-Some in
     let first : slice_get rows 0 ≡ Some c.in-Some.row.now = search rules in
-    asks_fails _ _ _ c.query_all.result c.query_all.ensures.survives c.query_all.ensures.ok c.query_all.ensures.err last.result error last.ensures.1
+    asks_fails _ _ asks c.query_all.result c.query_all.ensures.survives c.query_all.ensures.ok c.query_all.ensures.err last.result error last.ensures.1
     (λ clean behind k. stays_rests behind old new (found c.args.person.now old new k rows (rw c.params-to_sql.ensures at (c.in_ok-rows.ensures.ok clean))).1)
     (λ clean k free.
     let found = found c.args.person.now old new k rows (rw c.params-to_sql.ensures at (c.in_ok-rows.ensures.ok clean)) in
@@ -42,7 +50,7 @@ returns-in-Some g c =
     let new = state g.S.Store c.query_all.new.self in
     let rows = c.in_ok-rows.rows.items in
     let first : slice_get rows 0 ≡ Some c.in-Some.row.now = search rules in
-    asks_answers _ _ _ c.query_all.result c.query_all.ensures.survives c.query_all.ensures.ok c.query_all.ensures.err _ rows c.in_ok-rows.ensures.ok
+    asks_answers _ _ asks c.query_all.result c.query_all.ensures.survives c.query_all.ensures.ok c.query_all.ensures.err _ rows c.in_ok-rows.ensures.ok
     (λ clean behind k.
     let found = found c.args.person.now old new k rows (rw c.params-to_sql.ensures at (c.in_ok-rows.ensures.ok clean)) in
     let it = first_found (is_address_of c.args.person.now) (λ (a : Address). name_shown a.address) _ rows found.0 c.in-Some.row.now first in
@@ -54,7 +62,7 @@ returns g c =
     let new = state g.S.Store c.query_all.new.self in
     let rows = c.in_ok-rows.rows.items in
     let first : slice_get rows 0 ≡ None = search rules in
-    asks_answers _ _ _ c.query_all.result c.query_all.ensures.survives c.query_all.ensures.ok c.query_all.ensures.err _ rows c.in_ok-rows.ensures.ok
+    asks_answers _ _ asks c.query_all.result c.query_all.ensures.survives c.query_all.ensures.ok c.query_all.ensures.err _ rows c.in_ok-rows.ensures.ok
     (λ clean behind k.
     let found = found c.args.person.now old new k rows (rw c.params-to_sql.ensures at (c.in_ok-rows.ensures.ok clean)) in
     (sym (ap (option_map (λ (a : Address). a.address)) (none_found (is_address_of c.args.person.now) (λ (a : Address). name_shown a.address) _ rows found.0 first)), found.1))

@@ -1,25 +1,29 @@
-use Rattle.std.proofs.Common.{w64, ap, ◌∙◌}
+use Rattle.std.proofs.Common.{refl, w64, ap, ◌∙◌}
 use Rattle.std.proofs.lemmas.Int.{to_z-of_z}
 use Rattle.sqlite.specs.declared.types.Value.TheVariants.{Int}
-use Rattle.sqlite.specs.Held.{state}
-use Rattle.archive_tables.proofs.GrantLemmas.{tries_to_remove, remove_text}
+use Rattle.archive_tables.proofs.GrantLemmas.{tries_to_remove}
 use Rattle.sqlite_tied.specs.Compute.{everything}
 use Rattle.sqlite_resolve.specs.Compile.{first}
 use Rattle.archive_tables.proofs.LastLemmas.{IsOurText}
-use Rattle.archive_tables.proofs.EndLemmas.{needs_nothing, execute_ends}
+use Rattle.std.specs.Prelude.{List, ℕ, ℤ, filter, not}
+use Rattle.archive_machine.specs.Questions.{is_grant}
+use Rattle.sqlite.specs.Listing.{understood}
+use Rattle.archive_tables.specs.Statements.{removing_grant}
+use Rattle.archive_tables.proofs.RefusalLemmas.{Knows}
+use Rattle.archive_tables.proofs.EndLemmas.{write_freely}
 use Rattle.archive_tables.proofs.texts.grants.remove_grant.Goals as goal
 
-ours : IsOurText (first remove_text)
+knows : (person list : List ℕ) (rank : ℤ) → Knows (removing_grant person list rank)
+unfolding understood everything
+knows person list rank = record { fits = (refl, refl); plain = (refl, refl); writes = tt }
+
+ours : (person list : List ℕ) (rank : ℤ) → IsOurText (first (removing_grant person list rank).sql)
 unfolding first everything
-ours = tt
+ours person list rank = tt
 
 pub returns : goal.returns
 returns g c =
-    let old = state g.S.Store c.args.conn.now in
-    let new = state g.S.Store c.execute.new.self in
     let rank = c.params-to_sql-3.ensures ∙ ap Int (to_z-of_z w64 c.args.rank c.ranges.rank) in
-    record {
-      over = λ clean behind k. needs_nothing c.execute.result _ _
-          (tries_to_remove c.args.person.now c.args.list.now c.args.rank behind old new c.execute.result k (rw (c.params-to_sql.ensures, c.params-to_sql-2.ensures, rank) at (c.execute.ensures.runs clean)));
-      ends = execute_ends _ _ _ c.execute.result ours c.execute.ensures.survives c.execute.ensures.runs;
-    }
+    write_freely (removing_grant c.args.person.now c.args.list.now c.args.rank) (λ a. record a { grants = filter (λ g. not (is_grant c.args.person.now c.args.list.now c.args.rank g)) a.grants }) (knows c.args.person.now c.args.list.now c.args.rank) (ours c.args.person.now c.args.list.now c.args.rank)
+    (tries_to_remove c.args.person.now c.args.list.now c.args.rank) c.execute.result
+    (rw (c.params-to_sql.ensures, c.params-to_sql-2.ensures, rank) at c.execute.ensures.survives) (λ clean. rw (c.params-to_sql.ensures, c.params-to_sql-2.ensures, rank) at (c.execute.ensures.runs clean))

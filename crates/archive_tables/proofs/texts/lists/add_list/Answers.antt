@@ -1,21 +1,25 @@
-use Rattle.sqlite.specs.Held.{state}
-use Rattle.archive_tables.proofs.ListLemmas.{tries_to_add, add_text}
+use Rattle.std.proofs.Common.{refl}
+use Rattle.archive_tables.proofs.ListLemmas.{tries_to_add}
 use Rattle.sqlite_tied.specs.Compute.{everything}
 use Rattle.sqlite_resolve.specs.Compile.{first}
 use Rattle.archive_tables.proofs.LastLemmas.{IsOurText}
-use Rattle.archive_tables.proofs.EndLemmas.{needs_nothing, execute_ends}
+use Rattle.std.specs.Prelude.{List, ℕ, ◌++◌, ◌∷◌, []}
+use Rattle.sqlite.specs.Listing.{understood}
+use Rattle.archive_tables.specs.Statements.{adding_list}
+use Rattle.archive_tables.proofs.RefusalLemmas.{Knows}
+use Rattle.archive_tables.proofs.EndLemmas.{write_freely}
 use Rattle.archive_tables.proofs.texts.lists.add_list.Goals as goal
 
-ours : IsOurText (first add_text)
+knows : (name : List ℕ) → Knows (adding_list name)
+unfolding understood everything
+knows name = record { fits = (refl, refl); plain = (refl, refl); writes = tt }
+
+ours : (name : List ℕ) → IsOurText (first (adding_list name).sql)
 unfolding first everything
-ours = tt
+ours name = tt
 
 pub returns : goal.returns
 returns g c =
-    let old = state g.S.Store c.args.conn.now in
-    let new = state g.S.Store c.execute.new.self in
-    record {
-      over = λ clean behind k. needs_nothing c.execute.result _ _
-          (tries_to_add behind old new c.args.name.now c.execute.result k (rw c.params-to_sql.ensures at (c.execute.ensures.runs clean)));
-      ends = execute_ends _ _ _ c.execute.result ours c.execute.ensures.survives c.execute.ensures.runs;
-    }
+    write_freely (adding_list c.args.name.now) (λ a. record a { lists = a.lists ++ c.args.name.now ∷ [] }) (knows c.args.name.now) (ours c.args.name.now)
+    (λ behind old new r. tries_to_add behind old new c.args.name.now r) c.execute.result
+    (rw c.params-to_sql.ensures at c.execute.ensures.survives) (λ clean. rw c.params-to_sql.ensures at (c.execute.ensures.runs clean))

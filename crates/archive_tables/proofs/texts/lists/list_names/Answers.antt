@@ -13,8 +13,16 @@ use Rattle.archive_tables.specs.Tables.{IsHeld, IsKept, archive_of}
 use Rattle.archive_tables.specs.Rows.{name_shown}
 use Rattle.archive_tables.specs.Calls.{StaysOver, RestsOver, IsCaused}
 use Rattle.archive_tables.proofs.NamesLemmas.{names_text, names_found, names_not_found, names_not_found_caused}
-use Rattle.archive_tables.proofs.EndLemmas.{shown_ends}
+use Rattle.archive_tables.proofs.EndLemmas.{asks_shows}
+use Rattle.sqlite_tied.specs.Compute.{everything}
+use Rattle.sqlite_resolve.specs.Compile.{first}
+use Rattle.archive_tables.proofs.CrashLemmas.{IsQuestionText}
+use Rattle.std.specs.Prelude.{codes}
 use Rattle.archive_tables.proofs.texts.lists.list_names.Goals as goal
+
+asks : IsQuestionText (first (codes "SELECT name FROM list ORDER BY name"))
+unfolding first everything
+asks = tt
 
 asked : (behind : Option Database) (old new : State) (r : Result (Vec Row Global) Error) → IsHeld behind old
     → IfOk r (λ rows. Shown names_text [] old new rows.items) → IfErr r (FailsToQuery names_text [] old new)
@@ -31,9 +39,6 @@ pub returns : goal.returns
 returns g c =
     let old = state g.S.Store c.args.conn.now in
     let new = state g.S.Store c.query_all.new.self in
-    record {
-      over = λ clean behind k. asked behind old new c.query_all.result k
-          (c.query_all.ensures.ok clean) (c.query_all.ensures.err clean);
-      caused = λ clean k free. why old new c.query_all.result k free (c.query_all.ensures.err clean);
-      ends = shown_ends _ _ _ c.query_all.result c.query_all.ensures.survives c.query_all.ensures.ok c.query_all.ensures.err;
-    }
+    asks_shows _ _ asks c.query_all.result c.query_all.ensures.survives c.query_all.ensures.ok c.query_all.ensures.err
+    (λ clean behind k. asked behind old new c.query_all.result k (c.query_all.ensures.ok clean) (c.query_all.ensures.err clean))
+    (λ clean k free. why old new c.query_all.result k free (c.query_all.ensures.err clean))

@@ -11,8 +11,16 @@ use Rattle.archive_tables.specs.Tables.{IsHeld, IsKept}
 use Rattle.archive_tables.specs.Rows.{author_places, place_shown}
 use Rattle.archive_tables.specs.Calls.{RowsRest, IsCaused}
 use Rattle.archive_tables.proofs.FiledLemmas.{author_text, author_found, no_author, no_author_caused}
-use Rattle.archive_tables.proofs.EndLemmas.{shown_ends}
+use Rattle.archive_tables.proofs.EndLemmas.{asks_rows_shows}
+use Rattle.sqlite_tied.specs.Compute.{everything}
+use Rattle.sqlite_resolve.specs.Compile.{first}
+use Rattle.archive_tables.proofs.CrashLemmas.{IsQuestionText}
+use Rattle.std.specs.Prelude.{codes}
 use Rattle.archive_tables.proofs.texts.messages.author_places.Goals as goal
+
+asks : IsQuestionText (first (codes "SELECT pos FROM message WHERE list = ?1 AND author = ?2 ORDER BY sent, pos"))
+unfolding first everything
+asks = tt
 
 found : (behind : Option Database) (old new : State) (list it : List ℕ) (r : Result (Vec Row Global) Error) → IsHeld behind old
     → IfOk r (λ rows. Shown author_text (Text list ∷ Blob it ∷ []) old new rows.items) → IfErr r (FailsToQuery author_text (Text list ∷ Blob it ∷ []) old new)
@@ -29,9 +37,6 @@ pub returns : goal.returns
 returns g c =
     let old = state g.S.Store c.args.conn.now in
     let new = state g.S.Store c.query_all.new.self in
-    record {
-      over = λ clean behind k. found behind old new c.args.list.now c.args.key.now c.query_all.result k
-          (rw (c.params-to_sql.ensures, c.params-to_sql-2.ensures) at (c.query_all.ensures.ok clean)) (rw (c.params-to_sql.ensures, c.params-to_sql-2.ensures) at (c.query_all.ensures.err clean));
-      caused = λ clean k free. why old new c.args.list.now c.args.key.now c.query_all.result k free (rw (c.params-to_sql.ensures, c.params-to_sql-2.ensures) at (c.query_all.ensures.err clean));
-      ends = shown_ends _ _ _ c.query_all.result c.query_all.ensures.survives c.query_all.ensures.ok c.query_all.ensures.err;
-    }
+    asks_rows_shows _ _ asks c.query_all.result c.query_all.ensures.survives c.query_all.ensures.ok c.query_all.ensures.err
+    (λ clean behind k. found behind old new c.args.list.now c.args.key.now c.query_all.result k (rw (c.params-to_sql.ensures, c.params-to_sql-2.ensures) at (c.query_all.ensures.ok clean)) (rw (c.params-to_sql.ensures, c.params-to_sql-2.ensures) at (c.query_all.ensures.err clean)))
+    (λ clean k free. why old new c.args.list.now c.args.key.now c.query_all.result k free (rw (c.params-to_sql.ensures, c.params-to_sql-2.ensures) at (c.query_all.ensures.err clean)))

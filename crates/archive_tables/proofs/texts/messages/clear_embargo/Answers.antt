@@ -1,21 +1,26 @@
-use Rattle.sqlite.specs.Held.{state}
-use Rattle.archive_tables.proofs.UpdateLemmas.{tries_to_clear, clear_text}
+use Rattle.std.proofs.Common.{refl}
+use Rattle.archive_tables.proofs.UpdateLemmas.{tries_to_clear}
 use Rattle.sqlite_tied.specs.Compute.{everything}
 use Rattle.sqlite_resolve.specs.Compile.{first}
 use Rattle.archive_tables.proofs.LastLemmas.{IsOurText}
-use Rattle.archive_tables.proofs.EndLemmas.{needs_nothing, execute_ends}
+use Rattle.std.specs.Prelude.{List, ℕ, map, if◌then◌else◌, None}
+use Rattle.archive_machine.specs.Questions.{is_message}
+use Rattle.sqlite.specs.Listing.{understood}
+use Rattle.archive_tables.specs.Statements.{freeing}
+use Rattle.archive_tables.proofs.RefusalLemmas.{Knows}
+use Rattle.archive_tables.proofs.EndLemmas.{write_freely}
 use Rattle.archive_tables.proofs.texts.messages.clear_embargo.Goals as goal
 
-ours : IsOurText (first clear_text)
+knows : (list key : List ℕ) → Knows (freeing list key)
+unfolding understood everything
+knows list key = record { fits = (refl, refl); plain = (refl, refl); writes = tt }
+
+ours : (list key : List ℕ) → IsOurText (first (freeing list key).sql)
 unfolding first everything
-ours = tt
+ours list key = tt
 
 pub returns : goal.returns
 returns g c =
-    let old = state g.S.Store c.args.conn.now in
-    let new = state g.S.Store c.execute.new.self in
-    record {
-      over = λ clean behind k. needs_nothing c.execute.result _ _
-          (tries_to_clear c.args.list.now c.args.key.now behind old new c.execute.result k (rw (c.params-to_sql.ensures, c.params-to_sql-2.ensures) at (c.execute.ensures.runs clean)));
-      ends = execute_ends _ _ _ c.execute.result ours c.execute.ensures.survives c.execute.ensures.runs;
-    }
+    write_freely (freeing c.args.list.now c.args.key.now) (λ a. record a { messages = map (λ m. if is_message c.args.list.now c.args.key.now m then record m { embargo = None } else m) a.messages }) (knows c.args.list.now c.args.key.now) (ours c.args.list.now c.args.key.now)
+    (tries_to_clear c.args.list.now c.args.key.now) c.execute.result
+    (rw (c.params-to_sql.ensures, c.params-to_sql-2.ensures) at c.execute.ensures.survives) (λ clean. rw (c.params-to_sql.ensures, c.params-to_sql-2.ensures) at (c.execute.ensures.runs clean))

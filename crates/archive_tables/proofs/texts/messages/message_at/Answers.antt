@@ -11,7 +11,15 @@ use Rattle.archive_tables.proofs.SelectLemmas.{first_found, none_found}
 use Rattle.archive_tables.proofs.WalkLemmas.{at_found, at_rests, none_at, none_at_caused, is_at}
 use Rattle.archive_tables.proofs.CauseLemmas.{read_fails_by}
 use Rattle.archive_tables.proofs.EndLemmas.{asks_rows_answers, asks_rows_fails}
+use Rattle.sqlite_tied.specs.Compute.{everything}
+use Rattle.sqlite_resolve.specs.Compile.{first}
+use Rattle.archive_tables.proofs.CrashLemmas.{IsQuestionText}
+use Rattle.std.specs.Prelude.{codes}
 use Rattle.archive_tables.proofs.texts.messages.message_at.Goals as goal
+
+asks : IsQuestionText (first (codes "SELECT key, sender, arrival, text, withdrawn, embargo FROM message WHERE pos = ?1 ORDER BY pos"))
+unfolding first everything
+asks = tt
 
 pub returns-in_err-rows : goal.returns-in_err-rows
 returns-in_err-rows g c =
@@ -19,7 +27,7 @@ returns-in_err-rows g c =
     let new = state g.S.Store c.query_all.new.self in
     let error = c.in_err-rows.field-0.0 in
     let number = c.params-to_sql.ensures ∙ ap Int (to_z-of_z w64 c.args.place c.ranges.place) in
-    asks_rows_fails _ _ _ c.query_all.result c.query_all.ensures.survives c.query_all.ensures.ok c.query_all.ensures.err c.from_residual.result error c.from_residual.ensures.1
+    asks_rows_fails _ _ asks c.query_all.result c.query_all.ensures.survives c.query_all.ensures.ok c.query_all.ensures.err c.from_residual.result error c.from_residual.ensures.1
     (λ clean behind k. none_at old new k c.args.place error (rw number at (c.in_err-rows.ensures.err clean)))
     (λ clean k free. inl (none_at_caused old new k c.args.place error (rw number at (c.in_err-rows.ensures.err clean)) free))
 
@@ -32,7 +40,7 @@ returns-in_err-read_message-in-Some g c =
     let last = c.from_residual-in_err-read_message-in-Some in
     let first : slice_get rows 0 ≡ Some c.in-Some.row.now = search rules in
     let number = c.params-to_sql.ensures ∙ ap Int (to_z-of_z w64 c.args.place c.ranges.place) in
-    asks_rows_fails _ _ _ c.query_all.result c.query_all.ensures.survives c.query_all.ensures.ok c.query_all.ensures.err last.result error last.ensures.1
+    asks_rows_fails _ _ asks c.query_all.result c.query_all.ensures.survives c.query_all.ensures.ok c.query_all.ensures.err last.result error last.ensures.1
     (λ clean behind k. at_rests old new k c.args.place rows (rw number at (c.in_ok-rows.ensures.ok clean)))
     (λ clean k free.
     let found = at_found old new k c.args.place rows (rw number at (c.in_ok-rows.ensures.ok clean)) in
@@ -47,7 +55,7 @@ returns-in-Some g c =
     let rows = c.in_ok-rows.rows.items in
     let first : slice_get rows 0 ≡ Some c.in-Some.row.now = search rules in
     let number = c.params-to_sql.ensures ∙ ap Int (to_z-of_z w64 c.args.place c.ranges.place) in
-    asks_rows_answers _ _ _ c.query_all.result c.query_all.ensures.survives c.query_all.ensures.ok c.query_all.ensures.err _ rows c.in_ok-rows.ensures.ok
+    asks_rows_answers _ _ asks c.query_all.result c.query_all.ensures.survives c.query_all.ensures.ok c.query_all.ensures.err _ rows c.in_ok-rows.ensures.ok
     (λ clean behind k.
     let found = at_found old new k c.args.place rows (rw number at (c.in_ok-rows.ensures.ok clean)) in
     let it = first_found (is_at c.args.place) (λ (r : Numbered Filed). message_shown r.it.0) _ rows found.0 c.in-Some.row.now first in
@@ -60,7 +68,7 @@ returns g c =
     let rows = c.in_ok-rows.rows.items in
     let first : slice_get rows 0 ≡ None = search rules in
     let number = c.params-to_sql.ensures ∙ ap Int (to_z-of_z w64 c.args.place c.ranges.place) in
-    asks_rows_answers _ _ _ c.query_all.result c.query_all.ensures.survives c.query_all.ensures.ok c.query_all.ensures.err _ rows c.in_ok-rows.ensures.ok
+    asks_rows_answers _ _ asks c.query_all.result c.query_all.ensures.survives c.query_all.ensures.ok c.query_all.ensures.err _ rows c.in_ok-rows.ensures.ok
     (λ clean behind k.
     let found = at_found old new k c.args.place rows (rw number at (c.in_ok-rows.ensures.ok clean)) in
     (ap (option_map (λ (r : Numbered Filed). r.it.0)) (none_found (is_at c.args.place) (λ (r : Numbered Filed). message_shown r.it.0) _ rows found.0 first), found.1, found.2))

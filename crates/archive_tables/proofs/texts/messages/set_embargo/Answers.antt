@@ -1,25 +1,29 @@
-use Rattle.std.proofs.Common.{w64, ap, ◌∙◌}
+use Rattle.std.proofs.Common.{refl, w64, ap, ◌∙◌}
 use Rattle.std.proofs.lemmas.Int.{to_z-of_z}
 use Rattle.sqlite.specs.declared.types.Value.TheVariants.{Int}
-use Rattle.sqlite.specs.Held.{state}
-use Rattle.archive_tables.proofs.UpdateLemmas.{tries_embargo, embargo_text}
+use Rattle.archive_tables.proofs.UpdateLemmas.{tries_embargo}
 use Rattle.sqlite_tied.specs.Compute.{everything}
 use Rattle.sqlite_resolve.specs.Compile.{first}
 use Rattle.archive_tables.proofs.LastLemmas.{IsOurText}
-use Rattle.archive_tables.proofs.EndLemmas.{needs_nothing, execute_ends}
+use Rattle.std.specs.Prelude.{List, ℕ, ℤ, map, if◌then◌else◌, Some}
+use Rattle.archive_machine.specs.Questions.{is_message}
+use Rattle.sqlite.specs.Listing.{understood}
+use Rattle.archive_tables.specs.Statements.{holding_back}
+use Rattle.archive_tables.proofs.RefusalLemmas.{Knows}
+use Rattle.archive_tables.proofs.EndLemmas.{write_freely}
 use Rattle.archive_tables.proofs.texts.messages.set_embargo.Goals as goal
 
-ours : IsOurText (first embargo_text)
+knows : (list key : List ℕ) (until : ℤ) → Knows (holding_back list key until)
+unfolding understood everything
+knows list key until = record { fits = (refl, refl); plain = (refl, refl); writes = tt }
+
+ours : (list key : List ℕ) (until : ℤ) → IsOurText (first (holding_back list key until).sql)
 unfolding first everything
-ours = tt
+ours list key until = tt
 
 pub returns : goal.returns
 returns g c =
-    let old = state g.S.Store c.args.conn.now in
-    let new = state g.S.Store c.execute.new.self in
     let number = c.params-to_sql-3.ensures ∙ ap Int (to_z-of_z w64 c.args.until c.ranges.until) in
-    record {
-      over = λ clean behind k. needs_nothing c.execute.result _ _
-          (tries_embargo c.args.list.now c.args.key.now c.args.until behind old new c.execute.result k (rw (c.params-to_sql.ensures, c.params-to_sql-2.ensures, number) at (c.execute.ensures.runs clean)));
-      ends = execute_ends _ _ _ c.execute.result ours c.execute.ensures.survives c.execute.ensures.runs;
-    }
+    write_freely (holding_back c.args.list.now c.args.key.now c.args.until) (λ a. record a { messages = map (λ m. if is_message c.args.list.now c.args.key.now m then record m { embargo = Some c.args.until } else m) a.messages }) (knows c.args.list.now c.args.key.now c.args.until) (ours c.args.list.now c.args.key.now c.args.until)
+    (tries_embargo c.args.list.now c.args.key.now c.args.until) c.execute.result
+    (rw (c.params-to_sql.ensures, c.params-to_sql-2.ensures, number) at c.execute.ensures.survives) (λ clean. rw (c.params-to_sql.ensures, c.params-to_sql-2.ensures, number) at (c.execute.ensures.runs clean))

@@ -1,25 +1,29 @@
-use Rattle.std.proofs.Common.{w64, ap, ◌∙◌}
+use Rattle.std.proofs.Common.{refl, w64, ap, ◌∙◌}
 use Rattle.std.proofs.lemmas.Int.{to_z-of_z}
 use Rattle.sqlite.specs.declared.types.Value.TheVariants.{Int}
-use Rattle.sqlite.specs.Held.{state}
-use Rattle.archive_tables.proofs.UpdateLemmas.{tries_withdrawn, withdrawn_text}
+use Rattle.archive_tables.proofs.UpdateLemmas.{tries_withdrawn}
 use Rattle.sqlite_tied.specs.Compute.{everything}
 use Rattle.sqlite_resolve.specs.Compile.{first}
 use Rattle.archive_tables.proofs.LastLemmas.{IsOurText}
-use Rattle.archive_tables.proofs.EndLemmas.{needs_nothing, execute_ends}
+use Rattle.std.specs.Prelude.{List, ℕ, ℤ, map, if◌then◌else◌}
+use Rattle.archive_machine.specs.Questions.{is_message}
+use Rattle.sqlite.specs.Listing.{understood}
+use Rattle.archive_tables.specs.Statements.{withdrawing}
+use Rattle.archive_tables.proofs.RefusalLemmas.{Knows}
+use Rattle.archive_tables.proofs.EndLemmas.{write_freely}
 use Rattle.archive_tables.proofs.texts.messages.set_withdrawn.Goals as goal
 
-ours : IsOurText (first withdrawn_text)
+knows : (list key : List ℕ) (by : ℤ) → Knows (withdrawing list key by)
+unfolding understood everything
+knows list key by = record { fits = (refl, refl); plain = (refl, refl); writes = tt }
+
+ours : (list key : List ℕ) (by : ℤ) → IsOurText (first (withdrawing list key by).sql)
 unfolding first everything
-ours = tt
+ours list key by = tt
 
 pub returns : goal.returns
 returns g c =
-    let old = state g.S.Store c.args.conn.now in
-    let new = state g.S.Store c.execute.new.self in
     let number = c.params-to_sql-3.ensures ∙ ap Int (to_z-of_z w64 c.args.by c.ranges.by) in
-    record {
-      over = λ clean behind k. needs_nothing c.execute.result _ _
-          (tries_withdrawn c.args.list.now c.args.key.now c.args.by behind old new c.execute.result k (rw (c.params-to_sql.ensures, c.params-to_sql-2.ensures, number) at (c.execute.ensures.runs clean)));
-      ends = execute_ends _ _ _ c.execute.result ours c.execute.ensures.survives c.execute.ensures.runs;
-    }
+    write_freely (withdrawing c.args.list.now c.args.key.now c.args.by) (λ a. record a { messages = map (λ m. if is_message c.args.list.now c.args.key.now m then record m { withdrawn = c.args.by } else m) a.messages }) (knows c.args.list.now c.args.key.now c.args.by) (ours c.args.list.now c.args.key.now c.args.by)
+    (tries_withdrawn c.args.list.now c.args.key.now c.args.by) c.execute.result
+    (rw (c.params-to_sql.ensures, c.params-to_sql-2.ensures, number) at c.execute.ensures.survives) (λ clean. rw (c.params-to_sql.ensures, c.params-to_sql-2.ensures, number) at (c.execute.ensures.runs clean))

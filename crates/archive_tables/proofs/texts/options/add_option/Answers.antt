@@ -1,25 +1,29 @@
-use Rattle.std.proofs.Common.{w64, ap, ◌∙◌}
+use Rattle.std.proofs.Common.{refl, w64, ap, ◌∙◌}
 use Rattle.std.specs.Int.{cast_signed, cast_unsigned}
+use Rattle.std.specs.Prelude.{◌++◌, ◌∷◌, []}
 use Rattle.sqlite.specs.declared.types.Value.TheVariants.{Int}
-use Rattle.sqlite.specs.Held.{state}
-use Rattle.archive_tables.proofs.OptionLemmas.{tries_to_add, add_text, number_is}
+use Rattle.archive_tables.proofs.OptionLemmas.{tries_to_add, number_is}
 use Rattle.sqlite_tied.specs.Compute.{everything}
 use Rattle.sqlite_resolve.specs.Compile.{first}
 use Rattle.archive_tables.proofs.LastLemmas.{IsOurText}
-use Rattle.archive_tables.proofs.EndLemmas.{needs_nothing, execute_ends}
+use Rattle.archive_machine.specs.Records.{ListOption}
+use Rattle.sqlite.specs.Listing.{understood}
+use Rattle.archive_tables.specs.Statements.{adding_option}
+use Rattle.archive_tables.proofs.RefusalLemmas.{Knows}
+use Rattle.archive_tables.proofs.EndLemmas.{write_freely}
 use Rattle.archive_tables.proofs.texts.options.add_option.Goals as goal
 
-ours : IsOurText (first add_text)
+knows : (o : ListOption) → Knows (adding_option o)
+unfolding understood everything
+knows o = record { fits = (refl, refl); plain = (refl, refl); writes = tt }
+
+ours : (o : ListOption) → IsOurText (first (adding_option o).sql)
 unfolding first everything
-ours = tt
+ours o = tt
 
 pub returns : goal.returns
 returns g c =
-    let old = state g.S.Store c.args.conn.now in
-    let new = state g.S.Store c.execute.new.self in
     let number = c.params-to_sql-2.ensures ∙ ap Int (ap (λ n. cast_signed w64 (cast_unsigned w64 n)) c.merge_number-number.ensures ∙ number_is c.args.merge) in
-    record {
-      over = λ clean behind k. needs_nothing c.execute.result _ _
-          (tries_to_add behind old new (record { list = c.args.list.now; merge = c.args.merge }) c.execute.result k (rw (c.params-to_sql.ensures, number) at (c.execute.ensures.runs clean)));
-      ends = execute_ends _ _ _ c.execute.result ours c.execute.ensures.survives c.execute.ensures.runs;
-    }
+    write_freely (adding_option (record { list = c.args.list.now; merge = c.args.merge })) (λ a. record a { options = a.options ++ record { list = c.args.list.now; merge = c.args.merge } ∷ [] }) (knows (record { list = c.args.list.now; merge = c.args.merge })) (ours (record { list = c.args.list.now; merge = c.args.merge }))
+    (λ behind old new r. tries_to_add behind old new (record { list = c.args.list.now; merge = c.args.merge }) r) c.execute.result
+    (rw (c.params-to_sql.ensures, number) at c.execute.ensures.survives) (λ clean. rw (c.params-to_sql.ensures, number) at (c.execute.ensures.runs clean))

@@ -1,4 +1,4 @@
-use Rattle.std.proofs.Common.{◌≡◌, ℕ, ℤ, [], Ok, Err, Result, OnOk}
+use Rattle.std.proofs.Common.{◌≡◌, ℕ, ℤ, [], Ok, Err, Result, OnOk, refl}
 use Rattle.sqlite.specs.declared.error.Error.{Error}
 use Rattle.sqlite.specs.Effect.{Database}
 use Rattle.sqlite.specs.Held.{state}
@@ -11,6 +11,9 @@ use Rattle.sqlite_tied.specs.Compute.{everything}
 use Rattle.sqlite_resolve.specs.Compile.{first}
 use Rattle.archive_tables.proofs.LastLemmas.{IsOurText}
 use Rattle.archive_tables.proofs.EndLemmas.{step_ends}
+use Rattle.sqlite.specs.Listing.{understood}
+use Rattle.sqlite.proofs.Callers.{command_of}
+use Rattle.archive_tables.proofs.CrashLemmas.{EndsNothing, within_adds_nothing}
 use Rattle.archive_tables.proofs.texts.options.copy_options.Goals as goal
 
 moves : (old new : State) (before : Database) (said : ℤ) (archive : Archive) → IsMoving old before schema_2 said 1 archive → old.now.trees 13 ≡ [] → (r : Result ℕ Error)
@@ -34,3 +37,11 @@ ours = tt
 
 pub returns-clause-ends : goal.returns-clause-ends
 returns-clause-ends g c = step_ends _ _ _ c.execute.result ours c.execute.ensures.survives c.execute.ensures.runs
+
+goes_on : EndsNothing (command_of (understood schema_2 copy_text))
+unfolding understood everything
+goes_on = tt
+
+pub returns-clause-quiet : goal.returns-clause-quiet
+returns-clause-quiet g c before k clean db may =
+    within_adds_nothing copy_text schema_2 _ refl goes_on _ before (state g.S.Store c.args.conn.now) (state g.S.Store c.execute.new.self) k c.execute.ensures.survives clean db may

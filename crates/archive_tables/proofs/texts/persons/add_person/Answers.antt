@@ -1,21 +1,26 @@
-use Rattle.sqlite.specs.Held.{state}
-use Rattle.archive_tables.proofs.PersonLemmas.{tries_to_add, add_text}
+use Rattle.std.proofs.Common.{refl}
+use Rattle.std.specs.Prelude.{◌++◌, ◌∷◌, []}
+use Rattle.archive_tables.proofs.PersonLemmas.{tries_to_add}
 use Rattle.sqlite_tied.specs.Compute.{everything}
 use Rattle.sqlite_resolve.specs.Compile.{first}
 use Rattle.archive_tables.proofs.LastLemmas.{IsOurText}
-use Rattle.archive_tables.proofs.EndLemmas.{needs_nothing, execute_ends}
+use Rattle.archive_machine.specs.Records.{Person}
+use Rattle.sqlite.specs.Listing.{understood}
+use Rattle.archive_tables.specs.Statements.{adding_person}
+use Rattle.archive_tables.proofs.RefusalLemmas.{Knows}
+use Rattle.archive_tables.proofs.EndLemmas.{write_freely}
 use Rattle.archive_tables.proofs.texts.persons.add_person.Goals as goal
 
-ours : IsOurText (first add_text)
+knows : (p : Person) → Knows (adding_person p)
+unfolding understood everything
+knows p = record { fits = (refl, refl); plain = (refl, refl); writes = tt }
+
+ours : (p : Person) → IsOurText (first (adding_person p).sql)
 unfolding first everything
-ours = tt
+ours p = tt
 
 pub returns : goal.returns
 returns g c =
-    let old = state g.S.Store c.args.conn.now in
-    let new = state g.S.Store c.execute.new.self in
-    record {
-      over = λ clean behind k. needs_nothing c.execute.result _ _
-          (tries_to_add behind old new (record { name = c.args.name.now; token = c.args.token.now }) c.execute.result k (rw (c.params-to_sql.ensures, c.params-to_sql-2.ensures) at (c.execute.ensures.runs clean)));
-      ends = execute_ends _ _ _ c.execute.result ours c.execute.ensures.survives c.execute.ensures.runs;
-    }
+    write_freely (adding_person (record { name = c.args.name.now; token = c.args.token.now })) (λ a. record a { persons = a.persons ++ record { name = c.args.name.now; token = c.args.token.now } ∷ [] }) (knows (record { name = c.args.name.now; token = c.args.token.now })) (ours (record { name = c.args.name.now; token = c.args.token.now }))
+    (λ behind old new r. tries_to_add behind old new (record { name = c.args.name.now; token = c.args.token.now }) r) c.execute.result
+    (rw (c.params-to_sql.ensures, c.params-to_sql-2.ensures) at c.execute.ensures.survives) (λ clean. rw (c.params-to_sql.ensures, c.params-to_sql-2.ensures) at (c.execute.ensures.runs clean))

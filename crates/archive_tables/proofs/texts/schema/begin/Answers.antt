@@ -1,17 +1,24 @@
-use Rattle.std.proofs.Common.{◌≡◌, ℕ, pos, None, [], Ok, Err, Result, OnOk}
+use Rattle.std.proofs.Common.{◌≡◌, inl, inr, ℕ, pos, None, [], Ok, Err, Result, OnOk, false, refl}
 use Rattle.sqlite.specs.declared.error.Error.{Error}
 use Rattle.sqlite.specs.Held.{state}
-use Rattle.sqlite.specs.State.{State, Executes}
+use Rattle.sqlite.specs.State.{State, IsMisplaced, Executes}
 use Rattle.archive_tables.specs.Schema.{no_schema, schema_of}
 use Rattle.archive_tables.specs.Tables.{IsHeldAs, form_of, archive_by}
-use Rattle.archive_tables.specs.Making.{IsMaking, IsWithin, IsMoving}
+use Rattle.archive_tables.specs.Making.{IsMaking, IsWithin, IsMoving, EndsStep}
 use Rattle.archive_tables.proofs.MakeLemmas.{begins, begin_text}
 use Rattle.archive_tables.proofs.HeldLemmas.{begins_over}
-use Rattle.archive_tables.proofs.MoveLemmas.{begins_moving, begins_within}
+use Rattle.archive_tables.proofs.MoveLemmas.{begins_moving, begins_within, begin_is, begin_plain}
 use Rattle.sqlite_tied.specs.Compute.{everything}
 use Rattle.sqlite_resolve.specs.Compile.{first}
 use Rattle.archive_tables.proofs.LastLemmas.{IsOurText}
 use Rattle.archive_tables.proofs.EndLemmas.{step_ends}
+use Rattle.sqlite.specs.Command.TheVariants.{Begin}
+use Rattle.sqlite.specs.Schema.{Schema}
+use Rattle.sqlite.specs.Listing.{understood}
+use Rattle.archive_tables.proofs.CauseLemmas.{Fits}
+use Rattle.archive_tables.proofs.RefusalLemmas.{transaction_fails}
+use Rattle.archive_tables.proofs.CrashLemmas.{transaction_adds}
+use Rattle.sqlite.proofs.Callers.{runs_as}
 use Rattle.archive_tables.proofs.texts.schema.begin.Goals as goal
 
 done : (old new : State) → old.now.schema ≡ no_schema → (r : Result ℕ Error) → Executes begin_text [] old new r → OnOk r (IsMaking new no_schema old.committed)
@@ -43,5 +50,29 @@ ours : IsOurText (first begin_text)
 unfolding first everything
 ours = tt
 
+any_fits : (s : Schema) → Fits begin_text 0 (understood s begin_text)
+unfolding understood everything
+any_fits s = (refl, refl)
+
+-- outside a transaction it may be run
+placed : (old : State) → old.in_transaction ≡ false → (e : Error) → ¬ IsMisplaced old Begin e
+placed old outside e (inl it) = elim it.1 [ inl begin ↦ (let bad = rw outside at begin.1 in cc) | inr ends ↦ elim ends.0 [ inl commit ↦ (let bad = commit in cc) | inr back ↦ (let bad = back in cc) ] ]
+placed old outside e (inr it) = elim it.2 [ inl release ↦ (let bad = release in cc) | inr to ↦ (let bad = to in cc) ]
+
+same : (old new : State) (r : Result ℕ Error) → Executes begin_text [] old new r → OnOk r (new.now ≡ old.now)
+same old new (Ok count) h = (runs_as begin_text [] old new old.now.schema refl Begin (begin_is old.now.schema) (begin_plain old.now.schema) count h).1.now_is
+same old new (Err e) h = tt
+
 pub returns-clause-ends : goal.returns-clause-ends
-returns-clause-ends g c = step_ends _ _ _ c.execute.result ours c.execute.ensures.survives c.execute.ensures.runs
+returns-clause-ends g c =
+    let old = state g.S.Store c.args.conn.now in
+    let new = state g.S.Store c.execute.new.self in
+    let step : EndsStep g.S.Store c.args.conn.now c.execute.new.self c.execute.result = step_ends _ _ _ c.execute.result ours c.execute.ensures.survives c.execute.ensures.runs in
+    record {
+      lasts = step.lasts;
+      was_open = step.was_open;
+      stopped = step.stopped;
+      caused = λ clean up outside. transaction_fails begin_text Begin begin_is begin_plain any_fits tt old new up (placed old outside) c.execute.result (c.execute.ensures.runs clean);
+      same = λ clean. same old new c.execute.result (c.execute.ensures.runs clean);
+      quiet = λ clean db may. transaction_adds begin_text Begin begin_is begin_plain tt [] old new tt c.execute.ensures.survives clean db may;
+    }

@@ -1,10 +1,10 @@
-use Rattle.std.proofs.Common.{◌≡◌, ℕ, [], Ok, Err, Result, OnOk}
+use Rattle.std.proofs.Common.{◌≡◌, inl, inr, ℕ, [], Ok, Err, Result, OnOk, true, refl, sym, ◌∙◌}
 use Rattle.sqlite.specs.declared.error.Error.{Error}
 use Rattle.sqlite.specs.Effect.{Database}
 use Rattle.sqlite.specs.Held.{state}
-use Rattle.sqlite.specs.State.{State, Executes}
+use Rattle.sqlite.specs.State.{State, IsMisplaced, Executes}
 use Rattle.archive_tables.specs.Tables.{IsKept, archive_of}
-use Rattle.archive_tables.specs.Making.{IsMade}
+use Rattle.archive_tables.specs.Making.{IsMade, EndsStep}
 use Rattle.archive_machine.specs.Records.{Archive}
 use Rattle.archive_tables.proofs.MakeLemmas.{commits, commit_text}
 use Rattle.archive_tables.proofs.HeldLemmas.{commits_over}
@@ -12,6 +12,13 @@ use Rattle.sqlite_tied.specs.Compute.{everything}
 use Rattle.sqlite_resolve.specs.Compile.{first}
 use Rattle.archive_tables.proofs.LastLemmas.{IsOurText}
 use Rattle.archive_tables.proofs.EndLemmas.{step_ends}
+use Rattle.sqlite.specs.Command.TheVariants.{Commit}
+use Rattle.sqlite.specs.Schema.{Schema}
+use Rattle.sqlite.specs.Listing.{understood}
+use Rattle.archive_tables.proofs.CauseLemmas.{Fits}
+use Rattle.archive_tables.proofs.RefusalLemmas.{transaction_fails}
+use Rattle.archive_tables.proofs.CrashLemmas.{commit_adds}
+use Rattle.sqlite.proofs.Callers.{IsPlain, command_of, runs_as}
 use Rattle.archive_tables.proofs.texts.schema.commit.Goals as goal
 
 done : (old new : State) (before : Database) (archive : Archive) → IsMade old before archive → (r : Result ℕ Error) → Executes commit_text [] old new r → OnOk r (IsKept new × (archive_of new ≡ archive))
@@ -28,5 +35,37 @@ ours : IsOurText (first commit_text)
 unfolding first everything
 ours = tt
 
+any_is : (s : Schema) → command_of (understood s commit_text) ≡ Commit
+unfolding understood everything
+any_is s = refl
+
+any_plain : (s : Schema) → IsPlain (understood s commit_text)
+unfolding understood everything
+any_plain s = (refl, refl)
+
+any_fits : (s : Schema) → Fits commit_text 0 (understood s commit_text)
+unfolding understood everything
+any_fits s = (refl, refl)
+
+-- within a transaction it may be run
+placed : (old : State) → old.in_transaction ≡ true → (e : Error) → ¬ IsMisplaced old Commit e
+placed old within e (inl it) = elim it.1 [ inl begin ↦ (let bad = begin.0 in cc) | inr ends ↦ (let bad = sym within ∙ ends.1 in cc) ]
+placed old within e (inr it) = elim it.2 [ inl release ↦ (let bad = release in cc) | inr to ↦ (let bad = to in cc) ]
+
+same : (old new : State) (r : Result ℕ Error) → Executes commit_text [] old new r → OnOk r (new.now ≡ old.now)
+same old new (Ok count) h = (runs_as commit_text [] old new old.now.schema refl Commit (any_is old.now.schema) (any_plain old.now.schema) count h).1.now_is
+same old new (Err e) h = tt
+
 pub returns-clause-ends : goal.returns-clause-ends
-returns-clause-ends g c = step_ends _ _ _ c.execute.result ours c.execute.ensures.survives c.execute.ensures.runs
+returns-clause-ends g c =
+    let old = state g.S.Store c.args.conn.now in
+    let new = state g.S.Store c.execute.new.self in
+    let step : EndsStep g.S.Store c.args.conn.now c.execute.new.self c.execute.result = step_ends _ _ _ c.execute.result ours c.execute.ensures.survives c.execute.ensures.runs in
+    record {
+      lasts = step.lasts;
+      was_open = step.was_open;
+      stopped = step.stopped;
+      caused = λ clean up within. transaction_fails commit_text Commit any_is any_plain any_fits tt old new up (placed old within) c.execute.result (c.execute.ensures.runs clean);
+      same = λ clean. same old new c.execute.result (c.execute.ensures.runs clean);
+      crash = λ clean db may. commit_adds commit_text Commit any_is any_plain tt [] old new c.schema-schema.ensures.live c.execute.ensures.survives clean db may;
+    }

@@ -1,4 +1,4 @@
-use Rattle.std.proofs.Common.{◌≡◌, ℕ, ℤ, [], Ok, Err, Result, OnOk}
+use Rattle.std.proofs.Common.{◌≡◌, ℕ, ℤ, [], Ok, Err, Result, OnOk, refl}
 use Rattle.sqlite.specs.declared.error.Error.{Error}
 use Rattle.sqlite.specs.Effect.{Database}
 use Rattle.sqlite.specs.Held.{state}
@@ -12,6 +12,9 @@ use Rattle.sqlite_tied.specs.Compute.{everything}
 use Rattle.sqlite_resolve.specs.Compile.{first}
 use Rattle.archive_tables.proofs.LastLemmas.{IsOurText}
 use Rattle.archive_tables.proofs.EndLemmas.{step_ends}
+use Rattle.sqlite.specs.Listing.{understood}
+use Rattle.sqlite.proofs.Callers.{command_of}
+use Rattle.archive_tables.proofs.CrashLemmas.{EndsNothing, within_adds_nothing}
 use Rattle.archive_tables.proofs.texts.schema.create_option.Goals as goal
 
 done : (old new : State) (before : Database) → IsMaking old schema_1 before → (r : Result ℕ Error) → Executes create_option [] old new r → OnOk r (IsMaking new schema_2 before)
@@ -42,3 +45,11 @@ ours = tt
 
 pub returns-clause-ends : goal.returns-clause-ends
 returns-clause-ends g c = step_ends _ _ _ c.execute.result ours c.execute.ensures.survives c.execute.ensures.runs
+
+goes_on : EndsNothing (command_of (understood schema_1 create_option))
+unfolding understood everything
+goes_on = tt
+
+pub returns-clause-quiet : goal.returns-clause-quiet
+returns-clause-quiet g c before k clean db may =
+    within_adds_nothing create_option schema_1 _ refl goes_on _ before (state g.S.Store c.args.conn.now) (state g.S.Store c.execute.new.self) k c.execute.ensures.survives clean db may

@@ -14,8 +14,16 @@ use Rattle.archive_tables.specs.Making.{IsBackTo}
 use Rattle.archive_tables.specs.declared.texts.schema.TheConstants.{VERSION}
 use Rattle.archive_tables.specs.Calls.{StaysOver, RestsOver, IsCaused}
 use Rattle.archive_tables.proofs.VersionLemmas.{number_text, numbers_found, numbers_leave, no_numbers_leave, numbers_open, version_found, version_not_found, version_not_found_caused}
-use Rattle.archive_tables.proofs.EndLemmas.{shown_ends}
+use Rattle.archive_tables.proofs.EndLemmas.{asks_shows}
+use Rattle.sqlite_tied.specs.Compute.{everything}
+use Rattle.sqlite_resolve.specs.Compile.{first}
+use Rattle.archive_tables.proofs.CrashLemmas.{IsQuestionText}
+use Rattle.std.specs.Prelude.{codes}
 use Rattle.archive_tables.proofs.texts.schema.versions.Goals as goal
+
+asks : IsQuestionText (first (codes "SELECT number FROM version ORDER BY rowid"))
+unfolding first everything
+asks = tt
 
 asked : (behind : Option Database) (old new : State) (r : Result (Vec Row Global) Error) → IsHeld behind old → IfOk r (λ rows. Shown number_text [] old new rows.items)
     → IfErr r (FailsToQuery number_text [] old new)
@@ -56,8 +64,6 @@ pub returns-clause-asks : goal.returns-clause-asks
 returns-clause-asks g c =
     let old = state g.S.Store c.args.conn.now in
     let new = state g.S.Store c.query_all.new.self in
-    record {
-      over = λ clean behind k. asked behind old new c.query_all.result k (c.query_all.ensures.ok clean) (c.query_all.ensures.err clean);
-      caused = λ clean k free. why old new c.query_all.result k free (c.query_all.ensures.err clean);
-      ends = shown_ends _ _ _ c.query_all.result c.query_all.ensures.survives c.query_all.ensures.ok c.query_all.ensures.err;
-    }
+    asks_shows _ _ asks c.query_all.result c.query_all.ensures.survives c.query_all.ensures.ok c.query_all.ensures.err
+    (λ clean behind k. asked behind old new c.query_all.result k (c.query_all.ensures.ok clean) (c.query_all.ensures.err clean))
+    (λ clean k free. why old new c.query_all.result k free (c.query_all.ensures.err clean))

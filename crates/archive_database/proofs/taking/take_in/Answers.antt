@@ -1,0 +1,8 @@
+use Rattle.std.proofs.Common.{rules}
+use Rattle.archive_database.proofs.taking.take_in.Goals as goal
+
+pub returns-in-Some-clause-crash : goal.returns-in-Some-clause-crash
+returns-in-Some-clause-crash g c = λ behind k needs clean db may. c.write_down.ensures.crash (search rules) behind k needs clean db may
+
+pub returns-clause-crash : goal.returns-clause-crash
+returns-clause-crash g c = λ behind k needs clean db may. c.write_down-2.ensures.crash (search rules) behind k needs clean db may

@@ -1,0 +1,172 @@
+-- Why a statement that changes something fails, and what it makes where it succeeds, as SQL says it.
+use Rattle.std.proofs.Common.{◌≡◌, ◌⊎◌, inl, inr, ℕ, List, [], length, Ok, Err, Result, refl, sym, ap, subst, ◌∙◌, false, Some, None, Option, append-nil}
+use Rattle.std.specs.Prelude.{⊤, IsTrue, IsSome, IfErr, OnOk, is_some, ◌||◌, ◌&&◌, not}
+use Rattle.sqlite.specs.declared.error.Error.{Error}
+use Rattle.sqlite.specs.declared.run.Mode.{Mode}
+use Rattle.sqlite_trees.specs.declared.error.StoreError.TheVariants.{OutOfMemory, Io, Corrupt, Full, Broken, Unstorable}
+use Rattle.sqlite_resolve.specs.declared.compiled.Compiled.{Compiled}
+use Rattle.sqlite_resolve.specs.declared.error.CompileError.{CompileError}
+use Rattle.sqlite_schema.specs.declared.schema.Schema.{Schema}
+use Rattle.sqlite_schema.specs.declared.command.Command.{Command}
+use Rattle.sqlite_schema.specs.declared.command.Command.TheVariants.{Insert, InsertOr, Update, Delete, Begin, Commit, Rollback}
+use Rattle.sqlite_schema.specs.declared.command.Returning.{Returning}
+use Rattle.sqlite.specs.Order.{Row}
+use Rattle.sqlite.specs.Calls.{IsWrite}
+use Rattle.sqlite.specs.Clock.{timed}
+use Rattle.sqlite.specs.Does.{Tally, Does}
+use Rattle.sqlite.specs.Effect.{Database, is_query}
+use Rattle.sqlite.specs.Listing.{understood}
+use Rattle.sqlite.specs.State.{State, Fails, IsMisplaced, Runs, Writes, IsNotRun, ExecutesIn, Executes, shows_rows, is_pragma, mode_of, text_of}
+use Rattle.sqlite.proofs.Callers.{IsPlain, command_of}
+use Rattle.archive_tables.specs.Schema.{archive_schema}
+use Rattle.archive_tables.specs.Tables.{IsHeld}
+use Rattle.archive_tables.specs.Statements.{Statement, MayEnd, IsRefused, IsCarriedOut}
+use Rattle.archive_tables.specs.Calls.{IsCaused}
+use Rattle.archive_tables.proofs.CauseLemmas.{Fits, no_statement, fails_by}
+
+-- ---- what a command is
+
+-- it writes rows, and ends no transaction
+abbrev pub WritesRows : Command → Type 0
+WritesRows (Insert at from) = ⊤
+WritesRows (InsertOr at how from clauses) = ⊤
+WritesRows (Update at q) = ⊤
+WritesRows (Delete at q) = ⊤
+WritesRows _ = ⊥
+
+-- it begins or ends a transaction, and writes no row
+abbrev pub WritesNothing : Command → Type 0
+WritesNothing Begin = ⊤
+WritesNothing Commit = ⊤
+WritesNothing Rollback = ⊤
+WritesNothing _ = ⊥
+
+-- a statement of the archive's schema, of so many parameters, that writes rows and shows none
+pub record Knows (st : Statement) : Type 0 where
+  pub fits : Fits st.sql (length st.given) (understood archive_schema st.sql)
+  pub plain : IsPlain (understood archive_schema st.sql)
+  pub writes : WritesRows (command_of (understood archive_schema st.sql))
+
+is_placed : (s : State) (k : Command) (e : Error) → WritesRows k → ¬ IsMisplaced s k e
+is_placed s k e ours (inl it) = elim it.1 [
+  | inl begin ↦ subst WritesRows begin.0 ours
+  | inr ends ↦ elim ends.0 [ inl commit ↦ subst WritesRows commit ours | inr back ↦ subst WritesRows back ours ]
+]
+is_placed s k e ours (inr it) = elim it.2 [ inl release ↦ subst WritesRows release ours | inr to ↦ subst WritesRows to ours ]
+
+pub runs_write : (old new : State) (how : Option Returning) (k : Command) (text : List ℕ) (full : Row) (count : ℕ) → WritesRows k → Runs old new how k text full count → Writes old new how k text full count
+runs_write old new how (Insert at from) text full count ours w = w
+runs_write old new how (InsertOr at way from clauses) text full count ours w = w
+runs_write old new how (Update at q) text full count ours w = w
+runs_write old new how (Delete at q) text full count ours w = w
+runs_write old new how _ text full count ours w = absurd ours
+
+pub shows_nothing : (k : Command) (how : Option Returning) → WritesRows k → how ≡ None → (is_query k || (not false && (is_pragma k || is_some how))) ≡ false
+shows_nothing (Insert at from) how ours none = rw none
+shows_nothing (InsertOr at way from clauses) how ours none = rw none
+shows_nothing (Update at q) how ours none = rw none
+shows_nothing (Delete at q) how ours none = rw none
+shows_nothing _ how ours none = absurd ours
+
+-- ---- a write on tables that are held
+
+fails_or_big : (old new : State) (big : Type 0) (e : Error) → IsTrue old.is_open → Fails old new big e → IsCaused old new e ⊎ big
+fails_or_big old new big e up (OutOfMemory, is, why, back, tells) = inl (inl is)
+fails_or_big old new big e up (Io, is, why, back, tells) = inl (inr why)
+fails_or_big old new big e up (Corrupt, is, why, back, tells) = inl (inr why)
+fails_or_big old new big e up (Full, is, why, back, tells) = inl (inr why)
+fails_or_big old new big e up (Broken, is, why, back, tells) = absurd (let bad = sym up ∙ why in cc)
+fails_or_big old new big e up (Unstorable, is, why, back, tells) = inr why
+
+module _ (st : Statement) (knows : Knows st) (old new : State) {behind : Option Database} (k : IsHeld behind old) (free : old.step_limit ≡ None) where
+  in_schema : (P : Result Compiled CompileError → Type 0) → P (understood archive_schema st.sql) → P (understood old.now.schema st.sql)
+  in_schema P it = subst (λ s. P (understood s st.sql)) (sym k.schema) it
+
+  -- what is said of the compiled text is said of the statement
+  said : (c : Compiled) (full : Row) (out : Result (Tally × Database) (Option Error)) → understood old.now.schema st.sql ≡ Ok c → full ≡ st.given
+      → Does old.step_limit (mode_of old) full old.now (text_of st.sql c) c.returning c.command out → MayEnd st old.now out
+  said c full out is given it = rw is (rw (free, given) at it)
+
+  pub write_fails_by : (e : Error) → Executes st.sql st.given old new (Err e) → IsCaused old new e ⊎ IsRefused st old.now
+  unfolding ExecutesIn IsNotRun
+  write_fails_by e (inl (inl refused)) = absurd (no_statement old st.sql st.given e (in_schema (Fits st.sql (length st.given)) knows.fits) (in_schema IsPlain knows.plain) refused.0)
+  write_fails_by e (inl (inr failed)) = inl (fails_by old new e k.is_open failed)
+  write_fails_by e (inr ran) =
+      let c = ran.0 in
+      let bare = subst IsPlain ran.1.is (in_schema IsPlain knows.plain) in
+      let ours = subst (λ r. WritesRows (command_of r)) ran.1.is (in_schema (λ r. WritesRows (command_of r)) knows.writes) in
+      let full : timed st.given c.formats ran.1.now ≡ st.given = rw (bare.1, append-nil st.given) refl in
+      let silent : shows_rows false c ≡ false = shows_nothing c.command c.returning ours bare.0 in
+      elim (rw silent at ran.2) [
+        | inl refused ↦ elim refused.0 [
+          | inl misplaced ↦ absurd (is_placed old c.command e ours misplaced)
+          | inr may ↦ inr (Some e, said c _ (Err (Some e)) ran.1.is full may.1)
+        ]
+        | inr failed ↦ elim (fails_or_big old new _ e k.is_open failed) [ inl why ↦ inl why | inr big ↦ inr (None, said c _ (Err None) ran.1.is full big) ]
+      ]
+
+  pub write_makes : (count : ℕ) → Executes st.sql st.given old new (Ok count) → IsCarriedOut st old.now new.now
+  unfolding ExecutesIn
+  write_makes count ran =
+      let c = ran.0 in
+      let bare = subst IsPlain ran.1.is (in_schema IsPlain knows.plain) in
+      let ours = subst (λ r. WritesRows (command_of r)) ran.1.is (in_schema (λ r. WritesRows (command_of r)) knows.writes) in
+      let full : timed st.given c.formats ran.1.now ≡ st.given = rw (bare.1, append-nil st.given) refl in
+      let silent : shows_rows false c ≡ false = shows_nothing c.command c.returning ours bare.0 in
+      let w = runs_write old new c.returning c.command _ _ count ours (rw silent at ran.2) in
+      (w.tally, said c _ (Ok (w.tally, new.now)) ran.1.is full w.changed)
+
+  pub write_fails : (r : Result ℕ Error) → Executes st.sql st.given old new r → IfErr r (λ e. IsCaused old new e ⊎ IsRefused st old.now)
+  write_fails (Ok count) h = tt
+  write_fails (Err e) h = write_fails_by e h
+
+  pub write_carries_out : (r : Result ℕ Error) → Executes st.sql st.given old new r → OnOk r (IsCarriedOut st old.now new.now)
+  write_carries_out (Ok count) h = write_makes count h
+  write_carries_out (Err e) h = tt
+
+-- ---- BEGIN, COMMIT and ROLLBACK, whatever the schema is
+
+no_write : (k : Command) → WritesNothing k → ¬ IsWrite k
+no_write Begin ours it = it
+no_write Commit ours it = it
+no_write Rollback ours it = it
+no_write _ ours it = absurd ours
+
+never_big : (limit : Option ℕ) (mode : Mode) (full : Row) (db : Database) (text : List ℕ) (k : Command) → WritesNothing k → ¬ Does limit mode full db text None k (Err None)
+never_big limit mode full db text Begin ours h = absurd cc
+never_big limit mode full db text Commit ours h = absurd cc
+never_big limit mode full db text Rollback ours h = absurd cc
+never_big limit mode full db text _ ours h = absurd ours
+
+silent_too : (k : Command) (how : Option Returning) → WritesNothing k → how ≡ None → (is_query k || (not false && (is_pragma k || is_some how))) ≡ false
+silent_too Begin how ours none = rw none
+silent_too Commit how ours none = rw none
+silent_too Rollback how ours none = rw none
+silent_too _ how ours none = absurd ours
+
+module _ (sql : List ℕ) (k : Command) (is : (schema : Schema) → command_of (understood schema sql) ≡ k) (plain : (schema : Schema) → IsPlain (understood schema sql))
+    (fits : (schema : Schema) → Fits sql 0 (understood schema sql)) (ours : WritesNothing k) (old new : State) (up : IsTrue old.is_open) (placed : (e : Error) → ¬ IsMisplaced old k e) where
+  transaction_fails_by : (e : Error) → Executes sql [] old new (Err e) → IsCaused old new e
+  unfolding ExecutesIn IsNotRun
+  transaction_fails_by e (inl (inl refused)) = absurd (no_statement old sql [] e (fits old.now.schema) (plain old.now.schema) refused.0)
+  transaction_fails_by e (inl (inr failed)) = fails_by old new e up failed
+  transaction_fails_by e (inr ran) =
+      let c = ran.0 in
+      let which : c.command ≡ k = sym (ap command_of ran.1.is) ∙ is old.now.schema in
+      let mine = subst WritesNothing (sym which) ours in
+      let none = (subst IsPlain ran.1.is (plain old.now.schema)).0 in
+      let silent : shows_rows false c ≡ false = silent_too c.command c.returning mine none in
+      elim (rw silent at ran.2) [
+        | inl refused ↦ elim refused.0 [
+          | inl misplaced ↦ absurd (placed e (subst (λ j. IsMisplaced old j e) which misplaced))
+          | inr may ↦ elim may.0 [ inl write ↦ absurd (no_write c.command mine write) | inr shows ↦ absurd (let some = subst IsSome none shows in cc) ]
+        ]
+        | inr failed ↦ elim (fails_or_big old new _ e up failed) [
+          | inl why ↦ why
+          | inr big ↦ absurd (never_big old.step_limit (mode_of old) _ old.now (text_of sql c) c.command mine (rw none at big))
+        ]
+      ]
+
+  pub transaction_fails : (r : Result ℕ Error) → Executes sql [] old new r → IfErr r (IsCaused old new)
+  transaction_fails (Ok count) h = tt
+  transaction_fails (Err e) h = transaction_fails_by e h
