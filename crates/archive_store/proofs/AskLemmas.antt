@@ -8,6 +8,7 @@ use Rattle.sqlite.specs.State.{HasCleanDisk}
 use Rattle.archive_machine.specs.Records.{Archive}
 use Rattle.archive_tables.specs.Tables.{IsKept, archive_of}
 use Rattle.archive_tables.specs.Calls.{Asks, Writes, Changes, Rests}
+use Rattle.archive_tables.specs.Statements.{Statement}
 
 module _ {S A : Type 0} {g : Ghosts S} {old new : Held S} where
   -- a question that is answered, or not
@@ -20,10 +21,10 @@ module _ {S A : Type 0} {g : Ghosts S} {old new : Held S} where
   unanswered asks clean kept = asks.over clean None kept
 
   -- a write that is done, or not
-  pub written : {a : A} {change : Archive → Archive} → Writes g old new (Ok a) (λ _. ⊤) change → HasCleanDisk (state g new) → IsKept (state g old)
+  pub written : {a : A} {change : Archive → Archive} {statement : Statement} → Writes g old new (Ok a) (λ _. ⊤) change statement → HasCleanDisk (state g new) → IsKept (state g old)
       → Changes (state g old) (state g new) change
   written writes clean kept = writes.over clean None kept tt
 
-  pub unwritten : {e : Error} {Needs : Archive → Type 0} {change : Archive → Archive} → (let r : Result A Error = Err e in Writes g old new r Needs change) → HasCleanDisk (state g new) → IsKept (state g old)
+  pub unwritten : {e : Error} {Needs : Archive → Type 0} {change : Archive → Archive} {statement : Statement} → (let r : Result A Error = Err e in Writes g old new r Needs change statement) → HasCleanDisk (state g new) → IsKept (state g old)
       → Rests (state g old) (state g new)
   unwritten writes clean kept = writes.over clean None kept

@@ -20,7 +20,7 @@ use Rattle.archive_tables.specs.Tables.{IsHeld, IsKept, archive_of}
 use Rattle.archive_tables.specs.Calls.{ChangesOver, Rests, RestsOver, StaysOver, IsHeldOrBack}
 use Rattle.archive_store.specs.Batches.{IsCounted, AddsTo, HasTaken, IsAfter, IsFullAt, IsRefusedAt, text_bytes, tally_of}
 use Rattle.archive_store.specs.Replies.{refusal, Steps, says_added}
-use Rattle.archive_store.specs.declared.batches.Report.{Report}
+use Rattle.archive_store.specs.declared.batches.AddReport.{AddReport}
 use Rattle.archive_store.specs.declared.faults.StoreFault.{StoreFault}
 use Rattle.archive_store.specs.declared.words.Added.{Added}
 use Rattle.archive_store.proofs.StepEquations.{add_known, add_full, add_new}
@@ -183,7 +183,7 @@ module _ (a : Archive) (list : List ℕ) (items : List Item) (i : ℕ) (item : I
 same_tally : (n k l n' k' l' : ℕ) → n ≡ n' → k ≡ k' → l ≡ l' → tally_is n k l ≡ tally_is n' k' l'
 same_tally n k l n' k' l' e f g = λ i. tally_is (e i) (f i) (g i)
 
-module _ (r : Report) (replies : List Reply) (t : tally_of r ≡ tally replies) where
+module _ (r : AddReport) (replies : List Reply) (t : tally_of r ≡ tally replies) where
   pub told_new : tally_is (r.new + 1) r.known r.too_large ≡ tally (replies ++ taken_in ∷ [])
   told_new = same_tally _ _ _ _ _ _
       (ap (λ (x : Tally). x.new + 1) t ∙ sym (counted_more is_new replies taken_in refl))
@@ -204,13 +204,13 @@ module _ (r : Report) (replies : List Reply) (t : tally_of r ≡ tally replies) 
 
 -- ---- one item more
 
-module _ (behind : Option Database) (mid new : State) (a : Archive) (list : List ℕ) (items : List Item) (i before after : ℕ) (item : Item) (told : Report)
+module _ (behind : Option Database) (mid new : State) (a : Archive) (list : List ℕ) (items : List Item) (i before after : ℕ) (item : Item) (told : AddReport)
     (so_far : HasTaken behind mid a list (take i items) before told) (within : i < length items) (is : item ≡ get_or items i item) where
   -- the machine's answer
   answer_is : (reply : Reply) → AddsTo behind mid new list item after reply → reply ≡ (added_within message_limit (taken a list (take i items)).archive list item).1
   answer_is reply adds = ap (λ (p : Outcome). p.1) adds.1 ∙ ap (λ x. (added_within message_limit x list item).1) so_far.archive_is
 
-  pub one_taken : (reply : Reply) (telling : Report) → AddsTo behind mid new list item after reply
+  pub one_taken : (reply : Reply) (telling : AddReport) → AddsTo behind mid new list item after reply
       → tally_of telling ≡ tally ((taken a list (take i items)).replies ++ reply ∷ []) → HasTaken behind new a list (take (i + 1) items) after telling
   one_taken reply telling adds tells = record {
     held = adds.0;
@@ -241,7 +241,7 @@ held_or_back db old new rests up = elim (rests up) [ inl held ↦ inl held.0 | i
 -- ---- transactions one after the other
 
 -- the same archive, over something else
-pub stays_taken : (before after : Option Database) (old new : State) (a : Archive) (list : List ℕ) (items : List Item) (count : ℕ) (told : Report)
+pub stays_taken : (before after : Option Database) (old new : State) (a : Archive) (list : List ℕ) (items : List Item) (count : ℕ) (told : AddReport)
     → HasTaken before old a list items count told → StaysOver after old new → HasTaken after new a list items count told
 stays_taken before after old new a list items count told t stays = record {
   held = stays.0;
@@ -250,7 +250,7 @@ stays_taken before after old new a list items count told t stays = record {
   told = t.told;
 }
 
-abbrev pub no_report : Report
+abbrev pub no_report : AddReport
 no_report = record { new = 0; known = 0; too_large = 0 }
 
 no_replies : (a : Archive) → tally_of no_report ≡ tally (run a []).replies

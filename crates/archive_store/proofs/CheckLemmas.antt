@@ -4,18 +4,21 @@ use Rattle.std.specs.Prelude.{⊤, IfErr}
 use Rattle.std.specs.Result.{IsErrAnd}
 use Rattle.std.specs.List.{All}
 use Rattle.std.proofs.lemmas.List.{drop_more, drop_all}
-use Rattle.std.proofs.lemmas.List.Elements.{All-nil, All-push}
-use Rattle.archive_machine.specs.Filing.{Filed, filed}
-use Rattle.archive_machine.specs.Damage.{IsSoundFiled, IsWhole, IsFirstDamaged, by_list}
+use Rattle.std.specs.Prelude.{zip}
+use Rattle.std.proofs.lemmas.List.Elements.{All-nil, All-push, All-cons, All-head, All-tail}
+use Rattle.archive_machine.specs.Records.{Message, Filing}
+use Rattle.archive_machine.specs.Sound.{IsSoundMessage}
+use Rattle.archive_machine.specs.Filing.{Filed, filed, message_filing}
+use Rattle.archive_machine.specs.Damage.{IsSoundFiled, IsFirstDamaged, by_list}
 use Rattle.archive_machine.proofs.ListedLemmas.{whole_in_order}
 use Rattle.sqlite.specs.Effect.{Database}
 use Rattle.sqlite.specs.Store.{Ghosts}
-use Rattle.archive_tables.specs.Tables.{archive_in}
+use Rattle.archive_tables.specs.Tables.{archive_in, message_read, filing_read}
 use Rattle.archive_tables.specs.Listed.{all_places, filed_at}
 use Rattle.archive_tables.proofs.ListedLemmas.{walked_all}
 use Rattle.archive_store.specs.Told.{HoldsTables, IsOpen, HasReturned, Lasts, archive_in as now_holds}
 use Rattle.archive_store.specs.Walking.{rows_of}
-use Rattle.archive_store.specs.Checking.{Checks, RowsStay}
+use Rattle.archive_store.specs.Checking.{Checks, IsFoundWhole, RowsStay}
 use Rattle.archive_store.specs.declared.checking.CheckStop.{CheckStop}
 use Rattle.archive_store.specs.declared.checking.CheckStop.TheVariants.{Failed}
 use Rattle.archive_store.specs.declared.faults.StoreFault.{StoreFault}
@@ -46,6 +49,24 @@ nothing_more (f ∷ fs) = ap (λ gs. f ∷ gs) (nothing_more fs)
 one_more : (before : List Filed) (it : Filed) (rest : List Filed) → (before ++ it ∷ []) ++ rest ≡ before ++ it ∷ rest
 one_more [] it rest = refl
 one_more (f ∷ before) it rest = ap (λ fs. f ∷ fs) (one_more before it rest)
+
+-- ---- rows of which each is sound, as the message that it remembers and what is filed of it
+
+module _ {R : Type 0} (message : R → Message) (filing : R → Filing) where
+  sound_of : (rows : List R) → All IsSoundFiled (zip (map message rows) (map filing rows)) → All IsSoundMessage (map message rows)
+  sound_of [] all = All-nil IsSoundMessage
+  sound_of (r ∷ rows) all =
+      let first = All-head IsSoundFiled (message r, filing r) (zip (map message rows) (map filing rows)) all in
+      let rest = All-tail IsSoundFiled (message r, filing r) (zip (map message rows) (map filing rows)) all in
+      All-cons IsSoundMessage (message r) (map message rows) first.message (sound_of rows rest)
+
+  filed_of : (rows : List R) → All IsSoundFiled (zip (map message rows) (map filing rows)) → map filing rows ≡ map message_filing (map message rows)
+  filed_of [] all = refl
+  filed_of (r ∷ rows) all =
+      let first = All-head IsSoundFiled (message r, filing r) (zip (map message rows) (map filing rows)) all in
+      let rest = filed_of rows (All-tail IsSoundFiled (message r, filing r) (zip (map message rows) (map filing rows)) all) in
+      let same : filing r ≡ message_filing (message r) = first.filing in
+      cc
 
 module _ {S : Type 0} (g : Ghosts S) where
   pub same_archive : (old new : Store S) → RowsStay g old new → now_holds g new ≡ now_holds g old
@@ -110,11 +131,16 @@ module _ {S : Type 0} (g : Ghosts S) where
         };
       }
 
-  pub looked_all : (old now : Store S) (places : List ℤ) (at : ℕ) → HasLooked old now places at → length places ≤ at → IsWhole (now_holds g old)
+  pub looked_all : (old now : Store S) (places : List ℤ) (at : ℕ) → HasLooked old now places at → length places ≤ at → IsFoundWhole (now_holds g old)
   looked_all old now places at so_far past =
       let none = nothing_ahead (filed_at (rows_of g old)) places at so_far.left so_far.ahead past in
       let all : so_far.before ≡ by_list (filed (now_holds g old)) = sym (nothing_more so_far.before) ∙ ap (λ fs. so_far.before ++ fs) (sym none) ∙ so_far.joined in
-      whole_in_order (now_holds g old) (subst (All IsSoundFiled) all so_far.sound)
+      let whole = whole_in_order (now_holds g old) (subst (All IsSoundFiled) all so_far.sound) in
+      record {
+        whole = whole;
+        sound = sound_of message_read filing_read (rows_of g old 8) whole;
+        filed_right = filed_of message_read filing_read (rows_of g old 8) whole;
+      }
 
   -- ---- in the words for the layers above
 

@@ -5,13 +5,14 @@ use Rattle.sqlite.specs.Store.{Ghosts}
 use Rattle.archive_machine.specs.Records.{Archive}
 use Rattle.archive_machine.specs.Commands.{Refusal, Reply}
 use Rattle.archive_machine.specs.Machine.{Outcome}
-use Rattle.archive_machine.specs.Sound.{IsFiledRight}
+use Rattle.archive_machine.specs.Sound.{IsFiledRight, IsSound}
 use Rattle.archive_tables.proofs.LastLemmas.{lasts_then, lasts_same}
 use Rattle.archive_store.specs.Held.{held_of}
 use Rattle.archive_store.specs.declared.store.Store.{Store}
 use Rattle.archive_store.specs.declared.faults.StoreFault.{StoreFault}
+use Rattle.archive_store.specs.Checking.{Checks}
 use Rattle.archive_store.specs.Replies.{refusal, Answers, Does}
-use Rattle.archive_store.specs.Told.{HoldsTables, IsReady, Lasts, archive_in, GoesIn, GoesInIfOpen, CallsIn, AsksIn, Goes, GoesIfOpen, Calls, Asks}
+use Rattle.archive_store.specs.Told.{HasReturned, HoldsTables, IsReady, Lasts, archive_in, GoesIn, GoesInIfOpen, CallsIn, AsksIn, Goes, GoesIfOpen, Calls, Asks}
 
 module _ {S : Type 0} (g : Ghosts S) where
   -- ---- from any columns to right ones
@@ -19,6 +20,13 @@ module _ {S : Type 0} (g : Ghosts S) where
   -- what holds an archive in which what is filed is right
   pub ready_with : (store : Store S) (a : Archive) → HoldsTables g store → archive_in g store ≡ a → IsFiledRight a → IsReady g store
   ready_with store a held is right = record { held = held; filed_right = subst IsFiledRight (sym is) right }
+
+  -- who found a store whole may rely on it: it is ready, and each message is sound
+  pub ready_by_check : (old new : Store S) (u : Unit {0}) → Checks g old new (Ok u) → HasReturned g new → HoldsTables g old → IsReady g new × IsSound (archive_in g new)
+  ready_by_check old new u checks returned held =
+      let it = checks.1 returned held in
+      let whole = it.1.1 in
+      (ready_with new (archive_in g old) it.0 it.1.0 whole.filed_right, subst IsSound (sym it.1.0) whole.sound)
 
   module _ (old new : Store S) where
     module _ (R : Archive → Archive → Type 0) (keeps : (a b : Archive) → R a b → IsFiledRight a → IsFiledRight b) where

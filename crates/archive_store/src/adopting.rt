@@ -29,7 +29,8 @@ pub struct AdoptStop<S: Alter> {
 impl Store<MemStore> {
     /// A store in memory, with nothing in it.
     pub fn open_in_memory(alloc: Global) -> Result<Store<MemStore>, StoreFault>
-        ensures made { IfOk result (λ store. HasCleanDisk (state over_memory (held_of store)) → IsKept (state over_memory (held_of store))
+        ensures made { IfOk result (λ store. HasCleanDisk (state over_memory (held_of store))
+            → IsKept (state over_memory (held_of store))
             × (archive_of (state over_memory (held_of store)) ≡ empty_archive)) }
         ensures unlimited { IfOk result (λ store. HasNoLimit over_memory store) }
         ensures fault { IfErr result (λ fault. refusal fault ≡ None) }

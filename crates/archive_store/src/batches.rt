@@ -25,7 +25,7 @@ const BYTES_AT_ONCE: usize = 8_388_608;
 
 /// What became of messages that were added: how many were new on the list, how many it held, and how many are too large.
 #[derive(Clone, Copy, Debug, PartialEq, Eq)]
-pub struct Report {
+pub struct AddReport {
     /// Messages that the list did not hold.
     pub new: usize,
     /// Messages that it held.
@@ -46,7 +46,7 @@ pub struct AddStop {
 
 /// Messages for a list, with the allocator that serves while they are added.
 #[derive(Clone, Copy)]
-struct Intake<'l, 'i, 't> {
+struct Additions<'l, 'i, 't> {
     alloc: Global,
     list: &'l str,
     items: &'i [Item<'t>],
@@ -68,26 +68,28 @@ impl<S: Alter> Store<S> {
         alloc: Global,
         list: &str,
         items: &[Item<'_>],
-    ) -> Result<Report, AddStop>
-        ensures step { AddsAll S.Store (held_of self.old) (held_of self.new) result list.now items.entry.now }
+    ) -> Result<AddReport, AddStop>
+        ensures step { AddsAll S.Store (held_of self.old)
+            (held_of self.new) result list.now items.entry.now }
         ensures total { IfOk result (λ report. told_in report ≡ length items.entry.now) }
         ensures bound { IfErr result (λ stop. stop.done ≤ length items.entry.now) }
-        ensures ends { Ends S.Store self.old self.new (with_fault (λ stop. stop.fault) result) (no_list ∷ list_full ∷ []) }
+        ensures ends { Ends S.Store self.old self.new (with_fault (λ stop. stop.fault) result)
+            (no_list ∷ list_full ∷ []) }
     {
-        let intake = Intake { alloc, list, items };
+        let additions = Additions { alloc, list, items };
         let mut done = 0;
         let mut count = match self.count(list) {
             Ok(count) => count,
             Err(fault) => return Err(AddStop { done, fault }),
         };
-        let mut report = Report {
+        let mut report = AddReport {
             new: 0,
             known: 0,
             too_large: 0,
         };
         while done < items.len() {
             let to = batch_end(items, done);
-            match add_batch(self, &intake, done, to, &mut count, &mut report) {
+            match add_batch(self, &additions, done, to, &mut count, &mut report) {
                 Ok(at) => {
                     done = at;
                     if at < to {
@@ -113,7 +115,8 @@ fn batch_end(items: &[Item<'_>], from: usize) -> usize
     ensures more { from < result }
     ensures within { result ≤ length items.now }
     ensures few { result ≤ from + MESSAGES_AT_ONCE }
-    ensures small { (text_bytes (take result items.now) ≤ text_bytes (take from items.now) + BYTES_AT_ONCE)
+    ensures small { (text_bytes (take result items.now) ≤ text_bytes
+        (take from items.now) + BYTES_AT_ONCE)
         ⊎ (text_bytes (take result items.now) ≤ text_bytes (take (from + 1) items.now)) }
 {
     let mut room = BYTES_AT_ONCE.saturating_sub(text_len(&items[from]));
@@ -138,20 +141,21 @@ fn text_len(item: &Item<'_>) -> usize
 /// Adds messages in a transaction of their own, until the list is full: the place that it came to.
 fn add_batch<S: Alter>(
     store: &mut Store<S>,
-    intake: &Intake<'_, '_, '_>,
+    additions: &Additions<'_, '_, '_>,
     from: usize,
     to: usize,
     count: &mut usize,
-    report: &mut Report,
+    report: &mut AddReport,
 ) -> Result<usize, StoreFault>
-    requires begins { BeginsAt intake.now.items.now from to report.now }
-    ensures step { AddsBatch S.Store (held_of store.old) (held_of store.new) result intake.now.list.now intake.now.items.now from to count.old report.entry.now count.new report.exit.now }
+    requires begins { BeginsAt additions.now.items.now from to report.now }
+    ensures step { AddsBatch S.Store (held_of store.old)
+        (held_of store.new) result additions.now.list.now additions.now.items.now from to count.old report.entry.now count.new report.exit.now }
     ensures came { EndsAt result from to report.exit.now }
     ensures ends { EndsUnrefused S.Store store.old store.new result }
 {
     let begun = texts::schema::begin(&mut store.conn);
     store.wants.pass(begun)?;
-    match add_some(store, intake, from, to, count, report) {
+    match add_some(store, additions, from, to, count, report) {
         Ok(at) => {
             let committed = texts::schema::commit(&mut store.conn);
             match store.wants.pass(committed) {
@@ -172,21 +176,22 @@ fn add_batch<S: Alter>(
 /// Adds messages one after the other, until the list is full: the place that it came to.
 fn add_some<S: Alter>(
     store: &mut Store<S>,
-    intake: &Intake<'_, '_, '_>,
+    additions: &Additions<'_, '_, '_>,
     from: usize,
     to: usize,
     count: &mut usize,
-    report: &mut Report,
+    report: &mut AddReport,
 ) -> Result<usize, StoreFault>
-    requires begins { BeginsAt intake.now.items.now from to report.now }
-    ensures step { AddsSome S.Store (held_of store.old) (held_of store.new) result intake.now.list.now intake.now.items.now from to count.old report.entry.now count.new report.exit.now }
+    requires begins { BeginsAt additions.now.items.now from to report.now }
+    ensures step { AddsSome S.Store (held_of store.old)
+        (held_of store.new) result additions.now.list.now additions.now.items.now from to count.old report.entry.now count.new report.exit.now }
     ensures came { EndsAt result from to report.exit.now }
     ensures ends { EndsUnrefused S.Store store.old store.new result }
 {
     let mut at = from;
     while at < to {
-        let item = &intake.items[at];
-        match add_counted(store, intake.alloc, intake.list, item, count)? {
+        let item = &additions.items[at];
+        match add_counted(store, additions.alloc, additions.list, item, count)? {
             Taken::New => report.new += 1,
             Taken::Known => report.known += 1,
             Taken::TooLarge => report.too_large += 1,
@@ -205,7 +210,8 @@ pub(crate) fn add_counted<S: Alter>(
     item: &Item<'_>,
     count: &mut usize,
 ) -> Result<Taken, StoreFault>
-    ensures step { AddsOne S.Store (held_of store.old) (held_of store.new) result list.now item.now count.old count.new }
+    ensures step { AddsOne S.Store (held_of store.old)
+        (held_of store.new) result list.now item.now count.old count.new }
     ensures uncounted { IfErr result (λ _. count.new ≡ count.old) }
     ensures ends { EndsUnrefused S.Store store.old store.new result }
 {

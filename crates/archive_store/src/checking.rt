@@ -46,10 +46,13 @@ impl<S: Alter> Store<S> {
     /// filed by what the text says. E16 where one is not so. It holds the numbers of all messages, and one text at a time.
     pub fn check(&mut self, alloc: Global) -> Result<(), CheckStop>
         ensures checked { Checks S.Store self.old self.new result }
-        ensures fault { IfErr result (λ stop. (fault : StoreFault) → stop ≡ Failed fault → refusal fault ≡ None) }
+        ensures fault { IfErr result (λ stop. (fault : StoreFault) → stop ≡ Failed fault
+            → refusal fault ≡ None) }
         ensures was_open { AnswersOpen S.Store (held_of self.old) (held_of self.new) result }
-        ensures caused { HasReturned S.Store self.new → HoldsTables S.Store self.old → HasNoLimit S.Store self.old
-            → IfErr result (λ stop. stop ≡ Failed StoreFault.Store → HasFailed S.Store self.old self.new) }
+        ensures caused { HasReturned S.Store self.new → HoldsTables S.Store self.old
+            → HasNoLimit S.Store self.old
+            → IfErr result (λ stop. stop ≡ Failed StoreFault.Store
+            → HasFailed S.Store self.old self.new) }
         ensures counted { Counts (λ stop. stop ≡ Failed StoreFault.Memory) self.old self.new result }
     {
         let places = find_all_places(self, alloc)?;

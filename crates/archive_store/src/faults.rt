@@ -2,6 +2,7 @@
 ghost use Rattle.archive_store.specs.Replies.{refusal, fault_of, fault_in};
 ghost use Rattle.archive_store.specs.declared.faults.StoreFault.TheVariants.{Memory};
 
+use crate::wants::Refused;
 use archive_database::Fault;
 use std::alloc::{AllocError, AllocFailed};
 use std::error::Error;
@@ -65,6 +66,16 @@ impl From<Fault> for StoreFault {
             Fault::Memory => StoreFault::Memory,
             Fault::Database => StoreFault::Store,
         }
+    }
+}
+
+impl From<Refused> for StoreFault {
+    ghost use Rattle.std.specs.Prelude.{◌≡◌};
+
+    ghost from_gives = { λ _ fault. fault ≡ Memory };
+
+    fn from(_refused: Refused) -> StoreFault {
+        StoreFault::Memory
     }
 }
 

@@ -10,7 +10,8 @@ use sqlite::Alter;
 impl<S: Alter> Store<S> {
     ghost use Rattle.archive_machine.specs.Machine.{granted, revoked};
     ghost use Rattle.archive_store.specs.Held.{held_of};
-    ghost use Rattle.archive_store.specs.Told.{Ends};
+    ghost use Rattle.archive_store.specs.Told.{Ends, EndsOr};
+    ghost use Rattle.archive_tables.specs.Statements.{IsRefused, removing_grant};
     ghost use Rattle.policy_core.specs.Numbers.{kind_rank};
     ghost use Rattle.archive_machine.specs.Commands.{no_person, no_list, bad_days};
     ghost use Rattle.archive_store.specs.Replies.{Does, says_done, says_whether};
@@ -58,8 +59,10 @@ impl<S: Alter> Store<S> {
     /// Takes a grant away, and says whether it was there. E6 where there is no such person, E4 where there is no such
     /// list.
     pub fn revoke(&mut self, person: &str, list: &str, kind: Kind) -> Result<bool, StoreFault>
-        ensures step { Does S.Store (held_of self.old) (held_of self.new) (λ a. revoked a person.now list.now (kind_rank kind)) (says_whether result) }
-        ensures ends { Ends S.Store self.old self.new result (no_person ∷ no_list ∷ []) }
+        ensures step { Does S.Store (held_of self.old) (held_of self.new)
+            (λ a. revoked a person.now list.now (kind_rank kind)) (says_whether result) }
+        ensures ends { EndsOr S.Store self.old self.new result (no_person ∷ no_list ∷ [])
+            (IsRefused (removing_grant person.now list.now (kind_rank kind))) }
     {
         let known = texts::persons::has_person(&mut self.conn, person);
         if !self.wants.pass(known)? {

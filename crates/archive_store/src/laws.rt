@@ -21,16 +21,21 @@ use sqlite_disk::Disk;
 /// disk has returned what was written to it (`close_files`), a connection that is opened from these files (`open_files`)
 /// holds it. It is so over any disk that keeps the clauses of `Disk`.
 pub fn a_file_opened_again_holds_the_same_archive<D: Disk>()
-    ensures { (old new : Held (FileStore D D.Disk)) (files : Files D) (archive : Archive) → HoldsArchive over_files old archive → IsLive (file_state old)
-        → (AreClean D.Disk files.log files.db → IsCopied old files) → Finds files new → IsOpened new → HoldsArchive over_files new archive }
+    ensures { (old new : Held (FileStore D D.Disk)) (files : Files D) (archive : Archive)
+        → HoldsArchive over_files old archive → IsLive (file_state old)
+        → (AreClean D.Disk files.log files.db → IsCopied old files) → Finds files new → IsOpened new
+        → HoldsArchive over_files new archive }
 {}
 
 /// In memory nothing shuts a store that is open, whatever a call answers: so each call is followed by the next.
 pub fn in_memory_an_open_store_stays_open()
-    ensures { (old new : Store MemStore) → Lasts over_memory old new → IsOpen over_memory old → IsOpen over_memory new }
+    ensures { (old new : Store MemStore) → Lasts over_memory old new → IsOpen over_memory old
+        → IsOpen over_memory new }
 {}
 
 /// Over a disk too, unless the disk failed or refused once more in that call.
 pub fn an_open_store_stays_open_unless_its_disk_fails<S: Alter>()
-    ensures { (old new : Store S) → Lasts S.Store old new → HasReturned S.Store new → IsOpen S.Store old → IsOpen S.Store new ⊎ MoreFaults (faults_of S.Store old) (faults_of S.Store new) }
+    ensures { (old new : Store S) → Lasts S.Store old new → HasReturned S.Store new
+        → IsOpen S.Store old → IsOpen S.Store new
+        ⊎ MoreFaults (faults_of S.Store old) (faults_of S.Store new) }
 {}

@@ -27,7 +27,8 @@ pub fn add_limited<S: Alter>(
     item: &Item<'_>,
     limit: u32,
 ) -> Result<Added, StoreFault>
-    ensures step { Does S.Store (held_of store.old) (held_of store.new) (λ a. added_within limit a list.now item.now) (says_added result) }
+    ensures step { Does S.Store (held_of store.old) (held_of store.new)
+        (λ a. added_within limit a list.now item.now) (says_added result) }
     ensures ends { Ends S.Store store.old store.new result (no_list ∷ too_large ∷ list_full ∷ []) }
 {
     if !store.has_list(list)? {

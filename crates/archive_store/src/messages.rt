@@ -20,7 +20,8 @@ impl<S: Alter> Store<S> {
     ghost use Rattle.std.specs.Prelude.{[], ◌∷◌, pos, Some, None};
     ghost use Rattle.archive_machine.specs.Machine.{message_limit, added_within, withdrawal, restored, held_back, lifted};
     ghost use Rattle.archive_store.specs.Held.{held_of};
-    ghost use Rattle.archive_store.specs.Told.{Ends};
+    ghost use Rattle.archive_store.specs.Told.{Ends, EndsOr};
+    ghost use Rattle.archive_tables.specs.Statements.{IsRefused, freeing, holding_back, withdrawing};
     ghost use Rattle.policy_core.specs.Numbers.{party_number};
     ghost use Rattle.archive_machine.specs.Commands.{no_list, no_message, already_withdrawn, not_withdrawn, too_large, list_full};
     ghost use Rattle.archive_store.specs.Replies.{Does, says_added, says_done, says_whether};
@@ -31,8 +32,10 @@ impl<S: Alter> Store<S> {
     /// holds 50,000 messages and not this one. Once a message of the archive has the number 50,000, each call counts the messages
     /// of its list, which takes some 30 ms where there are 50,000; `add_counted`, `add_all` and `run` count a list once.
     pub fn add(&mut self, alloc: Global, list: &str, item: &Item<'_>) -> Result<Added, StoreFault>
-        ensures step { Does S.Store (held_of self.old) (held_of self.new) (λ a. added_within message_limit a list.now item.now) (says_added result) }
-        ensures ends { Ends S.Store self.old self.new result (no_list ∷ too_large ∷ list_full ∷ []) }
+        ensures step { Does S.Store (held_of self.old) (held_of self.new)
+            (λ a. added_within message_limit a list.now item.now) (says_added result) }
+        ensures ends { Ends S.Store self.old self.new result
+            (no_list ∷ too_large ∷ list_full ∷ []) }
     {
         add_limited(self, alloc, list, item, MESSAGES)
     }
@@ -47,8 +50,10 @@ impl<S: Alter> Store<S> {
         item: &Item<'_>,
         count: &mut usize,
     ) -> Result<Added, StoreFault>
-        ensures step { AddsCounted S.Store (held_of self.old) (held_of self.new) result list.now item.now count.old count.new }
-        ensures ends { Ends S.Store self.old self.new result (no_list ∷ too_large ∷ list_full ∷ []) }
+        ensures step { AddsCounted S.Store (held_of self.old)
+            (held_of self.new) result list.now item.now count.old count.new }
+        ensures ends { Ends S.Store self.old self.new result
+            (no_list ∷ too_large ∷ list_full ∷ []) }
     {
         let listed = texts::lists::has_list(&mut self.conn, list);
         if !self.wants.pass(listed)? {
@@ -65,8 +70,11 @@ impl<S: Alter> Store<S> {
     /// Withdraws a message. E4 where there is no such list, E8 where it holds no such message, E9 where the message is
     /// withdrawn.
     pub fn withdraw(&mut self, list: &str, key: &Key, by: Party) -> Result<(), StoreFault>
-        ensures step { Does S.Store (held_of self.old) (held_of self.new) (λ a. withdrawal a list.now key.now (party_number by)) (says_done result) }
-        ensures ends { Ends S.Store self.old self.new result (no_list ∷ no_message ∷ already_withdrawn ∷ []) }
+        ensures step { Does S.Store (held_of self.old) (held_of self.new)
+            (λ a. withdrawal a list.now key.now (party_number by)) (says_done result) }
+        ensures ends { EndsOr S.Store self.old self.new result
+            (no_list ∷ no_message ∷ already_withdrawn ∷ [])
+            (IsRefused (withdrawing list.now key.now (party_number by))) }
     {
         let listed = texts::lists::has_list(&mut self.conn, list);
         if !self.wants.pass(listed)? {
@@ -88,8 +96,11 @@ impl<S: Alter> Store<S> {
     /// Takes the withdrawal of a message back. E4 where there is no such list, E8 where it holds no such message, E10
     /// where the message is not withdrawn.
     pub fn restore(&mut self, list: &str, key: &Key) -> Result<(), StoreFault>
-        ensures step { Does S.Store (held_of self.old) (held_of self.new) (λ a. restored a list.now key.now) (says_done result) }
-        ensures ends { Ends S.Store self.old self.new result (no_list ∷ no_message ∷ not_withdrawn ∷ []) }
+        ensures step { Does S.Store (held_of self.old) (held_of self.new)
+            (λ a. restored a list.now key.now) (says_done result) }
+        ensures ends { EndsOr S.Store self.old self.new result
+            (no_list ∷ no_message ∷ not_withdrawn ∷ [])
+            (IsRefused (withdrawing list.now key.now (pos 0))) }
     {
         let listed = texts::lists::has_list(&mut self.conn, list);
         if !self.wants.pass(listed)? {
@@ -111,8 +122,10 @@ impl<S: Alter> Store<S> {
     /// Holds a message back on the days before this one; an earlier embargo is replaced. E4 where there is no such list,
     /// E8 where it holds no such message.
     pub fn embargo(&mut self, list: &str, key: &Key, until: Day) -> Result<(), StoreFault>
-        ensures step { Does S.Store (held_of self.old) (held_of self.new) (λ a. held_back a list.now key.now until) (says_done result) }
-        ensures ends { Ends S.Store self.old self.new result (no_list ∷ no_message ∷ []) }
+        ensures step { Does S.Store (held_of self.old) (held_of self.new)
+            (λ a. held_back a list.now key.now until) (says_done result) }
+        ensures ends { EndsOr S.Store self.old self.new result (no_list ∷ no_message ∷ [])
+            (IsRefused (holding_back list.now key.now until)) }
     {
         let listed = texts::lists::has_list(&mut self.conn, list);
         if !self.wants.pass(listed)? {
@@ -131,8 +144,10 @@ impl<S: Alter> Store<S> {
     /// Takes the embargo of a message away, and says whether it had one. E4 where there is no such list, E8 where it
     /// holds no such message.
     pub fn lift(&mut self, list: &str, key: &Key) -> Result<bool, StoreFault>
-        ensures step { Does S.Store (held_of self.old) (held_of self.new) (λ a. lifted a list.now key.now) (says_whether result) }
-        ensures ends { Ends S.Store self.old self.new result (no_list ∷ no_message ∷ []) }
+        ensures step { Does S.Store (held_of self.old) (held_of self.new)
+            (λ a. lifted a list.now key.now) (says_whether result) }
+        ensures ends { EndsOr S.Store self.old self.new result (no_list ∷ no_message ∷ [])
+            (IsRefused (freeing list.now key.now)) }
     {
         let listed = texts::lists::has_list(&mut self.conn, list);
         if !self.wants.pass(listed)? {

@@ -21,14 +21,17 @@ impl<S: Alter> Store<S> {
     ghost use Rattle.archive_machine.specs.Machine.{merge_chosen, address_given};
     ghost use Rattle.archive_machine.specs.Questions.{merge_of, address_of, list_refusal, person_refusal};
     ghost use Rattle.archive_store.specs.Held.{held_of};
-    ghost use Rattle.archive_store.specs.Told.{Ends, EndsAsk, EndsAskOr};
+    ghost use Rattle.archive_store.specs.Told.{Ends, EndsAsk, EndsAskOr, EndsOr};
+    ghost use Rattle.archive_tables.specs.Statements.{IsRefused, changing_option};
     ghost use Rattle.archive_machine.specs.Commands.{no_list, no_person, bad_text};
     ghost use Rattle.archive_store.specs.Replies.{Does, Answers, says_done};
 
     /// Says whether the threads of a list are gathered by subject. E4 where there is no such list.
     pub fn merge_set(&mut self, list: &str, merge: bool) -> Result<(), StoreFault>
-        ensures step { Does S.Store (held_of self.old) (held_of self.new) (λ a. merge_chosen a list.now merge) (says_done result) }
-        ensures ends { Ends S.Store self.old self.new result (no_list ∷ []) }
+        ensures step { Does S.Store (held_of self.old) (held_of self.new)
+            (λ a. merge_chosen a list.now merge) (says_done result) }
+        ensures ends { EndsOr S.Store self.old self.new result (no_list ∷ [])
+            (IsRefused (changing_option (record { list = list.now; merge = merge }))) }
     {
         let listed = texts::lists::has_list(&mut self.conn, list);
         if !self.wants.pass(listed)? {
@@ -41,7 +44,8 @@ impl<S: Alter> Store<S> {
 
     /// Whether the threads of a list are gathered by subject. E4 where there is no such list.
     pub fn merge_of(&mut self, list: &str) -> Result<bool, StoreFault>
-        ensures answer { Answers S.Store (held_of self.old) (held_of self.new) result (λ a. list_refusal a list.now) (λ a merge. merge ≡ merge_of a list.now) }
+        ensures answer { Answers S.Store (held_of self.old) (held_of self.new) result
+            (λ a. list_refusal a list.now) (λ a merge. merge ≡ merge_of a list.now) }
         ensures ends { EndsAsk S.Store self.old self.new result (no_list ∷ []) }
     {
         let listed = texts::lists::has_list(&mut self.conn, list);
@@ -60,7 +64,8 @@ impl<S: Alter> Store<S> {
         person: &str,
         address: &str,
     ) -> Result<(), StoreFault>
-        ensures step { Does S.Store (held_of self.old) (held_of self.new) (λ a. address_given a person.now address.now) (says_done result) }
+        ensures step { Does S.Store (held_of self.old) (held_of self.new)
+            (λ a. address_given a person.now address.now) (says_done result) }
         ensures ends { Ends S.Store self.old self.new result (no_person ∷ bad_text ∷ []) }
     {
         let known = texts::persons::has_person(&mut self.conn, person);
@@ -72,7 +77,7 @@ impl<S: Alter> Store<S> {
         }
         let kept = match kept_address(alloc, address) {
             Ok(kept) => kept,
-            Err(_) => return Err(self.wants.refuse()),
+            Err(refused) => return Err(self.wants.refuse(refused.into())),
         };
         let put = put_address(&mut self.conn, person, &kept);
         self.wants.pass(put)?;
@@ -81,7 +86,8 @@ impl<S: Alter> Store<S> {
 
     /// The address of a person, who may have none. E6 where there is no such person.
     pub fn address(&mut self, person: &str) -> Result<Option<String>, StoreFault>
-        ensures answer { Answers S.Store (held_of self.old) (held_of self.new) result (λ a. person_refusal a person.now)
+        ensures answer { Answers S.Store (held_of self.old) (held_of self.new) result
+            (λ a. person_refusal a person.now)
             (λ a found. option_map string_bytes found ≡ address_of a person.now) }
         ensures ends { EndsAskOr S.Store self.old self.new result (no_person ∷ [])
             (λ a. IsSomeAnd (address_of a person.now) (λ address. ¬ IsUtf8 address)) }
@@ -101,9 +107,13 @@ fn put_address<S: Alter>(
     person: &str,
     address: &str,
 ) -> Result<usize, Error>
-    ensures put { HasCleanDisk (state S.Store conn.new) → IsKept (state S.Store conn.old) → MatchResult result
+    ensures put { HasCleanDisk (state S.Store conn.new) → IsKept (state S.Store conn.old)
+        → MatchResult result
         (λ _. Changes (state S.Store conn.old) (state S.Store conn.new)
-        (λ a. record a { addresses = with_address a (record { person = person.now; address = address.now }) }))
+        (λ a. record a {
+          addresses = with_address a
+              (record { person = person.now; address = address.now });
+        }))
         (λ _. Rests (state S.Store conn.old) (state S.Store conn.new)) }
     ensures lasts { Lasts (state S.Store conn.old) (state S.Store conn.new) }
     ensures was_open { AnswersOpen S.Store conn.old conn.new result }

@@ -12,14 +12,16 @@ use sqlite::Alter;
 impl<S: Alter> Store<S> {
     ghost use Rattle.archive_machine.specs.Machine.{list_added, person_added};
     ghost use Rattle.archive_store.specs.Held.{held_of};
-    ghost use Rattle.archive_store.specs.Told.{Ends};
+    ghost use Rattle.archive_store.specs.Told.{Ends, EndsOr};
+    ghost use Rattle.archive_tables.specs.Statements.{IsRefused, adding_person};
     ghost use Rattle.archive_machine.specs.Commands.{bad_name, bad_text, list_exists, person_exists, token_taken};
     ghost use Rattle.archive_store.specs.Replies.{Does, says_done};
     ghost use Rattle.std.specs.Prelude.{[], ◌∷◌};
 
     /// Adds a list, whose threads are gathered by subject. E1 where the name is none, E3 where the list is there.
     pub fn list_add(&mut self, name: &str) -> Result<(), StoreFault>
-        ensures step { Does S.Store (held_of self.old) (held_of self.new) (λ a. list_added a name.now) (says_done result) }
+        ensures step { Does S.Store (held_of self.old) (held_of self.new)
+            (λ a. list_added a name.now) (says_done result) }
         ensures ends { Ends S.Store self.old self.new result (bad_name ∷ list_exists ∷ []) }
     {
         if !is_name(name) {
@@ -37,8 +39,11 @@ impl<S: Alter> Store<S> {
     /// Adds a person. E1 where the name is none, E2 where the token is none, E5 where the person is there, E7 where the
     /// token is another person's.
     pub fn person_add(&mut self, name: &str, token: &str) -> Result<(), StoreFault>
-        ensures step { Does S.Store (held_of self.old) (held_of self.new) (λ a. person_added a name.now token.now) (says_done result) }
-        ensures ends { Ends S.Store self.old self.new result (bad_name ∷ bad_text ∷ person_exists ∷ token_taken ∷ []) }
+        ensures step { Does S.Store (held_of self.old) (held_of self.new)
+            (λ a. person_added a name.now token.now) (says_done result) }
+        ensures ends { EndsOr S.Store self.old self.new result
+            (bad_name ∷ bad_text ∷ person_exists ∷ token_taken ∷ [])
+            (IsRefused (adding_person (record { name = name.now; token = token.now }))) }
     {
         if !is_name(name) {
             return Err(StoreFault::BadName);

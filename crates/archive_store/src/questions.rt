@@ -35,10 +35,12 @@ impl<S: Alter> Store<S> {
     /// The standing of a person on a list and a day: the highest kind that a grant gives which holds on that day, and
     /// `Public` where none does. E6 where there is no such person, E4 where there is no such list.
     pub fn standing(&mut self, person: &str, list: &str, day: Day) -> Result<Standing, StoreFault>
-        ensures answer { Answers S.Store (held_of self.old) (held_of self.new) result (λ a. standing_refusal a person.now list.now)
+        ensures answer { Answers S.Store (held_of self.old) (held_of self.new) result
+            (λ a. standing_refusal a person.now list.now)
             (λ a standing. standing_rank standing ≡ standing_of a person.now list.now day) }
         ensures ends { EndsAskOr S.Store self.old self.new result (no_person ∷ no_list ∷ [])
-            (λ a. (standing : Standing) → standing_rank standing ≢ standing_of a person.now list.now day) }
+            (λ a. (standing : Standing)
+            → standing_rank standing ≢ standing_of a person.now list.now day) }
     {
         let known = texts::persons::has_person(&mut self.conn, person);
         if !self.wants.pass(known)? {

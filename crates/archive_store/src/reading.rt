@@ -22,7 +22,8 @@ impl<S: Alter> Store<S> {
 
     /// Whether there is a list of this name.
     pub fn has_list(&mut self, name: &str) -> Result<bool, StoreFault>
-        ensures answer { Answers S.Store (held_of self.old) (held_of self.new) result (λ _. None) (λ a found. found ≡ has_list a name.now) }
+        ensures answer { Answers S.Store (held_of self.old) (held_of self.new) result (λ _. None)
+            (λ a found. found ≡ has_list a name.now) }
         ensures ends { EndsAsk S.Store self.old self.new result [] }
         ensures was_open { WasOpen S.Store self.old self.new refusal result }
     {
@@ -43,7 +44,8 @@ impl<S: Alter> Store<S> {
 
     /// How many messages a list holds. E4 where there is no such list. It reads the number of each.
     pub fn count(&mut self, list: &str) -> Result<usize, StoreFault>
-        ensures answer { Answers S.Store (held_of self.old) (held_of self.new) result (λ a. list_refusal a list.now)
+        ensures answer { Answers S.Store (held_of self.old) (held_of self.new) result
+            (λ a. list_refusal a list.now)
             (λ a count. count ≡ length (messages_in a list.now)) }
         ensures ends { EndsAsk S.Store self.old self.new result (no_list ∷ []) }
     {
@@ -56,7 +58,8 @@ impl<S: Alter> Store<S> {
 
     /// The message of a list with a key, if the list holds it. E4 where there is no such list.
     pub fn row(&mut self, list: &str, key: &Key) -> Result<Option<Message>, StoreFault>
-        ensures answer { Answers S.Store (held_of self.old) (held_of self.new) result (λ a. list_refusal a list.now)
+        ensures answer { Answers S.Store (held_of self.old) (held_of self.new) result
+            (λ a. list_refusal a list.now)
             (λ a found. option_map (remembered list.now) found ≡ message_of a list.now key.now) }
         ensures ends { EndsAskOr S.Store self.old self.new result (no_list ∷ [])
             (λ a. IsSomeAnd (message_of a list.now key.now) (λ m. ¬ IsReadable m)) }

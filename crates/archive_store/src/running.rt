@@ -159,7 +159,8 @@ impl<S: Alter> Store<S> {
         list: &str,
         counted: Option<Counted<'_>>,
     ) -> Result<Option<usize>, StoreFault>
-        ensures found { FindsCount S.Store (held_of self.old) (held_of self.new) counted.entry list.now result }
+        ensures found { FindsCount S.Store (held_of self.old)
+            (held_of self.new) counted.entry list.now result }
         ensures lasts { StoreLasts S.Store self.old self.new }
         ensures wanted { Counts IsWant self.old self.new result }
     {
@@ -182,8 +183,10 @@ impl<S: Alter> Store<S> {
         item: &Item<'_>,
         counted: &mut Option<Counted<'a>>,
     ) -> Result<Added, StoreFault>
-        ensures step { DoesCounted S.Store (held_of self.old) (held_of self.new) counted.old (λ a. added_within message_limit a list.now item.now) (says_added result) }
-        ensures counted { IsCountedOn S.Store (held_of self.old) (held_of self.new) counted.old counted.new (says_added result) }
+        ensures step { DoesCounted S.Store (held_of self.old) (held_of self.new) counted.old
+            (λ a. added_within message_limit a list.now item.now) (says_added result) }
+        ensures counted { IsCountedOn S.Store (held_of self.old)
+            (held_of self.new) counted.old counted.new (says_added result) }
         ensures lasts { StoreLasts S.Store self.old self.new }
         ensures wanted { Counts IsWant self.old self.new result }
     {
@@ -208,8 +211,10 @@ impl<S: Alter> Store<S> {
         command: &Command<'a>,
         counted: &mut Option<Counted<'a>>,
     ) -> Result<Outcome, StoreFault>
-        ensures step { DoesCounted S.Store (held_of self.old) (held_of self.new) counted.old (λ a. step a (command_of command.now)) (carried result) }
-        ensures counted { CountsOn S.Store (held_of self.old) (held_of self.new) command.now counted.old counted.new (carried result) }
+        ensures step { DoesCounted S.Store (held_of self.old) (held_of self.new) counted.old
+            (λ a. step a (command_of command.now)) (carried result) }
+        ensures counted { CountsOn S.Store (held_of self.old)
+            (held_of self.new) command.now counted.old counted.new (carried result) }
         ensures told { IfOk result (λ outcome. is_some (answer_of outcome) ≡ true) }
         ensures ends { EndsUnrefused S.Store self.old self.new result }
     {
@@ -239,16 +244,18 @@ impl<S: Alter> Store<S> {
     /// Carries commands out one after the other, with the outcome of each. Room for the outcomes is made before the
     /// first command. Messages that are added to one list one after the other are counted once, where a list may be full.
     pub fn run(&mut self, alloc: Global, commands: &[Command<'_>]) -> Result<Vec<Outcome>, RunStop>
-        ensures step { Runs S.Store (held_of self.old) (held_of self.new) (map command_of commands.entry.now) result }
+        ensures step { Runs S.Store (held_of self.old) (held_of self.new)
+            (map command_of commands.entry.now) result }
         ensures bound { IfErr result (λ stop. stop.done ≤ length commands.entry.now) }
-        ensures ends { EndsUnrefused S.Store self.old self.new (with_fault (λ stop. stop.fault) result) }
+        ensures ends { EndsUnrefused S.Store self.old self.new
+            (with_fault (λ stop. stop.fault) result) }
     {
-        let Ok(mut outcomes) = Vec::with_capacity(alloc, commands.len()) else {
-            self.wants.raise();
-            return Err(RunStop {
-                done: 0,
-                fault: StoreFault::Memory,
-            });
+        let mut outcomes = match Vec::with_capacity(alloc, commands.len()) {
+            Ok(outcomes) => outcomes,
+            Err(refused) => {
+                let fault = self.wants.refuse(refused.into());
+                return Err(RunStop { done: 0, fault });
+            }
         };
         let mut counted = None;
         for command in commands.iter() {
@@ -257,12 +264,9 @@ impl<S: Alter> Store<S> {
                     let done = outcomes.len() + 1;
                     match outcomes.push(outcome) {
                         Ok(()) => {}
-                        Err(_) => {
-                            self.wants.raise();
-                            return Err(RunStop {
-                                done,
-                                fault: StoreFault::Memory,
-                            });
+                        Err(refused) => {
+                            let fault = self.wants.refuse(refused.into());
+                            return Err(RunStop { done, fault });
                         }
                     }
                 }

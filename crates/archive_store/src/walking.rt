@@ -1,19 +1,19 @@
 //! Walks over the messages of a list.
-ghost use Rattle.std.specs.Prelude.{◌≡◌, ◌+◌, ◌∷◌, [], map, slice_get, pos, IfOk, MatchResult, MatchOption, ◌-◌, None, IfErr};
+ghost use Rattle.std.specs.Prelude.{◌≡◌, ◌+◌, ◌∷◌, [], map, slice_get, pos, IfOk, MatchResult, MatchOption, ◌-◌};
 ghost use Rattle.archive_machine.specs.Messages.{remembered};
 ghost use Rattle.archive_machine.specs.Questions.{list_refusal, messages_in};
 ghost use Rattle.archive_tables.specs.Calls.{AsksRows};
 ghost use Rattle.archive_tables.specs.Rows.{place_shown};
 ghost use Rattle.archive_store.specs.Held.{held_of};
 ghost use Rattle.archive_machine.specs.Commands.{no_list};
-ghost use Rattle.archive_store.specs.Replies.{RefusedFor, refusal};
-ghost use Rattle.archive_store.specs.Told.{Counts, EndsAsk, EndsAskOr, EndsUnrefused, Lasts};
-ghost use Rattle.archive_store.specs.Wanting.{IsWant};
+ghost use Rattle.archive_store.specs.Replies.{RefusedFor};
+ghost use Rattle.archive_store.specs.Told.{EndsAsk, EndsAskOr, EndsUnrefused};
 ghost use Rattle.archive_database.specs.Messages.{IsReadable};
-ghost use Rattle.archive_store.specs.Walking.{GivesNext, GivesAll, StopsNext, StopsAll, ShowsMessage, ShowsMarks, ShowsNext, PassesNext, StopsShowing, FindsPlaces, IsNotBegun, left_of, selected_places};
+ghost use Rattle.archive_store.specs.Walking.{CountsOne, GivesNext, GivesAll, StopsNext, StopsAll, ShowsMessage, ShowsMarks, ShowsNext, PassesNext, StopsShowing, FindsPlaces, IsNotBegun, left_of, selected_places};
 
 use crate::faults::StoreFault;
 use crate::store::Store;
+use crate::wants::Refused;
 use crate::words::month_number;
 use archive_database::reading::{DatedMarks, marks_or_fail, read_or_fail, read_places};
 use archive_machine::Message;
@@ -64,7 +64,8 @@ impl<S: Alter> Store<S> {
 
     /// The messages of a list in mailbox order. E4 where there is no such list.
     pub fn rows(&mut self, alloc: Global, list: &str) -> Result<Vec<Message>, StoreFault>
-        ensures answer { Answers S.Store (held_of self.old) (held_of self.new) result (λ a. list_refusal a list.now)
+        ensures answer { Answers S.Store (held_of self.old) (held_of self.new) result
+            (λ a. list_refusal a list.now)
             (λ a found. map (remembered list.now) found.items ≡ messages_in a list.now) }
         ensures ends { EndsAskOr S.Store self.old self.new result (no_list ∷ [])
             (λ a. ¬ All IsReadable (messages_in a list.now)) }
@@ -75,7 +76,9 @@ impl<S: Alter> Store<S> {
 
     /// Begins a walk over the messages of a list, in mailbox order. E4 where there is no such list.
     pub fn each_row(&mut self, alloc: Global, list: &str) -> Result<EachRow<'_, S>, StoreFault>
-        ensures* refused { sem 𝓛 (RestsIfErr (the_row S.row S.Store) self.entry (λ walk. walk.store.ghost_name) result (DoesNotBegin S.Store self.old list.now result)) }
+        ensures* refused { sem 𝓛 (RestsIfErr (the_row S.row S.Store) self.entry
+            (λ walk. walk.store.ghost_name) result
+            (DoesNotBegin S.Store self.old list.now result)) }
         ensures same_reference { IfOk result (λ walk. walk.store.ghost_name ≡ self.entry.ghost_name) }
         ensures begun { IfOk result (λ walk. Begins S.Store self.old list.now walk) }
         ensures kind { RefusedFor result (no_list ∷ []) }
@@ -92,7 +95,8 @@ impl<S: Alter> Store<S> {
         list: &str,
         month: Month,
     ) -> Result<Vec<Message>, StoreFault>
-        ensures answer { Answers S.Store (held_of self.old) (held_of self.new) result (λ a. list_refusal a list.now)
+        ensures answer { Answers S.Store (held_of self.old) (held_of self.new) result
+            (λ a. list_refusal a list.now)
             (λ a found. map (remembered list.now) found.items ≡ in_month a list.now (pos month)) }
         ensures ends { EndsAskOr S.Store self.old self.new result (no_list ∷ [])
             (λ a. ¬ All IsReadable (in_month a list.now (pos month))) }
@@ -108,7 +112,8 @@ impl<S: Alter> Store<S> {
         list: &str,
         key: &[u8],
     ) -> Result<Vec<Message>, StoreFault>
-        ensures answer { Answers S.Store (held_of self.old) (held_of self.new) result (λ a. list_refusal a list.now)
+        ensures answer { Answers S.Store (held_of self.old) (held_of self.new) result
+            (λ a. list_refusal a list.now)
             (λ a found. map (remembered list.now) found.items ≡ by_author a list.now key.now) }
         ensures ends { EndsAskOr S.Store self.old self.new result (no_list ∷ [])
             (λ a. ¬ All IsReadable (by_author a list.now key.now)) }
@@ -124,9 +129,12 @@ impl<S: Alter> Store<S> {
         list: &str,
         month: Month,
     ) -> Result<EachRow<'_, S>, StoreFault>
-        ensures* refused { sem 𝓛 (RestsIfErr (the_row S.row S.Store) self.entry (λ walk. walk.store.ghost_name) result (DoesNotBegin S.Store self.old list.now result)) }
+        ensures* refused { sem 𝓛 (RestsIfErr (the_row S.row S.Store) self.entry
+            (λ walk. walk.store.ghost_name) result
+            (DoesNotBegin S.Store self.old list.now result)) }
         ensures same_reference { IfOk result (λ walk. walk.store.ghost_name ≡ self.entry.ghost_name) }
-        ensures begun { IfOk result (λ walk. BeginsOver S.Store self.old list.now (λ a. in_month a list.now (pos month)) walk) }
+        ensures begun { IfOk result (λ walk. BeginsOver S.Store self.old list.now
+            (λ a. in_month a list.now (pos month)) walk) }
         ensures kind { RefusedFor result (no_list ∷ []) }
     {
         let places = find_places(self, alloc, list, &Selection::InMonth(month))?;
@@ -140,9 +148,12 @@ impl<S: Alter> Store<S> {
         list: &str,
         key: &[u8],
     ) -> Result<EachRow<'_, S>, StoreFault>
-        ensures* refused { sem 𝓛 (RestsIfErr (the_row S.row S.Store) self.entry (λ walk. walk.store.ghost_name) result (DoesNotBegin S.Store self.old list.now result)) }
+        ensures* refused { sem 𝓛 (RestsIfErr (the_row S.row S.Store) self.entry
+            (λ walk. walk.store.ghost_name) result
+            (DoesNotBegin S.Store self.old list.now result)) }
         ensures same_reference { IfOk result (λ walk. walk.store.ghost_name ≡ self.entry.ghost_name) }
-        ensures begun { IfOk result (λ walk. BeginsOver S.Store self.old list.now (λ a. by_author a list.now key.now) walk) }
+        ensures begun { IfOk result (λ walk. BeginsOver S.Store self.old list.now
+            (λ a. by_author a list.now key.now) walk) }
         ensures kind { RefusedFor result (no_list ∷ []) }
     {
         let places = find_places(self, alloc, list, &Selection::ByAuthor(key))?;
@@ -175,7 +186,9 @@ impl<'a, S: Alter> EachRow<'a, S> {
     pub fn next(&mut self) -> Result<Option<Message>, StoreFault>
         ensures same_reference { self.new.store.ghost_name ≡ self.old.store.ghost_name }
         ensures given { GivesNext S.Store self.old self.new result }
-        ensures left { MatchResult result (λ found. MatchOption found ((left_of self.old ≡ 0) × (left_of self.new ≡ 0)) (λ _. left_of self.old ≡ left_of self.new + 1))
+        ensures left { MatchResult result (λ found. MatchOption found
+            ((left_of self.old ≡ 0) × (left_of self.new ≡ 0))
+            (λ _. left_of self.old ≡ left_of self.new + 1))
             (λ _. left_of self.new ≡ left_of self.old) }
         ensures caused { StopsNext S.Store self.old self.new result }
         ensures ends { EndsUnrefused S.Store self.old.store.now self.new.store.now result }
@@ -192,14 +205,21 @@ impl<'a, S: Alter> EachRow<'a, S> {
     pub fn next_marks(&mut self) -> Result<Option<DatedMarks>, StoreFault>
         ensures same_reference { self.new.store.ghost_name ≡ self.old.store.ghost_name }
         ensures shown { ShowsNext S.Store self.old self.new result }
-        ensures lasts { Lasts S.Store self.old.store.now self.new.store.now }
         ensures caused { StopsNext S.Store self.old self.new result }
-        ensures counted { Counts IsWant self.old.store.now self.new.store.now result }
+        ensures ends { EndsUnrefused S.Store self.old.store.now self.new.store.now result }
     {
         let Some(place) = place_at(&self.places, self.at) else {
             return Ok(None);
         };
         Ok(Some(marks_at(self.store, place)?))
+    }
+
+    /// Counts a want of memory in the store that is walked over. Who walks and was refused memory calls it.
+    pub fn raise(&mut self, why: Refused)
+        ensures same_reference { self.new.store.ghost_name ≡ self.old.store.ghost_name }
+        ensures counted { CountsOne self.old self.new }
+    {
+        self.store.wants.raise(why);
     }
 
     /// Passes the next message by, as if it were given. It does nothing where all were given.
@@ -224,12 +244,12 @@ fn read_rows<S: Alter>(alloc: Global, walk: &mut EachRow<'_, S>) -> Result<Vec<M
 {
     let mut found = match Vec::with_capacity(alloc, walk.left()) {
         Ok(found) => found,
-        Err(_) => return Err(walk.store.wants.refuse()),
+        Err(refused) => return Err(walk.store.wants.refuse(refused.into())),
     };
     while let Some(message) = walk.next()? {
         match found.push(message) {
             Ok(()) => {}
-            Err(_) => return Err(walk.store.wants.refuse()),
+            Err(refused) => return Err(walk.store.wants.refuse(refused.into())),
         }
     }
     Ok(found)
@@ -243,7 +263,8 @@ fn find_places<S: Alter>(
     which: &Selection<'_>,
 ) -> Result<Vec<i64>, StoreFault>
     ensures refused { IsNotBegun S.Store store.old list.now result store.new }
-    ensures found { FindsPlaces S.Store store.old store.new list.now (λ trees. selected_places trees list.now which.now) result }
+    ensures found { FindsPlaces S.Store store.old store.new list.now
+        (λ trees. selected_places trees list.now which.now) result }
     ensures ends { EndsAsk S.Store store.old store.new result (no_list ∷ []) }
 {
     if !store.has_list(list)? {
@@ -293,10 +314,8 @@ fn message_at<S: Alter>(store: &mut Store<S>, place: i64) -> Result<Message, Sto
 /// The arrival and the marks of the message of a number.
 fn marks_at<S: Alter>(store: &mut Store<S>, place: i64) -> Result<DatedMarks, StoreFault>
     ensures shown { ShowsMarks S.Store store.old store.new place result }
-    ensures fault { IfErr result (λ fault. refusal fault ≡ None) }
-    ensures lasts { Lasts S.Store store.old store.new }
     ensures caused { StopsShowing S.Store store.old store.new place result }
-    ensures counted { Counts IsWant store.old store.new result }
+    ensures ends { EndsUnrefused S.Store store.old store.new result }
 {
     let found = texts::messages::marks_at(&mut store.conn, place);
     match store.wants.pass(found)? {

@@ -1,5 +1,5 @@
 //! Many messages at once, and a walk over a list by the messages' numbers.
-use archive_store::{AddStop, Added, Report, Store, StoreFault};
+use archive_store::{AddReport, AddStop, Added, Store, StoreFault};
 use archive_tables::rows::read_place;
 use archive_tables::texts::messages;
 use civil_time::Instant;
@@ -27,7 +27,7 @@ fn added(
     alloc: Global,
     store: &mut Store<MemStore>,
     items: &[Item<'_>],
-    wanted: Report,
+    wanted: AddReport,
 ) -> Result<(), Fail> {
     match store.add_all(alloc, "soc", items) {
         Ok(report) => {
@@ -45,13 +45,13 @@ fn added_twice(
     store: &mut Store<MemStore>,
     items: &[Item<'_>],
 ) -> Result<(), Fail> {
-    let first = Report {
+    let first = AddReport {
         new: 2,
         known: 1,
         too_large: 1,
     };
     added(rt, alloc, store, items, first)?;
-    let again = Report {
+    let again = AddReport {
         new: 0,
         known: 3,
         too_large: 1,
@@ -86,7 +86,7 @@ fn new_and_known_and_too_large(rt: HostRuntime) -> Result<(), Fail> {
 #[test]
 fn none_of_no_messages(rt: HostRuntime) -> Result<(), Fail> {
     let mut store = with_list(rt.alloc())?;
-    let none = Report {
+    let none = AddReport {
         new: 0,
         known: 0,
         too_large: 0,

@@ -6,8 +6,8 @@ use Rattle.archive_store.proofs.batches.add_batch.Goals as goal
 
 pub returns-in-Ok-pass-clause-step : goal.returns-in-Ok-pass-clause-step
 returns-in-Ok-pass-clause-step g c = λ clean a t.
-    let list = c.args.intake.now.list.now in
-    let items = c.args.intake.now.items.now in
+    let list = c.args.additions.now.list.now in
+    let items = c.args.additions.now.items.now in
     let first = state g.S.Store c.args.store.now.conn in
     let clean_2 = c.commit-committed.ensures.ends.lasts.returned clean in
     let begun = (rw c.in_ok-pass.ensures.passed at c.begin-begun.ensures.held) (c.add_some.ensures.ends.lasts.returned clean_2) t.held in
@@ -25,7 +25,7 @@ returns-in-Err-pass-clause-step g c = λ clean a t up.
     let clean_3 = c.rollback-undone.ensures.lasts.returned clean in
     let clean_2 = c.commit-committed.ensures.ends.lasts.returned clean_3 in
     let begun = (rw c.in_ok-pass.ensures.passed at c.begin-begun.ensures.held) (c.add_some.ensures.ends.lasts.returned clean_2) t.held in
-    let there = stays_taken None (Some first.now) first (state g.S.Store c.begin-begun.new.conn) a c.args.intake.now.list.now (take c.args.from c.args.intake.now.items.now) c.args.count.now c.args.report.now t begun in
+    let there = stays_taken None (Some first.now) first (state g.S.Store c.begin-begun.new.conn) a c.args.additions.now.list.now (take c.args.from c.args.additions.now.items.now) c.args.count.now c.args.report.now t begun in
     let added = c.in-Ok.ensures.step clean_2 first.now a there in
     let error = err_from_is_err_and c.commit-committed.result c.in-Err-pass.ensures.passed in
     let failed = rw error.1 at c.commit-committed.ensures.held in
@@ -38,6 +38,6 @@ returns-in-Err-clause-step g c = λ clean a t up.
     let first = state g.S.Store c.args.store.now.conn in
     let clean_2 = c.rollback-undone-in-Err.ensures.lasts.returned clean in
     let begun = (rw c.in_ok-pass.ensures.passed at c.begin-begun.ensures.held) (c.add_some.ensures.ends.lasts.returned clean_2) t.held in
-    let there = stays_taken None (Some first.now) first (state g.S.Store c.begin-begun.new.conn) a c.args.intake.now.list.now (take c.args.from c.args.intake.now.items.now) c.args.count.now c.args.report.now t begun in
+    let there = stays_taken None (Some first.now) first (state g.S.Store c.begin-begun.new.conn) a c.args.additions.now.list.now (take c.args.from c.args.additions.now.items.now) c.args.count.now c.args.report.now t begun in
     let back = c.rollback-undone-in-Err.ensures.left clean first.now (c.in-Err.ensures.step clean_2 first.now a there) up in
     (back.0, back.1 ∙ t.archive_is)

@@ -14,10 +14,10 @@ use Rattle.archive_store.proofs.batches.add_some.Goals as goal
 pub returns-in-Full-clause-step : goal.returns-in-Full-clause-step
 returns-in-Full-clause-step g c = λ clean db a from.
     let so_far = c.loop-at.invariant.4 (c.add_counted.ensures.ends.lasts.returned clean) db a from in
-    let items = c.args.intake.now.items.now in
+    let items = c.args.additions.now.items.now in
     let within : c.loop-at.at < length items = omega (arith, c.loop-at-test.true, c.requires.begins.place) in
-    let it = none_taken (Some db) (state g.S.Store c.loop-at.store.conn) (state g.S.Store c.add_counted.new.store.conn) a c.args.intake.now.list.now items c.loop-at.at c.loop-at.count c.add_counted.new.count
-    (get_or items c.loop-at.at c.index-intake-at.result) c.loop-at.report so_far within (ap (get_or items c.loop-at.at) c.index-intake-at.is) (rw c.in-Full.is at (c.in_ok-add_counted.ensures.step clean (Some db) so_far.held so_far.counted)) in
+    let it = none_taken (Some db) (state g.S.Store c.loop-at.store.conn) (state g.S.Store c.add_counted.new.store.conn) a c.args.additions.now.list.now items c.loop-at.at c.loop-at.count c.add_counted.new.count
+    (get_or items c.loop-at.at c.index-additions-at.result) c.loop-at.report so_far within (ap (get_or items c.loop-at.at) c.index-additions-at.is) (rw c.in-Full.is at (c.in_ok-add_counted.ensures.step clean (Some db) so_far.held so_far.counted)) in
     (it.0, inr it.1)
 
 pub returns-in_err-add_counted-clause-step : goal.returns-in_err-add_counted-clause-step
@@ -38,12 +38,12 @@ loop-at-preserved g c = (
   (λ clean. c.loop-at.invariant.3 (c.add_counted.ensures.ends.lasts.returned clean)),
   (λ clean db a from.
       let so_far = c.loop-at.invariant.4 (c.add_counted.ensures.ends.lasts.returned clean) db a from in
-      let items = c.args.intake.now.items.now in
+      let items = c.args.additions.now.items.now in
       let within : c.loop-at.at < length items = omega (arith, c.loop-at-test.true, c.requires.begins.place) in
-      let more = one_taken (Some db) (state g.S.Store c.loop-at.store.conn) (state g.S.Store c.add_counted.new.store.conn) a c.args.intake.now.list.now items c.loop-at.at c.loop-at.count c.add_counted.new.count
-      (get_or items c.loop-at.at c.index-intake-at.result) c.loop-at.report so_far within (ap (get_or items c.loop-at.at) c.index-intake-at.is) in
+      let more = one_taken (Some db) (state g.S.Store c.loop-at.store.conn) (state g.S.Store c.add_counted.new.store.conn) a c.args.additions.now.list.now items c.loop-at.at c.loop-at.count c.add_counted.new.count
+      (get_or items c.loop-at.at c.index-additions-at.result) c.loop-at.report so_far within (ap (get_or items c.loop-at.at) c.index-additions-at.is) in
       let adds = c.in_ok-add_counted.ensures.step clean (Some db) so_far.held so_far.counted in
-      let replies = (taken a c.args.intake.now.list.now (take c.loop-at.at items)).replies in
+      let replies = (taken a c.args.additions.now.list.now (take c.loop-at.at items)).replies in
       elim c.match-branch-2.branch [
         | in-New w ↦ more taken_in c.match-branch-2.report (rw w.in-New.is at adds) (ap tally_of w.report-is ∙ told_new c.loop-at.report replies so_far.told)
         | in-Known w ↦ more already_known c.match-branch-2.report (rw w.in-Known.is at adds) (ap tally_of w.report-is ∙ told_known c.loop-at.report replies so_far.told)

@@ -13,8 +13,8 @@ invariant-loop-at g l =
     let first = state g.S.Store l.fn.store.conn in
     let now = state g.S.Store l.store.conn in
     (l.from ≤ l.at) × (l.at ≤ l.to) × (told_in l.report ≡ l.at) × (HasCleanDisk now → HasCleanDisk first)
-    × (HasCleanDisk now → (db : Database) (a : Archive) → HasTaken (Some db) first a l.intake.list.now (take l.from l.intake.items.now) l.fn.count l.fn.report
-    → HasTaken (Some db) now a l.intake.list.now (take l.at l.intake.items.now) l.count l.report) × Lasts first now × (wants_of l.fn.store ≤ wants_of l.store)
+    × (HasCleanDisk now → (db : Database) (a : Archive) → HasTaken (Some db) first a l.additions.list.now (take l.from l.additions.items.now) l.fn.count l.fn.report
+    → HasTaken (Some db) now a l.additions.list.now (take l.at l.additions.items.now) l.count l.report) × Lasts first now × (wants_of l.fn.store ≤ wants_of l.store)
 
 abbrev pub decreases-loop-at : goal.decreases-loop-at
 decreases-loop-at g l = l.to - l.at

@@ -29,7 +29,7 @@ returns-clause-ends g c = record {
   was_open = open_last g.S.Store c.args.self.now.conn c.has_person-known.new.conn c.find_address-found.new.conn c.find_address-found.result c.pass-2.result
       c.pass-2.ensures.passed c.has_person-known.ensures.ends.lasts c.find_address-found.ensures.ends.lasts c.find_address-found.ensures.ends.was_open;
   kind = kind_last c.pass-2.result (no_person ∷ []) c.pass-2.ensures.kind;
-  counted = raises_after IsWant _ _ _ c.pass-2.result c.in_ok-pass.ensures.counted.0 c.pass-2.ensures.counted;
+  counted = raises_after IsWant _ _ _ c.pass-2.result c.in_ok-pass.ensures.counted.0.0 c.pass-2.ensures.counted.0;
   caused = λ clean kept free.
       let person = c.args.person.now in
       let old = state g.S.Store c.args.self.now.conn in

@@ -9,23 +9,23 @@ use Rattle.archive_store.proofs.store.Store.find_count.Goals as goal
 pub returns-in_err-pass-clause-found : goal.returns-in_err-pass-clause-found
 returns-in_err-pass-clause-found g c = λ clean kept right.
     let error = err_from_is_err_and c.reaches-reaches.result c.in_err-pass.ensures.passed in
-    let rest = rw error.1 at (c.reaches-reaches.ensures.over clean None kept) in
+    let rest = rw error.1 at (c.reaches-reaches.ensures.asks.over clean None kept) in
     stops c.from_residual.result c.in_err-pass.field-0.0 c.from_residual.ensures.1 c.in_err-pass.ensures.kind _ _ rest
 
 pub returns-then-not-branch-clause-found : goal.returns-then-not-branch-clause-found
 returns-then-not-branch-clause-found g c = λ clean kept right.
-    let reached = rw c.in_ok-pass.ensures.passed at (c.reaches-reaches.ensures.over clean None kept) in
+    let reached = rw c.in_ok-pass.ensures.passed at (c.reaches-reaches.ensures.asks.over clean None kept) in
     (reached.1, tt)
 
 pub returns-clause-found : goal.returns-clause-found
 returns-clause-found g c = λ clean kept right.
-    let reached = rw c.in_ok-pass.ensures.passed at (c.reaches-reaches.ensures.over (c.count.ensures.ends.lasts.returned clean) None kept) in
+    let reached = rw c.in_ok-pass.ensures.passed at (c.reaches-reaches.ensures.asks.over (c.count.ensures.ends.lasts.returned clean) None kept) in
     let counted = c.in_ok-count.ensures.answer clean reached.1.0 in
     ((counted.0.0, counted.0.1 ∙ reached.1.1), ap (λ a. length (messages_in a c.args.list.now)) counted.0.1 ∙ sym counted.2)
 
 pub returns-in_err-count-clause-found : goal.returns-in_err-count-clause-found
 returns-in_err-count-clause-found g c = λ clean kept right.
-    let reached = rw c.in_ok-pass.ensures.passed at (c.reaches-reaches.ensures.over (c.count.ensures.ends.lasts.returned clean) None kept) in
+    let reached = rw c.in_ok-pass.ensures.passed at (c.reaches-reaches.ensures.asks.over (c.count.ensures.ends.lasts.returned clean) None kept) in
     fails_as c.from_residual-in_err-count.result c.in_err-count.field-0.0 c.from_residual-in_err-count.ensures.1 _ _ _
     (not_counted (state g.S.Store c.args.self.now.conn) (state g.S.Store c.reaches-reaches.new.conn) (state g.S.Store c.count.new.self.conn) c.args.list.now (refusal c.in_err-count.field-0.0) reached.1.1
     (c.in_err-count.ensures.answer clean reached.1.0))

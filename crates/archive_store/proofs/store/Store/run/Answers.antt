@@ -9,8 +9,8 @@ use Rattle.archive_store.proofs.CountLemmas.{count_after}
 use Rattle.archive_tables.proofs.LastLemmas.{lasts_then, lasts_same}
 use Rattle.archive_store.proofs.store.Store.run.Goals as goal
 
-pub returns-in_default-clause-step : goal.returns-in_default-clause-step
-returns-in_default-clause-step g c = λ clean kept up. (kept, run_nothing (archive_of (state g.S.Store c.args.self.now.conn)))
+pub returns-in-Err-clause-step : goal.returns-in-Err-clause-step
+returns-in-Err-clause-step g c = λ clean kept up. (kept, run_nothing (archive_of (state g.S.Store c.args.self.now.conn)))
 
 pub loop-command-init : goal.loop-command-init
 loop-command-init g c =
@@ -28,13 +28,13 @@ returns-clause-step g c = λ clean kept.
     subst (λ commands. RanAll first (run (archive_of first) (map command_of commands)) (state g.S.Store c.loop-command.self.conn) c.loop-command.outcomes.items)
     (take_all c.loop-command.command-index c.args.commands.now c.loop-command-test.false) (c.loop-command.invariant.2 clean kept).0
 
-pub returns-in-Err-clause-step : goal.returns-in-Err-clause-step
-returns-in-Err-clause-step g c = λ clean kept up.
+pub returns-in-Err-carry_out-clause-step : goal.returns-in-Err-carry_out-clause-step
+returns-in-Err-carry_out-clause-step g c = λ clean kept up.
     let first = state g.S.Store c.args.self.now.conn in
     let before = c.loop-command.invariant.2 (c.carry_out.ensures.ends.lasts.returned clean) kept in
     let at = c.loop-command.command-index in
     let stopped = ran_stop first (state g.S.Store c.loop-command.self.conn) (state g.S.Store c.carry_out.new.self.conn) (map command_of (take at c.args.commands.now))
-    c.loop-command.outcomes.items before.0 (c.in-Err.ensures.step clean before.0.0 before.1) up in
+    c.loop-command.outcomes.items before.0 (c.in-Err-carry_out.ensures.step clean before.0.0 before.1) up in
     let len : vec_len c.loop-command.outcomes ≡ length c.loop-command.outcomes.items = search rules in
     (stopped.0, stopped.1 ∙ ap (λ commands. (run (archive_of first) commands).archive) (sym (first_commands c.args.commands.now c.len.result at (c.len.ensures ∙ len ∙ c.loop-command.invariant.0))))
 
@@ -71,8 +71,8 @@ returns-in-Err-push-clause-step g c = λ clean kept up.
     let len : vec_len c.loop-command.outcomes ≡ length outcomes = search rules in
     (ran.0, ran.1 ∙ ap (λ commands. (run (archive_of first) commands).archive) (sym (first_commands c.args.commands.now (c.len-done.result + 1) (at + 1) (ap (λ n. n + 1) (c.len-done.ensures ∙ len ∙ c.loop-command.invariant.0)))))
 
-pub returns-in-Err-clause-bound : goal.returns-in-Err-clause-bound
-returns-in-Err-clause-bound g c =
+pub returns-in-Err-carry_out-clause-bound : goal.returns-in-Err-carry_out-clause-bound
+returns-in-Err-carry_out-clause-bound g c =
     let len : vec_len c.loop-command.outcomes ≡ length c.loop-command.outcomes.items = search rules in
     omega (arith, c.len.ensures, len, c.loop-command.invariant.0, c.loop-command-test.true)
 

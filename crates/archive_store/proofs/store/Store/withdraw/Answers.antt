@@ -1,4 +1,4 @@
-use Rattle.std.proofs.Common.{◌≡◌, true, Some, sym, ◌∙◌, rules}
+use Rattle.std.proofs.Common.{ap, None, inl, ◌≡◌, true, Some, sym, ◌∙◌, rules}
 use Rattle.std.specs.Prelude.{⊤, map, option_map, if◌then◌else◌}
 use Rattle.std.proofs.Common.{to_z, of_z, w64}
 use Rattle.std.proofs.lemmas.Int.{to_z-of_z}
@@ -10,6 +10,11 @@ use Rattle.policy_core.specs.Numbers.{party_number}
 use Rattle.archive_store.proofs.StepLemmas.{begins, asks, writes}
 use Rattle.archive_store.proofs.StepEquations.{withdraw_done}
 use Rattle.archive_store.proofs.PassLemmas.{passed_answer, passed_over, passed_unanswered, passed_written, passed_unwritten}
+use Rattle.archive_store.proofs.PassLemmas.{blamed_on, blamed_later, blamed_write, saw_same}
+use Rattle.sqlite.specs.Held.{state}
+use Rattle.archive_store.proofs.CauseLemmas.{by_error}
+use Rattle.archive_tables.proofs.LastLemmas.{lasts_then}
+use Rattle.archive_tables.specs.Statements.{withdrawing}
 use Rattle.archive_store.proofs.store.Store.withdraw.Goals as goal
 
 pub returns-clause-step : goal.returns-clause-step
@@ -71,3 +76,45 @@ returns-in_err-pass-2-clause-step g c = λ clean kept.
     let it_2 = passed_answer c.marks-found.ensures c.in_ok-marks.ensures.passed clean_2 it_1.1 in
     let rest = passed_unwritten _ _ c.set_withdrawn-set.ensures c.in_err-pass-2.ensures.passed clean it_2.1 in
     search rules
+
+-- ---- what its E15 means
+
+pub returns-in_err-pass-clause-ends : goal.returns-in_err-pass-clause-ends
+returns-in_err-pass-clause-ends g c = record {
+  lasts = search rules;
+  was_open = search rules;
+  kind = search rules;
+  counted = search rules;
+  caused = λ clean kept free.
+      blamed_on c.from_residual.result c.has_list-listed.result c.in_err-pass.field-0.0 _ _ c.from_residual.ensures.1 c.in_err-pass.ensures.passed (c.has_list-listed.ensures.caused clean kept free)
+      (λ e why it. inl (by_error (state g.S.Store c.args.self.now.conn) (state g.S.Store c.has_list-listed.new.conn) e why it));
+}
+
+pub returns-in_err-marks-clause-ends : goal.returns-in_err-marks-clause-ends
+returns-in_err-marks-clause-ends g c = record {
+  lasts = search rules;
+  was_open = search rules;
+  kind = search rules;
+  counted = search rules;
+  caused = λ clean kept free.
+      let clean_1 = c.marks-found.ensures.ends.lasts.returned clean in
+      let it_1 = passed_answer c.has_list-listed.ensures c.in_ok-pass.ensures.passed clean_1 kept in
+      let lasts = c.has_list-listed.ensures.ends.lasts in
+      blamed_later _ (state g.S.Store c.args.self.now.conn) (state g.S.Store c.has_list-listed.new.conn) (state g.S.Store c.marks-found.new.conn) c.from_residual-in_err-marks.result c.marks-found.result c.in_err-marks.field-0.0 c.from_residual-in_err-marks.ensures.1 c.in_err-marks.ensures.passed lasts (c.marks-found.ensures.caused clean it_1.1 (lasts.limit ∙ free));
+}
+
+pub returns-in_err-pass-2-clause-ends : goal.returns-in_err-pass-2-clause-ends
+returns-in_err-pass-2-clause-ends g c = record {
+  lasts = search rules;
+  was_open = search rules;
+  kind = search rules;
+  counted = search rules;
+  caused = λ clean kept free.
+      let clean_2 = c.set_withdrawn-set.ensures.ends.lasts.returned clean in
+      let clean_1 = c.marks-found.ensures.ends.lasts.returned clean_2 in
+      let it_1 = passed_answer c.has_list-listed.ensures c.in_ok-pass.ensures.passed clean_1 kept in
+      let it_2 = passed_answer c.marks-found.ensures c.in_ok-marks.ensures.passed clean_2 it_1.1 in
+      let lasts = lasts_then _ _ _ c.has_list-listed.ensures.ends.lasts c.marks-found.ensures.ends.lasts in
+      blamed_write (state g.S.Store c.args.self.now.conn) (state g.S.Store c.marks-found.new.conn) (state g.S.Store c.set_withdrawn-set.new.conn) c.from_residual-in_err-pass-2.result c.set_withdrawn-set.result c.in_err-pass-2.field-0.0 (withdrawing c.args.list.now c.as_str-2.result.now (to_z w64 (of_z w64 c.number.result))) _ (ap (λ k. withdrawing c.args.list.now k (to_z w64 (of_z w64 c.number.result))) c.as_str-2.ensures ∙ ap (λ n. withdrawing c.args.list.now c.args.key.now n) (to_z-of_z w64 c.number.result (record { sfits = c.number.type_inv }) ∙ c.number.ensures)) c.from_residual-in_err-pass-2.ensures.1 c.in_err-pass-2.ensures.passed
+      (saw_same (state g.S.Store c.has_list-listed.new.conn) (state g.S.Store c.marks-found.new.conn) c.in_ok-marks.ensures.passed (c.marks-found.ensures.same clean_2) ∙ saw_same (state g.S.Store c.args.self.now.conn) (state g.S.Store c.has_list-listed.new.conn) c.in_ok-pass.ensures.passed (c.has_list-listed.ensures.same clean_1)) lasts (c.set_withdrawn-set.ensures.caused clean None it_2.1 (lasts.limit ∙ free));
+}
