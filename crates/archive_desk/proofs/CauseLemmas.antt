@@ -14,7 +14,7 @@ use Rattle.archive_store.proofs.CauseLemmas.{more_since, stops_later}
 use Rattle.archive_results.specs.Access.{Ask}
 use Rattle.archive_desk.specs.Causes.{AreUnreadable, HasCause, HasDiskCause, IsBroken}
 use Rattle.archive_desk.specs.Faults.{desk_fault}
-use Rattle.archive_desk.specs.Walking.{HasWalkCause, IsShownStop, StopsPassing}
+use Rattle.archive_desk.specs.Walking.{HasWalkCause, StopsPassing}
 use Rattle.archive_desk.specs.declared.faults.DeskFault.{DeskFault}
 
 -- ---- which faults are the database's
@@ -36,10 +36,6 @@ broken_by faults.ListFull it = absurd (cc)
 broken_by faults.TooLarge it = absurd (cc)
 broken_by faults.Memory it = absurd (cc)
 broken_by faults.Store it = refl
-
--- none that stops the writing of a message
-pub shown_unbroken : {X : Type 0} (before after : List ℕ) (failed fails count : ℕ) (fault : DeskFault) → IsShownStop before after failed fails count fault → IsBroken fault → X
-shown_unbroken before after failed fails count fault stop it = absurd (subst (IsShownStop before after failed fails count) it stop)
 
 -- of each fault of an answer
 pub each_fault : {A F : Type 0} (P Q : F → Type 0) → ((fault : F) → P fault → Q fault) → (result : Result A F) → IfErr result P → IfErr result Q

@@ -3,6 +3,8 @@ use Rattle.std.proofs.Common.{◌≡◌, ◌≤◌, refl, sym, ◌∙◌, subst,
 use Rattle.std.specs.Prelude.{MatchOption, option_map}
 use Rattle.sqlite.specs.Store.{Ghosts}
 use Rattle.mbox_core.specs.Division.{Item, Divides}
+use Rattle.mbox_core.specs.Faults.{IsCutFault}
+use Rattle.mbox_core.specs.declared.faults.MboxFault.{MboxFault}
 use Rattle.mbox_core.specs.declared.faults.MboxFault.TheVariants.{Preamble, Read, Memory, Failed}
 use Rattle.archive_machine.specs.Records.{Archive}
 use Rattle.archive_machine.specs.Commands.{Refusal, no_list, bad_name, bad_text, list_exists, person_exists, no_person, token_taken, no_message, already_withdrawn, not_withdrawn, bad_days, list_full, too_large}
@@ -15,14 +17,15 @@ use Rattle.archive_store.specs.Batches.{AddsAll, IsAfter, IsRefusedAt, tally_of 
 use Rattle.archive_store.specs.Held.{held_of}
 use Rattle.archive_store.specs.Replies.{refusal}
 use Rattle.archive_store.specs.declared.batches.AddStop.{AddStop}
-use Rattle.archive_store.specs.declared.batches.Report.{Report as Counts}
+use Rattle.archive_store.specs.declared.batches.AddReport.{AddReport}
 use Rattle.archive_store.specs.Told.{Lasts, HoldsTables, IsReady, archive_in, GoesIn, GoesInIfOpen, Goes, GoesIfOpen, Calls}
 use Rattle.archive_store.specs.declared.store.Store.{Store}
 use Rattle.archive_store.specs.declared.faults.StoreFault.{StoreFault}
+use Rattle.archive_store.specs.declared.faults.StoreFault.TheVariants.{Memory as NoMemory}
 use Rattle.archive_store.proofs.Joins.{goes_as, goes_as_if_open, ready_with, sound_too, sound_too_if_open}
 use Rattle.archive_store.proofs.RightLemmas.{taken_right}
 use Rattle.archive_desk.proofs.CallLemmas.{calls_after}
-use Rattle.archive_desk.specs.Importing.{Cause, no_mbox, not_taken, stop_reason, IsCutStop, tally_of, HasAdded, IsImported, IsRefusedAdd, IsRefusedImport, IsBrokenAdd, IsBrokenImport}
+use Rattle.archive_desk.specs.Importing.{Cause, no_mbox, not_taken, stop_reason, tally_of, HasAdded, IsImported, IsRefusedAdd, IsRefusedImport, IsBrokenAdd, IsBrokenImport}
 use Rattle.archive_desk.specs.declared.importing.Report.{Report}
 use Rattle.archive_desk.specs.declared.importing.ImportStop.{ImportStop}
 use Rattle.archive_desk.specs.declared.importing.ImportFault.{ImportFault}
@@ -76,23 +79,25 @@ module _ {S : Type 0} (g : Ghosts S) (old new : Store S) (list text : List ℕ) 
       → Goes g old new (λ a b. (b ≡ a) × (list_refusal a list ≡ None) × (has_list a list ≡ true))
   there before = sound_too g old new (λ a b. (b ≡ a) × (list_refusal a list ≡ None) × (has_list a list ≡ true)) (λ a b h. h.0) before
 
-  pub not_cut : (fault : ImportFault) → IsCutStop text fault
+  pub not_mbox : (fault : MboxFault) → IsCutFault text fault
       → GoesIn g (HoldsTables g) old new (λ a b. (b ≡ a) × (list_refusal a list ≡ None) × (has_list a list ≡ true))
-      → Calls g old new {A = Report} stop_reason (Err (record { done = 0; fault = fault })) Says Refuses Stops
-  not_cut (Mbox (Preamble offset)) why before =
+      → Calls g old new {A = Report} stop_reason (Err (record { done = 0; fault = Mbox fault })) Says Refuses Stops
+  not_mbox (Preamble offset) why before =
       goes_as g old new (λ a b. (b ≡ a) × (list_refusal a list ≡ None) × (has_list a list ≡ true)) (λ a b. Refuses a b (0, no_mbox offset))
       (λ a b h. (refl, h.0, h.2, why)) (there before)
-  not_cut (Mbox Read) why before = absurd why
-  not_cut (Mbox Memory) why before = absurd why
-  not_cut (Mbox Failed) why before = absurd why
-  not_cut (Stored fault) why before = subst (λ f. Calls g old new {A = Report} stop_reason (Err (record { done = 0; fault = Stored f })) Says Refuses Stops) (sym why)
-      ((there before).0, (λ returned ready up. let it = (there before).1 returned ready in (it.0, inl (refl, it.1.0))))
+  not_mbox Read why before = absurd why
+  not_mbox Memory why before = absurd why
+  not_mbox Failed why before = absurd why
+
+  pub no_room_to_cut : GoesIn g (HoldsTables g) old new (λ a b. (b ≡ a) × (list_refusal a list ≡ None) × (has_list a list ≡ true))
+      → Calls g old new {A = Report} stop_reason (Err (record { done = 0; fault = Stored NoMemory })) Says Refuses Stops
+  no_room_to_cut before = ((there before).0, (λ returned ready up. let it = (there before).1 returned ready in (it.0, inl (refl, it.1.0))))
 
 -- ---- its messages are added, one after the other
 
 module _ {S : Type 0} (g : Ghosts S) (old new : Store S) (list : List ℕ) (items : List Item) (lasts : Lasts g old new) where
   -- all of them
-  pub added_all : (counts : Counts) (report : Report) → tally_of report ≡ store_tally counts → AddsAll g (held_of old) (held_of new) (Ok counts) list items
+  pub added_all : (counts : AddReport) (report : Report) → tally_of report ≡ store_tally counts → AddsAll g (held_of old) (held_of new) (Ok counts) list items
       → Goes g old new (λ a b. HasAdded list items a b report)
   added_all counts report same adds = (
     lasts,

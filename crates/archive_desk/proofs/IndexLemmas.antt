@@ -11,8 +11,8 @@ use Rattle.archive_machine.specs.Messages.{remembered}
 use Rattle.archive_machine.specs.Questions.{list_refusal}
 use Rattle.archive_machine.specs.declared.messages.Message.{Message}
 use Rattle.archive_store.specs.Replies.{refusal}
-use Rattle.archive_store.specs.Told.{AsksIn, GoesIn, GoesInIfOpen, Lasts, HasReturned, HoldsTables, IsOpen, WasOpen, archive_in}
-use Rattle.archive_store.specs.Walking.{BeginsOver, Walk, WalksOver}
+use Rattle.archive_store.specs.Told.{AsksIn, GoesIn, GoesInIfOpen, Lasts, HasReturned, HoldsTables, IsOpen, archive_in}
+use Rattle.archive_store.specs.Walking.{BeginsOver, CountsOne, Walk, WalksOver}
 use Rattle.archive_store.specs.declared.store.Store.{Store}
 use Rattle.archive_results.specs.Access.{Ask, ReaderMarks, is_shown, reader_marks}
 use Rattle.archive_results.specs.Shown.{line_of, shown_of}
@@ -24,7 +24,7 @@ use Rattle.archive_desk.specs.declared.faults.DeskFault.{DeskFault}
 use Rattle.archive_desk.specs.declared.faults.DeskFault.TheVariants.{NoList, NoPerson, NotInView, Store as Stored, Memory, Write}
 use Rattle.archive_store.specs.declared.faults.StoreFault.{StoreFault}
 use Rattle.archive_desk.proofs.AskLemmas.{list_declined}
-use Rattle.archive_desk.proofs.CallLemmas.{calls_after, was_open_by}
+use Rattle.archive_desk.proofs.CallLemmas.{calls_after}
 use Rattle.archive_desk.proofs.MarkLemmas.{view_alike}
 
 -- ---- what is made of messages
@@ -125,6 +125,13 @@ module _ {X : Type 0} (made : List Remembered → List X) (apart : IsMadeApart m
           let it = so_far (was returned) all a w in
           rw none (λ up. let last = rests returned all a it.0 it.1 up in (last.held, last.archive_is))
 
+    -- a want of memory that is counted changes nothing of it
+    pub listed_counted : (old new counted : Walk S) (fault : DeskFault) → CountsOne new counted → ListsRows g old new ask reader made (Err fault)
+        → ListsRows g old counted ask reader made (Err fault)
+    listed_counted old new counted fault one lists = λ returned all a w.
+        subst (λ s. MatchOption (reason fault) (IsOpen g s → HoldsTables g s × (archive_in g s ≡ a)) (λ _. HoldsTables g s × (archive_in g s ≡ a))) (sym one.store)
+        (lists (subst (HasReturned g) one.store returned) all a w)
+
 -- ---- the walk
 
 module _ {X : Type 0} (made : List Remembered → List X) {S : Type 0} (g : Ghosts S) (old mid : Store S) (ask : Ask) (which : Archive → List Remembered) where
@@ -201,7 +208,3 @@ module _ {X : Type 0} (made : List Remembered → List X) {S : Type 0} (g : Ghos
         → AsksIn g (HoldsTables g) old last reason result (λ a. ask_reason a ask) Held
     walk_ended (Ok all_found) is lists = walk_listed all_found lists
     walk_ended (Err fault) is lists = walk_unlisted fault (unlisted fault is) lists
-
-    -- the store was open, since the reader was found
-    pub walk_open : (HasReturned g mid → IsOpen g old) → (result : Result (Vec X Global) DeskFault) → WasOpen g old last reason result
-    walk_open up result = was_open_by g old last reason result (λ returned. up (at_start returned))

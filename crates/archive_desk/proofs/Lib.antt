@@ -4,6 +4,7 @@ pub mod CallLemmas
 pub mod ImportLemmas
 pub mod MarkLemmas
 pub mod AskLemmas
+pub mod EndLemmas
 pub mod ExportLemmas
 pub mod ListLemmas
 pub mod IndexLemmas

@@ -16,6 +16,7 @@ use Rattle.archive_store.specs.declared.faults.StoreFault.{StoreFault}
 use Rattle.archive_results.specs.Access.{Ask, ReaderMarks}
 use Rattle.archive_results.specs.Results.{export_text}
 use Rattle.archive_results.specs.Shown.{shown_of}
+use Rattle.archive_desk.specs.Ending.{StopsExport, TellsWriter}
 use Rattle.archive_desk.specs.Exporting.{Exports, ExportsPart, HasBegun, IsExportRefused, IsExportStop, exported, shown_text, stop_reason}
 use Rattle.archive_desk.specs.Asking.{IsEnough}
 use Rattle.archive_desk.specs.Faults.{ask_reason, desk_fault, reason, IsAskFault}
@@ -163,22 +164,38 @@ module _ {S : Type 0} (g : Ghosts S) (old mid last : Store S) (walk new : Walk S
   walk_ended failed fails (Ok count) why writes = walk_exported count writes
   walk_ended failed fails (Err stop) why writes = walk_unexported stop.written failed fails stop.fault why writes
 
-  pub walk_parts : (failed fails : ℕ) (result : Result ℕ ExportStop) → WritesWalk g walk new ask reader head before after result
-      → IfErr result (λ stop. ExportsPart g old last before after stop.written (λ a. head ++ exported a ask))
-  walk_parts failed fails (Ok count) writes = tt
-  walk_parts failed fails (Err stop) writes = walk_part stop.written failed fails stop.fault writes
+  pub walk_leaves : (failed fails : ℕ) (result : Result ℕ ExportStop) → (HasReturned g mid → IsOpen g old) → WritesWalk g walk new ask reader head before after result
+      → StopsExport g old last ask before after (λ a. head ++ exported a ask) result
+  walk_leaves failed fails (Ok count) up writes = record { part = tt; out_open = tt; begun = tt }
+  walk_leaves failed fails (Err stop) up writes = record {
+    part = walk_part stop.written failed fails stop.fault writes;
+    out_open = λ some returned. up (at_start returned);
+    begun = walk_begun stop.written failed fails;
+  }
+
+  pub walk_tells : (failed fails : ℕ) (result : Result ℕ ExportStop)
+      → TellsWriter failed fails result (λ stop. IsWalkStop before after failed fails stop.written stop.fault)
+      → TellsWriter failed fails result (λ stop. IsExportStop before after failed fails stop.written stop.fault)
+  walk_tells failed fails (Ok count) it = record { quiet = it.quiet; cause = tt }
+  walk_tells failed fails (Err stop) it = record { quiet = tt; cause = walk_cause stop.written failed fails stop.fault it.cause }
 
 -- where nothing was written yet
-pub unwalked : {S : Type 0} (g : Ghosts S) (old last : Store S) (told : List ℕ) (text : Archive → List ℕ) → ExportsPart g old last told told 0 text
-unwalked g old last told text = λ returned ready fits. none_cut told (text (archive_in g old))
+pub leaves_none : {S : Type 0} (g : Ghosts S) (old last : Store S) (ask : Ask) (told : List ℕ) (text : Archive → List ℕ) (fault : DeskFault)
+    → StopsExport g old last ask told told text (Err (record { written = 0; fault = fault }))
+leaves_none g old last ask told text fault = record {
+  part = λ returned ready fits. none_cut told (text (archive_in g old));
+  out_open = λ some. absurd (omega (arith, some));
+  begun = λ returned ready some. absurd (omega (arith, some));
+}
 
-pub unbegun : {S : Type 0} (g : Ghosts S) (old last : Store S) (ask : Ask) → HasBegun g old last ask 0
-unbegun g old last ask = λ returned ready some. absurd (omega (arith, some))
-
-pub unwritten : (told : List ℕ) (failures : ℕ) (fault : DeskFault) → IsAskFault fault → IsExportStop told told failures failures 0 fault
+unwritten : (told : List ℕ) (failures : ℕ) (fault : DeskFault) → IsAskFault fault → IsExportStop told told failures failures 0 fault
 unwritten told failures NoList is = (refl, refl, refl)
 unwritten told failures NoPerson is = (refl, refl, refl)
 unwritten told failures NotInView is = absurd is
 unwritten told failures (Stored fault) is = (refl, ([], sym (append-nil told), refl))
 unwritten told failures Memory is = (refl, ([], sym (append-nil told), refl))
 unwritten told failures Write is = absurd is
+
+pub tells_none : (told : List ℕ) (failures : ℕ) (fault : DeskFault) → IsAskFault fault
+    → TellsWriter failures failures {A = ℕ} {F = ExportStop} (Err (record { written = 0; fault = fault })) (λ stop. IsExportStop told told failures failures stop.written stop.fault)
+tells_none told failures fault is = record { quiet = tt; cause = unwritten told failures fault is }

@@ -9,16 +9,16 @@ use Rattle.mbox_core.specs.Written.{IsCutShort, written, written_item}
 use Rattle.archive_machine.specs.Records.{Archive, Message as Remembered}
 use Rattle.archive_machine.specs.Messages.{remembered}
 use Rattle.archive_machine.specs.declared.messages.Message.{Message}
-use Rattle.archive_store.specs.Told.{HasReturned, IsOpen}
-use Rattle.archive_store.specs.Walking.{Walk, WalksOver}
+use Rattle.archive_store.specs.Told.{HasReturned, HoldsTables, IsOpen, archive_in}
+use Rattle.archive_store.specs.Walking.{CountsOne, Walk, WalksOver}
 use Rattle.archive_results.specs.Access.{Ask, ReaderMarks, is_shown}
 use Rattle.archive_results.specs.Shown.{shown_of}
 use Rattle.archive_desk.specs.Exporting.{shown_text}
 use Rattle.archive_desk.specs.Faults.{Reason, reason}
-use Rattle.archive_desk.specs.Walking.{IsRowsStop, IsShownStop, PassesWithheld, StandsOn, WritesRows, WritesWalk}
+use Rattle.archive_desk.specs.Walking.{IsRowsStop, PassesWithheld, StandsOn, WritesRows, WritesWalk}
 use Rattle.archive_store.specs.declared.faults.StoreFault.{StoreFault}
 use Rattle.archive_desk.specs.declared.faults.DeskFault.{DeskFault}
-use Rattle.archive_desk.specs.declared.faults.DeskFault.TheVariants.{NoList, NoPerson, NotInView, Store as Stored, Memory, Write}
+use Rattle.archive_desk.specs.declared.faults.DeskFault.TheVariants.{Memory, Write}
 
 -- ---- the text
 
@@ -99,18 +99,9 @@ module _ {S : Type 0} (g : Ghosts S) (ask : Ask) (reader : ReaderMarks) where
 
   module _ (old mid new : Walk S) (before middle : List ℕ) (counted count : ℕ) (s : RowsSoFar old mid before middle counted count)
       (was : HasReturned g new.store.now → HasReturned g mid.store.now) where
-    -- why it stopped after a message, where the writer failed or memory was wanting
-    pub rows_stopped : (after : List ℕ) (k counts failed fails : ℕ) (fault : DeskFault) → counts ≡ min (count + k) 18446744073709551615
-        → IsShownStop middle after failed fails k fault → IsRowsStop before after failed fails counted counts fault
-    rows_stopped after k counts failed fails Write sum stop = stop
-    rows_stopped after k counts failed fails Memory sum stop = (
-      stop.2,
-      (s.part, stop.1 ∙ s.out, omega (arith, sum, stop.0, s.counts_is)),
-    )
-    rows_stopped after k counts failed fails NoList sum stop = absurd stop
-    rows_stopped after k counts failed fails NoPerson sum stop = absurd stop
-    rows_stopped after k counts failed fails NotInView sum stop = absurd stop
-    rows_stopped after k counts failed fails (Stored fault) sum stop = absurd stop
+    -- why it stopped after a message, where memory was wanting
+    pub rows_wanting : (after : List ℕ) (failed fails : ℕ) → after ≡ middle → fails ≡ failed → IsRowsStop before after failed fails counted count Memory
+    rows_wanting after failed fails same quiet = (quiet, (s.part, same ∙ s.out, s.counts_is))
 
     module _ (m : Message)
         (gives : HasReturned g new.store.now → (all : List Remembered) (a : Archive) (given : List Remembered) → WalksOver g ask.list all a given mid
@@ -152,6 +143,11 @@ module _ {S : Type 0} (g : Ghosts S) (ask : Ask) (reader : ReaderMarks) where
               omega (arith, sum, s.counts_is),
             ),
           )
+
+      -- nothing of it was written
+      pub rows_refused : (after : List ℕ) (fault : DeskFault) → (length after < 2 ^ 64 → IsCutShort middle after text 0)
+          → WritesRows g old new ask reader before after counted count (Err fault)
+      rows_refused after fault cut = rows_unwritten after 0 count fault cut (omega (arith, s.counts_is))
 
     -- messages that the policy does not show were passed by
     pub rows_past : PassesWithheld g mid new ask reader {A = Unit {0}} (Ok tt) → RowsSoFar old new before middle counted count
@@ -209,6 +205,15 @@ module _ {S : Type 0} (g : Ghosts S) (ask : Ask) (reader : ReaderMarks) where
           s.out ∙ ap (λ x. before ++ x) whole,
           s.counts_is ∙ ap (λ x. min (counted + length x) 18446744073709551615) whole,
         )
+
+  -- a want of memory that is counted changes nothing of it
+  pub rows_counted : (old new counted : Walk S) (before after : List ℕ) (from to : ℕ) (fault : DeskFault) → CountsOne new counted
+      → WritesRows g old new ask reader before after from to (Err fault) → WritesRows g old counted ask reader before after from to (Err fault)
+  rows_counted old new counted before after from to fault one rows = λ returned all a w.
+      let it = rows (subst (HasReturned g) one.store returned) all a w in (
+        subst (λ s. MatchOption (reason fault) (IsOpen g s → HoldsTables g s × (archive_in g s ≡ a)) (λ _. HoldsTables g s × (archive_in g s ≡ a))) (sym one.store) it.0,
+        it.1,
+      )
 
 -- ---- behind a head
 

@@ -1,9 +1,7 @@
 //! Why a question is not answered.
-ghost use Rattle.archive_store.specs.Wanting.{Raises};
 ghost use Rattle.archive_desk.specs.Faults.{desk_fault};
-ghost use Rattle.archive_desk.specs.Causes.{IsOwnWant};
 
-use archive_store::{StoreFault, Wants};
+use archive_store::StoreFault;
 use std::error::Error;
 use std::fmt;
 
@@ -64,13 +62,3 @@ impl fmt::Display for DeskFault {
 }
 
 impl Error for DeskFault {}
-
-/// Counts a want of memory that the desk met itself, G5: what the store refused, it has counted.
-pub(crate) fn raise_for<T>(wants: &mut Wants, answer: &Result<T, DeskFault>)
-    ensures { Raises IsOwnWant wants.old wants.new answer.now }
-{
-    match answer {
-        Err(DeskFault::Memory) => wants.raise(),
-        _ => {}
-    }
-}

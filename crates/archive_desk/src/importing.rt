@@ -1,20 +1,19 @@
 //! Taking the messages of a file into a list.
-ghost use Rattle.std.specs.Prelude.{◌≡◌, ◌<◌, ◌≤◌, ◌∷◌, [], true, IfOk, IfErr};
+ghost use Rattle.std.specs.Prelude.{◌≡◌, ◌∷◌, [], true, IfOk, IfErr};
 ghost use Rattle.mbox_core.specs.Division.{Divides};
 ghost use Rattle.archive_machine.specs.Commands.{no_list};
 ghost use Rattle.archive_machine.specs.Questions.{has_list, list_refusal};
-ghost use Rattle.archive_store.specs.Replies.{RefusedFor, refusal};
+ghost use Rattle.archive_store.specs.Replies.{refusal};
 ghost use Rattle.archive_store.specs.Batches.{tally_of as store_tally};
-ghost use Rattle.archive_store.specs.Told.{AsksIn, Calls, Caused, Counts as CountsWants, HoldsTables, WasOpen};
-ghost use Rattle.archive_store.specs.Wanting.{IsWant};
-ghost use Rattle.archive_desk.specs.Importing.{HasAdded, IsBrokenAdd, IsBrokenImport, IsCutStop, IsImportWant};
+ghost use Rattle.archive_store.specs.Told.{AsksIn, Calls, Counts as CountsWants, EndsAsk, HoldsTables, WasOpen};
+ghost use Rattle.archive_desk.specs.Importing.{HasAdded, IsBrokenAdd, IsBrokenImport, IsImportWant, IsUncut};
 ghost use Rattle.archive_desk.specs.Importing.{IsImported, IsRefusedAdd, IsRefusedImport, stop_reason, tally_of};
 ghost use Rattle.archive_desk.specs.declared.importing.ImportFault.TheVariants.{Store as Stored};
 
-use archive_store::{AddStop, Report as Counts, Store, StoreFault, Wants};
+use archive_store::{AddReport, AddStop, Store, StoreFault};
 use mbox_core::{Item, MboxFault, cut};
 use sqlite::Alter;
-use std::alloc::Global;
+use std::alloc::{AllocError, Global};
 use std::error::Error;
 use std::fmt;
 
@@ -84,32 +83,33 @@ pub fn import<S: Alter>(
     }
     match cut_items(alloc, mbox) {
         Ok(items) => add_items(store, alloc, list, &items),
-        Err(fault) => {
-            raise_at(&mut store.wants, fault);
+        Err(Uncut::Mbox(fault)) => {
+            let fault = ImportFault::Mbox(fault);
+            Err(ImportStop { done: 0, fault })
+        }
+        Err(Uncut::Refused(refused)) => {
+            store.wants.raise(refused.into());
+            let fault = ImportFault::Store(StoreFault::Memory);
             Err(ImportStop { done: 0, fault })
         }
     }
 }
 
-/// Counts a want of memory while the file is cut.
-fn raise_at(wants: &mut Wants, fault: ImportFault)
-    ensures grows { wants.old ≤ wants.new }
-    ensures raised { IsImportWant fault → wants.old < wants.new }
-{
-    match fault {
-        ImportFault::Store(StoreFault::Memory) => wants.raise(),
-        _ => {}
-    }
+/// Why a file is not cut.
+enum Uncut {
+    /// M1.
+    Mbox(MboxFault),
+    /// Memory for its messages was refused.
+    Refused(AllocError),
 }
 
 /// Looks a list up: E4 where there is none of this name; E14, E15.
 pub fn find_list<S: Alter>(store: &mut Store<S>, list: &str) -> Result<(), StoreFault>
-    ensures found { AsksIn S.Store (HoldsTables S.Store) store.old store.new refusal result (λ a. list_refusal a list.now)
+    ensures found { AsksIn S.Store (HoldsTables S.Store) store.old store.new refusal result
+        (λ a. list_refusal a list.now)
         (λ a _. has_list a list.now ≡ true) }
     ensures was_open { WasOpen S.Store store.old store.new refusal result }
-    ensures caused { Caused S.Store store.old store.new result }
-    ensures kind { RefusedFor result (no_list ∷ []) }
-    ensures counted { CountsWants IsWant store.old store.new result }
+    ensures ends { EndsAsk S.Store store.old store.new result (no_list ∷ []) }
 {
     match store.has_list(list) {
         Ok(true) => Ok(()),
@@ -119,17 +119,17 @@ pub fn find_list<S: Alter>(store: &mut Store<S>, list: &str) -> Result<(), Store
 }
 
 /// The messages of a file. Their texts are the file's own bytes.
-fn cut_items<'a>(alloc: Global, mbox: &'a [u8]) -> Result<Vec<Item<'a>>, ImportFault>
+fn cut_items<'a>(alloc: Global, mbox: &'a [u8]) -> Result<Vec<Item<'a>>, Uncut>
     ensures divided { IfOk result (λ items. Divides mbox.entry.now items.items) }
-    ensures fault { IfErr result (λ fault. IsCutStop mbox.entry.now fault) }
+    ensures fault { IfErr result (λ fault. IsUncut mbox.entry.now fault) }
 {
     let messages = match cut(mbox) {
         Ok(messages) => messages,
-        Err(fault) => return Err(ImportFault::Mbox(fault)),
+        Err(fault) => return Err(Uncut::Mbox(fault)),
     };
     match messages.collect(alloc) {
         Ok(items) => Ok(items),
-        Err(_) => Err(ImportFault::Store(StoreFault::Memory)),
+        Err(refused) => Err(Uncut::Refused(refused)),
     }
 }
 
@@ -152,7 +152,7 @@ fn add_items<S: Alter>(
     }
 }
 
-fn report_of(counts: Counts) -> Report
+fn report_of(counts: AddReport) -> Report
     ensures { tally_of result ≡ store_tally counts }
 {
     Report {

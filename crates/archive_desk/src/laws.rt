@@ -1,5 +1,5 @@
 //! Laws of the desk: each contract is a law over definitions, or over what it is given, and no call does anything.
-ghost use Rattle.std.specs.Prelude.{ℕ, ℤ, List, Result, map};
+ghost use Rattle.std.specs.Prelude.{ℕ, List, Result, map};
 ghost use Rattle.std.specs.List.{All};
 ghost use Rattle.sqlite.specs.Steps.{over_memory};
 ghost use Rattle.sqlite_trees.specs.declared.memory.MemStore.{MemStore};
@@ -7,17 +7,14 @@ ghost use Rattle.mbox_core.specs.Division.{Item};
 ghost use Rattle.mbox_core.specs.Written.{IsItem};
 ghost use Rattle.archive_machine.specs.Records.{Archive};
 ghost use Rattle.archive_machine.specs.Commands.{Command as Told};
-ghost use Rattle.archive_machine.specs.Filing.{in_month, by_author};
 ghost use Rattle.archive_machine.specs.Machine.{step};
-ghost use Rattle.archive_machine.specs.Questions.{messages_in};
 ghost use Rattle.archive_machine.specs.Runs.{run, taken};
 ghost use Rattle.archive_tables.specs.Making.{empty_archive};
 ghost use Rattle.archive_store.specs.Running.{command_of};
 ghost use Rattle.archive_store.specs.declared.faults.StoreFault.{StoreFault};
 ghost use Rattle.archive_store.specs.declared.store.Store.{Store};
 ghost use Rattle.archive_results.specs.Access.{Ask};
-ghost use Rattle.archive_desk.specs.Causes.{IsMessageUnreadable, IsReaderUnreadable, IsUnreadable};
-ghost use Rattle.archive_desk.specs.Readable.{AreListsUnreadable, CanBeRead, IsHolderUnreadable, IsNeverBroken, IsNeverCutOff};
+ghost use Rattle.archive_desk.specs.Readable.{BreaksNoQuestion, CanBeRead, IsNeverBroken, IsNeverCutOff};
 ghost use Rattle.archive_desk.specs.Readable.{IsNeverLost, IsSaid, IsTellable, IsUntroubled};
 ghost use Rattle.archive_desk.specs.declared.exporting.ExportStop.{ExportStop};
 ghost use Rattle.archive_desk.specs.declared.faults.DeskFault.{DeskFault};
@@ -29,9 +26,12 @@ use sqlite::Alter;
 /// Where an archive can be read, the same holds after a command of which this is so that is so of each command of the code, and
 /// after any number of them, as after messages that can be written are added to a list. The empty archive can be read.
 pub fn what_commands_write_can_be_read()
-    ensures step { (a : Archive) (command : Told) → IsSaid command → CanBeRead a → CanBeRead (step a command).0 }
-    ensures run { (a : Archive) (commands : List Told) → All IsSaid commands → CanBeRead a → CanBeRead (run a commands).archive }
-    ensures taken { (a : Archive) (list : List ℕ) (items : List Item) → All IsItem items → CanBeRead a → CanBeRead (taken a list items).archive }
+    ensures step { (a : Archive) (command : Told) → IsSaid command → CanBeRead a
+        → CanBeRead (step a command).0 }
+    ensures run { (a : Archive) (commands : List Told) → All IsSaid commands → CanBeRead a
+        → CanBeRead (run a commands).archive }
+    ensures taken { (a : Archive) (list : List ℕ) (items : List Item) → All IsItem items
+        → CanBeRead a → CanBeRead (taken a list items).archive }
     ensures empty { CanBeRead empty_archive }
 {
     whole_items_are_items();
@@ -66,32 +66,29 @@ pub fn the_commands_of_a_run_are_said(commands: &[Command<'_>])
 /// Where an archive can be read, nothing is so of it that E15 of a question could mean: not of the messages of a list, of a month or of
 /// an author, nor of the message of a key, nor of who asks, nor of the names of lists and of who has a token.
 pub fn nothing_that_can_be_read_breaks_a_question()
-    ensures list { (a : Archive) (ask : Ask) → CanBeRead a → ¬ IsUnreadable a ask (messages_in a ask.list) }
-    ensures month { (a : Archive) (ask : Ask) (month : ℤ) → CanBeRead a → ¬ IsUnreadable a ask (in_month a ask.list month) }
-    ensures author { (a : Archive) (ask : Ask) (key : List ℕ) → CanBeRead a → ¬ IsUnreadable a ask (by_author a ask.list key) }
-    ensures message { (a : Archive) (ask : Ask) (key : List ℕ) → CanBeRead a → ¬ IsMessageUnreadable a ask key }
-    ensures reader { (a : Archive) (ask : Ask) → CanBeRead a → ¬ IsReaderUnreadable a ask }
-    ensures lists { (a : Archive) → CanBeRead a → ¬ AreListsUnreadable a }
-    ensures holder { (a : Archive) (token : List ℕ) → CanBeRead a → ¬ IsHolderUnreadable a token }
+    ensures { (a : Archive) → CanBeRead a → BreaksNoQuestion a }
 {}
 
 /// Over a disk that does not fail in a call, no question of an archive that can be read is answered by G4 that carries E15, no export
 /// stops with it, and neither the lists nor who has a token are refused with E15.
 pub fn only_the_disk_breaks_a_question<S: Alter, A>()
-    ensures question { (old new : Store S) (result : Result A DeskFault) (ask : Ask) → IsUntroubled S.Store old new
+    ensures question { (old new : Store S) (result : Result A DeskFault) (ask : Ask)
+        → IsUntroubled S.Store old new
         → IsNeverBroken S.Store old new result ask }
-    ensures export { (old new : Store S) (result : Result A ExportStop) (ask : Ask) → IsUntroubled S.Store old new
+    ensures export { (old new : Store S) (result : Result A ExportStop) (ask : Ask)
+        → IsUntroubled S.Store old new
         → IsNeverCutOff S.Store old new result ask }
-    ensures names { (old new : Store S) (result : Result A StoreFault) → IsUntroubled S.Store old new → IsNeverLost S.Store old new result }
+    ensures names { (old new : Store S) (result : Result A StoreFault)
+        → IsUntroubled S.Store old new → IsNeverLost S.Store old new result }
 {}
 
 /// In memory each call is such, on the tables of an archive that can be read, without a limit on the steps of a query: so there it
 /// never comes.
 pub fn in_memory_nothing_breaks_a_question<A>()
-    ensures question { (old new : Store MemStore) (result : Result A DeskFault) (ask : Ask) → IsTellable over_memory old
-        → IsNeverBroken over_memory old new result ask }
-    ensures export { (old new : Store MemStore) (result : Result A ExportStop) (ask : Ask) → IsTellable over_memory old
-        → IsNeverCutOff over_memory old new result ask }
-    ensures names { (old new : Store MemStore) (result : Result A StoreFault) → IsTellable over_memory old
-        → IsNeverLost over_memory old new result }
+    ensures question { (old new : Store MemStore) (result : Result A DeskFault) (ask : Ask)
+        → IsTellable over_memory old → IsNeverBroken over_memory old new result ask }
+    ensures export { (old new : Store MemStore) (result : Result A ExportStop) (ask : Ask)
+        → IsTellable over_memory old → IsNeverCutOff over_memory old new result ask }
+    ensures names { (old new : Store MemStore) (result : Result A StoreFault)
+        → IsTellable over_memory old → IsNeverLost over_memory old new result }
 {}

@@ -1,5 +1,5 @@
 //! The lists of a month and of an author, and threads.
-ghost use Rattle.std.specs.Prelude.{◌≡◌, map, pos, Some, IfErr};
+ghost use Rattle.std.specs.Prelude.{◌≡◌, map, pos, Some};
 ghost use Rattle.archive_machine.specs.Filing.{by_author, in_month};
 ghost use Rattle.archive_machine.specs.Questions.{merge_of, messages_in};
 ghost use Rattle.archive_results.specs.Access.{view_of};
@@ -7,13 +7,15 @@ ghost use Rattle.archive_results.specs.Index.{IsIndexOf};
 ghost use Rattle.archive_results.specs.Filed.{filed_author_lines, filed_month_lines};
 ghost use Rattle.archive_results.specs.Results.{author_lines, month_lines, tree_lines, thread_lines};
 ghost use Rattle.archive_results.specs.Shown.{shown_of};
-ghost use Rattle.archive_store.specs.Told.{Asks, AsksIn, Counts, HoldsTables, WasOpen};
-ghost use Rattle.archive_desk.specs.Causes.{Caused, CausedOr, IsUnreadable, IsWanting};
+ghost use Rattle.archive_store.specs.Told.{Asks, AsksIn, HoldsTables};
+ghost use Rattle.archive_desk.specs.Causes.{IsUnreadable};
+ghost use Rattle.archive_desk.specs.Ending.{Ends, EndsAsk};
 ghost use Rattle.archive_desk.specs.Faults.{IsAskFault, ask_reason, list_reason, reason};
 ghost use Rattle.archive_desk.specs.Listing.{IsThreadFault, thread_reason};
 
-use crate::faults::{DeskFault, raise_for};
-use crate::index::{read_author, read_headers, read_month};
+use crate::faults::DeskFault;
+use crate::index::{read_headers, walk_lines};
+use crate::viewing::find_reader;
 use archive_results::{Ask, Header, Line, TreeLine, thread_lines, tree_lines};
 use archive_store::{Key, Store};
 use civil_time::Month;
@@ -23,7 +25,8 @@ use thread_core::Threader;
 
 /// The messages of the view whose sent date lies in a month, by sent date and then in mailbox order: those that are filed under
 /// it, by the sent date that is filed, also where another program filed them otherwise. G1 where there is no such list, G2
-/// where there is no such person; G5 where no memory is left, G4 where the store has none or fails.
+/// where there is no such person; G5 where no memory is left, G4 where the store has none or fails. No other message of the list
+/// is read, and what a message refers to is not kept.
 pub fn month<S: Alter>(
     store: &mut Store<S>,
     alloc: Global,
@@ -32,16 +35,20 @@ pub fn month<S: Alter>(
 ) -> Result<Vec<Line>, DeskFault>
     ensures listed { Asks S.Store store.old store.new reason result (λ a. ask_reason a ask.now)
         (λ a lines. lines.items ≡ month_lines month (map shown_of (view_of a ask.now))) }
-    ensures filed { AsksIn S.Store (HoldsTables S.Store) store.old store.new reason result (λ a. ask_reason a ask.now)
+    ensures filed { AsksIn S.Store (HoldsTables S.Store) store.old store.new reason result
+        (λ a. ask_reason a ask.now)
         (λ a lines. lines.items ≡ filed_month_lines a ask.now (pos month)) }
-    ensures was_open { WasOpen S.Store store.old store.new reason result }
-    ensures fault { IfErr result (λ fault. IsAskFault fault) }
-    ensures caused { CausedOr S.Store store.old store.new result (λ a. IsUnreadable a ask.now (in_month a ask.now.list (pos month))) }
-    ensures counted { Counts IsWanting store.old store.new result }
+    ensures ends { EndsAsk S.Store store.old store.new IsAskFault result
+        (λ a. IsUnreadable a ask.now (in_month a ask.now.list (pos month))) }
 {
-    let lines = read_month(store, alloc, ask, month);
-    raise_for(&mut store.wants, &lines);
-    lines
+    let reader = match find_reader(store, ask) {
+        Ok(reader) => reader,
+        Err(fault) => return Err(fault),
+    };
+    match store.each_in_month(alloc, ask.list, month) {
+        Ok(mut walk) => walk_lines(alloc, ask, &reader, &mut walk),
+        Err(fault) => Err(DeskFault::from(fault)),
+    }
 }
 
 /// The messages of the view that have an author key, by sent date and then in mailbox order: those that are filed under it, as
@@ -55,16 +62,20 @@ pub fn author<S: Alter>(
 ) -> Result<Vec<Line>, DeskFault>
     ensures listed { Asks S.Store store.old store.new reason result (λ a. ask_reason a ask.now)
         (λ a lines. lines.items ≡ author_lines key.now (map shown_of (view_of a ask.now))) }
-    ensures filed { AsksIn S.Store (HoldsTables S.Store) store.old store.new reason result (λ a. ask_reason a ask.now)
+    ensures filed { AsksIn S.Store (HoldsTables S.Store) store.old store.new reason result
+        (λ a. ask_reason a ask.now)
         (λ a lines. lines.items ≡ filed_author_lines a ask.now key.now) }
-    ensures was_open { WasOpen S.Store store.old store.new reason result }
-    ensures fault { IfErr result (λ fault. IsAskFault fault) }
-    ensures caused { CausedOr S.Store store.old store.new result (λ a. IsUnreadable a ask.now (by_author a ask.now.list key.now)) }
-    ensures counted { Counts IsWanting store.old store.new result }
+    ensures ends { EndsAsk S.Store store.old store.new IsAskFault result
+        (λ a. IsUnreadable a ask.now (by_author a ask.now.list key.now)) }
 {
-    let lines = read_author(store, alloc, ask, key);
-    raise_for(&mut store.wants, &lines);
-    lines
+    let reader = match find_reader(store, ask) {
+        Ok(reader) => reader,
+        Err(fault) => return Err(fault),
+    };
+    match store.each_by_author(alloc, ask.list, key) {
+        Ok(mut walk) => walk_lines(alloc, ask, &reader, &mut walk),
+        Err(fault) => Err(DeskFault::from(fault)),
+    }
 }
 
 /// The threads of the view (RFC 5256, section 3, THREAD=REFERENCES), in preorder. Those of one subject are gathered where the
@@ -77,11 +88,10 @@ pub fn threads<T: Threader, S: Alter>(
     threader: &T,
 ) -> Result<Vec<TreeLine>, DeskFault>
     ensures listed { Asks S.Store store.old store.new reason result (λ a. ask_reason a ask.now)
-        (λ a rows. rows.items ≡ tree_lines (merge_of a ask.now.list) (map shown_of (view_of a ask.now))) }
-    ensures was_open { WasOpen S.Store store.old store.new reason result }
-    ensures fault { IfErr result (λ fault. IsAskFault fault) }
-    ensures caused { CausedOr S.Store store.old store.new result (λ a. IsUnreadable a ask.now (messages_in a ask.now.list)) }
-    ensures counted { Counts IsWanting store.old store.new result }
+        (λ a rows. rows.items ≡ tree_lines (merge_of a ask.now.list)
+        (map shown_of (view_of a ask.now))) }
+    ensures ends { EndsAsk S.Store store.old store.new IsAskFault result
+        (λ a. IsUnreadable a ask.now (messages_in a ask.now.list)) }
 {
     let index = match read_index(store, alloc, ask) {
         Ok(index) => index,
@@ -89,8 +99,8 @@ pub fn threads<T: Threader, S: Alter>(
     };
     match tree_lines(alloc, threader, index.headers, index.merge) {
         Ok(rows) => Ok(rows),
-        Err(_) => {
-            store.wants.raise();
+        Err(refused) => {
+            store.wants.raise(refused.into());
             Err(DeskFault::Memory)
         }
     }
@@ -106,12 +116,12 @@ pub fn thread<T: Threader, S: Alter>(
     threader: &T,
     key: &Key,
 ) -> Result<Vec<TreeLine>, DeskFault>
-    ensures listed { Asks S.Store store.old store.new reason result (λ a. thread_reason a ask.now key.now)
-        (λ a rows. thread_lines (merge_of a ask.now.list) key.now (map shown_of (view_of a ask.now)) ≡ Some rows.items) }
-    ensures was_open { WasOpen S.Store store.old store.new reason result }
-    ensures fault { IfErr result (λ fault. IsThreadFault fault) }
-    ensures caused { CausedOr S.Store store.old store.new result (λ a. IsUnreadable a ask.now (messages_in a ask.now.list)) }
-    ensures counted { Counts IsWanting store.old store.new result }
+    ensures listed { Asks S.Store store.old store.new reason result
+        (λ a. thread_reason a ask.now key.now)
+        (λ a rows. thread_lines (merge_of a ask.now.list) key.now
+        (map shown_of (view_of a ask.now)) ≡ Some rows.items) }
+    ensures ends { EndsAsk S.Store store.old store.new IsThreadFault result
+        (λ a. IsUnreadable a ask.now (messages_in a ask.now.list)) }
 {
     let index = match read_index(store, alloc, ask) {
         Ok(index) => index,
@@ -120,8 +130,8 @@ pub fn thread<T: Threader, S: Alter>(
     match thread_lines(alloc, threader, index.headers, index.merge, key) {
         Ok(Some(rows)) => Ok(rows),
         Ok(None) => Err(DeskFault::NotInView),
-        Err(_) => {
-            store.wants.raise();
+        Err(refused) => {
+            store.wants.raise(refused.into());
             Err(DeskFault::Memory)
         }
     }
@@ -143,12 +153,12 @@ pub fn read_index<S: Alter>(
     alloc: Global,
     ask: &Ask<'_>,
 ) -> Result<Index, DeskFault>
-    ensures held { AsksIn S.Store (HoldsTables S.Store) store.old store.new reason result (λ a. ask_reason a ask.now)
-        (λ a index. IsIndexOf (view_of a ask.now) index.headers.items × (index.merge ≡ merge_of a ask.now.list)) }
-    ensures was_open { WasOpen S.Store store.old store.new reason result }
-    ensures fault { IfErr result (λ fault. IsAskFault fault) }
-    ensures caused { CausedOr S.Store store.old store.new result (λ a. IsUnreadable a ask.now (messages_in a ask.now.list)) }
-    ensures counted { Counts IsWanting store.old store.new result }
+    ensures held { AsksIn S.Store (HoldsTables S.Store) store.old store.new reason result
+        (λ a. ask_reason a ask.now)
+        (λ a index. IsIndexOf (view_of a ask.now) index.headers.items
+        × (index.merge ≡ merge_of a ask.now.list)) }
+    ensures ends { EndsAsk S.Store store.old store.new IsAskFault result
+        (λ a. IsUnreadable a ask.now (messages_in a ask.now.list)) }
 {
     let headers = match read_headers(store, alloc, ask) {
         Ok(headers) => headers,
@@ -162,11 +172,10 @@ pub fn read_index<S: Alter>(
 
 /// Whether the threads of the list are gathered by subject.
 fn find_merge<S: Alter>(store: &mut Store<S>, ask: &Ask<'_>) -> Result<bool, DeskFault>
-    ensures found { AsksIn S.Store (HoldsTables S.Store) store.old store.new reason result (λ a. list_reason a ask.now)
+    ensures found { AsksIn S.Store (HoldsTables S.Store) store.old store.new reason result
+        (λ a. list_reason a ask.now)
         (λ a merge. merge ≡ merge_of a ask.now.list) }
-    ensures fault { IfErr result (λ fault. IsAskFault fault) }
-    ensures caused { Caused S.Store store.old store.new result }
-    ensures counted { Counts IsWanting store.old store.new result }
+    ensures ends { Ends S.Store store.old store.new IsAskFault result (λ _. ⊥) }
 {
     Ok(store.merge_of(ask.list)?)
 }

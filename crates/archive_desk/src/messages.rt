@@ -1,11 +1,12 @@
 //! One message, asked for by its key.
-ghost use Rattle.std.specs.Prelude.{◌≡◌, ◌⊎◌, IfErr, option_map};
+ghost use Rattle.std.specs.Prelude.{◌≡◌, ◌⊎◌, option_map};
 ghost use Rattle.archive_machine.specs.Questions.{message_of};
 ghost use Rattle.archive_machine.specs.Messages.{remembered};
 ghost use Rattle.archive_results.specs.Access.{asked_of, asked_on, reader_marks, told};
-ghost use Rattle.archive_store.specs.Told.{Asks, AsksIn, Counts, HoldsTables, WasOpen};
+ghost use Rattle.archive_store.specs.Told.{Asks, AsksIn, HoldsTables};
 ghost use Rattle.archive_desk.specs.Asking.{standing_reason};
-ghost use Rattle.archive_desk.specs.Causes.{CausedOr, IsMessageUnreadable, IsReaderUnreadable, IsWanting};
+ghost use Rattle.archive_desk.specs.Causes.{IsMessageUnreadable, IsReaderUnreadable};
+ghost use Rattle.archive_desk.specs.Ending.{Ends, EndsAsk};
 ghost use Rattle.archive_desk.specs.Faults.{IsAskFault, ask_reason, list_reason, reason};
 
 use crate::faults::DeskFault;
@@ -26,11 +27,8 @@ pub fn message<'p, S: Alter>(
 ) -> Result<Asked<'p>, DeskFault>
     ensures asked { Asks S.Store store.old store.new reason result (λ a. ask_reason a ask.entry.now)
         (λ a answer. told answer ≡ asked_of a ask.entry.now key.now) }
-    ensures was_open { WasOpen S.Store store.old store.new reason result }
-    ensures fault { IfErr result (λ fault. IsAskFault fault) }
-    ensures caused { CausedOr S.Store store.old store.new result
+    ensures ends { EndsAsk S.Store store.old store.new IsAskFault result
         (λ a. IsMessageUnreadable a ask.entry.now key.now ⊎ IsReaderUnreadable a ask.entry.now) }
-    ensures counted { Counts IsWanting store.old store.new result }
 {
     match find_row(store, ask, key) {
         Ok(held) => answer_on(store, alloc, ask, &held),
@@ -44,12 +42,11 @@ fn find_row<S: Alter>(
     ask: &Ask<'_>,
     key: &Key,
 ) -> Result<Option<Message>, DeskFault>
-    ensures held { AsksIn S.Store (HoldsTables S.Store) store.old store.new reason result (λ a. list_reason a ask.now)
+    ensures held { AsksIn S.Store (HoldsTables S.Store) store.old store.new reason result
+        (λ a. list_reason a ask.now)
         (λ a found. option_map (remembered ask.now.list) found ≡ message_of a ask.now.list key.now) }
-    ensures was_open { WasOpen S.Store store.old store.new reason result }
-    ensures fault { IfErr result (λ fault. IsAskFault fault) }
-    ensures caused { CausedOr S.Store store.old store.new result (λ a. IsMessageUnreadable a ask.now key.now) }
-    ensures counted { Counts IsWanting store.old store.new result }
+    ensures ends { EndsAsk S.Store store.old store.new IsAskFault result
+        (λ a. IsMessageUnreadable a ask.now key.now) }
 {
     Ok(store.row(ask.list, key)?)
 }
@@ -61,18 +58,18 @@ fn answer_on<'p, S: Alter>(
     ask: &Ask<'p>,
     held: &Option<Message>,
 ) -> Result<Asked<'p>, DeskFault>
-    ensures asked { AsksIn S.Store (HoldsTables S.Store) store.old store.new reason result (λ a. standing_reason a ask.entry.now)
+    ensures asked { AsksIn S.Store (HoldsTables S.Store) store.old store.new reason result
+        (λ a. standing_reason a ask.entry.now)
         (λ a answer. told answer ≡ asked_on ask.entry.now (reader_marks a ask.entry.now)
         (option_map (remembered ask.entry.now.list) held.now)) }
-    ensures fault { IfErr result (λ fault. IsAskFault fault) }
-    ensures caused { CausedOr S.Store store.old store.new result (λ a. IsReaderUnreadable a ask.entry.now) }
-    ensures counted { Counts IsWanting store.old store.new result }
+    ensures ends { Ends S.Store store.old store.new IsAskFault result
+        (λ a. IsReaderUnreadable a ask.entry.now) }
 {
     let reader = find_marks(store, ask)?;
     match asked(alloc, ask, &reader, held) {
         Ok(answer) => Ok(answer),
-        Err(_) => {
-            store.wants.raise();
+        Err(refused) => {
+            store.wants.raise(refused.into());
             Err(DeskFault::Memory)
         }
     }

@@ -55,7 +55,8 @@ fn pass_next<S: Alter>(
 
 /// What a policy weighs of these marks, of a message that is not the reader's own.
 fn weighed(marks: DatedMarks) -> Marks
-    ensures { (m : Remembered) → AreMarksOf marks m → result ≡ record (marks_of None m) { own = false } }
+    ensures { (m : Remembered) → AreMarksOf marks m
+        → result ≡ record (marks_of None m) { own = false } }
 {
     Marks {
         arrival: marks.arrival,

@@ -1,12 +1,13 @@
 //! The view: the messages of a list that the policy allows the reader.
-ghost use Rattle.std.specs.Prelude.{◌≡◌, map, filter, IfErr, IfOk, Some, option_map, string_bytes};
+ghost use Rattle.std.specs.Prelude.{◌≡◌, map, filter, IfOk, Some, option_map, string_bytes};
 ghost use Rattle.archive_machine.specs.Questions.{address_of, messages_in, standing_of, standing_refusal};
 ghost use Rattle.archive_machine.specs.Messages.{remembered};
 ghost use Rattle.archive_results.specs.Access.{is_shown, standing_ranked, view_of};
-ghost use Rattle.archive_store.specs.Told.{Asks, AsksIn, Counts, HoldsTables, WasOpen};
+ghost use Rattle.archive_store.specs.Told.{Asks, AsksIn, HoldsTables};
 ghost use Rattle.archive_desk.specs.Asking.{IsEnough, person_reason, standing_reason};
-ghost use Rattle.archive_desk.specs.Causes.{AreUnreadable, CausedOr, IsAddressUnreadable, IsPersonUnreadable, IsRankUnknown};
-ghost use Rattle.archive_desk.specs.Causes.{IsReaderUnreadable, IsUnreadable, IsWanting};
+ghost use Rattle.archive_desk.specs.Causes.{AreUnreadable, IsAddressUnreadable, IsPersonUnreadable, IsRankUnknown};
+ghost use Rattle.archive_desk.specs.Causes.{IsReaderUnreadable, IsUnreadable};
+ghost use Rattle.archive_desk.specs.Ending.{Ends, EndsAsk};
 ghost use Rattle.archive_desk.specs.Faults.{IsAskFault, ask_reason, list_reason, reason, reason_by};
 
 use crate::faults::DeskFault;
@@ -27,9 +28,8 @@ pub fn view<S: Alter>(
 ) -> Result<Vec<Message>, DeskFault>
     ensures shown { Asks S.Store store.old store.new reason result (λ a. ask_reason a ask.now)
         (λ a found. map (remembered ask.now.list) found.items ≡ view_of a ask.now) }
-    ensures fault { IfErr result (λ fault. IsAskFault fault) }
-    ensures caused { CausedOr S.Store store.old store.new result (λ a. IsUnreadable a ask.now (messages_in a ask.now.list)) }
-    ensures counted { Counts IsWanting store.old store.new result }
+    ensures ends { Ends S.Store store.old store.new IsAskFault result
+        (λ a. IsUnreadable a ask.now (messages_in a ask.now.list)) }
 {
     let messages = match read_list(store, alloc, ask) {
         Ok(messages) => messages,
@@ -41,8 +41,8 @@ pub fn view<S: Alter>(
     };
     match keep_shown(alloc, ask, &reader, messages) {
         Ok(kept) => Ok(kept),
-        Err(_) => {
-            store.wants.raise();
+        Err(refused) => {
+            store.wants.raise(refused.into());
             Err(DeskFault::Memory)
         }
     }
@@ -54,11 +54,11 @@ pub(crate) fn read_list<S: Alter>(
     alloc: Global,
     ask: &Ask<'_>,
 ) -> Result<Vec<Message>, DeskFault>
-    ensures held { AsksIn S.Store (HoldsTables S.Store) store.old store.new reason result (λ a. list_reason a ask.now)
+    ensures held { AsksIn S.Store (HoldsTables S.Store) store.old store.new reason result
+        (λ a. list_reason a ask.now)
         (λ a found. map (remembered ask.now.list) found.items ≡ messages_in a ask.now.list) }
-    ensures fault { IfErr result (λ fault. IsAskFault fault) }
-    ensures caused { CausedOr S.Store store.old store.new result (λ a. AreUnreadable (messages_in a ask.now.list)) }
-    ensures counted { Counts IsWanting store.old store.new result }
+    ensures ends { Ends S.Store store.old store.new IsAskFault result
+        (λ a. AreUnreadable (messages_in a ask.now.list)) }
 {
     Ok(store.rows(alloc, ask.list)?)
 }
@@ -67,12 +67,11 @@ pub(crate) fn read_list<S: Alter>(
 /// turns on it. G1 where there is no such list, and then G2 where there is no such person; G4 where the store has no memory or
 /// fails.
 pub fn find_reader<S: Alter>(store: &mut Store<S>, ask: &Ask<'_>) -> Result<ReaderMarks, DeskFault>
-    ensures found { AsksIn S.Store (HoldsTables S.Store) store.old store.new reason result (λ a. ask_reason a ask.now)
+    ensures found { AsksIn S.Store (HoldsTables S.Store) store.old store.new reason result
+        (λ a. ask_reason a ask.now)
         (λ a reader. IsEnough a ask.now reader) }
-    ensures was_open { WasOpen S.Store store.old store.new reason result }
-    ensures fault { IfErr result (λ fault. IsAskFault fault) }
-    ensures caused { CausedOr S.Store store.old store.new result (λ a. IsReaderUnreadable a ask.now) }
-    ensures counted { Counts IsWanting store.old store.new result }
+    ensures ends { EndsAsk S.Store store.old store.new IsAskFault result
+        (λ a. IsReaderUnreadable a ask.now) }
 {
     match find_list(store, ask.list) {
         Ok(()) => find_marks(store, ask),
@@ -85,11 +84,11 @@ pub(crate) fn find_marks<S: Alter>(
     store: &mut Store<S>,
     ask: &Ask<'_>,
 ) -> Result<ReaderMarks, DeskFault>
-    ensures found { AsksIn S.Store (HoldsTables S.Store) store.old store.new reason result (λ a. standing_reason a ask.now)
+    ensures found { AsksIn S.Store (HoldsTables S.Store) store.old store.new reason result
+        (λ a. standing_reason a ask.now)
         (λ a reader. IsEnough a ask.now reader) }
-    ensures fault { IfErr result (λ fault. IsAskFault fault) }
-    ensures caused { CausedOr S.Store store.old store.new result (λ a. IsReaderUnreadable a ask.now) }
-    ensures counted { Counts IsWanting store.old store.new result }
+    ensures ends { Ends S.Store store.old store.new IsAskFault result
+        (λ a. IsReaderUnreadable a ask.now) }
 {
     match ask.reader {
         Reader::Nobody => Ok(ReaderMarks {
@@ -110,9 +109,8 @@ fn person_marks<S: Alter>(
     ensures found { AsksIn S.Store (HoldsTables S.Store) store.old store.new reason result
         (λ a. option_map reason_by (standing_refusal a name.now ask.now.list))
         (λ a reader. IsEnough a (record ask.now { reader = Some name.now }) reader) }
-    ensures fault { IfErr result (λ fault. IsAskFault fault) }
-    ensures caused { CausedOr S.Store store.old store.new result (λ a. IsPersonUnreadable a ask.now name.now) }
-    ensures counted { Counts IsWanting store.old store.new result }
+    ensures ends { Ends S.Store store.old store.new IsAskFault result
+        (λ a. IsPersonUnreadable a ask.now name.now) }
 {
     let standing = match find_standing(store, ask, name) {
         Ok(standing) => standing,
@@ -138,21 +136,21 @@ fn find_standing<S: Alter>(
 ) -> Result<Standing, DeskFault>
     ensures found { AsksIn S.Store (HoldsTables S.Store) store.old store.new reason result
         (λ a. option_map reason_by (standing_refusal a name.now ask.now.list))
-        (λ a standing. standing ≡ standing_ranked (standing_of a name.now ask.now.list ask.now.day)) }
-    ensures fault { IfErr result (λ fault. IsAskFault fault) }
-    ensures caused { CausedOr S.Store store.old store.new result (λ a. IsRankUnknown a ask.now name.now) }
-    ensures counted { Counts IsWanting store.old store.new result }
+        (λ a standing. standing ≡ standing_ranked
+        (standing_of a name.now ask.now.list ask.now.day)) }
+    ensures ends { Ends S.Store store.old store.new IsAskFault result
+        (λ a. IsRankUnknown a ask.now name.now) }
 {
     Ok(store.standing(name, ask.list, ask.day)?)
 }
 
 /// The address of a person, who may have none.
 fn find_address<S: Alter>(store: &mut Store<S>, name: &str) -> Result<Option<String>, DeskFault>
-    ensures found { AsksIn S.Store (HoldsTables S.Store) store.old store.new reason result (λ a. person_reason a name.now)
+    ensures found { AsksIn S.Store (HoldsTables S.Store) store.old store.new reason result
+        (λ a. person_reason a name.now)
         (λ a address. option_map string_bytes address ≡ address_of a name.now) }
-    ensures fault { IfErr result (λ fault. IsAskFault fault) }
-    ensures caused { CausedOr S.Store store.old store.new result (λ a. IsAddressUnreadable a name.now) }
-    ensures counted { Counts IsWanting store.old store.new result }
+    ensures ends { Ends S.Store store.old store.new IsAskFault result
+        (λ a. IsAddressUnreadable a name.now) }
 {
     Ok(store.address(name)?)
 }
@@ -165,7 +163,8 @@ fn keep_shown(
     messages: Vec<Message>,
 ) -> Result<Vec<Message>, Memory>
     ensures { IfOk result (λ kept.
-        kept.items ≡ filter (λ m. is_shown ask.now reader.now (remembered ask.now.list m)) messages.items) }
+        kept.items ≡ filter (λ m. is_shown ask.now reader.now
+        (remembered ask.now.list m)) messages.items) }
 {
     let mut kept = Vec::new(alloc);
     for message in messages {

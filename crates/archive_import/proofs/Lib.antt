@@ -1,3 +1,4 @@
 pub mod IntakeLemmas
 pub mod StopLemmas
 pub mod ReadLemmas
+pub mod WantLemmas

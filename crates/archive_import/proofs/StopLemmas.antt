@@ -20,7 +20,7 @@ use Rattle.archive_store.specs.Told.{Lasts, HoldsTables, IsReady, archive_in, Go
 use Rattle.archive_store.specs.declared.store.Store.{Store}
 use Rattle.archive_store.specs.declared.faults.StoreFault.TheVariants.{Memory as NoMemory}
 use Rattle.archive_store.specs.declared.batches.AddStop.{AddStop}
-use Rattle.archive_store.specs.declared.batches.Report.{Report as Counts}
+use Rattle.archive_store.specs.declared.batches.AddReport.{AddReport}
 use Rattle.archive_store.proofs.Joins.{goes_on, goes_on_if_open, goes_as, goes_as_if_open, ready_with, stays_there}
 use Rattle.archive_store.proofs.RightLemmas.{taken_right}
 use Rattle.archive_desk.specs.Importing.{IsBrokenAdd}
@@ -121,7 +121,7 @@ abbrev pub BreaksAmid : (list : List ℕ) → (i : IntakeState) → Archive → 
 BreaksAmid list i b c stop = (a : Archive) (items : List Item) → IsUnderWay list a b items i → IsBrokenAdd list items a c stop.done stop.fault
 
 module _ {S : Type 0} (g : Ghosts S) (old new : Store S) (list : List ℕ) (i : IntakeState) where
-  pub held_added : (j : IntakeState) (counts : Counts) → Lasts g old new → AddsAll g (held_of old) (held_of new) (Ok counts) list i.held
+  pub held_added : (j : IntakeState) (counts : AddReport) → Lasts g old new → AddsAll g (held_of old) (held_of new) (Ok counts) list i.held
       → j.held ≡ [] → j.done ≡ i.done + length i.held → is_more i.report (tally_of counts) j.report → Goes g old new (Keeps list i j)
   held_added j counts lasts adds none done more = (
     lasts,

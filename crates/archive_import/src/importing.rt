@@ -2,18 +2,19 @@
 ghost use Rattle.std.specs.Prelude.{◌≡◌, ◌≢◌, ◌+◌, ◌≤◌, ◌++◌, ◌∷◌, [], ℕ, List, length, IfOk, IfErr, OnOk, Ok, Err};
 ghost use Rattle.mbox_core.specs.Division.{Item as Message};
 ghost use Rattle.mbox_stream.specs.Cutter.{IsCutter};
-ghost use Rattle.mbox_stream.specs.declared.cutter.Phase.TheVariants.{Open};
 ghost use Rattle.archive_machine.specs.Records.{Archive};
 ghost use Rattle.archive_store.specs.Batches.{AddsAll, told_in};
 ghost use Rattle.archive_store.specs.Held.{held_of};
-ghost use Rattle.archive_store.specs.Told.{Calls, Lasts};
-ghost use Rattle.archive_desk.specs.Importing.{HasAdded, IsBrokenAdd};
-ghost use Rattle.archive_import.specs.Streaming.{Imports, halt_reason, HasFailed, FailedBy, IsHalted, IsBroken, IsReadIn};
+ghost use Rattle.archive_store.specs.Told.{Calls, Counts, Lasts};
+ghost use Rattle.archive_store.specs.Wanting.{IsWant};
+ghost use Rattle.archive_desk.specs.Importing.{IsBrokenAdd, IsImportWant};
+ghost use Rattle.archive_import.specs.Streaming.{Imports, halt_reason, HasFailed, FailedBy, IsFresh, IsHalted, IsBroken, IsReadIn};
+ghost use Rattle.archive_import.specs.Streaming.{IsSettled, ReadsIn, TakesWaiting};
 ghost use Rattle.archive_import.specs.Intake.{IsUnderWay, IsHaltedAdd, IsUnread, IsOfStore};
 
 use crate::intake::Intake;
 use archive_desk::{ImportFault, ImportStop, Report, find_list};
-use archive_store::{AddStop, Report as Counts, Store, StoreFault};
+use archive_store::{AddReport, AddStop, Store, StoreFault};
 use mbox_core::device::Source;
 use mbox_core::{Item, MboxFault, OwnedItem};
 use mbox_stream::Cutter;
@@ -32,10 +33,13 @@ pub fn import_from<S: Alter, R: Source>(
     list: &str,
     input: &mut R,
 ) -> Result<Report, ImportStop>
-    ensures imports { (text : List ℕ) × (ends : ℕ) × (R.told input.new ≡ R.told input.old ++ text) × (R.ends input.new ≡ R.ends input.old + ends)
+    ensures imports { (text : List ℕ) × (ends : ℕ) × (R.told input.new ≡ R.told input.old ++ text)
+        × (R.ends input.new ≡ R.ends input.old + ends)
         × Imports S.Store store.old store.new list.now text ends result }
-    ensures failures { (failed : ℕ) × (R.failures input.new ≡ R.failures input.old + failed) × HasFailed result failed }
+    ensures failures { (failed : ℕ) × (R.failures input.new ≡ R.failures input.old + failed)
+        × HasFailed result failed }
     ensures end { OnOk result (R.ends input.new ≡ R.ends input.old + 1) }
+    ensures counted { Counts (λ stop. IsImportWant stop.fault) store.old store.new result }
 {
     if let Err(fault) = find_list(store, list) {
         return Err(ImportStop {
@@ -64,19 +68,19 @@ fn add_settled<S: Alter, R: Source>(
     cutter: &mut Cutter,
     intake: &mut Intake,
 ) -> Result<(), ImportStop>
-    requires fresh { cutter.old ≡ record { stream = []; taken = []; waiting = []; phase = Open } }
-    requires given { IsCutter cutter.old }
+    requires { IsFresh cutter.old }
     ensures adds { Calls S.Store store.old store.new halt_reason result
-        (λ b c _. (a : Archive) → IsUnderWay list.now a b [] intake.old → IsUnderWay list.now a c cutter.new.taken intake.new)
-        (λ b c why. (a : Archive) → IsUnderWay list.now a b [] intake.old → IsHalted list.now cutter.new.stream 0 a c why.0 why.1)
-        (λ b c stop. (a : Archive) → IsUnderWay list.now a b [] intake.old → IsBroken list.now cutter.new.stream 0 a c stop.done stop.fault) }
-    ensures told { R.told input.new ≡ R.told input.old ++ cutter.new.stream }
-    ensures end { OnOk result (R.ends input.new ≡ R.ends input.old + 1) }
-    ensures no_end { IfErr result (λ _. R.ends input.new ≡ R.ends input.old) }
-    ensures failures { (failed : ℕ) × (R.failures input.new ≡ R.failures input.old + failed) × HasFailed result failed }
-    ensures open { OnOk result (cutter.new.phase ≡ Open) }
-    ensures none { OnOk result (cutter.new.waiting ≡ []) }
-    ensures given { OnOk result (IsCutter cutter.new) }
+        (λ b c _. (a : Archive) → IsUnderWay list.now a b [] intake.old
+        → IsUnderWay list.now a c cutter.new.taken intake.new)
+        (λ b c why. (a : Archive) → IsUnderWay list.now a b [] intake.old
+        → IsHalted list.now cutter.new.stream 0 a c why.0 why.1)
+        (λ b c stop. (a : Archive) → IsUnderWay list.now a b [] intake.old
+        → IsBroken list.now cutter.new.stream 0 a c stop.done stop.fault) }
+    ensures read { ReadsIn (R.told input.old) (R.told input.new) (R.ends input.old)
+        (R.ends input.new)
+        (R.failures input.old) (R.failures input.new) cutter.new.stream result }
+    ensures settled { OnOk result (IsSettled cutter.new) }
+    ensures counted { Counts (λ stop. IsImportWant stop.fault) store.old store.new result }
 {
     for _ in 0..u64::MAX {
         match cutter.read_from(input) {
@@ -111,9 +115,13 @@ fn stop_unread<S: Alter>(
     ensures stopped { OnOk result ⊥ }
     ensures kind { IfErr result (λ stop. FailedBy stop.fault 1) }
     ensures adds { Calls S.Store store.old store.new halt_reason result
-        (λ b c _. (a : Archive) (items : List Message) → IsUnderWay list.now a b items intake.old → ⊥)
-        (λ b c why. (a : Archive) (items : List Message) → IsUnderWay list.now a b items intake.old → IsUnread list.now items a c why.0 why.1)
-        (λ b c stop. (a : Archive) (items : List Message) → IsUnderWay list.now a b items intake.old → IsBrokenAdd list.now items a c stop.done stop.fault) }
+        (λ b c _. (a : Archive) (items : List Message) → IsUnderWay list.now a b items intake.old
+        → ⊥)
+        (λ b c why. (a : Archive) (items : List Message) → IsUnderWay list.now a b items intake.old
+        → IsUnread list.now items a c why.0 why.1)
+        (λ b c stop. (a : Archive) (items : List Message) → IsUnderWay list.now a b items intake.old
+        → IsBrokenAdd list.now items a c stop.done stop.fault) }
+    ensures counted { Counts (λ stop. IsImportWant stop.fault) store.old store.new result }
 {
     match add_held(store, alloc, list, intake) {
         Ok(()) => Err(intake.stop(ImportFault::Mbox(MboxFault::Read))),
@@ -129,14 +137,16 @@ fn add_last<S: Alter>(
     cutter: &mut Cutter,
     intake: &mut Intake,
 ) -> Result<(), ImportStop>
-    requires open { cutter.old.phase ≡ Open }
-    requires none { cutter.old.waiting ≡ [] }
-    requires given { IsCutter cutter.old }
+    requires { IsSettled cutter.old }
     ensures adds { Calls S.Store store.old store.new halt_reason result
-        (λ b c _. (a : Archive) → IsUnderWay list.now a b cutter.old.taken intake.old → IsReadIn list.now cutter.old.stream 1 a c intake.new.report)
-        (λ b c why. (a : Archive) → IsUnderWay list.now a b cutter.old.taken intake.old → IsHalted list.now cutter.old.stream 1 a c why.0 why.1)
-        (λ b c stop. (a : Archive) → IsUnderWay list.now a b cutter.old.taken intake.old → IsBroken list.now cutter.old.stream 1 a c stop.done stop.fault) }
+        (λ b c _. (a : Archive) → IsUnderWay list.now a b cutter.old.taken intake.old
+        → IsReadIn list.now cutter.old.stream 1 a c intake.new.report)
+        (λ b c why. (a : Archive) → IsUnderWay list.now a b cutter.old.taken intake.old
+        → IsHalted list.now cutter.old.stream 1 a c why.0 why.1)
+        (λ b c stop. (a : Archive) → IsUnderWay list.now a b cutter.old.taken intake.old
+        → IsBroken list.now cutter.old.stream 1 a c stop.done stop.fault) }
     ensures kind { IfErr result (λ stop. FailedBy stop.fault 0) }
+    ensures counted { Counts (λ stop. IsImportWant stop.fault) store.old store.new result }
 {
     match cutter.finish() {
         Ok(()) => {}
@@ -156,16 +166,17 @@ fn add_waiting<S: Alter>(
     cutter: &mut Cutter,
     intake: &mut Intake,
 ) -> Result<(), ImportStop>
-    requires given { IsCutter cutter.old }
+    requires { IsCutter cutter.old }
     ensures adds { Calls S.Store store.old store.new halt_reason result
-        (λ b c _. (a : Archive) (items : List Message) → IsUnderWay list.now a b items intake.old → IsUnderWay list.now a c (items ++ cutter.old.waiting) intake.new)
-        (λ b c why. (a : Archive) (items : List Message) → IsUnderWay list.now a b items intake.old → IsHaltedAdd list.now (items ++ cutter.old.waiting) a c why.0 why.1)
-        (λ b c stop. (a : Archive) (items : List Message) → IsUnderWay list.now a b items intake.old → IsBrokenAdd list.now (items ++ cutter.old.waiting) a c stop.done stop.fault) }
+        (λ b c _. (a : Archive) (items : List Message) → IsUnderWay list.now a b items intake.old
+        → IsUnderWay list.now a c (items ++ cutter.old.waiting) intake.new)
+        (λ b c why. (a : Archive) (items : List Message) → IsUnderWay list.now a b items intake.old
+        → IsHaltedAdd list.now (items ++ cutter.old.waiting) a c why.0 why.1)
+        (λ b c stop. (a : Archive) (items : List Message) → IsUnderWay list.now a b items intake.old
+        → IsBrokenAdd list.now (items ++ cutter.old.waiting) a c stop.done stop.fault) }
     ensures kind { IfErr result (λ stop. FailedBy stop.fault 0) }
-    ensures taken { OnOk result ((cutter.new.taken ≡ cutter.old.taken ++ cutter.old.waiting) × (cutter.new.waiting ≡ [])) }
-    ensures stream { cutter.new.stream ≡ cutter.old.stream }
-    ensures phase { cutter.new.phase ≡ cutter.old.phase }
-    ensures given { IsCutter cutter.new }
+    ensures takes { TakesWaiting cutter.old cutter.new result }
+    ensures counted { Counts (λ stop. IsImportWant stop.fault) store.old store.new result }
 {
     while let Some(item) = cutter.take() {
         match hold_one(store, alloc, list, item, intake) {
@@ -185,10 +196,14 @@ fn hold_one<S: Alter>(
     intake: &mut Intake,
 ) -> Result<(), ImportStop>
     ensures adds { Calls S.Store store.old store.new halt_reason result
-        (λ b c _. (a : Archive) (items : List Message) → IsUnderWay list.now a b items intake.old → IsUnderWay list.now a c (items ++ item ∷ []) intake.new)
-        (λ b c why. (a : Archive) (items : List Message) → IsUnderWay list.now a b items intake.old → IsHaltedAdd list.now (items ++ item ∷ []) a c why.0 why.1)
-        (λ b c stop. (a : Archive) (items : List Message) → IsUnderWay list.now a b items intake.old → IsBrokenAdd list.now (items ++ item ∷ []) a c stop.done stop.fault) }
+        (λ b c _. (a : Archive) (items : List Message) → IsUnderWay list.now a b items intake.old
+        → IsUnderWay list.now a c (items ++ item ∷ []) intake.new)
+        (λ b c why. (a : Archive) (items : List Message) → IsUnderWay list.now a b items intake.old
+        → IsHaltedAdd list.now (items ++ item ∷ []) a c why.0 why.1)
+        (λ b c stop. (a : Archive) (items : List Message) → IsUnderWay list.now a b items intake.old
+        → IsBrokenAdd list.now (items ++ item ∷ []) a c stop.done stop.fault) }
     ensures kind { IfErr result (λ stop. FailedBy stop.fault 0) }
+    ensures counted { Counts (λ stop. IsImportWant stop.fault) store.old store.new result }
 {
     if intake.has_room(&item) {
         return intake.hold(item);
@@ -207,15 +222,23 @@ fn add_held<S: Alter>(
     intake: &mut Intake,
 ) -> Result<(), ImportStop>
     ensures adds { Calls S.Store store.old store.new halt_reason result
-        (λ b c _. (a : Archive) (items : List Message) → IsUnderWay list.now a b items intake.old → IsUnderWay list.now a c items intake.new)
-        (λ b c why. (a : Archive) (items : List Message) → IsUnderWay list.now a b items intake.old → IsHaltedAdd list.now items a c why.0 why.1)
-        (λ b c stop. (a : Archive) (items : List Message) → IsUnderWay list.now a b items intake.old → IsBrokenAdd list.now items a c stop.done stop.fault) }
+        (λ b c _. (a : Archive) (items : List Message) → IsUnderWay list.now a b items intake.old
+        → IsUnderWay list.now a c items intake.new)
+        (λ b c why. (a : Archive) (items : List Message) → IsUnderWay list.now a b items intake.old
+        → IsHaltedAdd list.now items a c why.0 why.1)
+        (λ b c stop. (a : Archive) (items : List Message) → IsUnderWay list.now a b items intake.old
+        → IsBrokenAdd list.now items a c stop.done stop.fault) }
     ensures kind { IfErr result (λ stop. IsOfStore stop.fault) }
     ensures none { OnOk result (intake.new.held ≡ []) }
+    ensures counted { Counts (λ stop. IsImportWant stop.fault) store.old store.new result }
 {
-    let Some(_) = intake.done_after() else {
-        return Err(intake.stop(ImportFault::Store(StoreFault::Memory)));
-    };
+    match intake.done_after() {
+        Ok(_) => {}
+        Err(refused) => {
+            store.wants.raise(refused.into());
+            return Err(intake.stop(ImportFault::Store(StoreFault::Memory)));
+        }
+    }
     match add_owned(store, alloc, list, intake.held()) {
         Ok(counts) => {
             intake.count(alloc, counts);
@@ -231,18 +254,23 @@ fn add_owned<S: Alter>(
     alloc: Global,
     list: &str,
     items: &[OwnedItem],
-) -> Result<Counts, AddStop>
-    ensures step { AddsAll S.Store (held_of store.old) (held_of store.new) result list.now items.now }
+) -> Result<AddReport, AddStop>
+    ensures step { AddsAll S.Store (held_of store.old)
+        (held_of store.new) result list.now items.now }
     ensures total { IfOk result (λ report. told_in report ≡ length items.now) }
     ensures bound { IfErr result (λ stop. stop.done ≤ length items.now) }
     ensures lasts { Lasts S.Store store.old store.new }
+    ensures counted { Counts (λ stop. IsWant stop.fault) store.old store.new result }
 {
     match lend_items(alloc, items) {
         Ok(lent) => store.add_all(alloc, list, &lent),
-        Err(_) => Err(AddStop {
-            done: 0,
-            fault: StoreFault::Memory,
-        }),
+        Err(refused) => {
+            store.wants.raise(refused.into());
+            Err(AddStop {
+                done: 0,
+                fault: StoreFault::Memory,
+            })
+        }
     }
 }
 

@@ -1,14 +1,14 @@
 //! Messages that are held, and then added in one call.
-ghost use Rattle.std.specs.Prelude.{◌≡◌, ◌+◌, ◌≤◌, ◌<◌, ◌^◌, ◌∷◌, ◌++◌, [], IsTrue, length, IfErr, IfSome, OnOk};
+ghost use Rattle.std.specs.Prelude.{◌≡◌, ◌+◌, ◌≤◌, ◌<◌, ◌^◌, ◌∷◌, ◌++◌, [], IsTrue, length, IfErr, IfOk, OnOk};
 ghost use Rattle.archive_desk.specs.declared.importing.ImportFault.TheVariants.{Mbox as NotCut, Store as Stored};
 ghost use Rattle.mbox_core.specs.declared.faults.MboxFault.TheVariants.{Memory as NoRoom};
 ghost use Rattle.archive_store.specs.Batches.{told_in, tally_of as store_tally};
 ghost use Rattle.archive_import.specs.Intake.{IsSmall, is_more};
 
 use archive_desk::{ImportFault, ImportStop, Report};
-use archive_store::{AddStop, Report as Counts};
+use archive_store::{AddReport, AddStop};
 use mbox_core::{MboxFault, OwnedItem};
-use std::alloc::Global;
+use std::alloc::{AllocError, Global};
 use std::marker::Model;
 
 /// Messages that are held, at most. They are many transactions: a call of the store counts its list once, and then adds all.
@@ -42,7 +42,12 @@ impl Model for Intake {
 impl Intake {
     /// Nothing is held, and nothing was done.
     pub(crate) fn new(alloc: Global) -> Intake
-        ensures { result ≡ record { held = []; done = 0; report = record { new = 0; known = 0; too_large = 0 } } }
+        ensures { result ≡ record {
+          held = [];
+          done = 0;
+          report = record
+              { new = 0; known = 0; too_large = 0 };
+        } }
     {
         Intake {
             held: Vec::new(alloc),
@@ -102,8 +107,10 @@ impl Intake {
     /// Holds a message more. M3: there was no memory for it.
     pub(crate) fn hold(&mut self, item: OwnedItem) -> Result<(), ImportStop>
         requires { IsSmall (self.old.held ++ item ∷ []) }
-        ensures ok { OnOk result (self.new ≡ record self.old { held = self.old.held ++ item ∷ [] }) }
-        ensures fault { IfErr result (λ stop. stop ≡ record { done = self.old.done; fault = NotCut NoRoom }) }
+        ensures ok { OnOk result (self.new ≡ record self.old
+            { held = self.old.held ++ item ∷ [] }) }
+        ensures fault { IfErr result (λ stop. stop ≡ record
+            { done = self.old.done; fault = NotCut NoRoom }) }
     {
         let bytes = self.bytes.saturating_add(item.text().len());
         match self.held.push(item) {
@@ -115,15 +122,18 @@ impl Intake {
         }
     }
 
-    /// How many are done once those that are held are. `None` where that is 2^64 or more.
-    pub(crate) fn done_after(&self) -> Option<u64>
-        ensures { IfSome result (λ n. n ≡ self.now.done + length self.now.held) }
+    /// How many are done once those that are held are. Refused where that is 2^64 or more, as if no memory were left to count them.
+    pub(crate) fn done_after(&self) -> Result<u64, AllocError>
+        ensures { IfOk result (λ n. n ≡ self.now.done + length self.now.held) }
     {
-        self.done.checked_add(self.held.len() as u64)
+        match self.done.checked_add(self.held.len() as u64) {
+            Some(done) => Ok(done),
+            None => Err(AllocError),
+        }
     }
 
     /// Those that were held are done: this became of them.
-    pub(crate) fn count(&mut self, alloc: Global, counts: Counts)
+    pub(crate) fn count(&mut self, alloc: Global, counts: AddReport)
         requires fits { self.old.done + length self.old.held < 2 ^ 64 }
         requires total { told_in counts ≡ length self.old.held }
         ensures held { self.new.held ≡ [] }

@@ -1,8 +1,6 @@
 -- What the headers of a view give is what the view gives.
-use Rattle.std.proofs.Common.{◌≡◌, ℕ, Bool, List, [], ◌∷◌, map, Option, Some, None, option_map, Result, Ok, Err, refl, ap, ◌∙◌}
+use Rattle.std.proofs.Common.{◌≡◌, ℕ, Bool, List, [], ◌∷◌, map, Option, Some, None, option_map, refl, ap, ◌∙◌}
 use Rattle.std.specs.Option.{option_and_then}
-use Rattle.std.specs.Prelude.{IfOk, Vec}
-use Rattle.std.specs.declared.alloc.Global.{Global}
 use Rattle.thread_core.specs.Threads.{threads_of}
 use Rattle.thread_core.specs.TopThread.{top_thread_of}
 use Rattle.thread_links.specs.declared.entry.Entry.{Entry}
@@ -22,12 +20,6 @@ entries_of_view (m ∷ ms) = rw (entries_of_view ms) refl
 
 pub lines_are : (view : List Message) (headers : List Header) (lines : List Line) → IsIndexOf view headers → lines ≡ lines_in headers → lines ≡ lines_of (map shown_of view)
 lines_are view headers lines e h = h ∙ ap lines_in e ∙ lines_of_view view
-
--- those that a call gives, where it gives them
-pub lines_are_ok : {E : Type 0} (view : List Message) (headers : List Header) (result : Result (Vec Line Global) E) → IsIndexOf view headers
-    → IfOk result (λ lines. lines.items ≡ lines_in headers) → IfOk result (λ lines. lines.items ≡ lines_of (map shown_of view))
-lines_are_ok view headers (Ok lines) e h = lines_are view headers lines.items e h
-lines_are_ok view headers (Err fault) e h = tt
 
 pub rows_are : (merge : Bool) (view : List Message) (headers : List Header) (entries : List Entry) (rows : List Row) → IsIndexOf view headers → entries ≡ entries_in headers → rows ≡ threads_of entries merge → rows ≡ rows_of merge (map shown_of view)
 rows_are merge view headers entries rows e h r = r ∙ ap (λ (es : List Entry). threads_of es merge) (h ∙ ap entries_in e ∙ entries_of_view view)

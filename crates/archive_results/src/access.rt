@@ -57,7 +57,9 @@ impl Model for Marks {
 
 /// Whether a message is the own one of a reader with this address. It takes memory only where there is one.
 fn is_own(alloc: Global, address: &Option<String>, message: &Message) -> Result<bool, Memory>
-    ensures own { (list : List ℕ) → IfOk result (λ own. own ≡ own_of (option_map string_bytes address.now) (remembered list message.now)) }
+    ensures own { (list : List ℕ)
+        → IfOk result (λ own. own ≡ own_of (option_map string_bytes address.now)
+        (remembered list message.now)) }
     ensures free { address.now ≡ None → IsOk result }
 {
     let Some(address) = address else {
@@ -70,7 +72,8 @@ fn is_own(alloc: Global, address: &Option<String>, message: &Message) -> Result<
 /// The marks of a message that is the reader's own or is not.
 #[tactic(auto, unfolding(crate::specs::Access::marks_of))]
 fn marks_with(own: bool, message: &Message) -> Marks
-    ensures { (list : List ℕ) → result ≡ record (marks_of None (remembered list message.now)) { own = own } }
+    ensures { (list : List ℕ)
+        → result ≡ record (marks_of None (remembered list message.now)) { own = own } }
 {
     Marks {
         arrival: message.item.as_item().envelope.arrival,
@@ -83,7 +86,9 @@ fn marks_with(own: bool, message: &Message) -> Marks
 /// What a policy asks of a message, where the reader has this address. `Memory` where no memory is left for the author key,
 /// which is made only where there is an address.
 pub fn marks_of(alloc: Global, address: &Option<String>, message: &Message) -> Result<Marks, Memory>
-    ensures marks { (list : List ℕ) → IfOk result (λ marks. marks ≡ marks_of (option_map string_bytes address.now) (remembered list message.now)) }
+    ensures marks { (list : List ℕ)
+        → IfOk result (λ marks. marks ≡ marks_of (option_map string_bytes address.now)
+        (remembered list message.now)) }
     ensures free { address.now ≡ None → IsOk result }
 {
     let own = is_own(alloc, address, message)?;
@@ -116,7 +121,8 @@ fn judge<'a>(
     message: &Message,
 ) -> Result<Verdict<'a>, Memory>
     ensures said { (list : List ℕ) → IfOk result (λ verdict.
-        ruling verdict ≡ ruling_on ask.now reader.now (marks_of reader.now.address (remembered list message.now))) }
+        ruling verdict ≡ ruling_on ask.now reader.now
+        (marks_of reader.now.address (remembered list message.now))) }
     ensures free { asks_author ask.now reader.now ≡ false → IsOk result }
 {
     if !ask.policy.asks_own() {
@@ -131,7 +137,8 @@ fn judge<'a>(
 pub fn asks_author(ask: &Ask<'_>, reader: &ReaderMarks) -> bool
     ensures value { result ≡ asks_author ask.now reader.now }
     ensures alike { result ≡ false → (m : Remembered)
-        → ruling_on ask.now reader.now (record (marks_of None m) { own = false }) ≡ ruling_on ask.now reader.now (marks_of reader.now.address m) }
+        → ruling_on ask.now reader.now (record (marks_of None m)
+        { own = false }) ≡ ruling_on ask.now reader.now (marks_of reader.now.address m) }
 {
     ask.policy.asks_own() && reader.address.is_some()
 }
@@ -139,7 +146,8 @@ pub fn asks_author(ask: &Ask<'_>, reader: &ReaderMarks) -> bool
 /// Whether the policy denies a message of these marks to a reader of these, whatever its text is. It says so of none where who
 /// wrote it matters, and takes no memory.
 pub fn is_withheld(ask: &Ask<'_>, reader: &ReaderMarks, marks: Marks) -> bool
-    ensures { (m : Remembered) → marks ≡ record (marks_of None m) { own = false } → result ≡ is_withheld ask.now reader.now m }
+    ensures { (m : Remembered) → marks ≡ record (marks_of None m) { own = false }
+        → result ≡ is_withheld ask.now reader.now m }
 {
     if asks_author(ask, reader) {
         return false;
@@ -158,7 +166,8 @@ pub fn is_shown(
     reader: &ReaderMarks,
     message: &Message,
 ) -> Result<bool, Memory>
-    ensures shown { (list : List ℕ) → IfOk result (λ shown. shown ≡ is_shown ask.now reader.now (remembered list message.now)) }
+    ensures shown { (list : List ℕ)
+        → IfOk result (λ shown. shown ≡ is_shown ask.now reader.now (remembered list message.now)) }
     ensures free { asks_author ask.now reader.now ≡ false → IsOk result }
 {
     match judge(alloc, ask, reader, message)? {

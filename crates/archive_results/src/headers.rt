@@ -31,7 +31,8 @@ impl Model for Header {
 /// The header of a message, by one pass over its lines. `Memory` where no memory is left. No byte of the message behind its
 /// header is read.
 pub fn header_of(alloc: Global, message: &Message) -> Result<Header, Memory>
-    ensures { (list : List ℕ) → IfOk result (λ header. header ≡ header_of (remembered list message.now)) }
+    ensures { (list : List ℕ)
+        → IfOk result (λ header. header ≡ header_of (remembered list message.now)) }
 {
     let item = message.item.as_item();
     let fields = Fields::of(item.text);

@@ -25,7 +25,8 @@ use thread_core::laws::each_place_stands_in_one_row;
 
 /// A view has no thread of a key exactly where it holds no message of that key.
 pub fn a_thread_is_missing_where_its_message_is()
-    ensures { (merge : Bool) (key : List ℕ) (view : List Shown) → (thread_lines merge key view ≡ None) ↔ (holds key view ≡ false) }
+    ensures { (merge : Bool) (key : List ℕ) (view : List Shown)
+        → (thread_lines merge key view ≡ None) ↔ (holds key view ≡ false) }
 {
     each_place_stands_in_one_row();
 }
@@ -43,9 +44,12 @@ pub fn what_is_filed_right_is_found_by_its_text()
 /// So nobody in particular has an own message, nor has a person without an address, and a message without an author key is
 /// nobody's own.
 pub fn an_own_message_is_a_persons()
-    ensures exactly { (a : Archive) (ask : Ask) (m : Message) → (own_of (reader_marks a ask).address m ≡ true) ↔ IsOwn a ask m }
-    ensures nobody { (a : Archive) (ask : Ask) (m : Message) → ask.reader ≡ None → own_of (reader_marks a ask).address m ≡ false }
-    ensures unaddressed { (a : Archive) (ask : Ask) (person : List ℕ) (m : Message) → ask.reader ≡ Some person
+    ensures exactly { (a : Archive) (ask : Ask) (m : Message)
+        → (own_of (reader_marks a ask).address m ≡ true) ↔ IsOwn a ask m }
+    ensures nobody { (a : Archive) (ask : Ask) (m : Message) → ask.reader ≡ None
+        → own_of (reader_marks a ask).address m ≡ false }
+    ensures unaddressed { (a : Archive) (ask : Ask) (person : List ℕ) (m : Message)
+        → ask.reader ≡ Some person
         → address_of a person ≡ None → own_of (reader_marks a ask).address m ≡ false }
     ensures authored { (a : Archive) (ask : Ask) (m : Message) → HasNamesAndTokens a
         → own_of (reader_marks a ask).address m ≡ true → author_of m.text ≢ [] }
@@ -57,16 +61,23 @@ pub fn an_own_message_is_a_persons()
 /// at any time the archive of all commands but those about this message, where no list was full. All that the two archives remember
 /// beside messages is the same.
 pub fn what_is_withheld_might_never_have_come()
-    ensures never { (a : Archive) (list : List ℕ) (item : Item) → length a.filings ≡ length a.messages
-        → (step a (add list item)).1 ≡ taken_in → without (step a (add list item)).0 list (item_key item) ≡ a }
+    ensures never { (a : Archive) (list : List ℕ) (item : Item)
+        → length a.filings ≡ length a.messages
+        → (step a (add list item)).1 ≡ taken_in
+        → without (step a (add list item)).0 list (item_key item) ≡ a }
     ensures withheld { (a : Archive) (ask : Ask) (list key : List ℕ) → IsWithheld a ask list key
         → view_of a ask ≡ view_of (without a list key) ask }
     ensures withdrawn { (a : Archive) (ask : Ask) (list key : List ℕ) (by : Withdrawn) → by ≢ No
-        → (step a (withdraw list key (number_of by))).1 ≡ done → IsOfAnother a ask list key → DeniesWithdrawnBy by ask (reader_marks a ask)
-        → view_of (step a (withdraw list key (number_of by))).0 ask ≡ view_of (without a list key) ask }
-    ensures history { (a : Archive) (list key : List ℕ) (commands : List Command) → length a.filings ≡ length a.messages
+        → (step a (withdraw list key (number_of by))).1 ≡ done → IsOfAnother a ask list key
+        → DeniesWithdrawnBy by ask (reader_marks a ask)
+        → view_of (step a (withdraw list key (number_of by))).0 ask ≡ view_of
+        (without a list key) ask }
+    ensures history { (a : Archive) (list key : List ℕ) (commands : List Command)
+        → length a.filings ≡ length a.messages
         → All (λ reply. reply ≢ refused list_full) (run a commands).replies
-        → without (run a commands).archive list key ≡ (run (without a list key) (filter (λ command. not (is_about list key command)) commands)).archive }
+        → without (run a commands).archive list key ≡
+        (run (without a list key) (filter (λ command. not
+        (is_about list key command)) commands)).archive }
     ensures beside { (a : Archive) (list key : List ℕ) (by : Withdrawn)
         → beside (step a (withdraw list key (number_of by))).0 ≡ beside (without a list key) }
 {}
@@ -75,13 +86,19 @@ pub fn what_is_withheld_might_never_have_come()
 /// did not write it and to whom the policy denies what this party withdrew, as rules and standings are when they ask. So is one
 /// that was held back up to a day, whatever is commanded but to set its embargo anew or to lift it.
 pub fn what_is_withheld_is_so_later()
-    ensures withdrawn { (a : Archive) (ask : Ask) (list key : List ℕ) (by : Withdrawn) (commands : List Command) → by ≢ No
-        → (step a (withdraw list key (number_of by))).1 ≡ done → NoneOf (ends_withdrawal list key) commands
-        → IsHiddenBy (DeniesWithdrawnBy by) (run (step a (withdraw list key (number_of by))).0 commands).archive ask list key }
-    ensures held_back { (a : Archive) (ask : Ask) (list key : List ℕ) (until : ℤ) (commands : List Command)
+    ensures withdrawn { (a : Archive) (ask : Ask) (list key : List ℕ) (by : Withdrawn)
+        (commands : List Command) → by ≢ No
+        → (step a (withdraw list key (number_of by))).1 ≡ done
+        → NoneOf (ends_withdrawal list key) commands
+        → IsHiddenBy (DeniesWithdrawnBy by) (run
+        (step a (withdraw list key (number_of by))).0 commands).archive ask list key }
+    ensures held_back { (a : Archive) (ask : Ask) (list key : List ℕ) (until : ℤ)
+        (commands : List Command)
         → (step a (embargo list key until)).1 ≡ done → NoneOf (sets_embargo list key) commands
-        → IsHiddenBy (DeniesHeldBack until) (run (step a (embargo list key until)).0 commands).archive ask list key }
-    ensures by_any { (ask : Ask) (reader : ReaderMarks) (by : Withdrawn) → by ≢ No → DeniesWithdrawn ask reader → DeniesWithdrawnBy by ask reader }
+        → IsHiddenBy (DeniesHeldBack until) (run
+        (step a (embargo list key until)).0 commands).archive ask list key }
+    ensures by_any { (ask : Ask) (reader : ReaderMarks) (by : Withdrawn) → by ≢ No
+        → DeniesWithdrawn ask reader → DeniesWithdrawnBy by ask reader }
 {
     what_is_withheld_stays_so();
 }

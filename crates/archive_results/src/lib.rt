@@ -8,7 +8,6 @@ mod entries;
 mod headers;
 pub mod laws;
 mod lines;
-mod results;
 mod threads;
 
 pub use access::{Marks, ReaderMarks, asked, asks_author, is_shown, is_withheld, marks_of};
@@ -16,5 +15,4 @@ pub use asking::{Ask, Asked, Reader};
 pub use entries::{entry_of, line_of};
 pub use headers::{Header, header_of};
 pub use lines::{Line, TreeLine};
-pub use results::lines_of;
 pub use threads::{thread_lines, tree_lines};

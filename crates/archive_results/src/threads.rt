@@ -37,7 +37,8 @@ fn split(alloc: Global, headers: Vec<Header>) -> Result<Parts, Memory>
 /// The line in the slot at a place, taken out of it. `None` where there is no slot, or its line was taken before.
 fn take_line(slots: &mut [Option<Line>], place: usize) -> Option<Line>
     ensures taken { result ≡ held_at slots.old place }
-    ensures others { (other : ℕ) → other ≢ place → held_at slots.new other ≡ held_at slots.old other }
+    ensures others { (other : ℕ) → other ≢ place
+        → held_at slots.new other ≡ held_at slots.old other }
 {
     if place < slots.len() {
         slots[place].take()

@@ -1,8 +1,8 @@
 //! A list of four messages, of which the first is withdrawn.
 use archive_machine::{Key, Message};
 use archive_results::{
-    Ask, Asked, Header, Line, Reader, ReaderMarks, TreeLine, asked, header_of, is_shown, lines_of,
-    thread_lines, tree_lines,
+    Ask, Asked, Header, Reader, ReaderMarks, TreeLine, asked, header_of, is_shown, thread_lines,
+    tree_lines,
 };
 use civil_time::Day;
 use mbox_core::{Item, OwnedItem, cut};
@@ -104,12 +104,12 @@ pub fn view(alloc: Global, standing: Standing) -> Result<Vec<Header>, Fail> {
     Ok(found)
 }
 
-/// The subjects of some lines, each after `|`.
-fn subjects(alloc: Global, lines: &[Line]) -> Result<Vec<u8>, Fail> {
+/// The subjects of the lines of these headers, each after `|`.
+fn subjects(alloc: Global, headers: &[Header]) -> Result<Vec<u8>, Fail> {
     let mut text = Vec::new(alloc);
-    for line in lines {
+    for header in headers {
         text.push(b'|')?;
-        text.extend_from_slice(line.subject.as_slice())?;
+        text.extend_from_slice(header.line.subject.as_slice())?;
     }
     Ok(text)
 }
@@ -137,8 +137,7 @@ pub fn outline(alloc: Global, rows: &[TreeLine]) -> Result<Vec<u8>, Fail> {
 }
 
 fn list(alloc: Global, standing: Standing) -> Result<Vec<u8>, Fail> {
-    let lines = lines_of(alloc, view(alloc, standing)?)?;
-    subjects(alloc, &lines)
+    subjects(alloc, &view(alloc, standing)?)
 }
 
 fn tree(alloc: Global, standing: Standing) -> Result<Vec<u8>, Fail> {

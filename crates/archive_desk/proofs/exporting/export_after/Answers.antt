@@ -1,23 +1,46 @@
-use Rattle.std.proofs.Common.{◌≡◌, ◌++◌, Some, Err, rules, sym, subst, List, inl, inr}
+use Rattle.std.proofs.Common.{◌≡◌, ◌++◌, ℕ, Some, Err, rules, sym, subst, List, inr}
 use Rattle.std.specs.Prelude.{MatchOption}
+use Rattle.archive_machine.specs.Records.{Archive, Message as Remembered}
 use Rattle.archive_machine.specs.Questions.{list_refusal, messages_in}
+use Rattle.archive_results.specs.Access.{ReaderMarks}
 use Rattle.archive_store.specs.Replies.{refusal}
 use Rattle.archive_store.specs.Told.{HoldsTables, GoesIn, GoesInIfOpen}
 use Rattle.archive_store.specs.Walking.{Begins}
-use Rattle.archive_desk.specs.Exporting.{Exports, exported}
 use Rattle.archive_desk.specs.Asking.{IsEnough}
+use Rattle.archive_desk.specs.Causes.{IsReaderUnreadable, IsUnreadable}
+use Rattle.archive_desk.specs.Ending.{EndsExport, TellsWriter}
+use Rattle.archive_desk.specs.Exporting.{Exports, IsExportStop, exported}
 use Rattle.archive_desk.specs.Faults.{ask_reason, reason}
-use Rattle.archive_desk.proofs.CallLemmas.{unanswered_too, unbegun_lasts}
+use Rattle.archive_desk.specs.declared.exporting.ExportStop.{ExportStop}
+use Rattle.archive_desk.proofs.AskLemmas.{is_list_fault}
+use Rattle.archive_desk.proofs.CallLemmas.{unanswered_too}
+use Rattle.archive_desk.proofs.EndLemmas.{export_ends, export_stops, unbegun_ends}
 use Rattle.archive_desk.proofs.ExportLemmas.{not_viewed}
-use Rattle.archive_desk.proofs.WalkExports.{not_begun, walk_ended, walk_parts}
-use Rattle.archive_machine.specs.Records.{Archive, Message as Remembered}
-use Rattle.archive_desk.specs.Causes.{AreUnreadable, HasCause, IsBroken, IsReaderUnreadable, IsUnreadable}
-use Rattle.archive_desk.specs.Walking.{HasWalkCause}
-use Rattle.archive_desk.proofs.CauseLemmas.{cause_after, cause_among, disk_cause, each_fault, store_disk, walk_cause}
+use Rattle.archive_desk.proofs.WalkExports.{leaves_none, not_begun, tells_none, walk_ended, walk_leaves, walk_tells}
 use Rattle.archive_desk.proofs.exporting.export_after.Goals as goal
 
-pub returns-in-Err-each_row-clause-exported : goal.returns-in-Err-each_row-clause-exported
-returns-in-Err-each_row-clause-exported g c =
+pub returns-in-Err-clause-exported : goal.returns-in-Err-clause-exported
+returns-in-Err-clause-exported g c =
+    let ask = c.args.ask.now in
+    let told = g.W.Sink.told c.args.out.now in
+    not_viewed g.S.Store c.args.store.now c.find_reader.new.store ask told told (λ a. c.args.head.now ++ exported a ask) c.in-Err.fault
+    (unanswered_too g.S.Store c.args.store.now c.find_reader.new.store reason (λ a. ask_reason a ask) c.in-Err.fault c.in-Err.ensures.found)
+
+pub returns-in-Err-clause-stopped : goal.returns-in-Err-clause-stopped
+returns-in-Err-clause-stopped g c =
+    let ask = c.args.ask.now in
+    leaves_none g.S.Store c.args.store.now c.find_reader.new.store ask (g.W.Sink.told c.args.out.now) (λ a. c.args.head.now ++ exported a ask) c.in-Err.fault
+
+pub returns-in-Err-clause-writer : goal.returns-in-Err-clause-writer
+returns-in-Err-clause-writer g c = tells_none (g.W.Sink.told c.args.out.now) (g.W.Sink.failures c.args.out.now) c.in-Err.fault c.in-Err.ensures.ends.fault
+
+pub returns-in-Err-clause-ends : goal.returns-in-Err-clause-ends
+returns-in-Err-clause-ends g c =
+    let ask = c.args.ask.now in
+    export_stops g.S.Store ask c.args.store.now c.find_reader.new.store c.find_reader.new.store ReaderMarks c.in-Err.fault (λ a. IsReaderUnreadable a ask) (λ a bad. inr bad) c.in-Err.ensures.ends
+
+pub returns-clause-exported : goal.returns-clause-exported
+returns-clause-exported g c =
     let ask = c.args.ask.now in
     let old = c.args.store.now in
     let mid = c.find_reader.new.store in
@@ -32,65 +55,89 @@ returns-in-Err-each_row-clause-exported g c =
     subst (λ f. Exports g.S.Store old last (Err (record { written = 0; fault = f })) ask told told (λ a. c.args.head.now ++ exported a ask)) (sym c.from.ensures)
     (not_begun g.S.Store old mid ask (λ a. IsEnough a ask c.in-Ok.reader) c.in-Ok.ensures.found last told told (λ a. c.args.head.now ++ exported a ask) fault refused)
 
-pub returns-in-Err-clause-exported : goal.returns-in-Err-clause-exported
-returns-in-Err-clause-exported g c =
+pub returns-clause-stopped : goal.returns-clause-stopped
+returns-clause-stopped g c =
     let ask = c.args.ask.now in
+    leaves_none g.S.Store c.args.store.now c.each_row.follows.lender-at-none ask (g.W.Sink.told c.args.out.now) (λ a. c.args.head.now ++ exported a ask) c.from.result
+
+pub returns-clause-writer : goal.returns-clause-writer
+returns-clause-writer g c =
     let told = g.W.Sink.told c.args.out.now in
-    not_viewed g.S.Store c.args.store.now c.find_reader.new.store ask told told (λ a. c.args.head.now ++ exported a ask) c.in-Err.fault
-    (unanswered_too g.S.Store c.args.store.now c.find_reader.new.store reason (λ a. ask_reason a ask) c.in-Err.fault c.in-Err.ensures.found)
+    let failures = g.W.Sink.failures c.args.out.now in
+    subst (λ f. TellsWriter failures failures {A = ℕ} {F = ExportStop} (Err (record { written = 0; fault = f }))
+    (λ stop. IsExportStop told told failures failures stop.written stop.fault)) (sym c.from.ensures)
+    (tells_none told failures _ (is_list_fault c.in-Err-each_row.fault c.in-Err-each_row.ensures.kind))
 
-pub returns-clause-exported : goal.returns-clause-exported
-returns-clause-exported g c =
-    let list : c.ask.inside.list.now ≡ c.args.ask.now.list = search rules in
-    let is : c.store-2-1.given.0 ≡ c.write_walk-written.new.walk.store.now = search rules in
-    walk_ended g.S.Store c.args.store.now c.find_reader.new.store c.store-2-1.given.0 c.in-Ok-each_row.walk c.write_walk-written.new.walk c.args.ask.now c.in-Ok.reader c.args.head.now
-    (g.W.Sink.told c.args.out.now) (g.W.Sink.told c.write_walk-written.new.out) is c.in-Ok.ensures.found
-    (subst (λ l. Begins g.S.Store c.find_reader.new.store l c.in-Ok-each_row.walk) list c.in-Ok-each_row.ensures.begun) c.write_walk-written.ensures.lasts
-    (g.W.Sink.failures c.args.out.now) (g.W.Sink.failures c.write_walk-written.new.out) c.write_walk-written.result c.write_walk-written.ensures.cause c.write_walk-written.ensures.written
-
-pub returns-clause-part : goal.returns-clause-part
-returns-clause-part g c =
-    let list : c.ask.inside.list.now ≡ c.args.ask.now.list = search rules in
-    let is : c.store-2-1.given.0 ≡ c.write_walk-written.new.walk.store.now = search rules in
-    walk_parts g.S.Store c.args.store.now c.find_reader.new.store c.store-2-1.given.0 c.in-Ok-each_row.walk c.write_walk-written.new.walk c.args.ask.now c.in-Ok.reader c.args.head.now
-    (g.W.Sink.told c.args.out.now) (g.W.Sink.told c.write_walk-written.new.out) is c.in-Ok.ensures.found
-    (subst (λ l. Begins g.S.Store c.find_reader.new.store l c.in-Ok-each_row.walk) list c.in-Ok-each_row.ensures.begun) c.write_walk-written.ensures.lasts
-    (g.W.Sink.failures c.args.out.now) (g.W.Sink.failures c.write_walk-written.new.out) c.write_walk-written.result c.write_walk-written.ensures.written
-
-pub returns-in-Err-clause-caused : goal.returns-in-Err-clause-caused
-returns-in-Err-clause-caused g c = λ it.
-    let ask = c.args.ask.now in
-    cause_among g.S.Store c.args.store.now c.find_reader.new.store (λ a. IsReaderUnreadable a ask) (λ a. IsUnreadable a ask (messages_in a ask.list)) (λ a bad. inr bad)
-    (c.in-Err.ensures.caused it)
-
-pub returns-in-Err-each_row-clause-caused : goal.returns-in-Err-each_row-clause-caused
-returns-in-Err-each_row-clause-caused g c =
+pub returns-clause-ends : goal.returns-clause-ends
+returns-clause-ends g c =
     let ask = c.args.ask.now in
     let old = c.args.store.now in
     let mid = c.find_reader.new.store in
     let last = c.each_row.follows.lender-at-none in
     let fault = c.in-Err-each_row.fault in
+    let found = c.in-Ok.ensures.found in
     let Unread : _ = λ a. IsUnreadable a ask (messages_in a ask.list) in
-    let stops = rw c.in-Err-each_row.is at c.each_row.follows.holds-at-none in
-    subst (λ f. IsBroken f → HasCause g.S.Store old last Unread) (sym c.from.ensures)
-    (λ it. cause_after g.S.Store old mid last (c.in-Ok.ensures.found.0, λ returned held. let there = c.in-Ok.ensures.found.1 returned held in (there.0, there.1.0))
-    (unbegun_lasts g.S.Store mid last fault (λ a why. list_refusal a c.ask.inside.list.now ≡ Some why) stops.0) Unread
-    (disk_cause g.S.Store mid last Unread (store_disk g.S.Store mid last fault stops.1 it)))
+    subst (λ f. EndsExport g.S.Store old last ask (Err (record { written = 0; fault = f }))) (sym c.from.ensures)
+    (export_stops g.S.Store ask old mid last ReaderMarks _ Unread (λ a bad. bad)
+    (unbegun_ends g.S.Store old mid last (found.0, λ returned held. let there = found.1 returned held in (there.0, there.1.0)) c.in-Ok.ensures.ends.counted.0
+    c.in-Ok.ensures.ends.was_open ReaderMarks c.ask.inside.list.now fault Unread (rw c.in-Err-each_row.is at c.each_row.follows.holds-at-none) c.in-Err-each_row.ensures.kind))
 
-pub returns-clause-caused : goal.returns-clause-caused
-returns-clause-caused g c =
+pub returns-in-Ok-each_row-clause-exported : goal.returns-in-Ok-each_row-clause-exported
+returns-in-Ok-each_row-clause-exported g c =
     let ask = c.args.ask.now in
     let old = c.args.store.now in
     let mid = c.find_reader.new.store in
-    let last = c.store-2-1.given.0 in
+    let last = c.store-1.given.0 in
     let walk = c.in-Ok-each_row.walk in
-    let new = c.write_walk-written.new.walk in
+    let new = c.write_walk.new.walk in
     let list : c.ask.inside.list.now ≡ ask.list = search rules in
     let is : last ≡ new.store.now = search rules in
-    let which : Archive → List Remembered = λ a. messages_in a ask.list in
     let begun = subst (λ l. Begins g.S.Store mid l walk) list c.in-Ok-each_row.ensures.begun in
-    each_fault (λ stop. IsBroken stop.fault → HasWalkCause g.S.Store walk new ask) (λ stop. IsBroken stop.fault → HasCause g.S.Store old last (λ a. IsUnreadable a ask (which a)))
-    (λ stop why it. cause_among g.S.Store old last (λ a. AreUnreadable (which a)) (λ a. IsUnreadable a ask (which a)) (λ a bad. inl bad)
-    (walk_cause g.S.Store ask which old mid last walk new is
-    (c.in-Ok.ensures.found.0, λ returned held. let there = c.in-Ok.ensures.found.1 returned held in (there.0, there.1.0)) begun c.write_walk-written.ensures.lasts (why it)))
-    c.write_walk-written.result c.write_walk-written.ensures.caused
+    walk_ended g.S.Store old mid last walk new ask c.in-Ok.reader c.args.head.now (g.W.Sink.told c.args.out.now) (g.W.Sink.told c.write_walk.new.out) is
+    c.in-Ok.ensures.found begun c.write_walk.ensures.ends.lasts (g.W.Sink.failures c.args.out.now) (g.W.Sink.failures c.write_walk.new.out) c.write_walk.result
+    c.write_walk.ensures.writer.cause c.write_walk.ensures.written
+
+pub returns-in-Ok-each_row-clause-stopped : goal.returns-in-Ok-each_row-clause-stopped
+returns-in-Ok-each_row-clause-stopped g c =
+    let ask = c.args.ask.now in
+    let old = c.args.store.now in
+    let mid = c.find_reader.new.store in
+    let last = c.store-1.given.0 in
+    let walk = c.in-Ok-each_row.walk in
+    let new = c.write_walk.new.walk in
+    let list : c.ask.inside.list.now ≡ ask.list = search rules in
+    let is : last ≡ new.store.now = search rules in
+    let begun = subst (λ l. Begins g.S.Store mid l walk) list c.in-Ok-each_row.ensures.begun in
+    walk_leaves g.S.Store old mid last walk new ask c.in-Ok.reader c.args.head.now (g.W.Sink.told c.args.out.now) (g.W.Sink.told c.write_walk.new.out) is
+    c.in-Ok.ensures.found begun c.write_walk.ensures.ends.lasts (g.W.Sink.failures c.args.out.now) (g.W.Sink.failures c.write_walk.new.out) c.write_walk.result
+    c.in-Ok.ensures.ends.was_open c.write_walk.ensures.written
+
+pub returns-in-Ok-each_row-clause-writer : goal.returns-in-Ok-each_row-clause-writer
+returns-in-Ok-each_row-clause-writer g c =
+    let ask = c.args.ask.now in
+    let old = c.args.store.now in
+    let mid = c.find_reader.new.store in
+    let last = c.store-1.given.0 in
+    let walk = c.in-Ok-each_row.walk in
+    let new = c.write_walk.new.walk in
+    let list : c.ask.inside.list.now ≡ ask.list = search rules in
+    let is : last ≡ new.store.now = search rules in
+    let begun = subst (λ l. Begins g.S.Store mid l walk) list c.in-Ok-each_row.ensures.begun in
+    walk_tells g.S.Store old mid last walk new ask c.in-Ok.reader c.args.head.now (g.W.Sink.told c.args.out.now) (g.W.Sink.told c.write_walk.new.out) is
+    c.in-Ok.ensures.found begun c.write_walk.ensures.ends.lasts (g.W.Sink.failures c.args.out.now) (g.W.Sink.failures c.write_walk.new.out) c.write_walk.result
+    c.write_walk.ensures.writer
+
+pub returns-in-Ok-each_row-clause-ends : goal.returns-in-Ok-each_row-clause-ends
+returns-in-Ok-each_row-clause-ends g c =
+    let ask = c.args.ask.now in
+    let old = c.args.store.now in
+    let mid = c.find_reader.new.store in
+    let last = c.store-1.given.0 in
+    let walk = c.in-Ok-each_row.walk in
+    let new = c.write_walk.new.walk in
+    let list : c.ask.inside.list.now ≡ ask.list = search rules in
+    let is : last ≡ new.store.now = search rules in
+    let begun = subst (λ l. Begins g.S.Store mid l walk) list c.in-Ok-each_row.ensures.begun in
+    let found = c.in-Ok.ensures.found in
+    export_ends g.S.Store ask old mid last walk new is (found.0, λ returned held. let there = found.1 returned held in (there.0, there.1.0)) begun
+    c.in-Ok.ensures.ends.counted.0 c.in-Ok.ensures.ends.was_open c.write_walk.result c.write_walk.ensures.ends

@@ -1,14 +1,17 @@
 use Rattle.std.proofs.Common.{◌≡◌, arith, Err, rules, refl, sym, ap, subst, ◌∙◌}
-use Rattle.std.specs.Prelude.{option_map, IfErr}
+use Rattle.std.specs.Prelude.{Vec, option_map}
+use Rattle.std.specs.declared.alloc.Global.{Global}
 use Rattle.archive_tables.proofs.LastLemmas.{lasts_then}
-use Rattle.archive_desk.specs.Causes.{IsBroken}
 use Rattle.archive_desk.specs.Faults.{desk_fault, reason_by}
+use Rattle.archive_results.specs.Shown.{Line}
 use Rattle.archive_desk.specs.Listing.{lines_shown}
-use Rattle.archive_desk.specs.Walking.{ListsRows, HasWalkCause}
+use Rattle.archive_desk.specs.Ending.{EndsWalk}
+use Rattle.archive_desk.specs.Walking.{ListsRows}
 use Rattle.archive_desk.specs.declared.faults.DeskFault.TheVariants.{Memory}
 use Rattle.archive_desk.proofs.AskLemmas.{reasoned}
 use Rattle.archive_desk.proofs.CauseLemmas.{next_cause, pass_cause}
-use Rattle.archive_desk.proofs.IndexLemmas.{lines_apart, listed_more, listed_all, listed_no_more, listed_past, listed_unpassed, listed_unread}
+use Rattle.archive_desk.proofs.EndLemmas.{walk_stops, walk_unheld}
+use Rattle.archive_desk.proofs.IndexLemmas.{listed_counted, lines_apart, listed_more, listed_all, listed_no_more, listed_past, listed_unpassed, listed_unread}
 use Rattle.archive_desk.proofs.index.walk_lines.Goals as goal
 
 pub loop-lines-preserved : goal.loop-lines-preserved
@@ -27,8 +30,9 @@ pub returns-in-Err-clause-listed : goal.returns-in-Err-clause-listed
 returns-in-Err-clause-listed g c =
     let mid = c.pass_withheld.new.walk in
     let past = listed_past lines_shown lines_apart c.args.ask.now c.args.reader.now g.S.Store c.args.walk.now c.loop-lines.walk mid c.loop-lines.lines.items c.loop-lines.invariant.2 c.pass_withheld.ensures.lasts.returned refl c.in_ok-pass_withheld.ensures.passed in
-    listed_no_more lines_shown lines_apart c.args.ask.now c.args.reader.now g.S.Store c.args.walk.now mid c.next.new.self c.loop-lines.lines.items past c.next.ensures.ends.lasts.returned c.in-Some.message Memory refl
-    (λ returned all a given w. rw c.in-Some.is at (c.in_ok-message.ensures.given returned c.args.ask.now.list all a given w))
+    listed_counted lines_shown lines_apart c.args.ask.now c.args.reader.now g.S.Store c.args.walk.now c.next.new.self c.raise.new.self Memory c.raise.ensures.counted
+    (listed_no_more lines_shown lines_apart c.args.ask.now c.args.reader.now g.S.Store c.args.walk.now mid c.next.new.self c.loop-lines.lines.items past c.next.ensures.ends.lasts.returned c.in-Some.message Memory refl
+    (λ returned all a given w. rw c.in-Some.is at (c.in_ok-message.ensures.given returned c.args.ask.now.list all a given w)))
 
 pub returns-in_err-message-clause-listed : goal.returns-in_err-message-clause-listed
 returns-in_err-message-clause-listed g c =
@@ -55,20 +59,37 @@ returns-in_default-clause-listed g c =
     listed_all lines_shown lines_apart c.args.ask.now c.args.reader.now g.S.Store c.args.walk.now mid c.next.new.self c.loop-lines.lines.items past c.next.ensures.ends.lasts.returned c.loop-lines.lines refl
     (λ returned all a given w. rw c.in_default.is at (c.in_ok-message.ensures.given returned c.args.ask.now.list all a given w))
 
-pub returns-in_err-pass_withheld-clause-caused : goal.returns-in_err-pass_withheld-clause-caused
-returns-in_err-pass_withheld-clause-caused g c =
+pub returns-in_err-pass_withheld-clause-ends : goal.returns-in_err-pass_withheld-clause-ends
+returns-in_err-pass_withheld-clause-ends g c =
+    let so_far = c.loop-lines.invariant in
+    let old = c.args.walk.now in
+    let mid = c.loop-lines.walk in
+    let new = c.pass_withheld.new.walk in
     let fault = c.in_err-pass_withheld.field-0.0 in
     let is : c.from_residual.result ≡ Err (desk_fault fault) = search rules in
-    subst (λ r. IfErr r (λ fault. IsBroken fault → HasWalkCause g.S.Store c.args.walk.now c.pass_withheld.new.walk c.args.ask.now)) (sym is)
-    (pass_cause g.S.Store c.args.ask.now c.args.walk.now c.loop-lines.walk c.pass_withheld.new.walk
-    (λ returned all a w. let so_far = c.loop-lines.invariant.2 returned all a w in (so_far.0, so_far.1)) c.loop-lines.invariant.1 c.pass_withheld.ensures.lasts fault c.in_err-pass_withheld.ensures.caused)
+    subst (λ r. EndsWalk g.S.Store old new c.args.ask.now (λ fault. fault) r) (sym is)
+    (walk_stops g.S.Store c.args.ask.now (Vec Line Global) old mid new so_far.1 c.pass_withheld.ensures.lasts so_far.3 fault
+    (pass_cause g.S.Store c.args.ask.now old mid new (λ returned all a w. let so = so_far.2 returned all a w in (so.0, so.1)) so_far.1 c.pass_withheld.ensures.lasts fault
+    c.in_err-pass_withheld.ensures.caused) c.in_err-pass_withheld.ensures.counted)
 
-pub returns-in_err-message-clause-caused : goal.returns-in_err-message-clause-caused
-returns-in_err-message-clause-caused g c =
+pub returns-in_err-message-clause-ends : goal.returns-in_err-message-clause-ends
+returns-in_err-message-clause-ends g c =
+    let so_far = c.loop-lines.invariant in
+    let old = c.args.walk.now in
+    let mid = c.pass_withheld.new.walk in
+    let new = c.next.new.self in
     let fault = c.in_err-message.field-0.0 in
     let is : c.from_residual-in_err-message.result ≡ Err (desk_fault fault) = search rules in
-    let mid = c.pass_withheld.new.walk in
+    let before = lasts_then _ _ _ so_far.1 c.pass_withheld.ensures.lasts in
     let past = listed_past lines_shown lines_apart c.args.ask.now c.args.reader.now g.S.Store c.args.walk.now c.loop-lines.walk mid c.loop-lines.lines.items c.loop-lines.invariant.2 c.pass_withheld.ensures.lasts.returned refl c.in_ok-pass_withheld.ensures.passed in
-    subst (λ r. IfErr r (λ fault. IsBroken fault → HasWalkCause g.S.Store c.args.walk.now c.next.new.self c.args.ask.now)) (sym is)
-    (next_cause g.S.Store c.args.ask.now c.args.walk.now mid c.next.new.self
-    (λ returned all a w. let so_far = past returned all a w in (so_far.0, so_far.1)) (lasts_then _ _ _ c.loop-lines.invariant.1 c.pass_withheld.ensures.lasts) c.next.ensures.ends.lasts fault c.in_err-message.ensures.caused)
+    subst (λ r. EndsWalk g.S.Store old new c.args.ask.now (λ fault. fault) r) (sym is)
+    (walk_stops g.S.Store c.args.ask.now (Vec Line Global) old mid new before c.next.ensures.ends.lasts (omega (arith, so_far.3, c.in_ok-pass_withheld.ensures.counted.0)) fault
+    (next_cause g.S.Store c.args.ask.now old mid new (λ returned all a w. let so = past returned all a w in (so.0, so.1)) before c.next.ensures.ends.lasts fault
+    c.in_err-message.ensures.caused) c.in_err-message.ensures.ends.counted)
+
+pub returns-in-Err-clause-ends : goal.returns-in-Err-clause-ends
+returns-in-Err-clause-ends g c =
+    let so_far = c.loop-lines.invariant in
+    walk_unheld g.S.Store c.args.ask.now (Vec Line Global) c.args.walk.now c.pass_withheld.new.walk c.next.new.self
+    (lasts_then _ _ _ so_far.1 c.pass_withheld.ensures.lasts) c.next.ensures.ends.lasts (omega (arith, so_far.3, c.in_ok-pass_withheld.ensures.counted.0))
+    c.raise.new.self c.raise.ensures.counted c.in_ok-message.ensures.ends.counted.0

@@ -5,8 +5,8 @@ use Rattle.archive_store.specs.Replies.{Answers}
 use Rattle.archive_store.specs.Told.{AsksIn, HoldsTables}
 use Rattle.archive_desk.specs.Faults.{desk_fault, list_reason, reason}
 use Rattle.archive_desk.proofs.AskLemmas.{store_declines}
-use Rattle.archive_desk.specs.Causes.{Caused}
-use Rattle.archive_desk.proofs.CauseLemmas.{store_disk}
+use Rattle.archive_desk.specs.Causes.{CausedOr}
+use Rattle.archive_desk.proofs.CauseLemmas.{disk_cause, store_disk}
 use Rattle.archive_desk.proofs.listing.find_merge.Goals as goal
 
 pub returns-in_err-merge_of-clause-found : goal.returns-in_err-merge_of-clause-found
@@ -22,10 +22,15 @@ returns-in_err-merge_of-clause-found g c =
     (store_declines g.S.Store old new (λ a. list_refusal a ask.list) Says fault Says c.in_err-merge_of.ensures.ends.lasts
     (subst (λ l. Answers g.S.Store (held_of old) (held_of new) {A = Bool} (Err fault) (λ a. list_refusal a l) Says) list c.in_err-merge_of.ensures.answer))
 
-pub returns-in_err-merge_of-clause-caused : goal.returns-in_err-merge_of-clause-caused
-returns-in_err-merge_of-clause-caused g c =
-    let old = c.args.store.now in
-    let new = c.merge_of.new.self in
-    let fault = c.in_err-merge_of.field-0.0 in
-    let is : c.from_residual.result ≡ Err (desk_fault fault) = search rules in
-    subst (λ r. Caused g.S.Store old new r) (sym is) (store_disk g.S.Store old new fault c.in_err-merge_of.ensures.ends.caused)
+pub returns-in_err-merge_of-clause-ends : goal.returns-in_err-merge_of-clause-ends
+returns-in_err-merge_of-clause-ends g c = record {
+  fault = search rules;
+  caused =
+      let old = c.args.store.now in
+      let new = c.merge_of.new.self in
+      let fault = c.in_err-merge_of.field-0.0 in
+      let is : c.from_residual.result ≡ Err (desk_fault fault) = search rules in
+      subst (λ r. CausedOr g.S.Store old new r (λ _. ⊥)) (sym is)
+      (λ bad. disk_cause g.S.Store old new (λ _. ⊥) (store_disk g.S.Store old new fault c.in_err-merge_of.ensures.ends.caused bad));
+  counted = search rules;
+}

@@ -24,15 +24,20 @@ returns-in_err-row-clause-held g c =
     (store_declines g.S.Store old new (λ a. list_refusal a ask.list) Says fault Says c.in_err-row.ensures.ends.lasts
     (subst (λ l. Answers g.S.Store (held_of old) (held_of new) {A = Option Message} (Err fault) (λ a. list_refusal a l) Says) list c.in_err-row.ensures.answer))
 
-pub returns-in_err-row-clause-caused : goal.returns-in_err-row-clause-caused
-returns-in_err-row-clause-caused g c =
-    let ask = c.args.ask.now in
-    let old = c.args.store.now in
-    let new = c.row.new.self in
-    let key = c.args.key.now in
-    let fault = c.in_err-row.field-0.0 in
-    let list : c.ask.inside.list.now ≡ ask.list = search rules in
-    let is : c.from_residual.result ≡ Err (desk_fault fault) = search rules in
-    subst (λ r. CausedOr g.S.Store old new r (λ a. IsMessageUnreadable a ask key)) (sym is)
-    (store_cause g.S.Store old new fault (λ a. IsMessageUnreadable a ask key)
-    (subst (λ l. StoreCausedOr g.S.Store old new {A = Option Message} (Err fault) (λ a. IsMessageUnreadable a (record ask { list = l }) key)) list c.in_err-row.ensures.ends.caused))
+pub returns-in_err-row-clause-ends : goal.returns-in_err-row-clause-ends
+returns-in_err-row-clause-ends g c = record {
+  was_open = search rules;
+  fault = search rules;
+  caused =
+      let ask = c.args.ask.now in
+      let old = c.args.store.now in
+      let new = c.row.new.self in
+      let key = c.args.key.now in
+      let fault = c.in_err-row.field-0.0 in
+      let list : c.ask.inside.list.now ≡ ask.list = search rules in
+      let is : c.from_residual.result ≡ Err (desk_fault fault) = search rules in
+      subst (λ r. CausedOr g.S.Store old new r (λ a. IsMessageUnreadable a ask key)) (sym is)
+      (store_cause g.S.Store old new fault (λ a. IsMessageUnreadable a ask key)
+      (subst (λ l. StoreCausedOr g.S.Store old new {A = Option Message} (Err fault) (λ a. IsMessageUnreadable a (record ask { list = l }) key)) list c.in_err-row.ensures.ends.caused));
+  counted = search rules;
+}

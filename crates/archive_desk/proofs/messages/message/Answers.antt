@@ -5,12 +5,12 @@ use Rattle.archive_machine.specs.Questions.{message_of}
 use Rattle.archive_results.specs.Access.{asked_of, asked_on, reader_marks, told}
 use Rattle.archive_store.proofs.Joins.{asks_too}
 use Rattle.archive_desk.specs.Asking.{standing_reason}
-use Rattle.archive_desk.specs.Faults.{ask_reason, reason}
+use Rattle.archive_desk.specs.Faults.{IsAskFault, ask_reason, reason}
 use Rattle.archive_desk.proofs.AskLemmas.{answer_after, list_refused}
-use Rattle.archive_desk.proofs.CallLemmas.{asks_last, open_still, unanswered_too, was_open_by}
+use Rattle.archive_desk.proofs.CallLemmas.{asks_last, unanswered_too}
 use Rattle.archive_store.specs.Told.{HoldsTables}
-use Rattle.archive_desk.specs.Causes.{HasCause, IsBroken, IsMessageUnreadable, IsReaderUnreadable}
-use Rattle.archive_desk.proofs.CauseLemmas.{cause_after, cause_among, each_fault}
+use Rattle.archive_desk.specs.Causes.{IsMessageUnreadable, IsReaderUnreadable}
+use Rattle.archive_desk.proofs.EndLemmas.{ask_after, ask_stops_as}
 use Rattle.archive_desk.proofs.messages.message.Goals as goal
 
 pub returns-in-Ok-clause-asked : goal.returns-in-Ok-clause-asked
@@ -31,30 +31,20 @@ returns-in-Err-clause-asked g c =
     (list_refused g.S.Store ask old new c.in-Err.fault
     (λ a found. option_map (remembered ask.list) found ≡ message_of a ask.list c.args.key.now) (λ a answer. told answer ≡ asked_of a ask c.args.key.now) c.in-Err.ensures.held)
 
-pub returns-in-Ok-clause-was_open : goal.returns-in-Ok-clause-was_open
-returns-in-Ok-clause-was_open g c =
-    was_open_by g.S.Store c.args.store.now c.answer_on.new.store reason c.answer_on.result
-    (open_still g.S.Store c.args.store.now c.find_row.new.store c.answer_on.new.store c.in-Ok.ensures.was_open
-    (asks_last g.S.Store (HoldsTables g.S.Store) c.find_row.new.store c.answer_on.new.store reason (λ a. standing_reason a c.args.ask.now)
-    (λ a answer. told answer ≡ asked_on c.args.ask.now (reader_marks a c.args.ask.now) (option_map (remembered c.args.ask.now.list) c.in-Ok.held)) c.answer_on.result c.answer_on.ensures.asked))
-
-pub returns-in-Ok-clause-caused : goal.returns-in-Ok-clause-caused
-returns-in-Ok-clause-caused g c =
+pub returns-in-Ok-clause-ends : goal.returns-in-Ok-clause-ends
+returns-in-Ok-clause-ends g c =
     let ask = c.args.ask.now in
     let old = c.args.store.now in
     let mid = c.find_row.new.store in
     let new = c.answer_on.new.store in
-    let Unread : _ = λ a. IsReaderUnreadable a ask in
-    let Either : _ = λ a. IsMessageUnreadable a ask c.args.key.now ⊎ IsReaderUnreadable a ask in
     let last = asks_last g.S.Store (HoldsTables g.S.Store) mid new reason (λ a. standing_reason a ask)
     (λ a answer. told answer ≡ asked_on ask (reader_marks a ask) (option_map (remembered ask.list) c.in-Ok.held)) c.answer_on.result c.answer_on.ensures.asked in
-    each_fault (λ fault. IsBroken fault → HasCause g.S.Store mid new Unread) (λ fault. IsBroken fault → HasCause g.S.Store old new Either)
-    (λ fault why it. cause_among g.S.Store old new Unread Either (λ a bad. inr bad)
-    (cause_after g.S.Store old mid new (c.in-Ok.ensures.held.0, λ returned held. let there = c.in-Ok.ensures.held.1 returned held in (there.0, there.1.0)) last Unread (why it)))
-    c.answer_on.result c.answer_on.ensures.caused
+    ask_after g.S.Store old mid new (c.in-Ok.ensures.held.0, λ returned held. let there = c.in-Ok.ensures.held.1 returned held in (there.0, there.1.0)) last
+    c.in-Ok.ensures.ends.counted.0 IsAskFault c.answer_on.result (λ a. IsReaderUnreadable a ask) (λ a. IsMessageUnreadable a ask c.args.key.now ⊎ IsReaderUnreadable a ask)
+    (λ a bad. inr bad) c.answer_on.ensures.ends c.in-Ok.ensures.ends.was_open
 
-pub returns-in-Err-clause-caused : goal.returns-in-Err-clause-caused
-returns-in-Err-clause-caused g c = λ it.
+pub returns-in-Err-clause-ends : goal.returns-in-Err-clause-ends
+returns-in-Err-clause-ends g c =
     let ask = c.args.ask.now in
-    cause_among g.S.Store c.args.store.now c.find_row.new.store (λ a. IsMessageUnreadable a ask c.args.key.now)
-    (λ a. IsMessageUnreadable a ask c.args.key.now ⊎ IsReaderUnreadable a ask) (λ a bad. inl bad) (c.in-Err.ensures.caused it)
+    ask_stops_as g.S.Store c.args.store.now c.find_row.new.store IsAskFault _ _ c.in-Err.fault (λ a. IsMessageUnreadable a ask c.args.key.now)
+    (λ a. IsMessageUnreadable a ask c.args.key.now ⊎ IsReaderUnreadable a ask) (λ a bad. inl bad) c.in-Err.ensures.ends

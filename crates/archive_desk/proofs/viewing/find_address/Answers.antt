@@ -19,12 +19,16 @@ returns-in_err-address-clause-found g c =
     subst (λ r. AsksIn g.S.Store (HoldsTables g.S.Store) old new reason r (λ a. person_reason a name) (λ a address. option_map string_bytes address ≡ address_of a name)) (sym is)
     (store_declines g.S.Store old new (λ a. person_refusal a name) (λ a (x : Unit {0}). ⊤) fault (λ a (x : Unit {0}). ⊤) c.in_err-address.ensures.ends.lasts c.in_err-address.ensures.answer)
 
-pub returns-in_err-address-clause-caused : goal.returns-in_err-address-clause-caused
-returns-in_err-address-clause-caused g c =
-    let old = c.args.store.now in
-    let new = c.address.new.self in
-    let name = c.args.name.now in
-    let fault = c.in_err-address.field-0.0 in
-    let is : c.from_residual.result ≡ Err (desk_fault fault) = search rules in
-    subst (λ r. CausedOr g.S.Store old new r (λ a. IsAddressUnreadable a name)) (sym is)
-    (store_cause g.S.Store old new fault (λ a. IsAddressUnreadable a name) c.in_err-address.ensures.ends.caused)
+pub returns-in_err-address-clause-ends : goal.returns-in_err-address-clause-ends
+returns-in_err-address-clause-ends g c = record {
+  fault = search rules;
+  caused =
+      let old = c.args.store.now in
+      let new = c.address.new.self in
+      let name = c.args.name.now in
+      let fault = c.in_err-address.field-0.0 in
+      let is : c.from_residual.result ≡ Err (desk_fault fault) = search rules in
+      subst (λ r. CausedOr g.S.Store old new r (λ a. IsAddressUnreadable a name)) (sym is)
+      (store_cause g.S.Store old new fault (λ a. IsAddressUnreadable a name) c.in_err-address.ensures.ends.caused);
+  counted = search rules;
+}

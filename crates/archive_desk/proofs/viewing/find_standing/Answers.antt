@@ -26,18 +26,22 @@ returns-in_err-standing-clause-found g c =
     (store_declines g.S.Store old new (λ a. standing_refusal a name ask.list) Says fault (λ a (standing : Standing). ⊤) c.in_err-standing.ensures.ends.lasts
     (subst (λ l. Answers g.S.Store (held_of old) (held_of new) {A = Standing} (Err fault) (λ a. standing_refusal a name l) (λ a s. ⊤)) list c.in_err-standing.ensures.answer))
 
-pub returns-in_err-standing-clause-caused : goal.returns-in_err-standing-clause-caused
-returns-in_err-standing-clause-caused g c =
-    let ask = c.args.ask.now in
-    let old = c.args.store.now in
-    let new = c.standing.new.self in
-    let name = c.args.name.now in
-    let fault = c.in_err-standing.field-0.0 in
-    let list : c.ask.inside.list.now ≡ ask.list = search rules in
-    let day : c.ask.inside.day ≡ ask.day = search rules in
-    let is : c.from_residual.result ≡ Err (desk_fault fault) = search rules in
-    subst (λ r. CausedOr g.S.Store old new r (λ a. IsRankUnknown a ask name)) (sym is)
-    (store_cause g.S.Store old new fault (λ a. IsRankUnknown a ask name)
-    (subst (λ l. StoreCausedOr g.S.Store old new {A = Standing} (Err fault) (λ a. IsRankUnknown a (record ask { list = l }) name)) list
-    (subst (λ d. StoreCausedOr g.S.Store old new {A = Standing} (Err fault) (λ a. IsRankUnknown a (record ask { list = c.ask.inside.list.now; day = d }) name)) day
-    c.in_err-standing.ensures.ends.caused)))
+pub returns-in_err-standing-clause-ends : goal.returns-in_err-standing-clause-ends
+returns-in_err-standing-clause-ends g c = record {
+  fault = search rules;
+  caused =
+      let ask = c.args.ask.now in
+      let old = c.args.store.now in
+      let new = c.standing.new.self in
+      let name = c.args.name.now in
+      let fault = c.in_err-standing.field-0.0 in
+      let list : c.ask.inside.list.now ≡ ask.list = search rules in
+      let day : c.ask.inside.day ≡ ask.day = search rules in
+      let is : c.from_residual.result ≡ Err (desk_fault fault) = search rules in
+      subst (λ r. CausedOr g.S.Store old new r (λ a. IsRankUnknown a ask name)) (sym is)
+      (store_cause g.S.Store old new fault (λ a. IsRankUnknown a ask name)
+      (subst (λ l. StoreCausedOr g.S.Store old new {A = Standing} (Err fault) (λ a. IsRankUnknown a (record ask { list = l }) name)) list
+      (subst (λ d. StoreCausedOr g.S.Store old new {A = Standing} (Err fault) (λ a. IsRankUnknown a (record ask { list = c.ask.inside.list.now; day = d }) name)) day
+      c.in_err-standing.ensures.ends.caused)));
+  counted = search rules;
+}

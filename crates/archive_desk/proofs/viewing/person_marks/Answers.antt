@@ -7,12 +7,14 @@ use Rattle.policy_core.specs.Verdict.{verdict_of}
 use Rattle.archive_results.specs.Access.{Ask}
 use Rattle.archive_desk.proofs.MarkLemmas.{person_known, person_unasked}
 use Rattle.archive_desk.specs.Causes.{IsAddressUnreadable, IsPersonUnreadable, IsRankUnknown}
-use Rattle.archive_desk.proofs.CauseLemmas.{cause_after, cause_among}
+use Rattle.archive_desk.proofs.EndLemmas.{ends_after, stops_as}
 use Rattle.archive_desk.proofs.CallLemmas.{asks_last}
 use Rattle.archive_machine.specs.Questions.{address_of}
 use Rattle.archive_store.specs.Told.{HoldsTables}
 use Rattle.archive_desk.specs.Asking.{person_reason}
-use Rattle.archive_desk.specs.Faults.{reason}
+use Rattle.archive_desk.specs.Faults.{IsAskFault, reason}
+use Rattle.archive_results.specs.Access.{ReaderMarks}
+use Rattle.policy_core.specs.declared.access.Standing.{Standing}
 use Rattle.archive_desk.proofs.viewing.person_marks.Goals as goal
 
 pub returns-then-not-asks_own-clause-found : goal.returns-then-not-asks_own-clause-found
@@ -34,25 +36,27 @@ returns-in-Err-find_address-clause-found g c =
     (λ address. option_map string_bytes address) (λ address. record { standing = c.in-Ok.standing; address = option_map string_bytes address }) (λ address. refl)
     c.find_address.result c.in-Ok.ensures.found c.find_address.ensures.found)
 
-pub returns-in-Err-clause-caused : goal.returns-in-Err-clause-caused
-returns-in-Err-clause-caused g c = λ it.
+pub returns-in-Err-clause-ends : goal.returns-in-Err-clause-ends
+returns-in-Err-clause-ends g c =
     let ask = c.args.ask.now in
     let name = c.args.name.now in
-    cause_among g.S.Store c.args.store.now c.find_standing.new.store (λ a. IsRankUnknown a ask name) (λ a. IsPersonUnreadable a ask name) (λ a bad. inl bad)
-    (c.in-Err.ensures.caused it)
+    stops_as g.S.Store c.args.store.now c.find_standing.new.store IsAskFault Standing ReaderMarks c.in-Err.fault (λ a. IsRankUnknown a ask name) (λ a. IsPersonUnreadable a ask name)
+    (λ a bad. inl bad) c.in-Err.ensures.ends
 
-pub returns-in-Err-find_address-clause-caused : goal.returns-in-Err-find_address-clause-caused
-returns-in-Err-find_address-clause-caused g c = λ it.
+pub returns-in-Err-find_address-clause-ends : goal.returns-in-Err-find_address-clause-ends
+returns-in-Err-find_address-clause-ends g c =
     let ask = c.args.ask.now in
     let name = c.args.name.now in
     let old = c.args.store.now in
     let mid = c.find_standing.new.store in
     let new = c.find_address.new.store in
+    let fault = c.in-Err-find_address.fault in
     let asked : c.asks_own.result ≡ true = cc in
     let own : asks_own ask.rules ≡ true = sym (c.asks_own.ensures.value ∙ ap (λ (ask : Ask). asks_own ask.rules) c.ask.view_is) ∙ asked in
     let last = asks_last g.S.Store (HoldsTables g.S.Store) mid new reason (λ a. person_reason a name)
     (λ a address. option_map (string_bytes {Z = Global}) address ≡ address_of a name)
-    (Err c.in-Err-find_address.fault) c.in-Err-find_address.ensures.found in
-    cause_among g.S.Store old new (λ a. IsAddressUnreadable a name) (λ a. IsPersonUnreadable a ask name) (λ a bad. inr (own, bad))
-    (cause_after g.S.Store old mid new (c.in-Ok.ensures.found.0, λ returned held. let there = c.in-Ok.ensures.found.1 returned held in (there.0, there.1.0)) last
-    (λ a. IsAddressUnreadable a name) (c.in-Err-find_address.ensures.caused it))
+    (Err fault) c.in-Err-find_address.ensures.found in
+    ends_after g.S.Store old mid new (c.in-Ok.ensures.found.0, λ returned held. let there = c.in-Ok.ensures.found.1 returned held in (there.0, there.1.0)) last
+    c.in-Ok.ensures.ends.counted.0 IsAskFault {A = ReaderMarks} (Err fault) (λ a. IsAddressUnreadable a name) (λ a. IsPersonUnreadable a ask name) (λ a bad. inr (own, bad))
+    (stops_as g.S.Store mid new IsAskFault _ ReaderMarks fault (λ a. IsAddressUnreadable a name) (λ a. IsAddressUnreadable a name) (λ a bad. bad)
+    c.in-Err-find_address.ensures.ends)

@@ -26,14 +26,18 @@ returns-in_err-rows-clause-held g c =
     (store_declines g.S.Store old new (λ a. list_refusal a ask.list) Says fault Says c.in_err-rows.ensures.ends.lasts
     (subst (λ l. Answers g.S.Store (held_of old) (held_of new) {A = Vec Message Global} (Err fault) (λ a. list_refusal a l) Says) list c.in_err-rows.ensures.answer))
 
-pub returns-in_err-rows-clause-caused : goal.returns-in_err-rows-clause-caused
-returns-in_err-rows-clause-caused g c =
-    let ask = c.args.ask.now in
-    let old = c.args.store.now in
-    let new = c.rows.new.self in
-    let fault = c.in_err-rows.field-0.0 in
-    let list : c.ask.inside.list.now ≡ ask.list = search rules in
-    let is : c.from_residual.result ≡ Err (desk_fault fault) = search rules in
-    subst (λ r. CausedOr g.S.Store old new r (λ a. AreUnreadable (messages_in a ask.list))) (sym is)
-    (store_cause g.S.Store old new fault (λ a. AreUnreadable (messages_in a ask.list))
-    (subst (λ l. StoreCausedOr g.S.Store old new {A = Vec Message Global} (Err fault) (λ a. AreUnreadable (messages_in a l))) list c.in_err-rows.ensures.ends.caused))
+pub returns-in_err-rows-clause-ends : goal.returns-in_err-rows-clause-ends
+returns-in_err-rows-clause-ends g c = record {
+  fault = search rules;
+  caused =
+      let ask = c.args.ask.now in
+      let old = c.args.store.now in
+      let new = c.rows.new.self in
+      let fault = c.in_err-rows.field-0.0 in
+      let list : c.ask.inside.list.now ≡ ask.list = search rules in
+      let is : c.from_residual.result ≡ Err (desk_fault fault) = search rules in
+      subst (λ r. CausedOr g.S.Store old new r (λ a. AreUnreadable (messages_in a ask.list))) (sym is)
+      (store_cause g.S.Store old new fault (λ a. AreUnreadable (messages_in a ask.list))
+      (subst (λ l. StoreCausedOr g.S.Store old new {A = Vec Message Global} (Err fault) (λ a. AreUnreadable (messages_in a l))) list c.in_err-rows.ensures.ends.caused));
+  counted = search rules;
+}

@@ -4,16 +4,16 @@ use Rattle.std.specs.declared.alloc.Global.{Global}
 use Rattle.archive_machine.specs.Messages.{remembered}
 use Rattle.archive_machine.specs.declared.messages.Message.{Message}
 use Rattle.archive_machine.specs.Questions.{messages_in}
-use Rattle.archive_results.specs.Access.{view_of}
+use Rattle.archive_results.specs.Access.{ReaderMarks, view_of}
 use Rattle.archive_store.proofs.Joins.{sound_too}
 use Rattle.archive_desk.specs.Asking.{IsEnough, standing_reason}
-use Rattle.archive_desk.specs.Faults.{ask_reason, reason}
+use Rattle.archive_desk.specs.Faults.{IsAskFault, ask_reason, reason}
 use Rattle.archive_desk.proofs.AskLemmas.{marks_after, view_found, list_refused}
 use Rattle.archive_desk.proofs.CallLemmas.{unanswered_too, asks_last}
 use Rattle.archive_desk.proofs.ListLemmas.{unmade}
 use Rattle.archive_store.specs.Told.{HoldsTables}
 use Rattle.archive_desk.specs.Causes.{AreUnreadable, IsReaderUnreadable, IsUnreadable}
-use Rattle.archive_desk.proofs.CauseLemmas.{cause_after, cause_among}
+use Rattle.archive_desk.proofs.EndLemmas.{ends_after, stops_as}
 use Rattle.archive_desk.proofs.viewing.view.Goals as goal
 
 pub returns-in-Err-clause-shown : goal.returns-in-Err-clause-shown
@@ -58,20 +58,22 @@ returns-clause-shown g c =
     (marks_after g.S.Store ask old c.read_list.new.store new (λ a. map (remembered ask.list) found ≡ messages_in a ask.list) (Ok reader)
     c.in-Ok.ensures.held c.in-Ok-find_marks.ensures.found)
 
-pub returns-in-Err-clause-caused : goal.returns-in-Err-clause-caused
-returns-in-Err-clause-caused g c = λ it.
+pub returns-in-Err-clause-ends : goal.returns-in-Err-clause-ends
+returns-in-Err-clause-ends g c =
     let ask = c.args.ask.now in
-    cause_among g.S.Store c.args.store.now c.read_list.new.store (λ a. AreUnreadable (messages_in a ask.list)) (λ a. IsUnreadable a ask (messages_in a ask.list)) (λ a bad. inl bad)
-    (c.in-Err.ensures.caused it)
+    stops_as g.S.Store c.args.store.now c.read_list.new.store IsAskFault (Vec Message Global) (Vec Message Global) c.in-Err.fault
+    (λ a. AreUnreadable (messages_in a ask.list)) (λ a. IsUnreadable a ask (messages_in a ask.list)) (λ a bad. inl bad) c.in-Err.ensures.ends
 
-pub returns-in-Err-find_marks-clause-caused : goal.returns-in-Err-find_marks-clause-caused
-returns-in-Err-find_marks-clause-caused g c = λ it.
+pub returns-in-Err-find_marks-clause-ends : goal.returns-in-Err-find_marks-clause-ends
+returns-in-Err-find_marks-clause-ends g c =
     let ask = c.args.ask.now in
     let old = c.args.store.now in
     let mid = c.read_list.new.store in
     let new = c.find_marks.new.store in
+    let fault = c.in-Err-find_marks.fault in
+    let Unread : _ = λ a. IsReaderUnreadable a ask in
     let last = asks_last g.S.Store (HoldsTables g.S.Store) mid new reason (λ a. standing_reason a ask) (λ a reader. IsEnough a ask reader)
-    (Err c.in-Err-find_marks.fault) c.in-Err-find_marks.ensures.found in
-    cause_among g.S.Store old new (λ a. IsReaderUnreadable a ask) (λ a. IsUnreadable a ask (messages_in a ask.list)) (λ a bad. inr bad)
-    (cause_after g.S.Store old mid new (c.in-Ok.ensures.held.0, λ returned held. let there = c.in-Ok.ensures.held.1 returned held in (there.0, there.1.0)) last
-    (λ a. IsReaderUnreadable a ask) (c.in-Err-find_marks.ensures.caused it))
+    (Err fault) c.in-Err-find_marks.ensures.found in
+    ends_after g.S.Store old mid new (c.in-Ok.ensures.held.0, λ returned held. let there = c.in-Ok.ensures.held.1 returned held in (there.0, there.1.0)) last
+    c.in-Ok.ensures.ends.counted.0 IsAskFault {A = Vec Message Global} (Err fault) Unread (λ a. IsUnreadable a ask (messages_in a ask.list)) (λ a bad. inr bad)
+    (stops_as g.S.Store mid new IsAskFault ReaderMarks (Vec Message Global) fault Unread Unread (λ a bad. bad) c.in-Err-find_marks.ensures.ends)

@@ -3,6 +3,9 @@ use Rattle.mbox_stream.specs.Stream.{settled_items}
 use Rattle.archive_machine.specs.Records.{Archive}
 use Rattle.archive_import.specs.Intake.{IsUnderWay}
 use Rattle.archive_import.proofs.ReadLemmas.{settled_taken, settled_given, preamble_stopped, memory_stopped, waiting_stopped, unread_stopped_read}
+use Rattle.archive_store.specs.Held.{wants_of}
+use Rattle.archive_store.proofs.WantLemmas.{raises_after}
+use Rattle.archive_import.proofs.WantLemmas.{IsWanting, mbox_unwanted}
 use Rattle.archive_import.proofs.importing.add_settled.Goals as goal
 
 pub returns-in-Err-Read-clause-adds : goal.returns-in-Err-Read-clause-adds
@@ -41,7 +44,7 @@ returns-in-Err-clause-adds g c =
     let read = c.read_from.new.self in
     waiting_stopped g.S.Store c.args.store.now c.loop.store c.add_waiting.new.store c.args.list.now [] cutter.taken c.args.intake.now c.loop.intake i.adds
     c.add_waiting.new.intake c.add_waiting.new.cutter.stream 0 read.waiting c.in-Err.stop
-    (inl (settled_given read cutter.taken c.read_from.ensures.given c.in-Ok-true.ensures.open c.read_from.ensures.taken ∙ ap settled_items (sym c.add_waiting.ensures.stream)))
+    (inl (settled_given read cutter.taken c.read_from.ensures.given c.in-Ok-true.ensures.open c.read_from.ensures.taken ∙ ap settled_items (sym c.add_waiting.ensures.takes.stream)))
     c.in-Err.ensures.adds
 
 pub returns-clause-adds : goal.returns-clause-adds
@@ -50,3 +53,24 @@ returns-clause-adds g c =
     let cutter = c.loop.cutter in
     memory_stopped g.S.Store c.args.store.now c.loop.store c.args.list.now [] cutter.taken c.args.intake.now c.loop.intake i.adds
     cutter.stream cutter.stream [] 0 (settled_taken cutter i.given i.goes_on i.none_waits) (sym (append-nil _)) c.stop-2.result c.stop-2.ensures
+
+pub returns-in-Err-Read-clause-counted : goal.returns-in-Err-Read-clause-counted
+returns-in-Err-Read-clause-counted g c =
+    raises_after IsWanting (wants_of c.args.store.now) (wants_of c.loop.store) (wants_of c.stop_unread.new.store) c.stop_unread.result c.loop.invariant.grows c.stop_unread.ensures.counted
+
+pub returns-in-Err-clause-counted : goal.returns-in-Err-clause-counted
+returns-in-Err-clause-counted g c =
+    raises_after {A = Unit {0}} IsWanting (wants_of c.args.store.now) (wants_of c.loop.store) (wants_of c.add_waiting.new.store) (Err c.in-Err.stop) c.loop.invariant.grows
+    c.in-Err.ensures.counted
+
+pub returns-in-Err-Preamble-clause-counted : goal.returns-in-Err-Preamble-clause-counted
+returns-in-Err-Preamble-clause-counted g c = mbox_unwanted (Unit {0}) (wants_of c.args.store.now) (wants_of c.loop.store) _ _ c.stop.result c.loop.invariant.grows c.stop.ensures
+
+pub returns-in-Err-Memory-clause-counted : goal.returns-in-Err-Memory-clause-counted
+returns-in-Err-Memory-clause-counted g c = mbox_unwanted (Unit {0}) (wants_of c.args.store.now) (wants_of c.loop.store) _ _ c.stop-in-Err-Memory.result c.loop.invariant.grows c.stop-in-Err-Memory.ensures
+
+pub returns-in-Err-Failed-clause-counted : goal.returns-in-Err-Failed-clause-counted
+returns-in-Err-Failed-clause-counted g c = mbox_unwanted (Unit {0}) (wants_of c.args.store.now) (wants_of c.loop.store) _ _ c.stop-in-Err-Failed.result c.loop.invariant.grows c.stop-in-Err-Failed.ensures
+
+pub returns-clause-counted : goal.returns-clause-counted
+returns-clause-counted g c = mbox_unwanted (Unit {0}) (wants_of c.args.store.now) (wants_of c.loop.store) _ _ c.stop-2.result c.loop.invariant.grows c.stop-2.ensures

@@ -1,6 +1,7 @@
-use Rattle.std.proofs.Common.{◌≡◌, ◌++◌, []}
+use Rattle.std.proofs.Common.{◌≡◌, ◌++◌, ◌≤◌, []}
 use Rattle.mbox_stream.specs.Cutter.{IsCutter}
 use Rattle.mbox_stream.specs.declared.cutter.Phase.TheVariants.{Open}
+use Rattle.archive_store.specs.Held.{wants_of}
 use Rattle.archive_store.specs.Told.{Goes}
 use Rattle.archive_import.proofs.ReadLemmas.{Begun}
 use Rattle.archive_import.proofs.importing.add_settled.Given as goal
@@ -14,4 +15,5 @@ invariant-loop g l = record {
   none_waits : l.cutter.waiting ≡ [];
   goes_on : l.cutter.phase ≡ Open;
   given : IsCutter l.cutter;
+  grows : wants_of l.initial.store ≤ wants_of l.store;
 }

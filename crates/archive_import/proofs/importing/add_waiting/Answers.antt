@@ -1,6 +1,9 @@
-use Rattle.std.proofs.Common.{[], ◌∷◌, ◌++◌, ◌∙◌, ap, refl}
+use Rattle.std.proofs.Common.{[], ◌∷◌, ◌++◌, ◌∙◌, ap, arith, refl, Err}
+use Rattle.archive_store.specs.Held.{wants_of}
+use Rattle.archive_store.proofs.WantLemmas.{raises_after}
 use Rattle.mbox_core.specs.Division.{Item}
 use Rattle.archive_import.proofs.StopLemmas.{grows_none, grows_more, grows_stopped, moved_none, moved_one}
+use Rattle.archive_import.proofs.WantLemmas.{IsWanting}
 use Rattle.archive_import.proofs.importing.add_waiting.Goals as goal
 
 pub loop-item-init : goal.loop-item-init
@@ -8,7 +11,8 @@ loop-item-init g c = record {
   adds = (moved_none _ _, grows_none g.S.Store c.args.list.now c.args.store.now c.args.intake.now);
   stream = refl;
   phase = refl;
-  given = c.requires.given;
+  given = c.requires;
+  grows = omega arith;
 }
 
 pub loop-item-preserved : goal.loop-item-preserved
@@ -24,6 +28,7 @@ loop-item-preserved g c =
       stream = c.take.ensures.stream ∙ i.stream;
       phase = c.take.ensures.phase ∙ i.phase;
       given = c.take.ensures.given;
+      grows = omega (arith, i.grows, c.hold_one.ensures.counted.0);
     }
 
 pub returns-in-Err-clause-adds : goal.returns-in-Err-clause-adds
@@ -32,3 +37,8 @@ returns-in-Err-clause-adds g c =
     let m = c.loop-item.invariant.adds in
     grows_stopped g.S.Store c.args.list.now c.args.store.now c.loop-item.store c.hold_one.new.store c.args.intake.now c.loop-item.intake m.0.done (item ∷ []) m.1
     c.hold_one.new.intake c.take.new.self.waiting c.args.cutter.now.waiting c.in-Err.stop (m.0.was ∙ ap (λ is. m.0.done ++ is) c.in-Some.ensures.item) c.in-Err.ensures.adds
+
+pub returns-in-Err-clause-counted : goal.returns-in-Err-clause-counted
+returns-in-Err-clause-counted g c =
+    raises_after {A = Unit {0}} IsWanting (wants_of c.args.store.now) (wants_of c.loop-item.store) (wants_of c.hold_one.new.store) (Err c.in-Err.stop) c.loop-item.invariant.grows
+    c.in-Err.ensures.counted

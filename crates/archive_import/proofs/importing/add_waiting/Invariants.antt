@@ -1,5 +1,6 @@
-use Rattle.std.proofs.Common.{◌≡◌, length}
+use Rattle.std.proofs.Common.{◌≡◌, ◌≤◌, length}
 use Rattle.mbox_stream.specs.Cutter.{IsCutter}
+use Rattle.archive_store.specs.Held.{wants_of}
 use Rattle.archive_store.specs.Told.{Goes}
 use Rattle.archive_import.proofs.StopLemmas.{Grows, Moved}
 use Rattle.archive_import.proofs.importing.add_waiting.Given as goal
@@ -11,6 +12,7 @@ invariant-loop-item g l = record {
   stream : l.cutter.stream ≡ l.initial.cutter.stream;
   phase : l.cutter.phase ≡ l.initial.cutter.phase;
   given : IsCutter l.cutter;
+  grows : wants_of l.initial.store ≤ wants_of l.store;
 }
 
 abbrev pub decreases-loop-item : goal.decreases-loop-item

@@ -1,5 +1,7 @@
-use Rattle.std.proofs.Common.{[], ◌∷◌}
+use Rattle.std.proofs.Common.{[], ◌∷◌, arith}
+use Rattle.archive_store.specs.Held.{wants_of}
 use Rattle.archive_import.proofs.StopLemmas.{hold_says, held_not_added}
+use Rattle.archive_import.proofs.WantLemmas.{held_unwanted}
 use Rattle.archive_import.proofs.importing.hold_one.Goals as goal
 
 pub returns-in-Ok-clause-adds : goal.returns-in-Ok-clause-adds
@@ -10,3 +12,11 @@ returns-in-Ok-clause-adds g c =
 pub returns-in-Err-clause-adds : goal.returns-in-Err-clause-adds
 returns-in-Err-clause-adds g c =
     held_not_added g.S.Store c.args.store.now c.add_held.new.store c.args.list.now c.args.intake.now c.add_held.new.intake (c.args.item ∷ []) c.in-Err.stop c.in-Err.ensures.adds
+
+pub returns-then-has_room-clause-counted : goal.returns-then-has_room-clause-counted
+returns-then-has_room-clause-counted g c =
+    held_unwanted (wants_of c.args.store.now) (wants_of c.args.store.now) c.args.intake.now.done c.hold.result (omega arith) c.hold.ensures.fault
+
+pub returns-in-Ok-clause-counted : goal.returns-in-Ok-clause-counted
+returns-in-Ok-clause-counted g c =
+    held_unwanted (wants_of c.args.store.now) (wants_of c.add_held.new.store) c.add_held.new.intake.done c.hold-in-Ok.result c.in-Ok.ensures.counted.0 c.hold-in-Ok.ensures.fault

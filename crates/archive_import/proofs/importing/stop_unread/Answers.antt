@@ -1,4 +1,6 @@
 use Rattle.archive_import.proofs.ReadLemmas.{unread_added, unread_stopped}
+use Rattle.archive_store.specs.Held.{wants_of}
+use Rattle.archive_import.proofs.WantLemmas.{mbox_unwanted}
 use Rattle.archive_import.proofs.importing.stop_unread.Goals as goal
 
 pub returns-in-Ok-clause-adds : goal.returns-in-Ok-clause-adds
@@ -9,3 +11,7 @@ returns-in-Ok-clause-adds g c =
 pub returns-in-Err-clause-adds : goal.returns-in-Err-clause-adds
 returns-in-Err-clause-adds g c =
     unread_stopped g.S.Store c.args.store.now c.add_held.new.store c.args.list.now c.args.intake.now c.add_held.new.intake c.in-Err.stop c.in-Err.ensures.adds
+
+pub returns-in-Ok-clause-counted : goal.returns-in-Ok-clause-counted
+returns-in-Ok-clause-counted g c =
+    mbox_unwanted (Unit {0}) (wants_of c.args.store.now) (wants_of c.add_held.new.store) _ _ c.stop.result c.in-Ok.ensures.counted.0 c.stop.ensures

@@ -62,4 +62,4 @@ returns-in-Err-export-clause-part g c =
     (lasts_on g.S.Store c.month.new.store c.export.new.store (λ b c. c ≡ b)
     (λ x y why. (y ≡ x) × IsExportRefused (ask_reason x ask) before after (exported x ask) why.0 why.1)
     (export_reason c.in-Err-export.stop) c.in-Err-export.ensures.exported)
-    before after c.in-Err-export.stop.written c.in-Err-export.ensures.part
+    before after c.in-Err-export.stop.written c.in-Err-export.ensures.stopped.part
