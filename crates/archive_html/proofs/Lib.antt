@@ -4,5 +4,6 @@ pub mod EscapeLemmas
 pub mod LinkLemmas
 pub mod RowLemmas
 pub mod PageLemmas
+mod RowTextLemmas
 pub mod LawLemmas
 pub mod TextLemmas

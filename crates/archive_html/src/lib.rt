@@ -5,9 +5,9 @@ mod escapes;
 pub mod laws;
 mod links;
 mod pages;
-mod placed;
 mod rows;
 mod texts;
+mod threads;
 
 pub use pages::{author_page, lists_page, month_page};
-pub use placed::{placed_thread_page, placed_threads_page};
+pub use threads::{RowTexts, thread_page, threads_page};

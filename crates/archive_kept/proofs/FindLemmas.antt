@@ -1,21 +1,24 @@
--- The outline of a view, out of what is kept or read.
-use Rattle.std.proofs.Common.{◌≡◌, refl, sym, ap, ◌∙◌, subst, ℕ, ◌≤◌, List, length, Some, None, Err, arith}
-use Rattle.std.specs.Prelude.{⊤, insert, option_map, position}
+-- The outline of a part of a view, out of what is kept or read.
+use Rattle.std.proofs.Common.{◌≡◌, refl, sym, ap, ◌∙◌, subst, ℕ, ◌≤◌, false, List, length, Result, Some, None, Ok, Err, arith}
+use Rattle.std.specs.Prelude.{insert, option_map, position}
 use Rattle.sqlite.specs.Store.{Ghosts}
 use Rattle.archive_machine.specs.Records.{Archive}
-use Rattle.archive_store.specs.Told.{Asks, Goes, GoesIn, HasReturned, HoldsTables, IsOpen, IsReady, archive_in}
+use Rattle.archive_machine.specs.Questions.{messages_in}
+use Rattle.archive_store.specs.Told.{Asks, Goes, GoesIn, HasReturned, HoldsTables, IsOpen, IsReady, Lasts, WasOpen, archive_in}
 use Rattle.archive_store.specs.declared.store.Store.{Store}
-use Rattle.archive_store.proofs.Joins.{goes_as, goes_on, sound_too}
+use Rattle.archive_store.proofs.Joins.{goes_as, sound_too, stays_there}
 use Rattle.archive_results.specs.Access.{Ask, ReaderMarks}
 use Rattle.archive_desk.specs.Asking.{IsEnough}
-use Rattle.archive_desk.specs.Faults.{ask_reason, reason}
+use Rattle.archive_desk.specs.Causes.{CausedOr, HasCause, IsBroken, IsUnreadable}
+use Rattle.archive_desk.specs.Faults.{Reason, ask_reason, reason}
 use Rattle.archive_desk.specs.declared.faults.DeskFault.{DeskFault}
-use Rattle.archive_desk.proofs.CallLemmas.{calls_after}
-use Rattle.archive_kept.specs.Outlines.{Outline, outline_for}
-use Rattle.archive_kept.specs.Parts.{Part}
+use Rattle.archive_desk.proofs.CallLemmas.{calls_after, calls_last, open_still, was_open_by}
+use Rattle.archive_desk.proofs.CauseLemmas.{cause_after, each_fault}
+use Rattle.archive_kept.specs.Outlines.{Outline, outline_for, outline_under}
+use Rattle.archive_kept.specs.Parts.{Part, whole, month, author, same_part}
 use Rattle.archive_kept.specs.Views.{KeptView, Keeping, DropsOldest, IsBounded, is_view_of, outline_at, put_place}
-use Rattle.archive_kept.specs.Kept.{AreOf, EachIsOf, Keeps}
-use Rattle.archive_kept.proofs.ViewLemmas.{Found, found_view, outline_put, put_within}
+use Rattle.archive_kept.specs.Kept.{AreOf, EachIsOf, Finds, Keeps}
+use Rattle.archive_kept.proofs.ViewLemmas.{Found, found_view, outline_put, put_within, some_is}
 use Rattle.archive_kept.proofs.KeepLemmas.{of_asked, of_at, of_dropped, of_more}
 
 -- what is kept of it answers the question
@@ -26,80 +29,137 @@ outline_found a ask reader part kept place found enough are =
     ∙ ap (λ (o : Outline). Some o) (of_at a ask.rules ask.day kept.views place found.view are found.there ask refl refl (sym found.list_is)
     (subst (λ r. IsEnough a ask r) (sym found.reader_is) enough) ∙ ap (outline_for a ask) found.part_is)
 
-module _ {S : Type 0} (g : Ghosts S) (ask : Ask) (reader : ReaderMarks) (part : Part) where
-  -- the reader is known
-  abbrev pub Knows : Archive → Archive → Type 0
-  Knows a b = (b ≡ a) × (ask_reason a ask ≡ None) × IsEnough a ask reader
+-- a month or an author out of the whole
+part_of_whole : (a : Archive) (ask : Ask) (part : Part) → same_part part whole ≡ false → outline_under part (outline_for a ask whole) ≡ outline_for a ask part
+part_of_whole a ask whole other = absurd (cc)
+part_of_whole a ask (month m) other = refl
+part_of_whole a ask (author key) other = refl
 
-  -- where what was kept is of the archive, the outline at a place is that of the view
-  abbrev pub Finds : (old new : Keeping) (place : ℕ) → Archive → Archive → Type 0
-  Finds old new place a b = (b ≡ a) × (ask_reason a ask ≡ None) × (AreOf a ask.rules ask.day old → outline_at new place ≡ Some (outline_for a ask part))
+module _ {S : Type 0} (g : Ghosts S) (ask : Ask) (reader : ReaderMarks) where
+  -- where the marks are enough to know, and what was kept is of the archive
+  abbrev pub Given : Keeping → Archive → Type 0 → Type 0
+  Given kept a Then = IsEnough a ask reader → AreOf a ask.rules ask.day kept → Then
 
-  -- it is kept
-  pub found_kept : (old new : Store S) (kept : Keeping) (place : ℕ) → GoesIn g (HoldsTables g) old new Knows
-      → Some place ≡ position (is_view_of ask.list reader part) kept.views → Goes g old new (Finds kept kept place)
-  found_kept old new kept place known is =
-      goes_as g old new Knows (Finds kept kept place)
-      (λ a b h. (h.0, h.1, outline_found a ask reader part kept place (found_view ask.list reader part kept.views place is) h.2))
-      (sound_too g old new Knows (λ a b it. it.0) known)
+  -- the outline at a place is that of the part of the view
+  abbrev pub Stands : Part → (old new : Keeping) (place : ℕ) → Archive → Archive → Type 0
+  Stands part old new place a b = (b ≡ a) × Given old a (outline_at new place ≡ Some (outline_for a ask part))
 
-  module _ (old mid new : Store S) (known : GoesIn g (HoldsTables g) old mid Knows) where
-    -- its outline cannot be made
-    pub not_made : (fault : DeskFault) {X Y : Type 0} (Says : Archive → X → Type 0) (Says' : Archive → Y → Type 0)
-        → Asks g mid new {A = X} reason (Err fault) (λ a. ask_reason a ask) Says → Asks g old new {A = Y} reason (Err fault) (λ a. ask_reason a ask) Says'
-    not_made fault {X = X} Says Says' asks =
-        calls_after g (IsReady g) old mid new {A = X} reason Knows (λ a b x. (b ≡ a) × (ask_reason a ask ≡ None) × Says a x) (λ a b x. ⊤)
-        (λ a b why. (b ≡ a) × (ask_reason a ask ≡ Some why)) (λ a b why. (b ≡ a) × (ask_reason a ask ≡ Some why)) (λ a b _. b ≡ a) (λ a b _. b ≡ a)
-        (λ a b c x first it. tt)
-        (λ a b c why first it. (it.0 ∙ first.0, subst (λ x. ask_reason x ask ≡ Some why) first.0 it.1))
-        (λ a b c fault first it. it ∙ first.0) (Err fault) (sound_too g old mid Knows (λ a b it. it.0) known) asks
+  -- an outline is
+  abbrev pub IsMade : Part → Keeping → Outline → Archive → Archive → Type 0
+  IsMade part kept outline a b = (b ≡ a) × Given kept a (outline ≡ outline_for a ask part)
 
-    module _ (outline : Outline) (made : Goes g mid new (λ a b. (b ≡ a) × (ask_reason a ask ≡ None) × (outline ≡ outline_for a ask part))) where
-      -- it is made
-      abbrev Makes : Archive → Archive → Type 0
-      Makes a b = (b ≡ a) × (ask_reason a ask ≡ None) × (IsEnough a ask reader × (outline ≡ outline_for a ask part))
+  -- what is kept stays of the archive
+  abbrev pub Stays : (old new : Store S) (kept later : Keeping) → Type 0
+  Stays old new kept later = HasReturned g new → IsReady g old → Given kept (archive_in g old) (AreOf (archive_in g old) ask.rules ask.day later)
 
-      makes : Goes g old new Makes
-      makes = goes_as g old new (λ a c. (b : Archive) × Knows a b × ((c ≡ b) × (ask_reason b ask ≡ None) × (outline ≡ outline_for b ask part))) Makes
-          (λ a c (b, h, k). (k.0 ∙ h.0, h.1, (h.2, subst (λ x. outline ≡ outline_for x ask part) h.0 k.2)))
-          (goes_on g old mid new Knows (λ a b. (b ≡ a) × (ask_reason a ask ≡ None) × (outline ≡ outline_for a ask part))
-          (sound_too g old mid Knows (λ a b it. it.0) known) made)
+  module _ (part : Part) where
+    -- it is kept
+    pub finds_kept : (store : Store S) (kept : Keeping) (place : ℕ) → Some place ≡ position (is_view_of ask.list reader part) kept.views
+        → Finds g store store ask reader part kept kept (Ok place)
+    finds_kept store kept place is = record {
+      found = goes_as g store store (λ a b. b ≡ a) (Stands part kept kept place)
+          (λ a b same. (same, (λ enough are. outline_found a ask reader part kept place (found_view ask.list reader part kept.views place is) enough are))) (stays_there g store);
+      ready = λ returned ready enough are. are;
+      most = refl;
+      bounded = λ within. within;
+    }
 
+    -- it cannot be read
+    pub finds_none : (old new : Store S) (kept : Keeping) (fault : DeskFault) (Says : Archive → Outline → Type 0)
+        → Asks g old new {A = Outline} reason (Err fault) (λ a. ask_reason a ask) Says → Finds g old new ask reader part kept kept (Err fault)
+    finds_none old new kept fault Says asks = record { found = asks; ready = λ returned ready enough are. are; most = refl; bounded = λ within. within }
+
+    -- it is put, or it is not, where so much was kept before
+    module _ (old new : Store S) (kept mid later : Keeping) (outline : Outline) (made : Goes g old new (IsMade part kept outline)) (so_far : Stays old new kept mid)
+        (same_most : later.most ≡ kept.most) (within : IsBounded later) (rest : List KeptView) (dropped : DropsOldest mid.views rest) where
       abbrev view : KeptView
       view = record { list = ask.list; reader = reader; part = part; outline = outline }
 
-      module _ (kept later : Keeping) (rest : List KeptView) (dropped : DropsOldest kept.views rest) (same_most : later.most ≡ kept.most) (within : IsBounded later) where
-        -- it is put
-        module _ (place : ℕ) (at : place ≡ put_place part rest) (put : later.views ≡ insert rest place view) where
-          upto : place ≤ length rest
-          upto = let fits = put_within part rest in omega (arith, at, fits)
+      module _ (place : ℕ) (at : place ≡ put_place part rest) (put : later.views ≡ insert rest place view) where
+        upto : place ≤ length rest
+        upto = let fits = put_within part rest in omega (arith, at, fits)
 
-          pub found_put : Goes g old new (Finds kept later place)
-          found_put = goes_as g old new Makes (Finds kept later place)
-              (λ a b h. (h.0, h.1, (λ are. outline_put later rest view place upto put ∙ ap (λ (o : Outline). Some o) h.2.1))) makes
+        stays : Stays old new kept later
+        stays returned ready enough are =
+            let a = archive_in g old in
+            let is = (made.1 returned ready).1.1 enough are in
+            subst (λ (vs : List KeptView). EachIsOf a ask.rules ask.day vs) (sym put)
+            (of_more a ask.rules ask.day rest place view (of_dropped a ask.rules ask.day mid.views rest dropped (so_far returned ready enough are))
+            (of_asked a ask reader part outline enough is))
 
-          are_put : HasReturned g new → IsReady g old → AreOf (archive_in g old) ask.rules ask.day kept → AreOf (archive_in g old) ask.rules ask.day later
-          are_put returned ready are =
-              let a = archive_in g old in
-              let it = (makes.1 returned ready).1.2 in
-              subst (λ (vs : List KeptView). EachIsOf a ask.rules ask.day vs) (sym put)
-              (of_more a ask.rules ask.day rest place view (of_dropped a ask.rules ask.day kept.views rest dropped are) (of_asked a ask reader part outline it.0 it.1))
-
-          -- where the store was open
-          pub keeps_put : (HasReturned g mid → IsOpen g old) → Keeps g old new ask.rules ask.day kept later
-          keeps_put up = record {
-            ready = are_put;
-            shut = λ returned shut. absurd (shut (up (made.0.returned returned)));
-            most = same_most;
-            bounded = λ was. within;
-          }
-
-        -- or it is not, for want of memory
-        pub keeps_left : later.views ≡ rest → (HasReturned g mid → IsOpen g old) → Keeps g old new ask.rules ask.day kept later
-        keeps_left left up = record {
-          ready = λ returned ready are. let a = archive_in g old in
-              subst (λ (vs : List KeptView). EachIsOf a ask.rules ask.day vs) (sym left) (of_dropped a ask.rules ask.day kept.views rest dropped are);
-          shut = λ returned shut. absurd (shut (up (made.0.returned returned)));
+        pub finds_put : Finds g old new ask reader part kept later (Ok place)
+        finds_put = record {
+          found = goes_as g old new (IsMade part kept outline) (Stands part kept later place)
+              (λ a b h. (h.0, (λ enough are. outline_put later rest view place upto put ∙ ap (λ (o : Outline). Some o) (h.1 enough are)))) made;
+          ready = stays;
           most = same_most;
           bounded = λ was. within;
         }
+
+      pub finds_no_room : (fault : DeskFault) → reason fault ≡ None → later.views ≡ rest → Finds g old new ask reader part kept later (Err fault)
+      finds_no_room fault none left = record {
+        found = rw none (made.0, (λ returned ready up. let it = made.1 returned ready in (it.0, it.1.0)));
+        ready = λ returned ready enough are. let a = archive_in g old in
+            subst (λ (vs : List KeptView). EachIsOf a ask.rules ask.day vs) (sym left) (of_dropped a ask.rules ask.day mid.views rest dropped (so_far returned ready enough are));
+        most = same_most;
+        bounded = λ was. within;
+      }
+
+    -- it is made of the whole, which was found
+    module _ (old new : Store S) (kept mid : Keeping) (place : ℕ) (finds : Finds g old new ask reader whole kept mid (Ok place)) where
+      pub made_of_whole : same_part part whole ≡ false → (outline : Outline) → outline_at mid place ≡ Some outline → Goes g old new (IsMade part kept (outline_under part outline))
+      made_of_whole other outline there = goes_as g old new (Stands whole kept mid place) (IsMade part kept (outline_under part outline))
+          (λ a b h. (
+            h.0,
+            (λ enough are.
+                ap (outline_under part) (some_is outline (outline_for a ask whole) (sym there ∙ h.1 enough are)) ∙ part_of_whole a ask part other),
+          )) finds.found
+
+  -- the whole cannot be found
+  pub finds_no_whole : (old new : Store S) (kept later : Keeping) (fault : DeskFault) (one other : Part) → Finds g old new ask reader one kept later (Err fault)
+      → Finds g old new ask reader other kept later (Err fault)
+  finds_no_whole old new kept later fault one other finds = record { found = finds.found; ready = finds.ready; most = finds.most; bounded = finds.bounded }
+
+  -- ---- once the reader is known
+
+  abbrev pub Knows : Archive → Archive → Type 0
+  Knows a b = (b ≡ a) × (ask_reason a ask ≡ None) × IsEnough a ask reader
+
+  module _ (part : Part) (old mid new : Store S) (known : GoesIn g (HoldsTables g) old mid Knows) (kept later : Keeping) (result : Result ℕ DeskFault)
+      (finds : Finds g mid new ask reader part kept later result) where
+    abbrev Refuses : Archive → Archive → Reason → Type 0
+    Refuses a b why = (b ≡ a) × (ask_reason a ask ≡ Some why)
+
+    knows : Goes g old mid Knows
+    knows = sound_too g old mid Knows (λ a b it. it.0) known
+
+    lasts : Lasts g mid new
+    lasts = calls_last g (IsReady g) mid new reason (λ a b place. Stands part kept later place a b) Refuses (λ a b _. b ≡ a) result finds.found
+
+    pub found_then : Asks g old new reason result (λ a. ask_reason a ask) (λ a place. AreOf a ask.rules ask.day kept → outline_at later place ≡ Some (outline_for a ask part))
+    found_then = calls_after g (IsReady g) old mid new reason Knows (λ a b place. Stands part kept later place a b)
+        (λ a b place. (b ≡ a) × (ask_reason a ask ≡ None) × (AreOf a ask.rules ask.day kept → outline_at later place ≡ Some (outline_for a ask part)))
+        Refuses Refuses (λ a b _. b ≡ a) (λ a b _. b ≡ a)
+        (λ a b c place first it. (it.0 ∙ first.0, first.1, subst (λ x. Given kept x (outline_at later place ≡ Some (outline_for x ask part))) first.0 it.1 first.2))
+        (λ a b c why first it. (it.0 ∙ first.0, subst (λ x. ask_reason x ask ≡ Some why) first.0 it.1))
+        (λ a b c fault first it. it ∙ first.0) result knows finds.found
+
+    pub keeps_then : (HasReturned g mid → IsOpen g old) → Keeps g old new ask.rules ask.day kept later
+    keeps_then up = record {
+      ready = λ returned ready are.
+          let it = knows.1 (lasts.returned returned) ready in
+          let enough = subst (λ a. IsEnough a ask reader) (sym it.1.0) it.1.2 in
+          subst (λ a. AreOf a ask.rules ask.day later) it.1.0 (finds.ready returned it.0 enough (subst (λ a. AreOf a ask.rules ask.day kept) (sym it.1.0) are));
+      shut = λ returned shut. absurd (shut (up (lasts.returned returned)));
+      most = finds.most;
+      bounded = finds.bounded;
+    }
+
+    pub open_then : (HasReturned g mid → IsOpen g old) → WasOpen g old new reason result
+    open_then up = was_open_by g old new reason result (open_still g old mid new up lasts)
+
+    pub cause_then : CausedOr g mid new result (λ a. IsUnreadable a ask (messages_in a ask.list)) → CausedOr g old new result (λ a. IsUnreadable a ask (messages_in a ask.list))
+    cause_then why = each_fault (λ fault. IsBroken fault → HasCause g mid new (λ a. IsUnreadable a ask (messages_in a ask.list)))
+        (λ fault. IsBroken fault → HasCause g old new (λ a. IsUnreadable a ask (messages_in a ask.list)))
+        (λ fault from it. cause_after g old mid new (known.0, (λ returned held. let there = known.1 returned held in (there.0, there.1.0))) lasts
+        (λ a. IsUnreadable a ask (messages_in a ask.list)) (from it)) result why

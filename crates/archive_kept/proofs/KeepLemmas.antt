@@ -32,7 +32,7 @@ module _ (a : Archive) (ask : Ask) (reader : ReaderMarks) (who : Option (List �
       ∙ view_alike a other reader two (messages_in a ask.list)
 
   outline_same : (part : Part) → IsEnough a ask reader → IsEnough a other reader → outline_for a ask part ≡ outline_for a other part
-  outline_same part one two = ap (λ (ms : List Message). outline_in (merge_of a ask.list) (map shown_of ms) part) (view_same one two)
+  outline_same part one two = ap (λ (ms : List Message). outline_in ask.list (merge_of a ask.list) (map shown_of ms) part) (view_same one two)
 
 -- the outline of what one asker is shown is of the archive, for all
 pub of_asked : (a : Archive) (ask : Ask) (reader : ReaderMarks) (part : Part) (outline : Outline) → IsEnough a ask reader → outline ≡ outline_for a ask part

@@ -12,6 +12,7 @@ use Rattle.policy_core.specs.declared.access.Standing.{Standing}
 use Rattle.policy_core.specs.declared.access.Standing.TheVariants.{Public, Member, Subscriber, Moderator}
 use Rattle.policy_core.specs.Facts.{rank_of}
 use Rattle.archive_results.specs.Access.{ReaderMarks}
+use Rattle.archive_kept.specs.Outlines.{Outline}
 use Rattle.archive_kept.specs.Parts.{Part, whole, month, author, same_part}
 use Rattle.archive_kept.specs.Views.{KeptView, Keeping, IsBounded, first_whole, is_view_of, is_whole, outline_at, put_place, same_address, same_reader, view_weight, weight_of}
 
@@ -118,6 +119,15 @@ pub outline_put : (kept : Keeping) (views : List KeptView) (v : KeptView) (place
 outline_put kept views v place upto e =
     ap (λ (vs : List KeptView). option_map (λ (w : KeptView). w.outline) (slice_get vs place)) e
     ∙ ap (option_map (λ (w : KeptView). w.outline)) (put_at views place v upto)
+
+-- what stands at a place that there is
+pub some_is : (one other : Outline) → Some one ≡ Some other → one ≡ other
+some_is one other is = cc
+
+pub stands_at : (views : List KeptView) (place : ℕ) → place < length views → (o : Outline) × (option_map (λ (v : KeptView). v.outline) (slice_get views place) ≡ Some o)
+stands_at [] place below = absurd (omega (arith, below))
+stands_at (v ∷ vs) zero below = (v.outline, refl)
+stands_at (v ∷ vs) (suc n) below = stands_at vs n (omega (arith, below))
 
 -- and there are as many more
 pub put_there : (part : Part) (rest views : List KeptView) (v : KeptView) (place : ℕ) → place ≡ put_place part rest → views ≡ insert rest place v → place < length views

@@ -1,10 +1,12 @@
 //! Views that are kept.
-ghost use Rattle.std.specs.Prelude.{◌≡◌, ◌⊎◌, ◌<◌, ◌≤◌, ◌+◌, ◌-◌, ◌^◌, ℕ, drop, insert, List, [], length, min, position, string_bytes, option_copied, option_map, MatchResult};
+ghost use Rattle.std.specs.Prelude.{◌≡◌, ◌⊎◌, ◌<◌, ◌≤◌, ◌+◌, ◌-◌, ◌^◌, ℕ, drop, List, [], length, min, position, string_bytes, option_copied, option_map, IfOk, Some};
 ghost use Rattle.std.specs.Option.{option_map_or};
 ghost use Rattle.archive_kept.specs.Parts.{part_named};
-ghost use Rattle.archive_kept.specs.Views.{DropsOldest, IsBounded, KeptView as Shown, first_whole, is_view_of, is_whole, nothing_kept, outline_at, put_place, same_address, same_reader, view_weight, weight_of};
+ghost use Rattle.archive_kept.specs.Outlines.{Outline as Whole, outline_under};
+ghost use Rattle.archive_kept.specs.Views.{DropsOldest, IsBounded, PutsView, first_whole, is_view_of, is_whole, nothing_kept, outline_at, put_place, same_address, same_reader, view_weight, weight_of};
 
-use crate::outlines::Outline;
+use crate::dividing::lines_under;
+use crate::outlines::{Outline, outline_by};
 use crate::parts::{OwnPart, Part, is_same_part, own_part, part_weight};
 use crate::weights::outline_weight;
 use archive_results::ReaderMarks;
@@ -50,7 +52,8 @@ impl Model for Kept {
 }
 
 fn is_same_address(one: &Option<String>, other: &Option<String>) -> bool
-    ensures { result ≡ same_address (option_map string_bytes one.now) (option_map string_bytes other.now) }
+    ensures { result ≡ same_address (option_map string_bytes one.now)
+        (option_map string_bytes other.now) }
 {
     match (one, other) {
         (None, None) => true,
@@ -63,6 +66,20 @@ fn is_same_reader(one: &ReaderMarks, other: &ReaderMarks) -> bool
     ensures { result ≡ same_reader one.now other.now }
 {
     one.standing.rank() == other.standing.rank() && is_same_address(&one.address, &other.address)
+}
+
+/// The marks of a reader once more.
+fn copied(alloc: Global, reader: &ReaderMarks) -> Result<ReaderMarks, Memory>
+    ensures { IfOk result (λ own. own ≡ reader.now) }
+{
+    let address = match &reader.address {
+        Some(address) => Some(String::from_str(alloc, address)?),
+        None => None,
+    };
+    Ok(ReaderMarks {
+        standing: reader.standing,
+        address,
+    })
 }
 
 /// Whether it is the view of a part of a list for readers of these marks.
@@ -138,7 +155,8 @@ fn view_weight(view: &KeptView) -> usize
 /// The first place from which the views have room beside one of this weight, or the end.
 fn first_with_room(views: &[KeptView], most: usize, weight: usize) -> usize
     ensures within { result ≤ length views.now }
-    ensures room { (weight_of (drop result views.now) + weight < most) ⊎ (result ≡ length views.now) }
+    ensures room { (weight_of (drop result views.now) + weight < most)
+        ⊎ (result ≡ length views.now) }
     ensures first { (result ≡ 0) ⊎ (most ≤ weight_of (drop (result - 1) views.now) + weight) }
 {
     let mut place = views.len();
@@ -189,7 +207,8 @@ impl Kept {
 
     /// The place of the view of a part of a list for readers of these marks, if it is kept.
     pub(crate) fn find(&self, list: &str, reader: &ReaderMarks, part: &Part<'_>) -> Option<usize>
-        ensures { result ≡ position (is_view_of list.now reader.now (part_named part.now)) self.now.views }
+        ensures { result ≡ position (is_view_of list.now reader.now
+            (part_named part.now)) self.now.views }
     {
         place_of(&self.views, list, reader, part)
     }
@@ -200,21 +219,19 @@ impl Kept {
         &mut self,
         alloc: Global,
         list: &str,
-        reader: ReaderMarks,
+        reader: &ReaderMarks,
         part: &Part<'_>,
         outline: Outline,
     ) -> Result<usize, Memory>
-        ensures kept { (rest : List Shown) × DropsOldest self.old.views rest × MatchResult result
-            (λ place. (place ≡ put_place (part_named part.now) rest)
-            × (self.new.views ≡ insert rest place (record { list = list.now; reader = reader; part = part_named part.now; outline = outline })))
-            (λ _. self.new.views ≡ rest) }
+        ensures kept { PutsView self.old.views self.new.views
+            (record { list = list.now; reader = reader.now; part = part_named part.now; outline = outline }) result }
         ensures most { self.new.most ≡ self.old.most }
         ensures bounded { IsBounded self.new }
     {
         let most = self.most;
         let view = KeptView {
             list: String::from_str(alloc, list)?,
-            reader,
+            reader: copied(alloc, reader)?,
             part: own_part(alloc, part)?,
             outline,
         };
@@ -222,5 +239,27 @@ impl Kept {
         let place = put_place(&self.views, part);
         self.views.insert(place, view)?;
         Ok(place)
+    }
+
+    /// Keeps a month or an author in the same way, made of the outline of the whole list that stands at a place.
+    pub(crate) fn put_part(
+        &mut self,
+        alloc: Global,
+        list: &str,
+        reader: &ReaderMarks,
+        part: &Part<'_>,
+        whole: usize,
+    ) -> Result<usize, Memory>
+        requires { whole < length self.old.views }
+        ensures kept { (of : Whole) → outline_at self.old whole ≡ Some of
+            → PutsView self.old.views self.new.views
+            (record { list = list.now; reader = reader.now; part = part_named part.now; outline = outline_under (part_named part.now) of }) result }
+        ensures most { self.new.most ≡ self.old.most }
+        ensures bounded { IsBounded self.new }
+    {
+        let of = &self.views[whole].outline;
+        let lines = lines_under(alloc, of.lines(), part)?;
+        let outline = outline_by(alloc, of.list(), lines)?;
+        self.put(alloc, list, reader, part, outline)
     }
 }

@@ -54,7 +54,8 @@ fn compare(lines: &[Line], one: usize, other: usize) -> Ordering
 
 /// The places of some lines.
 fn places_of(alloc: Global, lines: &[Line]) -> Result<Vec<usize>, Memory>
-    ensures { IfOk result (λ places. (place : ℕ) → place < length lines.now → Contains places.items place) }
+    ensures { IfOk result (λ places. (place : ℕ) → place < length lines.now
+        → Contains places.items place) }
 {
     let count = lines.len();
     let mut places = Vec::with_capacity(alloc, count)?;
@@ -82,7 +83,8 @@ fn is_before(lines: &[Line], place: usize, key: &str) -> bool
 
 /// Whether there is a line at a place, and it is that of the message of this key.
 fn has_key(lines: &[Line], place: usize, key: &str) -> bool
-    ensures { result ≡ option_map_or (λ l. bytes_eq l.key key.now) (slice_get lines.now place) false }
+    ensures { result ≡ option_map_or (λ l. bytes_eq l.key key.now)
+        (slice_get lines.now place) false }
 {
     match lines.get(place) {
         Some(line) => line.key.as_str() == key,

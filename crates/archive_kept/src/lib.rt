@@ -1,6 +1,7 @@
-//! What is kept of views while an archive stays as it is, so that a list, a month and an author are read once and not for each page.
+//! What is kept of views while an archive stays as it is, so that a list is read once for its threads, months and authors, and not for each page.
 #![tactic(auto)]
 
+mod dividing;
 mod finding;
 mod kept;
 mod keyed;

@@ -1,12 +1,14 @@
-//! Views without their texts.
-ghost use Rattle.std.specs.Prelude.{◌≡◌, List, Bool, IfOk, map, option_map};
+//! Views without the texts of their messages.
+ghost use Rattle.std.specs.Prelude.{◌≡◌, ℕ, List, Bool, IfOk, flat_map, map, option_map};
+ghost use Rattle.archive_html.specs.Rows.{tree_row};
 ghost use Rattle.archive_results.specs.Index.{OfEachView, entries_in, lines_in};
 ghost use Rattle.archive_results.specs.Results.{thread_lines};
 ghost use Rattle.archive_results.specs.Shown.{Shown as Seen, shown_of};
-ghost use Rattle.archive_kept.specs.Outlines.{outline_by, outline_of, thread_in, trees_in};
+ghost use Rattle.archive_kept.specs.Outlines.{outline_by, outline_of, text_of, thread_in};
 
 use crate::keyed::KeyedLines;
 use crate::threaded::ThreadedRows;
+use archive_html::RowTexts;
 use archive_machine::Key;
 use archive_results::{Header, Line};
 use mail_core::Memory;
@@ -14,24 +16,37 @@ use std::alloc::Global;
 use std::marker::Model;
 use thread_core::{Entry, Row, Threader, threads};
 
-/// A view without its texts: the line of each message, in mailbox order, and the rows of the threads, each with the place of
-/// its message. A message is found by its key, and its thread by its place, without a look at the others. Of a month or an
-/// author it has the lines by sent date, and no row.
+/// A view without the texts of its messages: the line of each message, in mailbox order, and the rows of the threads, each with the
+/// place of its message and its text, as the pages of the list have it. A message is found by its key, and its thread by its place,
+/// without a look at the others. Of a month or an author it has the lines by sent date, and no row.
 #[derive(Drop)]
 pub struct Outline {
+    list: String,
     lines: KeyedLines,
     rows: ThreadedRows,
+    texts: RowTexts,
 }
 
 impl Model for Outline {
+    ghost use Rattle.std.specs.Prelude.{string_bytes};
+    ghost use Rattle.archive_html.specs.Rows.{AreRowTexts};
     ghost use Rattle.archive_kept.specs.Outlines.{Outline as Shown};
 
     ghost Value = { Shown };
 
-    ghost view = { λ o. record { lines = o.lines; rows = o.rows } };
+    ghost view = { λ o. record { list = string_bytes o.list; lines = o.lines; rows = o.rows } };
+
+    ghost invariant = { λ o. AreRowTexts (string_bytes o.list) o.lines o.rows o.texts.bytes.items o.texts.starts.items };
 }
 
 impl Outline {
+    /// The name of the list.
+    pub(crate) fn list(&self) -> &str
+        ensures { result.now ≡ self.entry.now.list }
+    {
+        &self.list
+    }
+
     /// The line of each message, in mailbox order, or by sent date of a month or an author.
     pub fn lines(&self) -> &[Line]
         ensures { result.now ≡ self.entry.now.lines }
@@ -46,14 +61,25 @@ impl Outline {
         self.rows.as_slice()
     }
 
-    /// The rows of the top thread that holds the message of a key. `None` where no line has the key.
-    pub fn thread(&self, key: &Key) -> Option<&[Row]>
-        ensures rows { option_map (λ rows. rows.now) result ≡ thread_in self.entry.now key.now }
-        ensures shown { (merge : Bool) (view : List Seen) → self.entry.now ≡ outline_of merge view
-            → option_map (λ rows. trees_in self.entry.now rows.now) result ≡ thread_lines merge key.now view }
+    /// The texts of the rows of all threads, one after the other, as a page of the list has them.
+    pub fn text(&self) -> &[u8]
+        ensures { result.now ≡ text_of self.entry.now self.entry.now.rows }
+    {
+        self.texts.all()
+    }
+
+    /// The texts of the rows of the top thread that holds the message of a key. `None` where no line has the key.
+    pub fn thread(&self, key: &Key) -> Option<&[u8]>
+        ensures text { option_map (λ text. text.now) result ≡ option_map (text_of self.entry.now)
+            (thread_in self.entry.now key.now) }
+        ensures shown { (list : List ℕ) (merge : Bool) (view : List Seen)
+            → self.entry.now ≡ outline_of list merge view
+            → option_map (λ text. text.now) result ≡ option_map (flat_map (tree_row list))
+            (thread_lines merge key.now view) }
     {
         let place = self.lines.place_of(key)?;
-        self.rows.thread_at(place)
+        let (first, end) = self.rows.thread_at(place)?;
+        Some(self.texts.run(first, end))
     }
 }
 
@@ -77,29 +103,48 @@ fn columns_of(alloc: Global, headers: Vec<Header>) -> Result<Columns, Memory>
     Ok(Columns { lines, entries })
 }
 
-/// The outline of a view whose headers these are. Its threads of one subject are gathered where `merge` is true. `Memory` where
-/// no memory is left.
+/// The outline of lines and of the rows of their threads. `Memory` where no memory is left.
+fn outline_with(
+    alloc: Global,
+    list: &str,
+    lines: Vec<Line>,
+    rows: Vec<Row>,
+) -> Result<Outline, Memory>
+    ensures { IfOk result (λ outline. outline ≡ record
+        { list = list.now; lines = lines.items; rows = rows.items }) }
+{
+    let texts = RowTexts::new(alloc, list, &lines, &rows)?;
+    let rows = ThreadedRows::new(alloc, rows, lines.len())?;
+    let lines = KeyedLines::new(alloc, lines)?;
+    let list = String::from_str(alloc, list)?;
+    Ok(Outline {
+        list,
+        lines,
+        rows,
+        texts,
+    })
+}
+
+/// The outline of a view of a list whose headers these are. Its threads of one subject are gathered where `merge` is true. `Memory`
+/// where no memory is left.
 pub(crate) fn outline_of<T: Threader>(
     alloc: Global,
     threader: &T,
+    list: &str,
     headers: Vec<Header>,
     merge: bool,
 ) -> Result<Outline, Memory>
     ensures { OfEachView headers.items (λ view.
-        IfOk result (λ outline. outline ≡ outline_of merge (map shown_of view))) }
+        IfOk result (λ outline. outline ≡ outline_of list.now merge (map shown_of view))) }
 {
     let columns = columns_of(alloc, headers)?;
-    let threaded = threads(alloc, threader, &columns.entries, merge)?;
-    let rows = ThreadedRows::new(alloc, threaded, columns.lines.len())?;
-    let lines = KeyedLines::new(alloc, columns.lines)?;
-    Ok(Outline { lines, rows })
+    let rows = threads(alloc, threader, &columns.entries, merge)?;
+    outline_with(alloc, list, columns.lines, rows)
 }
 
 /// The outline of lines alone. `Memory` where no memory is left.
-pub(crate) fn outline_by(alloc: Global, lines: Vec<Line>) -> Result<Outline, Memory>
-    ensures { IfOk result (λ outline. outline ≡ outline_by lines.items) }
+pub(crate) fn outline_by(alloc: Global, list: &str, lines: Vec<Line>) -> Result<Outline, Memory>
+    ensures { IfOk result (λ outline. outline ≡ outline_by list.now lines.items) }
 {
-    let rows = ThreadedRows::new(alloc, Vec::new(alloc), 0)?;
-    let lines = KeyedLines::new(alloc, lines)?;
-    Ok(Outline { lines, rows })
+    outline_with(alloc, list, lines, Vec::new(alloc))
 }

@@ -9,7 +9,8 @@ use archive_results::Line;
 /// its thread.
 const LINE_BYTES: usize = 192;
 
-const ROW_BYTES: usize = 24;
+/// What a row takes beside its text, with the place where that begins.
+const ROW_BYTES: usize = 32;
 
 /// The weight of a line, as far as 64 bits go.
 fn line_weight(line: &Line) -> usize
@@ -36,5 +37,7 @@ pub(crate) fn outline_weight(outline: &Outline) -> usize
     ensures { result ≡ min (outline_weight outline.now) (2 ^ 64 - 1) }
 {
     let rows = ROW_BYTES.saturating_mul(outline.rows().len());
-    lines_weight(outline.lines()).saturating_add(rows)
+    lines_weight(outline.lines())
+        .saturating_add(rows)
+        .saturating_add(outline.text().len())
 }

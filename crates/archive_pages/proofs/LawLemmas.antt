@@ -62,7 +62,7 @@ module _ (rules : List Rule) (day : ℤ) (a b : Archive) (x y : Option (List ℕ
   Ways route = (list : List ℕ) → list_of route ≡ Some list → merge_of a list ≡ merge_of b list
 
   of_list : (route : Route) (list : List ℕ) → Views route → Ways route → list_of route ≡ Some list
-      → list_reply a (asking rules day x) list route ≡ list_reply b (asking rules day y) list route
+      → list_reply a (asking rules day x list) route ≡ list_reply b (asking rules day y list) route
   of_list route list views ways is =
       listing a b (asking rules day x list) (asking rules day y list) route list (same_lists a b list names) (ways list is) (views list is)
 

@@ -10,5 +10,6 @@ mod UnroutedLemmas
 mod DeskLemmas
 mod PlaceLemmas
 mod CauseLemmas
+mod RouteLemmas
 pub mod AnswerExamples
 pub mod RunningLemmas

@@ -1,9 +1,9 @@
 -- A page out of the outline at a place of what is kept.
-use Rattle.std.proofs.Common.{◌≡◌, ◌∙◌, refl, sym, ap, subst, cond, pos, ℕ, Bool, true, false, List, map, Option, Some, None}
+use Rattle.std.proofs.Common.{◌≡◌, ◌∙◌, refl, sym, ap, subst, cond, pos, ℕ, Bool, true, false, List, Option, Some, None, codes}
+use Rattle.std.specs.Prelude.{flat_map, option_map}
 use Rattle.std.specs.Option.{option_map_or}
 use Rattle.sqlite.specs.Store.{Ghosts}
 use Rattle.civil_time.specs.Calendar.{month_of_text}
-use Rattle.thread_core.specs.declared.row.Row.{Row}
 use Rattle.archive_machine.specs.Records.{Archive}
 use Rattle.archive_machine.specs.Questions.{merge_of}
 use Rattle.archive_machine.specs.Keys.{is_key}
@@ -11,26 +11,19 @@ use Rattle.archive_store.specs.Told.{Goes}
 use Rattle.archive_store.specs.declared.store.Store.{Store}
 use Rattle.archive_store.proofs.Joins.{goes_as}
 use Rattle.archive_results.specs.Access.{Ask}
-use Rattle.archive_results.specs.Results.{TreeLine, author_lines, month_lines, tree_line, tree_lines, thread_lines, lines_of}
-use Rattle.archive_results.specs.Shown.{Line}
-use Rattle.archive_html.specs.Pages.{author_page, month_page, threads_page, thread_page}
-use Rattle.archive_kept.specs.Outlines.{Outline, outline_for}
-use Rattle.archive_desk.specs.Causes.{IsUnreadable}
-use Rattle.archive_desk.specs.Readable.{CanBeRead}
-use Rattle.archive_desk.proofs.UnbrokenLemmas.{author_read, list_read, month_read}
-use Rattle.archive_kept.specs.Parts.{Part, whole, month, author, messages_of}
+use Rattle.archive_results.specs.Results.{TreeLine, author_lines, month_lines, tree_lines, thread_lines, lines_of, rows_of}
+use Rattle.archive_results.specs.Shown.{Line, Shown}
+use Rattle.archive_html.specs.Pages.{author_page, month_page, page, threads_page, thread_page, titled}
+use Rattle.archive_html.specs.Rows.{tree_row}
+use Rattle.archive_kept.specs.Outlines.{Outline, outline_for, text_of}
+use Rattle.archive_kept.proofs.OutlineLemmas.{text_is}
+use Rattle.archive_kept.specs.Parts.{Part, whole, month, author}
 use Rattle.archive_kept.specs.Views.{Keeping, outline_at}
 use Rattle.archive_pages.specs.Answers.{listed_reply, month_reply, shown_view, thread_reply}
 use Rattle.archive_pages.specs.Calls.{IsPlace}
 use Rattle.archive_pages.specs.Replies.{Reply, not_found, page_reply}
 use Rattle.archive_pages.specs.Serving.{OfEvery}
 use Rattle.archive_pages.proofs.DeskLemmas.{on_listed, on_unlisted}
-
--- what is read for a part of an archive that can be read
-pub part_read : (a : Archive) → CanBeRead a → (ask : Ask) (part : Part) → ¬ IsUnreadable a ask (messages_of a ask.list part)
-part_read a can ask whole = list_read a can ask
-part_read a can ask (month m) = month_read a can ask (pos m)
-part_read a can ask (author key) = author_read a can ask key
 
 some_is : (x y : Outline) → Some x ≡ Some y → x ≡ y
 some_is x y is = cc
@@ -60,31 +53,34 @@ module _ {S : Type 0} (g : Ghosts S) (old new : Store S) (If : Archive → Type 
         let it = subst (λ x. IsPlace a ask kept part x) is at in
         of a (some_is outline (outline_for a ask part) (there ∙ it.1)) ∙ sym (on_listed a ask (made a) it.0)) found
 
-module _ (a : Archive) (ask : Ask) (outline : Outline) (of : outline ≡ outline_for a ask whole) (list : List ℕ) (lines : List Line) (rows : List Row)
-    (same_list : list ≡ ask.list) (same_lines : lines ≡ outline.lines) where
-  -- the lines of the view
-  of_view : lines ≡ lines_of (shown_view a ask)
-  of_view = same_lines ∙ ap (λ (x : Outline). x.lines) of
+module _ (a : Archive) (ask : Ask) (outline : Outline) (list : List ℕ) (same_list : list ≡ ask.list) where
+  abbrev view : List Shown
+  view = shown_view a ask
 
-  pub threads_placed : (page : List ℕ) → page ≡ threads_page list (map (tree_line lines) rows) → rows ≡ outline.rows
-      → page_reply page ≡ page_reply (threads_page ask.list (tree_lines (merge_of a ask.list) (shown_view a ask)))
-  threads_placed page made same_rows = ap page_reply (
-      made ∙ (ap (λ l. threads_page l (map (tree_line lines) rows)) same_list
-      ∙ (ap (λ ls. threads_page ask.list (map (tree_line ls) rows)) of_view
-      ∙ ap (λ rs. threads_page ask.list (map (tree_line (lines_of (shown_view a ask))) rs)) (same_rows ∙ ap (λ (x : Outline). x.rows) of))))
+  pub threads_placed : (text made : List ℕ) → outline ≡ outline_for a ask whole → made ≡ page (titled list (codes "threads")) text → text ≡ text_of outline outline.rows
+      → page_reply made ≡ page_reply (threads_page ask.list (tree_lines (merge_of a ask.list) view))
+  threads_placed text made of is same = ap page_reply (
+      is ∙ (ap (λ l. page (titled l (codes "threads")) text) same_list
+      ∙ ap (λ rows. page (titled ask.list (codes "threads")) rows)
+      (same ∙ (ap (λ (o : Outline). text_of o o.rows) of ∙ text_is ask.list (lines_of view) (rows_of (merge_of a ask.list) view)))))
 
   -- the thread of a key, where a line has it, and where none has
-  module _ (key : List ℕ) where
-    abbrev shown : List TreeLine → Reply
-    shown trees = page_reply (thread_page ask.list trees)
+  abbrev texts : Option (List TreeLine) → Option (List ℕ)
+  texts trees = option_map (flat_map (tree_row ask.list)) trees
 
-    pub thread_placed : (page : List ℕ) → is_key key ≡ true → page ≡ thread_page list (map (tree_line lines) rows)
-        → Some (map (tree_line outline.lines) rows) ≡ thread_lines (merge_of a ask.list) key (shown_view a ask)
-        → page_reply page ≡ thread_reply (merge_of a ask.list) ask.list key (shown_view a ask)
-    thread_placed page keyed made same =
-        ap page_reply (made ∙ (ap (λ l. thread_page l (map (tree_line lines) rows)) same_list ∙ ap (λ ls. thread_page ask.list (map (tree_line ls) rows)) same_lines))
-        ∙ (ap (λ x. option_map_or shown x not_found) same
-        ∙ ap (λ b. option_map_or shown (cond b (thread_lines (merge_of a ask.list) key (shown_view a ask)) None) not_found) (sym keyed))
+  abbrev shown : List TreeLine → Reply
+  shown trees = page_reply (thread_page ask.list trees)
+
+  thread_by : (text : List ℕ) (trees : Option (List TreeLine)) → Some text ≡ texts trees
+      → page_reply (page (titled ask.list (codes "thread")) text) ≡ option_map_or shown trees not_found
+  thread_by text None is = absurd (cc)
+  thread_by text (Some trees) is = let same : text ≡ flat_map (tree_row ask.list) trees = cc in ap (λ rows. page_reply (page (titled ask.list (codes "thread")) rows)) same
+
+  pub thread_placed : (key text made : List ℕ) → is_key key ≡ true → made ≡ page (titled list (codes "thread")) text
+      → Some text ≡ texts (thread_lines (merge_of a ask.list) key view) → page_reply made ≡ thread_reply (merge_of a ask.list) ask.list key view
+  thread_placed key text made keyed is same =
+      ap page_reply (is ∙ ap (λ l. page (titled l (codes "thread")) text) same_list) ∙ thread_by text (thread_lines (merge_of a ask.list) key view) same
+      ∙ ap (λ b. option_map_or shown (cond b (thread_lines (merge_of a ask.list) key view) None) not_found) (sym keyed)
 
 -- the lines of a month, and those of an author
 module _ (a : Archive) (ask : Ask) (outline : Outline) (list : List ℕ) (lines : List Line) (same_list : list ≡ ask.list) (same_lines : lines ≡ outline.lines) where
@@ -100,10 +96,11 @@ module _ (a : Archive) (ask : Ask) (outline : Outline) (list : List ℕ) (lines 
       ap page_reply (made ∙ (ap (λ l. author_page l key lines) same_list ∙ ap (λ ls. author_page ask.list key ls) (same_lines ∙ ap (λ (x : Outline). x.lines) of)))
 
 module _ (ask : Ask) where
-  none_by : (b : Bool) (x : Option (List TreeLine)) → x ≡ None → not_found ≡ option_map_or (λ trees. page_reply (thread_page ask.list trees)) (cond b x None) not_found
-  none_by true x is = ap (λ o. option_map_or (λ trees. page_reply (thread_page ask.list trees)) o not_found) (sym is)
+  none_by : (b : Bool) (x : Option (List TreeLine)) → None ≡ option_map (flat_map (tree_row ask.list)) x → not_found ≡ option_map_or (λ trees. page_reply (thread_page ask.list trees)) (cond b x None) not_found
+  none_by true None is = refl
+  none_by true (Some trees) is = absurd (cc)
   none_by false x is = refl
 
-  pub thread_none : (a : Archive) (key : List ℕ) → None ≡ thread_lines (merge_of a ask.list) key (shown_view a ask)
+  pub thread_none : (a : Archive) (key : List ℕ) → None ≡ option_map (flat_map (tree_row ask.list)) (thread_lines (merge_of a ask.list) key (shown_view a ask))
       → not_found ≡ thread_reply (merge_of a ask.list) ask.list key (shown_view a ask)
-  thread_none a key none = none_by (is_key key) (thread_lines (merge_of a ask.list) key (shown_view a ask)) (sym none)
+  thread_none a key none = none_by (is_key key) (thread_lines (merge_of a ask.list) key (shown_view a ask)) none

@@ -33,10 +33,13 @@ fn answer_read<T: Threader, S: Alter, W: Sink>(
     read: &RequestRead<'_>,
     output: &mut W,
 ) -> Result<StatusCode, ServeFault>
-    ensures answered { OfReady S.Store store.old store.new (AreKept pages.old) → (given more : List ℕ) → IsRequestAs given (given ++ more) read.now
-        → IsAnswered S.Store store.old store.new pages.old.policy.now pages.old.day given (given ++ more)
+    ensures answered { OfReady S.Store store.old store.new (AreKept pages.old)
+        → (given more : List ℕ) → IsRequestAs given (given ++ more) read.now
+        → IsAnswered S.Store store.old store.new pages.old.policy.now pages.old.day given
+        (given ++ more)
         (W.told output.old) (W.told output.new) result }
-    ensures unrouted { IfSome pages.old.routes (λ _. (given more : List ℕ) → IsRequestAs given (given ++ more) read.now
+    ensures unrouted { IfSome pages.old.routes
+        (λ _. (given more : List ℕ) → IsRequestAs given (given ++ more) read.now
         → IsUnrouted (given ++ more) (W.told output.old) (W.told output.new) result) }
     ensures stays { Stays S.Store store.old store.new result }
     ensures ends { EndsPages S.Store W.Sink store.old store.new output.old output.new result IsUnread pages.old pages.new }
@@ -59,8 +62,10 @@ pub fn answer_kept<T: Threader, S: Alter, R: Source, W: Sink>(
     input: &mut R,
     output: &mut W,
 ) -> Result<StatusCode, ServeFault>
-    ensures answered { OfReady S.Store store.old store.new (AreKept pages.old) → AnswersBy S.Store store.old store.new pages.old.policy.now pages.old.day
-        (R.told input.old) (R.told input.new) (R.ends input.old) (R.ends input.new) (W.told output.old) (W.told output.new) result }
+    ensures answered { OfReady S.Store store.old store.new (AreKept pages.old)
+        → AnswersBy S.Store store.old store.new pages.old.policy.now pages.old.day
+        (R.told input.old) (R.told input.new) (R.ends input.old) (R.ends input.new)
+        (W.told output.old) (W.told output.new) result }
     ensures unrouted { IfSome pages.old.routes (λ _. ByOutcome result
         (Reads (R.told input.old) (R.told input.new) (R.ends input.old) (R.ends input.new)
         (λ given all. IsUnrouted all (W.told output.old) (W.told output.new) result)) ⊤) }

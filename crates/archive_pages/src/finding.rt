@@ -43,8 +43,8 @@ pub(crate) fn find_lists<S: Alter>(
     };
     match lists_page(alloc, &names) {
         Ok(page) => Ok(Reply::Page(page)),
-        Err(_) => {
-            store.wants.raise();
+        Err(refused) => {
+            store.wants.raise(refused.into());
             Err(Unavailable)
         }
     }
@@ -57,7 +57,8 @@ pub(crate) fn find_message<'p, S: Alter>(
     ask: &Ask<'p>,
     key: &str,
 ) -> Result<Reply<'p>, Unavailable>
-    ensures found { FindsReply S.Store store.old store.new result (message_for ask.entry.now key.now) }
+    ensures found { FindsReply S.Store store.old store.new result
+        (message_for ask.entry.now key.now) }
     ensures why { FindsMade S.Store store.old store.new result (IsUnreadBy ask.entry.now.reader) }
 {
     let Some(key) = Key::read(key) else {

@@ -35,7 +35,8 @@ pub fn answer_two<T: Threader, S: Alter, R: Source, W: Sink>(
     ensures second { HasReturned S.Store store.new → IsReady S.Store store.old
         → AnswersPeer R.Source W.Sink (archive_in S.Store store.old) policy.now day second.old second.new result.1 }
     ensures stays { GoesIfOpen S.Store store.old store.new (λ a b. b ≡ a) }
-    ensures ready { IfOk result.0 (λ status. status ≢ 503 → Stays S.Store store.old store.new result.1) }
+    ensures ready { IfOk result.0 (λ status. status ≢ 503
+        → Stays S.Store store.old store.new result.1) }
 {
     let one = answer(
         store,

@@ -76,7 +76,8 @@ pub fn what_is_withdrawn_might_never_have_come()
 /// that the file held when it was closed, so out of the machine's run of the commands that made it:
 /// over any disk that keeps the clauses of `Disk` and returns what was written to it.
 pub fn a_file_opened_again_is_answered_alike<D: Disk>()
-    ensures { (closed opened : Held (FileStore D D.Disk)) (files : Files D) (store new : Store (FileStore D D.Disk)) (archive : Archive)
+    ensures { (closed opened : Held (FileStore D D.Disk)) (files : Files D)
+        (store new : Store (FileStore D D.Disk)) (archive : Archive)
         → AnswersReopened closed opened files store new archive }
 {
     a_file_opened_again_holds_the_same_archive::<D>();
@@ -85,13 +86,16 @@ pub fn a_file_opened_again_is_answered_alike<D: Disk>()
 /// In memory each request is followed by the next, whatever was answered, 503 too: the store is
 /// ready for it, and remembers the same archive.
 pub fn in_memory_each_request_is_followed_by_the_next()
-    ensures { (old new : Store MemStore) (result : Result ℕ ServeFault) → Stays over_memory old new result
+    ensures { (old new : Store MemStore) (result : Result ℕ ServeFault)
+        → Stays over_memory old new result
         → Goes over_memory old new (λ a b. b ≡ a) }
 {}
 
 /// In memory, out of an archive that commands wrote, 503 and S3 mean that memory was refused in that
 /// call, by the count of the store: a disk does not fail there, and such an archive can be read.
 pub fn in_memory_503_means_that_memory_was_refused()
-    ensures { (old new : Store MemStore) (result : Result ℕ ServeFault) → IsReady over_memory old → HasNoLimit over_memory old
-        → CanBeRead (archive_in over_memory old) → ServesOr over_memory old new result IsUnread → IsUnserved result → WasRefused old new }
+    ensures { (old new : Store MemStore) (result : Result ℕ ServeFault) → IsReady over_memory old
+        → HasNoLimit over_memory old
+        → CanBeRead (archive_in over_memory old) → ServesOr over_memory old new result IsUnread
+        → IsUnserved result → WasRefused old new }
 {}

@@ -1,16 +1,19 @@
 //! The pages that list messages: of a month, of an author, of all threads and of one.
 ghost use Rattle.std.specs.Prelude.{◌<◌, IfOk, IfSome, length};
+ghost use Rattle.percent_encoding.specs.Percent.{percent_decode};
+ghost use Rattle.archive_requests.specs.Routes.{author, month, thread, threads};
 ghost use Rattle.archive_kept.specs.Kept.{Keeps};
 ghost use Rattle.archive_kept.specs.Parts.{part_named};
-ghost use Rattle.archive_pages.specs.Answers.{author_for, month_for, thread_for, threads_for};
+ghost use Rattle.archive_pages.specs.Answers.{list_reply};
 ghost use Rattle.archive_pages.specs.Calls.{AreFor, FindsMade, FindsReplyIf, IsPlace};
 ghost use Rattle.archive_pages.specs.Causes.{FindsOr, IsUnreadBy};
 ghost use Rattle.archive_pages.specs.KeptServing.{FindsIf};
 
 use crate::replies::{Failure, Reply, Unavailable};
 use archive_desk::DeskFault;
-use archive_html::{author_page, month_page, placed_thread_page, placed_threads_page};
+use archive_html::{author_page, month_page, thread_page, threads_page};
 use archive_kept::{Kept, Part, find_outline};
+use archive_requests::decoded;
 use archive_results::Ask;
 use archive_store::{Key, Store};
 use civil_time::Month;
@@ -27,7 +30,8 @@ fn find_place<T: Threader, S: Alter>(
     part: &Part<'_>,
     threader: &T,
 ) -> Result<Option<usize>, Unavailable>
-    ensures found { FindsIf S.Store store.old store.new (AreFor ask.now kept.old) result (λ a place. IsPlace a ask.now kept.new (part_named part.now) place) }
+    ensures found { FindsIf S.Store store.old store.new (AreFor ask.now kept.old) result
+        (λ a place. IsPlace a ask.now kept.new (part_named part.now) place) }
     ensures there { IfOk result (λ place. IfSome place (λ at. at < length kept.new.views)) }
     ensures keeps { Keeps S.Store store.old store.new ask.now.rules ask.now.day kept.old kept.new }
     ensures caused { FindsOr S.Store store.old store.new result (IsUnreadBy ask.now.reader) }
@@ -50,7 +54,8 @@ pub(crate) fn find_month<T: Threader, S: Alter>(
     threader: &T,
     text: &str,
 ) -> Result<Reply<'static>, Unavailable>
-    ensures found { FindsReplyIf S.Store store.old store.new result (AreFor ask.now kept.old) (month_for ask.now text.now) }
+    ensures found { FindsReplyIf S.Store store.old store.new result (AreFor ask.now kept.old)
+        (λ a. list_reply a ask.now (month ask.now.list text.now)) }
     ensures keeps { Keeps S.Store store.old store.new ask.now.rules ask.now.day kept.old kept.new }
     ensures why { FindsMade S.Store store.old store.new result (IsUnreadBy ask.now.reader) }
 {
@@ -65,36 +70,45 @@ pub(crate) fn find_month<T: Threader, S: Alter>(
     };
     match month_page(alloc, ask.list, asked, outline.lines()) {
         Ok(page) => Ok(Reply::Page(page)),
-        Err(_) => {
-            store.wants.raise();
+        Err(refused) => {
+            store.wants.raise(refused.into());
             Err(Unavailable)
         }
     }
 }
 
-/// The page of an author, whose key is given as it was asked for, in the same way.
+/// The page of an author, whose key the path has with escapes, in the same way. It is unavailable where there is no memory for the key
+/// without them.
 pub(crate) fn find_author<T: Threader, S: Alter>(
     store: &mut Store<S>,
     kept: &mut Kept,
     alloc: Global,
     ask: &Ask<'_>,
     threader: &T,
-    key: &[u8],
+    text: &str,
 ) -> Result<Reply<'static>, Unavailable>
-    ensures found { FindsReplyIf S.Store store.old store.new result (AreFor ask.now kept.old) (author_for ask.now key.now) }
+    ensures found { FindsReplyIf S.Store store.old store.new result (AreFor ask.now kept.old)
+        (λ a. list_reply a ask.now (author ask.now.list (percent_decode text.now))) }
     ensures keeps { Keeps S.Store store.old store.new ask.now.rules ask.now.day kept.old kept.new }
     ensures why { FindsMade S.Store store.old store.new result (IsUnreadBy ask.now.reader) }
 {
-    let Some(place) = find_place(store, kept, alloc, ask, &Part::Author(key), threader)? else {
+    let key = match decoded(alloc, text) {
+        Ok(key) => key,
+        Err(refused) => {
+            store.wants.raise(refused.into());
+            return Err(Unavailable);
+        }
+    };
+    let Some(place) = find_place(store, kept, alloc, ask, &Part::Author(&key), threader)? else {
         return Ok(Reply::Failed(Failure::NotFound));
     };
     let Some(outline) = kept.outline(place) else {
         return Err(Unavailable);
     };
-    match author_page(alloc, ask.list, key, outline.lines()) {
+    match author_page(alloc, ask.list, &key, outline.lines()) {
         Ok(page) => Ok(Reply::Page(page)),
-        Err(_) => {
-            store.wants.raise();
+        Err(refused) => {
+            store.wants.raise(refused.into());
             Err(Unavailable)
         }
     }
@@ -108,7 +122,8 @@ pub(crate) fn find_threads<T: Threader, S: Alter>(
     ask: &Ask<'_>,
     threader: &T,
 ) -> Result<Reply<'static>, Unavailable>
-    ensures found { FindsReplyIf S.Store store.old store.new result (AreFor ask.now kept.old) (threads_for ask.now) }
+    ensures found { FindsReplyIf S.Store store.old store.new result (AreFor ask.now kept.old)
+        (λ a. list_reply a ask.now (threads ask.now.list)) }
     ensures keeps { Keeps S.Store store.old store.new ask.now.rules ask.now.day kept.old kept.new }
     ensures why { FindsMade S.Store store.old store.new result (IsUnreadBy ask.now.reader) }
 {
@@ -118,10 +133,10 @@ pub(crate) fn find_threads<T: Threader, S: Alter>(
     let Some(outline) = kept.outline(place) else {
         return Err(Unavailable);
     };
-    match placed_threads_page(alloc, ask.list, outline.lines(), outline.rows()) {
+    match threads_page(alloc, ask.list, outline.text()) {
         Ok(page) => Ok(Reply::Page(page)),
-        Err(_) => {
-            store.wants.raise();
+        Err(refused) => {
+            store.wants.raise(refused.into());
             Err(Unavailable)
         }
     }
@@ -136,7 +151,8 @@ pub(crate) fn find_thread<T: Threader, S: Alter>(
     threader: &T,
     key: &str,
 ) -> Result<Reply<'static>, Unavailable>
-    ensures found { FindsReplyIf S.Store store.old store.new result (AreFor ask.now kept.old) (thread_for ask.now key.now) }
+    ensures found { FindsReplyIf S.Store store.old store.new result (AreFor ask.now kept.old)
+        (λ a. list_reply a ask.now (thread ask.now.list key.now)) }
     ensures keeps { Keeps S.Store store.old store.new ask.now.rules ask.now.day kept.old kept.new }
     ensures why { FindsMade S.Store store.old store.new result (IsUnreadBy ask.now.reader) }
 {
@@ -149,13 +165,13 @@ pub(crate) fn find_thread<T: Threader, S: Alter>(
     let Some(outline) = kept.outline(place) else {
         return Err(Unavailable);
     };
-    let Some(rows) = outline.thread(&key) else {
+    let Some(text) = outline.thread(&key) else {
         return Ok(Reply::Failed(Failure::NotFound));
     };
-    match placed_thread_page(alloc, ask.list, outline.lines(), rows) {
+    match thread_page(alloc, ask.list, text) {
         Ok(page) => Ok(Reply::Page(page)),
-        Err(_) => {
-            store.wants.raise();
+        Err(refused) => {
+            store.wants.raise(refused.into());
             Err(Unavailable)
         }
     }

@@ -1,14 +1,12 @@
 //! The answer of a path.
 ghost use Rattle.std.specs.Prelude.{◌≡◌, IfOk, IfSome, IsOk, None, Some, option_map};
 ghost use Rattle.std.specs.Option.{option_map_or};
-ghost use Rattle.percent_encoding.specs.Percent.{percent_decode};
 ghost use Rattle.archive_requests.specs.Asked.{named_request};
 ghost use Rattle.archive_requests.specs.Routes.{route_of};
 ghost use Rattle.archive_requests.specs.Routing.{named_route};
 ghost use Rattle.archive_results.specs.Access.{name_of};
-ghost use Rattle.archive_pages.specs.Answers.{asking, author_for, direct_reply, path_reply, reader_of, request_reply, route_reply, unrouted_reply};
-ghost use Rattle.archive_kept.specs.Kept.{Keeps};
-ghost use Rattle.archive_pages.specs.Calls.{AreFor, AreKept, EndsPages, EndsServed, ServesReplyIf, Writes, WritesWanted};
+ghost use Rattle.archive_pages.specs.Answers.{direct_reply, path_reply, reader_of, request_reply, unrouted_reply};
+ghost use Rattle.archive_pages.specs.Calls.{AreKept, EndsPages, ServesReplyIf, Writes, WritesWanted};
 ghost use Rattle.archive_pages.specs.Causes.{IsUnread, IsUnreadBy};
 ghost use Rattle.archive_pages.specs.Replies.{not_found, unauthorized};
 
@@ -16,129 +14,17 @@ use crate::faults::ServeFault;
 use crate::finding::find_person;
 use crate::pages::Pages;
 use crate::replies::Failure;
-use crate::routing::{
-    answer_author, answer_lists, answer_mbox, answer_message, answer_month, answer_thread,
-    answer_threads,
-};
+use crate::routing::answer_route;
 use crate::writing::write_failure;
-use archive_kept::Kept;
-use archive_requests::{Request, Route, Routes, decoded, route_of};
-use archive_results::{Ask, Reader};
+use archive_requests::{Request, Route, Routes, route_of};
+use archive_results::Reader;
 use archive_store::Store;
-use civil_time::Day;
 use http::StatusCode;
 use mail_core::Memory;
 use mbox_core::device::Sink;
-use policy_core::Policy;
 use sqlite::Alter;
 use std::alloc::Global;
 use thread_core::Threader;
-
-/// What a reader asks of a list.
-fn ask_of<'a>(policy: &'a Policy, reader: Reader<'a>, day: Day, list: &'a str) -> Ask<'a>
-    ensures { result ≡ asking policy.now day (name_of reader.entry) list.now }
-{
-    Ask {
-        policy,
-        reader,
-        list,
-        day,
-    }
-}
-
-/// Answers the page of the author whose key the path has with escapes. 503 where there is no memory
-/// for the key without them.
-fn answer_escaped_author<T: Threader, S: Alter, W: Sink>(
-    store: &mut Store<S>,
-    kept: &mut Kept,
-    alloc: Global,
-    ask: &Ask<'_>,
-    threader: &T,
-    author: &str,
-    output: &mut W,
-) -> Result<StatusCode, ServeFault>
-    ensures sent { ServesReplyIf S.Store W.Sink store.old store.new output.old output.new result (AreFor ask.now kept.old)
-        (author_for ask.now (percent_decode author.now)) }
-    ensures ends { EndsServed S.Store W.Sink store.old store.new output.old output.new result (IsUnreadBy ask.now.reader) }
-    ensures keeps { Keeps S.Store store.old store.new ask.now.rules ask.now.day kept.old kept.new }
-{
-    match decoded(alloc, author) {
-        Ok(author) => answer_author(store, kept, alloc, ask, threader, &author, output),
-        Err(_) => {
-            store.wants.raise();
-            write_failure(output, Failure::Unavailable)
-        }
-    }
-}
-
-/// Answers what a route leads to.
-fn answer_route<T: Threader, S: Alter, W: Sink>(
-    store: &mut Store<S>,
-    pages: &mut Pages<'_, T>,
-    reader: Reader<'_>,
-    route: &Route<'_>,
-    output: &mut W,
-) -> Result<StatusCode, ServeFault>
-    ensures sent { ServesReplyIf S.Store W.Sink store.old store.new output.old output.new result (AreKept pages.old)
-        (λ a. route_reply a (asking pages.old.policy.now pages.old.day (name_of reader.entry)) (named_route route.now)) }
-    ensures ends { EndsPages S.Store W.Sink store.old store.new output.old output.new result (IsUnreadBy (name_of reader.entry))
-        pages.old pages.new }
-{
-    let alloc = pages.alloc;
-    let policy = pages.policy;
-    let day = pages.day;
-    match route {
-        Route::Lists => answer_lists(store, alloc, output),
-        Route::Message { list, key } => {
-            let ask = ask_of(policy, reader, day, list);
-            answer_message(store, alloc, &ask, key, output)
-        }
-        Route::Month { list, month } => {
-            let ask = ask_of(policy, reader, day, list);
-            answer_month(
-                store,
-                &mut pages.kept,
-                alloc,
-                &ask,
-                pages.threader,
-                month,
-                output,
-            )
-        }
-        Route::Threads { list } => {
-            let ask = ask_of(policy, reader, day, list);
-            answer_threads(store, &mut pages.kept, alloc, &ask, pages.threader, output)
-        }
-        Route::Thread { list, key } => {
-            let ask = ask_of(policy, reader, day, list);
-            answer_thread(
-                store,
-                &mut pages.kept,
-                alloc,
-                &ask,
-                pages.threader,
-                key,
-                output,
-            )
-        }
-        Route::Author { list, author } => {
-            let ask = ask_of(policy, reader, day, list);
-            answer_escaped_author(
-                store,
-                &mut pages.kept,
-                alloc,
-                &ask,
-                pages.threader,
-                author,
-                output,
-            )
-        }
-        Route::Mbox { list } => {
-            let ask = ask_of(policy, reader, day, list);
-            answer_mbox(store, alloc, &ask, output)
-        }
-    }
-}
 
 /// The route of a path, by routes that were made before, which takes no memory, or else by a router that is made for it.
 /// `Memory`: the router's was refused.
@@ -164,18 +50,20 @@ fn answer_path<T: Threader, S: Alter, W: Sink>(
     path: &str,
     output: &mut W,
 ) -> Result<StatusCode, ServeFault>
-    ensures sent { ServesReplyIf S.Store W.Sink store.old store.new output.old output.new result (AreKept pages.old)
+    ensures sent { ServesReplyIf S.Store W.Sink store.old store.new output.old output.new result
+        (AreKept pages.old)
         (λ a. path_reply a pages.old.policy.now pages.old.day path.now (name_of reader.entry)) }
     ensures unrouted { IfSome pages.old.routes (λ _. route_of path.now ≡ None
         → Writes W.Sink output.old output.new (λ reply. reply ≡ not_found) result) }
-    ensures ends { EndsPages S.Store W.Sink store.old store.new output.old output.new result (IsUnreadBy (name_of reader.entry))
+    ensures ends { EndsPages S.Store W.Sink store.old store.new output.old output.new result
+        (IsUnreadBy (name_of reader.entry))
         pages.old pages.new }
 {
     match find_route(pages.alloc, &pages.routes, path) {
         Ok(Some(route)) => answer_route(store, pages, reader, &route, output),
         Ok(None) => write_failure(output, Failure::NotFound),
-        Err(_) => {
-            store.wants.raise();
+        Err(refused) => {
+            store.wants.raise(refused.into());
             write_failure(output, Failure::Unavailable)
         }
     }
@@ -189,8 +77,10 @@ fn answer_holder<T: Threader, S: Alter, W: Sink>(
     path: &str,
     output: &mut W,
 ) -> Result<StatusCode, ServeFault>
-    ensures sent { ServesReplyIf S.Store W.Sink store.old store.new output.old output.new result (AreKept pages.old)
-        (λ a. option_map_or (path_reply a pages.old.policy.now pages.old.day path.now) (reader_of a (Some token.now)) unauthorized) }
+    ensures sent { ServesReplyIf S.Store W.Sink store.old store.new output.old output.new result
+        (AreKept pages.old)
+        (λ a. option_map_or (path_reply a pages.old.policy.now pages.old.day path.now)
+        (reader_of a (Some token.now)) unauthorized) }
     ensures ends { EndsPages S.Store W.Sink store.old store.new output.old output.new result IsUnread pages.old pages.new }
 {
     match find_person(store, token) {
@@ -207,10 +97,14 @@ pub(crate) fn answer_request<T: Threader, S: Alter, W: Sink>(
     request: &Request<'_>,
     output: &mut W,
 ) -> Result<StatusCode, ServeFault>
-    ensures sent { ServesReplyIf S.Store W.Sink store.old store.new output.old output.new result (AreKept pages.old)
+    ensures sent { ServesReplyIf S.Store W.Sink store.old store.new output.old output.new result
+        (AreKept pages.old)
         (λ a. request_reply a pages.old.policy.now pages.old.day (named_request request.now)) }
-    ensures direct { WritesWanted W.Sink output.old output.new (direct_reply (named_request request.now)) result }
-    ensures unrouted { IfSome pages.old.routes (λ _. WritesWanted W.Sink output.old output.new (unrouted_reply (named_request request.now)) result) }
+    ensures direct { WritesWanted W.Sink output.old output.new
+        (direct_reply (named_request request.now)) result }
+    ensures unrouted { IfSome pages.old.routes
+        (λ _. WritesWanted W.Sink output.old output.new
+        (unrouted_reply (named_request request.now)) result) }
     ensures ends { EndsPages S.Store W.Sink store.old store.new output.old output.new result IsUnread pages.old pages.new }
 {
     match request {

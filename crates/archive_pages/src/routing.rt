@@ -1,23 +1,28 @@
 //! The answer of a route.
 ghost use Rattle.std.specs.Prelude.{◌≡◌, ◌≤◌, MatchResult};
-ghost use Rattle.archive_kept.specs.Kept.{Keeps};
-ghost use Rattle.archive_pages.specs.Answers.{author_for, lists_reply, mbox_for, message_for, month_for, thread_for, threads_for};
-ghost use Rattle.archive_pages.specs.Calls.{AreFor, EndsReply, EndsServed, ServesReply, ServesReplyIf, Writes};
-ghost use Rattle.archive_pages.specs.Causes.{IsUnread, IsUnreadBy, SendsOr, ServesOr};
+ghost use Rattle.archive_requests.specs.Routes.{mbox};
+ghost use Rattle.archive_requests.specs.Routing.{named_route};
+ghost use Rattle.archive_results.specs.Access.{name_of};
+ghost use Rattle.archive_pages.specs.Answers.{asking, list_reply, made_reply, route_reply};
+ghost use Rattle.archive_pages.specs.Calls.{AreKept, EndsPages, EndsReply, FindsMade, FindsReplyIf, KeepsOn, ServesReply, ServesReplyIf, Writes};
+ghost use Rattle.archive_pages.specs.Causes.{IsUnreadBy, SendsOr, ServesOr};
 ghost use Rattle.archive_pages.specs.Replies.{Is, unavailable};
 ghost use Rattle.archive_pages.specs.Seen.{reply_made};
 
 use crate::faults::ServeFault;
 use crate::finding::{find_lists, find_message};
 use crate::listing::{find_author, find_month, find_thread, find_threads};
+use crate::pages::Pages;
 use crate::replies::{Failure, Reply, Unavailable};
 use crate::writing::{write_failure, write_reply};
 use archive_desk::{DeskFault, export_after};
-use archive_kept::Kept;
-use archive_results::Ask;
+use archive_requests::Route;
+use archive_results::{Ask, Reader};
 use archive_store::{Store, Wants};
+use civil_time::Day;
 use http::StatusCode;
 use mbox_core::device::Sink;
+use policy_core::Policy;
 use sqlite::Alter;
 use std::alloc::Global;
 use thread_core::Threader;
@@ -26,6 +31,62 @@ use thread_core::Threader;
 const MBOX_HEAD: &[u8] =
     b"HTTP/1.1 200 OK\r\nContent-Type: application/mbox\r\nConnection: close\r\n\r\n";
 
+/// What a reader asks of a list.
+fn ask_of<'a>(policy: &'a Policy, reader: Reader<'a>, day: Day, list: &'a str) -> Ask<'a>
+    ensures { result ≡ asking policy.now day (name_of reader.entry) list.now }
+{
+    Ask {
+        policy,
+        reader,
+        list,
+        day,
+    }
+}
+
+/// The reply of a route, made in memory: a page out of what is kept, or a message. An mbox is not, which is written message by message: of
+/// that route it is 404.
+fn find_page<'a: 'p, 'p, T: Threader, S: Alter>(
+    store: &mut Store<S>,
+    pages: &mut Pages<'a, T>,
+    reader: Reader<'p>,
+    route: &Route<'p>,
+) -> Result<Reply<'p>, Unavailable>
+    ensures found { FindsReplyIf S.Store store.old store.new result (AreKept pages.old)
+        (λ a. made_reply a (asking pages.old.policy.now pages.old.day (name_of reader.entry))
+        (named_route route.now)) }
+    ensures why { FindsMade S.Store store.old store.new result (IsUnreadBy (name_of reader.entry)) }
+    ensures keeps { KeepsOn S.Store store.old store.new pages.old pages.new }
+{
+    let alloc = pages.alloc;
+    let policy = pages.policy;
+    let threader = pages.threader;
+    let day = pages.day;
+    match route {
+        Route::Lists => find_lists(store, alloc),
+        Route::Message { list, key } => {
+            let ask = ask_of(policy, reader, day, list);
+            find_message(store, alloc, &ask, key)
+        }
+        Route::Month { list, month } => {
+            let ask = ask_of(policy, reader, day, list);
+            find_month(store, &mut pages.kept, alloc, &ask, threader, month)
+        }
+        Route::Threads { list } => {
+            let ask = ask_of(policy, reader, day, list);
+            find_threads(store, &mut pages.kept, alloc, &ask, threader)
+        }
+        Route::Thread { list, key } => {
+            let ask = ask_of(policy, reader, day, list);
+            find_thread(store, &mut pages.kept, alloc, &ask, threader, key)
+        }
+        Route::Author { list, author } => {
+            let ask = ask_of(policy, reader, day, list);
+            find_author(store, &mut pages.kept, alloc, &ask, threader, author)
+        }
+        Route::Mbox { .. } => Ok(Reply::Failed(Failure::NotFound)),
+    }
+}
+
 /// Writes the reply that was found, or 503 where none was.
 fn write_found<W: Sink>(
     wants: &mut Wants,
@@ -33,10 +94,12 @@ fn write_found<W: Sink>(
     output: &mut W,
     found: &Result<Reply<'_>, Unavailable>,
 ) -> Result<StatusCode, ServeFault>
-    ensures sent { MatchResult found.now (λ reply. Writes W.Sink output.old output.new (Is (reply_made reply)) result)
+    ensures sent { MatchResult found.now (λ reply. Writes W.Sink output.old output.new
+        (Is (reply_made reply)) result)
         (λ _. Writes W.Sink output.old output.new (λ reply. reply ≡ unavailable) result) }
     ensures ends { EndsReply W.Sink output.old output.new result }
-    ensures counted { MatchResult found.now (λ reply. SendsOr wants.old wants.new (reply_made reply) result) (λ _. wants.old ≤ wants.new) }
+    ensures counted { MatchResult found.now (λ reply. SendsOr wants.old wants.new
+        (reply_made reply) result) (λ _. wants.old ≤ wants.new) }
 {
     match found {
         Ok(reply) => write_reply(wants, alloc, output, reply),
@@ -44,43 +107,16 @@ fn write_found<W: Sink>(
     }
 }
 
-/// Answers the page of all lists.
-pub(crate) fn answer_lists<S: Alter, W: Sink>(
-    store: &mut Store<S>,
-    alloc: Global,
-    output: &mut W,
-) -> Result<StatusCode, ServeFault>
-    ensures sent { ServesReply S.Store W.Sink store.old store.new output.old output.new result lists_reply }
-    ensures ends { EndsServed S.Store W.Sink store.old store.new output.old output.new result IsUnread }
-{
-    let found = find_lists(store, alloc);
-    write_found(&mut store.wants, alloc, output, &found)
-}
-
-/// Answers a message, asked for by its key.
-pub(crate) fn answer_message<S: Alter, W: Sink>(
-    store: &mut Store<S>,
-    alloc: Global,
-    ask: &Ask<'_>,
-    key: &str,
-    output: &mut W,
-) -> Result<StatusCode, ServeFault>
-    ensures sent { ServesReply S.Store W.Sink store.old store.new output.old output.new result (message_for ask.now key.now) }
-    ensures ends { EndsServed S.Store W.Sink store.old store.new output.old output.new result (IsUnreadBy ask.now.reader) }
-{
-    let found = find_message(store, alloc, ask, key);
-    write_found(&mut store.wants, alloc, output, &found)
-}
-
 /// Answers the messages of a list, as an mbox, one message after the other. No reply but this one ends with the connection,
 /// and no other breaks off: S3 where the store refuses or memory is wanting behind the first byte, and 503 before it.
-pub(crate) fn answer_mbox<S: Alter, W: Sink>(
+fn answer_mbox<S: Alter, W: Sink>(
     store: &mut Store<S>,
     alloc: Global,
     ask: &Ask<'_>,
     output: &mut W,
 ) -> Result<StatusCode, ServeFault>
-    ensures sent { ServesReply S.Store W.Sink store.old store.new output.old output.new result (mbox_for ask.now) }
+    ensures sent { ServesReply S.Store W.Sink store.old store.new output.old output.new result
+        (λ a. list_reply a ask.now (mbox ask.now.list)) }
     ensures ends { EndsReply W.Sink output.old output.new result }
     ensures caused { ServesOr S.Store store.old store.new result (IsUnreadBy ask.now.reader) }
 {
@@ -101,73 +137,31 @@ pub(crate) fn answer_mbox<S: Alter, W: Sink>(
     }
 }
 
-/// Answers the page of a month, which the path has as `yyyy-mm`, out of what is kept.
-pub(crate) fn answer_month<T: Threader, S: Alter, W: Sink>(
+/// Answers what a route leads to: an mbox as it is read, and any other reply once it is made.
+pub(crate) fn answer_route<T: Threader, S: Alter, W: Sink>(
     store: &mut Store<S>,
-    kept: &mut Kept,
-    alloc: Global,
-    ask: &Ask<'_>,
-    threader: &T,
-    month: &str,
+    pages: &mut Pages<'_, T>,
+    reader: Reader<'_>,
+    route: &Route<'_>,
     output: &mut W,
 ) -> Result<StatusCode, ServeFault>
-    ensures sent { ServesReplyIf S.Store W.Sink store.old store.new output.old output.new result (AreFor ask.now kept.old) (month_for ask.now month.now) }
-    ensures ends { EndsServed S.Store W.Sink store.old store.new output.old output.new result (IsUnreadBy ask.now.reader) }
-    ensures keeps { Keeps S.Store store.old store.new ask.now.rules ask.now.day kept.old kept.new }
+    ensures sent { ServesReplyIf S.Store W.Sink store.old store.new output.old output.new result
+        (AreKept pages.old)
+        (λ a. route_reply a (asking pages.old.policy.now pages.old.day (name_of reader.entry))
+        (named_route route.now)) }
+    ensures ends { EndsPages S.Store W.Sink store.old store.new output.old output.new result
+        (IsUnreadBy (name_of reader.entry))
+        pages.old pages.new }
 {
-    let found = find_month(store, kept, alloc, ask, threader, month);
-    write_found(&mut store.wants, alloc, output, &found)
-}
-
-/// Answers the page of an author, whose key is given without escapes, out of what is kept.
-pub(crate) fn answer_author<T: Threader, S: Alter, W: Sink>(
-    store: &mut Store<S>,
-    kept: &mut Kept,
-    alloc: Global,
-    ask: &Ask<'_>,
-    threader: &T,
-    author: &[u8],
-    output: &mut W,
-) -> Result<StatusCode, ServeFault>
-    ensures sent { ServesReplyIf S.Store W.Sink store.old store.new output.old output.new result (AreFor ask.now kept.old) (author_for ask.now author.now) }
-    ensures ends { EndsServed S.Store W.Sink store.old store.new output.old output.new result (IsUnreadBy ask.now.reader) }
-    ensures keeps { Keeps S.Store store.old store.new ask.now.rules ask.now.day kept.old kept.new }
-{
-    let found = find_author(store, kept, alloc, ask, threader, author);
-    write_found(&mut store.wants, alloc, output, &found)
-}
-
-/// Answers the page of all threads, out of what is kept.
-pub(crate) fn answer_threads<T: Threader, S: Alter, W: Sink>(
-    store: &mut Store<S>,
-    kept: &mut Kept,
-    alloc: Global,
-    ask: &Ask<'_>,
-    threader: &T,
-    output: &mut W,
-) -> Result<StatusCode, ServeFault>
-    ensures sent { ServesReplyIf S.Store W.Sink store.old store.new output.old output.new result (AreFor ask.now kept.old) (threads_for ask.now) }
-    ensures ends { EndsServed S.Store W.Sink store.old store.new output.old output.new result (IsUnreadBy ask.now.reader) }
-    ensures keeps { Keeps S.Store store.old store.new ask.now.rules ask.now.day kept.old kept.new }
-{
-    let found = find_threads(store, kept, alloc, ask, threader);
-    write_found(&mut store.wants, alloc, output, &found)
-}
-
-/// Answers the page of the thread that holds the message of a key, out of what is kept.
-pub(crate) fn answer_thread<T: Threader, S: Alter, W: Sink>(
-    store: &mut Store<S>,
-    kept: &mut Kept,
-    alloc: Global,
-    ask: &Ask<'_>,
-    threader: &T,
-    key: &str,
-    output: &mut W,
-) -> Result<StatusCode, ServeFault>
-    ensures sent { ServesReplyIf S.Store W.Sink store.old store.new output.old output.new result (AreFor ask.now kept.old) (thread_for ask.now key.now) }
-    ensures ends { EndsServed S.Store W.Sink store.old store.new output.old output.new result (IsUnreadBy ask.now.reader) }
-    ensures keeps { Keeps S.Store store.old store.new ask.now.rules ask.now.day kept.old kept.new }
-{
-    let found = find_thread(store, kept, alloc, ask, threader, key);
-    write_found(&mut store.wants, alloc, output, &found)
+    let alloc = pages.alloc;
+    match route {
+        Route::Mbox { list } => {
+            let ask = ask_of(pages.policy, reader, pages.day, list);
+            answer_mbox(store, alloc, &ask, output)
+        }
+        _ => {
+            let found = find_page(store, pages, reader, route);
+            write_found(&mut store.wants, alloc, output, &found)
+        }
+    }
 }

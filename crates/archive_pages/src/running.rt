@@ -31,10 +31,13 @@ pub fn run_and_answer<T: Threader, S: Alter, R: Source, W: Sink>(
     day: Day,
     peer: &mut Peer<R, W>,
 ) -> Result<Result<StatusCode, ServeFault>, RunStop>
-    ensures answered { IfOk result (λ answer. HasReturned S.Store store.new → IsReady S.Store store.old → AnswersPeer R.Source W.Sink
+    ensures answered { IfOk result (λ answer. HasReturned S.Store store.new
+        → IsReady S.Store store.old → AnswersPeer R.Source W.Sink
         (run (archive_in S.Store store.old) (map command_of commands.entry.now)).archive policy.now day peer.old peer.new answer) }
-    ensures quiet { IfOk result (λ answer. OnOk answer (QuietPeer R.Source W.Sink peer.old peer.new)) }
-    ensures cause { IfOk result (λ answer. IfErr answer (λ fault. StopsPeer R.Source W.Sink peer.old peer.new fault)) }
+    ensures quiet { IfOk result (λ answer. OnOk answer
+        (QuietPeer R.Source W.Sink peer.old peer.new)) }
+    ensures cause { IfOk result (λ answer. IfErr answer
+        (λ fault. StopsPeer R.Source W.Sink peer.old peer.new fault)) }
     ensures stopped { IfErr result (λ stop. (refusal stop.fault ≡ None) × (peer.new ≡ peer.old)) }
 {
     match store.run(alloc, commands) {
@@ -63,8 +66,10 @@ pub fn run_and_answer_in_memory<T: Threader, R: Source, W: Sink>(
 ) -> Result<Result<StatusCode, ServeFault>, StoreFault>
     ensures answered { IfOk result (λ answer. AnswersPeer R.Source W.Sink
         (run empty_archive (map command_of commands.entry.now)).archive policy.now day peer.old peer.new answer) }
-    ensures quiet { IfOk result (λ answer. OnOk answer (QuietPeer R.Source W.Sink peer.old peer.new)) }
-    ensures cause { IfOk result (λ answer. IfErr answer (λ fault. StopsPeer R.Source W.Sink peer.old peer.new fault)) }
+    ensures quiet { IfOk result (λ answer. OnOk answer
+        (QuietPeer R.Source W.Sink peer.old peer.new)) }
+    ensures cause { IfOk result (λ answer. IfErr answer
+        (λ fault. StopsPeer R.Source W.Sink peer.old peer.new fault)) }
     ensures stopped { IfErr result (λ fault. (refusal fault ≡ None) × (peer.new ≡ peer.old)) }
 {
     let mut store = Store::open_in_memory(alloc)?;

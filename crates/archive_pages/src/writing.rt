@@ -30,7 +30,8 @@ fn sized_head(
     content_type: &str,
     body: &[u8],
 ) -> Result<String, AllocError>
-    ensures { IfOk result (λ head. string_bytes head ≡ head_bytes (sized status content_type.now body.now)) }
+    ensures { IfOk result (λ head. string_bytes head ≡ head_bytes
+        (sized status content_type.now body.now)) }
 {
     let length = body.len();
     format!(in alloc;
@@ -48,12 +49,17 @@ fn write_sized<W: Sink>(
     content_type: &str,
     body: &[u8],
 ) -> Result<StatusCode, ServeFault>
-    ensures sent { Writes W.Sink output.old output.new (Is (sized status content_type.now body.now)) result }
-    ensures ends { EndsMade W.Sink output.old output.new wants.old wants.new (sized status content_type.now body.now) result }
+    ensures sent { Writes W.Sink output.old output.new
+        (Is (sized status content_type.now body.now)) result }
+    ensures ends { EndsMade W.Sink output.old output.new wants.old wants.new
+        (sized status content_type.now body.now) result }
 {
-    let Ok(head) = sized_head(alloc, status, content_type, body) else {
-        wants.raise();
-        return write_failure(output, Failure::Unavailable);
+    let head = match sized_head(alloc, status, content_type, body) {
+        Ok(head) => head,
+        Err(refused) => {
+            wants.raise(refused.into());
+            return write_failure(output, Failure::Unavailable);
+        }
     };
     match write_two(output, head.as_bytes(), body) {
         Ok(()) => Ok(status),
@@ -69,7 +75,8 @@ fn write_denial<W: Sink>(
     rule: &str,
 ) -> Result<StatusCode, ServeFault>
     ensures sent { Writes W.Sink output.old output.new (Is (forbidden rule.now)) result }
-    ensures ends { EndsMade W.Sink output.old output.new wants.old wants.new (forbidden rule.now) result }
+    ensures ends { EndsMade W.Sink output.old output.new wants.old wants.new
+        (forbidden rule.now) result }
 {
     let status = StatusCode::FORBIDDEN;
     match format!(in alloc; "{status}: {rule}\n") {
@@ -81,8 +88,8 @@ fn write_denial<W: Sink>(
             "text/plain; charset=us-ascii",
             body.as_bytes(),
         ),
-        Err(_) => {
-            wants.raise();
+        Err(refused) => {
+            wants.raise(refused.into());
             write_failure(output, Failure::Unavailable)
         }
     }
@@ -97,7 +104,8 @@ pub(crate) fn write_reply<W: Sink>(
     reply: &Reply<'_>,
 ) -> Result<StatusCode, ServeFault>
     ensures sent { Writes W.Sink output.old output.new (Is (reply_made reply.now)) result }
-    ensures ends { EndsMade W.Sink output.old output.new wants.old wants.new (reply_made reply.now) result }
+    ensures ends { EndsMade W.Sink output.old output.new wants.old wants.new
+        (reply_made reply.now) result }
 {
     match reply {
         Reply::Page(page) => write_sized(

@@ -1,5 +1,5 @@
 //! Pages byte for byte.
-use archive_html::{author_page, lists_page, month_page, placed_thread_page, placed_threads_page};
+use archive_html::{RowTexts, author_page, lists_page, month_page, thread_page, threads_page};
 use archive_machine::Key;
 use archive_results::Line;
 use civil_time::{Instant, Month};
@@ -185,14 +185,15 @@ fn placed_of(alloc: Global, rows: &[Row], missing: Option<usize>) -> Result<Plac
 fn page_of(alloc: Global, ask: Ask, rows: &[Row], missing: Option<usize>) -> Result<Vec<u8>, Fail> {
     let lines = lines_of(alloc, rows)?;
     let placed = placed_of(alloc, rows, missing)?;
+    let texts = RowTexts::new(alloc, "soc", &placed.lines, &placed.rows)?;
     Ok(match ask {
         Ask::Month(text) => {
             let month = Month::read(text).ok_or("a month")?;
             month_page(alloc, "soc", month, &lines)?
         }
         Ask::Author(key) => author_page(alloc, "soc", key, &lines)?,
-        Ask::Threads => placed_threads_page(alloc, "soc", &placed.lines, &placed.rows)?,
-        Ask::Thread => placed_thread_page(alloc, "soc", &placed.lines, &placed.rows)?,
+        Ask::Threads => threads_page(alloc, "soc", texts.all())?,
+        Ask::Thread => thread_page(alloc, "soc", texts.run(0, rows.len()))?,
     })
 }
 
@@ -278,9 +279,39 @@ static CLASSES: [(&[u8], usize); 5] = [
 #[test]
 fn rows_deeper_than_twenty_have_one_class(rt: HostRuntime) -> Result<(), Fail> {
     let deep = deep_rows(rt.alloc(), 500)?;
-    let page = placed_thread_page(rt.alloc(), "soc", &deep.lines, &deep.rows)?;
+    let texts = RowTexts::new(rt.alloc(), "soc", &deep.lines, &deep.rows)?;
     for (class, count) in &CLASSES {
-        assert_eq!(rt; count_quoted(&page, class), *count);
+        assert_eq!(rt; count_quoted(texts.all(), class), *count);
+    }
+    Ok(())
+}
+
+/// Runs of 30 rows, each one deeper: the first row, the end, and how many rows from the first on are there.
+static RUNS: [(usize, usize, usize); 8] = [
+    (0, 30, 30),
+    (0, 1, 1),
+    (7, 9, 2),
+    (29, 30, 1),
+    (30, 30, 0),
+    (9, 7, 0),
+    (28, 90, 2),
+    (90, 91, 0),
+];
+
+#[test]
+fn a_run_of_rows_is_their_texts(rt: HostRuntime) -> Result<(), Fail> {
+    let deep = deep_rows(rt.alloc(), 30)?;
+    let texts = RowTexts::new(rt.alloc(), "soc", &deep.lines, &deep.rows)?;
+    for (first, end, count) in &RUNS {
+        let mut there = Vec::new(rt.alloc());
+        for row in deep.rows.iter().skip(*first).take(*count) {
+            let one = RowTexts::new(rt.alloc(), "soc", &deep.lines, &[*row])?;
+            there.extend_from_slice(one.all())?;
+        }
+        assert!(rt;
+            texts.run(*first, *end) == there.as_slice(),
+            "{first} to {end}"
+        );
     }
     Ok(())
 }

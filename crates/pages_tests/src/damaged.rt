@@ -1,5 +1,5 @@
-//! Requests to a store with a message that cannot be read, since another program changed its row: 503 where a page needs it, S3
-//! where an mbox comes to it, and the page of the definition everywhere else.
+//! Requests to a store with a message that cannot be read, since another program changed its row: 503 for its own page and for those
+//! that list messages of its list, S3 where an mbox comes to it, and the page of the definition everywhere else.
 use crate::cases::{TWO, today};
 use archive_desk::import;
 use archive_pages::{ServeFault, answer};
@@ -21,10 +21,10 @@ type Case = (&'static [u8], Result<u16, u64>);
 const CASES: [Case; 14] = [
     (b"GET / HTTP/1.1\r\n\r\n", Ok(200)),
     (b"GET /l/soc/month/2003-03 HTTP/1.1\r\n\r\n", Ok(503)),
-    (b"GET /l/soc/month/2003-04 HTTP/1.1\r\n\r\n", Ok(200)),
+    (b"GET /l/soc/month/2003-04 HTTP/1.1\r\n\r\n", Ok(503)),
     (
         b"GET /l/soc/by/anna%40example.org HTTP/1.1\r\n\r\n",
-        Ok(200),
+        Ok(503),
     ),
     (b"GET /l/soc/threads HTTP/1.1\r\n\r\n", Ok(503)),
     (
@@ -93,7 +93,9 @@ fn asked<S: Alter>(
 }
 
 #[test]
-fn a_message_that_cannot_be_read_is_met_by_its_pages_alone(rt: HostRuntime) -> Result<(), Fail> {
+fn a_message_that_cannot_be_read_is_met_by_pages_of_its_list_alone(
+    rt: HostRuntime,
+) -> Result<(), Fail> {
     let mut store = damaged(rt.alloc())?;
     for (request, wanted) in CASES.iter() {
         let found = asked(&rt, rt.alloc(), &mut store, request)?;

@@ -116,11 +116,11 @@ fn asks_twice<S: Alter>(
 }
 
 /// Where all has room, one list is threaded once for each of the four readers, and the other, where none of them is known, once
-/// in all. Where nothing has room, the last outline alone stays, which two paths ask for one behind the other.
+/// in all. Where nothing has room, the last outline alone stays: it serves the thread behind a thread, and the month behind that.
 pub fn keeping<S: Alter>(rt: &impl Abort, alloc: Global, store: &mut Store<S>) -> Result<(), Fail> {
     fill(alloc, store, Past::Withdrawn)?;
     asks_twice(rt, alloc, store, 1 << 20, Some(Routes::new(alloc)?), 5)?;
-    asks_twice(rt, alloc, store, 0, None, 24)
+    asks_twice(rt, alloc, store, 0, None, 80)
 }
 
 const THREADS: &[u8] = b"/l/soc/threads";
@@ -131,32 +131,25 @@ const APRIL: &[u8] = b"/l/soc/month/2003-04";
 
 const ANNA: &[u8] = b"/l/soc/by/anna%40example.org";
 
-/// Two whole lists, months or authors have room in it, and three have not.
-const ROOM_FOR_TWO: usize = 3 * 16_384;
+const NOBODY: &[u8] = b"/l/soc/by/nobody%40example.org";
 
-const ROOM_FOR_THREE: usize = 4 * 16_384;
+/// A whole list has room in it, and one month or author beside it.
+const ROOM_FOR_TWO: usize = 3 * 16_384;
 
 /// What is asked for, and whether the reply is the one of before a change of which what is kept knows nothing, so that no message
 /// was read for it.
 type Step = (&'static [u8], bool);
 
-/// Each is read once.
+/// One reading of the list serves all.
 const KEPT: [Step; 3] = [(ANNA, true), (MARCH, true), (THREADS, true)];
 
-/// A month that comes now lets the month go, and the list stays; the month then lets the one before it go.
-const MONTH_GONE: [Step; 4] = [
+/// Months and authors that come now let one another go, and the list stays, out of which each is made anew.
+const LIST_STAYS: [Step; 5] = [
     (APRIL, false),
+    (NOBODY, false),
     (THREADS, true),
-    (MARCH, false),
-    (THREADS, true),
-];
-
-/// An author who comes now lets the oldest of a month and an author go, and not the list, which is older.
-const OLDEST_GONE: [Step; 4] = [
-    (b"/l/soc/by/nobody%40example.org", false),
+    (MARCH, true),
     (ANNA, true),
-    (THREADS, true),
-    (MARCH, false),
 ];
 
 /// The list of two messages, one of which is withdrawn behind the back of what is kept, once these were asked for: then each step's
@@ -191,27 +184,16 @@ fn steps(
     Ok(())
 }
 
-/// What was asked for once is read no second time; where there is no room, months and authors are let go before lists, and the
-/// oldest of them first; and where nothing has room, the last alone stays.
+/// A list is read once, whatever of it is asked for first; where there is no room, months and authors are let go before it; and where
+/// nothing has room, the last alone stays.
 #[test]
-fn what_is_kept_is_let_go_in_order(rt: HostRuntime) -> Result<(), Fail> {
+fn one_reading_of_a_list_serves_all(rt: HostRuntime) -> Result<(), Fail> {
     let alloc = rt.alloc();
-    steps(&rt, alloc, 1 << 20, &[MARCH, THREADS, ANNA], &KEPT)?;
-    steps(&rt, alloc, ROOM_FOR_TWO, &[MARCH, THREADS], &MONTH_GONE)?;
-    steps(
-        &rt,
-        alloc,
-        ROOM_FOR_THREE,
-        &[THREADS, MARCH, ANNA],
-        &OLDEST_GONE,
-    )?;
-    steps(
-        &rt,
-        alloc,
-        0,
-        &[THREADS, MARCH],
-        &[(MARCH, true), (THREADS, false)],
-    )
+    for first in [THREADS, MARCH, ANNA, NOBODY] {
+        steps(&rt, alloc, 1 << 20, &[first], &KEPT)?;
+    }
+    steps(&rt, alloc, ROOM_FOR_TWO, &[MARCH], &LIST_STAYS)?;
+    steps(&rt, alloc, 0, &[MARCH], &[(MARCH, true), (THREADS, false)])
 }
 
 /// Another program filed the second message under another month, author and sent date.
@@ -230,15 +212,15 @@ fn filed_otherwise(alloc: Global) -> Result<Store<MemStore>, Fail> {
     }
 }
 
-/// The replies are those of `answer` all the same, which goes by what is filed: the author's two messages, the second first.
+/// Months and authors go by the texts all the same, the first time and later, and by `answer` too.
 #[test]
-fn what_is_kept_goes_by_what_is_filed(rt: HostRuntime) -> Result<(), Fail> {
+fn months_and_authors_go_by_the_texts(rt: HostRuntime) -> Result<(), Fail> {
     let alloc = rt.alloc();
     let mut store = filed_otherwise(alloc)?;
     let policy = Policy::open();
     let mut pages = Pages::new(alloc, &policy, &PlainThreader, today()?, 1 << 20);
     for _ in 0..2 {
-        for (path, rows) in [(MARCH, 1), (APRIL, 1), (ANNA, 2)] {
+        for (path, rows) in [(MARCH, 2), (APRIL, 0), (ANNA, 1)] {
             let wanted = reply(alloc, &mut store, &policy, &PlainThreader, None, path)?;
             let got = kept_reply(&mut store, &mut pages, None, path)?;
             assert!(rt; got.bytes() == wanted.bytes());

@@ -17,7 +17,7 @@ use thread_core::PlainThreader;
 fn asks<S: Alter>(rt: &HostRuntime, alloc: Global, store: &mut Store<S>) -> Result<Vec<u8>, Fail> {
     fill(alloc, store)?;
     let mut listener = Loopback::bind(rt, alloc, 0).map_err(|_| "no port")?;
-    let port = listener.port().map_err(|_| "no port")?;
+    let port = listener.port();
     let mut peer = TcpStream::connect(rt, (Ipv4Addr::LOCALHOST, port))?;
     peer.write_all(GET)?;
     let mut faults = Tap::new(alloc, b"", 1000)?;

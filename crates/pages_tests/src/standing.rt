@@ -60,8 +60,8 @@ fn a_list_that_cannot_be_read_takes_nothing_from_one_that_is_kept(
     Ok(())
 }
 
-/// What is asked over disks that stop: what is kept before and after a page that is read from the disk, and one that is read
-/// from it before and after a page that is kept.
+/// What is asked over disks that stop: a month that is made of what is kept, between two requests for that, and one of which the list
+/// is read first, before and behind the list.
 const KEPT_FIRST: [&[u8]; 3] = [
     b"/l/soc/threads",
     b"/l/soc/month/2003-03",

@@ -3,12 +3,13 @@ use Rattle.thread_core.specs.Threads.{threads_of}
 use Rattle.thread_links.specs.declared.entry.Entry.{Entry}
 use Rattle.archive_results.specs.Shown.{shown_of}
 use Rattle.archive_results.proofs.IndexLemmas.{lines_are, rows_are}
-use Rattle.archive_kept.proofs.OutlineLemmas.{made_of}
+use Rattle.archive_kept.proofs.OutlineLemmas.{made_as, made_of}
 use Rattle.archive_kept.proofs.outlines.outline_of.Goals as goal
 
 pub returns : goal.returns
-returns g c = λ view e.
-    made_of c.args.merge (map shown_of view) _ _
-    (c.in_ok-lines.ensures ∙ lines_are view c.args.headers.items _ e c.in_ok-columns.ensures.lines)
-    (c.in_ok-rows.ensures ∙ rows_are c.args.merge view c.args.headers.items _ _ e c.in_ok-columns.ensures.entries
-    (c.in_ok-threaded.ensures ∙ ap (λ (es : List Entry). threads_of es c.args.merge) c.deref.ensures.value))
+returns g c = λ view e. made_as c.outline_with.result (
+    made_of c.args.list.now c.args.merge (map shown_of view) _ _
+    (lines_are view c.args.headers.items _ e c.in_ok-columns.ensures.lines)
+    (rows_are c.args.merge view c.args.headers.items _ _ e c.in_ok-columns.ensures.entries
+    (c.in_ok-rows.ensures ∙ ap (λ (es : List Entry). threads_of es c.args.merge) c.deref.ensures.value)))
+    c.outline_with.ensures

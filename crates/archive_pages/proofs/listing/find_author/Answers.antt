@@ -1,5 +1,7 @@
-use Rattle.std.proofs.Common.{◌<◌, IfSome, ap, length, subst, sym}
+use Rattle.std.proofs.Common.{◌≡◌, ◌∙◌, ◌<◌, IfSome, ap, length, subst, sym}
+use Rattle.percent_encoding.specs.Percent.{percent_decode}
 use Rattle.archive_html.specs.Pages.{author_page}
+use Rattle.archive_kept.specs.Outlines.{outline_for}
 use Rattle.archive_kept.specs.Parts.{author}
 use Rattle.archive_results.specs.Access.{Ask}
 use Rattle.archive_results.specs.Results.{author_lines}
@@ -13,8 +15,8 @@ use Rattle.archive_pages.proofs.listing.find_author.Goals as goal
 pub returns-in_default-clause-found : goal.returns-in_default-clause-found
 returns-in_default-clause-found g c =
     let ask = c.args.ask.now in
-    let key = c.args.key.now in
-    found_none g.S.Store c.args.store.now c.find_place.new.store (AreFor ask c.args.kept.now) ask c.find_place.new.kept (author key) c.in_ok-place.field-0
+    let key = percent_decode c.args.text.now in
+    found_none g.S.Store c.args.store.now c.find_place.new.store (AreFor ask c.args.kept.now) ask c.find_place.new.kept (author c.deref.result.now) c.in_ok-place.field-0
     (λ a. page_reply (author_page ask.list key (author_lines key (shown_view a ask)))) c.in_ok-place.ensures.found c.in_default.is
 
 pub returns-in_default-outline-clause-why : goal.returns-in_default-outline-clause-why
@@ -22,12 +24,16 @@ returns-in_default-outline-clause-why g c =
     no_outline c.find_place.new.kept c.in-Some.place
     (subst (λ o. IfSome o (λ at. at < length c.find_place.new.kept.views)) c.in-Some.is c.in_ok-place.ensures.there) (sym c.in_default-outline.ensures.outline)
 
-pub returns-in-Ok-clause-found : goal.returns-in-Ok-clause-found
-returns-in-Ok-clause-found g c =
+pub returns-in-Ok-author_page-clause-found : goal.returns-in-Ok-author_page-clause-found
+returns-in-Ok-author_page-clause-found g c =
     let ask = c.args.ask.now in
-    let key = c.args.key.now in
+    let key = percent_decode c.args.text.now in
+    let asked : c.deref.result.now ≡ key = c.deref.ensures.value ∙ c.in-Ok.ensures in
+    let shown : c.deref-2.result.now ≡ key = c.deref-2.ensures.value ∙ c.in-Ok.ensures in
     let outline = c.in-Some-outline.outline.now in
-    found_at g.S.Store c.args.store.now c.find_place.new.store (AreFor ask c.args.kept.now) ask c.find_place.new.kept (author key) c.in_ok-place.field-0
+    let page = c.in-Ok-author_page.page.items in
+    found_at g.S.Store c.args.store.now c.find_place.new.store (AreFor ask c.args.kept.now) ask c.find_place.new.kept (author c.deref.result.now) c.in_ok-place.field-0
     (λ a. page_reply (author_page ask.list key (author_lines key (shown_view a ask)))) c.in_ok-place.ensures.found
-    c.in-Some.place outline (page_reply c.in-Ok.page.items) c.in-Some.is c.in-Some-outline.ensures.outline
-    (λ a of. author_placed a ask outline c.ask.inside.list.now c.lines.result.now (ap (λ (q : Ask). q.list) c.ask.view_is) c.lines.ensures key c.in-Ok.page.items of c.in-Ok.ensures)
+    c.in-Some.place outline (page_reply page) c.in-Some.is c.in-Some-outline.ensures.outline
+    (λ a of. author_placed a ask outline c.ask.inside.list.now c.lines.result.now (ap (λ (q : Ask). q.list) c.ask.view_is) c.lines.ensures key page
+    (subst (λ k. outline ≡ outline_for a ask (author k)) asked of) (subst (λ k. page ≡ author_page c.ask.inside.list.now k c.lines.result.now) shown c.in-Ok-author_page.ensures))

@@ -1,8 +1,10 @@
-use Rattle.std.proofs.Common.{◌≡◌, ◌<◌, IfSome, ap, length, map, rules, subst, sym, true, None, Some}
+use Rattle.std.proofs.Common.{◌≡◌, ◌<◌, IfSome, ap, length, rules, subst, sym, true, None, Some}
+use Rattle.std.specs.Prelude.{flat_map, option_map}
 use Rattle.archive_machine.specs.Keys.{is_key}
 use Rattle.archive_machine.specs.Questions.{merge_of}
 use Rattle.archive_results.specs.Access.{Ask}
-use Rattle.archive_results.specs.Results.{thread_lines, tree_line}
+use Rattle.archive_results.specs.Results.{thread_lines}
+use Rattle.archive_html.specs.Rows.{tree_row}
 use Rattle.archive_kept.specs.Parts.{whole}
 use Rattle.archive_pages.specs.Answers.{shown_view, thread_reply}
 use Rattle.archive_pages.specs.Calls.{AreFor}
@@ -30,7 +32,8 @@ returns-in_default-thread-clause-found g c =
     (λ a. thread_reply (merge_of a ask.list) ask.list c.args.key.now (shown_view a ask)) c.in_ok-place.ensures.found
     c.in-Some-2.place outline not_found c.in-Some-2.is c.in-Some-outline.ensures.outline
     (λ a of. thread_none ask a c.args.key.now
-    (subst (λ k. None ≡ thread_lines (merge_of a ask.list) k (shown_view a ask)) c.in-Some.ensures.some (c.in_default-thread.ensures.shown (merge_of a ask.list) (shown_view a ask) of)))
+    (subst (λ k. None ≡ option_map (flat_map (tree_row ask.list)) (thread_lines (merge_of a ask.list) k (shown_view a ask))) c.in-Some.ensures.some
+    (c.in_default-thread.ensures.shown ask.list (merge_of a ask.list) (shown_view a ask) of)))
 
 pub returns-in-Ok-clause-found : goal.returns-in-Ok-clause-found
 returns-in-Ok-clause-found g c =
@@ -40,6 +43,6 @@ returns-in-Ok-clause-found g c =
     found_at g.S.Store c.args.store.now c.find_place.new.store (AreFor ask c.args.kept.now) ask c.find_place.new.kept whole c.in_ok-place.field-0
     (λ a. thread_reply (merge_of a ask.list) ask.list c.args.key.now (shown_view a ask)) c.in_ok-place.ensures.found
     c.in-Some-2.place outline (page_reply c.in-Ok.page.items) c.in-Some-2.is c.in-Some-outline.ensures.outline
-    (λ a of. thread_placed a ask outline of c.ask.inside.list.now c.lines.result.now c.in-Some-thread.rows.now (ap (λ (q : Ask). q.list) c.ask.view_is) c.lines.ensures
-    c.args.key.now c.in-Ok.page.items keyed c.in-Ok.ensures
-    (subst (λ k. Some (map (tree_line outline.lines) c.in-Some-thread.rows.now) ≡ thread_lines (merge_of a ask.list) k (shown_view a ask)) c.in-Some.ensures.some (c.in-Some-thread.ensures.shown (merge_of a ask.list) (shown_view a ask) of)))
+    (λ a of. thread_placed a ask outline c.ask.inside.list.now (ap (λ (q : Ask). q.list) c.ask.view_is) c.args.key.now c.in-Some-thread.text.now c.in-Ok.page.items keyed c.in-Ok.ensures
+    (subst (λ k. Some c.in-Some-thread.text.now ≡ option_map (flat_map (tree_row ask.list)) (thread_lines (merge_of a ask.list) k (shown_view a ask))) c.in-Some.ensures.some
+    (c.in-Some-thread.ensures.shown ask.list (merge_of a ask.list) (shown_view a ask) of)))

@@ -29,5 +29,4 @@ returns-in-Ok-clause-found g c =
     found_at g.S.Store c.args.store.now c.find_place.new.store (AreFor ask c.args.kept.now) ask c.find_place.new.kept whole c.in_ok-place.field-0
     (λ a. page_reply (threads_page ask.list (tree_lines (merge_of a ask.list) (shown_view a ask)))) c.in_ok-place.ensures.found
     c.in-Some.place outline (page_reply c.in-Ok.page.items) c.in-Some.is c.in-Some-outline.ensures.outline
-    (λ a of. threads_placed a ask outline of c.ask.inside.list.now c.lines.result.now c.rows.result.now (ap (λ (q : Ask). q.list) c.ask.view_is) c.lines.ensures
-    c.in-Ok.page.items c.in-Ok.ensures c.rows.ensures)
+    (λ a of. threads_placed a ask outline c.ask.inside.list.now (ap (λ (q : Ask). q.list) c.ask.view_is) c.text.result.now c.in-Ok.page.items of c.in-Ok.ensures c.text.ensures)

@@ -1,0 +1,128 @@
+//! Pages of threads, and the texts of their rows, which stand apart from the pages so that each is written once.
+ghost use Rattle.std.specs.Prelude.{◌≡◌, ◌++◌, ◌-◌, ℕ, List, IfOk, OnOk, codes, drop, length, option_copied, slice_index_or, take};
+ghost use Rattle.thread_core.specs.declared.row.Row.{Row as Placed};
+ghost use Rattle.archive_html.specs.Pages.{page, titled};
+ghost use Rattle.archive_html.specs.Rows.{AreRowTexts, rows_text, tree_row};
+ghost use Rattle.archive_results.specs.Results.{tree_line, within};
+ghost use Rattle.archive_results.specs.Shown.{Line as Shown};
+
+use crate::pages::{push_foot, started, titled};
+use crate::rows::{push_message, push_missing};
+use archive_results::Line;
+use mail_core::Memory;
+use std::alloc::{AllocError, Global};
+use thread_core::Row;
+
+/// How many bytes a row takes, or some more: so a long page seldom grows.
+const ROW_BYTES: usize = 384;
+
+/// How many bytes stand behind the rows, or some more: so a page is not copied for them.
+const FOOT_BYTES: usize = 64;
+
+/// The line at the place of a row. `None` where it has no place, or no line is there.
+fn line_at<'a>(lines: &'a [Line], row: &Row) -> Option<&'a Line>
+    ensures { option_copied result ≡ (tree_line lines.entry.now row.entry.now).line }
+{
+    match row.place {
+        Some(place) => lines.get(place),
+        None => None,
+    }
+}
+
+/// Adds a row of a thread with the line at its place, or the row of a message that is not there.
+fn push_row(page: &mut Vec<u8>, list: &str, lines: &[Line], row: &Row) -> Result<(), AllocError>
+    ensures { OnOk result (page.new.items ≡ page.old.items
+        ++ tree_row list.now (tree_line lines.now row.now)) }
+{
+    match line_at(lines, row) {
+        Some(line) => push_message(page, list, row.depth, line),
+        None => push_missing(page),
+    }
+}
+
+/// The bytes from one up to another.
+fn between(bytes: &[u8], from: usize, to: usize) -> &[u8]
+    ensures { result.now ≡ take (to - from) (drop from bytes.entry.now) }
+{
+    let (_, rest) = bytes.split_at(from.min(bytes.len()));
+    let (part, _) = rest.split_at(to.saturating_sub(from).min(rest.len()));
+    part
+}
+
+/// The rows of threads as a page of their list has them, one after the other, and where each begins.
+#[derive(Drop)]
+pub struct RowTexts {
+    bytes: Vec<u8>,
+    starts: Vec<usize>,
+}
+
+impl RowTexts {
+    /// The texts of some rows, each of which names its message by the place of the line.
+    pub fn new(alloc: Global, list: &str, lines: &[Line], rows: &[Row]) -> Result<RowTexts, Memory>
+        ensures { IfOk result (λ texts. AreRowTexts list.now lines.now rows.now texts.bytes.items texts.starts.items) }
+    {
+        let mut bytes = Vec::new(alloc);
+        bytes.reserve(rows.len().saturating_mul(ROW_BYTES))?;
+        let mut starts = Vec::with_capacity(alloc, rows.len())?;
+        for row in rows {
+            starts.push(bytes.len())?;
+            push_row(&mut bytes, list, lines, row)?;
+        }
+        Ok(RowTexts { bytes, starts })
+    }
+
+    /// All of them.
+    pub fn all(&self) -> &[u8]
+        ensures { result.now ≡ self.entry.now.bytes.items }
+    {
+        &self.bytes
+    }
+
+    /// Where a row begins; the end for a row that is not there.
+    fn start(&self, row: usize) -> usize
+        ensures { result ≡ slice_index_or self.now.starts.items row (length self.now.bytes.items) }
+    {
+        match self.starts.get(row) {
+            Some(start) => *start,
+            None => self.bytes.len(),
+        }
+    }
+
+    /// Those of the rows from one up to another.
+    pub fn run(&self, first: usize, end: usize) -> &[u8]
+        ensures { (list : List ℕ) (lines : List Shown) (rows : List Placed)
+            → AreRowTexts list lines rows self.entry.now.bytes.items self.entry.now.starts.items
+            → result.now ≡ rows_text list lines (within (first, end) rows) }
+    {
+        let from = self.start(first);
+        let to = self.start(end.max(first));
+        between(&self.bytes, from, to)
+    }
+}
+
+/// A page of threads.
+fn rows_page(alloc: Global, title: &[u8], rows: &[u8]) -> Result<Vec<u8>, AllocError>
+    ensures { IfOk result (λ made. made.items ≡ page title.now rows.now) }
+{
+    let mut page = started(alloc, title)?;
+    page.reserve(rows.len().saturating_add(FOOT_BYTES))?;
+    page.extend_from_slice(rows)?;
+    push_foot(&mut page)?;
+    Ok(page)
+}
+
+/// The page of all threads of a list, from the texts of their rows.
+pub fn threads_page(alloc: Global, list: &str, rows: &[u8]) -> Result<Vec<u8>, Memory>
+    ensures { IfOk result (λ made. made.items ≡ page (titled list.now (codes "threads")) rows.now) }
+{
+    let title = titled(alloc, list, b"threads")?;
+    Ok(rows_page(alloc, &title, rows)?)
+}
+
+/// The page of one thread of a list, from the texts of its rows.
+pub fn thread_page(alloc: Global, list: &str, rows: &[u8]) -> Result<Vec<u8>, Memory>
+    ensures { IfOk result (λ made. made.items ≡ page (titled list.now (codes "thread")) rows.now) }
+{
+    let title = titled(alloc, list, b"thread")?;
+    Ok(rows_page(alloc, &title, rows)?)
+}

@@ -1,0 +1,57 @@
+use Rattle.std.proofs.Common.{◌≡◌, ◌∙◌, false, refl, subst}
+use Rattle.archive_requests.specs.Routes.{mbox}
+use Rattle.archive_requests.specs.Routing.{named_route}
+use Rattle.archive_requests.specs.declared.routes.Route.{Route}
+use Rattle.archive_requests.specs.declared.routes.Route.TheVariants.{Lists, Message, Month, Threads, Thread, Author, Mbox}
+use Rattle.archive_results.specs.Access.{Ask, name_of}
+use Rattle.archive_pages.specs.Answers.{asking, is_mbox, list_reply, made_reply, route_reply}
+use Rattle.archive_pages.specs.Calls.{AreKept}
+use Rattle.archive_pages.specs.Causes.{IsUnreadBy, ServesOr}
+use Rattle.archive_pages.specs.KeptServing.{ServesIf}
+use Rattle.archive_pages.specs.Seen.{reply_made}
+use Rattle.archive_pages.proofs.CauseLemmas.{found_served}
+use Rattle.archive_pages.proofs.KeptLemmas.{finds_serves, keeps_still, serves_whatever}
+use Rattle.archive_pages.proofs.RouteLemmas.{other_route}
+use Rattle.archive_pages.proofs.routing.answer_route.Goals as goal
+
+pub returns-in-Mbox-clause-sent : goal.returns-in-Mbox-clause-sent
+returns-in-Mbox-clause-sent g c = rw c.in-Mbox.is (
+    subst
+    (λ (q : Ask). ServesIf g.S.Store c.args.store.now c.answer_mbox.new.store (AreKept c.args.pages.now) (λ a reply. reply ≡ list_reply a q (mbox q.list))
+    (g.W.Sink.told c.args.output.now) (g.W.Sink.told c.answer_mbox.new.output) c.answer_mbox.result)
+    c.ask_of-ask.ensures
+    (serves_whatever g.S.Store (g.W.Sink.told c.args.output.now) (g.W.Sink.told c.answer_mbox.new.output) c.answer_mbox.result
+    c.args.store.now c.answer_mbox.new.store (AreKept c.args.pages.now) _ c.answer_mbox.ensures.sent))
+
+pub returns-in-Mbox-clause-ends : goal.returns-in-Mbox-clause-ends
+returns-in-Mbox-clause-ends g c = record {
+  reply = c.answer_mbox.ensures.ends;
+  caused = subst (λ (q : Ask). ServesOr g.S.Store c.args.store.now c.answer_mbox.new.store c.answer_mbox.result (IsUnreadBy q.reader)) c.ask_of-ask.ensures c.answer_mbox.ensures.caused;
+  keeps = keeps_still g.S.Store c.args.store.now c.answer_mbox.new.store c.args.pages.now;
+}
+
+pub returns-in_default-clause-sent : goal.returns-in_default-clause-sent
+returns-in_default-clause-sent g c =
+    let ask_of = asking c.args.pages.now.policy.now c.args.pages.now.day (name_of c.args.reader) in
+    let route = c.args.route.now in
+    finds_serves g.S.Store (g.W.Sink.told c.args.output.now) (g.W.Sink.told c.write_found.new.output) c.write_found.result
+    c.args.store.now c.find_page-found.new.store c.find_page-found.result reply_made (AreKept c.args.pages.now)
+    (λ a reply. reply_made reply ≡ made_reply a ask_of (named_route route)) (λ a reply. reply ≡ route_reply a ask_of (named_route route))
+    c.find_page-found.ensures.found (λ a x is. is ∙ other_route route (no_mbox route refl) a ask_of) c.write_found.ensures.sent
+  where
+    no_mbox : (route : Route) → c.args.route.now ≡ route → is_mbox (named_route route) ≡ false
+    no_mbox Lists is = refl
+    no_mbox (Message list key) is = refl
+    no_mbox (Month list month) is = refl
+    no_mbox (Threads list) is = refl
+    no_mbox (Thread list key) is = refl
+    no_mbox (Author list author) is = refl
+    no_mbox (Mbox list) is = absurd (c.in_default.not-Mbox list is)
+
+pub returns-in_default-clause-ends : goal.returns-in_default-clause-ends
+returns-in_default-clause-ends g c = record {
+  reply = c.write_found.ensures.ends;
+  caused = found_served g.S.Store c.args.store.now c.find_page-found.new.store c.write_found.new.wants c.write_found.result (IsUnreadBy (name_of c.args.reader)) c.find_page-found.result reply_made
+      c.find_page-found.ensures.why.caused c.find_page-found.ensures.why.served c.write_found.ensures.counted;
+  keeps = record { same = c.find_page-found.ensures.keeps.same; keeps = c.find_page-found.ensures.keeps.keeps };
+}
