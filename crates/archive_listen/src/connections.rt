@@ -48,15 +48,18 @@ pub trait Listener {
 
     /// The next connection, over which nothing went yet.
     fn accept(&mut self) -> Result<Connection<Self::Input, Self::Output>, AcceptFault>
-        ensures untold { IfOk result (λ c. telling (Self.Input.told c.input) (Self.Input.ends c.input) (Self.Input.failures c.input)
+        ensures untold { IfOk result (λ c. telling (Self.Input.told c.input)
+            (Self.Input.ends c.input) (Self.Input.failures c.input)
             (Self.Output.told c.output) (Self.Output.failures c.output) ≡ untold) }
-        ensures accepts { MatchResult result (λ _. accepts self.old self.new None) (λ fault. accepts self.old self.new (Some fault)) };
+        ensures accepts { MatchResult result (λ _. accepts self.old self.new None)
+            (λ fault. accepts self.old self.new (Some fault)) };
 
     /// Takes a connection back and ends it: in order, so that the peer gets all that it was sent, or, where its reply broke off,
     /// so that the peer can tell.
     fn close(&mut self, connection: Connection<Self::Input, Self::Output>, breaks_off: bool)
         ensures closes { closes self.old self.new
-            (exchange (Self.Input.told connection.input) (Self.Output.sent connection.output)) breaks_off };
+            (exchange (Self.Input.told connection.input)
+            (Self.Output.sent connection.output)) breaks_off };
 }
 
 /// A listener, and the port that it listens on.
@@ -100,6 +103,8 @@ pub trait Service<St> {
         output: &mut W,
     ) -> Result<u16, ConnectionFault>
         ensures { answers self.old self.new state.old state.new
-            (telling (R.told input.old) (R.ends input.old) (R.failures input.old) (W.told output.old) (W.failures output.old))
-            (telling (R.told input.new) (R.ends input.new) (R.failures input.new) (W.told output.new) (W.failures output.new)) result };
+            (telling (R.told input.old) (R.ends input.old) (R.failures input.old)
+            (W.told output.old) (W.failures output.old))
+            (telling (R.told input.new) (R.ends input.new) (R.failures input.new)
+            (W.told output.new) (W.failures output.new)) result };
 }

@@ -2,6 +2,7 @@
 #![tactic(auto)]
 
 mod connections;
+mod exchanges;
 mod faults;
 mod gathered;
 mod open;

@@ -14,10 +14,13 @@ fn answer_connection<St, V: Service<St>, I: Source, O: Outgoing>(
     state: &mut St,
     connection: &mut Connection<I, O>,
 ) -> Result<u16, ConnectionFault>
-    ensures { Answers (law_of V.answers) (at_work service.old state.old) (at_work service.new state.new)
-        (telling (I.told connection.old.input) (I.ends connection.old.input) (I.failures connection.old.input)
+    ensures { Answers (law_of V.answers) (at_work service.old state.old)
+        (at_work service.new state.new)
+        (telling (I.told connection.old.input) (I.ends connection.old.input)
+        (I.failures connection.old.input)
         (O.told connection.old.output) (O.failures connection.old.output))
-        (telling (I.told connection.new.input) (I.ends connection.new.input) (I.failures connection.new.input)
+        (telling (I.told connection.new.input) (I.ends connection.new.input)
+        (I.failures connection.new.input)
         (O.told connection.new.output) (O.failures connection.new.output))
         (O.sent connection.new.output) result }
 {
@@ -46,7 +49,8 @@ fn serve_next<St, V: Service<St>, L: Listener>(
     listener: &mut L,
 ) -> Result<Result<u16, ConnectionFault>, ListenFault>
     ensures served { IfOk result (λ outcome. ServesOne (law_of V.answers) L.accepts L.closes outcome
-        (served listener.old (at_work service.old state.old)) (served listener.new (at_work service.new state.new))) }
+        (served listener.old (at_work service.old state.old))
+        (served listener.new (at_work service.new state.new))) }
     ensures stopped { OnErr result ((at_work service.new state.new ≡ at_work service.old state.old)
         × L.accepts listener.old listener.new (Some accepting.Listener)) }
 {
@@ -62,7 +66,8 @@ fn serve_next<St, V: Service<St>, L: Listener>(
 
 /// Tells a fault in one line, and a reply in none.
 fn tell_outcome<E: Sink>(faults: &mut E, outcome: &Result<u16, ConnectionFault>)
-    ensures told { E.failures faults.new ≡ E.failures faults.old → E.told faults.new ≡ E.told faults.old ++ outcome_line outcome.now }
+    ensures told { E.failures faults.new ≡ E.failures faults.old
+        → E.told faults.new ≡ E.told faults.old ++ outcome_line outcome.now }
     ensures failures { E.failures faults.old ≤ E.failures faults.new }
 {
     if let Err(fault) = outcome {
@@ -79,10 +84,14 @@ pub fn serve_each<St, V: Service<St>, L: Listener, E: Sink>(
     count: u32,
     faults: &mut E,
 ) -> Result<(), ListenFault>
-    ensures served { OnOk result (ServesAll (law_of V.answers) L.accepts L.closes (served listener.old (at_work service.old state.old))
-        (noted E.Sink faults.old) (noted E.Sink faults.new) count (served listener.new (at_work service.new state.new))) }
-    ensures stopped { OnErr result (ServesFewer (law_of V.answers) L.accepts L.closes (served listener.old (at_work service.old state.old))
-        (noted E.Sink faults.old) (noted E.Sink faults.new) count (served listener.new (at_work service.new state.new))) }
+    ensures served { OnOk result (ServesAll (law_of V.answers) L.accepts L.closes
+        (served listener.old (at_work service.old state.old))
+        (noted E.Sink faults.old) (noted E.Sink faults.new) count
+        (served listener.new (at_work service.new state.new))) }
+    ensures stopped { OnErr result (ServesFewer (law_of V.answers) L.accepts L.closes
+        (served listener.old (at_work service.old state.old))
+        (noted E.Sink faults.old) (noted E.Sink faults.new) count
+        (served listener.new (at_work service.new state.new))) }
     ensures failures { E.failures faults.old ≤ E.failures faults.new }
 {
     let mut taken = 0;

@@ -1,19 +1,22 @@
 //! Connections over the loopback interface.
-ghost use Rattle.std.specs.Prelude.{◌≡◌, ◌≤◌, ◌+◌, ◌++◌, [], length, take, IfOk, MatchResult, ⊤};
-ghost use Rattle.byte_device.specs.Device.{read_ends, read_faults};
-ghost use Rattle.archive_listen.specs.Sockets.{nothing_read};
+ghost use Rattle.std.specs.Prelude.{◌≡◌, ◌≤◌, ◌+◌, ◌++◌, [], ◌∷◌, length, take, true, IfOk, MatchResult};
+ghost use Rattle.std.specs.Net.Socket.{socket_port};
+ghost use Rattle.byte_device.specs.Device.{read_ends, read_faults, written_faults};
+ghost use Rattle.archive_listen.specs.Connections.{exchange};
+ghost use Rattle.archive_listen.specs.Sockets.{IsHad, IsHeadSpan, Listens, accept_fault, nothing_read, nothing_written};
 
 use crate::connections::{Connection, Listener, Listening, Ports};
+use crate::exchanges::Exchanges;
 use crate::faults::{AcceptFault, ListenFault};
 use crate::gathered::{Gathered, ROOM};
 use crate::open::StillOpen;
 use crate::peeked::Peeked;
 use crate::waiting::{Reading, Span, read_within};
-use byte_device::{Counted, DeviceFailure, Source, Told};
+use byte_device::{Counted, DeviceFailure, Sink, Source, Told};
 use std::alloc::Global;
 use std::io::{ErrorKind, Read, Write};
 use std::marker::Model;
-use std::net::{Ipv4Addr, Net, OpenListener, OpenStream, TcpListener};
+use std::net::{IpAddr, Ipv4Addr, Net, OpenListener, OpenStream, SocketAddr, TcpListener};
 use std::rt::Clock;
 use std::time::{Duration, Instant};
 
@@ -79,7 +82,9 @@ impl<'a, R: Clock, S: Read + OpenStream> SocketInput<'a, R, S> {
 }
 
 /// The time that the next bytes of a request may take.
-fn head_span(since: Instant, begun: bool) -> Span {
+fn head_span(since: Instant, begun: bool) -> Span
+    ensures { IsHeadSpan since begun result }
+{
     let most = if begun { NEXT_SECONDS } else { FIRST_SECONDS };
     Span {
         since,
@@ -114,6 +119,45 @@ impl<'a, R: Clock, S: Read + OpenStream> Source for SocketInput<'a, R, S> {
     }
 }
 
+/// What is written to a peer, within the time that a write may take.
+#[derive(Drop)]
+pub struct SocketOutput<S> {
+    stream: Counted<S>,
+    told: Told,
+}
+
+impl<S> Model for SocketOutput<S> {
+    ghost use Rattle.archive_listen.specs.Sockets.{OutputState};
+
+    ghost Value = { OutputState };
+
+    ghost view = { λ o. record { told = o.told.bytes; failures = o.stream.failures } };
+}
+
+impl<S> SocketOutput<S> {
+    /// Nothing was written yet.
+    fn new(stream: S) -> SocketOutput<S>
+        ensures { result ≡ nothing_written }
+    {
+        SocketOutput {
+            stream: Counted::new(stream),
+            told: Told::new(),
+        }
+    }
+}
+
+impl<S: Write> Sink for SocketOutput<S> {
+    ghost told = { λ o. o.told };
+
+    ghost failures = { λ o. o.failures };
+
+    fn write(&mut self, bytes: &[u8]) -> Result<usize, DeviceFailure> {
+        let count = self.stream.write(bytes)?;
+        self.told.note(&bytes[..count]);
+        Ok(count)
+    }
+}
+
 /// Reads and drops what comes of a peer that sends more than its head, for a while.
 fn read_on<R: Clock, S: Read + OpenStream>(clock: &R, stream: &mut S) {
     let Ok(since) = Instant::now(clock) else {
@@ -136,7 +180,9 @@ fn read_on<R: Clock, S: Read + OpenStream>(clock: &R, stream: &mut S) {
 }
 
 /// What an `accept` that failed stands for.
-fn accept_fault(kind: ErrorKind) -> AcceptFault {
+fn accept_fault(kind: ErrorKind) -> AcceptFault
+    ensures { result ≡ accept_fault kind }
+{
     match kind {
         ErrorKind::ConnectionAborted
         | ErrorKind::ConnectionReset
@@ -149,34 +195,66 @@ fn accept_fault(kind: ErrorKind) -> AcceptFault {
     }
 }
 
+/// Whether an address is the one that was asked for, with a port that the system picked where it has none.
+fn is_had(asked: SocketAddr, had: SocketAddr) -> bool
+    ensures { result ≡ true → IsHad asked had }
+{
+    had.ip() == asked.ip() && (asked.port() == 0 || had.port() == asked.port()) && had.port() > 0
+}
+
+/// Listens on an address, and tells the one that the system gives in its place, which differs by a port that it picked alone.
+fn listen_at<R: Net>(rt: &R, asked: SocketAddr) -> Result<(R::Listener, SocketAddr), ListenFault>
+    ensures { IfOk result (λ it. IsHad asked it.1) }
+{
+    let Ok(listener) = TcpListener::bind(rt, asked) else {
+        return Err(ListenFault);
+    };
+    match listener.local_addr() {
+        Ok(had) if is_had(asked, had) => Ok((listener, had)),
+        Ok(_) | Err(_) => Err(ListenFault),
+    }
+}
+
 /// Listens on 127.0.0.1, and on no other address. The last sixteen connections stay open behind their replies, until their peers
-/// had the time to read them.
+/// had the time to read them. Contracts see where it listens, and what went over each connection that it took back.
 #[derive(Drop)]
 pub struct Loopback<'a, R: Net> {
     rt: &'a R,
     listener: R::Listener,
+    address: SocketAddr,
     still_open: StillOpen<R::Stream>,
+    exchanges: Exchanges,
+}
+
+impl<'a, R: Net> Model for Loopback<'a, R> {
+    ghost use Rattle.archive_listen.specs.Sockets.{LoopbackState};
+
+    ghost Value = { LoopbackState };
+
+    ghost view = { λ l. record { address = l.address; exchanges = l.exchanges.all } };
 }
 
 impl<'a, R: Net> Loopback<'a, R> {
     /// Listens on a port; 0 stands for one that the system picks. F4: the port is taken, or may not be used.
-    pub fn bind(rt: &'a R, alloc: Global, port: u16) -> Result<Loopback<'a, R>, ListenFault> {
-        match TcpListener::bind(rt, (Ipv4Addr::LOCALHOST, port)) {
-            Ok(listener) => Ok(Loopback {
-                rt,
-                listener,
-                still_open: StillOpen::new(alloc),
-            }),
-            Err(_) => Err(ListenFault),
-        }
+    pub fn bind(rt: &'a R, alloc: Global, port: u16) -> Result<Loopback<'a, R>, ListenFault>
+        ensures { IfOk result (Listens port) }
+    {
+        let asked = SocketAddr::new(IpAddr::V4(Ipv4Addr::LOCALHOST), port);
+        let (listener, address) = listen_at(rt, asked)?;
+        Ok(Loopback {
+            rt,
+            listener,
+            address,
+            still_open: StillOpen::new(alloc),
+            exchanges: Exchanges::new(),
+        })
     }
 
-    /// The port.
-    pub fn port(&self) -> Result<u16, ListenFault> {
-        match self.listener.local_addr() {
-            Ok(address) => Ok(address.port()),
-            Err(_) => Err(ListenFault),
-        }
+    /// The port that it listens on.
+    pub fn port(&self) -> u16
+        ensures { result ≡ socket_port self.now.address }
+    {
+        self.address.port()
     }
 }
 
@@ -190,13 +268,16 @@ pub struct LoopbackPorts<'a, R> {
 }
 
 impl<'a, R: Net + Clock> Ports for LoopbackPorts<'a, R> {
+    ghost use Rattle.std.specs.Prelude.{IfOk};
+    ghost use Rattle.archive_listen.specs.Sockets.{ListensOn};
+
     type Listener = Loopback<'a, R>;
 
-    fn listen(&mut self, port: u16) -> Result<Listening<Loopback<'a, R>>, ListenFault>
-        ensures { ⊤ }
-    {
+    ghost listens = { λ old new port result. (new ≡ old) × IfOk result (ListensOn port) };
+
+    fn listen(&mut self, port: u16) -> Result<Listening<Loopback<'a, R>>, ListenFault> {
         let listener = Loopback::bind(self.rt, self.alloc, port)?;
-        let port = listener.port()?;
+        let port = listener.port();
         Ok(Listening { listener, port })
     }
 }
@@ -205,9 +286,10 @@ impl<'a, R: Net + Clock> Ports for LoopbackPorts<'a, R> {
 fn connection_of<'a, R: Clock, S: Read + Write + OpenStream + Drop>(
     clock: &'a R,
     stream: S,
-) -> Result<Connection<SocketInput<'a, R, S>, Gathered<Counted<S>, ROOM>>, AcceptFault>
+) -> Result<Connection<SocketInput<'a, R, S>, Gathered<SocketOutput<S>, ROOM>>, AcceptFault>
     ensures input { IfOk result (λ c. c.input ≡ nothing_read) }
-    ensures output { IfOk result (λ c. c.output ≡ record { inner = record { inner = c.output.inner.inner; told = []; failures = 0; ends = 0 }; held = []; free = 16_384; failures = 0 }) }
+    ensures output { IfOk result (λ c. c.output ≡ record
+        { inner = nothing_written; held = []; free = 16_384; failures = 0 }) }
 {
     let Ok(since) = Instant::now(clock) else {
         return Err(AcceptFault::Listener);
@@ -215,7 +297,6 @@ fn connection_of<'a, R: Clock, S: Read + Write + OpenStream + Drop>(
     let Ok(written) = stream.try_clone() else {
         return Err(AcceptFault::Listener);
     };
-    let _ = stream.set_nodelay(true);
     if stream
         .set_write_timeout(Some(Duration::from_secs(WRITE_SECONDS)))
         .is_err()
@@ -224,19 +305,39 @@ fn connection_of<'a, R: Clock, S: Read + Write + OpenStream + Drop>(
     }
     Ok(Connection {
         input: SocketInput::new(clock, stream, since),
-        output: Gathered::new(Counted::new(written)),
+        output: Gathered::new(SocketOutput::new(written)),
     })
 }
 
+/// Ends a connection in order: what came of its peer is taken, and one that sends more is read on for a while.
+fn end<R: Clock, S: Read + OpenStream + Drop>(
+    clock: &R,
+    still_open: &mut StillOpen<S>,
+    peeked: Peeked<S>,
+) {
+    let mut peeked = peeked;
+    match peeked.end() {
+        Some(true) => read_on(clock, peeked.stream()),
+        Some(false) => still_open.keep(clock, peeked.into_stream()),
+        None => {}
+    }
+}
+
 impl<'a, R: Net + Clock> Listener for Loopback<'a, R> {
+    ghost use Rattle.archive_listen.specs.Sockets.{Accepted, Closed};
+
     type Input = SocketInput<'a, R, R::Stream>;
 
-    type Output = Gathered<Counted<R::Stream>, ROOM>;
+    type Output = Gathered<SocketOutput<R::Stream>, ROOM>;
+
+    ghost accepts = { Accepted };
+
+    ghost closes = { Closed };
 
     fn accept(
         &mut self,
     ) -> Result<
-        Connection<SocketInput<'a, R, R::Stream>, Gathered<Counted<R::Stream>, ROOM>>,
+        Connection<SocketInput<'a, R, R::Stream>, Gathered<SocketOutput<R::Stream>, ROOM>>,
         AcceptFault,
     > {
         match self.listener.accept() {
@@ -247,19 +348,20 @@ impl<'a, R: Net + Clock> Listener for Loopback<'a, R> {
 
     fn close(
         &mut self,
-        connection: Connection<SocketInput<'a, R, R::Stream>, Gathered<Counted<R::Stream>, ROOM>>,
+        connection: Connection<
+            SocketInput<'a, R, R::Stream>,
+            Gathered<SocketOutput<R::Stream>, ROOM>,
+        >,
         breaks_off: bool,
     )
-        ensures closes { ⊤ }
+        ensures closes { Closed self.old self.new
+            (exchange connection.entry.input.told connection.entry.output.inner.told) breaks_off }
     {
-        if breaks_off {
-            return;
-        }
-        let mut input = connection.input.stream;
-        match input.end() {
-            Some(true) => read_on(self.rt, input.stream()),
-            Some(false) => self.still_open.keep(self.rt, input.into_stream()),
-            None => {}
+        let Connection { input, output } = connection;
+        let output = output.into_inner();
+        self.exchanges = Exchanges::with(&self.exchanges, &input.told, &output.told);
+        if !breaks_off {
+            end(self.rt, &mut self.still_open, input.stream);
         }
     }
 }

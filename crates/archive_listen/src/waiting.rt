@@ -22,7 +22,8 @@ pub(crate) struct Span {
 /// How long a read may wait where so much of a whole span passed: at most `most`, and not past the span's end. None: it passed.
 fn wait_after(most: Duration, whole: Duration, passed: Duration) -> Option<Duration>
     ensures over { IsNone result ↔ (as_nanos whole ≤ as_nanos passed) }
-    ensures wait { IfSome result (λ d. as_nanos d ≡ min (as_nanos most) (as_nanos whole - as_nanos passed)) }
+    ensures wait { IfSome result (λ d. as_nanos d ≡ min (as_nanos most)
+        (as_nanos whole - as_nanos passed)) }
 {
     let left = whole.checked_sub(passed)?;
     if left.is_zero() {

@@ -1,6 +1,6 @@
 -- Connections one after the other, out of what is kept from one to the next.
-use Rattle.std.proofs.Common.{◌≡◌, ◌∙◌, inl, inr, ℤ, List, Bool, Option, Result, Ok, Err, refl, sym, ap, subst, ℕ}
-use Rattle.std.specs.Prelude.{IfErr, OnOk, OnErr}
+use Rattle.std.proofs.Common.{◌≡◌, ◌∙◌, inl, inr, ℤ, List, Bool, true, Option, None, Some, Result, Ok, Err, refl, sym, ap, subst, ℕ}
+use Rattle.std.specs.Prelude.{IfErr, IfSome, OnOk, OnErr, is_some}
 use Rattle.std.proofs.lemmas.Bool.{cases_Bool}
 use Rattle.sqlite.specs.Store.{Ghosts}
 use Rattle.sqlite.specs.Held.{state}
@@ -25,7 +25,7 @@ use Rattle.archive_listen.specs.Connections.{Telling, Outcome, Exchange}
 use Rattle.archive_listen.specs.declared.faults.AcceptFault.{AcceptFault}
 use Rattle.archive_listen.specs.Serving.{AtWork, Served, ServesEach, at_work, law_of, served}
 use Rattle.archive_listen.proofs.ThroughLemmas.{each_had_through, part_of}
-use Rattle.archive_serve.specs.Pages.{AnswersKept, Keeper, LeavesKept, outcome_of}
+use Rattle.archive_serve.specs.Pages.{AnswersKept, Keeper, LeavesKept, TellsUnrouted, outcome_of}
 use Rattle.archive_serve.specs.Runs.{AnswersIn, CanServe, IsSteady, RunLaw}
 use Rattle.archive_serve.proofs.SteadyLemmas.{goes_by}
 
@@ -44,6 +44,11 @@ on_either (Err e) f g it other = g other
 pub same_state : {V St : Type 0} (service : V) (store : St) (w : AtWork V St) → at_work service store ≡ w → store ≡ w.state
 same_state {V} {St} service store w same = ap (λ (x : AtWork V St). x.state) same
 
+-- what is said with routes, where there are some
+with_routes : {A P : Type 0} (routes : Option A) → IfSome routes (λ _. P) → is_some routes ≡ true → P
+with_routes None says some = absurd (cc)
+with_routes (Some routes) says some = says
+
 -- what a call that answers says
 module _ {S T : Type 0} (g : Ghosts S) (pages later : Pages T) (old new : Store S) (before after : Telling) (result : Result ℕ ServeFault) where
   pub answers_kept : (outcome : Outcome) → outcome ≡ outcome_of result
@@ -52,20 +57,23 @@ module _ {S T : Type 0} (g : Ghosts S) (pages later : Pages T) (old new : Store 
       → KeepsOn g old new pages later → Stays g old new result
       → OnOk result ((after.read_failures ≡ before.read_failures) × (after.write_failures ≡ before.write_failures))
       → IfErr result (λ fault. IsServeStop before.written after.written before.read_failures after.read_failures before.write_failures after.write_failures fault)
-      → ServesOr g old new result IsUnread
-      → AnswersKept g (record { rules = pages.policy.now; day = pages.day; kept = pages.kept }) (record { rules = later.policy.now; day = later.day; kept = later.kept })
+      → ServesOr g old new result IsUnread → IfSome pages.routes (λ _. TellsUnrouted before after result)
+      → AnswersKept g (record { rules = pages.policy.now; day = pages.day; routes = is_some pages.routes; kept = pages.kept })
+      (record { rules = later.policy.now; day = later.day; routes = is_some later.routes; kept = later.kept })
       old new before after outcome
-  answers_kept outcome is answered keeps stays quiet cause caused = record {
+  answers_kept outcome is answered keeps stays quiet cause caused unrouted = record {
     result = result;
     is = is;
     answered = answered;
     ends = record { stays = stays; quiet = quiet; cause = cause; caused = caused };
+    unrouted = with_routes pages.routes unrouted;
     same_rules = ap (λ (p : Pages T). p.policy.now) keeps.same;
     same_day = ap (λ (p : Pages T). p.day) keeps.same;
+    same_routes = ap (λ (p : Pages T). is_some p.routes) keeps.same;
     keeps = keeps.keeps;
   }
 
-module _ {S : Type 0} (g : Ghosts S) (rules : List Rule) (day : ℤ) where
+module _ {S : Type 0} (g : Ghosts S) (rules : List Rule) (day : ℤ) (routes : Bool) where
   -- pages and the store that they answer out of
   abbrev Serving : Type 0
   Serving = AtWork Keeper (Store S)
@@ -73,9 +81,9 @@ module _ {S : Type 0} (g : Ghosts S) (rules : List Rule) (day : ℤ) where
   abbrev pub KeptLaw : Serving → Serving → Telling → Telling → Outcome → Type 0
   KeptLaw = law_of (λ keeper later. AnswersKept g keeper later)
 
-  -- the pages go by these rules, on this day
+  -- the pages go by these rules, on this day, and have routes or not
   abbrev pub SameBy : Serving → Type 0
-  SameBy serving = (serving.service.rules ≡ rules) × (serving.service.day ≡ day)
+  SameBy serving = (serving.service.rules ≡ rules) × (serving.service.day ≡ day) × (serving.service.routes ≡ routes)
 
   -- What they keep weighs no more than this might, which was kept before.
   abbrev IsWithin : Keeping → Serving → Type 0
@@ -90,7 +98,7 @@ module _ {S : Type 0} (g : Ghosts S) (rules : List Rule) (day : ℤ) where
   module _ (archive : Archive) (old new : Serving) (same : SameBy old) (before after : Telling) (outcome : Outcome)
       (law : KeptLaw old new before after outcome) where
     same_on : SameBy new
-    same_on = (law.same_rules ∙ same.0, law.same_day ∙ same.1)
+    same_on = (law.same_rules ∙ same.0, law.same_day ∙ same.1, law.same_routes ∙ same.2)
 
     within_on : (kept : Keeping) → IsWithin kept old → IsWithin kept new
     within_on kept within = (law.keeps.most ∙ within.0, λ was. law.keeps.bounded (within.1 was))
@@ -130,11 +138,12 @@ module _ {S : Type 0} (g : Ghosts S) (rules : List Rule) (day : ℤ) where
       sound_on = record { kept = kept_on (rw (same.0, same.1) at law.keeps); left = left }
 
     module _ (If : Type 0) (had : If → HasReturned g new.state) (sound : If → IsSound archive old) where
-      answers_in : AnswersIn g If archive rules day old.state new.state before after outcome
+      answers_in : AnswersIn g If archive rules day routes old.state new.state before after outcome
       answers_in = record {
         result = law.result;
         is = law.is;
         ends = law.ends;
+        unrouted = λ some. law.unrouted (same.2 ∙ some);
         reply = λ i. reply (had i) (sound i);
         left = λ i. left (had i) (sound i);
         stays_open = λ i. stays_open (had i) (sound i);
@@ -152,12 +161,12 @@ module _ {S : Type 0} (g : Ghosts S) (rules : List Rule) (day : ℤ) where
     -- ready, and the disk has returned what was written.
     pub answers_each : (outcomes : List Outcome) (before after : Served L Serving) → (If → HasReturned g after.state.state) → GoesOn before.state
         → ServesEach KeptLaw accepts closes outcomes before after
-        → ServesEach (AnswersIn g If archive rules day) accepts closes outcomes
-        (part_of KeptLaw (AnswersIn g If archive rules day) (λ (w : Serving). w.state) accepts closes before)
-        (part_of KeptLaw (AnswersIn g If archive rules day) (λ (w : Serving). w.state) accepts closes after)
+        → ServesEach (AnswersIn g If archive rules day routes) accepts closes outcomes
+        (part_of KeptLaw (AnswersIn g If archive rules day routes) (λ (w : Serving). w.state) accepts closes before)
+        (part_of KeptLaw (AnswersIn g If archive rules day routes) (λ (w : Serving). w.state) accepts closes after)
         × GoesOn after.state
     answers_each outcomes before after had goes each =
-        each_had_through KeptLaw (AnswersIn g If archive rules day) (λ (w : Serving). w.state) accepts closes (λ w. If → HasReturned g w.state) GoesOn
+        each_had_through KeptLaw (AnswersIn g If archive rules day routes) (λ (w : Serving). w.state) accepts closes (λ w. If → HasReturned g w.state) GoesOn
         (λ old new first last outcome law returned i. law.ends.stays.same.0.returned (returned i))
         (λ old new first last outcome returned on law. (
           answers_in archive old new on.same first last outcome law If returned on.sound,
@@ -173,15 +182,15 @@ module _ {S : Type 0} (g : Ghosts S) (rules : List Rule) (day : ℤ) where
 module _ {S L : Type 0} (g : Ghosts S) (accepts : L → L → Option AcceptFault → Type 0) (closes : L → L → Exchange → Bool → Type 0)
     (keeper : Keeper) (store last : Store S) (listener : L) (outcomes : List Outcome) (after : Served L (AtWork Keeper (Store S)))
     (same : last ≡ after.state.state)
-    (each : ServesEach (KeptLaw g keeper.rules keeper.day) accepts closes outcomes (served listener (at_work keeper store)) after) where
+    (each : ServesEach (KeptLaw g keeper.rules keeper.day keeper.routes) accepts closes outcomes (served listener (at_work keeper store)) after) where
   abbrev If : Type 0
   If = CanServe g keeper store last
 
   through : ServesEach (RunLaw g keeper store last) accepts closes outcomes (served listener store) (served after.listener after.state.state)
-      × GoesOn g keeper.rules keeper.day accepts closes If (archive_in g store) keeper.kept after.state
-  through = answers_each g keeper.rules keeper.day accepts closes If (archive_in g store) keeper.kept outcomes (served listener (at_work keeper store)) after
+      × GoesOn g keeper.rules keeper.day keeper.routes accepts closes If (archive_in g store) keeper.kept after.state
+  through = answers_each g keeper.rules keeper.day keeper.routes accepts closes If (archive_in g store) keeper.kept outcomes (served listener (at_work keeper store)) after
       (λ i. subst (λ s. HasReturned g s) same i.0)
-      (record { same = (refl, refl); within = (refl, λ was. was); sound = λ i. record { kept = i.2; left = λ up. (i.1, refl) } }) each
+      (record { same = (refl, refl, refl); within = (refl, λ was. was); sound = λ i. record { kept = i.2; left = λ up. (i.1, refl) } }) each
 
   -- how each connection was answered
   pub run_each : ServesEach (RunLaw g keeper store last) accepts closes outcomes (served listener store) (served after.listener after.state.state)
@@ -195,6 +204,7 @@ module _ {S L : Type 0} (g : Ghosts S) (accepts : L → L → Option AcceptFault
       record {
         same_rules = goes.same.0;
         same_day = goes.same.1;
+        same_routes = goes.same.2;
         kept = λ of returned ready.
             let sound = goes.sound (returned, ready, of returned ready) in
             subst (λ rules. AreOf (archive_in g store) rules later.day later.kept) (sym goes.same.0)

@@ -1,3 +1,4 @@
 pub mod RunLemmas
 mod SteadyLemmas
+mod SocketLemmas
 mod KeptLemmas

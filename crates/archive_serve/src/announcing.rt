@@ -10,9 +10,9 @@ use crate::pages::PageService;
 use crate::serving::serve_on;
 use archive_listen::{Listener, Outgoing};
 use archive_store::Store;
+use itoa::Buffer;
 use mbox_core::device::{Sink, write_bytes};
 use sqlite::Alter;
-use std::alloc::Global;
 use std::error::Error;
 use std::fmt;
 use thread_core::Threader;
@@ -24,8 +24,6 @@ pub enum ServeStop {
     Write,
     /// F4: the listener gave no more connections.
     Listen,
-    /// F5: there was no memory for that line. No connection was taken.
-    Memory,
 }
 
 impl fmt::Display for ServeStop {
@@ -33,26 +31,29 @@ impl fmt::Display for ServeStop {
         f.write_str(match self {
             ServeStop::Write => "F2 Write",
             ServeStop::Listen => "F4 Net",
-            ServeStop::Memory => "F5 Memory",
         })
     }
 }
 
 impl Error for ServeStop {}
 
-/// Writes the line that says where the archive listens, and passes it on.
-fn announce<O: Outgoing>(alloc: Global, port: u16, output: &mut O) -> Result<(), ServeStop>
-    ensures ok { OnOk result (IsAnnounced port (O.told output.old) (O.told output.new) (O.sent output.new)) }
+/// Writes the line that says where the archive listens, and passes it on. It takes no memory.
+fn announce<O: Outgoing>(port: u16, output: &mut O) -> Result<(), ServeStop>
+    ensures ok { OnOk result (IsAnnounced port (O.told output.old) (O.told output.new)
+        (O.sent output.new)) }
     ensures cause { IfErr result (λ stop. stop ≢ ServeStop.Listen) }
     ensures write { result ≡ Err ServeStop.Write → O.failures output.old < O.failures output.new }
 {
-    let Ok(line) = format!(in alloc; "listening on 127.0.0.1:{port}\n") else {
-        return Err(ServeStop::Memory);
+    let mut digits = Buffer::new();
+    let Ok(()) = write_bytes(output, b"listening on 127.0.0.1:") else {
+        return Err(ServeStop::Write);
     };
-    match write_bytes(output, line.as_bytes()) {
-        Ok(()) => {}
-        Err(_) => return Err(ServeStop::Write),
-    }
+    let Ok(()) = write_bytes(output, digits.format(port).as_bytes()) else {
+        return Err(ServeStop::Write);
+    };
+    let Ok(()) = write_bytes(output, b"\n") else {
+        return Err(ServeStop::Write);
+    };
     match output.flush() {
         Ok(()) => Ok(()),
         Err(_) => Err(ServeStop::Write),
@@ -70,21 +71,26 @@ pub fn serve<T: Threader, S: Alter, L: Listener, O: Outgoing, E: Sink>(
     output: &mut O,
     faults: &mut E,
 ) -> Result<(), ServeStop>
-    ensures served { OnOk result (IsAnnounced port (O.told output.old) (O.told output.new) (O.sent output.new)
-        × ServesAll (RunLaw S.Store pages.old store.old store.new) L.accepts L.closes (served listener.old store.old)
+    ensures served { OnOk result (IsAnnounced port (O.told output.old) (O.told output.new)
+        (O.sent output.new)
+        × ServesAll (RunLaw S.Store pages.old store.old store.new) L.accepts L.closes
+        (served listener.old store.old)
         (noted E.Sink faults.old) (noted E.Sink faults.new) count (served listener.new store.new)) }
 
     // At F4 it was said where the archive listens, and fewer connections were answered; before that nothing was touched.
-    ensures stopped { result ≡ Err ServeStop.Listen → IsAnnounced port (O.told output.old) (O.told output.new) (O.sent output.new)
-        × ServesFewer (RunLaw S.Store pages.old store.old store.new) L.accepts L.closes (served listener.old store.old)
+    ensures stopped { result ≡ Err ServeStop.Listen
+        → IsAnnounced port (O.told output.old) (O.told output.new) (O.sent output.new)
+        × ServesFewer (RunLaw S.Store pages.old store.old store.new) L.accepts L.closes
+        (served listener.old store.old)
         (noted E.Sink faults.old) (noted E.Sink faults.new) count (served listener.new store.new) }
     ensures untouched { IfErr result (λ stop. stop ≢ ServeStop.Listen
-        → (store.new ≡ store.old) × (listener.new ≡ listener.old) × (faults.new ≡ faults.old) × (pages.new ≡ pages.old)
+        → (store.new ≡ store.old) × (listener.new ≡ listener.old) × (faults.new ≡ faults.old)
+        × (pages.new ≡ pages.old)
         × (stop ≡ ServeStop.Write → O.failures output.old < O.failures output.new)) }
     ensures keeps { LeavesKept S.Store pages.old pages.new store.old store.new }
     ensures failures { E.failures faults.old ≤ E.failures faults.new }
 {
-    announce(pages.pages.alloc, port, output)?;
+    announce(port, output)?;
     match serve_on(store, pages, listener, count, faults) {
         Ok(()) => Ok(()),
         Err(_) => Err(ServeStop::Listen),

@@ -1,5 +1,5 @@
-//! A law of a run of connections: its contract is a law over the definitions of `specs/` alone, and the call does nothing.
-ghost use Rattle.archive_serve.specs.Runs.{LeaveItReady};
+//! Laws of a run of connections: each contract is a law over the definitions of `specs/` alone, and the call does nothing.
+ghost use Rattle.archive_serve.specs.Runs.{EachGetsItsReply, LeaveItReady};
 
 use archive_listen::Listener;
 use sqlite::Alter;
@@ -7,4 +7,10 @@ use sqlite::Alter;
 /// Connections whose replies went out whole, and none of which was 503, leave the store ready for the next.
 pub fn whole_replies_leave_the_store_ready<S: Alter, L: Listener>()
     ensures { LeaveItReady S.Store L.accepts L.closes }
+{}
+
+/// Over the loopback interface each peer is sent its own reply: what was read of it, and what was sent to it, stand together in what
+/// the listener wrote down for contracts (`Loopback`).
+pub fn each_peer_gets_its_reply<S: Alter>()
+    ensures { EachGetsItsReply S.Store }
 {}

@@ -1,5 +1,5 @@
 //! The archive's pages as a service.
-ghost use Rattle.std.specs.Prelude.{◌≡◌};
+ghost use Rattle.std.specs.Prelude.{◌≡◌, is_some};
 
 use archive_listen::{ConnectionFault, Service};
 use archive_pages::{Pages, ServeFault, answer_kept};
@@ -17,17 +17,19 @@ pub struct PageService<'a, T> {
 }
 
 impl<'a, T> Model for PageService<'a, T> {
+    ghost use Rattle.std.specs.Prelude.{is_some};
     ghost use Rattle.archive_serve.specs.Pages.{Keeper};
 
     ghost Value = { Keeper };
 
-    ghost view = { λ p. record { rules = p.pages.policy.now; day = p.pages.day; kept = p.pages.kept } };
+    ghost view = { λ p. record { rules = p.pages.policy.now; day = p.pages.day; routes = is_some p.pages.routes; kept = p.pages.kept } };
 }
 
 impl<'a, T> PageService<'a, T> {
-    /// What the pages keep has to be of what the store remembers, as for `answer_kept`: nothing at first (`Pages::new`).
+    /// What the pages keep has to be of what the store remembers, as for `answer_kept`: nothing at first (`Pages::new`). With routes it says
+    /// never 503 where no route fits.
     pub fn new(pages: Pages<'a, T>) -> PageService<'a, T>
-        ensures { result ≡ record { rules = pages.entry.policy.now; day = pages.entry.day; kept = pages.entry.kept } }
+        ensures { result ≡ record { rules = pages.entry.policy.now; day = pages.entry.day; routes = is_some pages.entry.routes; kept = pages.entry.kept } }
     {
         PageService { pages }
     }

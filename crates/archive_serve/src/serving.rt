@@ -25,7 +25,9 @@ pub fn serve_on<T: Threader, S: Alter, L: Listener, E: Sink>(
 ) -> Result<(), ListenFault>
     ensures served { OnOk result (ServesAll (RunLaw S.Store pages.old store.old store.new) L.accepts L.closes (served listener.old store.old)
         (noted E.Sink faults.old) (noted E.Sink faults.new) count (served listener.new store.new)) }
-    ensures stopped { OnErr result (ServesFewer (RunLaw S.Store pages.old store.old store.new) L.accepts L.closes (served listener.old store.old)
+    ensures stopped { OnErr result (ServesFewer
+        (RunLaw S.Store pages.old store.old store.new) L.accepts L.closes
+        (served listener.old store.old)
         (noted E.Sink faults.old) (noted E.Sink faults.new) count (served listener.new store.new)) }
     ensures keeps { LeavesKept S.Store pages.old pages.new store.old store.new }
     ensures failures { E.failures faults.old ≤ E.failures faults.new }

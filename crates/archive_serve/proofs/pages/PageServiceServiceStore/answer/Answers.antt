@@ -18,4 +18,4 @@ returns g c =
     (telling (g.R.Source.told c.args.input.now) (g.R.Source.ends c.args.input.now) (g.R.Source.failures c.args.input.now) (g.W.Sink.told c.args.output.now) (g.W.Sink.failures c.args.output.now))
     (telling (g.R.Source.told answer.new.input) (g.R.Source.ends answer.new.input) (g.R.Source.failures answer.new.input) (g.W.Sink.told answer.new.output) (g.W.Sink.failures answer.new.output))
     answer.result c.match-answered.result ends answer.ensures.answered answer.ensures.keeps answer.ensures.ends.stays answer.ensures.ends.quiet answer.ensures.ends.cause
-    answer.ensures.caused)
+    answer.ensures.caused answer.ensures.unrouted)
