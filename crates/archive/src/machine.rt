@@ -14,7 +14,7 @@ pub struct Machine<'a, I, O, E> {
 }
 
 impl<'a, I: Source + Drop, O: Outgoing + Drop, E: Sink + Drop> System for Machine<'a, I, O, E> {
-    type Pages = FileStore<File>;
+    type Storage = FileStore<File>;
 
     type Files = SystemFiles<'a, HostRuntime>;
 

@@ -4,6 +4,7 @@ use Rattle.std.specs.Prelude.{Vec}
 use Rattle.std.specs.declared.alloc.Global.{Global}
 use Rattle.sqlite.specs.Store.{Ghosts}
 use Rattle.archive_store.specs.Checking.{Checks}
+use Rattle.archive_store.specs.Told.{WasRefused}
 use Rattle.archive_store.specs.declared.checking.CheckStop.{CheckStop}
 use Rattle.archive_store.specs.declared.checking.CheckStop.TheVariants as check
 use Rattle.archive_store.specs.declared.store.Store.{Store as Open}
@@ -26,5 +27,5 @@ module _ {S : Type 0} (g : Ghosts S) (old new : Open S) (stop : CheckStop) (list
   shown of_list of_key is_list is_key _ shows = absurd shows
 
   -- there was no memory to show them
-  pub not_shown : ChecksNot g old new (Run Memory)
-  not_shown = (visible list.items, visible key.items, (list, key, refl, refl, found_so))
+  pub not_shown : WasRefused old new → ChecksNot g old new (Run Memory)
+  not_shown wanted = (wanted, visible list.items, visible key.items, (list, key, refl, refl, found_so))

@@ -1,9 +1,18 @@
 -- A database that is opened, worked on, and closed.
 use Rattle.std.proofs.Common.{◌⊎◌, inr, ℕ, List, Result, Ok, Err}
 use Rattle.std.specs.Prelude.{MatchResult}
+use Rattle.sqlite.specs.Store.{Ghosts as Pages}
+use Rattle.archive_store.specs.Told.{Counts}
+use Rattle.archive_store.specs.Wanting.{IsWant}
+use Rattle.archive_store.specs.declared.faults.StoreFault.{StoreFault}
 use Rattle.archive_store.specs.declared.store.Store.{Store}
+use Rattle.archive_words.specs.Values.{TableCommand}
+use Rattle.archive_work.specs.Working.{Carries}
+use Rattle.archive_work.specs.declared.commands.Answer.{Answer}
 use Rattle.archive_run.specs.Databases.{Works}
+use Rattle.archive_run.specs.Working.{CarriesNot}
 use Rattle.archive_run.specs.declared.databases.Databases.{Ghosts}
+use Rattle.archive_run.specs.declared.faults.Refusal.TheVariants as refusal
 
 module _ {S D : Type 0} (keeps : Ghosts D (Store S)) (old device new : D) (file : List ℕ) (before after : Store S)
     (opened : keeps.opens old device file (Ok before)) (closed : keeps.closes device new after) where
@@ -23,3 +32,10 @@ module _ {S D : Type 0} (keeps : Ghosts D (Store S)) (old device new : D) (file 
       → MatchResult result (λ a. Works keeps old new file (Becomes (Ok a))) (λ e. Unopened e ⊎ Works keeps old new file (Becomes (Err e)))
   worked_by (Ok a) Becomes Unopened it = works (Becomes (Ok a)) it
   worked_by (Err e) Becomes Unopened it = inr (works (Becomes (Err e)) it)
+
+-- a command that was carried out, or refused, where want of memory is counted
+pub carried : {S : Type 0} (pages : Pages S) (old new : Store S) (command : TableCommand) (result : Result Answer StoreFault)
+    → Carries pages old new command result → Counts IsWant old new result
+    → MatchResult result (λ answer. Carries pages old new command (Ok answer)) (λ fault. CarriesNot pages old new command (refusal.Store fault))
+carried pages old new command (Ok answer) it counts = it
+carried pages old new command (Err fault) it counts = (it, counts.1)

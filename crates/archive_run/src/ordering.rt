@@ -20,7 +20,8 @@ use std::alloc::Global;
 
 /// Writes a text to the output, and passes it on (F2).
 pub(crate) fn send<O: Outgoing>(output: &mut O, text: &[u8]) -> Result<(), Refusal>
-    ensures { IsSent (Refusal.Run RunFault.Write) (sent O.Sink O.Outgoing.own output.old) (sent O.Sink O.Outgoing.own output.new) text.now result }
+    ensures { IsSent (Refusal.Run RunFault.Write) (sent O.Sink O.Outgoing.own output.old)
+        (sent O.Sink O.Outgoing.own output.new) text.now result }
 {
     match sift_run::send(output, text) {
         Ok(()) => Ok(()),
@@ -49,7 +50,7 @@ pub(crate) fn run_table<Y: System>(
     world: &mut World<Y>,
     order: &TableOrder<'_>,
 ) -> Result<(), Refusal>
-    ensures { RunsTable world.old world.new Y.Output.Sink Y.Output.Outgoing.own Y.Pages.Store Y.Databases.Databases order.now result }
+    ensures { RunsTable world.old world.new Y.Output.Sink Y.Output.Outgoing.own Y.Storage.Store Y.Databases.Databases order.now result }
 {
     match work_table(alloc, &mut world.databases, order) {
         Ok(answer) => send(&mut world.output, answer.line().as_bytes()),
@@ -63,7 +64,7 @@ pub(crate) fn run_import<Y: System>(
     world: &mut World<Y>,
     order: &ImportOrder<'_>,
 ) -> Result<(), Refusal>
-    ensures { RunsImport world.old world.new Y.Output.Sink Y.Output.Outgoing.own Y.Pages.Store Y.Databases.Databases
+    ensures { RunsImport world.old world.new Y.Output.Sink Y.Output.Outgoing.own Y.Storage.Store Y.Databases.Databases
         Y.Files.OpenFiles Y.Files.Input.Source order.now result }
 {
     match work_import(alloc, &mut world.databases, &world.files, order) {
@@ -75,7 +76,8 @@ pub(crate) fn run_import<Y: System>(
 /// Writes how many messages an import took in (F2). F5: there was no memory for the line.
 fn send_report<O: Outgoing>(alloc: Global, output: &mut O, report: Report) -> Result<(), Refusal>
     ensures { ((result ≡ Err (Refusal.Run RunFault.Memory)) × (output.new ≡ output.old))
-        ⊎ IsSent (Refusal.Run RunFault.Write) (sent O.Sink O.Outgoing.own output.old) (sent O.Sink O.Outgoing.own output.new) (report_line report) result }
+        ⊎ IsSent (Refusal.Run RunFault.Write) (sent O.Sink O.Outgoing.own output.old)
+        (sent O.Sink O.Outgoing.own output.new) (report_line report) result }
 {
     let Report {
         new,
@@ -94,7 +96,7 @@ pub(crate) fn run_check<Y: System>(
     world: &mut World<Y>,
     order: &CheckOrder<'_>,
 ) -> Result<(), Refusal>
-    ensures { RunsCheck world.old world.new Y.Output.Sink Y.Output.Outgoing.own Y.Pages.Store Y.Databases.Databases order.now result }
+    ensures { RunsCheck world.old world.new Y.Output.Sink Y.Output.Outgoing.own Y.Storage.Store Y.Databases.Databases order.now result }
 {
     match work_check(alloc, &mut world.databases, order) {
         Ok(()) => send(&mut world.output, b"ok\n"),
@@ -134,7 +136,7 @@ fn get_by<Y: System>(
     policy: &Policy,
     order: &GetOrder<'_>,
 ) -> Result<(), Refusal>
-    ensures { GetsUnder world.old world.new Y.Output.Sink Y.Output.Outgoing.own Y.Pages.Store Y.Databases.Databases
+    ensures { GetsUnder world.old world.new Y.Output.Sink Y.Output.Outgoing.own Y.Storage.Store Y.Databases.Databases
         Y.Clock.DayClock order.now policy.now result }
 {
     let Some(day) = asking_day(order.asked.day, &mut world.clock) else {
@@ -157,7 +159,7 @@ pub(crate) fn run_get<Y: System>(
     world: &mut World<Y>,
     order: &GetOrder<'_>,
 ) -> Result<(), Refusal>
-    ensures { RunsGet world.old world.new Y.Output.Sink Y.Output.Outgoing.own Y.Pages.Store Y.Databases.Databases
+    ensures { RunsGet world.old world.new Y.Output.Sink Y.Output.Outgoing.own Y.Storage.Store Y.Databases.Databases
         Y.Clock.DayClock Y.Files.ReadFiles order.now result }
 {
     let policy = named_policy(alloc, &world.files, order.asked.policy)?;
@@ -171,7 +173,7 @@ fn export_by<Y: System>(
     policy: &Policy,
     order: &AskOrder<'_>,
 ) -> Result<(), Refusal>
-    ensures { ExportsUnder world.old world.new Y.Output.Sink Y.Output.Outgoing.own Y.Pages.Store Y.Databases.Databases
+    ensures { ExportsUnder world.old world.new Y.Output.Sink Y.Output.Outgoing.own Y.Storage.Store Y.Databases.Databases
         Y.Clock.DayClock order.now policy.now result }
 {
     let Some(day) = asking_day(order.day, &mut world.clock) else {
@@ -193,7 +195,7 @@ pub(crate) fn run_export<Y: System>(
     world: &mut World<Y>,
     order: &AskOrder<'_>,
 ) -> Result<(), Refusal>
-    ensures { RunsExport world.old world.new Y.Output.Sink Y.Output.Outgoing.own Y.Pages.Store Y.Databases.Databases
+    ensures { RunsExport world.old world.new Y.Output.Sink Y.Output.Outgoing.own Y.Storage.Store Y.Databases.Databases
         Y.Clock.DayClock Y.Files.ReadFiles order.now result }
 {
     let policy = named_policy(alloc, &world.files, order.policy)?;

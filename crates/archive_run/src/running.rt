@@ -46,7 +46,7 @@ fn run_order<Y: System>(
     world: &mut World<Y>,
     asked: &Order<'_>,
 ) -> Result<(), Refusal>
-    ensures { Runs (devices Y.Pages.Store Y.Files.ReadFiles Y.Files.OpenFiles Y.Files.Input.Source Y.Databases.Databases Y.Clock.DayClock
+    ensures { Runs (devices Y.Storage.Store Y.Files.ReadFiles Y.Files.OpenFiles Y.Files.Input.Source Y.Databases.Databases Y.Clock.DayClock
         Y.Ports.listens Y.Ports.Listener.accepts Y.Ports.Listener.closes Y.Threaders.makes Y.Input.Source Y.Output.Sink Y.Output.Outgoing.own Y.Faults.Sink)
         world.old world.new asked.now result }
 {
@@ -68,25 +68,27 @@ fn run_order<Y: System>(
 pub fn run<Y: System>(alloc: Global, world: &mut World<Y>, words: &[&str]) -> u8
     // At 0 an order is carried out, whole.
     ensures done { (order : Order) → GiveOrder (map (λ w. w.now) words.now) order → result ≡ 0
-        → Runs (devices Y.Pages.Store Y.Files.ReadFiles Y.Files.OpenFiles Y.Files.Input.Source Y.Databases.Databases Y.Clock.DayClock
+        → Runs (devices Y.Storage.Store Y.Files.ReadFiles Y.Files.OpenFiles Y.Files.Input.Source Y.Databases.Databases Y.Clock.DayClock
         Y.Ports.listens Y.Ports.Listener.accepts Y.Ports.Listener.closes Y.Threaders.makes Y.Input.Source Y.Output.Sink Y.Output.Outgoing.own Y.Faults.Sink)
         world.old world.new order (Ok tt) }
 
     // At 1 it is refused: for a reason that holds, or for want of memory to read the words. One line tells the refusal.
     ensures refused { (order : Order) → GiveOrder (map (λ w. w.now) words.now) order → result ≡ 1
-        → IsRefused (devices Y.Pages.Store Y.Files.ReadFiles Y.Files.OpenFiles Y.Files.Input.Source Y.Databases.Databases Y.Clock.DayClock
+        → IsRefused (devices Y.Storage.Store Y.Files.ReadFiles Y.Files.OpenFiles Y.Files.Input.Source Y.Databases.Databases Y.Clock.DayClock
         Y.Ports.listens Y.Ports.Listener.accepts Y.Ports.Listener.closes Y.Threaders.makes Y.Input.Source Y.Output.Sink Y.Output.Outgoing.own Y.Faults.Sink)
         world.old world.new order }
 
     // At 2 the words order nothing, for they are bad.
     ensures bad { result ≡ 2 → AreBad (map (λ w. w.now) words.now)
-        × ((takes archive_app (map (λ w. w.now) words.now) ≡ false) ⊎ (ordered (map (λ w. w.now) words.now) ≡ None)) }
+        × ((takes archive_app (map (λ w. w.now) words.now) ≡ false)
+        ⊎ (ordered (map (λ w. w.now) words.now) ≡ None)) }
 
     // Words order something, and the status is 0 or 1. Or they order nothing, which has a cause, and then that alone is said of which
     // the cause is, with its status: help 0, bad words 2, want of memory 1.
-    ensures stopped { ((order : Order) × GiveOrder (map (λ w. w.now) words.now) order × (result ≤ 1))
+    ensures stopped { ((order : Order) × GiveOrder (map (λ w. w.now) words.now) order
+        × (result ≤ 1))
         ⊎ ((stop : OrderStop) × IsStopOf (map (λ w. w.now) words.now) stop
-        × RunSaysStop (devices Y.Pages.Store Y.Files.ReadFiles Y.Files.OpenFiles Y.Files.Input.Source Y.Databases.Databases Y.Clock.DayClock
+        × RunSaysStop (devices Y.Storage.Store Y.Files.ReadFiles Y.Files.OpenFiles Y.Files.Input.Source Y.Databases.Databases Y.Clock.DayClock
         Y.Ports.listens Y.Ports.Listener.accepts Y.Ports.Listener.closes Y.Threaders.makes Y.Input.Source Y.Output.Sink Y.Output.Outgoing.own Y.Faults.Sink)
         world.old world.new stop result) }
 {

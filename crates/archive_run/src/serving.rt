@@ -1,7 +1,7 @@
 //! Serving an archive: the policy is read, the day asked and the database opened once, and then connections are answered.
-ghost use Rattle.std.specs.Prelude.{◌≡◌, ◌≤◌, Ok, Err, MatchResult};
+ghost use Rattle.std.specs.Prelude.{◌≡◌, ◌≤◌, Ok, Err, IfErr, IfOk, MatchResult};
 ghost use Rattle.archive_listen.specs.declared.faults.ListenFault.{ListenFault};
-ghost use Rattle.archive_run.specs.Serving.{AnswersAll, RunsServe, ServesIn, ServesNot, ServesOpen, ServesUnder, said};
+ghost use Rattle.archive_run.specs.Serving.{AnswersAll, RunsServe, ServesIn, ServesNot, ServesOpen, ServesUnder, fresh_keeper, said};
 
 use crate::databases::Databases;
 use crate::faults::Refusal;
@@ -27,7 +27,8 @@ const KEPT_BYTES: usize = 256 << 20;
 /// Listens on a port. F4: it cannot be had.
 fn listen_on<P: Ports>(ports: &mut P, port: u16) -> Result<Listening<P::Listener>, Refusal>
     ensures { MatchResult result (λ listening. P.listens ports.old ports.new port (Ok listening))
-        (λ refusal. (refusal ≡ Refusal.Net) × (fault : ListenFault) × P.listens ports.old ports.new port (Err fault)) }
+        (λ refusal. (refusal ≡ Refusal.Net) × (fault : ListenFault)
+        × P.listens ports.old ports.new port (Err fault)) }
 {
     match ports.listen(port) {
         Ok(listening) => Ok(listening),
@@ -35,8 +36,25 @@ fn listen_on<P: Ports>(ports: &mut P, port: u16) -> Result<Listening<P::Listener
     }
 }
 
+/// The pages of an archive as a service, which has routes and keeps nothing yet. F5: there was no memory for the routes.
+fn page_service<'a, T: Threader>(
+    alloc: Global,
+    policy: &'a Policy,
+    threader: &'a T,
+    day: Day,
+) -> Result<PageService<'a, T>, Refusal>
+    ensures ok { IfOk result (λ service. service ≡ fresh_keeper policy.now day) }
+    ensures cause { IfErr result (λ refusal. refusal ≡ Refusal.Run RunFault.Memory) }
+{
+    let pages = Pages::new(alloc, policy, threader, day, KEPT_BYTES);
+    if pages.routes.is_none() {
+        return Err(Refusal::Run(RunFault::Memory));
+    }
+    Ok(PageService::new(pages))
+}
+
 /// Says where a listener listens, and answers so many of its connections out of an open store. F4: no more connections come.
-/// F2, F5: it could not be said where.
+/// F2: it could not be said where. F5: there was no memory for the routes of the pages.
 fn serve_listening<T: Threader, S: Alter, L: Listener + Drop, O: Outgoing, E: Sink>(
     alloc: Global,
     store: &mut Store<S>,
@@ -50,14 +68,16 @@ fn serve_listening<T: Threader, S: Alter, L: Listener + Drop, O: Outgoing, E: Si
 ) -> Result<(), Refusal>
     ensures served { MatchResult result
         (λ _. AnswersAll S.Store L.accepts L.closes policy.now day listening store.old store.new
-        (said O.Sink O.Outgoing.own E.Sink output.old faults.old) (said O.Sink O.Outgoing.own E.Sink output.new faults.new) count)
+        (said O.Sink O.Outgoing.own E.Sink output.old faults.old)
+        (said O.Sink O.Outgoing.own E.Sink output.new faults.new) count)
         (ServesNot S.Store L.accepts L.closes policy.now day listening store.old store.new
-        (said O.Sink O.Outgoing.own E.Sink output.old faults.old) (said O.Sink O.Outgoing.own E.Sink output.new faults.new) count) }
+        (said O.Sink O.Outgoing.own E.Sink output.old faults.old)
+        (said O.Sink O.Outgoing.own E.Sink output.new faults.new) count) }
     ensures failures { E.failures faults.old ≤ E.failures faults.new }
 {
     let Listening { listener, port } = listening;
     let mut listener = listener;
-    let mut pages = PageService::new(Pages::new(alloc, policy, threader, day, KEPT_BYTES));
+    let mut pages = page_service(alloc, policy, threader, day)?;
     match serve(
         store,
         &mut pages,
@@ -68,9 +88,8 @@ fn serve_listening<T: Threader, S: Alter, L: Listener + Drop, O: Outgoing, E: Si
         faults,
     ) {
         Ok(()) => Ok(()),
-        Err(ServeStop::Write) => Err(Refusal::Run(RunFault::Write)),
         Err(ServeStop::Listen) => Err(Refusal::Net),
-        Err(ServeStop::Memory) => Err(Refusal::Run(RunFault::Memory)),
+        Err(ServeStop::Write) => Err(Refusal::Run(RunFault::Write)),
     }
 }
 
@@ -78,13 +97,13 @@ fn serve_listening<T: Threader, S: Alter, L: Listener + Drop, O: Outgoing, E: Si
 fn serve_store<Y: System, T: Threader>(
     alloc: Global,
     world: &mut World<Y>,
-    store: &mut Store<Y::Pages>,
+    store: &mut Store<Y::Storage>,
     policy: &Policy,
     threader: &T,
     day: Day,
     order: &ServeOrder<'_>,
 ) -> Result<(), Refusal>
-    ensures served { ServesOpen world.old world.new Y.Output.Sink Y.Output.Outgoing.own Y.Faults.Sink Y.Pages.Store
+    ensures served { ServesOpen world.old world.new Y.Output.Sink Y.Output.Outgoing.own Y.Faults.Sink Y.Storage.Store
         Y.Ports.listens Y.Ports.Listener.accepts Y.Ports.Listener.closes store.old store.new order.now policy.now day result }
     ensures failures { Y.Faults.failures world.old.faults ≤ Y.Faults.failures world.new.faults }
 {
@@ -111,7 +130,7 @@ fn work_serve<Y: System, T: Threader>(
     day: Day,
     order: &ServeOrder<'_>,
 ) -> Result<(), Refusal>
-    ensures served { ServesIn world.old world.new Y.Output.Sink Y.Output.Outgoing.own Y.Faults.Sink Y.Pages.Store
+    ensures served { ServesIn world.old world.new Y.Output.Sink Y.Output.Outgoing.own Y.Faults.Sink Y.Storage.Store
         Y.Ports.listens Y.Ports.Listener.accepts Y.Ports.Listener.closes Y.Databases.Databases order.now policy.now day result }
     ensures failures { Y.Faults.failures world.old.faults ≤ Y.Faults.failures world.new.faults }
 {
@@ -132,7 +151,7 @@ fn serve_by<Y: System, T: Threader>(
     threader: &T,
     order: &ServeOrder<'_>,
 ) -> Result<(), Refusal>
-    ensures served { ServesUnder world.old world.new Y.Output.Sink Y.Output.Outgoing.own Y.Faults.Sink Y.Pages.Store Y.Ports.listens
+    ensures served { ServesUnder world.old world.new Y.Output.Sink Y.Output.Outgoing.own Y.Faults.Sink Y.Storage.Store Y.Ports.listens
         Y.Ports.Listener.accepts Y.Ports.Listener.closes Y.Databases.Databases Y.Clock.DayClock order.now policy.now result }
     ensures failures { Y.Faults.failures world.old.faults ≤ Y.Faults.failures world.new.faults }
 {
@@ -149,7 +168,7 @@ pub(crate) fn run_serve<Y: System>(
     world: &mut World<Y>,
     order: &ServeOrder<'_>,
 ) -> Result<(), Refusal>
-    ensures { RunsServe world.old world.new Y.Output.Sink Y.Output.Outgoing.own Y.Faults.Sink Y.Pages.Store Y.Ports.listens
+    ensures { RunsServe world.old world.new Y.Output.Sink Y.Output.Outgoing.own Y.Faults.Sink Y.Storage.Store Y.Ports.listens
         Y.Ports.Listener.accepts Y.Ports.Listener.closes Y.Databases.Databases Y.Clock.DayClock Y.Files.ReadFiles Y.Threaders.makes order.now result }
 {
     let Some(threader) = world.threaders.threader() else {

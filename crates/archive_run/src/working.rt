@@ -3,7 +3,7 @@ ghost use Rattle.std.specs.Prelude.{◌≡◌, ◌⊎◌, Ok, Err, MatchResult, 
 ghost use Rattle.archive_work.specs.Working.{Carries, Gets};
 ghost use Rattle.archive_run.specs.Databases.{Works, IsUnopened};
 ghost use Rattle.archive_run.specs.Refusals.{ShowsDamage, visible, visible_byte};
-ghost use Rattle.archive_run.specs.Working.{Answers, ChecksNot, ExportsNot, GetsNot, ImportsFile, ImportsNot, IsExported, NotOpened};
+ghost use Rattle.archive_run.specs.Working.{Answers, CarriesNot, ChecksNot, ExportsNot, GetsNot, ImportsFile, ImportsNot, IsExported, NotOpened};
 ghost use Rattle.sift_run.specs.Streams.{sent};
 ghost use Rattle.archive_store.specs.Checking.{Checks};
 
@@ -27,9 +27,11 @@ pub(crate) fn work_table<S: Alter, D: Databases<Store<S>>>(
     order: &TableOrder<'_>,
 ) -> Result<Answer, StoreFault>
     ensures worked { MatchResult result
-        (λ answer. Works D.Databases databases.old databases.new order.now.file (λ o c. Carries S.Store o c order.now.command (Ok answer)))
+        (λ answer. Works D.Databases databases.old databases.new order.now.file
+        (λ o c. Carries S.Store o c order.now.command (Ok answer)))
         (λ fault. IsUnopened D.Databases databases.old databases.new order.now.file fault
-        ⊎ Works D.Databases databases.old databases.new order.now.file (λ o c. Carries S.Store o c order.now.command (Err fault))) }
+        ⊎ Works D.Databases databases.old databases.new order.now.file
+        (λ o c. CarriesNot S.Store o c order.now.command (Refusal.Store fault))) }
 {
     let mut store = databases.open(alloc, order.file)?;
     let answer = carry_out(&mut store, alloc, &order.command);
@@ -98,7 +100,10 @@ fn get_text<S: Alter>(
         Err(GetStop::NoMessage) => Err(Refusal::Store(StoreFault::NoMessage)),
         Err(GetStop::Denied(rule)) => match String::from_str(alloc, rule) {
             Ok(rule) => Err(Refusal::Denied(rule)),
-            Err(_) => Err(Refusal::Run(RunFault::Memory)),
+            Err(refused) => {
+                store.wants.raise(refused.into());
+                Err(Refusal::Run(RunFault::Memory))
+            }
         },
     }
 }
@@ -112,7 +117,8 @@ pub(crate) fn work_get<S: Alter, D: Databases<Store<S>>>(
     key: &str,
 ) -> Result<Vec<u8>, Refusal>
     ensures { Answers D.Databases databases.old databases.new file.now result
-        (λ text o c. Gets S.Store o c ask.now key.now (Ok text)) (λ o c. GetsNot S.Store o c ask.now key.now) }
+        (λ text o c. Gets S.Store o c ask.now key.now (Ok text))
+        (λ o c. GetsNot S.Store o c ask.now key.now) }
 {
     let mut store = match databases.open(alloc, file) {
         Ok(store) => store,
@@ -165,7 +171,10 @@ fn check_store<S: Alter>(store: &mut Store<S>, alloc: Global) -> Result<(), Refu
         Err(CheckStop::Failed(fault)) => Err(Refusal::Store(fault)),
         Err(CheckStop::Damaged { list, key }) => match damaged(alloc, &list, &key) {
             Ok(refusal) => Err(refusal),
-            Err(_) => Err(Refusal::Run(RunFault::Memory)),
+            Err(refused) => {
+                store.wants.raise(refused.into());
+                Err(Refusal::Run(RunFault::Memory))
+            }
         },
     }
 }
@@ -176,7 +185,8 @@ pub(crate) fn work_check<S: Alter, D: Databases<Store<S>>>(
     databases: &mut D,
     order: &CheckOrder<'_>,
 ) -> Result<(), Refusal>
-    ensures { Answers D.Databases databases.old databases.new order.now.file result (λ _ o c. Checks S.Store o c (Ok tt)) (λ o c. ChecksNot S.Store o c) }
+    ensures { Answers D.Databases databases.old databases.new order.now.file result
+        (λ _ o c. Checks S.Store o c (Ok tt)) (λ o c. ChecksNot S.Store o c) }
 {
     let mut store = match databases.open(alloc, order.file) {
         Ok(store) => store,
@@ -195,8 +205,10 @@ fn export_text<S: Alter, O: Outgoing>(
     output: &mut O,
 ) -> Result<(), Refusal>
     ensures { MatchResult result
-        (λ _. IsExported S.Store store.old store.new ask.now (sent O.Sink O.Outgoing.own output.old) (sent O.Sink O.Outgoing.own output.new))
-        (ExportsNot S.Store store.old store.new ask.now (sent O.Sink O.Outgoing.own output.old) (sent O.Sink O.Outgoing.own output.new)) }
+        (λ _. IsExported S.Store store.old store.new ask.now (sent O.Sink O.Outgoing.own output.old)
+        (sent O.Sink O.Outgoing.own output.new))
+        (ExportsNot S.Store store.old store.new ask.now (sent O.Sink O.Outgoing.own output.old)
+        (sent O.Sink O.Outgoing.own output.new)) }
 {
     match export(store, alloc, ask, output) {
         Ok(_count) => {}
@@ -217,10 +229,13 @@ pub(crate) fn work_export<S: Alter, D: Databases<Store<S>>, O: Outgoing>(
     output: &mut O,
 ) -> Result<(), Refusal>
     ensures { MatchResult result
-        (λ _. Works D.Databases databases.old databases.new file.now (λ o c. IsExported S.Store o c ask.now
+        (λ _. Works D.Databases databases.old databases.new file.now
+        (λ o c. IsExported S.Store o c ask.now
         (sent O.Sink O.Outgoing.own output.old) (sent O.Sink O.Outgoing.own output.new)))
-        (λ refusal. (NotOpened D.Databases databases.old databases.new file.now refusal × (output.new ≡ output.old))
-        ⊎ Works D.Databases databases.old databases.new file.now (λ o c. ExportsNot S.Store o c ask.now
+        (λ refusal. (NotOpened D.Databases databases.old databases.new file.now refusal
+        × (output.new ≡ output.old))
+        ⊎ Works D.Databases databases.old databases.new file.now
+        (λ o c. ExportsNot S.Store o c ask.now
         (sent O.Sink O.Outgoing.own output.old) (sent O.Sink O.Outgoing.own output.new) refusal)) }
 {
     let mut store = match databases.open(alloc, file) {

@@ -10,12 +10,12 @@ use sqlite::Alter;
 /// The kinds of devices that a run is over. No value of it is ever made.
 pub trait System {
     /// What the pages of a database lie in.
-    type Pages: Alter;
+    type Storage: Alter;
 
     /// The files of policies, which are read whole, and of mboxes, which are read piece by piece.
     type Files: ReadFiles + OpenFiles + Drop;
 
-    type Databases: Databases<Store<Self::Pages>> + Drop;
+    type Databases: Databases<Store<Self::Storage>> + Drop;
 
     type Clock: DayClock + Drop;
 

@@ -15,7 +15,8 @@ use Rattle.archive_machine.specs.Sound.{IsFiledRight}
 use Rattle.sqlite.specs.Held.{state}
 use Rattle.archive_tables.specs.Tables.{archive_of}
 use Rattle.archive_store.specs.Held.{held_of}
-use Rattle.archive_store.specs.Told.{Lasts}
+use Rattle.archive_store.specs.Told.{Counts, Lasts}
+use Rattle.archive_store.specs.Wanting.{IsWant}
 use Rattle.archive_store.specs.Replies.{refusal, Does, says_done, says_whether}
 use Rattle.archive_store.specs.declared.store.Store.{Store}
 use Rattle.archive_store.specs.declared.faults.StoreFault.{StoreFault}
@@ -158,3 +159,16 @@ module _ {S : Type 0} (g : Ghosts S) where
       goes_as g store store (λ a b. b ≡ a) (λ a b. (b ≡ a) × ((stepped a command).1 ≡ refused no_message))
       (λ a b h. (h, ap (λ (o : Outcome). o.1) (keys a ∙ ap (λ t. cond t (step a step_of) (refuse a no_message)) is)))
       (stays_there g store)
+
+-- ---- want of memory is counted
+
+module _ {S : Type 0} (old new : Store S) where
+  pub counts_done : (answer : Answer) (result : Result (Unit {0}) StoreFault) → Counts IsWant old new result → Counts IsWant old new (done_by answer result)
+  counts_done answer (Ok unit) counts = counts
+  counts_done answer (Err fault) counts = counts
+
+  pub counts_whether : (if_there if_not : Answer) (result : Result Bool StoreFault) → Counts IsWant old new result
+      → Counts IsWant old new (whether_by if_there if_not result)
+  counts_whether if_there if_not (Ok true) counts = counts
+  counts_whether if_there if_not (Ok false) counts = counts
+  counts_whether if_there if_not (Err fault) counts = counts

@@ -78,7 +78,7 @@ pub struct Stand<'a, RT> {
 }
 
 impl<'a, RT: Files + AllocGlobal> System for Stand<'a, RT> {
-    type Pages = FileStore<Memory>;
+    type Storage = FileStore<Memory>;
 
     type Files = ShortFiles<'a, RT>;
 

@@ -224,7 +224,7 @@ impl Ports for Quay {
 pub struct Desk;
 
 impl System for Desk {
-    type Pages = MemStore;
+    type Storage = MemStore;
 
     type Files = KnownFiles;
 

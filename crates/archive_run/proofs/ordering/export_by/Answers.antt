@@ -23,14 +23,14 @@ returns g c =
     let is_day : c.order.inside.day ≡ order.day = ap (λ (o : AskValues). o.day) c.order.view_is in
     let is_ask = c.ask_of-ask.ensures in
     let given : IsDayBy g.Y.Clock.DayClock order.day true old.clock clock (Some day) = rw is_day at c.in-Some.ensures in
-    by_result (ExportsUnder old new g.Y.Output.Sink g.Y.Output.Outgoing g.Y.Pages.Store g.Y-Databases-Databases g.Y.Clock.DayClock order c.args.policy.now) _ _
+    by_result (ExportsUnder old new g.Y.Output.Sink g.Y.Output.Outgoing g.Y.Storage.Store g.Y-Databases-Databases g.Y.Clock.DayClock order c.args.policy.now) _ _
     c.work_export.result c.work_export.ensures
     (λ u done. (
       clock,
       day,
       given,
       (
-        at_two (λ (f : List ℕ) (a : Ask). Works g.Y-Databases-Databases old.databases new.databases f (λ o x. IsExported g.Y.Pages.Store o x a before after))
+        at_two (λ (f : List ℕ) (a : Ask). Works g.Y-Databases-Databases old.databases new.databases f (λ o x. IsExported g.Y.Storage.Store o x a before after))
             _ _ _ _ is_file is_ask done,
         refl,
       ),
@@ -45,7 +45,7 @@ returns g c =
           ap (λ o. record new { output = o }) closed.1,
         )
         | inr stopped ↦ inr (
-          at_two (λ (f : List ℕ) (a : Ask). Works g.Y-Databases-Databases old.databases new.databases f (λ o x. ExportsNot g.Y.Pages.Store o x a before after e))
+          at_two (λ (f : List ℕ) (a : Ask). Works g.Y-Databases-Databases old.databases new.databases f (λ o x. ExportsNot g.Y.Storage.Store o x a before after e))
               _ _ _ _ is_file is_ask stopped,
           refl,
         )

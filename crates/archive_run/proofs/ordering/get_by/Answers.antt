@@ -26,14 +26,14 @@ returns-in_err-text g c =
     let is_asked : c.order.inside.asked ≡ order.asked = ap (λ (o : GetValues). o.asked) c.order.view_is in
     let is_ask = rw is_asked at c.ask_of-ask.ensures in
     let given : IsDayBy g.Y.Clock.DayClock order.asked.day true old.clock clock (Some day) = rw is_day at c.in-Some.ensures in
-    err_at (GetsUnder old new g.Y.Output.Sink g.Y.Output.Outgoing g.Y.Pages.Store g.Y-Databases-Databases g.Y.Clock.DayClock order c.args.policy.now)
+    err_at (GetsUnder old new g.Y.Output.Sink g.Y.Output.Outgoing g.Y.Storage.Store g.Y-Databases-Databases g.Y.Clock.DayClock order c.args.policy.now)
     c.from_residual.result refusal c.from_residual.ensures.1
     (inr (
       clock,
       day,
       given,
       inl (
-        at_three (λ (f : List ℕ) (a : Ask) (k : List ℕ). Fails g.Y-Databases-Databases old.databases new.databases f (λ o x. GetsNot g.Y.Pages.Store o x a k) refusal)
+        at_three (λ (f : List ℕ) (a : Ask) (k : List ℕ). Fails g.Y-Databases-Databases old.databases new.databases f (λ o x. GetsNot g.Y.Storage.Store o x a k) refusal)
             _ _ _ _ _ _ is_file is_ask is_key c.in_err-text.ensures,
         refl,
       ),
@@ -57,9 +57,9 @@ returns g c =
     let is_asked : c.order.inside.asked ≡ order.asked = ap (λ (o : GetValues). o.asked) c.order.view_is in
     let is_ask = rw is_asked at c.ask_of-ask.ensures in
     let given : IsDayBy g.Y.Clock.DayClock order.asked.day true old.clock clock (Some day) = rw is_day at c.in-Some.ensures in
-    let got = at_three (λ (f : List ℕ) (a : Ask) (k : List ℕ). Works g.Y-Databases-Databases old.databases new.databases f (λ o x. Gets g.Y.Pages.Store o x a k (Ok text)))
+    let got = at_three (λ (f : List ℕ) (a : Ask) (k : List ℕ). Works g.Y-Databases-Databases old.databases new.databases f (λ o x. Gets g.Y.Storage.Store o x a k (Ok text)))
     _ _ _ _ _ _ is_file is_ask is_key c.in_ok-text.ensures in
-    by_result (GetsUnder old new g.Y.Output.Sink g.Y.Output.Outgoing g.Y.Pages.Store g.Y-Databases-Databases g.Y.Clock.DayClock order c.args.policy.now) _ _
+    by_result (GetsUnder old new g.Y.Output.Sink g.Y.Output.Outgoing g.Y.Storage.Store g.Y-Databases-Databases g.Y.Clock.DayClock order c.args.policy.now) _ _
     c.send.result (sent_as _ before after c.deref.result.now _ c.send.result c.deref.ensures.value c.send.ensures)
     (λ u sends. (clock, day, given, (text, got, (sends, refl))))
     (λ e part. inr (clock, day, given, inr (text, got, (part.0, part.1, refl))))

@@ -14,7 +14,7 @@ returns-in_err-policy g c =
     let refusal = c.in_err-policy.field-0.0 in
     let named : c.order-inside.inside.0.0.policy.now ≡ order.asked.policy = ap (λ i. i.asked.policy) c.order-inside.view_is ∙ ap (λ (o : GetValues). o.asked.policy) c.order.view_is in
     let P : List ℕ → Type 0 = λ p. OfRun (IsPolicyCause g.Y.Files.ReadFiles old.files (Some p)) refusal in
-    err_at (RunsGet old old g.Y.Output.Sink g.Y.Output.Outgoing g.Y.Pages.Store g.Y-Databases-Databases g.Y.Clock.DayClock g.Y.Files.ReadFiles order)
+    err_at (RunsGet old old g.Y.Output.Sink g.Y.Output.Outgoing g.Y.Storage.Store g.Y-Databases-Databases g.Y.Clock.DayClock g.Y.Files.ReadFiles order)
     c.from_residual.result refusal c.from_residual.ensures.1 (inl (subst P named c.in_err-policy.ensures.refused, refl))
 
 pub returns : goal.returns
@@ -26,5 +26,5 @@ returns g c =
     let named : c.order-inside.inside.0.0.policy.now ≡ order.asked.policy = ap (λ i. i.asked.policy) c.order-inside.view_is ∙ ap (λ (o : GetValues). o.asked.policy) c.order.view_is in
     let P : List ℕ → Type 0 = λ p. IsPolicyOf g.Y.Files.ReadFiles old.files (Some p) rules in
     by_policy old new g.Y.Files.ReadFiles (Some order.asked.policy)
-    (GetsUnder old new g.Y.Output.Sink g.Y.Output.Outgoing g.Y.Pages.Store g.Y-Databases-Databases g.Y.Clock.DayClock order)
+    (GetsUnder old new g.Y.Output.Sink g.Y.Output.Outgoing g.Y.Storage.Store g.Y-Databases-Databases g.Y.Clock.DayClock order)
     rules (subst P named c.in_ok-policy.ensures.ok) c.get_by.result c.get_by.ensures

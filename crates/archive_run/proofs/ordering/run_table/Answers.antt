@@ -12,7 +12,7 @@ returns-in-Ok g c =
     let after = sent g.Y.Output.Sink g.Y.Output.Outgoing c.send.new.output in
     let answer = c.in-Ok.answer in
     let worked = c.in-Ok.ensures.worked in
-    by_result (RunsTable old new g.Y.Output.Sink g.Y.Output.Outgoing g.Y.Pages.Store g.Y-Databases-Databases c.args.order.now) _ _ c.send.result
+    by_result (RunsTable old new g.Y.Output.Sink g.Y.Output.Outgoing g.Y.Storage.Store g.Y-Databases-Databases c.args.order.now) _ _ c.send.result
     (sent_as _ before after c.as_bytes.result.now _ c.send.result (c.as_bytes.ensures.value ∙ c.line.ensures) c.send.ensures)
     (λ u sends. (answer, worked, (sends, refl)))
     (λ e part. inr (answer, worked, (part.0, part.1, refl)))

@@ -9,8 +9,7 @@ use Rattle.archive_run.proofs.serving.serve_listening.Goals as goal
 pub returns-in-Ok-clause-served : goal.returns-in-Ok-clause-served
 returns-in-Ok-clause-served g c =
     let it = c.in-Ok.ensures.served in
-    let made = c.new.ensures in
-    let keeper = c.new-pages.result in
+    let keeper = c.in_ok-pages.pages in
     let old = c.args.store.now in
     let new = c.serve.new.store in
     let first = served c.args.listening.listener old in
@@ -23,10 +22,9 @@ returns-in-Ok-clause-served g c =
         it.1.0,
         it.1.1,
         record {
-          each = of_fresh keeper c.new.result.policy.now c.args.policy.now c.new.result.day c.args.day c.new.result.kept _
-              c.new-pages.ensures made.policy made.day made.kept archive
-              (λ rules day. ServesEach (AnswersIn g.S.Store More archive rules day) g.L.Listener.accepts g.L.Listener.closes it.1.0 first last)
-              (λ kept. each_if g.S.Store g.L.Listener.accepts g.L.Listener.closes (CanServe g.S.Store keeper old new) More archive keeper.rules keeper.day
+          each = of_fresh keeper c.args.policy.now c.args.day c.in_ok-pages.ensures.ok archive
+              (λ rules day routes. ServesEach (AnswersIn g.S.Store More archive rules day routes) g.L.Listener.accepts g.L.Listener.closes it.1.0 first last)
+              (λ kept. each_if g.S.Store g.L.Listener.accepts g.L.Listener.closes (CanServe g.S.Store keeper old new) More archive keeper.rules keeper.day keeper.routes
               (λ more. (more.0, more.1, kept)) it.1.0 first last it.1.2.each);
           told = it.1.2.told;
         },
@@ -36,8 +34,7 @@ returns-in-Ok-clause-served g c =
 pub returns-in-Err-Listen-clause-served : goal.returns-in-Err-Listen-clause-served
 returns-in-Err-Listen-clause-served g c =
     let it = c.serve.ensures.stopped (c.in-Err-Listen.is ∙ ap Err c.in-Err-Listen.field-0-is) in
-    let made = c.new.ensures in
-    let keeper = c.new-pages.result in
+    let keeper = c.in_ok-pages.pages in
     let old = c.args.store.now in
     let new = c.serve.new.store in
     let first = served c.args.listening.listener old in
@@ -50,10 +47,9 @@ returns-in-Err-Listen-clause-served g c =
         it.1.1,
         it.1.2,
         record {
-          each = of_fresh keeper c.new.result.policy.now c.args.policy.now c.new.result.day c.args.day c.new.result.kept _
-              c.new-pages.ensures made.policy made.day made.kept archive
-              (λ rules day. ServesEach (AnswersIn g.S.Store More archive rules day) g.L.Listener.accepts g.L.Listener.closes it.1.0 first it.1.1)
-              (λ kept. each_if g.S.Store g.L.Listener.accepts g.L.Listener.closes (CanServe g.S.Store keeper old new) More archive keeper.rules keeper.day
+          each = of_fresh keeper c.args.policy.now c.args.day c.in_ok-pages.ensures.ok archive
+              (λ rules day routes. ServesEach (AnswersIn g.S.Store More archive rules day routes) g.L.Listener.accepts g.L.Listener.closes it.1.0 first it.1.1)
+              (λ kept. each_if g.S.Store g.L.Listener.accepts g.L.Listener.closes (CanServe g.S.Store keeper old new) More archive keeper.rules keeper.day keeper.routes
               (λ more. (more.0, more.1, kept)) it.1.0 first it.1.1 it.1.3.each);
           told = it.1.3.told;
         },

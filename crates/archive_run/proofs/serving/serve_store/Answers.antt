@@ -23,12 +23,12 @@ returns-clause-served g c =
     let is_count : c.order.inside.count ≡ order.count = ap (λ (o : ServeValues). o.count) c.order.view_is in
     let P : ℕ → Type 0 = λ p. g.Y.Ports.Ports.listens old.ports ports p (Ok listening) in
     let Q : ℕ → Type 0 = λ n. MatchResult done.result
-    (λ _. AnswersAll g.Y.Pages.Store accepts closes c.args.policy.now c.args.day listening open_old open_new before after n)
-    (ServesNot g.Y.Pages.Store accepts closes c.args.policy.now c.args.day listening open_old open_new before after n) in
+    (λ _. AnswersAll g.Y.Storage.Store accepts closes c.args.policy.now c.args.day listening open_old open_new before after n)
+    (ServesNot g.Y.Storage.Store accepts closes c.args.policy.now c.args.day listening open_old open_new before after n) in
     let had = subst P is_port c.in_ok-listening.ensures in
     let R : Result ⊤ Refusal → Type 0 = λ r. MatchResult r
-    (λ _. PortServes g.Y.Pages.Store accepts closes g.Y.Ports.Ports.listens old.ports ports order.port order.count c.args.policy.now c.args.day open_old open_new before after)
-    (PortServesNot g.Y.Pages.Store accepts closes g.Y.Ports.Ports.listens old.ports ports order.port order.count c.args.policy.now c.args.day open_old open_new before after) in (
+    (λ _. PortServes g.Y.Storage.Store accepts closes g.Y.Ports.Ports.listens old.ports ports order.port order.count c.args.policy.now c.args.day open_old open_new before after)
+    (PortServesNot g.Y.Storage.Store accepts closes g.Y.Ports.Ports.listens old.ports ports order.port order.count c.args.policy.now c.args.day open_old open_new before after) in (
       by_result R _ _ done.result (subst Q is_count done.ensures.served)
           (λ u served. (listening, had, served))
           (λ e why. inr (listening, had, why)),

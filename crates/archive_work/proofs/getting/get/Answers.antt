@@ -7,52 +7,56 @@ use Rattle.archive_work.specs.declared.getting.GetStop.TheVariants.{Fault, NoMes
 use Rattle.archive_work.proofs.GetLemmas.{gets_text, gets_none, gets_fault, gets_no_key}
 use Rattle.archive_work.proofs.getting.get.Goals as goal
 
-pub returns-in-Ok-Served : goal.returns-in-Ok-Served
-returns-in-Ok-Served g c =
+pub returns-in-Ok-Served-clause-got : goal.returns-in-Ok-Served-clause-got
+returns-in-Ok-Served-clause-got g c =
     let is : is_key c.in-Some.key ≡ true = search rules in
     let old = c.args.store.now in
     let new = c.message.new.store in
     let arm = c.in-Ok-Served in
-    record {
-      got = subst (λ k. Gets g.S.Store old new c.args.ask.now k (Ok arm.text)) c.in-Some.ensures.some
-          (gets_text g.S.Store old new c.args.ask.now c.in-Some.key is arm.field-0 arm.text (ap told arm.field-0-is) arm.ensures.asked);
-    }
+    subst (λ k. Gets g.S.Store old new c.args.ask.now k (Ok arm.text)) c.in-Some.ensures.some
+    (gets_text g.S.Store old new c.args.ask.now c.in-Some.key is arm.field-0 arm.text (ap told arm.field-0-is) arm.ensures.asked)
 
-pub returns-in-Ok-Denied : goal.returns-in-Ok-Denied
-returns-in-Ok-Denied g c =
+pub returns-in-Ok-Denied-clause-got : goal.returns-in-Ok-Denied-clause-got
+returns-in-Ok-Denied-clause-got g c =
     let is : is_key c.in-Some.key ≡ true = search rules in
     let old = c.args.store.now in
     let new = c.message.new.store in
     let arm = c.in-Ok-Denied in
-    record {
-      got = subst (λ k. Gets g.S.Store old new c.args.ask.now k (Err (Denied arm.rule))) c.in-Some.ensures.some
-          (gets_none g.S.Store old new c.args.ask.now c.in-Some.key is arm.field-0 (Denied arm.rule) (denied arm.rule.now)
-          (ap (λ x. given_of (told x)) arm.field-0-is) refl arm.ensures.asked);
-    }
+    subst (λ k. Gets g.S.Store old new c.args.ask.now k (Err (Denied arm.rule))) c.in-Some.ensures.some
+    (gets_none g.S.Store old new c.args.ask.now c.in-Some.key is arm.field-0 (Denied arm.rule) (denied arm.rule.now)
+    (ap (λ x. given_of (told x)) arm.field-0-is) refl arm.ensures.asked)
 
-pub returns-in-Ok-Absent : goal.returns-in-Ok-Absent
-returns-in-Ok-Absent g c =
+pub returns-in-Ok-Absent-clause-got : goal.returns-in-Ok-Absent-clause-got
+returns-in-Ok-Absent-clause-got g c =
     let is : is_key c.in-Some.key ≡ true = search rules in
     let old = c.args.store.now in
     let new = c.message.new.store in
     let arm = c.in-Ok-Absent in
-    record {
-      got = subst (λ k. Gets g.S.Store old new c.args.ask.now k (Err NoMessage)) c.in-Some.ensures.some
-          (gets_none g.S.Store old new c.args.ask.now c.in-Some.key is arm.field-0 NoMessage no_message (ap (λ x. given_of (told x)) arm.field-0-is) refl arm.ensures.asked);
-    }
+    subst (λ k. Gets g.S.Store old new c.args.ask.now k (Err NoMessage)) c.in-Some.ensures.some
+    (gets_none g.S.Store old new c.args.ask.now c.in-Some.key is arm.field-0 NoMessage no_message (ap (λ x. given_of (told x)) arm.field-0-is) refl arm.ensures.asked)
 
-pub returns-in-Err : goal.returns-in-Err
-returns-in-Err g c =
+pub returns-in-Err-clause-got : goal.returns-in-Err-clause-got
+returns-in-Err-clause-got g c =
     let is : is_key c.in-Some.key ≡ true = search rules in
     let old = c.args.store.now in
     let new = c.message.new.store in
-    record {
-      got = subst (λ k. Gets g.S.Store old new c.args.ask.now k (Err (Fault c.in-Err.fault))) c.in-Some.ensures.some
-          (gets_fault g.S.Store old new c.args.ask.now c.in-Some.key is c.in-Err.fault c.in-Err.ensures.asked);
-    }
+    subst (λ k. Gets g.S.Store old new c.args.ask.now k (Err (Fault c.in-Err.fault))) c.in-Some.ensures.some
+    (gets_fault g.S.Store old new c.args.ask.now c.in-Some.key is c.in-Err.fault c.in-Err.ensures.asked)
 
-pub returns-in_default : goal.returns-in_default
-returns-in_default g c =
+pub returns-in_default-clause-got : goal.returns-in_default-clause-got
+returns-in_default-clause-got g c =
     let is : is_key c.args.key.now ≡ false = search rules in
     let store = c.args.store.now in
-    record { got = gets_no_key g.S.Store store store c.args.ask.now c.args.key.now store is }
+    gets_no_key g.S.Store store store c.args.ask.now c.args.key.now store is
+
+pub returns-in-Ok-Served-clause-counted : goal.returns-in-Ok-Served-clause-counted
+returns-in-Ok-Served-clause-counted g c = (c.in-Ok-Served.ensures.ends.counted.0, tt)
+
+pub returns-in-Ok-Denied-clause-counted : goal.returns-in-Ok-Denied-clause-counted
+returns-in-Ok-Denied-clause-counted g c = (c.in-Ok-Denied.ensures.ends.counted.0, (λ bad. absurd bad))
+
+pub returns-in-Ok-Absent-clause-counted : goal.returns-in-Ok-Absent-clause-counted
+returns-in-Ok-Absent-clause-counted g c = (c.in-Ok-Absent.ensures.ends.counted.0, (λ bad. absurd bad))
+
+pub returns-in-Err-clause-counted : goal.returns-in-Err-clause-counted
+returns-in-Err-clause-counted g c = c.in-Err.ensures.ends.counted
