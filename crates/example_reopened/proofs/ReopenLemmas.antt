@@ -1,51 +1,85 @@
 -- Calls over files, one after the other, from what each of them says.
-use Rattle.std.proofs.Common.{◌≡◌, refl, sym, ◌∙◌, subst, Option, Some, None, Result, Ok, Err}
+use Rattle.std.proofs.Common.{◌≡◌, ℕ, refl, sym, ap, ◌∙◌, subst, arith, Option, Some, None, Result, Ok, Err}
 use Rattle.std.specs.Prelude.{MatchOption}
 use Rattle.sqlite_disk.specs.declared.Disk.{Ghosts as DiskGhosts}
 use Rattle.sqlite_disk.specs.declared.Files.{Files}
 use Rattle.sqlite_wal.specs.Reads.{AreClean}
+use Rattle.sqlite_trees.specs.Tree.{Trees}
+use Rattle.sqlite_trees.specs.Objects.{catalog_tree}
+use Rattle.sqlite_catalog.specs.Listing.{Lists}
+use Rattle.sqlite_catalog.proofs.ReadLemmas.{lists_once}
 use Rattle.sqlite_store.specs.declared.store.FileStore.{FileStore}
+use Rattle.sqlite.specs.Effect.{Database}
 use Rattle.sqlite.specs.Store.{Ghosts}
 use Rattle.sqlite.specs.Held.{Held}
 use Rattle.sqlite.specs.State.{HasCleanDisk, IsLive}
 use Rattle.sqlite.specs.Files.{over_files, file_state, Finds, IsOpened}
 use Rattle.sqlite.specs.Closing.{IsCopied}
+use Rattle.sqlite.proofs.Callers.{finds_again}
 use Rattle.archive_machine.specs.Records.{Archive}
-use Rattle.archive_tables.specs.Tables.{IsKept, archive_of}
+use Rattle.archive_tables.specs.Tables.{IsKnown, IsHeldAs, IsKept, AreTablesOf, form_of, newest_number, archive_by, archive_of}
 use Rattle.archive_store.specs.Held.{held_of}
-use Rattle.archive_store.specs.Told.{HoldsArchive, HasReturned, IsReady, archive_in, Goes, GoesIfOpen, Asks}
+use Rattle.archive_store.specs.Told.{HoldsArchive, HoldsTables, HasReturned, IsReady, archive_in, Goes, GoesIfOpen, Asks}
 use Rattle.archive_store.specs.declared.store.Store.{Store}
 use Rattle.archive_store.proofs.Joins.{ready_with}
 use Rattle.archive_desk.proofs.CallLemmas.{calls_after}
-use Rattle.example_reopened.specs.Reopening.{TakesOver, LeadsTo, LeadsToIfOpen, WasReopened, Continues, ContinuesIfOpen, RemembersTheSame, AsksAgain}
+use Rattle.example_reopened.specs.Reopening.{HoldRows, TakesOver, LeadsTo, LeadsToIfOpen, WasReopened, Continues, ContinuesIfOpen, RemembersTheSame, AsksAgain}
 
 -- the law of `archive_store`: a file that is closed and opened again holds the same archive
 abbrev AreAlike : {D : Type 0} → DiskGhosts D → Type 0
 AreAlike {D} g = (closed opened : Held (FileStore D g)) (files : Files D) (archive : Archive) → HoldsArchive over_files closed archive → IsLive (file_state closed)
     → (AreClean g files.log files.db → IsCopied closed files) → Finds files opened → IsOpened opened → HoldsArchive over_files opened archive
 
+newest_known : IsKnown newest_number
+newest_known = record { least = omega (arith); most = omega (arith) }
+
 module _ {D : Type 0} {g : DiskGhosts D} where
+  -- ---- closed, and opened again
+
+  -- whatever the version, the tables are those that were there
+  tables_again : (number : ℕ) (closed opened : Held (FileStore D g)) (files : Files D) → IsHeldAs (form_of number) None (file_state closed) → IsLive (file_state closed)
+      → (AreClean g files.log files.db → IsCopied closed files) → Finds files opened → IsOpened opened
+      → IsHeldAs (form_of number) None (file_state opened) × ((file_state opened).now.trees ≡ (file_state closed).now.trees)
+  tables_again number closed opened files held live copied found opens =
+      let trees : (file_state opened).now.trees ≡ (file_state closed).now.trees =
+      ap (λ (db : Database). db.trees) opens.0.clean ∙ finds_again closed opened files copied found ∙ ap (λ (db : Database). db.trees) held.settled in
+      let before = (live held.is_open).0.lists in
+      let after = (opens.1 opens.0.is_open).0.lists in
+      let schema = lists_once _ _ _ (subst (λ (db : Trees). Lists (db catalog_tree) (file_state opened).now.schema) trees after) before in (
+        record {
+          is_open = opens.0.is_open;
+          autocommit = opens.0.autocommit;
+          settled = sym opens.0.clean;
+          schema = schema ∙ held.schema;
+          tables = subst (AreTablesOf number) (sym trees) held.tables;
+          whole = tt;
+        },
+        trees,
+      )
+
   -- ---- opened and taken over
 
   pub takes_over : (files : Files D) (store : Store (FileStore D g)) (opened : Held (FileStore D g)) → (HasCleanDisk (file_state opened) → Finds files opened)
       → (HasCleanDisk (file_state opened) → IsOpened opened) → (HasReturned over_files store → HasCleanDisk (file_state opened))
-      → (HasReturned over_files store → IsKept (file_state opened)
-      → IsKept (file_state (held_of store)) × (archive_of (file_state (held_of store)) ≡ archive_of (file_state opened)))
+      → (HasReturned over_files store → (number : ℕ) → IsKnown number → IsHeldAs (form_of number) None (file_state opened)
+      → IsKept (file_state (held_of store)) × (archive_of (file_state (held_of store)) ≡ archive_by number (file_state opened).now.trees))
       → TakesOver files store
-  takes_over files store opened found opens clean kept returned = (
-    opened,
-    found (clean returned),
-    opens (clean returned),
-    λ archive holds. let it = kept returned holds.0 in (it.0, it.1 ∙ holds.1),
-  )
+  takes_over files store opened found opens clean brought returned = (opened, found (clean returned), opens (clean returned), brought returned)
+
+  -- so it remembers what the rows of the files stood for
+  pub rows_to : (files : Files D) (store : Store (FileStore D g)) → TakesOver files store → HasReturned over_files store
+      → (archive : Archive) → HoldRows g files archive → HoldsTables over_files store × (archive_in over_files store ≡ archive)
+  rows_to files store takes returned archive held =
+      let (opened, found, opens, brought) = takes returned in
+      let again = tables_again held.number held.closed opened files held.tables held.live held.copied found opens in
+      let it = brought held.number held.known again.0 in
+      (it.0, it.1 ∙ ap (archive_by held.number) again.1 ∙ held.stand_for)
 
   -- so it remembers what the files held
-  pub leads_to : AreAlike g → (files : Files D) (store : Store (FileStore D g)) → TakesOver files store → LeadsTo files store (λ a b. b ≡ a)
-  leads_to law files store takes returned archive (closed, holds, live, copied) =
-      let (opened, found, opens, adopted) = takes returned in
-      let it = law closed opened files archive holds live copied found opens in
-      let is = adopted archive it in
-      (ready_with over_files store archive is.0 is.1 it.2, is.1)
+  pub leads_to : (files : Files D) (store : Store (FileStore D g)) → TakesOver files store → LeadsTo files store (λ a b. b ≡ a)
+  leads_to files store takes returned archive held =
+      let it = rows_to files store takes returned archive held.rows in
+      (ready_with over_files store archive it.0 it.1 held.filed_right, it.1)
 
   module _ (files : Files D) (mid new : Store (FileStore D g)) where
     -- after a call
@@ -81,7 +115,7 @@ module _ {D : Type 0} {g : DiskGhosts D} (store again : Store (FileStore D g)) w
   pub was_reopened : (files : Files D) → IsLive (file_state (held_of store)) → (AreClean g files.log files.db → IsCopied (held_of store) files)
       → TakesOver files again → WasReopened store again
   was_reopened files live copied takes returned =
-      let (opened, found, opens, adopted) = takes returned in (
+      let (opened, found, opens, brought) = takes returned in (
         opened,
         files,
         record {
@@ -89,7 +123,7 @@ module _ {D : Type 0} {g : DiskGhosts D} (store again : Store (FileStore D g)) w
           copied = copied;
           found = found;
           opens = opens;
-          adopted = λ archive holds now. adopted archive holds;
+          adopted = λ archive holds now. let it = brought newest_number newest_known holds.0 in (it.0, it.1 ∙ holds.1);
         },
       )
 

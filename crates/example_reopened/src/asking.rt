@@ -60,7 +60,8 @@ pub fn reopen_and_ask<D: Disk + Drop, T: Threader>(
     asked: Month,
     threader: &T,
 ) -> Result<(Store<FileStore<D>>, Result<Shown, DeskFault>), StoreFault>
-    ensures answered { IfOk result (λ told. AsksAgain store told.0 reason told.1 (λ a. ask_reason a ask.now)
+    ensures answered { IfOk result (λ told. AsksAgain store told.0 reason told.1
+        (λ a. ask_reason a ask.now)
         (λ a shown. ShowsBoth a ask.now asked shown.month.items shown.threads.items)) }
     ensures why { IfOk result (λ told. IfErr told.1 (λ fault. IsAskFault fault)) }
     ensures fault { IfErr result (λ fault. refusal fault ≡ None) }

@@ -9,7 +9,6 @@ ghost use Rattle.example_reopened.specs.Reopening.{LeadsTo, LeadsToIfOpen};
 use crate::reopening::{open, reopen};
 use archive_desk::{ImportStop, Report, import};
 use archive_pages::{ServeFault, answer};
-use archive_store::laws::a_file_opened_again_holds_the_same_archive;
 use archive_store::{Store, StoreFault};
 use civil_time::Day;
 use http::StatusCode;
@@ -29,7 +28,7 @@ pub enum AgainStop<S: Alter> {
     Import(Store<S>, ImportStop),
 }
 
-/// Opens an archive's files, adds the messages of an mbox to a list as `import` does, closes the files and opens them again: the
+/// Opens an archive's files, of whatever version, adds the messages of an mbox to a list as `import` does, closes the files and opens them again: the
 /// store that this gives remembers the archive that the import made out of what the files held.
 pub fn import_and_reopen<D: Disk + Drop>(
     alloc: Global,
@@ -40,10 +39,10 @@ pub fn import_and_reopen<D: Disk + Drop>(
 ) -> Result<(Store<FileStore<D>>, Report), AgainStop<FileStore<D>>>
     requires log { IsTrue (D.Disk.is_usable files.log) }
     requires db { IsTrue (D.Disk.is_usable files.db) }
-    ensures imported { IfOk result (λ done. LeadsTo files done.0 (λ a b. IsImported list.now mbox.now a b done.1)) }
+    ensures imported { IfOk result (λ done. LeadsTo files done.0
+        (λ a b. IsImported list.now mbox.now a b done.1)) }
     ensures stopped { IfErr result (λ stop. IsStopped files list.now mbox.now stop) }
 {
-    a_file_opened_again_holds_the_same_archive::<D>();
     let mut store = match open(alloc, files, options) {
         Ok(store) => store,
         Err(fault) => return Err(AgainStop::Store(fault)),
@@ -78,7 +77,8 @@ pub fn import_reopen_and_answer<D: Disk + Drop, T: Threader, R: Source, W: Sink>
         (λ archive. AnswersFrom archive policy.now day
         (R.told input.old) (R.told input.new) (R.ends input.old) (R.ends input.new)
         (W.told output.old) (W.told output.new) told.2)) }
-    ensures stays { IfOk result (λ told. LeadsToIfOpen files told.0 (λ a b. IsImported list.now mbox.now a b told.1)) }
+    ensures stays { IfOk result (λ told. LeadsToIfOpen files told.0
+        (λ a b. IsImported list.now mbox.now a b told.1)) }
     ensures quiet { IfOk result (λ told. OnOk told.2
         ((R.failures input.new ≡ R.failures input.old)
         × (W.failures output.new ≡ W.failures output.old))) }

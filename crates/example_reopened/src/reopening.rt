@@ -18,8 +18,10 @@ use std::alloc::Global;
 /// Closes a store, and hands its files back.
 fn close<D: Disk + Drop>(store: Store<FileStore<D>>) -> Result<Files<D>, StoreFault>
     ensures live { IsLive (file_state (held_of store)) }
-    ensures usable { IfOk result (λ files. IsTrue (D.Disk.is_usable files.log) × IsTrue (D.Disk.is_usable files.db)) }
-    ensures copied { IfOk result (λ files. AreClean D.Disk files.log files.db → IsCopied (held_of store) files) }
+    ensures usable { IfOk result (λ files. IsTrue (D.Disk.is_usable files.log)
+        × IsTrue (D.Disk.is_usable files.db)) }
+    ensures copied { IfOk result (λ files. AreClean D.Disk files.log files.db
+        → IsCopied (held_of store) files) }
     ensures fault { IfErr result (λ fault. refusal fault ≡ None) }
 {
     let connection = store.into_connection();

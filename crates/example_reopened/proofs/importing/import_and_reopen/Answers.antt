@@ -7,12 +7,12 @@ use Rattle.example_reopened.proofs.importing.import_and_reopen.Goals as goal
 pub returns-in-Err-import-clause-stopped : goal.returns-in-Err-import-clause-stopped
 returns-in-Err-import-clause-stopped g c =
     stopped c.args.files c.in-Ok.store c.import.new.store c.args.list.now c.args.mbox.now c.in-Err-import.stop
-    (leads_to c.a_file_opened_again_holds_the_same_archive.ensures c.args.files c.in-Ok.store c.in-Ok.ensures.opened) c.in-Err-import.ensures.imports
+    (leads_to c.args.files c.in-Ok.store c.in-Ok.ensures.opened) c.in-Err-import.ensures.imports
 
 pub returns-in-Ok-reopen-clause-imported : goal.returns-in-Ok-reopen-clause-imported
 returns-in-Ok-reopen-clause-imported g c =
     let R : Archive → Archive → Type 0 = λ a b. IsImported c.args.list.now c.args.mbox.now a b c.in-Ok-import.report in
     leads_again c.args.files c.import.new.store c.in-Ok-reopen.again R
     (leads_on c.args.files c.in-Ok.store c.import.new.store R
-    (leads_to c.a_file_opened_again_holds_the_same_archive.ensures c.args.files c.in-Ok.store c.in-Ok.ensures.opened) c.in-Ok-import.ensures.imports)
+    (leads_to c.args.files c.in-Ok.store c.in-Ok.ensures.opened) c.in-Ok-import.ensures.imports)
     c.in-Ok-reopen.ensures.same

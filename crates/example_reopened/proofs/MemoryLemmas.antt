@@ -1,0 +1,72 @@
+-- Two requests behind a withdrawal, over a store in memory.
+use Rattle.std.proofs.Common.{◌≡◌, ◌<◌, ◌⊎◌, inl, inr, ℕ, List, ◌∙◌, refl, sym, ap, subst, arith, Result}
+use Rattle.std.specs.List.{All}
+use Rattle.sqlite.specs.Steps.{over_memory}
+use Rattle.sqlite.proofs.Callers.{memory_is_clean}
+use Rattle.sqlite_trees.specs.declared.memory.MemStore.{MemStore}
+use Rattle.byte_device.specs.declared.devices.Sink.{Ghosts as Takes}
+use Rattle.byte_device.specs.declared.devices.Source.{Ghosts as Gives}
+use Rattle.mbox_core.specs.Division.{Item, Divides}
+use Rattle.mbox_core.specs.Written.{IsItem}
+use Rattle.archive_machine.specs.Records.{Archive}
+use Rattle.archive_machine.specs.Commands.{Command as Told}
+use Rattle.archive_machine.specs.Machine.{Outcome, step}
+use Rattle.archive_machine.specs.Runs.{taken}
+use Rattle.archive_store.specs.Held.{held_of, wants_of}
+use Rattle.archive_store.specs.Told.{Goes, HasNoLimit, IsReady, WasRefused, archive_in}
+use Rattle.archive_store.specs.declared.store.Store.{Store}
+use Rattle.archive_desk.specs.Readable.{CanBeRead, IsSaid}
+use Rattle.archive_desk.specs.declared.importing.Report.{Report}
+use Rattle.archive_pages.specs.Causes.{IsUnread, IsUnserved, ServesOr}
+use Rattle.archive_pages.specs.Serving.{Stays}
+use Rattle.archive_pages.specs.declared.faults.ServeFault.{ServeFault}
+use Rattle.archive_pages.specs.declared.pages.Peer.{Peer}
+use Rattle.example_reopened.specs.Withdrawing.{EndsBehind, IsWithdrawn, withdrawal_of}
+use Rattle.example_reopened.specs.declared.withdrawing.Answered.{Answered}
+use Rattle.example_reopened.specs.declared.withdrawing.Withdrawal.{Withdrawal}
+
+-- ---- what was withdrawn can be read
+
+-- what the laws say: an import and a command leave an archive that can be read, and what a file divides into can be written
+abbrev pub TakesIn : Type 0
+TakesIn = (a : Archive) (list : List ℕ) (items : List Item) → All IsItem items → CanBeRead a → CanBeRead (taken a list items).archive
+
+abbrev pub StepsOn : Type 0
+StepsOn = (a : Archive) (command : Told) → IsSaid command → CanBeRead a → CanBeRead (step a command).0
+
+abbrev pub AreItems : Type 0
+AreItems = (bytes : List ℕ) (items : List Item) → Divides bytes items → All IsItem items
+
+pub can_be_read : TakesIn → StepsOn → AreItems → (it : Withdrawal) (a b : Archive) (report : Report) → IsWithdrawn it a b report → CanBeRead a → CanBeRead b
+can_be_read takes steps items it a b report made can =
+    let here = subst CanBeRead (sym made.is_imported.added.archive_is)
+    (takes a it.list.now made.is_imported.items (items it.mbox.now made.is_imported.items made.is_imported.divided) can) in
+    subst CanBeRead (sym (ap (λ (o : Outcome). o.0) made.withdrawn)) (steps made.imported (withdrawal_of it) (it.by, refl) here)
+
+-- ---- 503
+
+abbrev pub IsRefused : Type 0
+IsRefused = (old new : Store MemStore) (result : Result ℕ ServeFault) → IsReady over_memory old → HasNoLimit over_memory old
+    → CanBeRead (archive_in over_memory old) → ServesOr over_memory old new result IsUnread → IsUnserved result → WasRefused old new
+
+abbrev pub IsFollowed : Type 0
+IsFollowed = (old new : Store MemStore) (result : Result ℕ ServeFault) → Stays over_memory old new result → Goes over_memory old new (λ a b. b ≡ a)
+
+module _ (refused : IsRefused) (followed : IsFollowed) (takes : TakesIn) (steps : StepsOn) (items : AreItems) where
+  module _ {R W : Type 0} (gives : Gives R) (sinks : Takes W) (old new : Store MemStore) (it : Withdrawal) (first first' second second' : Peer R W)
+      (report : Report) (answered : Answered) where
+    pub wanting : IsReady over_memory old → HasNoLimit over_memory old → CanBeRead (archive_in over_memory old)
+        → EndsBehind gives sinks over_memory old new it first first' second second' report answered
+        → IsUnserved answered.first ⊎ IsUnserved answered.second → 0 < wants_of new
+    wanting ready free can behind bad =
+        let made = behind.withdrawn.1 (memory_is_clean (held_of behind.found)) ready in
+        let readable = can_be_read takes steps items it (archive_in over_memory old) (archive_in over_memory behind.found) report made.1 can in
+        let unlimited : HasNoLimit over_memory behind.found = behind.withdrawn.0.limit ∙ free in
+        let on = followed behind.found behind.ends.between answered.first behind.ends.first_ends.stays in
+        let later = on.1 (memory_is_clean (held_of behind.ends.between)) made.0 in
+        let grown = behind.ends.second_caused.0 in
+        elim bad [
+          | inl one ↦ let more = refused behind.found behind.ends.between answered.first made.0 unlimited readable behind.ends.first_caused one in omega (arith, more, grown)
+          | inr other ↦ let more = refused behind.ends.between new answered.second later.0 (on.0.limit ∙ unlimited) (subst CanBeRead (sym later.1) readable)
+              behind.ends.second_caused other in omega (arith, more)
+        ]

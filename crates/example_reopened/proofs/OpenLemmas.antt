@@ -1,0 +1,39 @@
+-- A request to files that were just opened.
+use Rattle.std.proofs.Common.{◌<◌, ◌⊎◌, inl, inr, ℕ, Result, subst, arith}
+use Rattle.sqlite_disk.specs.declared.Disk.{Ghosts as DiskGhosts}
+use Rattle.sqlite_disk.specs.declared.Files.{Files}
+use Rattle.sqlite_store.specs.declared.store.FileStore.{FileStore}
+use Rattle.sqlite.specs.Files.{over_files}
+use Rattle.archive_machine.specs.Records.{Archive}
+use Rattle.archive_machine.specs.Runs.{run}
+use Rattle.archive_tables.specs.Making.{empty_archive}
+use Rattle.archive_store.specs.Told.{HasNoLimit, HasReturned, IsReady, Lasts, archive_in, faults_of}
+use Rattle.archive_store.specs.declared.store.Store.{Store}
+use Rattle.archive_store.proofs.RightLemmas.{run_right, empty_right}
+use Rattle.archive_pages.specs.Causes.{IsUnread, IsUnserved, ServesOr}
+use Rattle.archive_pages.specs.declared.faults.ServeFault.{ServeFault}
+use Rattle.example_reopened.specs.Reopening.{TakesOver}
+use Rattle.example_reopened.specs.Opening.{HasCause, OfHeld, OfRun}
+use Rattle.example_reopened.proofs.ReopenLemmas.{leads_to}
+
+module _ {D : Type 0} {g : DiskGhosts D} (files : Files D) where
+  -- what is so of what files held is so of what commands made
+  pub of_run : (store : Store (FileStore D g)) (Says : Archive → Type 0) → OfHeld files store Says → OfRun files store Says
+  of_run store Says says returned commands rows =
+      says returned (run empty_archive commands).archive (record { rows = rows; filed_right = run_right empty_archive commands empty_right })
+
+  module _ (mid new : Store (FileStore D g)) (takes : TakesOver files mid) (lasts : Lasts over_files mid new) where
+    -- what a call says of the archive that the store remembers
+    pub of_held : (Says : Archive → Type 0) → (HasReturned over_files new → IsReady over_files mid → Says (archive_in over_files mid)) → OfHeld files new Says
+    of_held Says says returned archive held =
+        let it = leads_to files mid takes (lasts.returned returned) archive held in
+        subst Says it.1 (says returned it.0)
+
+    -- why 503 went out
+    pub caused_since : (result : Result ℕ ServeFault) → HasNoLimit over_files mid → ServesOr over_files mid new result IsUnread
+        → IsUnserved result → HasCause files new
+    caused_since result free serves bad = elim (serves.1 bad) [
+      | inl more ↦ inl (omega (arith, more))
+      | inr why ↦ inr (of_held (λ archive. (0 < faults_of over_files new) ⊎ IsUnread archive)
+          (λ returned ready. elim (why returned ready free) [ inl more ↦ inl (omega (arith, more)) | inr unread ↦ inr unread ]))
+    ]

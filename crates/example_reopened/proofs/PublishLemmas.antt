@@ -1,0 +1,87 @@
+-- A withdrawal in files that were just opened.
+use Rattle.std.proofs.Common.{◌≡◌, ◌∙◌, ◌⊎◌, inl, inr, ℕ, Option, Some, None, refl, sym, subst, arith}
+use Rattle.std.specs.Prelude.{MatchOption}
+use Rattle.sqlite_disk.specs.declared.Disk.{Ghosts as DiskGhosts}
+use Rattle.sqlite_disk.specs.declared.Files.{Files}
+use Rattle.sqlite_store.specs.declared.store.FileStore.{FileStore}
+use Rattle.byte_device.specs.declared.devices.Sink.{Ghosts as Takes}
+use Rattle.byte_device.specs.declared.devices.Source.{Ghosts as Gives}
+use Rattle.sqlite.specs.Files.{over_files}
+use Rattle.archive_machine.specs.Records.{Archive}
+use Rattle.archive_machine.specs.Commands.{Refusal, refused}
+use Rattle.archive_machine.specs.Machine.{step}
+use Rattle.archive_store.specs.Replies.{refusal}
+use Rattle.archive_store.specs.Told.{Goes, GoesIfOpen, HasNoLimit, archive_in}
+use Rattle.archive_store.specs.declared.store.Store.{Store}
+use Rattle.archive_desk.specs.Importing.{Cause, IsImported, IsRefusedImport, IsBrokenImport, stop_reason}
+use Rattle.archive_desk.specs.Readable.{CanBeRead}
+use Rattle.archive_desk.specs.declared.importing.Report.{Report}
+use Rattle.archive_pages.specs.Causes.{IsUnread, IsUnserved}
+use Rattle.archive_pages.specs.declared.pages.Peer.{Peer}
+use Rattle.example_reopened.specs.Opening.{HasCause}
+use Rattle.example_reopened.specs.Reopening.{LeadsTo, LeadsToIfOpen}
+use Rattle.example_reopened.specs.Publishing.{IsLeftWith}
+use Rattle.example_reopened.specs.Withdrawing.{EndsBoth, IsStopped, IsWithdrawn, withdrawal_of}
+use Rattle.example_reopened.specs.declared.withdrawing.Answered.{Answered}
+use Rattle.example_reopened.specs.declared.withdrawing.Withdrawal.{Withdrawal}
+use Rattle.example_reopened.specs.declared.withdrawing.WithdrawStop.{WithdrawStop}
+use Rattle.example_reopened.specs.declared.withdrawing.WithdrawStop.TheVariants.{Import as NotImported, Withdraw as NotWithdrawn}
+use Rattle.example_reopened.proofs.MemoryLemmas.{AreItems, StepsOn, TakesIn, can_be_read}
+use Rattle.example_reopened.proofs.ReopenLemmas.{leads_on, leads_on_if_open}
+
+module _ {D : Type 0} {g : DiskGhosts D} (files : Files D) (mid new : Store (FileStore D g)) (before : LeadsTo files mid (λ a b. b ≡ a)) where
+  -- what a call left, that had a reason to stop or none
+  by_reason : {R : Type 0} (Stops : Archive → Archive → Type 0) (Refuses : R → Archive → Archive → Type 0) (r : Option R)
+      → MatchOption r (GoesIfOpen over_files mid new Stops) (λ why. Goes over_files mid new (Refuses why))
+      → MatchOption r (LeadsToIfOpen files new Stops) (λ why. LeadsTo files new (Refuses why))
+  by_reason Stops Refuses None goes = leads_on_if_open files mid new Stops before goes
+  by_reason Stops Refuses (Some why) goes = leads_on files mid new (Refuses why) before goes
+
+  pub left_with : (it : Withdrawal) (stop : WithdrawStop) → IsStopped over_files mid new it stop → IsLeftWith files it new stop
+  left_with it (NotImported stop) goes =
+      by_reason (λ a b. IsBrokenImport it.list.now it.mbox.now a b stop.done stop.fault)
+      (λ (why : ℕ × Cause). λ a b. IsRefusedImport it.list.now it.mbox.now a b why.0 why.1) (stop_reason stop) goes
+  left_with it (NotWithdrawn report fault) goes =
+      by_reason (λ a b. IsImported it.list.now it.mbox.now a b report)
+      (λ (why : Refusal). λ a c. (b : Archive) × IsImported it.list.now it.mbox.now a b report × ((c, refused why) ≡ step b (withdrawal_of it))) (refusal fault) goes
+
+-- ---- 503, behind a withdrawal in files that were opened again
+
+module _ (takes : TakesIn) (steps : StepsOn) (items : AreItems) {D R W : Type 0} {g : DiskGhosts D} (gives : Gives R) (sinks : Takes W) (files : Files D)
+    (found new : Store (FileStore D g)) (it : Withdrawal) (first first' second second' : Peer R W) (report : Report) (answered : Answered)
+    (leads : LeadsTo files found (λ a b. IsWithdrawn it a b report)) (free : HasNoLimit over_files found)
+    (ends : EndsBoth gives sinks over_files found new first first' second second' answered) where
+  unread : (before archive : Archive) → archive ≡ archive_in over_files found → IsWithdrawn it before (archive_in over_files found) report
+      → IsUnread archive → IsUnread before
+  unread before archive same made bad can =
+      bad (subst CanBeRead (sym same) (can_be_read takes steps items it before (archive_in over_files found) report made can))
+
+  pub caused_behind : IsUnserved answered.first ⊎ IsUnserved answered.second → HasCause files new
+  caused_behind (inl one) = elim (ends.first_caused.1 one) [
+    | inl more ↦ let grown = ends.second_caused.0 in inl (omega (arith, more, grown))
+    | inr why ↦ inr (λ returned before held.
+        let later = ends.second_ends.stays.same.0 in
+        let was = later.returned returned in
+        let here = leads (ends.first_ends.stays.same.0.returned was) before held in
+        let faults = later.shut.faults in
+        elim (why was here.0 free) [
+          | inl more ↦ inl (omega (arith, more, faults))
+          | inr bad ↦ inr (unread before (archive_in over_files found) refl here.1 bad)
+        ])
+  ]
+  caused_behind (inr other) = elim (ends.second_caused.1 other) [
+    | inl more ↦ inl (omega (arith, more))
+    | inr why ↦ inr (λ returned before held.
+        let later = ends.second_ends.stays.same.0 in
+        let was = later.returned returned in
+        let here = leads (ends.first_ends.stays.same.0.returned was) before held in
+        let faults = later.shut.faults in
+        elim (ends.first_ends.stays.same.0.shut.stays_open was here.0.held.is_open) [
+          | inl up ↦ let there = ends.first_ends.stays.same.1 was here.0 up in
+              elim (why returned there.0 (ends.first_ends.stays.same.0.limit ∙ free)) [
+                | inl more ↦ inl (omega (arith, more))
+                | inr bad ↦ inr (unread before (archive_in over_files ends.between) there.1 here.1 bad)
+              ]
+          | inr more ↦ inl (omega (arith, more, faults))
+        ])
+  ]

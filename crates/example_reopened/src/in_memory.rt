@@ -1,0 +1,81 @@
+//! Commands, an import, a withdrawal and two requests, over a store in memory: nothing is asked of a disk.
+ghost use Rattle.std.specs.Prelude.{◌≡◌, ◌⊎◌, ◌<◌, map, IfOk, IfErr};
+ghost use Rattle.archive_machine.specs.Runs.{run};
+ghost use Rattle.archive_pages.specs.Causes.{IsUnserved};
+ghost use Rattle.archive_store.specs.Held.{wants_of};
+ghost use Rattle.archive_store.specs.Running.{command_of};
+ghost use Rattle.archive_tables.specs.Making.{empty_archive};
+ghost use Rattle.example_reopened.specs.Memory.{HoldsRun};
+ghost use Rattle.example_reopened.specs.Withdrawing.{AnswersBehind};
+
+use crate::withdrawing::{Answered, WithdrawStop, Withdrawal, import_withdraw_and_answer};
+use archive_desk::Report;
+use archive_desk::laws::{the_commands_of_a_run_are_said, what_commands_write_can_be_read};
+use archive_pages::Peer;
+use archive_pages::laws::{
+    in_memory_503_means_that_memory_was_refused, in_memory_each_request_is_followed_by_the_next,
+};
+use archive_store::{Command, Store, StoreFault};
+use civil_time::Day;
+use mbox_core::device::{Sink, Source};
+use mbox_core::laws::divided_are_items;
+use policy_core::Policy;
+use sqlite::MemStore;
+use std::alloc::Global;
+use thread_core::Threader;
+
+/// Why nobody was answered.
+#[derive(Drop)]
+pub enum MemoryStop {
+    /// E14 or E15: there is no store, or the commands were not carried out.
+    Store(StoreFault),
+    /// Nothing was withdrawn.
+    Withdraw(WithdrawStop),
+}
+
+/// A store in memory in which these commands were carried out.
+fn run_in_memory(alloc: Global, commands: &[Command<'_>]) -> Result<Store<MemStore>, StoreFault>
+    ensures { IfOk result (λ store. HoldsRun commands.now store) }
+{
+    let mut store = Store::open_in_memory(alloc)?;
+    match store.run(alloc, commands) {
+        Ok(_outcomes) => Ok(store),
+        Err(stop) => Err(stop.fault),
+    }
+}
+
+/// Carries commands out in an empty archive in memory, then imports, withdraws and answers as `import_withdraw_and_answer` does. Each
+/// peer is sent the reply of the archive that all of these commands made, by the policy and on the day; or 503, and then memory was
+/// refused, by the store's count. Where it stopped before, nothing was read and nothing was written.
+pub fn import_withdraw_and_answer_in_memory<T: Threader, R: Source, W: Sink>(
+    alloc: Global,
+    commands: &[Command<'_>],
+    withdrawal: &Withdrawal<'_>,
+    policy: &Policy,
+    threader: &T,
+    day: Day,
+    first: &mut Peer<R, W>,
+    second: &mut Peer<R, W>,
+) -> Result<(Store<MemStore>, Report, Answered), MemoryStop>
+    ensures answered { IfOk result (λ told. AnswersBehind R.Source W.Sink withdrawal.now policy.now day
+        (run empty_archive (map command_of commands.now)).archive first.old first.new second.old second.new told.1 told.2) }
+    ensures caused { IfOk result (λ told. IsUnserved told.2.first ⊎ IsUnserved told.2.second
+        → 0 < wants_of told.0) }
+    ensures stopped { IfErr result (λ _. (first.new ≡ first.old) × (second.new ≡ second.old)) }
+{
+    in_memory_503_means_that_memory_was_refused();
+    in_memory_each_request_is_followed_by_the_next();
+    what_commands_write_can_be_read();
+    the_commands_of_a_run_are_said(commands);
+    divided_are_items();
+    let mut store = match run_in_memory(alloc, commands) {
+        Ok(store) => store,
+        Err(fault) => return Err(MemoryStop::Store(fault)),
+    };
+    match import_withdraw_and_answer(
+        &mut store, alloc, withdrawal, policy, threader, day, first, second,
+    ) {
+        Ok((report, answered)) => Ok((store, report, answered)),
+        Err(stop) => Err(MemoryStop::Withdraw(stop)),
+    }
+}

@@ -1,0 +1,98 @@
+//! An import and a withdrawal in files that are then closed and opened again, and two requests behind that.
+ghost use Rattle.std.specs.Prelude.{◌≡◌, ◌⊎◌, IfOk, IfErr, IsTrue};
+ghost use Rattle.archive_pages.specs.Causes.{IsUnserved};
+ghost use Rattle.example_reopened.specs.Opening.{HasCause, OfHeld};
+ghost use Rattle.example_reopened.specs.Publishing.{IsLeft};
+ghost use Rattle.example_reopened.specs.Reopening.{LeadsTo, LeadsToIfOpen};
+ghost use Rattle.example_reopened.specs.Withdrawing.{AnswersBehind, IsWithdrawn};
+ghost use Rattle.archive_store.specs.Told.{HasNoLimit};
+ghost use Rattle.sqlite.specs.Files.{over_files};
+
+use crate::reopening::{open, reopen};
+use crate::withdrawing::{Answered, WithdrawStop, Withdrawal, answer_both, import_and_withdraw};
+use archive_desk::Report;
+use archive_desk::laws::what_commands_write_can_be_read;
+use archive_pages::Peer;
+use archive_store::{Store, StoreFault};
+use civil_time::Day;
+use mbox_core::device::{Sink, Source};
+use mbox_core::laws::divided_are_items;
+use policy_core::Policy;
+use sqlite::{Alter, FileStore, Files, Options};
+use sqlite_disk::Disk;
+use std::alloc::Global;
+use thread_core::Threader;
+
+/// Why nobody was answered out of files.
+#[derive(Drop)]
+pub enum FilesStop<S: Alter> {
+    /// E14 or E15: they were not opened, not closed or not opened again.
+    Store(StoreFault),
+    /// Nothing was withdrawn: the store that was left, and why.
+    Withdraw(Store<S>, WithdrawStop),
+}
+
+/// Opens files, imports and withdraws as `import_and_withdraw` does, closes the files and opens them again: the store that this gives
+/// remembers the archive that the two commands made out of what the files held.
+pub fn withdraw_and_reopen<D: Disk + Drop>(
+    alloc: Global,
+    files: Files<D>,
+    options: Options,
+    withdrawal: &Withdrawal<'_>,
+) -> Result<(Store<FileStore<D>>, Report), FilesStop<FileStore<D>>>
+    requires log { IsTrue (D.Disk.is_usable files.log) }
+    requires db { IsTrue (D.Disk.is_usable files.db) }
+    ensures withdrawn { IfOk result (λ done. LeadsTo files done.0
+        (λ a b. IsWithdrawn withdrawal.now a b done.1)) }
+    ensures unlimited { IfOk result (λ done. HasNoLimit over_files done.0) }
+    ensures stopped { IfErr result (λ stop. IsLeft files withdrawal.now stop) }
+{
+    let mut store = match open(alloc, files, options) {
+        Ok(store) => store,
+        Err(fault) => return Err(FilesStop::Store(fault)),
+    };
+    let report = match import_and_withdraw(&mut store, alloc, withdrawal) {
+        Ok(report) => report,
+        Err(stop) => return Err(FilesStop::Withdraw(store, stop)),
+    };
+    match reopen(store, alloc, options) {
+        Ok(again) => Ok((again, report)),
+        Err(fault) => Err(FilesStop::Store(fault)),
+    }
+}
+
+/// Withdraws and opens again as `withdraw_and_reopen` does, out of files of whatever version, and then answers two requests as `answer`
+/// does: what each peer is sent is the reply of the archive that the import and the withdrawal made, by the policy and on the day, or
+/// 503 with its cause. Where it stopped before, nothing was read and nothing was written.
+pub fn withdraw_reopen_and_answer<D: Disk + Drop, T: Threader, R: Source, W: Sink>(
+    alloc: Global,
+    files: Files<D>,
+    options: Options,
+    withdrawal: &Withdrawal<'_>,
+    policy: &Policy,
+    threader: &T,
+    day: Day,
+    first: &mut Peer<R, W>,
+    second: &mut Peer<R, W>,
+) -> Result<(Store<FileStore<D>>, Report, Answered), FilesStop<FileStore<D>>>
+    requires log { IsTrue (D.Disk.is_usable files.log) }
+    requires db { IsTrue (D.Disk.is_usable files.db) }
+    ensures answered { IfOk result (λ told. OfHeld files told.0
+        (λ before. AnswersBehind R.Source W.Sink withdrawal.now policy.now day
+        before first.old first.new second.old second.new told.1 told.2)) }
+    ensures stays { IfOk result (λ told. LeadsToIfOpen files told.0
+        (λ a b. IsWithdrawn withdrawal.now a b told.1)) }
+    ensures caused { IfOk result (λ told. IsUnserved told.2.first ⊎ IsUnserved told.2.second
+        → HasCause files told.0) }
+    ensures stopped { IfErr result (λ stop. IsLeft files withdrawal.now stop
+        × (first.new ≡ first.old) × (second.new ≡ second.old)) }
+{
+    what_commands_write_can_be_read();
+    divided_are_items();
+    let (mut again, report) = match withdraw_and_reopen(alloc, files, options, withdrawal) {
+        Ok(done) => done,
+        Err(stop) => return Err(stop),
+    };
+    let answered = answer_both(&mut again, alloc, policy, threader, day, first, second);
+    Ok((again, report, answered))
+}
