@@ -4,7 +4,7 @@
   - A link of a page leads to no file of the repository.
   - The README has no link to a page of docs.
   - The README has more than 110 lines, more than 1,500 words, or a point of more than 40.
-  - PROVED.md, the pages of layers and DECISIONS.md have more than 16,000 words together.
+  - PROVED.md, the pages of layers and DECISIONS.md have more than 17,000 words together.
   - A page of what is there names in backticks a word of two parts, as `read_row` or `ReadRow`, that stands in no source.
   - A table of a page of docs/layers names a function that its crate has not, or a clause that the function has not; or no page of
     them has a crate of the program.
@@ -18,7 +18,7 @@ import json, pathlib, re, sys
 import contracts, part
 
 ROOT = pathlib.Path(__file__).resolve().parent.parent
-MOST_LINES, MOST_WORDS, MOST_OF_A_POINT, MOST_OF_PROOFS = 110, 1500, 40, 16_000
+MOST_LINES, MOST_WORDS, MOST_OF_A_POINT, MOST_OF_PROOFS = 110, 1500, 40, 17_000
 LINK = re.compile(r"\]\(([^)\s]+)\)")
 QUOTED = re.compile(r"`([^`\n]+)`")
 TWO_PARTS = re.compile(r"\b(?:[A-Za-z][A-Za-z0-9]*_\w*[A-Za-z0-9]|[A-Z][a-z0-9]+[A-Z]\w*)\b")

@@ -26,6 +26,10 @@ LONG = {
     "desk_tests::streams": "it reads mboxes of 17 MB, and is cut at each byte of a small one",
     "pages_tests::older": "each older file is made and brought over anew",
     "thread_tests::nodes": "its lists have 50,000 messages, or are small and many thousands",
+    "thread_tests::threads": "it threads every list of three messages of 48 kinds, or 40,000 lists by chance",
+    "mail_tests::subjects": "its subjects have up to 2,500,000 bytes",
+    "pages_tests::breaking": "a file is opened anew for each call at which its disk can stop",
+    "pages_tests::standing": "a file is opened anew for each call at which its disk can stop",
 }
 CUT = "checked: no-answer: the program did not end within the time limit"
 ENDED = re.compile(r"run=ended status=(\d+) .*proved=no")

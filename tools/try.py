@@ -707,8 +707,8 @@ PAGES = {
     "a README as long as it may be": is_silent("pages.py", {**PAGES_FILES, "README.md": PAGES_FILES["README.md"] + "line\n" * 109}),
     "a README of many lines": says("pages.py", [], {**PAGES_FILES, "README.md": PAGES_FILES["README.md"] + "line\n" * 110}, 1, "pages: README.md has 111 lines"),
     "a README of many words": says("pages.py", [], {**PAGES_FILES, "README.md": PAGES_FILES["README.md"] + "of " * 1500}, 1, "pages: README.md has 1,511 words"),
-    "many words of proofs": says("pages.py", [], {**PAGES_FILES, "docs/PROVED.md": "of " * 15_900, "docs/DECISIONS.md": "of " * 100,
-        "README.md": PAGES_FILES["README.md"] + "[p](docs/PROVED.md) [d](docs/DECISIONS.md)"}, 1, "pages: PROVED.md, DECISIONS.md and the pages of layers have 16,029 words"),
+    "many words of proofs": says("pages.py", [], {**PAGES_FILES, "docs/PROVED.md": "of " * 16_900, "docs/DECISIONS.md": "of " * 100,
+        "README.md": PAGES_FILES["README.md"] + "[p](docs/PROVED.md) [d](docs/DECISIONS.md)"}, 1, "pages: PROVED.md, DECISIONS.md and the pages of layers have 17,029 words"),
     "another number at the front": says("pages.py", [], {**PAGES_FILES, "README.md": PAGES_FILES["README.md"].replace("tables 3", "tables 2")}, 1,
         "pages: README.md is not of the program 0.3.1, tables 3"),
     "a point of many words": says("pages.py", [], {**PAGES_FILES, "README.md": PAGES_FILES["README.md"] + f"- {'of ' * 41}\n2. {'of ' * 40}\n"}, 1,
@@ -785,6 +785,21 @@ pub fn copied(alloc: Global, bytes: &[u8]) -> Result<Vec<u8>, Fault>
         other => Ok(text),
     }
 }
+pub struct Refused(());
+impl From<AllocError> for Refused {
+    fn from(_refused: AllocError) -> Refused {
+        Refused(())
+    }
+}
+fn counted(told: Result<Text, AllocError>) -> Result<Text, Unavailable> {
+    match told {
+        Ok(text) => Ok(text),
+        Err(refused) => {
+            wants.raise(refused.into());
+            Err(Unavailable)
+        }
+    }
+}
 """
 # Each place that tells of one by hand, in a function of its own.
 BY_HAND = HANDED_ON + """fn pushed(all: &mut Vec<u8>) -> Result<(), Fault> {
@@ -802,7 +817,7 @@ BY_HAND = HANDED_ON + """fn pushed(all: &mut Vec<u8>) -> Result<(), Fault> {
             done(&more);
         }
         Err(_) => {
-            wants.raise();
+            wants.raise(Refused(()));
             Err(Fault::Memory)
         }
     }
@@ -836,7 +851,7 @@ WANTS = {
     "the places": lambda: equal(output_of("wants.py", ["--list"], WANTING), PLACES),
     "a body that gives up": says("wants.py", [], with_more("fn f(list: &str) -> Result<(), Fault> {\n    if list.is_empty() {\n        return Err(Fault::Memory);\n    }\n    Ok(())\n}\n"), 1,
         "wants: low::lib::f tells of a want of memory by hand (bare): hand on what was refused by `?` or `From`"),
-    "a denial that is counted": says("wants.py", [], with_more("fn f() -> Found {\n    match asked() {\n        Ok(Asked::Denied(_)) => {\n            store.wants.raise();\n            Err(Unavailable)\n        }\n        _ => Ok(()),\n    }\n}\n"), 1,
+    "a denial that is counted": says("wants.py", [], with_more("fn f() -> Found {\n    match asked() {\n        Ok(Asked::Denied(_)) => {\n            store.wants.raise(Refused(()));\n            Err(Unavailable)\n        }\n        _ => Ok(()),\n    }\n}\n"), 1,
         "wants: low::lib::f tells of a want of memory by hand (bare): hand on what was refused by `?` or `From`"),
     "a refusal that is let go": says("wants.py", [], with_more("fn f() -> Result<(), Fault> {\n    match copied() {\n        Ok(text) => Ok(()),\n        Err(_) => Err(Fault::Memory),\n    }\n}\n"), 1,
         "wants: low::lib::f tells of a want of memory by hand (refused): hand on what was refused by `?` or `From`"),

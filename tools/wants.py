@@ -6,10 +6,12 @@ Status 1 where one is not, or where a line of the list has no place.
   wants.py --list     prints the line of each place as the list has it; for one that is bare the reason is to be written
 
 A growth that is refused comes as `AllocError`, `AllocFailed`, a library's own type for the same, or an error of the database; `?` and
-`From` hand it on. Whoever writes `X::Memory`, or counts a want (`raise()`, `refuse()`), has to be believed. Such a place is, by the
-innermost arm, `else` or test around it,
+`From` hand it on. Whoever counts a want (`raise`, `refuse`) hands over a `Refused`, whose field is private: it is made by `From` of such a
+refusal, and by hand, `Refused(())`, in the file that declares it alone. Whoever writes that, or `X::Memory`, has to be believed. Such a
+place is, by the innermost arm, `else` or test around it,
 
-  refused   in an arm `Err(_)`, in the `else` of `let Ok`, or behind `is_err()`: a call refused, and its answer is let go
+  refused   in an arm `Err(_)` or `Err(refused)`, in the `else` of `let Ok`, or behind `is_err()`: a call refused
+  counted   in an arm `Err(refused)`, behind a call that counted `refused.into()`: it was handed on, so it is not in the list
   named     in an arm, or behind a test, that names the same fault by another name: `Memory`, `OutOfMemory`, `is_memory()`
   bare      in none of these: nothing was refused there, and the list says in words why it stands
 
@@ -21,8 +23,9 @@ import clauses, part
 
 LIST = part.ROOT / "tools" / "wants.txt"
 MADE = re.compile(
-    r"\b(?:[A-Z]\w*::)+(?:Memory|OutOfMemory|NoMemory)\b|(?<![\w:])(?:AllocError|Memory)\b(?!\s*(?:::|>|\{|\())|\bAllocFailed\b(?=\s*\{)|\.(?:raise|refuse)\(\)"
+    r"\b(?:[A-Z]\w*::)+(?:Memory|OutOfMemory|NoMemory)\b|(?<![\w:])(?:AllocError|Memory)\b(?!\s*(?:::|>|\{|\())|\bAllocFailed\b(?=\s*\{)|\bRefused\b(?=\(\(\)\))"
 )
+GIVEN = re.compile(r"Err\((?:refused|(?:\w+::)*Refused\(refused\))\)")
 NAMED = re.compile(r"\b(?:Memory|OutOfMemory|NoMemory)\b|\.is_memory\(\)")
 BLANK = re.compile(r"//[^\n]*|\"(?:[^\"\\]|\\.)*\"|'(?:[^'\\]|\\.)'|^\s*(?:pub(?:\(crate\))? )?(?:ghost )?use [^;]*;", re.M)
 GHOST = re.compile(r"(?:ensures|requires|ghost)\*?\s*\w*\s*(?:=|:[^{;]*)?\s*\{")
@@ -81,8 +84,12 @@ def is_told(text, found):
     before, after = text[:start].rstrip(), text[end:].lstrip()
     if before.endswith(("==", "!=")) or re.match(r"[=!]=", after):
         return False
+    if found[0] == "Refused" and before.endswith("struct"):
+        return False
     if re.fullmatch(r"AllocError|Memory", found[0]):
         around = level(text, start)[0]
+        if around >= 0 and text[around] == "(":
+            around = level(text, around)[0]
         declared = around >= 0 and re.search(r"\benum \w+(?:<[^{}]*>)?\s*$", text[:around])
         if declared or before.endswith(("<", ":", "->", "&", "for", "struct", "as", "dyn")) or after.startswith(">"):
             return False
@@ -112,14 +119,17 @@ def pattern_of(text, arrow):
     return text[opened + 1 + at : arrow].strip()
 
 
-def kind_at(text, at):
+def kind_at(text, place):
     """Returns the kind of a place."""
+    at = place
     while True:
         opened, between = level(text, at)
         arrow = between.rfind("=>")
         if arrow > max(between.rfind(","), between.rfind(";")):
             pattern = pattern_of(text, opened + 1 + arrow)
-            return "named" if NAMED.search(pattern) else "refused" if re.fullmatch(r"Err\(_\w*\)", pattern) else "bare"
+            if GIVEN.fullmatch(pattern) and "(refused.into())" in text[opened + 1 + arrow : place]:
+                return "counted"
+            return "named" if NAMED.search(pattern) else "refused" if re.fullmatch(r"Err\(_\w*\)", pattern) or GIVEN.fullmatch(pattern) else "bare"
         before = text[: max(opened, 0)].rstrip()
         if opened < 0 or text[opened] == "(" and OTHER_ANSWER.search(before):
             return "bare"
@@ -141,9 +151,9 @@ def places(crate):
         text = code_of(file.read_text(encoding="utf-8"))
         module = "::".join(file.relative_to(src).with_suffix("").parts)
         for it in MADE.finditer(text):
-            if is_told(text, it):
+            if is_told(text, it) and (kind := kind_at(text, it.start())) != "counted":
                 function = [one[1] for one in FUNCTION.finditer(text, 0, it.start())][-1:] or ["-"]
-                found.append((f"{crate}::{module}::{function[0]}", kind_at(text, it.start())))
+                found.append((f"{crate}::{module}::{function[0]}", kind))
     return found
 
 
