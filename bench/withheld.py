@@ -5,10 +5,11 @@
 
 One list holds no mail of the first author, fifty small ones of the second and
 one of 8 MB of the third, all withdrawn, and the policy denies them to the
-public. The pages are the same bytes. Each is asked for once, and then so many
-times more in turn with the others; it prints milliseconds from a new
-connection to the last byte, the first time and the best of the later ones, and
-these over those of the first author. Asked for: 2 the first time, 1.3 later.
+public. The pages are the same bytes. Each is asked for as the first request of
+a server of its own, the best of five; then once of a server that was asked for
+another author before; and then so many times more in turn with the others. It
+prints milliseconds from a new connection to the last byte, and these over
+those of the first author. Asked for: 2 as the first request, 1.3 behind any.
 Build the program first: ./archive --version.
 """
 import argparse, pathlib, sqlite3, sys, tempfile, time
@@ -43,17 +44,32 @@ def measure(program, rounds, folder):
     with sqlite3.connect(db) as changed:
         changed.execute("UPDATE message SET withdrawn = 2")
     changed.close()
+    first = {author: min(asked_first(program, db, policy, author) for _ in range(5)) for author in AUTHORS}
     server = Server(program, db, 1_000_000, policy)
     asked(server, "other")
-    first = {author: asked(server, author) for author in AUTHORS}
-    if len({len(reply) for _, reply in first.values()}) != 1:
+    behind = {author: asked(server, author) for author in AUTHORS}
+    if len({len(reply) for _, reply in behind.values()}) != 1:
         sys.exit("the pages are not of one length")
     later = {author: min(times) for author, *times in zip(AUTHORS, *[[asked(server, author)[0] for author in AUTHORS] for _ in range(rounds)])}
+    end(server)
+    for author, (once, reply) in behind.items():
+        print(f"{author:6} {len(reply)} bytes", end="")
+        for what, took, least in (("first", first[author], first["empty"]), ("behind", once, behind["empty"][0]), ("later", later[author], later["empty"])):
+            print(f"  {what} {took * 1000:8.3f} ms, {took / least:7.2f} times", end="")
+        print()
+
+
+def asked_first(program, db, policy, author):
+    """The seconds of the first request of a server."""
+    server = Server(program, db, 1_000_000, policy)
+    took, _ = asked(server, author)
+    end(server)
+    return took
+
+
+def end(server):
     server.process.kill()
     server.process.wait()
-    for author, (once, reply) in first.items():
-        print(f"{author:6} {len(reply)} bytes  first {once * 1000:8.3f} ms, {once / first['empty'][0]:7.2f} times;"
-              f"  later {later[author] * 1000:8.3f} ms, {later[author] / later['empty']:7.2f} times")
 
 
 def main():
