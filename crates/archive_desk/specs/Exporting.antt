@@ -3,11 +3,12 @@ use Rattle.std.specs.Prelude.{◌≡◌, ◌<◌, ◌^◌, ◌-◌, ◌++◌, �
 use Rattle.sqlite.specs.Store.{Ghosts}
 use Rattle.mbox_core.specs.Written.{IsCutShort}
 use Rattle.archive_machine.specs.Records.{Archive, Message as Remembered}
-use Rattle.archive_store.specs.Told.{Calls, HasReturned, IsReady, archive_in}
+use Rattle.archive_store.specs.Told.{HasReturned, HoldsTables, archive_in}
 use Rattle.archive_store.specs.declared.store.Store.{Store}
 use Rattle.archive_results.specs.Access.{Ask, ReaderMarks, is_shown, view_of}
 use Rattle.archive_results.specs.Results.{export_text}
 use Rattle.archive_results.specs.Shown.{shown_of}
+use Rattle.archive_desk.specs.Holding.{CallsHeld}
 use Rattle.archive_desk.specs.Faults.{Reason, refused, not_in_view, not_written, declined, reason, ask_reason}
 use Rattle.archive_desk.specs.declared.exporting.ExportStop.{ExportStop}
 use Rattle.archive_desk.specs.declared.faults.DeskFault.{DeskFault}
@@ -36,7 +37,7 @@ IsExportRefused asked before after text count (declined why) = ⊥
 -- An export of this text: after Ok the writer got it, and the count is its length, as far as 64 bits go; else why it stopped.
 -- The archive stays.
 abbrev pub Exports : {S : Type 0} → Ghosts S → Store S → Store S → Result ℕ ExportStop → Ask → List ℕ → List ℕ → (Archive → List ℕ) → Type 0
-Exports g old new result ask before after text = Calls g old new stop_reason result
+Exports g old new result ask before after text = CallsHeld g old new stop_reason result
     (λ a b count. (b ≡ a) × (ask_reason a ask ≡ None) × (after ≡ before ++ text a) × (count ≡ min (length (text a)) (2 ^ 64 - 1)))
     (λ a b why. (b ≡ a) × IsExportRefused (ask_reason a ask) before after (text a) why.0 why.1)
     (λ a b stop. b ≡ a)
@@ -57,8 +58,8 @@ IsExportStop before after failed fails count other = (count ≡ 0) × (after ≡
 -- remembered were written, where the writer told fewer than 2^64 bytes.
 abbrev pub ExportsPart : {S : Type 0} → Ghosts S → Store S → Store S → (before after : List ℕ) → ℕ → (Archive → List ℕ) → Type 0
 ExportsPart g old new before after count text =
-    HasReturned g new → IsReady g old → length after < 2 ^ 64 → IsCutShort before after (text (archive_in g old)) count
+    HasReturned g new → HoldsTables g old → length after < 2 ^ 64 → IsCutShort before after (text (archive_in g old)) count
 
 -- Where some bytes were written, what is asked is not refused: the list is there, and so is the reader.
 abbrev pub HasBegun : {S : Type 0} → Ghosts S → Store S → Store S → Ask → ℕ → Type 0
-HasBegun g old new ask count = HasReturned g new → IsReady g old → 0 < count → ask_reason (archive_in g old) ask ≡ None
+HasBegun g old new ask count = HasReturned g new → HoldsTables g old → 0 < count → ask_reason (archive_in g old) ask ≡ None

@@ -3,6 +3,7 @@ pub mod Causes
 pub mod Ending
 pub mod Exporting
 pub mod Faults
+pub mod Holding
 pub mod Importing
 pub mod Listing
 pub mod Names

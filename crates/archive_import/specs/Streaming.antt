@@ -14,7 +14,7 @@ use Rattle.archive_store.specs.Batches.{IsFullAt}
 use Rattle.archive_store.specs.Replies.{refusal}
 use Rattle.archive_store.specs.Told.{Calls}
 use Rattle.archive_store.specs.declared.store.Store.{Store as Open}
-use Rattle.archive_desk.specs.Importing.{HasAddedFirst, IsImported}
+use Rattle.archive_desk.specs.Importing.{HasAddedFirst, IsImported, IsImportWant}
 use Rattle.archive_desk.specs.declared.importing.Report.{Report}
 use Rattle.archive_desk.specs.declared.importing.ImportStop.{ImportStop}
 use Rattle.archive_desk.specs.declared.importing.ImportFault.{ImportFault}
@@ -49,6 +49,10 @@ halt_of (Store fault) = option_map halt_by (refusal fault)
 -- how many messages were done, and why no more were; none where the database was at fault, or had no memory
 abbrev pub halt_reason : ImportStop → Option (ℕ × Halt)
 halt_reason stop = option_map (λ halt. (stop.done, halt)) (halt_of stop.fault)
+
+-- memory was refused: E14, or M3
+abbrev pub IsWanting : ImportFault → Type 0
+IsWanting fault = IsImportWant fault ⊎ (fault ≡ Mbox Memory)
 
 -- So many reads of the input failed: one for M2; and for a fault of the store one at most, since what was settled before a read
 -- failed is still added.

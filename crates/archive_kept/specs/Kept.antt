@@ -4,11 +4,12 @@ use Rattle.sqlite.specs.Store.{Ghosts}
 use Rattle.policy_core.specs.Rules.{Rule}
 use Rattle.archive_machine.specs.Records.{Archive}
 use Rattle.archive_store.specs.Uncounted.{uncounted}
-use Rattle.archive_store.specs.Told.{Calls, HasReturned, IsReady, IsShut, archive_in}
+use Rattle.archive_store.specs.Told.{HasReturned, HoldsTables, IsShut, archive_in}
 use Rattle.archive_store.specs.declared.store.Store.{Store}
 use Rattle.archive_results.specs.Access.{Ask, ReaderMarks}
 use Rattle.archive_desk.specs.Asking.{IsEnough}
 use Rattle.archive_desk.specs.Faults.{ask_reason, reason}
+use Rattle.archive_desk.specs.Holding.{CallsHeld}
 use Rattle.archive_desk.specs.declared.faults.DeskFault.{DeskFault}
 use Rattle.archive_kept.specs.Outlines.{outline_for}
 use Rattle.archive_kept.specs.Parts.{Part}
@@ -30,7 +31,7 @@ AreOf archive rules day kept = EachIsOf archive rules day kept.views
 -- What a call does to what is kept: it stays of the archive that a store remembers; a store that is shut adds nothing; and whatever the
 -- store is, it weighs no more than it may.
 pub record KeepsBy {S : Type 0} (g : Ghosts S) (old new : Store S) (rules : List Rule) (day : ℤ) (kept_old kept_new : Keeping) : Type 0 where
-  pub ready : HasReturned g new → IsReady g old → AreOf (archive_in g old) rules day kept_old → AreOf (archive_in g old) rules day kept_new
+  pub held : HasReturned g new → HoldsTables g old → AreOf (archive_in g old) rules day kept_old → AreOf (archive_in g old) rules day kept_new
   pub shut : HasReturned g new → IsShut g old → kept_new ≡ kept_old
   pub most : kept_new.most ≡ kept_old.most
   pub bounded : IsBounded kept_old → IsBounded kept_new
@@ -44,10 +45,10 @@ Keeps g old new rules day kept_old kept_new = KeepsBy g (uncounted old) (uncount
 -- and what is kept then is of the archive too, whatever was answered.
 pub record FindsBy {S : Type 0} (g : Ghosts S) (old new : Store S) (ask : Ask) (reader : ReaderMarks) (part : Part) (kept_old kept_new : Keeping)
     (result : Result ℕ DeskFault) : Type 0 where
-  pub found : Calls g old new reason result
+  pub found : CallsHeld g old new reason result
       (λ a b place. (b ≡ a) × (IsEnough a ask reader → AreOf a ask.rules ask.day kept_old → outline_at kept_new place ≡ Some (outline_for a ask part)))
       (λ a b why. (b ≡ a) × (ask_reason a ask ≡ Some why)) (λ a b _. b ≡ a)
-  pub ready : HasReturned g new → IsReady g old → IsEnough (archive_in g old) ask reader
+  pub held : HasReturned g new → HoldsTables g old → IsEnough (archive_in g old) ask reader
       → AreOf (archive_in g old) ask.rules ask.day kept_old → AreOf (archive_in g old) ask.rules ask.day kept_new
   pub most : kept_new.most ≡ kept_old.most
   pub bounded : IsBounded kept_old → IsBounded kept_new

@@ -4,7 +4,7 @@ use Rattle.sqlite.specs.Store.{Ghosts}
 use Rattle.httparse.specs.Grammar.{RequestHead, HasNoRequest}
 use Rattle.httparse.specs.Spans.{RequestExceeds}
 use Rattle.policy_core.specs.Rules.{Rule}
-use Rattle.archive_store.specs.Told.{Goes}
+use Rattle.archive_desk.specs.Holding.{GoesHeld}
 use Rattle.archive_store.specs.declared.store.Store.{Store}
 use Rattle.archive_requests.specs.Heads.{BeginsWith, Exceeds, CanBecome}
 use Rattle.archive_pages.specs.Replies.{Sends, bad_request, head_too_large}
@@ -24,7 +24,7 @@ pub record IsAnswered {S : Type 0} (g : Ghosts S) (old new : Store S) (rules : L
   -- to a head that asks for no path just the reply of the definition, whatever the store: never 503
   pub direct : (h : RequestHead) → BeginsWith all h → IfSome (direct_reply (request_of h)) (λ wanted. Sends (λ reply. reply ≡ wanted) told_before told_after result)
   -- to no such head 400 or 431, without a look at the store
-  pub none : ((h : RequestHead) → ¬ BeginsWith all h) → Goes g old new (λ a b. b ≡ a)
+  pub none : ((h : RequestHead) → ¬ BeginsWith all h) → GoesHeld g old new (λ a b. b ≡ a)
       × Sends (λ reply. (reply ≡ bad_request) ⊎ (reply ≡ head_too_large)) told_before told_after result
   -- 431 to a head of more than 64 fields within 8,192 bytes
   pub many : (h : RequestHead) → Exceeds all h → Sends (λ reply. reply ≡ head_too_large) told_before told_after result
@@ -60,4 +60,4 @@ abbrev pub AnswersBy : {S : Type 0} (g : Ghosts S) (old new : Store S) → List 
 AnswersBy g old new rules day read_before read_after ends_before ends_after told_before told_after result = ByOutcome result
     (Reads read_before read_after ends_before ends_after
     (λ given all. IsAnswered g old new rules day given all told_before told_after result))
-    ((given : List ℕ) × (read_after ≡ read_before ++ given) × HasNoRequest given × (told_after ≡ told_before) × Goes g old new (λ a b. b ≡ a))
+    ((given : List ℕ) × (read_after ≡ read_before ++ given) × HasNoRequest given × (told_after ≡ told_before) × GoesHeld g old new (λ a b. b ≡ a))

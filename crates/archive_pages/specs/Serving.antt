@@ -3,7 +3,8 @@ use Rattle.std.specs.Prelude.{◌≡◌, ◌≢◌, ◌⊎◌, ℕ, List, Result
 use Rattle.sqlite.specs.Store.{Ghosts}
 use Rattle.archive_machine.specs.Records.{Archive}
 use Rattle.archive_store.specs.Uncounted.{uncounted}
-use Rattle.archive_store.specs.Told.{Goes, GoesIfOpen, HasReturned, IsReady, IsShut, archive_in}
+use Rattle.archive_store.specs.Told.{HasReturned, HoldsTables, IsShut, archive_in}
+use Rattle.archive_desk.specs.Holding.{GoesHeld, GoesHeldIfOpen}
 use Rattle.archive_store.specs.declared.store.Store.{Store}
 use Rattle.archive_pages.specs.Replies.{Reply, Sends, Breaks, IsBroken, unavailable}
 use Rattle.archive_pages.specs.declared.faults.ServeFault.{ServeFault}
@@ -18,17 +19,17 @@ module _ {S : Type 0} (g : Ghosts S) (old new : Store S) where
   -- of every archive.
   abbrev pub Finds : {A F : Type 0} → Result A F → (Archive → A → Type 0) → Type 0
   Finds result Says = MatchResult result
-      (λ found. Goes g old new (λ a b. (b ≡ a) × Says a found) × OfEvery (λ a. Says a found))
-      (λ _. GoesIfOpen g old new (λ a b. b ≡ a))
+      (λ found. GoesHeld g old new (λ a b. (b ≡ a) × Says a found) × OfEvery (λ a. Says a found))
+      (λ _. GoesHeldIfOpen g old new (λ a b. b ≡ a))
 
   -- The same of a reply that went out. Where memory or the database was at fault it is 503; or it is an mbox of what the store
   -- remembered, which broke off (S3): exactly its first bytes went out, as many as the fault counts, and at least one.
   abbrev pub Sent : (Archive → Reply → Type 0) → (told_before told_after : List ℕ) → Result ℕ ServeFault → Type 0
   Sent Says before after result =
-      Goes g old new (λ a b. (b ≡ a) × Sends (Says a) before after result)
-      ⊎ ((GoesIfOpen g old new (λ a b. b ≡ a) × Sends (λ reply. reply ≡ unavailable) before after result)
-      ⊎ (GoesIfOpen g old new (λ a b. b ≡ a)
-      × IsBroken result (λ written. HasReturned g new → IsReady g old → Breaks (Says (archive_in g old)) before after written)))
+      GoesHeld g old new (λ a b. (b ≡ a) × Sends (Says a) before after result)
+      ⊎ ((GoesHeldIfOpen g old new (λ a b. b ≡ a) × Sends (λ reply. reply ≡ unavailable) before after result)
+      ⊎ (GoesHeldIfOpen g old new (λ a b. b ≡ a)
+      × IsBroken result (λ written. HasReturned g new → HoldsTables g old → Breaks (Says (archive_in g old)) before after written)))
 
   pub record ServesBy (Says : Archive → Reply → Type 0) (before after : List ℕ) (result : Result ℕ ServeFault) : Type 0 where
     pub sent : Sent Says before after result
@@ -41,7 +42,7 @@ module _ {S : Type 0} (g : Ghosts S) (old new : Store S) where
   Serves Says before after result = ServesBy g (uncounted old) (uncounted new) Says before after result
 
   -- What an answer leaves of a store, whatever the request and the reply, and whatever the fault: the same archive, if the
-  -- connection is still open; and where a reply other than 503 went out, the store is ready for the next request.
+  -- connection is still open; and where a reply other than 503 went out, it is open, and ready for the next request.
   pub record Stays (result : Result ℕ ServeFault) : Type 0 where
-    pub same : GoesIfOpen g old new (λ a b. b ≡ a)
-    pub ready : IfOk result (λ status. status ≢ 503 → Goes g old new (λ a b. b ≡ a))
+    pub same : GoesHeldIfOpen g old new (λ a b. b ≡ a)
+    pub ready : IfOk result (λ status. status ≢ 503 → GoesHeld g old new (λ a b. b ≡ a))

@@ -1,8 +1,10 @@
 pub mod Refusals
 pub mod World
 pub mod Databases
+pub mod Remembering
 pub mod Files
 pub mod Working
 pub mod Orders
 pub mod Serving
 pub mod Runs
+pub mod Holding

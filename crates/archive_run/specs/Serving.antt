@@ -3,7 +3,7 @@ use Rattle.std.specs.Prelude.{◌≡◌, ◌⊎◌, ◌<◌, ◌≤◌, ℕ, ℤ
 use Rattle.sqlite.specs.Store.{Ghosts}
 use Rattle.byte_device.specs.declared.devices.Sink.{Ghosts as Takes}
 use Rattle.policy_core.specs.Rules.{Rule}
-use Rattle.archive_store.specs.Told.{HasReturned, IsReady, archive_in}
+use Rattle.archive_store.specs.Told.{HasReturned, HoldsTables, archive_in}
 use Rattle.archive_store.specs.declared.store.Store.{Store as Open}
 use Rattle.archive_listen.specs.Connections.{Exchange, Noted, Outcome, Telling, noted}
 use Rattle.archive_listen.specs.Serving.{Served, ServesAll, ServesFewer, served}
@@ -49,9 +49,9 @@ fresh_keeper rules day = record { rules = rules; day = day; routes = true; kept 
 -- `accepts` and `shuts` are what a listener says of a connection that it gives, or does not, and of one that it takes back.
 module _ {S L : Type 0} (g : Ghosts S) (accepts : L → L → Option AcceptFault → Type 0) (shuts : L → L → Exchange → Bool → Type 0)
     (rules : List Rule) (day : ℤ) (listening : Listening L) (old new : Open S) (before after : Said) where
-  -- how each connection is answered, with routes, and where the store was ready and the disk has returned what was written to it
+  -- how each connection is answered, with routes, and where the tables were an archive's and the disk has returned what was written
   abbrev pub AnswersEach : (first last : Open S) → (before after : Telling) → Outcome → Type 0
-  AnswersEach = AnswersIn g (HasReturned g new × IsReady g old) (archive_in g old) rules day true
+  AnswersEach = AnswersIn g (HasReturned g new × HoldsTables g old) (archive_in g old) rules day true
 
   -- The line that says where the archive listens went out, and then this is so of a run of connections, by how each is answered, where
   -- it begins, and what was told of faults; and of what listens and the store at its end.

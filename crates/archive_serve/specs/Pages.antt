@@ -7,8 +7,8 @@ use Rattle.archive_store.specs.declared.store.Store.{Store}
 use Rattle.archive_kept.specs.Views.{IsBounded, Keeping}
 use Rattle.archive_kept.specs.Kept.{AreOf, Keeps}
 use Rattle.archive_pages.specs.Answered.{AnswersBy, ByOutcome, IsUnrouted, Reads}
-use Rattle.archive_pages.specs.Causes.{IsUnread, ServesOr}
-use Rattle.archive_pages.specs.KeptServing.{OfReady}
+use Rattle.archive_pages.specs.Causes.{IsUnreadIn, ServesOr}
+use Rattle.archive_pages.specs.KeptServing.{OfRemembered}
 use Rattle.archive_pages.specs.Replies.{IsServeStop}
 use Rattle.archive_pages.specs.Serving.{Stays}
 use Rattle.archive_pages.specs.declared.faults.ServeFault.{ServeFault}
@@ -23,14 +23,14 @@ outcome_of (Err answering.Read) = Err Read
 outcome_of (Err (answering.Write written)) = Err Write
 outcome_of (Err (answering.Broken written)) = Err Broken
 
--- How one answer ends, whatever the store is: the store is left, no direction failed where a reply went out, each fault has its
--- cause, and so have 503 and S3. What went out is not said.
-pub record EndsAs {S : Type 0} (g : Ghosts S) (old new : Store S) (before after : Telling) (result : Result ℕ ServeFault) : Type 0 where
+-- How one answer by these rules, on this day, ends, whatever the store is: the store is left, no direction failed where a reply went
+-- out, each fault has its cause, and so have 503 and S3. What went out is not said.
+pub record EndsAs {S : Type 0} (g : Ghosts S) (rules : List Rule) (day : ℤ) (old new : Store S) (before after : Telling) (result : Result ℕ ServeFault) : Type 0 where
   pub stays : Stays g old new result
   pub quiet : OnOk result ((after.read_failures ≡ before.read_failures) × (after.write_failures ≡ before.write_failures))
   pub cause : IfErr result (λ fault. IsServeStop before.written after.written
       before.read_failures after.read_failures before.write_failures after.write_failures fault)
-  pub caused : ServesOr g old new result IsUnread
+  pub caused : ServesOr g old new result (IsUnreadIn before.read after.read rules day)
 
 -- A head without a token that asks for a path that no route fits got 404 and nothing else: never 503, whatever the store is.
 abbrev pub TellsUnrouted : (before after : Telling) → Result ℕ ServeFault → Type 0
@@ -56,9 +56,9 @@ pub record AnswersKept {S : Type 0} (g : Ghosts S) (keeper later : Keeper) (old 
     (outcome : Outcome) : Type 0 where
   pub result : Result ℕ ServeFault
   pub is : outcome ≡ outcome_of result
-  pub answered : OfReady g old new (IsKept keeper) → AnswersBy g old new keeper.rules keeper.day
+  pub answered : OfRemembered g old new (IsKept keeper) → AnswersBy g old new keeper.rules keeper.day
       before.read after.read before.ends after.ends before.written after.written result
-  pub ends : EndsAs g old new before after result
+  pub ends : EndsAs g keeper.rules keeper.day old new before after result
   pub unrouted : keeper.routes ≡ true → TellsUnrouted before after result
   pub same_rules : later.rules ≡ keeper.rules
   pub same_day : later.day ≡ keeper.day
@@ -71,6 +71,6 @@ pub record LeavesKept {S : Type 0} (g : Ghosts S) (keeper later : Keeper) (old n
   pub same_rules : later.rules ≡ keeper.rules
   pub same_day : later.day ≡ keeper.day
   pub same_routes : later.routes ≡ keeper.routes
-  pub kept : OfReady g old new (IsKept keeper) → OfReady g old new (IsKept later)
+  pub kept : OfRemembered g old new (IsKept keeper) → OfRemembered g old new (IsKept later)
   pub most : later.kept.most ≡ keeper.kept.most
   pub bounded : IsBounded keeper.kept → IsBounded later.kept

@@ -4,7 +4,7 @@ use Rattle.std.specs.List.{AllByRecursion}
 use Rattle.sqlite.specs.Store.{Ghosts}
 use Rattle.policy_core.specs.Rules.{Rule}
 use Rattle.archive_machine.specs.Records.{Archive}
-use Rattle.archive_store.specs.Told.{HasReturned, IsOpen, IsReady, archive_in}
+use Rattle.archive_store.specs.Told.{HasReturned, HoldsTables, IsOpen, archive_in}
 use Rattle.archive_store.specs.declared.store.Store.{Store}
 use Rattle.archive_pages.specs.Running.{AnswersFrom}
 use Rattle.archive_pages.specs.declared.faults.ServeFault.{ServeFault}
@@ -29,30 +29,30 @@ pub record AnswersIn {S : Type 0} (g : Ghosts S) (If : Type 0) (archive : Archiv
     (old new : Store S) (before after : Telling) (outcome : Outcome) : Type 0 where
   pub result : Result ℕ ServeFault
   pub is : outcome ≡ outcome_of result
-  pub ends : EndsAs g old new before after result
+  pub ends : EndsAs g rules day old new before after result
   pub unrouted : routes ≡ true → TellsUnrouted before after result
   -- the reply of the definition, or 503, or a beginning of it
   pub reply : If → AnswersFrom archive rules day before.read after.read before.ends after.ends before.written after.written result
   -- the store, if it is still open, remembers the archive; and open it is, if it was, behind a whole reply other than 503
-  pub left : If → IsOpen g new → IsReady g new × (archive_in g new ≡ archive)
+  pub left : If → IsOpen g new → HoldsTables g new × (archive_in g new ≡ archive)
   pub stays_open : If → IsSteady outcome → IsOpen g old → IsOpen g new
 
 -- What is needed for a run whose store was `old` before the first connection and is `new` after the last: the disk has returned
--- what was written to it, the store was ready, and what was kept was of the archive that it remembered.
+-- what was written to it, the tables of the store were an archive's, and what was kept was of the archive that it remembered.
 abbrev pub CanServe : {S : Type 0} → Ghosts S → Keeper → (old new : Store S) → Type 0
-CanServe g keeper old new = HasReturned g new × IsReady g old × IsKept keeper (archive_in g old)
+CanServe g keeper old new = HasReturned g new × HoldsTables g old × IsKept keeper (archive_in g old)
 
 -- how each connection of such a run is answered
 abbrev pub RunLaw : {S : Type 0} → Ghosts S → Keeper → (first last : Store S) → (old new : Store S) → (before after : Telling) → Outcome → Type 0
 RunLaw g keeper first last = AnswersIn g (CanServe g keeper first last) (archive_in g first) keeper.rules keeper.day keeper.routes
 
--- Where each connection of such a run got a whole reply other than 503, or asked for nothing, the store is ready after the last, too,
+-- Where each connection of such a run got a whole reply other than 503, or asked for nothing, the store is open after the last, too,
 -- and remembers the same.
 abbrev pub LeaveItReady : {S L : Type 0} → Ghosts S → (accepts : L → L → Option AcceptFault → Type 0)
     → (closes : L → L → Exchange → Bool → Type 0) → Type 0
 LeaveItReady {S} {L} g accepts closes = (keeper : Keeper) (outcomes : List Outcome) (listener later : L) (old new : Store S)
     → ServesEach (RunLaw g keeper old new) accepts closes outcomes (served listener old) (served later new) → CanServe g keeper old new
-    → AllByRecursion IsSteady outcomes → IsReady g new × (archive_in g new ≡ archive_in g old)
+    → AllByRecursion IsSteady outcomes → HoldsTables g new × (archive_in g new ≡ archive_in g old)
 
 -- ---- over sockets
 

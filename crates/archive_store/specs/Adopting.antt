@@ -9,6 +9,7 @@ use Rattle.archive_tables.specs.Tables.{IsHeldAs, IsKept, IsKnown, IsOfArchive, 
 use Rattle.archive_tables.specs.Calls.{Rests, Lasts}
 use Rattle.archive_tables.specs.Making.{IsUndone, IsIdle, IsBackTo, empty_archive}
 use Rattle.archive_database.specs.Adopting.{MayBeTaken, IsUnderstood}
+use Rattle.archive_store.specs.Crashes.{CrashAdopts}
 use Rattle.archive_store.specs.Held.{held_of}
 use Rattle.archive_store.specs.Replies.{refusal}
 use Rattle.archive_store.specs.Told.{HasNoLimit, LastsButLimit}
@@ -19,7 +20,7 @@ use Rattle.archive_store.specs.declared.faults.StoreFault.TheVariants as faults
 module _ {S : Type 0} (g : Ghosts S) (connection : Held S) where
   -- A store that this connection became. An empty database became the empty archive, an archive's is as it was, and one of an older
   -- version remembers what it did. It had no table, index or view, or as many of each as an archive of some version has, and its version
-  -- is that of its row; one of the newest schema was left as it was. No limit is set.
+  -- is that of its row; one of the newest schema was left as it was. No limit is set. What a stop of the machine leaves is in `crash`.
   pub record IsAdopted (store : Store S) : Type 0 where
     pub made : HasCleanDisk (state g (held_of store)) → (state g connection).now.schema ≡ no_schema
         → IsKept (state g (held_of store)) × (archive_of (state g (held_of store)) ≡ empty_archive)
@@ -33,6 +34,7 @@ module _ {S : Type 0} (g : Ghosts S) (connection : Held S) where
     pub rows : HasCleanDisk (state g (held_of store)) → IsOfArchive (state g connection)
         → IsBackTo (state g (held_of store)) (state g connection).now
     pub returned : HasCleanDisk (state g (held_of store)) → HasCleanDisk (state g connection)
+    pub crash : CrashAdopts g connection (held_of store)
     pub lasts : LastsButLimit g connection (held_of store)
     pub unlimited : HasNoLimit g store
 
@@ -50,5 +52,6 @@ module _ {S : Type 0} (g : Ghosts S) (connection : Held S) where
     pub caused : HasCleanDisk (state g stop.connection) → IsKept (state g connection) → (state g connection).step_limit ≡ None
         → stop.fault ≡ faults.Store → MoreFaults (state g connection).faults (state g stop.connection).faults
     pub fault : refusal stop.fault ≡ None
+    pub crash : CrashAdopts g connection stop.connection
     pub returned : HasCleanDisk (state g stop.connection) → HasCleanDisk (state g connection)
     pub lasts : Lasts (state g connection) (state g stop.connection)

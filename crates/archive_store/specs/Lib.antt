@@ -1,6 +1,7 @@
 pub mod Held
 pub mod Wanting
 pub mod Replies
+pub mod Refusals
 pub mod Words
 pub mod Running
 pub mod Batches
@@ -10,3 +11,4 @@ pub mod Walking
 pub mod Checking
 pub mod Uncounted
 pub mod Names
+pub mod Crashes

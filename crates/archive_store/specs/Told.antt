@@ -91,6 +91,10 @@ module _ {S : Type 0} (g : Ghosts S) where
     abbrev pub HasFailed : Type 0
     HasFailed = MoreFaults (faults_of old) (faults_of new)
 
+    -- who is answered sees what was seen before
+    abbrev pub SeesTheSame : {A F : Type 0} → Result A F → Type 0
+    SeesTheSame result = HasReturned new → OnOk result ((state g (held_of new)).now ≡ (state g (held_of old)).now)
+
     -- What E15 of a question means, where the tables are an archive's and no limit is set: the disk failed in that call.
     abbrev pub Caused : {A : Type 0} → Result A StoreFault → Type 0
     Caused result = HasReturned new → HoldsTables old → HasNoLimit old → IfErr result (λ fault. fault ≡ faults.Store → HasFailed)
@@ -99,6 +103,11 @@ module _ {S : Type 0} (g : Ghosts S) where
     abbrev pub CausedOr : {A : Type 0} → Result A StoreFault → (Archive → Type 0) → Type 0
     CausedOr result Unread = HasReturned new → HoldsTables old → HasNoLimit old
         → IfErr result (λ fault. fault ≡ faults.Store → HasFailed ⊎ Unread (archive_in old))
+
+    -- the same, or the rows that the store held refuse what the call writes: a fact about these rows alone
+    abbrev pub CausedByRows : {A : Type 0} → Result A StoreFault → (Database → Type 0) → Type 0
+    CausedByRows result Refused = HasReturned new → HoldsTables old → HasNoLimit old
+        → IfErr result (λ fault. fault ≡ faults.Store → HasFailed ⊎ Refused (state g (held_of old)).now)
 
     -- ---- how a call ends, whatever the tables hold and whatever it answers
 

@@ -1,44 +1,67 @@
 -- The command line of the program, as `clap` reads it.
 use Rattle.std.specs.Prelude.{◌≡◌, codes, Some, true, false, if◌then◌else◌}
 use Rattle.std.specs.Str.{bytes_eq}
-use Rattle.clap.specs.Words.{App, Rule, Text, app_of, new_app, new_rule, with_rule, with_subcommand}
+use Rattle.clap.specs.Words.{App, Rule, Text, app_of, new_app, new_rule, rule_of, with_rule, with_subcommand}
+use Rattle.clap.specs.declared.builder.Arg.{Arg}
 use Rattle.clap.specs.declared.builder.Command.{Command}
 use Rattle.clap.specs.declared.builder.Command.TheViews.{out-Command}
 
 -- how a command reads words; none of its arguments is also its subcommands'
-abbrev pub IsCommand : App → Command → Type 0
-IsCommand app command = (app_of command ≡ app) × ((out-Command command).has_globals ≡ false)
+pub record IsCommand (app : App) (command : Command) : Type 0 where
+  pub reads : app_of command ≡ app
+  pub local : (out-Command command).has_globals ≡ false
+
+-- how an argument reads words; it is not also the subcommands'
+pub record IsArg (rule : Rule) (arg : Arg) : Type 0 where
+  pub reads : rule_of arg ≡ rule
+  pub local : arg.global ≡ false
+
+-- an argument with one value
+unfoldable pub valued_rule : Text → Rule
+valued_rule name = record (new_rule name) { value_names = 1 }
 
 -- `--NAME VALUE`, which need not be given
-abbrev pub option_rule : Text → Rule
-option_rule name = record (new_rule name) { long = Some name; value_names = 1 }
+unfoldable pub option_rule : Text → Rule
+option_rule name = record (valued_rule name) { long = Some name }
 
--- `--NAME VALUE`, which has to be given
-abbrev pub needed_rule : Text → Rule
-needed_rule name = record (option_rule name) { required = true }
+-- an argument that has to be given
+unfoldable pub required_rule : Rule → Rule
+required_rule rule = record rule { required = true }
 
--- a word in its place, which has to be given
-abbrev pub word_rule : Text → Rule
-word_rule name = record (new_rule name) { value_names = 1; required = true }
+-- a command with no argument yet
+unfoldable pub empty_app : Text → App
+empty_app name = new_app name
+
+-- the command with `--NAME VALUE` more, which need not be given
+unfoldable pub with_option : App → Text → App
+with_option app name = with_rule app (option_rule name)
+
+-- the same, which has to be given
+unfoldable pub with_needed : App → Text → App
+with_needed app name = with_rule app (required_rule (option_rule name))
+
+-- the command with a word more in its place, which has to be given
+unfoldable pub with_word : App → Text → App
+with_word app name = with_rule app (required_rule (valued_rule name))
+
+-- the program with a command more
+unfoldable pub with_command : App → App → App
+with_command app sub = with_subcommand app sub.top
 
 -- ---- sift
 
 -- when is read, and how old a message has to be
 unfoldable pub dated_app : App
-dated_app = with_rule (with_rule (new_app (codes "sift")) (option_rule (codes "day"))) (option_rule (codes "min-age"))
+dated_app = with_option (with_option (empty_app (codes "sift")) (codes "day")) (codes "min-age")
 
 unfoldable pub sift_app : App
-sift_app =
-    with_rule (with_rule (with_rule dated_app (option_rule (codes "policy"))) (option_rule (codes "list"))) (option_rule (codes "standing"))
+sift_app = with_option (with_option (with_option dated_app (codes "policy")) (codes "list")) (codes "standing")
 
 -- ---- commands over a database
 
 -- a command with the file of its database
 abbrev pub table_app : Text → App
-table_app name = with_rule (new_app name) (needed_rule (codes "db"))
-
-abbrev pub with_word : App → Text → App
-with_word app name = with_rule app (word_rule name)
+table_app name = with_needed (empty_app name) (codes "db")
 
 -- a command on a message: its list, and its key
 abbrev pub message_app : Text → App
@@ -88,11 +111,11 @@ check_app = table_app (codes "check")
 
 -- a command over a database by a policy, which has to be given, on a day
 abbrev pub ruled_app : Text → App
-ruled_app name = with_rule (with_rule (table_app name) (needed_rule (codes "policy"))) (option_rule (codes "day"))
+ruled_app name = with_option (with_needed (table_app name) (codes "policy")) (codes "day")
 
 -- a question of a reader on a list
 abbrev pub ask_app : Text → App
-ask_app name = with_word (with_rule (ruled_app name) (option_rule (codes "person"))) (codes "list")
+ask_app name = with_word (with_option (ruled_app name) (codes "person")) (codes "list")
 
 unfoldable pub get_app : App
 get_app = with_word (ask_app (codes "get")) (codes "key")
@@ -101,37 +124,36 @@ unfoldable pub export_app : App
 export_app = ask_app (codes "export")
 
 unfoldable pub serve_app : App
-serve_app = with_rule (with_rule (ruled_app (codes "serve")) (needed_rule (codes "port"))) (needed_rule (codes "count"))
+serve_app = with_needed (with_needed (ruled_app (codes "serve")) (codes "port")) (codes "count")
 
 -- ---- the program
 
-abbrev pub versioned : App → App
+-- the command with the version, whose words do not begin with the program's name
+unfoldable pub versioned : App → App
 versioned app = record app { top = record app.top { has_version = true; no_binary_name = true } }
 
 -- the program without its commands; its words do not begin with its name
 unfoldable pub bare_app : App
-bare_app = versioned (new_app (codes "archive"))
+bare_app = versioned (empty_app (codes "archive"))
 
 -- `sift`, and the commands on lists
 unfoldable pub list_app : App
-list_app = with_subcommand (with_subcommand (with_subcommand bare_app sift_app.top) list_add_app.top) merge_app.top
+list_app = with_command (with_command (with_command bare_app sift_app) list_add_app) merge_app
 
 -- those, and the commands on persons
 unfoldable pub person_app : App
 person_app =
-    with_subcommand (with_subcommand (with_subcommand (with_subcommand list_app person_add_app.top)
-    person_address_app.top) grant_app.top) revoke_app.top
+    with_command (with_command (with_command (with_command list_app person_add_app) person_address_app) grant_app) revoke_app
 
 -- those, and the commands on messages
 unfoldable pub mail_app : App
 mail_app =
-    with_subcommand (with_subcommand (with_subcommand (with_subcommand (with_subcommand person_app import_app.top)
-    withdraw_app.top) restore_app.top) embargo_app.top) lift_app.top
+    with_command (with_command (with_command (with_command (with_command person_app import_app) withdraw_app)
+    restore_app) embargo_app) lift_app
 
 -- the program, which may go without a command
 unfoldable pub archive_app : App
-archive_app =
-    with_subcommand (with_subcommand (with_subcommand (with_subcommand mail_app get_app.top) export_app.top) check_app.top) serve_app.top
+archive_app = with_command (with_command (with_command (with_command mail_app get_app) export_app) check_app) serve_app
 
 -- the command of a name alone; the program, where there is no such command
 unfoldable pub app_named : Text → App

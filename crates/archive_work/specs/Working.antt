@@ -10,6 +10,7 @@ use Rattle.archive_store.specs.declared.faults.StoreFault.{StoreFault}
 use Rattle.archive_results.specs.Access.{Ask}
 use Rattle.archive_desk.specs.Exporting.{IsExportRefused, exported, stop_reason as export_reason}
 use Rattle.archive_desk.specs.Faults.{ask_reason}
+use Rattle.archive_desk.specs.Holding.{CallsHeld}
 use Rattle.archive_desk.specs.declared.exporting.ExportStop.{ExportStop}
 use Rattle.archive_words.specs.Values.{TableCommand}
 use Rattle.archive_work.specs.Commands.{answer_to, stepped}
@@ -28,14 +29,14 @@ module _ {S : Type 0} (g : Ghosts S) (old new : Store S) where
 
   -- A message that is asked for: what is got, or why it is not; the archive is as before.
   abbrev pub Gets : Ask → (key : List ℕ) → Result (Vec ℕ Global) GetStop → Type 0
-  Gets ask key result = Calls g old new not_given result
+  Gets ask key result = CallsHeld g old new not_given result
       (λ a b text. (b ≡ a) × (got_of a ask key ≡ Ok text.items))
       (λ a b why. (b ≡ a) × (got_of a ask key ≡ Err why))
       (λ a b _. b ≡ a)
 
   -- An export to a writer that told these bytes before and after; the archive is as before.
   abbrev pub Exports : Ask → (before after : List ℕ) → Result ℕ ExportStop → Type 0
-  Exports ask before after result = Calls g old new export_reason result
+  Exports ask before after result = CallsHeld g old new export_reason result
       (λ a b count. (b ≡ a) × (ask_reason a ask ≡ None) × (after ≡ before ++ exported a ask) × (count ≡ min (length (exported a ask)) (2 ^ 64 - 1)))
       (λ a b why. (b ≡ a) × IsExportRefused (ask_reason a ask) before after (exported a ask) why.0 why.1)
       (λ a b stop. b ≡ a)

@@ -14,10 +14,15 @@ use Rattle.archive_store.specs.Held.{wants_of}
 use Rattle.archive_store.specs.Told.{HasReturned, faults_of}
 use Rattle.archive_store.specs.declared.store.Store.{Store}
 use Rattle.archive_pages.specs.Calls.{QuietPeer, StopsPeer}
-use Rattle.archive_pages.specs.Causes.{IsUnread, IsUnserved}
+use Rattle.archive_desk.specs.Readable.{CanBeRead}
+use Rattle.archive_pages.specs.Causes.{IsUnserved}
 use Rattle.archive_pages.specs.declared.faults.ServeFault.{ServeFault}
 use Rattle.archive_pages.specs.declared.pages.Peer.{Peer}
 use Rattle.example_reopened.specs.Reopening.{Hold, HoldRows, LeadsToIfOpen}
+
+-- an archive holds what no command writes, and what cannot be read
+abbrev pub IsUnread : Archive → Type 0
+IsUnread archive = ¬ CanBeRead archive
 
 module _ {D : Type 0} {g : Ghosts D} (files : Files D) (store : Store (FileStore D g)) where
   -- Where the disk has returned what was written to it, this is so of the archive that the files held, of whatever version.

@@ -24,7 +24,7 @@ use Rattle.archive_desk.specs.declared.importing.Report.{Report}
 use Rattle.archive_requests.specs.Requests.{asks, request_of}
 use Rattle.archive_pages.specs.Answers.{asking, reply_of}
 use Rattle.archive_pages.specs.Calls.{AnswersPeer, EndsAnswer}
-use Rattle.archive_pages.specs.Causes.{IsUnread, ServesOr}
+use Rattle.archive_pages.specs.Causes.{IsUnreadIn, ServesOr}
 use Rattle.archive_pages.specs.Laws.{AsksForNoMessage}
 use Rattle.archive_pages.specs.declared.pages.Peer.{Peer}
 use Rattle.example_reopened.specs.declared.withdrawing.Withdrawal.{Withdrawal}
@@ -84,20 +84,20 @@ module _ {S : Type 0} (g : Ghosts S) (old new : Store S) (it : Withdrawal) where
 
 module _ {R W : Type 0} (gives : Gives R) (takes : Takes W) where
   -- How two answers end, the second from the store that the first left: what each leaves of the store, that no direction failed where a
-  -- reply went out, and the cause of each fault, of 503 and of S3.
-  pub record EndsBoth {S : Type 0} (g : Ghosts S) (old new : Store S) (first first' second second' : Peer R W) (answered : Answered) : Type 0 where
+  -- reply went out, and the cause of each fault, of 503 and of S3. The replies go by these rules, on this day.
+  pub record EndsBoth {S : Type 0} (g : Ghosts S) (rules : List Rule) (day : ℤ) (old new : Store S) (first first' second second' : Peer R W) (answered : Answered) : Type 0 where
     pub between : Store S
     pub first_ends : EndsAnswer g gives takes old between first.input first'.input first.output first'.output answered.first
-    pub first_caused : ServesOr g old between answered.first IsUnread
+    pub first_caused : ServesOr g old between answered.first (IsUnreadIn (gives.told first.input) (gives.told first'.input) rules day)
     pub second_ends : EndsAnswer g gives takes between new second.input second'.input second.output second'.output answered.second
-    pub second_caused : ServesOr g between new answered.second IsUnread
+    pub second_caused : ServesOr g between new answered.second (IsUnreadIn (gives.told second.input) (gives.told second'.input) rules day)
 
   -- How two answers behind a withdrawal end: the store that the withdrawal left, and what `EndsBoth` says of the answers from there on.
-  pub record EndsBehind {S : Type 0} (g : Ghosts S) (old new : Store S) (it : Withdrawal) (first first' second second' : Peer R W)
+  pub record EndsBehind {S : Type 0} (g : Ghosts S) (rules : List Rule) (day : ℤ) (old new : Store S) (it : Withdrawal) (first first' second second' : Peer R W)
       (report : Report) (answered : Answered) : Type 0 where
     pub found : Store S
     pub withdrawn : Goes g old found (λ a b. IsWithdrawn it a b report)
-    pub ends : EndsBoth g found new first first' second second' answered
+    pub ends : EndsBoth g rules day found new first first' second second' answered
 
   -- Two peers that asked behind a withdrawal: what each was sent is the reply of the definition, out of the archive that the import and
   -- the withdrawal made, by these rules and on this day, or 503.

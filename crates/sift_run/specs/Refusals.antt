@@ -1,5 +1,5 @@
 -- How refusals are told, and what is said of words that order nothing.
-use Rattle.std.specs.Prelude.{◌≡◌, ◌≤◌, ◌⊎◌, ◌++◌, ℕ, List, codes, decimal, string_bytes}
+use Rattle.std.specs.Prelude.{◌≡◌, ◌<◌, ◌≤◌, ◌⊎◌, ◌++◌, ℕ, List, codes, decimal, string_bytes, Result, ⊤, MatchResult}
 use Rattle.byte_device.specs.declared.devices.Sink.{Ghosts as Takes}
 use Rattle.mbox_core.specs.declared.faults.MboxFault.{MboxFault}
 use Rattle.mbox_core.specs.declared.faults.MboxFault.TheVariants as mbox
@@ -42,14 +42,16 @@ run_text Memory = codes "F5 Memory"
 abbrev pub refusal_line : (text : List ℕ) → List ℕ
 refusal_line text = codes "archive: " ++ text ++ codes "\n"
 
--- The line of the text was told, or the line that there was no memory for it.
-abbrev pub TellsOf : (text old new : List ℕ) → Type 0
-TellsOf text old new = (new ≡ old ++ refusal_line text) ⊎ (new ≡ old ++ refusal_line (run_text Memory))
+-- The text was written, whole; or a write failed.
+abbrev pub IsSaid : {X E : Type 0} → Takes E → (old new : E) → (text : List ℕ) → Result ⊤ X → Type 0
+IsSaid notes old new text result = MatchResult result
+    (λ _. (notes.told new ≡ notes.told old ++ text) × (notes.failures new ≡ notes.failures old))
+    (λ _. notes.failures old < notes.failures new)
 
--- One line told a refusal of this text, where the stream of faults did not fail.
+-- The line of the text, and nothing else, was told, where the stream of faults did not fail.
 abbrev pub Tells : (text : List ℕ) → (before after : Noted) → Type 0
-Tells text before after =
-    (before.failures ≤ after.failures) × (after.failures ≡ before.failures → TellsOf text before.written after.written)
+Tells text before after = (before.failures ≤ after.failures)
+    × (after.failures ≡ before.failures → after.written ≡ before.written ++ refusal_line text)
 
 -- ---- words that order nothing
 

@@ -48,13 +48,13 @@ module _ {F : Type 0} (reads : Gives F) (files : F) where
   IsPolicyOf None rules = rules ≡ open_rule ∷ []
   IsPolicyOf (Some name) rules = (text : List ℕ) × reads.gives files name (Ok text) × (written_policy text ≡ Ok rules)
 
-  -- Why there are no rules: the named file was not read (F1), its bytes are no policy (P1 to P7; P1 where they are no
-  -- text), or there was no memory.
+  -- Why there are no rules: the named file was not read (F1), or there was no memory to hold it (F5), as the files say; or
+  -- it was read, and its bytes are no policy (P1 to P7; P1 where they are no text), or there was no memory to read them (P8).
   abbrev pub IsPolicyCause : Option (List ℕ) → RunFault → Type 0
   IsPolicyCause None refusal = ⊥
   IsPolicyCause (Some name) Read = reads.gives files name (Err file.Read)
-  IsPolicyCause (Some name) Memory = ⊤
-  IsPolicyCause (Some name) (Policy policy.Memory) = ⊤
+  IsPolicyCause (Some name) Memory = reads.gives files name (Err file.Memory)
+  IsPolicyCause (Some name) (Policy policy.Memory) = (text : List ℕ) × reads.gives files name (Ok text)
   IsPolicyCause (Some name) (Policy policy.NotToml) =
       (text : List ℕ) × reads.gives files name (Ok text) × ((¬ IsUtf8 text) ⊎ (written_policy text ≡ Err policy.NotToml))
   IsPolicyCause (Some name) (Policy fault) = (text : List ℕ) × reads.gives files name (Ok text) × (written_policy text ≡ Err fault)

@@ -1,0 +1,117 @@
+-- What the database of an order holds when it is opened, and what it holds when it is closed.
+use Rattle.std.specs.Prelude.{◌≡◌, ◌++◌, ℕ, ℤ, true, List, length, Some, Ok, Vec, ⊤}
+use Rattle.std.specs.declared.alloc.Global.{Global}
+use Rattle.sqlite.specs.Store.{Ghosts}
+use Rattle.policy_core.specs.Rules.{Rule}
+use Rattle.archive_machine.specs.Records.{Archive}
+use Rattle.archive_machine.specs.Sound.{IsFiledRight}
+use Rattle.archive_store.specs.Checking.{IsFoundWhole}
+use Rattle.archive_store.specs.Told.{HasReturned, IsOpen}
+use Rattle.archive_store.specs.declared.store.Store.{Store as Open}
+use Rattle.archive_desk.specs.Exporting.{exported}
+use Rattle.archive_desk.specs.Importing.{IsImported}
+use Rattle.archive_desk.specs.declared.importing.Report.{Report}
+use Rattle.archive_listen.specs.Connections.{AreTold, Outcome, noted}
+use Rattle.archive_listen.specs.Serving.{ServesEach, served}
+use Rattle.archive_listen.specs.declared.connections.Listening.{Listening}
+use Rattle.archive_serve.specs.Announced.{IsAnnounced}
+use Rattle.archive_serve.specs.Runs.{AnswersIn}
+use Rattle.archive_words.specs.Values.{AskValues, CheckValues, GetValues, ImportValues, ServeValues, TableValues}
+use Rattle.archive_words.specs.declared.orders.Order.{Order}
+use Rattle.archive_words.specs.declared.orders.Order.TheVariants.{Sift, Table, Import, Get, Export, Check, Serve}
+use Rattle.archive_work.specs.Commands.{answer_line, answer_to, stepped}
+use Rattle.archive_work.specs.Getting.{got_of}
+use Rattle.archive_work.specs.declared.commands.Answer.{Answer}
+use Rattle.sift_run.specs.Running.{IsDayBy, IsPolicyOf}
+use Rattle.sift_run.specs.Streams.{Sends, Sent, sent}
+use Rattle.archive_run.specs.Files.{FileTells}
+use Rattle.archive_run.specs.Orders.{ByPolicy, OnDay, ask_by}
+use Rattle.archive_run.specs.Working.{report_line}
+use Rattle.archive_run.specs.World.{Devices}
+use Rattle.archive_run.specs.declared.databases.Databases.{Ghosts as Keeps}
+use Rattle.archive_run.specs.declared.world.World.{World}
+
+-- The database of this name was opened once and closed. Where it held an archive before, in which what is filed of each message is
+-- what its text says, and the disk of its store has returned what was written to it, this is so of that archive and of the one
+-- that it holds now.
+pub record Leads {S D : Type 0} (g : Ghosts S) (keeps : Keeps D (Open S)) (old new : D) (file : List ℕ) (R : Archive → Archive → Type 0) : Type 0 where
+  pub device : D
+  pub before : Open S
+  pub after : Open S
+  pub opened : keeps.opens old device file (Ok before)
+  pub closed : keeps.closes device new after
+  pub leads : HasReturned g after → (first : Archive) → keeps.holds old file first → IsFiledRight first
+      → (last : Archive) × R first last × IsFiledRight last × keeps.holds new file last
+
+module _ {Y S F D C P T R O E I L K A B M : Type 0} (dev : Devices S F I D C P L T R O E) (old new : World Y S F D C P T R O E I L K A B M) where
+  -- what the output told before and after
+  abbrev pub before : Sent
+  before = sent dev.takes dev.passes old.output
+
+  abbrev pub after : Sent
+  after = sent dev.takes dev.passes new.output
+
+  abbrev pub LeadsIn : (file : List ℕ) → (Archive → Archive → Type 0) → Type 0
+  LeadsIn = Leads dev.pages dev.databases old.databases new.databases
+
+  -- The archive took the command's step, and its word went out.
+  abbrev pub HasStepped : TableValues → Type 0
+  HasStepped order = (answer : Answer) × Sends before after (answer_line answer)
+      × LeadsIn order.file (λ a b. (b ≡ (stepped a order.command).0) × (answer_to order.command (stepped a order.command).1 ≡ Some answer))
+
+  -- All messages of the mbox, of which this text was read, were added to the list, as the report says that went out.
+  abbrev pub HasTaken : ImportValues → Type 0
+  HasTaken order = (report : Report) × Sends before after (report_line report)
+      × LeadsIn order.file (λ a b. FileTells dev.opens dev.input_of old.files order.mbox
+      (λ text ended failed. (ended ≡ 1) × (failed ≡ 0) × IsImported order.list text a b report))
+
+  -- The archive is as before, and it is whole.
+  abbrev pub IsWholeStill : CheckValues → Type 0
+  IsWholeStill order = LeadsIn order.file (λ a b. (b ≡ a) × IsFoundWhole a)
+
+  -- What the definition gives the reader of the message went out, and the archive is as before.
+  abbrev pub HasGot : GetValues → Type 0
+  HasGot order = ByPolicy old new dev.gives (Some order.asked.policy) (λ rules. OnDay old new dev.clock order.asked.day (λ asked day result.
+      (text : Vec ℕ Global) × Sends before after text.items
+      × LeadsIn order.asked.file (λ a b. (b ≡ a) × (got_of a (ask_by order.asked rules day) order.key ≡ Ok text.items)))) (Ok tt)
+
+  -- The messages that the reader may see went out as an mbox, and the archive is as before.
+  abbrev pub HasExported : AskValues → Type 0
+  HasExported order = ByPolicy old new dev.gives (Some order.policy) (λ rules. OnDay old new dev.clock order.day (λ asked day result.
+      LeadsIn order.file (λ a b. (b ≡ a) × (after.written ≡ before.written ++ exported a (ask_by order rules day))))) (Ok tt)
+
+  -- The archive was served: by the rules that the policy writes, on the day that was given or that the clock told, once, so many
+  -- connections were answered one after the other, and each fault was told in its line. Where the disk of the store has returned what
+  -- was written to it, and the database held an archive, what each peer got is of that archive alone, and the database holds the same
+  -- when it is closed, unless its store was shut, as only a fault of the disk does.
+  pub record IsServed (order : ServeValues) : Type 0 where
+    pub rules : List Rule
+    pub is_policy : IsPolicyOf dev.gives old.files (Some order.policy) rules
+    pub clock : C
+    pub day : ℤ
+    pub is_day : IsDayBy dev.clock order.day true old.clock clock (Some day)
+    pub listening : Listening L
+    pub had : dev.listens old.ports new.ports order.port (Ok listening)
+    pub said : IsAnnounced listening.port before.written after.written after.passed
+    pub outcomes : List Outcome
+    pub count : length outcomes ≡ order.count
+    pub told : AreTold outcomes (noted dev.notes old.faults) (noted dev.notes new.faults)
+    pub device : D
+    pub store : Open S
+    pub later : Open S
+    pub opened : dev.databases.opens old.databases device order.file (Ok store)
+    pub closed : dev.databases.closes device new.databases later
+    pub end : L
+    pub of_held : HasReturned dev.pages later → (archive : Archive) → dev.databases.holds old.databases order.file archive
+        → ServesEach (AnswersIn dev.pages ⊤ archive rules day true) dev.accepts dev.shuts outcomes (served listening.listener store) (served end later)
+        × (IsOpen dev.pages later → dev.databases.holds new.databases order.file archive)
+
+  -- What becomes of the archive that the database of an order holds, where the order is carried out.
+  abbrev pub RunsOver : Order → Type 0
+  RunsOver (Sift order) = ⊤
+  RunsOver (Table order) = HasStepped order
+  RunsOver (Import order) = HasTaken order
+  RunsOver (Get order) = HasGot order
+  RunsOver (Export order) = HasExported order
+  RunsOver (Check order) = IsWholeStill order
+  RunsOver (Serve order) = IsServed order
