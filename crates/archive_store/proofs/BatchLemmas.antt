@@ -80,6 +80,11 @@ module _ (behind : Option Database) (old new : State) (list : List ℕ) (item : 
       subst (λ a. IsCounted a list count) (sym stays.1) n,
     )
 
+    pub new_is : (key : List ℕ) → k ≡ key → key ≡ item_key item → false ≡ list_any (is_message list k) (archive_of old).messages → count < 50000
+        → added_within message_limit (archive_of old) list item ≡ (with_keyed (archive_of old) list key item, taken_in)
+    new_is key e ek none room =
+        add_new message_limit list k key item e ek small (archive_of old) (((tt, sym n.is_there), none), subst (λ m. false ≡ nat_le message_limit m) (sym n.length_is) (has_room count room))
+
     pub new_over : (key : List ℕ) (mid : State) → k ≡ key → key ≡ item_key item → false ≡ list_any (is_message list k) (archive_of old).messages → count < 50000
         → StaysOver behind old mid → ChangesOver behind mid new (λ a. with_keyed a list key item)
         → AddsTo behind old new list item (count + 1) taken_in
@@ -92,7 +97,7 @@ module _ (behind : Option Database) (old new : State) (list : List ℕ) (item : 
         } in (
           written.0,
           ap (λ a. (a, taken_in)) is
-              ∙ sym (add_new message_limit list k key item e ek small (archive_of old) (((tt, sym n.is_there), none), subst (λ m. false ≡ nat_le message_limit m) (sym n.length_is) (has_room count room))),
+              ∙ sym (new_is key e ek none room),
           subst (λ a. IsCounted a list (count + 1)) (sym is) more,
         )
 

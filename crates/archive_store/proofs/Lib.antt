@@ -1,6 +1,7 @@
 pub mod RankLemmas
 pub mod StepEquations
 pub mod StepLemmas
+mod EndLemmas
 pub mod ReadingLemmas
 pub mod RunLemmas
 mod CountLemmas
@@ -14,6 +15,7 @@ pub mod CheckLemmas
 pub mod FollowLemmas
 pub mod CauseLemmas
 pub mod WantLemmas
+pub mod CrashLemmas
 mod PutLemmas
 mod AskLemmas
 mod PassLemmas

@@ -64,6 +64,13 @@ ran_next old mid new commands i d outcomes outcomes' o ran told steps within is 
     (sym (map_more command_of commands i d within ∙ ap (λ x. map command_of (take i commands) ++ command_of x ∷ []) (sym is)))
     (rw kept (ran_more old mid new (map command_of (take i commands)) (command_of d) outcomes o ran told steps))
 
+-- what the next command makes of what those before it made
+pub next_archive : (a b : Archive) (commands : List Given) (i : ℕ) (d : Given) → b ≡ (run a (map command_of (take i commands))).archive → i < length commands → d ≡ get_or commands i d
+    → (step b (command_of d)).0 ≡ (run a (map command_of (take (i + 1) commands))).archive
+next_archive a b commands i d made within is =
+    ap (λ x. (step x (command_of d)).0) made ∙ sym (run_archive a (map command_of (take i commands)) (command_of d))
+    ∙ ap (λ cs. (run a cs).archive) (sym (map_more command_of commands i d within ∙ ap (λ x. map command_of (take i commands) ++ command_of x ∷ []) (sym is)))
+
 -- the same commands, taken before they are told
 pub first_commands : (commands : List Given) (n i : ℕ) → n ≡ i → take n (map command_of commands) ≡ map command_of (take i commands)
 first_commands commands n i e = ap (λ k. take k (map command_of commands)) e ∙ take-map command_of i commands

@@ -2,9 +2,11 @@
 ghost use Rattle.std.specs.Prelude.{◌≡◌, [], ◌∷◌, ◌≤◌, ◌<◌, ◌+◌, ◌⊎◌, ℕ, IfOk, IfErr, length, take};
 ghost use Rattle.mbox_items.specs.Division.{Item};
 ghost use Rattle.archive_store.specs.Held.{held_of};
-ghost use Rattle.archive_store.specs.Told.{Ends, EndsUnrefused};
+ghost use Rattle.archive_store.specs.Told.{CausedByRows, Ends, EndsUnrefused};
+ghost use Rattle.archive_store.specs.Refusals.{IsMessageRefused};
 ghost use Rattle.archive_store.specs.Replies.{with_fault};
 ghost use Rattle.archive_machine.specs.Commands.{no_list, list_full};
+ghost use Rattle.archive_store.specs.Crashes.{AddsSomeQuietly, CrashAddsOver, CrashAll, CrashBatch};
 ghost use Rattle.archive_store.specs.Batches.{AddsOne, AddsSome, AddsBatch, AddsAll, BeginsAt, EndsAt, told_in, text_bytes};
 
 use crate::faults::StoreFault;
@@ -71,6 +73,8 @@ impl<S: Alter> Store<S> {
     ) -> Result<AddReport, AddStop>
         ensures step { AddsAll S.Store (held_of self.old)
             (held_of self.new) result list.now items.entry.now }
+        ensures crash { CrashAll S.Store (held_of self.old) (held_of self.new)
+            list.now items.entry.now result }
         ensures total { IfOk result (λ report. told_in report ≡ length items.entry.now) }
         ensures bound { IfErr result (λ stop. stop.done ≤ length items.entry.now) }
         ensures ends { Ends S.Store self.old self.new (with_fault (λ stop. stop.fault) result)
@@ -150,6 +154,8 @@ fn add_batch<S: Alter>(
     requires begins { BeginsAt additions.now.items.now from to report.now }
     ensures step { AddsBatch S.Store (held_of store.old)
         (held_of store.new) result additions.now.list.now additions.now.items.now from to count.old report.entry.now count.new report.exit.now }
+    ensures crash { CrashBatch S.Store (held_of store.old) (held_of store.new)
+        additions.now.list.now additions.now.items.now from to count.old report.entry.now }
     ensures came { EndsAt result from to report.exit.now }
     ensures ends { EndsUnrefused S.Store store.old store.new result }
 {
@@ -185,6 +191,8 @@ fn add_some<S: Alter>(
     requires begins { BeginsAt additions.now.items.now from to report.now }
     ensures step { AddsSome S.Store (held_of store.old)
         (held_of store.new) result additions.now.list.now additions.now.items.now from to count.old report.entry.now count.new report.exit.now }
+    ensures quiet { AddsSomeQuietly S.Store (held_of store.old) (held_of store.new)
+        additions.now.list.now additions.now.items.now from count.old report.entry.now }
     ensures came { EndsAt result from to report.exit.now }
     ensures ends { EndsUnrefused S.Store store.old store.new result }
 {
@@ -212,7 +220,11 @@ pub(crate) fn add_counted<S: Alter>(
 ) -> Result<Taken, StoreFault>
     ensures step { AddsOne S.Store (held_of store.old)
         (held_of store.new) result list.now item.now count.old count.new }
+    ensures crash { CrashAddsOver S.Store (held_of store.old) (held_of store.new)
+        list.now item.now count.old }
     ensures uncounted { IfErr result (λ _. count.new ≡ count.old) }
+    ensures caused { CausedByRows S.Store store.old store.new result
+        (IsMessageRefused list.now item.now) }
     ensures ends { EndsUnrefused S.Store store.old store.new result }
 {
     if is_too_large(item) {

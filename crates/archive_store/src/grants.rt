@@ -10,10 +10,12 @@ use sqlite::Alter;
 impl<S: Alter> Store<S> {
     ghost use Rattle.archive_machine.specs.Machine.{granted, revoked};
     ghost use Rattle.archive_store.specs.Held.{held_of};
-    ghost use Rattle.archive_store.specs.Told.{Ends, EndsOr};
+    ghost use Rattle.archive_store.specs.Refusals.{IsGrantRefused};
+    ghost use Rattle.archive_store.specs.Told.{EndsOr};
     ghost use Rattle.archive_tables.specs.Statements.{IsRefused, removing_grant};
     ghost use Rattle.policy_core.specs.Numbers.{kind_rank};
     ghost use Rattle.archive_machine.specs.Commands.{no_person, no_list, bad_days};
+    ghost use Rattle.archive_store.specs.Crashes.{CrashSteps};
     ghost use Rattle.archive_store.specs.Replies.{Does, says_done, says_whether};
     ghost use Rattle.std.specs.Prelude.{[], ◌∷◌};
 
@@ -29,7 +31,22 @@ impl<S: Alter> Store<S> {
     ) -> Result<(), StoreFault>
         ensures step { Does S.Store (held_of self.old) (held_of self.new)
             (λ a. granted a (record { person = person.now; list = list.now; rank = kind_rank kind; from_day = from; until_day = until })) (says_done result) }
-        ensures ends { Ends S.Store self.old self.new result (no_person ∷ no_list ∷ bad_days ∷ []) }
+        ensures crash { CrashSteps S.Store (held_of self.old) (held_of self.new)
+            (λ a. granted a (record {
+              person = person.now;
+              list = list.now;
+              rank = kind_rank kind;
+              from_day = from;
+              until_day = until;
+            })) }
+        ensures ends { EndsOr S.Store self.old self.new result (no_person ∷ no_list ∷ bad_days ∷ [])
+            (IsGrantRefused (record {
+              person = person.now;
+              list = list.now;
+              rank = kind_rank kind;
+              from_day = from;
+              until_day = until;
+            })) }
     {
         let known = texts::persons::has_person(&mut self.conn, person);
         if !self.wants.pass(known)? {
@@ -61,6 +78,8 @@ impl<S: Alter> Store<S> {
     pub fn revoke(&mut self, person: &str, list: &str, kind: Kind) -> Result<bool, StoreFault>
         ensures step { Does S.Store (held_of self.old) (held_of self.new)
             (λ a. revoked a person.now list.now (kind_rank kind)) (says_whether result) }
+        ensures crash { CrashSteps S.Store (held_of self.old) (held_of self.new)
+            (λ a. revoked a person.now list.now (kind_rank kind)) }
         ensures ends { EndsOr S.Store self.old self.new result (no_person ∷ no_list ∷ [])
             (IsRefused (removing_grant person.now list.now (kind_rank kind))) }
     {

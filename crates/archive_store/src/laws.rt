@@ -1,5 +1,5 @@
 //! Laws of the store: each contract is a law over what a database holds, and no call does anything.
-ghost use Rattle.sqlite.specs.Held.{Held};
+ghost use Rattle.sqlite.specs.Held.{Held, state};
 ghost use Rattle.sqlite_disk.specs.declared.Files.{Files};
 ghost use Rattle.sqlite_store.specs.declared.store.FileStore.{FileStore};
 ghost use Rattle.sqlite_wal.specs.Reads.{AreClean};
@@ -7,7 +7,13 @@ ghost use Rattle.sqlite.specs.State.{IsLive};
 ghost use Rattle.sqlite.specs.Files.{over_files, file_state, Finds, IsOpened};
 ghost use Rattle.sqlite.specs.Closing.{IsCopied};
 ghost use Rattle.archive_machine.specs.Records.{Archive};
-ghost use Rattle.std.specs.Prelude.{◌⊎◌};
+ghost use Rattle.archive_machine.specs.Commands.{Reply};
+ghost use Rattle.archive_machine.specs.Machine.{Outcome};
+ghost use Rattle.archive_tables.specs.Tables.{IsKept};
+ghost use Rattle.archive_tables.specs.Crashes.{IsSafe};
+ghost use Rattle.archive_store.specs.Crashes.{CrashSteps, StopsIn};
+ghost use Rattle.archive_store.specs.Replies.{Does};
+ghost use Rattle.std.specs.Prelude.{◌⊎◌, Option};
 ghost use Rattle.sqlite.specs.Steps.{over_memory};
 ghost use Rattle.sqlite_trees.specs.declared.memory.MemStore.{MemStore};
 ghost use Rattle.sqlite_disk.specs.Disk.{MoreFaults};
@@ -38,4 +44,20 @@ pub fn an_open_store_stays_open_unless_its_disk_fails<S: Alter>()
     ensures { (old new : Store S) → Lasts S.Store old new → HasReturned S.Store new
         → IsOpen S.Store old → IsOpen S.Store new
         ⊎ MoreFaults (faults_of S.Store old) (faults_of S.Store new) }
+{}
+
+/// A stop of the machine between two calls leaves what an open archive remembers, and nothing else: so whatever was answered is
+/// there. `open_files` says that what it opens is live, and each call hands that on (`StopsIn`, `CrashRuns`, `CrashAll`).
+pub fn a_crash_between_calls_leaves_what_is_remembered<S: Alter>()
+    ensures { (connection : Held S) → IsKept (state S.Store connection)
+        → IsLive (state S.Store connection) → IsSafe (state S.Store connection) }
+{}
+
+/// A stop in a command leaves the archive before it or the one that the machine makes, and behind a command that was answered
+/// the latter alone: where the command does and leaves what its clauses `step` and `crash` say. They are said of the end of a
+/// call, over any disk: over one that is frozen from some access on, a command ends with what a stop at that access leaves.
+pub fn a_crash_leaves_the_archive_before_a_command_or_after_it<S: Alter>()
+    ensures { (old new : Held S) (step : Archive → Outcome) (reply : Option Reply)
+        → Does S.Store old new step reply → CrashSteps S.Store old new step
+        → StopsIn S.Store old new step reply }
 {}

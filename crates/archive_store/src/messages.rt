@@ -17,13 +17,16 @@ use sqlite::Alter;
 use std::alloc::Global;
 
 impl<S: Alter> Store<S> {
-    ghost use Rattle.std.specs.Prelude.{[], ◌∷◌, pos, Some, None};
+    ghost use Rattle.std.specs.Prelude.{◌≡◌, [], ◌∷◌, length, pos, Some, None};
     ghost use Rattle.archive_machine.specs.Machine.{message_limit, added_within, withdrawal, restored, held_back, lifted};
     ghost use Rattle.archive_store.specs.Held.{held_of};
-    ghost use Rattle.archive_store.specs.Told.{Ends, EndsOr};
+    ghost use Rattle.archive_store.specs.Told.{EndsOr};
+    ghost use Rattle.archive_store.specs.Refusals.{IsMessageRefused};
     ghost use Rattle.archive_tables.specs.Statements.{IsRefused, freeing, holding_back, withdrawing};
     ghost use Rattle.policy_core.specs.Numbers.{party_number};
     ghost use Rattle.archive_machine.specs.Commands.{no_list, no_message, already_withdrawn, not_withdrawn, too_large, list_full};
+    ghost use Rattle.archive_machine.specs.Questions.{messages_in};
+    ghost use Rattle.archive_store.specs.Crashes.{CrashSteps, CrashStepsFrom};
     ghost use Rattle.archive_store.specs.Replies.{Does, says_added, says_done, says_whether};
     ghost use Rattle.archive_store.specs.Batches.{AddsCounted};
 
@@ -34,8 +37,11 @@ impl<S: Alter> Store<S> {
     pub fn add(&mut self, alloc: Global, list: &str, item: &Item<'_>) -> Result<Added, StoreFault>
         ensures step { Does S.Store (held_of self.old) (held_of self.new)
             (λ a. added_within message_limit a list.now item.now) (says_added result) }
-        ensures ends { Ends S.Store self.old self.new result
-            (no_list ∷ too_large ∷ list_full ∷ []) }
+        ensures crash { CrashSteps S.Store (held_of self.old) (held_of self.new)
+            (λ a. added_within message_limit a list.now item.now) }
+        ensures ends { EndsOr S.Store self.old self.new result
+            (no_list ∷ too_large ∷ list_full ∷ [])
+            (IsMessageRefused list.now item.now) }
     {
         add_limited(self, alloc, list, item, MESSAGES)
     }
@@ -52,8 +58,12 @@ impl<S: Alter> Store<S> {
     ) -> Result<Added, StoreFault>
         ensures step { AddsCounted S.Store (held_of self.old)
             (held_of self.new) result list.now item.now count.old count.new }
-        ensures ends { Ends S.Store self.old self.new result
-            (no_list ∷ too_large ∷ list_full ∷ []) }
+        ensures crash { CrashStepsFrom S.Store (held_of self.old) (held_of self.new)
+            (λ a. length (messages_in a list.now) ≡ count.old)
+            (λ a. added_within message_limit a list.now item.now) }
+        ensures ends { EndsOr S.Store self.old self.new result
+            (no_list ∷ too_large ∷ list_full ∷ [])
+            (IsMessageRefused list.now item.now) }
     {
         let listed = texts::lists::has_list(&mut self.conn, list);
         if !self.wants.pass(listed)? {
@@ -72,6 +82,8 @@ impl<S: Alter> Store<S> {
     pub fn withdraw(&mut self, list: &str, key: &Key, by: Party) -> Result<(), StoreFault>
         ensures step { Does S.Store (held_of self.old) (held_of self.new)
             (λ a. withdrawal a list.now key.now (party_number by)) (says_done result) }
+        ensures crash { CrashSteps S.Store (held_of self.old) (held_of self.new)
+            (λ a. withdrawal a list.now key.now (party_number by)) }
         ensures ends { EndsOr S.Store self.old self.new result
             (no_list ∷ no_message ∷ already_withdrawn ∷ [])
             (IsRefused (withdrawing list.now key.now (party_number by))) }
@@ -98,6 +110,8 @@ impl<S: Alter> Store<S> {
     pub fn restore(&mut self, list: &str, key: &Key) -> Result<(), StoreFault>
         ensures step { Does S.Store (held_of self.old) (held_of self.new)
             (λ a. restored a list.now key.now) (says_done result) }
+        ensures crash { CrashSteps S.Store (held_of self.old) (held_of self.new)
+            (λ a. restored a list.now key.now) }
         ensures ends { EndsOr S.Store self.old self.new result
             (no_list ∷ no_message ∷ not_withdrawn ∷ [])
             (IsRefused (withdrawing list.now key.now (pos 0))) }
@@ -124,6 +138,8 @@ impl<S: Alter> Store<S> {
     pub fn embargo(&mut self, list: &str, key: &Key, until: Day) -> Result<(), StoreFault>
         ensures step { Does S.Store (held_of self.old) (held_of self.new)
             (λ a. held_back a list.now key.now until) (says_done result) }
+        ensures crash { CrashSteps S.Store (held_of self.old) (held_of self.new)
+            (λ a. held_back a list.now key.now until) }
         ensures ends { EndsOr S.Store self.old self.new result (no_list ∷ no_message ∷ [])
             (IsRefused (holding_back list.now key.now until)) }
     {
@@ -146,6 +162,8 @@ impl<S: Alter> Store<S> {
     pub fn lift(&mut self, list: &str, key: &Key) -> Result<bool, StoreFault>
         ensures step { Does S.Store (held_of self.old) (held_of self.new)
             (λ a. lifted a list.now key.now) (says_whether result) }
+        ensures crash { CrashSteps S.Store (held_of self.old) (held_of self.new)
+            (λ a. lifted a list.now key.now) }
         ensures ends { EndsOr S.Store self.old self.new result (no_list ∷ no_message ∷ [])
             (IsRefused (freeing list.now key.now)) }
     {

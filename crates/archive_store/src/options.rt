@@ -4,9 +4,11 @@ ghost use Rattle.std.specs.Option.{option_map_or};
 ghost use Rattle.sqlite.specs.Held.{state};
 ghost use Rattle.sqlite.specs.State.{HasCleanDisk};
 ghost use Rattle.archive_machine.specs.Machine.{with_address};
-ghost use Rattle.archive_tables.specs.Tables.{IsKept};
-ghost use Rattle.archive_tables.specs.Calls.{Changes, Rests, Lasts, AnswersOpen};
-ghost use Rattle.archive_machine.specs.Addresses.{is_address};
+ghost use Rattle.archive_tables.specs.Tables.{IsKept, archive_of};
+ghost use Rattle.archive_tables.specs.Calls.{Changes, Rests, Lasts, AnswersOpen, FailsByFaultOr};
+ghost use Rattle.archive_tables.specs.Crashes.{AddsOnly, IsStored};
+ghost use Rattle.archive_machine.specs.Addresses.{is_address, kept_address};
+ghost use Rattle.archive_store.specs.Refusals.{IsAddressRefused};
 
 use crate::faults::StoreFault;
 use crate::store::Store;
@@ -21,15 +23,18 @@ impl<S: Alter> Store<S> {
     ghost use Rattle.archive_machine.specs.Machine.{merge_chosen, address_given};
     ghost use Rattle.archive_machine.specs.Questions.{merge_of, address_of, list_refusal, person_refusal};
     ghost use Rattle.archive_store.specs.Held.{held_of};
-    ghost use Rattle.archive_store.specs.Told.{Ends, EndsAsk, EndsAskOr, EndsOr};
+    ghost use Rattle.archive_store.specs.Told.{EndsAsk, EndsAskOr, EndsOr};
     ghost use Rattle.archive_tables.specs.Statements.{IsRefused, changing_option};
     ghost use Rattle.archive_machine.specs.Commands.{no_list, no_person, bad_text};
+    ghost use Rattle.archive_store.specs.Crashes.{CrashSteps};
     ghost use Rattle.archive_store.specs.Replies.{Does, Answers, says_done};
 
     /// Says whether the threads of a list are gathered by subject. E4 where there is no such list.
     pub fn merge_set(&mut self, list: &str, merge: bool) -> Result<(), StoreFault>
         ensures step { Does S.Store (held_of self.old) (held_of self.new)
             (λ a. merge_chosen a list.now merge) (says_done result) }
+        ensures crash { CrashSteps S.Store (held_of self.old) (held_of self.new)
+            (λ a. merge_chosen a list.now merge) }
         ensures ends { EndsOr S.Store self.old self.new result (no_list ∷ [])
             (IsRefused (changing_option (record { list = list.now; merge = merge }))) }
     {
@@ -66,7 +71,13 @@ impl<S: Alter> Store<S> {
     ) -> Result<(), StoreFault>
         ensures step { Does S.Store (held_of self.old) (held_of self.new)
             (λ a. address_given a person.now address.now) (says_done result) }
-        ensures ends { Ends S.Store self.old self.new result (no_person ∷ bad_text ∷ []) }
+        ensures crash { CrashSteps S.Store (held_of self.old) (held_of self.new)
+            (λ a. address_given a person.now address.now) }
+        ensures ends { EndsOr S.Store self.old self.new result (no_person ∷ bad_text ∷ [])
+            (IsAddressRefused (record {
+              person = person.now;
+              address = kept_address address.now;
+            })) }
     {
         let known = texts::persons::has_person(&mut self.conn, person);
         if !self.wants.pass(known)? {
@@ -115,6 +126,14 @@ fn put_address<S: Alter>(
               (record { person = person.now; address = address.now });
         }))
         (λ _. Rests (state S.Store conn.old) (state S.Store conn.new)) }
+    ensures crash { IsKept (state S.Store conn.old)
+        → AddsOnly S.Store conn.old conn.new (IsStored (record (archive_of (state S.Store conn.old)) {
+          addresses = with_address (archive_of (state S.Store conn.old))
+              (record { person = person.now; address = address.now });
+        })) }
+    ensures caused { FailsByFaultOr S.Store conn.old conn.new result
+        (IsAddressRefused (record { person = person.now; address = address.now })
+        (state S.Store conn.old).now) }
     ensures lasts { Lasts (state S.Store conn.old) (state S.Store conn.new) }
     ensures was_open { AnswersOpen S.Store conn.old conn.new result }
 {

@@ -12,9 +12,11 @@ use sqlite::Alter;
 impl<S: Alter> Store<S> {
     ghost use Rattle.archive_machine.specs.Machine.{list_added, person_added};
     ghost use Rattle.archive_store.specs.Held.{held_of};
-    ghost use Rattle.archive_store.specs.Told.{Ends, EndsOr};
+    ghost use Rattle.archive_store.specs.Told.{EndsOr};
+    ghost use Rattle.archive_database.specs.Lists.{IsListRefused};
     ghost use Rattle.archive_tables.specs.Statements.{IsRefused, adding_person};
     ghost use Rattle.archive_machine.specs.Commands.{bad_name, bad_text, list_exists, person_exists, token_taken};
+    ghost use Rattle.archive_store.specs.Crashes.{CrashSteps};
     ghost use Rattle.archive_store.specs.Replies.{Does, says_done};
     ghost use Rattle.std.specs.Prelude.{[], ◌∷◌};
 
@@ -22,7 +24,10 @@ impl<S: Alter> Store<S> {
     pub fn list_add(&mut self, name: &str) -> Result<(), StoreFault>
         ensures step { Does S.Store (held_of self.old) (held_of self.new)
             (λ a. list_added a name.now) (says_done result) }
-        ensures ends { Ends S.Store self.old self.new result (bad_name ∷ list_exists ∷ []) }
+        ensures crash { CrashSteps S.Store (held_of self.old) (held_of self.new)
+            (λ a. list_added a name.now) }
+        ensures ends { EndsOr S.Store self.old self.new result (bad_name ∷ list_exists ∷ [])
+            (IsListRefused name.now) }
     {
         if !is_name(name) {
             return Err(StoreFault::BadName);
@@ -41,6 +46,8 @@ impl<S: Alter> Store<S> {
     pub fn person_add(&mut self, name: &str, token: &str) -> Result<(), StoreFault>
         ensures step { Does S.Store (held_of self.old) (held_of self.new)
             (λ a. person_added a name.now token.now) (says_done result) }
+        ensures crash { CrashSteps S.Store (held_of self.old) (held_of self.new)
+            (λ a. person_added a name.now token.now) }
         ensures ends { EndsOr S.Store self.old self.new result
             (bad_name ∷ bad_text ∷ person_exists ∷ token_taken ∷ [])
             (IsRefused (adding_person (record { name = name.now; token = token.now }))) }

@@ -13,8 +13,9 @@ impl<S: Alter> Store<S> {
     ghost use Rattle.std.specs.List.{All};
     ghost use Rattle.std.specs.Option.{IsSomeAnd};
     ghost use Rattle.archive_machine.specs.Questions.{has_list, list_names, list_refusal, message_of, messages_in};
+    ghost use Rattle.archive_tables.specs.Crashes.{AddsNothing};
     ghost use Rattle.archive_store.specs.Held.{held_of};
-    ghost use Rattle.archive_store.specs.Told.{EndsAsk, EndsAskOr, WasOpen};
+    ghost use Rattle.archive_store.specs.Told.{EndsAsk, EndsAskOr, SeesTheSame, WasOpen};
     ghost use Rattle.archive_database.specs.Messages.{IsReadable};
     ghost use Rattle.archive_store.specs.Replies.{refusal, Answers};
     ghost use Rattle.archive_machine.specs.Commands.{no_list};
@@ -24,6 +25,8 @@ impl<S: Alter> Store<S> {
     pub fn has_list(&mut self, name: &str) -> Result<bool, StoreFault>
         ensures answer { Answers S.Store (held_of self.old) (held_of self.new) result (λ _. None)
             (λ a found. found ≡ has_list a name.now) }
+        ensures quiet { AddsNothing S.Store (held_of self.old) (held_of self.new) }
+        ensures same { SeesTheSame S.Store self.old self.new result }
         ensures ends { EndsAsk S.Store self.old self.new result [] }
         ensures was_open { WasOpen S.Store self.old self.new refusal result }
     {
@@ -47,6 +50,7 @@ impl<S: Alter> Store<S> {
         ensures answer { Answers S.Store (held_of self.old) (held_of self.new) result
             (λ a. list_refusal a list.now)
             (λ a count. count ≡ length (messages_in a list.now)) }
+        ensures quiet { AddsNothing S.Store (held_of self.old) (held_of self.new) }
         ensures ends { EndsAsk S.Store self.old self.new result (no_list ∷ []) }
     {
         if !self.has_list(list)? {

@@ -5,7 +5,9 @@ ghost use Rattle.archive_store.specs.Held.{held_of};
 ghost use Rattle.archive_store.specs.Told.{Counts, EndsUnrefused, Lasts as StoreLasts};
 ghost use Rattle.archive_store.specs.Wanting.{IsWant};
 ghost use Rattle.archive_store.specs.Replies.{Does, refusal, with_fault, says_done, says_whether, says_added};
-ghost use Rattle.archive_store.specs.Running.{command_of, answer_of, carried, CountsOn, DoesCounted, FindsCount, IsCountedOn, Runs};
+ghost use Rattle.archive_tables.specs.Crashes.{AddsNothing};
+ghost use Rattle.archive_store.specs.Crashes.{CrashStepsFrom, CrashRuns};
+ghost use Rattle.archive_store.specs.Running.{command_of, answer_of, carried, CountsOn, DoesCounted, FindsCount, IsCountedOn, IsRightCount, Runs};
 
 use crate::faults::StoreFault;
 use crate::limits::MESSAGES;
@@ -161,6 +163,7 @@ impl<S: Alter> Store<S> {
     ) -> Result<Option<usize>, StoreFault>
         ensures found { FindsCount S.Store (held_of self.old)
             (held_of self.new) counted.entry list.now result }
+        ensures quiet { AddsNothing S.Store (held_of self.old) (held_of self.new) }
         ensures lasts { StoreLasts S.Store self.old self.new }
         ensures wanted { Counts IsWant self.old self.new result }
     {
@@ -185,6 +188,8 @@ impl<S: Alter> Store<S> {
     ) -> Result<Added, StoreFault>
         ensures step { DoesCounted S.Store (held_of self.old) (held_of self.new) counted.old
             (λ a. added_within message_limit a list.now item.now) (says_added result) }
+        ensures crash { CrashStepsFrom S.Store (held_of self.old) (held_of self.new)
+            (IsRightCount counted.old) (λ a. added_within message_limit a list.now item.now) }
         ensures counted { IsCountedOn S.Store (held_of self.old)
             (held_of self.new) counted.old counted.new (says_added result) }
         ensures lasts { StoreLasts S.Store self.old self.new }
@@ -213,6 +218,8 @@ impl<S: Alter> Store<S> {
     ) -> Result<Outcome, StoreFault>
         ensures step { DoesCounted S.Store (held_of self.old) (held_of self.new) counted.old
             (λ a. step a (command_of command.now)) (carried result) }
+        ensures crash { CrashStepsFrom S.Store (held_of self.old) (held_of self.new)
+            (IsRightCount counted.old) (λ a. step a (command_of command.now)) }
         ensures counted { CountsOn S.Store (held_of self.old)
             (held_of self.new) command.now counted.old counted.new (carried result) }
         ensures told { IfOk result (λ outcome. is_some (answer_of outcome) ≡ true) }
@@ -245,6 +252,8 @@ impl<S: Alter> Store<S> {
     /// first command. Messages that are added to one list one after the other are counted once, where a list may be full.
     pub fn run(&mut self, alloc: Global, commands: &[Command<'_>]) -> Result<Vec<Outcome>, RunStop>
         ensures step { Runs S.Store (held_of self.old) (held_of self.new)
+            (map command_of commands.entry.now) result }
+        ensures crash { CrashRuns S.Store (held_of self.old) (held_of self.new)
             (map command_of commands.entry.now) result }
         ensures bound { IfErr result (λ stop. stop.done ≤ length commands.entry.now) }
         ensures ends { EndsUnrefused S.Store self.old self.new

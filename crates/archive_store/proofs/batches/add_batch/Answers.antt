@@ -2,6 +2,9 @@ use Rattle.std.proofs.Common.{take, ◌∙◌, Some, None}
 use Rattle.std.proofs.lemmas.Result.{err_from_is_err_and}
 use Rattle.sqlite.specs.Held.{state}
 use Rattle.archive_store.proofs.BatchLemmas.{held_or_back, stays_taken}
+use Rattle.std.proofs.Common.{inl, inr, subst}
+use Rattle.archive_tables.specs.Crashes.{IsStored}
+use Rattle.archive_tables.proofs.CrashLemmas.{quiet_then, commit_over}
 use Rattle.archive_store.proofs.batches.add_batch.Goals as goal
 
 pub returns-in-Ok-pass-clause-step : goal.returns-in-Ok-pass-clause-step
@@ -41,3 +44,49 @@ returns-in-Err-clause-step g c = λ clean a t up.
     let there = stays_taken None (Some first.now) first (state g.S.Store c.begin-begun.new.conn) a c.args.additions.now.list.now (take c.args.from c.args.additions.now.items.now) c.args.count.now c.args.report.now t begun in
     let back = c.rollback-undone-in-Err.ensures.left clean first.now (c.in-Err.ensures.step clean_2 first.now a there) up in
     (back.0, back.1 ∙ t.archive_is)
+
+-- ---- what a stop leaves
+
+pub returns-in_err-pass-clause-crash : goal.returns-in_err-pass-clause-crash
+returns-in_err-pass-clause-crash g c = λ a t clean db may. inl (c.begin-begun.ensures.ends.quiet clean db may)
+
+pub returns-in-Ok-pass-clause-crash : goal.returns-in-Ok-pass-clause-crash
+returns-in-Ok-pass-clause-crash g c = λ a t clean db may.
+    let clean_2 = c.commit-committed.ensures.ends.lasts.returned clean in
+    let list = c.args.additions.now.list.now in
+    let items = c.args.additions.now.items.now in
+    let first = state g.S.Store c.args.store.now.conn in
+    let begun = (rw c.in_ok-pass.ensures.passed at c.begin-begun.ensures.held) (c.add_some.ensures.ends.lasts.returned clean_2) t.held in
+    let there = stays_taken None (Some first.now) first (state g.S.Store c.begin-begun.new.conn) a list (take c.args.from items) c.args.count.now c.args.report.now t begun in
+    let quiet = quiet_then g.S.Store c.args.store.now.conn c.begin-begun.new.conn c.add_some.new.store.conn c.begin-begun.ensures.ends.quiet c.add_some.ensures.ends.lasts.returned (c.add_some.ensures.quiet first.now a there) in
+    let added = c.in-Ok.ensures.step clean_2 first.now a there in
+    elim (commit_over g.S.Store c.add_some.new.store.conn c.commit-committed.new.conn first.now added.0.held c.commit-committed.ensures.ends.crash clean db may) [
+      | inl earlier ↦ inl (quiet clean_2 db earlier)
+      | inr it ↦ inr (c.in-Ok.at, record { least = c.in-Ok.ensures.came.1; most = c.in-Ok.ensures.came.2; whole = added.1 }, subst (λ x. IsStored x db) added.0.archive_is it)
+    ]
+
+pub returns-in-Err-pass-clause-crash : goal.returns-in-Err-pass-clause-crash
+returns-in-Err-pass-clause-crash g c = λ a t clean db may.
+    let clean_2 = c.commit-committed.ensures.ends.lasts.returned (c.rollback-undone.ensures.lasts.returned clean) in
+    let list = c.args.additions.now.list.now in
+    let items = c.args.additions.now.items.now in
+    let first = state g.S.Store c.args.store.now.conn in
+    let begun = (rw c.in_ok-pass.ensures.passed at c.begin-begun.ensures.held) (c.add_some.ensures.ends.lasts.returned clean_2) t.held in
+    let there = stays_taken None (Some first.now) first (state g.S.Store c.begin-begun.new.conn) a list (take c.args.from items) c.args.count.now c.args.report.now t begun in
+    let quiet = quiet_then g.S.Store c.args.store.now.conn c.begin-begun.new.conn c.add_some.new.store.conn c.begin-begun.ensures.ends.quiet c.add_some.ensures.ends.lasts.returned (c.add_some.ensures.quiet first.now a there) in
+    let added = c.in-Ok.ensures.step clean_2 first.now a there in
+    elim (commit_over g.S.Store c.add_some.new.store.conn c.commit-committed.new.conn first.now added.0.held c.commit-committed.ensures.ends.crash (c.rollback-undone.ensures.lasts.returned clean) db (c.rollback-undone.ensures.ends.quiet clean db may)) [
+      | inl earlier ↦ inl (quiet clean_2 db earlier)
+      | inr it ↦ inr (c.in-Ok.at, record { least = c.in-Ok.ensures.came.1; most = c.in-Ok.ensures.came.2; whole = added.1 }, subst (λ x. IsStored x db) added.0.archive_is it)
+    ]
+
+pub returns-in-Err-clause-crash : goal.returns-in-Err-clause-crash
+returns-in-Err-clause-crash g c = λ a t clean db may.
+    let clean_2 = c.rollback-undone-in-Err.ensures.lasts.returned clean in
+    let list = c.args.additions.now.list.now in
+    let items = c.args.additions.now.items.now in
+    let first = state g.S.Store c.args.store.now.conn in
+    let begun = (rw c.in_ok-pass.ensures.passed at c.begin-begun.ensures.held) (c.add_some.ensures.ends.lasts.returned clean_2) t.held in
+    let there = stays_taken None (Some first.now) first (state g.S.Store c.begin-begun.new.conn) a list (take c.args.from items) c.args.count.now c.args.report.now t begun in
+    let quiet = quiet_then g.S.Store c.args.store.now.conn c.begin-begun.new.conn c.add_some.new.store.conn c.begin-begun.ensures.ends.quiet c.add_some.ensures.ends.lasts.returned (c.add_some.ensures.quiet first.now a there) in
+    inl (quiet clean_2 db (c.rollback-undone-in-Err.ensures.ends.quiet clean db may))

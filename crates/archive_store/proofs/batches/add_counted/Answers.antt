@@ -3,6 +3,14 @@ use Rattle.std.proofs.lemmas.Result.{err_from_is_err_and}
 use Rattle.sqlite.specs.Held.{state}
 use Rattle.archive_tables.proofs.RunLemmas.{on_fault}
 use Rattle.archive_store.proofs.BatchLemmas.{known_over, full_over, new_over, none_of, rests_over}
+use Rattle.std.proofs.Common.{ap, subst, inl, inr, refl, None, []}
+use Rattle.archive_machine.specs.Machine.{Outcome, with_keyed}
+use Rattle.archive_tables.specs.Crashes.{IsStored}
+use Rattle.archive_store.proofs.BatchLemmas.{new_is}
+use Rattle.archive_tables.specs.Statements.{IsRefused}
+use Rattle.archive_database.specs.Taking.{taking_in}
+use Rattle.archive_store.specs.Refusals.{IsMessageRefused}
+use Rattle.archive_store.proofs.EndLemmas.{as_many, stood, asked, stops, stops_asking, blame_fault, same_statement}
 use Rattle.archive_store.proofs.batches.add_counted.Goals as goal
 
 pub returns-in_err-pass-clause-step : goal.returns-in_err-pass-clause-step
@@ -40,3 +48,83 @@ returns-clause-step g c = λ clean behind k n.
     let written = (rw c.in_ok-pass_fault.ensures.passed at (c.take_in-taken.ensures.taken clean behind asked.1.0)) (none_of old mid list c.as_str.result.now c.of-key.result c.as_str.ensures none asked.1.1) in
     new_over behind old (state g.S.Store c.take_in-taken.new.conn) list c.args.item.now c.args.count.now n c.as_str.result.now c.if-is_too_large.ensures
     c.of-key.result mid c.as_str.ensures c.of-key.ensures none c.if-count.false asked.1 written
+
+-- ---- why it fails
+
+pub returns-then-is_too_large-clause-caused : goal.returns-then-is_too_large-clause-caused
+returns-then-is_too_large-clause-caused g c = λ clean kept free. tt
+
+pub returns-then-branch-clause-caused : goal.returns-then-branch-clause-caused
+returns-then-branch-clause-caused g c = λ clean kept free. tt
+
+pub returns-then-count-clause-caused : goal.returns-then-count-clause-caused
+returns-then-count-clause-caused g c = λ clean kept free. tt
+
+pub returns-clause-caused : goal.returns-clause-caused
+returns-clause-caused g c = λ clean kept free. tt
+
+pub returns-in_err-pass-clause-caused : goal.returns-in_err-pass-clause-caused
+returns-in_err-pass-clause-caused g c =
+    let s0 = stood g.S.Store c.args.store.now.conn in
+    (stops_asking g.S.Store c.args.store.now (record { conn = c.has_message-known.new.conn; wants = c.pass.new.self }) c.args.store.now.conn c.args.store.now.wants []
+    (IsMessageRefused c.args.list.now c.args.item.now) c.from_residual.result c.in_err-pass.field-0.0 s0 (as_many refl) c.has_message-known.ensures c.in_err-pass.ensures.passed c.in_err-pass.ensures.kind c.in_err-pass.ensures.counted.0 c.from_residual.ensures.1).caused
+
+pub returns-in_err-pass_fault-clause-caused : goal.returns-in_err-pass_fault-clause-caused
+returns-in_err-pass_fault-clause-caused g c =
+    let mid = state g.S.Store c.has_message-known.new.conn in
+    let new = state g.S.Store c.take_in-taken.new.conn in
+    let s0 = stood g.S.Store c.args.store.now.conn in
+    let s1 = asked g.S.Store c.args.store.now.conn c.args.store.now.conn c.has_message-known.new.conn s0 c.has_message-known.ensures c.in_ok-pass.ensures.passed in
+    (stops g.S.Store c.args.store.now (record { conn = c.take_in-taken.new.conn; wants = c.pass_fault.new.self }) c.has_message-known.new.conn c.pass.new.self []
+    (IsRefused (taking_in c.args.list.now c.of-key.result c.args.item.now)) (IsMessageRefused c.args.list.now c.args.item.now) c.from_residual-in_err-pass_fault.result c.in_err-pass_fault.field-0.0 s1 (as_many c.in_ok-pass.ensures.counted.1)
+    c.take_in-taken.ensures.ends.lasts c.in_err-pass_fault.ensures.kind c.in_err-pass_fault.ensures.counted.0 c.from_residual-in_err-pass_fault.ensures.1
+    (λ clean kept free. blame_fault mid new (IsRefused (taking_in c.args.list.now c.of-key.result c.args.item.now) mid.now) c.take_in-taken.result c.in_err-pass_fault.field-0.0 c.in_err-pass_fault.ensures.passed (c.take_in-taken.ensures.caused clean None kept free))
+    (λ clean kept refused. same_statement (state g.S.Store c.args.store.now.conn).now (ap (λ k. taking_in c.args.list.now k c.args.item.now) c.of-key.ensures) refused)).caused
+
+-- ---- what a stop leaves
+
+pub returns-then-is_too_large-clause-crash : goal.returns-then-is_too_large-clause-crash
+returns-then-is_too_large-clause-crash g c = λ behind held n clean db may. inl may
+
+pub returns-in_err-pass-clause-crash : goal.returns-in_err-pass-clause-crash
+returns-in_err-pass-clause-crash g c = λ behind held n clean db may. inl (c.has_message-known.ensures.quiet clean db may)
+
+pub returns-then-branch-clause-crash : goal.returns-then-branch-clause-crash
+returns-then-branch-clause-crash g c = λ behind held n clean db may. inl (c.has_message-known.ensures.quiet clean db may)
+
+pub returns-then-count-clause-crash : goal.returns-then-count-clause-crash
+returns-then-count-clause-crash g c = λ behind held n clean db may. inl (c.has_message-known.ensures.quiet clean db may)
+
+pub returns-in_err-pass_fault-clause-crash : goal.returns-in_err-pass_fault-clause-crash
+returns-in_err-pass_fault-clause-crash g c = λ behind held n clean db may.
+    let list = c.args.list.now in
+    let item = c.args.item.now in
+    let old = state g.S.Store c.args.store.now.conn in
+    let mid = state g.S.Store c.has_message-known.new.conn in
+    let k = c.as_str.result.now in
+    let asked = rw c.in_ok-pass.ensures.passed at (c.has_message-known.ensures.over (c.take_in-taken.ensures.ends.lasts.returned clean) behind held) in
+    let none = sym c.if-branch.false ∙ asked.0 in
+    let absent = none_of old mid list k c.of-key.result c.as_str.ensures none asked.1.1 in
+    let is = new_is behind old (state g.S.Store c.take_in-taken.new.conn) list item c.args.count.now n k c.if-is_too_large.ensures c.of-key.result c.as_str.ensures c.of-key.ensures none c.if-count.false in
+    let made = ap (λ a. with_keyed a list c.of-key.result item) asked.1.1 ∙ ap (λ (o : Outcome). o.0) (sym is) in
+    elim (c.take_in-taken.ensures.crash behind asked.1.0 absent clean db may) [
+      | inl earlier ↦ inl (c.has_message-known.ensures.quiet (c.take_in-taken.ensures.ends.lasts.returned clean) db earlier)
+      | inr it ↦ inr (it.0, subst (λ a. IsStored a db) made it.1)
+    ]
+
+pub returns-clause-crash : goal.returns-clause-crash
+returns-clause-crash g c = λ behind held n clean db may.
+    let list = c.args.list.now in
+    let item = c.args.item.now in
+    let old = state g.S.Store c.args.store.now.conn in
+    let mid = state g.S.Store c.has_message-known.new.conn in
+    let k = c.as_str.result.now in
+    let asked = rw c.in_ok-pass.ensures.passed at (c.has_message-known.ensures.over (c.take_in-taken.ensures.ends.lasts.returned clean) behind held) in
+    let none = sym c.if-branch.false ∙ asked.0 in
+    let absent = none_of old mid list k c.of-key.result c.as_str.ensures none asked.1.1 in
+    let is = new_is behind old (state g.S.Store c.take_in-taken.new.conn) list item c.args.count.now n k c.if-is_too_large.ensures c.of-key.result c.as_str.ensures c.of-key.ensures none c.if-count.false in
+    let made = ap (λ a. with_keyed a list c.of-key.result item) asked.1.1 ∙ ap (λ (o : Outcome). o.0) (sym is) in
+    elim (c.take_in-taken.ensures.crash behind asked.1.0 absent clean db may) [
+      | inl earlier ↦ inl (c.has_message-known.ensures.quiet (c.take_in-taken.ensures.ends.lasts.returned clean) db earlier)
+      | inr it ↦ inr (it.0, subst (λ a. IsStored a db) made it.1)
+    ]

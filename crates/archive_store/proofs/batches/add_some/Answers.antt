@@ -9,6 +9,7 @@ use Rattle.archive_store.specs.Batches.{told_in, tally_of}
 use Rattle.archive_store.proofs.BatchLemmas.{one_taken, none_taken, held_or_back, told_new, told_known, told_too_large}
 use Rattle.archive_store.proofs.batches.add_some.Goals.{in-New, in-Known, in-TooLarge}
 use Rattle.archive_tables.proofs.LastLemmas.{lasts_then, lasts_same}
+use Rattle.archive_tables.proofs.CrashLemmas.{never_adds}
 use Rattle.archive_store.proofs.batches.add_some.Goals as goal
 
 pub returns-in-Full-clause-step : goal.returns-in-Full-clause-step
@@ -51,10 +52,15 @@ loop-at-preserved g c = (
       ]),
   lasts_then _ _ _ c.loop-at.invariant.5 c.add_counted.ensures.ends.lasts,
   omega (arith, c.loop-at.invariant.6, c.in_ok-add_counted.ensures.ends.counted.0),
+  (λ clean db a from left may.
+      let was = c.add_counted.ensures.ends.lasts.returned clean in
+      let so_far = c.loop-at.invariant.4 was db a from in
+      c.loop-at.invariant.7 was db a from left
+      (never_adds g.S.Store c.loop-at.store.conn c.add_counted.new.store.conn db _ (c.add_counted.ensures.crash (Some db) so_far.held so_far.counted) clean left may)),
 )
 
 pub loop-at-init : goal.loop-at-init
-loop-at-init g c = (omega arith, omega (arith, c.requires.begins.order), c.requires.begins.told, (λ clean. clean), (λ clean db a from. from), lasts_same _, omega arith)
+loop-at-init g c = (omega arith, omega (arith, c.requires.begins.order), c.requires.begins.told, (λ clean. clean), (λ clean db a from. from), lasts_same _, omega arith, (λ clean db a from left may. may))
 
 pub returns-in-Full-clause-ends : goal.returns-in-Full-clause-ends
 returns-in-Full-clause-ends g c = record {
@@ -73,3 +79,22 @@ returns-in_err-add_counted-clause-ends g c = record {
 
 pub returns-clause-ends : goal.returns-clause-ends
 returns-clause-ends g c = record { lasts = c.loop-at.invariant.5; fault = tt; counted = (c.loop-at.invariant.6, tt) }
+
+-- ---- what a stop leaves
+
+pub returns-in-Full-clause-quiet : goal.returns-in-Full-clause-quiet
+returns-in-Full-clause-quiet g c = λ db a from clean left may.
+    let was = c.add_counted.ensures.ends.lasts.returned clean in
+    let so_far = c.loop-at.invariant.4 was db a from in
+    c.loop-at.invariant.7 was db a from left
+    (never_adds g.S.Store c.loop-at.store.conn c.add_counted.new.store.conn db _ (c.add_counted.ensures.crash (Some db) so_far.held so_far.counted) clean left may)
+
+pub returns-in_err-add_counted-clause-quiet : goal.returns-in_err-add_counted-clause-quiet
+returns-in_err-add_counted-clause-quiet g c = λ db a from clean left may.
+    let was = c.add_counted.ensures.ends.lasts.returned clean in
+    let so_far = c.loop-at.invariant.4 was db a from in
+    c.loop-at.invariant.7 was db a from left
+    (never_adds g.S.Store c.loop-at.store.conn c.add_counted.new.store.conn db _ (c.add_counted.ensures.crash (Some db) so_far.held so_far.counted) clean left may)
+
+pub returns-clause-quiet : goal.returns-clause-quiet
+returns-clause-quiet g c = λ db a from clean left may. c.loop-at.invariant.7 clean db a from left may

@@ -1,5 +1,6 @@
 use Rattle.std.proofs.Common.{◌≡◌, ◌-◌, ◌≤◌, take, Some}
 use Rattle.sqlite.specs.Effect.{Database}
+use Rattle.sqlite.specs.Tree.{Trees}
 use Rattle.sqlite.specs.Held.{state}
 use Rattle.sqlite.specs.State.{HasCleanDisk}
 use Rattle.archive_machine.specs.Records.{Archive}
@@ -15,6 +16,8 @@ invariant-loop-at g l =
     (l.from ≤ l.at) × (l.at ≤ l.to) × (told_in l.report ≡ l.at) × (HasCleanDisk now → HasCleanDisk first)
     × (HasCleanDisk now → (db : Database) (a : Archive) → HasTaken (Some db) first a l.additions.list.now (take l.from l.additions.items.now) l.fn.count l.fn.report
     → HasTaken (Some db) now a l.additions.list.now (take l.at l.additions.items.now) l.count l.report) × Lasts first now × (wants_of l.fn.store ≤ wants_of l.store)
+    × (HasCleanDisk now → (db : Database) (a : Archive) → HasTaken (Some db) first a l.additions.list.now (take l.from l.additions.items.now) l.fn.count l.fn.report
+    → (left : Trees) → now.may_leave left → first.may_leave left)
 
 abbrev pub decreases-loop-at : goal.decreases-loop-at
 decreases-loop-at g l = l.to - l.at

@@ -5,6 +5,10 @@ use Rattle.archive_store.specs.Replies.{refusal}
 use Rattle.archive_store.proofs.BatchLemmas.{counted_at, none_added, first_taken}
 use Rattle.archive_store.proofs.FindLemmas.{is_listed, not_counted}
 use Rattle.archive_tables.proofs.LastLemmas.{lasts_then}
+use Rattle.std.proofs.Common.{inl, inr, take}
+use Rattle.archive_machine.specs.Runs.{taken}
+use Rattle.archive_store.proofs.RunLemmas.{run_nothing}
+use Rattle.archive_store.proofs.CrashLemmas.{asked_safe, stays_safe}
 use Rattle.archive_store.proofs.store.Store.add_all.Goals as goal
 
 pub returns-in-Err-clause-step : goal.returns-in-Err-clause-step
@@ -27,6 +31,9 @@ loop-done-init g c = (
   c.count.ensures.ends.lasts,
   c.in-Ok.ensures.ends.was_open,
   c.in-Ok.ensures.ends.counted.0,
+  (λ clean kept safe.
+      let counted = c.in-Ok.ensures.answer clean kept in
+      asked_safe g.S.Store c.args.self.now.conn c.count.new.self.conn c.count.ensures.quiet counted.0.1 clean safe),
 )
 
 pub loop-done-preserved : goal.loop-done-preserved
@@ -40,6 +47,13 @@ loop-done-preserved g c = (
   lasts_then _ _ _ c.loop-done.invariant.4 c.add_batch.ensures.ends.lasts,
   (λ clean. c.loop-done.invariant.5 (c.add_batch.ensures.ends.lasts.returned clean)),
   omega (arith, c.loop-done.invariant.6, c.in-Ok-add_batch.ensures.ends.counted.0),
+  (λ clean kept safe.
+      let was = c.add_batch.ensures.ends.lasts.returned clean in
+      let so_far = c.loop-done.invariant.3 was kept in
+      let first = archive_of (state g.S.Store c.args.self.now.conn) in
+      let step = c.in-Ok-add_batch.ensures.step clean first so_far in
+      stays_safe g.S.Store c.loop-done.self.conn c.add_batch.new.store.conn (λ db up may. g.met.S.Store.settled c.add_batch.new.store.conn.store db up may) step.0.held _ (λ db it. ((taken first c.args.list.now (take it.0 c.args.items.now)).archive, it.2))
+      (c.add_batch.ensures.crash first so_far) clean (c.loop-done.invariant.7 was kept safe)),
 )
 
 pub returns-clause-ends : goal.returns-clause-ends
@@ -49,3 +63,33 @@ returns-clause-ends g c = record {
   kind = search rules;
   counted = search rules;
 }
+
+-- ---- what a stop leaves
+
+pub returns-in-Err-clause-crash : goal.returns-in-Err-clause-crash
+returns-in-Err-clause-crash g c = λ clean kept safe db may.
+    let first = archive_of (state g.S.Store c.args.self.now.conn) in
+    (first, (0, omega arith, omega arith, run_nothing first), safe db (c.count.ensures.quiet clean db may))
+
+pub returns-then-at-to-clause-crash : goal.returns-then-at-to-clause-crash
+returns-then-at-to-clause-crash g c = λ clean kept safe.
+    let was = c.add_batch.ensures.ends.lasts.returned clean in
+    let so_far = c.loop-done.invariant.3 was kept in
+    let first = archive_of (state g.S.Store c.args.self.now.conn) in
+    let step = c.in-Ok-add_batch.ensures.step clean first so_far in
+    let last = stays_safe g.S.Store c.loop-done.self.conn c.add_batch.new.store.conn (λ db up may. g.met.S.Store.settled c.add_batch.new.store.conn.store db up may) step.0.held _ (λ db it. ((taken first c.args.list.now (take it.0 c.args.items.now)).archive, it.2))
+    (c.add_batch.ensures.crash first so_far) clean (c.loop-done.invariant.7 was kept safe) in
+    λ db may. (archive_of (state g.S.Store c.add_batch.new.store.conn), (c.in-Ok-add_batch.at, omega arith, omega (arith, c.in-Ok-add_batch.ensures.came.2, c.batch_end-to.ensures.within), step.0.archive_is), last db may)
+
+pub returns-in-Err-add_batch-clause-crash : goal.returns-in-Err-add_batch-clause-crash
+returns-in-Err-add_batch-clause-crash g c = λ clean kept safe db may.
+    let was = c.add_batch.ensures.ends.lasts.returned clean in
+    let so_far = c.loop-done.invariant.3 was kept in
+    let first = archive_of (state g.S.Store c.args.self.now.conn) in
+    elim (c.add_batch.ensures.crash first so_far clean db may) [
+      | inl before ↦ (archive_of (state g.S.Store c.loop-done.self.conn), (c.loop-done.done, omega arith, c.loop-done.invariant.0, so_far.archive_is), c.loop-done.invariant.7 was kept safe db before)
+      | inr it ↦ ((taken first c.args.list.now (take it.0 c.args.items.now)).archive, (it.0, it.1.least, omega (arith, it.1.most, c.batch_end-to.ensures.within), refl), it.2)
+    ]
+
+pub returns-clause-crash : goal.returns-clause-crash
+returns-clause-crash g c = c.loop-done.invariant.7

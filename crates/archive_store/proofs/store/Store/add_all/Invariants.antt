@@ -5,6 +5,7 @@ use Rattle.sqlite.specs.State.{HasCleanDisk}
 use Rattle.archive_tables.specs.Tables.{IsKept, archive_of}
 use Rattle.archive_store.specs.Batches.{HasTaken, told_in}
 use Rattle.archive_tables.specs.Calls.{Lasts}
+use Rattle.archive_tables.specs.Crashes.{IsSafe}
 use Rattle.archive_store.specs.Held.{wants_of}
 use Rattle.archive_store.proofs.store.Store.add_all.Given as goal
 
@@ -15,6 +16,7 @@ invariant-loop-done g l =
     (l.done ≤ length l.items) × (told_in l.report ≡ l.done) × (HasCleanDisk now → HasCleanDisk first)
     × (HasCleanDisk now → IsKept first → HasTaken None now (archive_of first) l.list (take l.done l.items) l.count l.report) × Lasts first now
     × (HasCleanDisk now → IsTrue first.is_open) × (wants_of l.fn.self ≤ wants_of l.self)
+    × (HasCleanDisk now → IsKept first → IsSafe first → IsSafe now)
 
 abbrev pub decreases-loop-done : goal.decreases-loop-done
 decreases-loop-done g l = length l.items - l.done

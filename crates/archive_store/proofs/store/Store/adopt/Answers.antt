@@ -2,6 +2,8 @@ use Rattle.std.proofs.Common.{rules, sym, subst, ◌∙◌, inl}
 use Rattle.std.specs.Prelude.{OnOk}
 use Rattle.sqlite.specs.Held.{state}
 use Rattle.archive_database.specs.Adopting.{MayBeTaken}
+use Rattle.std.proofs.Common.{None}
+use Rattle.archive_store.proofs.CrashLemmas.{adopts_as, adopts_at, none_held}
 use Rattle.archive_store.proofs.store.Store.adopt.Goals.{then-has_nothing, else-has_nothing}
 use Rattle.archive_store.proofs.store.Store.adopt.Goals as goal
 
@@ -16,6 +18,8 @@ returns-in-Ok-clause-adopted g c =
         version = search rules;
         rows = search rules;
         returned = search rules;
+        crash = adopts_as g.S.Store c.args.connection w.make_tables-done.new.conn c.if-has_nothing.conn c.set_step_limit.new.self None w.conn-is c.set_step_limit.ensures
+            (record { made = w.make_tables-done.ensures.crash; brought = λ number known held. absurd (none_held number (state g.S.Store c.args.connection) (c.has_nothing.ensures.0 w.if-has_nothing.true) held) });
         lasts = search rules;
         unlimited = search rules;
       }
@@ -27,6 +31,8 @@ returns-in-Ok-clause-adopted g c =
         version = search rules;
         rows = search rules;
         returned = search rules;
+        crash = adopts_as g.S.Store c.args.connection w.take_over-done.new.conn c.if-has_nothing.conn c.set_step_limit.new.self None w.conn-is c.set_step_limit.ensures
+            (record { made = λ empty. absurd (let is = c.has_nothing.ensures.1 empty in let none = w.if-has_nothing.false in cc); brought = w.take_over-done.ensures.crash });
         lasts = search rules;
         unlimited = search rules;
       }
@@ -44,6 +50,8 @@ returns-in-Err-clause-refused g c =
         caused = search rules;
         fault = search rules;
         returned = search rules;
+        crash = adopts_at g.S.Store c.args.connection w.make_tables-done.new.conn c.if-has_nothing.conn w.conn-is
+            (record { made = w.make_tables-done.ensures.crash; brought = λ number known held. absurd (none_held number (state g.S.Store c.args.connection) (c.has_nothing.ensures.0 w.if-has_nothing.true) held) });
         lasts = search rules;
       }
       | else-has_nothing w ↦ record {
@@ -55,6 +63,8 @@ returns-in-Err-clause-refused g c =
         caused = search rules;
         fault = search rules;
         returned = search rules;
+        crash = adopts_at g.S.Store c.args.connection w.take_over-done.new.conn c.if-has_nothing.conn w.conn-is
+            (record { made = λ empty. absurd (let is = c.has_nothing.ensures.1 empty in let none = w.if-has_nothing.false in cc); brought = w.take_over-done.ensures.crash });
         lasts = search rules;
       }
     ]

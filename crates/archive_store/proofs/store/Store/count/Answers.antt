@@ -46,3 +46,14 @@ returns-clause-ends g c = record {
       blames c.pass.result (more_since old mid (state g.S.Store c.count_messages-count.new.conn) c.has_list.ensures.ends.lasts)
       (blames_disk g.S.Store c.has_list.new.self.conn c.count_messages-count.new.conn c.count_messages-count.result c.pass.result c.pass.ensures.passed c.count_messages-count.ensures.caused clean has.0.0 (c.has_list.ensures.ends.lasts.limit ∙ free));
 }
+
+-- ---- a stop leaves nothing new
+
+pub returns-in_err-has_list-clause-quiet : goal.returns-in_err-has_list-clause-quiet
+returns-in_err-has_list-clause-quiet g c = c.has_list.ensures.quiet
+
+pub returns-then-not-branch-clause-quiet : goal.returns-then-not-branch-clause-quiet
+returns-then-not-branch-clause-quiet g c = c.has_list.ensures.quiet
+
+pub returns-clause-quiet : goal.returns-clause-quiet
+returns-clause-quiet g c = λ clean db may. c.has_list.ensures.quiet (c.count_messages-count.ensures.ends.lasts.returned clean) db (c.count_messages-count.ensures.quiet clean db may)

@@ -1,4 +1,4 @@
-use Rattle.std.proofs.Common.{ap, None, inl, ◌≡◌, true, false, Some, sym, ◌∙◌, rules}
+use Rattle.std.proofs.Common.{ap, inl, ◌≡◌, true, false, Some, sym, ◌∙◌, rules, refl, inr, ◌∷◌, []}
 use Rattle.std.specs.Prelude.{⊤, map, if◌then◌else◌}
 use Rattle.std.proofs.Common.{to_z, of_z, w64}
 use Rattle.std.proofs.lemmas.Int.{to_z-of_z}
@@ -8,12 +8,13 @@ use Rattle.archive_machine.specs.Machine.{held_back}
 use Rattle.std.specs.List.{list_any}
 use Rattle.archive_store.proofs.StepLemmas.{begins, asks, answers, writes}
 use Rattle.archive_store.proofs.StepEquations.{embargo_no_message, embargo_done}
-use Rattle.archive_store.proofs.PassLemmas.{passed_answer, passed_over, passed_unanswered, passed_written, passed_unwritten}
-use Rattle.archive_store.proofs.PassLemmas.{blamed_on, blamed_later, blamed_write, saw_same}
+use Rattle.archive_store.proofs.CrashLemmas.{looks, looks_on, steps_by}
+use Rattle.archive_store.proofs.PassLemmas.{passed_answer, passed_over, passed_written}
 use Rattle.sqlite.specs.Held.{state}
-use Rattle.archive_store.proofs.CauseLemmas.{by_error}
-use Rattle.archive_tables.proofs.LastLemmas.{lasts_then}
-use Rattle.archive_tables.specs.Statements.{holding_back}
+use Rattle.archive_tables.specs.Statements.{holding_back, IsRefused}
+use Rattle.archive_store.specs.declared.faults.StoreFault.TheVariants as faults
+use Rattle.archive_machine.specs.Commands.{no_list}
+use Rattle.archive_store.proofs.EndLemmas.{fails_asking, fails_writing, as_many, stood, asked, stops_asking, stops_writing, refuses, ends_done, same_statement}
 use Rattle.archive_store.proofs.store.Store.embargo.Goals as goal
 
 pub returns-then-not-branch-2-clause-step : goal.returns-then-not-branch-2-clause-step
@@ -47,12 +48,57 @@ returns-clause-step g c =
     two c.set_embargo-set.ensures.ends.lasts.returned (λ clean kept. passed_written c.set_embargo-set.ensures c.in_ok-pass-3.ensures.passed clean kept)
     (embargo_done list key k k2 c.args.until (to_z w64 (of_z w64 c.day_number-day.result)) c.as_str.ensures c.as_str-2.ensures (to_z-of_z w64 c.day_number-day.result (record { sfits = c.day_number-day.type_inv }) ∙ c.day_number-day.ensures))
 
+-- ---- what a stop leaves
+
+pub returns-clause-crash : goal.returns-clause-crash
+returns-clause-crash g c =
+    let list = c.args.list.now in
+    let key = c.args.key.now in
+    let k = c.as_str.result.now in
+    let k2 = c.as_str-2.result.now in
+    let one = looks_on g.S.Store c.args.self.now.conn c.args.self.now.conn c.has_list-listed.new.conn (λ _. ⊤) (λ a. true ≡ has_list a list)
+    (looks g.S.Store c.args.self.now.conn) c.has_list-listed.ensures c.in_ok-pass.ensures.passed (λ a it. sym c.if-not-branch.false ∙ it) in
+    let two = looks_on g.S.Store c.args.self.now.conn c.has_list-listed.new.conn c.has_message-known.new.conn (λ a. ⊤ × (true ≡ has_list a list)) (λ a. true ≡ list_any (is_message list k) a.messages)
+    one c.has_message-known.ensures c.in_ok-pass-2.ensures.passed (λ a it. sym c.if-not-branch-2.false ∙ it) in
+    steps_by g.S.Store c.args.self.now.conn c.has_message-known.new.conn c.set_embargo-set.new.conn _ (λ _. ⊤) (λ a. held_back a list key c.args.until) done
+    (λ a. record a { messages = map (λ m. if is_message list k2 m then record m { embargo = Some (to_z w64 (of_z w64 c.day_number-day.result)) } else m) a.messages })
+    two c.set_embargo-set.ensures.ends.lasts.returned c.set_embargo-set.ensures.crash (λ a h. tt)
+    (embargo_done list key k k2 c.args.until (to_z w64 (of_z w64 c.day_number-day.result)) c.as_str.ensures c.as_str-2.ensures (to_z-of_z w64 c.day_number-day.result (record { sfits = c.day_number-day.type_inv }) ∙ c.day_number-day.ensures))
+
+pub returns-in_err-pass-3-clause-crash : goal.returns-in_err-pass-3-clause-crash
+returns-in_err-pass-3-clause-crash g c =
+    let list = c.args.list.now in
+    let key = c.args.key.now in
+    let k = c.as_str.result.now in
+    let k2 = c.as_str-2.result.now in
+    let one = looks_on g.S.Store c.args.self.now.conn c.args.self.now.conn c.has_list-listed.new.conn (λ _. ⊤) (λ a. true ≡ has_list a list)
+    (looks g.S.Store c.args.self.now.conn) c.has_list-listed.ensures c.in_ok-pass.ensures.passed (λ a it. sym c.if-not-branch.false ∙ it) in
+    let two = looks_on g.S.Store c.args.self.now.conn c.has_list-listed.new.conn c.has_message-known.new.conn (λ a. ⊤ × (true ≡ has_list a list)) (λ a. true ≡ list_any (is_message list k) a.messages)
+    one c.has_message-known.ensures c.in_ok-pass-2.ensures.passed (λ a it. sym c.if-not-branch-2.false ∙ it) in
+    steps_by g.S.Store c.args.self.now.conn c.has_message-known.new.conn c.set_embargo-set.new.conn _ (λ _. ⊤) (λ a. held_back a list key c.args.until) done
+    (λ a. record a { messages = map (λ m. if is_message list k2 m then record m { embargo = Some (to_z w64 (of_z w64 c.day_number-day.result)) } else m) a.messages })
+    two c.set_embargo-set.ensures.ends.lasts.returned c.set_embargo-set.ensures.crash (λ a h. tt)
+    (embargo_done list key k k2 c.args.until (to_z w64 (of_z w64 c.day_number-day.result)) c.as_str.ensures c.as_str-2.ensures (to_z-of_z w64 c.day_number-day.result (record { sfits = c.day_number-day.type_inv }) ∙ c.day_number-day.ensures))
+
+pub returns-in_err-pass-clause-crash : goal.returns-in_err-pass-clause-crash
+returns-in_err-pass-clause-crash g c = λ kept clean db may. inl (c.has_list-listed.ensures.quiet clean db may)
+
+pub returns-then-not-branch-clause-crash : goal.returns-then-not-branch-clause-crash
+returns-then-not-branch-clause-crash g c = λ kept clean db may. inl (c.has_list-listed.ensures.quiet clean db may)
+
+pub returns-in_err-pass-2-clause-crash : goal.returns-in_err-pass-2-clause-crash
+returns-in_err-pass-2-clause-crash g c = λ kept clean db may. inl (c.has_list-listed.ensures.quiet (c.has_message-known.ensures.ends.lasts.returned clean) db (c.has_message-known.ensures.quiet clean db may))
+
+pub returns-then-not-branch-2-clause-crash : goal.returns-then-not-branch-2-clause-crash
+returns-then-not-branch-2-clause-crash g c = λ kept clean db may. inl (c.has_list-listed.ensures.quiet (c.has_message-known.ensures.ends.lasts.returned clean) db (c.has_message-known.ensures.quiet clean db may))
+
 -- ---- where it stops before
 
 pub returns-in_err-pass-clause-step : goal.returns-in_err-pass-clause-step
-returns-in_err-pass-clause-step g c = λ clean kept.
-    let rest = passed_unanswered _ _ c.has_list-listed.ensures c.in_err-pass.ensures.passed clean kept in
-    search rules
+returns-in_err-pass-clause-step g c =
+    let s0 = stood g.S.Store c.args.self.now.conn in
+    fails_asking g.S.Store c.args.self.now.conn c.args.self.now.conn c.has_list-listed.new.conn (λ a. held_back a c.args.list.now c.args.key.now c.args.until) (λ _. done) c.from_residual.result c.in_err-pass.field-0.0
+    s0 c.has_list-listed.ensures c.in_err-pass.ensures.passed c.in_err-pass.ensures.kind c.from_residual.ensures.1
 
 pub returns-then-not-branch-clause-step : goal.returns-then-not-branch-clause-step
 returns-then-not-branch-clause-step g c = λ clean kept.
@@ -60,59 +106,61 @@ returns-then-not-branch-clause-step g c = λ clean kept.
     search rules
 
 pub returns-in_err-pass-2-clause-step : goal.returns-in_err-pass-2-clause-step
-returns-in_err-pass-2-clause-step g c = λ clean kept.
-    let clean_1 = c.has_message-known.ensures.ends.lasts.returned clean in
-    let it_1 = passed_answer c.has_list-listed.ensures c.in_ok-pass.ensures.passed clean_1 kept in
-    let rest = passed_unanswered _ _ c.has_message-known.ensures c.in_err-pass-2.ensures.passed clean it_1.1 in
-    search rules
+returns-in_err-pass-2-clause-step g c =
+    let s0 = stood g.S.Store c.args.self.now.conn in
+    let s1 = asked g.S.Store c.args.self.now.conn c.args.self.now.conn c.has_list-listed.new.conn s0 c.has_list-listed.ensures c.in_ok-pass.ensures.passed in
+    fails_asking g.S.Store c.args.self.now.conn c.has_list-listed.new.conn c.has_message-known.new.conn (λ a. held_back a c.args.list.now c.args.key.now c.args.until) (λ _. done) c.from_residual-in_err-pass-2.result c.in_err-pass-2.field-0.0
+    s1 c.has_message-known.ensures c.in_err-pass-2.ensures.passed c.in_err-pass-2.ensures.kind c.from_residual-in_err-pass-2.ensures.1
 
 pub returns-in_err-pass-3-clause-step : goal.returns-in_err-pass-3-clause-step
-returns-in_err-pass-3-clause-step g c = λ clean kept.
-    let clean_2 = c.set_embargo-set.ensures.ends.lasts.returned clean in
-    let clean_1 = c.has_message-known.ensures.ends.lasts.returned clean_2 in
-    let it_1 = passed_answer c.has_list-listed.ensures c.in_ok-pass.ensures.passed clean_1 kept in
-    let it_2 = passed_answer c.has_message-known.ensures c.in_ok-pass-2.ensures.passed clean_2 it_1.1 in
-    let rest = passed_unwritten _ _ c.set_embargo-set.ensures c.in_err-pass-3.ensures.passed clean it_2.1 in
-    search rules
+returns-in_err-pass-3-clause-step g c =
+    let s0 = stood g.S.Store c.args.self.now.conn in
+    let s1 = asked g.S.Store c.args.self.now.conn c.args.self.now.conn c.has_list-listed.new.conn s0 c.has_list-listed.ensures c.in_ok-pass.ensures.passed in
+    let s2 = asked g.S.Store c.args.self.now.conn c.has_list-listed.new.conn c.has_message-known.new.conn s1 c.has_message-known.ensures c.in_ok-pass-2.ensures.passed in
+    fails_writing g.S.Store c.args.self.now.conn c.has_message-known.new.conn c.set_embargo-set.new.conn (λ a. held_back a c.args.list.now c.args.key.now c.args.until) (λ _. done) c.from_residual-in_err-pass-3.result c.in_err-pass-3.field-0.0
+    s2 c.set_embargo-set.ensures c.in_err-pass-3.ensures.passed c.in_err-pass-3.ensures.kind c.from_residual-in_err-pass-3.ensures.1
 
--- ---- what its E15 means
+-- ---- how it ends
 
 pub returns-in_err-pass-clause-ends : goal.returns-in_err-pass-clause-ends
-returns-in_err-pass-clause-ends g c = record {
-  lasts = search rules;
-  was_open = search rules;
-  kind = search rules;
-  counted = search rules;
-  caused = λ clean kept free.
-      blamed_on c.from_residual.result c.has_list-listed.result c.in_err-pass.field-0.0 _ _ c.from_residual.ensures.1 c.in_err-pass.ensures.passed (c.has_list-listed.ensures.caused clean kept free)
-      (λ e why it. inl (by_error (state g.S.Store c.args.self.now.conn) (state g.S.Store c.has_list-listed.new.conn) e why it));
-}
+returns-in_err-pass-clause-ends g c =
+    let s0 = stood g.S.Store c.args.self.now.conn in
+    stops_asking g.S.Store c.args.self.now (record { conn = c.has_list-listed.new.conn; wants = c.pass.new.self }) c.args.self.now.conn c.args.self.now.wants (no_list ∷ no_message ∷ [])
+    (IsRefused (holding_back c.args.list.now c.args.key.now c.args.until)) c.from_residual.result c.in_err-pass.field-0.0 s0 (as_many refl) c.has_list-listed.ensures c.in_err-pass.ensures.passed c.in_err-pass.ensures.kind c.in_err-pass.ensures.counted.0 c.from_residual.ensures.1
 
 pub returns-in_err-pass-2-clause-ends : goal.returns-in_err-pass-2-clause-ends
-returns-in_err-pass-2-clause-ends g c = record {
-  lasts = search rules;
-  was_open = search rules;
-  kind = search rules;
-  counted = search rules;
-  caused = λ clean kept free.
-      let clean_1 = c.has_message-known.ensures.ends.lasts.returned clean in
-      let it_1 = passed_answer c.has_list-listed.ensures c.in_ok-pass.ensures.passed clean_1 kept in
-      let lasts = c.has_list-listed.ensures.ends.lasts in
-      blamed_later _ (state g.S.Store c.args.self.now.conn) (state g.S.Store c.has_list-listed.new.conn) (state g.S.Store c.has_message-known.new.conn) c.from_residual-in_err-pass-2.result c.has_message-known.result c.in_err-pass-2.field-0.0 c.from_residual-in_err-pass-2.ensures.1 c.in_err-pass-2.ensures.passed lasts (c.has_message-known.ensures.caused clean it_1.1 (lasts.limit ∙ free));
-}
+returns-in_err-pass-2-clause-ends g c =
+    let s0 = stood g.S.Store c.args.self.now.conn in
+    let s1 = asked g.S.Store c.args.self.now.conn c.args.self.now.conn c.has_list-listed.new.conn s0 c.has_list-listed.ensures c.in_ok-pass.ensures.passed in
+    stops_asking g.S.Store c.args.self.now (record { conn = c.has_message-known.new.conn; wants = c.pass-2.new.self }) c.has_list-listed.new.conn c.pass.new.self (no_list ∷ no_message ∷ [])
+    (IsRefused (holding_back c.args.list.now c.args.key.now c.args.until)) c.from_residual-in_err-pass-2.result c.in_err-pass-2.field-0.0 s1 (as_many (c.in_ok-pass.ensures.counted.1)) c.has_message-known.ensures c.in_err-pass-2.ensures.passed c.in_err-pass-2.ensures.kind c.in_err-pass-2.ensures.counted.0 c.from_residual-in_err-pass-2.ensures.1
+
+pub returns-then-not-branch-clause-ends : goal.returns-then-not-branch-clause-ends
+returns-then-not-branch-clause-ends g c =
+    let s0 = stood g.S.Store c.args.self.now.conn in
+    let s1 = asked g.S.Store c.args.self.now.conn c.args.self.now.conn c.has_list-listed.new.conn s0 c.has_list-listed.ensures c.in_ok-pass.ensures.passed in
+    refuses g.S.Store c.args.self.now (record { conn = c.has_list-listed.new.conn; wants = c.pass.new.self }) (no_list ∷ no_message ∷ []) _ faults.NoList no_list s1.lasts (as_many (c.in_ok-pass.ensures.counted.1)) refl (inl refl)
+
+pub returns-then-not-branch-2-clause-ends : goal.returns-then-not-branch-2-clause-ends
+returns-then-not-branch-2-clause-ends g c =
+    let s0 = stood g.S.Store c.args.self.now.conn in
+    let s1 = asked g.S.Store c.args.self.now.conn c.args.self.now.conn c.has_list-listed.new.conn s0 c.has_list-listed.ensures c.in_ok-pass.ensures.passed in
+    let s2 = asked g.S.Store c.args.self.now.conn c.has_list-listed.new.conn c.has_message-known.new.conn s1 c.has_message-known.ensures c.in_ok-pass-2.ensures.passed in
+    refuses g.S.Store c.args.self.now (record { conn = c.has_message-known.new.conn; wants = c.pass-2.new.self }) (no_list ∷ no_message ∷ []) _ faults.NoMessage no_message s2.lasts (as_many (c.in_ok-pass-2.ensures.counted.1 ∙ c.in_ok-pass.ensures.counted.1)) refl (inr (inl refl))
 
 pub returns-in_err-pass-3-clause-ends : goal.returns-in_err-pass-3-clause-ends
-returns-in_err-pass-3-clause-ends g c = record {
-  lasts = search rules;
-  was_open = search rules;
-  kind = search rules;
-  counted = search rules;
-  caused = λ clean kept free.
-      let clean_2 = c.set_embargo-set.ensures.ends.lasts.returned clean in
-      let clean_1 = c.has_message-known.ensures.ends.lasts.returned clean_2 in
-      let it_1 = passed_answer c.has_list-listed.ensures c.in_ok-pass.ensures.passed clean_1 kept in
-      let it_2 = passed_answer c.has_message-known.ensures c.in_ok-pass-2.ensures.passed clean_2 it_1.1 in
-      let lasts = lasts_then _ _ _ c.has_list-listed.ensures.ends.lasts c.has_message-known.ensures.ends.lasts in
-      blamed_write (state g.S.Store c.args.self.now.conn) (state g.S.Store c.has_message-known.new.conn) (state g.S.Store c.set_embargo-set.new.conn) c.from_residual-in_err-pass-3.result c.set_embargo-set.result c.in_err-pass-3.field-0.0 (holding_back c.args.list.now c.as_str-2.result.now (to_z w64 (of_z w64 c.day_number-day.result))) _ (ap (λ k. holding_back c.args.list.now k (to_z w64 (of_z w64 c.day_number-day.result))) c.as_str-2.ensures ∙ ap (λ n. holding_back c.args.list.now c.args.key.now n) (to_z-of_z w64 c.day_number-day.result (record { sfits = c.day_number-day.type_inv }) ∙ c.day_number-day.ensures)) c.from_residual-in_err-pass-3.ensures.1 c.in_err-pass-3.ensures.passed
-      (saw_same (state g.S.Store c.has_list-listed.new.conn) (state g.S.Store c.has_message-known.new.conn) c.in_ok-pass-2.ensures.passed (c.has_message-known.ensures.same clean_2) ∙ saw_same (state g.S.Store c.args.self.now.conn) (state g.S.Store c.has_list-listed.new.conn) c.in_ok-pass.ensures.passed (c.has_list-listed.ensures.same clean_1)) lasts (c.set_embargo-set.ensures.caused clean None it_2.1 (lasts.limit ∙ free));
-}
+returns-in_err-pass-3-clause-ends g c =
+    let s0 = stood g.S.Store c.args.self.now.conn in
+    let s1 = asked g.S.Store c.args.self.now.conn c.args.self.now.conn c.has_list-listed.new.conn s0 c.has_list-listed.ensures c.in_ok-pass.ensures.passed in
+    let s2 = asked g.S.Store c.args.self.now.conn c.has_list-listed.new.conn c.has_message-known.new.conn s1 c.has_message-known.ensures c.in_ok-pass-2.ensures.passed in
+    stops_writing g.S.Store c.args.self.now (record { conn = c.set_embargo-set.new.conn; wants = c.pass-3.new.self }) c.has_message-known.new.conn c.pass-2.new.self (no_list ∷ no_message ∷ [])
+    (IsRefused (holding_back c.args.list.now c.args.key.now c.args.until)) c.from_residual-in_err-pass-3.result c.in_err-pass-3.field-0.0 s2 (as_many (c.in_ok-pass-2.ensures.counted.1 ∙ c.in_ok-pass.ensures.counted.1)) c.set_embargo-set.ensures c.in_err-pass-3.ensures.passed c.in_err-pass-3.ensures.kind c.in_err-pass-3.ensures.counted.0 c.from_residual-in_err-pass-3.ensures.1
+    (λ clean kept refused. same_statement (state g.S.Store c.args.self.now.conn).now (ap (λ k. holding_back c.args.list.now k (to_z w64 (of_z w64 c.day_number-day.result))) c.as_str-2.ensures ∙ ap (holding_back c.args.list.now c.args.key.now) (to_z-of_z w64 c.day_number-day.result (record { sfits = c.day_number-day.type_inv }) ∙ c.day_number-day.ensures)) refused)
+
+pub returns-clause-ends : goal.returns-clause-ends
+returns-clause-ends g c =
+    let s0 = stood g.S.Store c.args.self.now.conn in
+    let s1 = asked g.S.Store c.args.self.now.conn c.args.self.now.conn c.has_list-listed.new.conn s0 c.has_list-listed.ensures c.in_ok-pass.ensures.passed in
+    let s2 = asked g.S.Store c.args.self.now.conn c.has_list-listed.new.conn c.has_message-known.new.conn s1 c.has_message-known.ensures c.in_ok-pass-2.ensures.passed in
+    ends_done g.S.Store c.args.self.now (record { conn = c.set_embargo-set.new.conn; wants = c.pass-3.new.self }) c.has_message-known.new.conn c.pass-2.new.self (no_list ∷ no_message ∷ [])
+    _ tt s2 (as_many (c.in_ok-pass-2.ensures.counted.1 ∙ c.in_ok-pass.ensures.counted.1)) c.set_embargo-set.ensures.ends c.in_ok-pass-3.ensures.passed c.in_ok-pass-3.ensures.counted.0.0

@@ -29,3 +29,17 @@ returns-in_err-count-clause-found g c = λ clean kept right.
     fails_as c.from_residual-in_err-count.result c.in_err-count.field-0.0 c.from_residual-in_err-count.ensures.1 _ _ _
     (not_counted (state g.S.Store c.args.self.now.conn) (state g.S.Store c.reaches-reaches.new.conn) (state g.S.Store c.count.new.self.conn) c.args.list.now (refusal c.in_err-count.field-0.0) reached.1.1
     (c.in_err-count.ensures.answer clean reached.1.0))
+
+-- ---- a stop leaves nothing new
+
+pub returns-in_err-pass-clause-quiet : goal.returns-in_err-pass-clause-quiet
+returns-in_err-pass-clause-quiet g c = c.reaches-reaches.ensures.asks.quiet
+
+pub returns-then-not-branch-clause-quiet : goal.returns-then-not-branch-clause-quiet
+returns-then-not-branch-clause-quiet g c = c.reaches-reaches.ensures.asks.quiet
+
+pub returns-in_err-count-clause-quiet : goal.returns-in_err-count-clause-quiet
+returns-in_err-count-clause-quiet g c = λ clean db may. c.reaches-reaches.ensures.asks.quiet (c.count.ensures.ends.lasts.returned clean) db (c.count.ensures.quiet clean db may)
+
+pub returns-clause-quiet : goal.returns-clause-quiet
+returns-clause-quiet g c = λ clean db may. c.reaches-reaches.ensures.asks.quiet (c.count.ensures.ends.lasts.returned clean) db (c.count.ensures.quiet clean db may)

@@ -2,6 +2,9 @@ use Rattle.std.proofs.Common.{rules}
 use Rattle.archive_tables.proofs.LastLemmas.{lasts_same}
 use Rattle.archive_store.proofs.PassLemmas.{open_last}
 use Rattle.archive_store.proofs.FindLemmas.{answers_passed, blames_disk, up_passed}
+use Rattle.std.specs.Prelude.{◌≡◌}
+use Rattle.sqlite.specs.Held.{state}
+use Rattle.archive_store.proofs.EndLemmas.{passes_same}
 use Rattle.archive_store.proofs.store.Store.has_list.Goals as goal
 
 pub returns-clause-answer : goal.returns-clause-answer
@@ -21,3 +24,7 @@ returns-clause-ends g c = record {
 pub returns-clause-was_open : goal.returns-clause-was_open
 returns-clause-was_open g c =
     up_passed g.S.Store c.args.self.now.conn c.has_list-listed.new.conn c.has_list-listed.result c.pass.result c.pass.ensures.passed c.pass.ensures.kind c.has_list-listed.ensures.ends.was_open
+
+pub returns-clause-same : goal.returns-clause-same
+returns-clause-same g c = λ clean.
+    passes_same ((state g.S.Store c.has_list-listed.new.conn).now ≡ (state g.S.Store c.args.self.now.conn).now) c.has_list-listed.result c.pass.result c.pass.ensures.passed (c.has_list-listed.ensures.same clean)

@@ -1,4 +1,4 @@
-use Rattle.std.proofs.Common.{ap, None, inl, ◌≡◌, true, false, sym, ◌∙◌, rules}
+use Rattle.std.proofs.Common.{ap, inl, ◌≡◌, true, false, sym, ◌∙◌, rules, refl, inr, ◌∷◌, []}
 use Rattle.std.specs.Prelude.{⊤, not, filter}
 use Rattle.std.proofs.Common.{to_z, of_z, w64}
 use Rattle.std.proofs.lemmas.Int.{to_z-of_z}
@@ -8,12 +8,13 @@ use Rattle.archive_machine.specs.Machine.{revoked}
 use Rattle.policy_core.specs.Numbers.{kind_rank}
 use Rattle.archive_store.proofs.StepLemmas.{begins, asks, answers, writes}
 use Rattle.archive_store.proofs.StepEquations.{revoke_no_list, revoke_done}
-use Rattle.archive_store.proofs.PassLemmas.{passed_answer, passed_over, passed_unanswered, passed_written, passed_unwritten}
-use Rattle.archive_store.proofs.PassLemmas.{blamed_on, blamed_later, blamed_write, saw_same}
+use Rattle.archive_store.proofs.CrashLemmas.{looks, looks_on, steps_by}
+use Rattle.archive_store.proofs.PassLemmas.{passed_answer, passed_over, passed_written}
 use Rattle.sqlite.specs.Held.{state}
-use Rattle.archive_store.proofs.CauseLemmas.{by_error}
-use Rattle.archive_tables.proofs.LastLemmas.{lasts_then}
-use Rattle.archive_tables.specs.Statements.{removing_grant}
+use Rattle.archive_tables.specs.Statements.{removing_grant, IsRefused}
+use Rattle.archive_store.specs.declared.faults.StoreFault.TheVariants as faults
+use Rattle.archive_machine.specs.Commands.{no_person}
+use Rattle.archive_store.proofs.EndLemmas.{fails_asking, fails_writing, as_many, stood, asked, stops_asking, stops_writing, refuses, ends_done, same_statement}
 use Rattle.archive_store.proofs.store.Store.revoke.Goals as goal
 
 pub returns-then-not-branch-2-clause-step : goal.returns-then-not-branch-2-clause-step
@@ -47,12 +48,65 @@ returns-clause-step g c =
     three c.remove_grant-removed.ensures.ends.lasts.returned (λ clean kept. passed_written c.remove_grant-removed.ensures c.in_ok-pass-3.ensures.passed clean kept)
     (revoke_done person list (kind_rank c.args.kind) (to_z w64 (of_z w64 c.rank-rank.result)) had (to_z-of_z w64 c.rank-rank.result (record { sfits = c.rank-rank.type_inv }) ∙ c.rank-rank.ensures))
 
+-- ---- what a stop leaves
+
+pub returns-clause-crash : goal.returns-clause-crash
+returns-clause-crash g c =
+    let person = c.args.person.now in
+    let list = c.args.list.now in
+    let had = c.in_ok-was_there.was_there in
+    let one = looks_on g.S.Store c.args.self.now.conn c.args.self.now.conn c.has_person-known.new.conn (λ _. ⊤) (λ a. true ≡ has_person a person)
+    (looks g.S.Store c.args.self.now.conn) c.has_person-known.ensures c.in_ok-pass.ensures.passed (λ a it. sym c.if-not-branch.false ∙ it) in
+    let two = looks_on g.S.Store c.args.self.now.conn c.has_person-known.new.conn c.has_list-listed.new.conn (λ a. ⊤ × (true ≡ has_person a person)) (λ a. true ≡ has_list a list)
+    one c.has_list-listed.ensures c.in_ok-pass-2.ensures.passed (λ a it. sym c.if-not-branch-2.false ∙ it) in
+    let three = looks_on g.S.Store c.args.self.now.conn c.has_list-listed.new.conn c.has_grant-had.new.conn (λ a. (⊤ × (true ≡ has_person a person)) × (true ≡ has_list a list)) (λ a. had ≡ has_grant a person list (to_z w64 (of_z w64 c.rank-rank.result)))
+    two c.has_grant-had.ensures c.in_ok-was_there.ensures.passed (λ a it. it) in
+    steps_by g.S.Store c.args.self.now.conn c.has_grant-had.new.conn c.remove_grant-removed.new.conn _ (λ _. ⊤) (λ a. revoked a person list (kind_rank c.args.kind)) (was_there had)
+    (λ a. record a { grants = filter (λ g. not (is_grant person list (to_z w64 (of_z w64 c.rank-rank.result)) g)) a.grants })
+    three c.remove_grant-removed.ensures.ends.lasts.returned c.remove_grant-removed.ensures.crash (λ a h. tt)
+    (revoke_done person list (kind_rank c.args.kind) (to_z w64 (of_z w64 c.rank-rank.result)) had (to_z-of_z w64 c.rank-rank.result (record { sfits = c.rank-rank.type_inv }) ∙ c.rank-rank.ensures))
+
+pub returns-in_err-pass-3-clause-crash : goal.returns-in_err-pass-3-clause-crash
+returns-in_err-pass-3-clause-crash g c =
+    let person = c.args.person.now in
+    let list = c.args.list.now in
+    let had = c.in_ok-was_there.was_there in
+    let one = looks_on g.S.Store c.args.self.now.conn c.args.self.now.conn c.has_person-known.new.conn (λ _. ⊤) (λ a. true ≡ has_person a person)
+    (looks g.S.Store c.args.self.now.conn) c.has_person-known.ensures c.in_ok-pass.ensures.passed (λ a it. sym c.if-not-branch.false ∙ it) in
+    let two = looks_on g.S.Store c.args.self.now.conn c.has_person-known.new.conn c.has_list-listed.new.conn (λ a. ⊤ × (true ≡ has_person a person)) (λ a. true ≡ has_list a list)
+    one c.has_list-listed.ensures c.in_ok-pass-2.ensures.passed (λ a it. sym c.if-not-branch-2.false ∙ it) in
+    let three = looks_on g.S.Store c.args.self.now.conn c.has_list-listed.new.conn c.has_grant-had.new.conn (λ a. (⊤ × (true ≡ has_person a person)) × (true ≡ has_list a list)) (λ a. had ≡ has_grant a person list (to_z w64 (of_z w64 c.rank-rank.result)))
+    two c.has_grant-had.ensures c.in_ok-was_there.ensures.passed (λ a it. it) in
+    steps_by g.S.Store c.args.self.now.conn c.has_grant-had.new.conn c.remove_grant-removed.new.conn _ (λ _. ⊤) (λ a. revoked a person list (kind_rank c.args.kind)) (was_there had)
+    (λ a. record a { grants = filter (λ g. not (is_grant person list (to_z w64 (of_z w64 c.rank-rank.result)) g)) a.grants })
+    three c.remove_grant-removed.ensures.ends.lasts.returned c.remove_grant-removed.ensures.crash (λ a h. tt)
+    (revoke_done person list (kind_rank c.args.kind) (to_z w64 (of_z w64 c.rank-rank.result)) had (to_z-of_z w64 c.rank-rank.result (record { sfits = c.rank-rank.type_inv }) ∙ c.rank-rank.ensures))
+
+pub returns-in_err-pass-clause-crash : goal.returns-in_err-pass-clause-crash
+returns-in_err-pass-clause-crash g c = λ kept clean db may. inl (c.has_person-known.ensures.quiet clean db may)
+
+pub returns-then-not-branch-clause-crash : goal.returns-then-not-branch-clause-crash
+returns-then-not-branch-clause-crash g c = λ kept clean db may. inl (c.has_person-known.ensures.quiet clean db may)
+
+pub returns-in_err-pass-2-clause-crash : goal.returns-in_err-pass-2-clause-crash
+returns-in_err-pass-2-clause-crash g c = λ kept clean db may. inl (c.has_person-known.ensures.quiet (c.has_list-listed.ensures.ends.lasts.returned clean) db (c.has_list-listed.ensures.quiet clean db may))
+
+pub returns-then-not-branch-2-clause-crash : goal.returns-then-not-branch-2-clause-crash
+returns-then-not-branch-2-clause-crash g c = λ kept clean db may. inl (c.has_person-known.ensures.quiet (c.has_list-listed.ensures.ends.lasts.returned clean) db (c.has_list-listed.ensures.quiet clean db may))
+
+pub returns-in_err-was_there-clause-crash : goal.returns-in_err-was_there-clause-crash
+returns-in_err-was_there-clause-crash g c = λ kept clean db may.
+    let clean_2 = c.has_grant-had.ensures.ends.lasts.returned clean in
+    let clean_1 = c.has_list-listed.ensures.ends.lasts.returned clean_2 in
+    inl (c.has_person-known.ensures.quiet clean_1 db (c.has_list-listed.ensures.quiet clean_2 db (c.has_grant-had.ensures.quiet clean db may)))
+
 -- ---- where it stops before
 
 pub returns-in_err-pass-clause-step : goal.returns-in_err-pass-clause-step
-returns-in_err-pass-clause-step g c = λ clean kept.
-    let rest = passed_unanswered _ _ c.has_person-known.ensures c.in_err-pass.ensures.passed clean kept in
-    search rules
+returns-in_err-pass-clause-step g c =
+    let s0 = stood g.S.Store c.args.self.now.conn in
+    fails_asking g.S.Store c.args.self.now.conn c.args.self.now.conn c.has_person-known.new.conn (λ a. revoked a c.args.person.now c.args.list.now (kind_rank c.args.kind)) was_there c.from_residual.result c.in_err-pass.field-0.0
+    s0 c.has_person-known.ensures c.in_err-pass.ensures.passed c.in_err-pass.ensures.kind c.from_residual.ensures.1
 
 pub returns-then-not-branch-clause-step : goal.returns-then-not-branch-clause-step
 returns-then-not-branch-clause-step g c = λ clean kept.
@@ -60,87 +114,80 @@ returns-then-not-branch-clause-step g c = λ clean kept.
     search rules
 
 pub returns-in_err-pass-2-clause-step : goal.returns-in_err-pass-2-clause-step
-returns-in_err-pass-2-clause-step g c = λ clean kept.
-    let clean_1 = c.has_list-listed.ensures.ends.lasts.returned clean in
-    let it_1 = passed_answer c.has_person-known.ensures c.in_ok-pass.ensures.passed clean_1 kept in
-    let rest = passed_unanswered _ _ c.has_list-listed.ensures c.in_err-pass-2.ensures.passed clean it_1.1 in
-    search rules
+returns-in_err-pass-2-clause-step g c =
+    let s0 = stood g.S.Store c.args.self.now.conn in
+    let s1 = asked g.S.Store c.args.self.now.conn c.args.self.now.conn c.has_person-known.new.conn s0 c.has_person-known.ensures c.in_ok-pass.ensures.passed in
+    fails_asking g.S.Store c.args.self.now.conn c.has_person-known.new.conn c.has_list-listed.new.conn (λ a. revoked a c.args.person.now c.args.list.now (kind_rank c.args.kind)) was_there c.from_residual-in_err-pass-2.result c.in_err-pass-2.field-0.0
+    s1 c.has_list-listed.ensures c.in_err-pass-2.ensures.passed c.in_err-pass-2.ensures.kind c.from_residual-in_err-pass-2.ensures.1
 
 pub returns-in_err-was_there-clause-step : goal.returns-in_err-was_there-clause-step
-returns-in_err-was_there-clause-step g c = λ clean kept.
-    let clean_2 = c.has_grant-had.ensures.ends.lasts.returned clean in
-    let clean_1 = c.has_list-listed.ensures.ends.lasts.returned clean_2 in
-    let it_1 = passed_answer c.has_person-known.ensures c.in_ok-pass.ensures.passed clean_1 kept in
-    let it_2 = passed_answer c.has_list-listed.ensures c.in_ok-pass-2.ensures.passed clean_2 it_1.1 in
-    let rest = passed_unanswered _ _ c.has_grant-had.ensures c.in_err-was_there.ensures.passed clean it_2.1 in
-    search rules
+returns-in_err-was_there-clause-step g c =
+    let s0 = stood g.S.Store c.args.self.now.conn in
+    let s1 = asked g.S.Store c.args.self.now.conn c.args.self.now.conn c.has_person-known.new.conn s0 c.has_person-known.ensures c.in_ok-pass.ensures.passed in
+    let s2 = asked g.S.Store c.args.self.now.conn c.has_person-known.new.conn c.has_list-listed.new.conn s1 c.has_list-listed.ensures c.in_ok-pass-2.ensures.passed in
+    fails_asking g.S.Store c.args.self.now.conn c.has_list-listed.new.conn c.has_grant-had.new.conn (λ a. revoked a c.args.person.now c.args.list.now (kind_rank c.args.kind)) was_there c.from_residual-in_err-was_there.result c.in_err-was_there.field-0.0
+    s2 c.has_grant-had.ensures c.in_err-was_there.ensures.passed c.in_err-was_there.ensures.kind c.from_residual-in_err-was_there.ensures.1
 
 pub returns-in_err-pass-3-clause-step : goal.returns-in_err-pass-3-clause-step
-returns-in_err-pass-3-clause-step g c = λ clean kept.
-    let clean_3 = c.remove_grant-removed.ensures.ends.lasts.returned clean in
-    let clean_2 = c.has_grant-had.ensures.ends.lasts.returned clean_3 in
-    let clean_1 = c.has_list-listed.ensures.ends.lasts.returned clean_2 in
-    let it_1 = passed_answer c.has_person-known.ensures c.in_ok-pass.ensures.passed clean_1 kept in
-    let it_2 = passed_answer c.has_list-listed.ensures c.in_ok-pass-2.ensures.passed clean_2 it_1.1 in
-    let it_3 = passed_answer c.has_grant-had.ensures c.in_ok-was_there.ensures.passed clean_3 it_2.1 in
-    let rest = passed_unwritten _ _ c.remove_grant-removed.ensures c.in_err-pass-3.ensures.passed clean it_3.1 in
-    search rules
+returns-in_err-pass-3-clause-step g c =
+    let s0 = stood g.S.Store c.args.self.now.conn in
+    let s1 = asked g.S.Store c.args.self.now.conn c.args.self.now.conn c.has_person-known.new.conn s0 c.has_person-known.ensures c.in_ok-pass.ensures.passed in
+    let s2 = asked g.S.Store c.args.self.now.conn c.has_person-known.new.conn c.has_list-listed.new.conn s1 c.has_list-listed.ensures c.in_ok-pass-2.ensures.passed in
+    let s3 = asked g.S.Store c.args.self.now.conn c.has_list-listed.new.conn c.has_grant-had.new.conn s2 c.has_grant-had.ensures c.in_ok-was_there.ensures.passed in
+    fails_writing g.S.Store c.args.self.now.conn c.has_grant-had.new.conn c.remove_grant-removed.new.conn (λ a. revoked a c.args.person.now c.args.list.now (kind_rank c.args.kind)) was_there c.from_residual-in_err-pass-3.result c.in_err-pass-3.field-0.0
+    s3 c.remove_grant-removed.ensures c.in_err-pass-3.ensures.passed c.in_err-pass-3.ensures.kind c.from_residual-in_err-pass-3.ensures.1
 
--- ---- what its E15 means
+-- ---- how it ends
 
 pub returns-in_err-pass-clause-ends : goal.returns-in_err-pass-clause-ends
-returns-in_err-pass-clause-ends g c = record {
-  lasts = search rules;
-  was_open = search rules;
-  kind = search rules;
-  counted = search rules;
-  caused = λ clean kept free.
-      blamed_on c.from_residual.result c.has_person-known.result c.in_err-pass.field-0.0 _ _ c.from_residual.ensures.1 c.in_err-pass.ensures.passed (c.has_person-known.ensures.caused clean kept free)
-      (λ e why it. inl (by_error (state g.S.Store c.args.self.now.conn) (state g.S.Store c.has_person-known.new.conn) e why it));
-}
+returns-in_err-pass-clause-ends g c =
+    let s0 = stood g.S.Store c.args.self.now.conn in
+    stops_asking g.S.Store c.args.self.now (record { conn = c.has_person-known.new.conn; wants = c.pass.new.self }) c.args.self.now.conn c.args.self.now.wants (no_person ∷ no_list ∷ [])
+    (IsRefused (removing_grant c.args.person.now c.args.list.now (kind_rank c.args.kind))) c.from_residual.result c.in_err-pass.field-0.0 s0 (as_many refl) c.has_person-known.ensures c.in_err-pass.ensures.passed c.in_err-pass.ensures.kind c.in_err-pass.ensures.counted.0 c.from_residual.ensures.1
 
 pub returns-in_err-pass-2-clause-ends : goal.returns-in_err-pass-2-clause-ends
-returns-in_err-pass-2-clause-ends g c = record {
-  lasts = search rules;
-  was_open = search rules;
-  kind = search rules;
-  counted = search rules;
-  caused = λ clean kept free.
-      let clean_1 = c.has_list-listed.ensures.ends.lasts.returned clean in
-      let it_1 = passed_answer c.has_person-known.ensures c.in_ok-pass.ensures.passed clean_1 kept in
-      let lasts = c.has_person-known.ensures.ends.lasts in
-      blamed_later _ (state g.S.Store c.args.self.now.conn) (state g.S.Store c.has_person-known.new.conn) (state g.S.Store c.has_list-listed.new.conn) c.from_residual-in_err-pass-2.result c.has_list-listed.result c.in_err-pass-2.field-0.0 c.from_residual-in_err-pass-2.ensures.1 c.in_err-pass-2.ensures.passed lasts (c.has_list-listed.ensures.caused clean it_1.1 (lasts.limit ∙ free));
-}
+returns-in_err-pass-2-clause-ends g c =
+    let s0 = stood g.S.Store c.args.self.now.conn in
+    let s1 = asked g.S.Store c.args.self.now.conn c.args.self.now.conn c.has_person-known.new.conn s0 c.has_person-known.ensures c.in_ok-pass.ensures.passed in
+    stops_asking g.S.Store c.args.self.now (record { conn = c.has_list-listed.new.conn; wants = c.pass-2.new.self }) c.has_person-known.new.conn c.pass.new.self (no_person ∷ no_list ∷ [])
+    (IsRefused (removing_grant c.args.person.now c.args.list.now (kind_rank c.args.kind))) c.from_residual-in_err-pass-2.result c.in_err-pass-2.field-0.0 s1 (as_many (c.in_ok-pass.ensures.counted.1)) c.has_list-listed.ensures c.in_err-pass-2.ensures.passed c.in_err-pass-2.ensures.kind c.in_err-pass-2.ensures.counted.0 c.from_residual-in_err-pass-2.ensures.1
 
 pub returns-in_err-was_there-clause-ends : goal.returns-in_err-was_there-clause-ends
-returns-in_err-was_there-clause-ends g c = record {
-  lasts = search rules;
-  was_open = search rules;
-  kind = search rules;
-  counted = search rules;
-  caused = λ clean kept free.
-      let clean_2 = c.has_grant-had.ensures.ends.lasts.returned clean in
-      let clean_1 = c.has_list-listed.ensures.ends.lasts.returned clean_2 in
-      let it_1 = passed_answer c.has_person-known.ensures c.in_ok-pass.ensures.passed clean_1 kept in
-      let it_2 = passed_answer c.has_list-listed.ensures c.in_ok-pass-2.ensures.passed clean_2 it_1.1 in
-      let lasts = lasts_then _ _ _ c.has_person-known.ensures.ends.lasts c.has_list-listed.ensures.ends.lasts in
-      blamed_later _ (state g.S.Store c.args.self.now.conn) (state g.S.Store c.has_list-listed.new.conn) (state g.S.Store c.has_grant-had.new.conn) c.from_residual-in_err-was_there.result c.has_grant-had.result c.in_err-was_there.field-0.0 c.from_residual-in_err-was_there.ensures.1 c.in_err-was_there.ensures.passed lasts (c.has_grant-had.ensures.caused clean it_2.1 (lasts.limit ∙ free));
-}
+returns-in_err-was_there-clause-ends g c =
+    let s0 = stood g.S.Store c.args.self.now.conn in
+    let s1 = asked g.S.Store c.args.self.now.conn c.args.self.now.conn c.has_person-known.new.conn s0 c.has_person-known.ensures c.in_ok-pass.ensures.passed in
+    let s2 = asked g.S.Store c.args.self.now.conn c.has_person-known.new.conn c.has_list-listed.new.conn s1 c.has_list-listed.ensures c.in_ok-pass-2.ensures.passed in
+    stops_asking g.S.Store c.args.self.now (record { conn = c.has_grant-had.new.conn; wants = c.pass-3.new.self }) c.has_list-listed.new.conn c.pass-2.new.self (no_person ∷ no_list ∷ [])
+    (IsRefused (removing_grant c.args.person.now c.args.list.now (kind_rank c.args.kind))) c.from_residual-in_err-was_there.result c.in_err-was_there.field-0.0 s2 (as_many (c.in_ok-pass-2.ensures.counted.1 ∙ c.in_ok-pass.ensures.counted.1)) c.has_grant-had.ensures c.in_err-was_there.ensures.passed c.in_err-was_there.ensures.kind c.in_err-was_there.ensures.counted.0 c.from_residual-in_err-was_there.ensures.1
+
+pub returns-then-not-branch-clause-ends : goal.returns-then-not-branch-clause-ends
+returns-then-not-branch-clause-ends g c =
+    let s0 = stood g.S.Store c.args.self.now.conn in
+    let s1 = asked g.S.Store c.args.self.now.conn c.args.self.now.conn c.has_person-known.new.conn s0 c.has_person-known.ensures c.in_ok-pass.ensures.passed in
+    refuses g.S.Store c.args.self.now (record { conn = c.has_person-known.new.conn; wants = c.pass.new.self }) (no_person ∷ no_list ∷ []) _ faults.NoPerson no_person s1.lasts (as_many (c.in_ok-pass.ensures.counted.1)) refl (inl refl)
+
+pub returns-then-not-branch-2-clause-ends : goal.returns-then-not-branch-2-clause-ends
+returns-then-not-branch-2-clause-ends g c =
+    let s0 = stood g.S.Store c.args.self.now.conn in
+    let s1 = asked g.S.Store c.args.self.now.conn c.args.self.now.conn c.has_person-known.new.conn s0 c.has_person-known.ensures c.in_ok-pass.ensures.passed in
+    let s2 = asked g.S.Store c.args.self.now.conn c.has_person-known.new.conn c.has_list-listed.new.conn s1 c.has_list-listed.ensures c.in_ok-pass-2.ensures.passed in
+    refuses g.S.Store c.args.self.now (record { conn = c.has_list-listed.new.conn; wants = c.pass-2.new.self }) (no_person ∷ no_list ∷ []) _ faults.NoList no_list s2.lasts (as_many (c.in_ok-pass-2.ensures.counted.1 ∙ c.in_ok-pass.ensures.counted.1)) refl (inr (inl refl))
 
 pub returns-in_err-pass-3-clause-ends : goal.returns-in_err-pass-3-clause-ends
-returns-in_err-pass-3-clause-ends g c = record {
-  lasts = search rules;
-  was_open = search rules;
-  kind = search rules;
-  counted = search rules;
-  caused = λ clean kept free.
-      let clean_3 = c.remove_grant-removed.ensures.ends.lasts.returned clean in
-      let clean_2 = c.has_grant-had.ensures.ends.lasts.returned clean_3 in
-      let clean_1 = c.has_list-listed.ensures.ends.lasts.returned clean_2 in
-      let it_1 = passed_answer c.has_person-known.ensures c.in_ok-pass.ensures.passed clean_1 kept in
-      let it_2 = passed_answer c.has_list-listed.ensures c.in_ok-pass-2.ensures.passed clean_2 it_1.1 in
-      let it_3 = passed_answer c.has_grant-had.ensures c.in_ok-was_there.ensures.passed clean_3 it_2.1 in
-      let lasts = lasts_then _ _ _ (lasts_then _ _ _ c.has_person-known.ensures.ends.lasts c.has_list-listed.ensures.ends.lasts) c.has_grant-had.ensures.ends.lasts in
-      blamed_write (state g.S.Store c.args.self.now.conn) (state g.S.Store c.has_grant-had.new.conn) (state g.S.Store c.remove_grant-removed.new.conn) c.from_residual-in_err-pass-3.result c.remove_grant-removed.result c.in_err-pass-3.field-0.0 (removing_grant c.args.person.now c.args.list.now (to_z w64 (of_z w64 c.rank-rank.result))) _ (ap (λ n. removing_grant c.args.person.now c.args.list.now n) (to_z-of_z w64 c.rank-rank.result (record { sfits = c.rank-rank.type_inv }) ∙ c.rank-rank.ensures)) c.from_residual-in_err-pass-3.ensures.1 c.in_err-pass-3.ensures.passed
-      (saw_same (state g.S.Store c.has_list-listed.new.conn) (state g.S.Store c.has_grant-had.new.conn) c.in_ok-was_there.ensures.passed (c.has_grant-had.ensures.same clean_3) ∙ saw_same (state g.S.Store c.has_person-known.new.conn) (state g.S.Store c.has_list-listed.new.conn) c.in_ok-pass-2.ensures.passed (c.has_list-listed.ensures.same clean_2) ∙ saw_same (state g.S.Store c.args.self.now.conn) (state g.S.Store c.has_person-known.new.conn) c.in_ok-pass.ensures.passed (c.has_person-known.ensures.same clean_1)) lasts (c.remove_grant-removed.ensures.caused clean None it_3.1 (lasts.limit ∙ free));
-}
+returns-in_err-pass-3-clause-ends g c =
+    let s0 = stood g.S.Store c.args.self.now.conn in
+    let s1 = asked g.S.Store c.args.self.now.conn c.args.self.now.conn c.has_person-known.new.conn s0 c.has_person-known.ensures c.in_ok-pass.ensures.passed in
+    let s2 = asked g.S.Store c.args.self.now.conn c.has_person-known.new.conn c.has_list-listed.new.conn s1 c.has_list-listed.ensures c.in_ok-pass-2.ensures.passed in
+    let s3 = asked g.S.Store c.args.self.now.conn c.has_list-listed.new.conn c.has_grant-had.new.conn s2 c.has_grant-had.ensures c.in_ok-was_there.ensures.passed in
+    stops_writing g.S.Store c.args.self.now (record { conn = c.remove_grant-removed.new.conn; wants = c.pass-4.new.self }) c.has_grant-had.new.conn c.pass-3.new.self (no_person ∷ no_list ∷ [])
+    (IsRefused (removing_grant c.args.person.now c.args.list.now (kind_rank c.args.kind))) c.from_residual-in_err-pass-3.result c.in_err-pass-3.field-0.0 s3 (as_many (c.in_ok-was_there.ensures.counted.1 ∙ c.in_ok-pass-2.ensures.counted.1 ∙ c.in_ok-pass.ensures.counted.1)) c.remove_grant-removed.ensures c.in_err-pass-3.ensures.passed c.in_err-pass-3.ensures.kind c.in_err-pass-3.ensures.counted.0 c.from_residual-in_err-pass-3.ensures.1
+    (λ clean kept refused. same_statement (state g.S.Store c.args.self.now.conn).now (ap (removing_grant c.args.person.now c.args.list.now) (to_z-of_z w64 c.rank-rank.result (record { sfits = c.rank-rank.type_inv }) ∙ c.rank-rank.ensures)) refused)
+
+pub returns-clause-ends : goal.returns-clause-ends
+returns-clause-ends g c =
+    let s0 = stood g.S.Store c.args.self.now.conn in
+    let s1 = asked g.S.Store c.args.self.now.conn c.args.self.now.conn c.has_person-known.new.conn s0 c.has_person-known.ensures c.in_ok-pass.ensures.passed in
+    let s2 = asked g.S.Store c.args.self.now.conn c.has_person-known.new.conn c.has_list-listed.new.conn s1 c.has_list-listed.ensures c.in_ok-pass-2.ensures.passed in
+    let s3 = asked g.S.Store c.args.self.now.conn c.has_list-listed.new.conn c.has_grant-had.new.conn s2 c.has_grant-had.ensures c.in_ok-was_there.ensures.passed in
+    ends_done g.S.Store c.args.self.now (record { conn = c.remove_grant-removed.new.conn; wants = c.pass-4.new.self }) c.has_grant-had.new.conn c.pass-3.new.self (no_person ∷ no_list ∷ [])
+    _ c.in_ok-was_there.was_there s3 (as_many (c.in_ok-was_there.ensures.counted.1 ∙ c.in_ok-pass-2.ensures.counted.1 ∙ c.in_ok-pass.ensures.counted.1)) c.remove_grant-removed.ensures.ends c.in_ok-pass-3.ensures.passed c.in_ok-pass-3.ensures.counted.0.0

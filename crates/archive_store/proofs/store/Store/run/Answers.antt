@@ -7,6 +7,10 @@ use Rattle.archive_store.specs.Running.{command_of, answer_of, RanAll}
 use Rattle.archive_store.proofs.RunLemmas.{run_nothing, ran_none, ran_next, ran_stop, first_commands}
 use Rattle.archive_store.proofs.CountLemmas.{count_after}
 use Rattle.archive_tables.proofs.LastLemmas.{lasts_then, lasts_same}
+use Rattle.std.proofs.Common.{inl, inr}
+use Rattle.archive_machine.specs.Machine.{step}
+use Rattle.archive_store.proofs.RunLemmas.{next_archive}
+use Rattle.archive_store.proofs.CrashLemmas.{answered_safe}
 use Rattle.archive_store.proofs.store.Store.run.Goals as goal
 
 pub returns-in-Err-clause-step : goal.returns-in-Err-clause-step
@@ -20,6 +24,7 @@ loop-command-init g c =
       (λ clean kept. (subst (λ outcomes. RanAll first (run (archive_of first) []) first outcomes) (sym c.in-Ok.ensures.items) (ran_none first kept), tt)),
       lasts_same _,
       omega arith,
+      (λ clean kept safe. safe),
     )
 
 pub returns-clause-step : goal.returns-clause-step
@@ -57,6 +62,12 @@ loop-command-preserved g c =
           )),
       lasts_then _ _ _ c.loop-command.invariant.3 c.carry_out.ensures.ends.lasts,
       omega (arith, c.loop-command.invariant.4, c.in-Ok-carry_out.ensures.ends.counted.0),
+      (λ clean kept safe.
+          let was = c.carry_out.ensures.ends.lasts.returned clean in
+          let ran = c.loop-command.invariant.2 was kept in
+          answered_safe g.S.Store c.loop-command.self.conn c.carry_out.new.self.conn (λ db up may. g.met.S.Store.settled c.carry_out.new.self.conn.store db up may)
+          (λ a. step a (command_of c.command-item.result)) (answer_of o) c.in-Ok-carry_out.ensures.told (c.in-Ok-carry_out.ensures.step clean ran.0.0 ran.1)
+          (c.carry_out.ensures.crash ran.0.0 ran.1) clean (c.loop-command.invariant.5 was kept safe)),
     )
 
 pub returns-in-Err-push-clause-step : goal.returns-in-Err-push-clause-step
@@ -80,3 +91,59 @@ pub returns-in-Err-push-clause-bound : goal.returns-in-Err-push-clause-bound
 returns-in-Err-push-clause-bound g c =
     let len : vec_len c.loop-command.outcomes ≡ length c.loop-command.outcomes.items = search rules in
     omega (arith, c.len-done.ensures, len, c.loop-command.invariant.0, c.loop-command-test.true)
+
+-- ---- what a stop leaves
+
+pub returns-in-Err-clause-crash : goal.returns-in-Err-clause-crash
+returns-in-Err-clause-crash g c = λ clean kept safe db may.
+    let first = state g.S.Store c.args.self.now.conn in
+    (archive_of first, inl (run_nothing (archive_of first)), safe db may)
+
+pub returns-clause-crash : goal.returns-clause-crash
+returns-clause-crash g c = c.loop-command.invariant.5
+
+pub returns-in-Err-carry_out-clause-crash : goal.returns-in-Err-carry_out-clause-crash
+returns-in-Err-carry_out-clause-crash g c = λ clean kept safe db may.
+    let first = state g.S.Store c.args.self.now.conn in
+    let mid = state g.S.Store c.loop-command.self.conn in
+    let was = c.carry_out.ensures.ends.lasts.returned clean in
+    let before = c.loop-command.invariant.2 was kept in
+    let at = c.loop-command.command-index in
+    let d = c.command-item.result in
+    let len : vec_len c.loop-command.outcomes ≡ length c.loop-command.outcomes.items = search rules in
+    let done_is : c.len.result ≡ at = c.len.ensures ∙ len ∙ c.loop-command.invariant.0 in
+    elim (c.carry_out.ensures.crash before.0.0 before.1 clean db may) [
+      | inl earlier ↦ (
+        archive_of mid,
+        inl (before.0.1 ∙ ap (λ commands. (run (archive_of first) commands).archive) (sym (first_commands c.args.commands.now c.len.result at done_is))),
+        c.loop-command.invariant.5 was kept safe db earlier,
+      )
+      | inr next ↦ (
+        (step (archive_of mid) (command_of d)).0,
+        inr (next_archive (archive_of first) (archive_of mid) c.args.commands.now at d before.0.1 (omega (arith, c.loop-command-test.true)) c.command-item.is
+            ∙ ap (λ commands. (run (archive_of first) commands).archive) (sym (first_commands c.args.commands.now (c.len.result + 1) (at + 1) (ap (λ n. n + 1) done_is)))),
+        next,
+      )
+    ]
+
+pub returns-in-Err-push-clause-crash : goal.returns-in-Err-push-clause-crash
+returns-in-Err-push-clause-crash g c = λ clean kept safe db may.
+    let first = state g.S.Store c.args.self.now.conn in
+    let mid = state g.S.Store c.loop-command.self.conn in
+    let new = state g.S.Store c.carry_out.new.self.conn in
+    let at = c.loop-command.command-index in
+    let o = c.in-Ok-carry_out.outcome in
+    let outcomes = c.loop-command.outcomes.items in
+    let was = c.carry_out.ensures.ends.lasts.returned clean in
+    let before = c.loop-command.invariant.2 was kept in
+    let steps = c.in-Ok-carry_out.ensures.step clean before.0.0 before.1 in
+    let ran = ran_next first mid new c.args.commands.now at c.command-item.result outcomes (outcomes ++ o ∷ []) o before.0
+    c.in-Ok-carry_out.ensures.told steps (omega (arith, c.loop-command-test.true)) c.command-item.is refl in
+    let len : vec_len c.loop-command.outcomes ≡ length outcomes = search rules in
+    let last = answered_safe g.S.Store c.loop-command.self.conn c.carry_out.new.self.conn (λ db up may. g.met.S.Store.settled c.carry_out.new.self.conn.store db up may)
+    (λ a. step a (command_of c.command-item.result)) (answer_of o) c.in-Ok-carry_out.ensures.told steps
+    (c.carry_out.ensures.crash before.0.0 before.1) clean (c.loop-command.invariant.5 was kept safe) in (
+      archive_of new,
+      inl (ran.1 ∙ ap (λ commands. (run (archive_of first) commands).archive) (sym (first_commands c.args.commands.now (c.len-done.result + 1) (at + 1) (ap (λ n. n + 1) (c.len-done.ensures ∙ len ∙ c.loop-command.invariant.0))))),
+      last db may,
+    )

@@ -5,6 +5,7 @@ use Rattle.archive_machine.specs.Runs.{run}
 use Rattle.archive_tables.specs.Tables.{IsKept, archive_of}
 use Rattle.archive_store.specs.Running.{command_of, IsRightCount, RanAll}
 use Rattle.archive_tables.specs.Calls.{Lasts}
+use Rattle.archive_tables.specs.Crashes.{IsSafe}
 use Rattle.archive_store.specs.Held.{wants_of}
 use Rattle.archive_store.proofs.store.Store.run.Given as goal
 
@@ -16,3 +17,4 @@ invariant-loop-command g l =
     × (HasCleanDisk now → IsKept first
     → RanAll first (run (archive_of first) (map command_of (take l.command-index l.commands))) now l.outcomes.items × IsRightCount l.counted (archive_of now))
     × Lasts first now × (wants_of l.fn.self ≤ wants_of l.self)
+    × (HasCleanDisk now → IsKept first → IsSafe first → IsSafe now)
