@@ -9,8 +9,9 @@ use Rattle.archive_store.specs.Held.{held_of}
 use Rattle.archive_store.specs.declared.store.Store.{Store}
 use Rattle.archive_store.specs.declared.faults.StoreFault.{StoreFault}
 use Rattle.archive_store.specs.Replies.{refusal, Answers}
-use Rattle.archive_store.specs.Told.{HoldsTables, HasReturned, IsOpen, Lasts, WasOpen, GoesIn, GoesInIfOpen, CallsIn, AsksIn, Goes, GoesIfOpen, Asks}
-use Rattle.archive_store.proofs.Joins.{asked_in, ask_refused_in, ask_failed_in, goes_on_in, goes_on_in_if_open, goes_in_as, goes_in_as_if_open, sound_too, sound_too_if_open}
+use Rattle.archive_store.specs.Told.{HoldsTables, HasReturned, IsOpen, Lasts, WasOpen, GoesIn, GoesInIfOpen, CallsIn, AsksIn, Goes, GoesIfOpen, Calls, Asks}
+use Rattle.archive_store.proofs.Joins.{asked_in, ask_refused_in, ask_failed_in, goes_on_in, goes_on_in_if_open, goes_in_as, goes_in_as_if_open, right_too, right_too_if_open, sound_too, sound_too_if_open}
+use Rattle.archive_desk.specs.Holding.{GoesHeld, GoesHeldIfOpen, CallsHeld}
 
 module _ {S : Type 0} (g : Ghosts S) where
   -- a question of the store, whatever is filed, in the words for the layers above
@@ -98,6 +99,20 @@ module _ {S : Type 0} (g : Ghosts S) where
       by_reason (Some why) it = it
 
   -- ---- of a store that is ready
+
+  -- a call that leaves right what is filed
+  module _ (old new : Store S) {A F R : Type 0} (reason : F → Option R) (Says : Archive → Archive → A → Type 0) (Refuses : Archive → Archive → R → Type 0)
+      (Stops : Archive → Archive → F → Type 0) (says : (a b : Archive) (answer : A) → Says a b answer → IsFiledRight a → IsFiledRight b)
+      (refuses : (a b : Archive) (why : R) → Refuses a b why → IsFiledRight a → IsFiledRight b)
+      (stops : (a b : Archive) (fault : F) → Stops a b fault → IsFiledRight a → IsFiledRight b) where
+    pub calls_right : (result : Result A F) → CallsHeld g old new reason result Says Refuses Stops → Calls g old new reason result Says Refuses Stops
+    calls_right (Ok answer) call = right_too g old new (λ a b. Says a b answer) (λ a b it. says a b answer it) call
+    calls_right (Err fault) call = by_reason (reason fault) call
+      where
+        by_reason : (r : Option R) → MatchOption r (GoesHeldIfOpen g old new (λ a b. Stops a b fault)) (λ why. GoesHeld g old new (λ a b. Refuses a b why))
+            → MatchOption r (GoesIfOpen g old new (λ a b. Stops a b fault)) (λ why. Goes g old new (λ a b. Refuses a b why))
+        by_reason None goes = right_too_if_open g old new (λ a b. Stops a b fault) (λ a b it. stops a b fault it) goes
+        by_reason (Some why) goes = right_too g old new (λ a b. Refuses a b why) (λ a b it. refuses a b why it) goes
 
   module _ (old new : Store S) {F R : Type 0} (reason : F → Option R) (refuses : Archive → Option R) where
     -- a question that is not answered

@@ -12,20 +12,22 @@ use Rattle.archive_machine.specs.Questions.{has_list, list_refusal}
 use Rattle.sqlite.specs.Held.{state}
 use Rattle.sqlite.specs.State.{HasCleanDisk}
 use Rattle.archive_machine.specs.Runs.{taken}
+use Rattle.archive_machine.specs.Sound.{IsFiledRight}
 use Rattle.archive_tables.specs.Tables.{IsKept, archive_of}
 use Rattle.archive_store.specs.Batches.{AddsAll, IsAfter, IsRefusedAt, tally_of as store_tally}
 use Rattle.archive_store.specs.Held.{held_of}
 use Rattle.archive_store.specs.Replies.{refusal}
 use Rattle.archive_store.specs.declared.batches.AddStop.{AddStop}
 use Rattle.archive_store.specs.declared.batches.AddReport.{AddReport}
-use Rattle.archive_store.specs.Told.{Lasts, HoldsTables, IsReady, archive_in, GoesIn, GoesInIfOpen, Goes, GoesIfOpen, Calls}
+use Rattle.archive_store.specs.Told.{Lasts, HoldsTables, archive_in, GoesIn, GoesInIfOpen, Calls}
 use Rattle.archive_store.specs.declared.store.Store.{Store}
 use Rattle.archive_store.specs.declared.faults.StoreFault.{StoreFault}
 use Rattle.archive_store.specs.declared.faults.StoreFault.TheVariants.{Memory as NoMemory}
-use Rattle.archive_store.proofs.Joins.{goes_as, goes_as_if_open, ready_with, sound_too, sound_too_if_open}
+use Rattle.archive_store.proofs.Joins.{goes_in_as, goes_in_as_if_open}
 use Rattle.archive_store.proofs.RightLemmas.{taken_right}
-use Rattle.archive_desk.proofs.CallLemmas.{calls_after}
-use Rattle.archive_desk.specs.Importing.{Cause, no_mbox, not_taken, stop_reason, tally_of, HasAdded, IsImported, IsRefusedAdd, IsRefusedImport, IsBrokenAdd, IsBrokenImport}
+use Rattle.archive_desk.proofs.CallLemmas.{calls_after, calls_right}
+use Rattle.archive_desk.specs.Holding.{GoesHeld, GoesHeldIfOpen, CallsHeld}
+use Rattle.archive_desk.specs.Importing.{Cause, no_mbox, not_taken, stop_reason, tally_of, HasAdded, HasImportedFirst, IsImported, IsRefusedAdd, IsRefusedImport, IsBrokenAdd, IsBrokenImport}
 use Rattle.archive_desk.specs.declared.importing.Report.{Report}
 use Rattle.archive_desk.specs.declared.importing.ImportStop.{ImportStop}
 use Rattle.archive_desk.specs.declared.importing.ImportFault.{ImportFault}
@@ -58,55 +60,46 @@ module _ {S : Type 0} (g : Ghosts S) (old new : Store S) (list text : List ℕ) 
 
   pub list_not_found : (fault : StoreFault)
       → MatchOption (refusal fault) (GoesInIfOpen g (HoldsTables g) old new (λ a b. b ≡ a)) (λ why. GoesIn g (HoldsTables g) old new (λ a b. (b ≡ a) × (list_refusal a list ≡ Some why)))
-      → Calls g old new {A = Report} stop_reason (Err (record { done = 0; fault = Stored fault })) Says Refuses Stops
+      → CallsHeld g old new {A = Report} stop_reason (Err (record { done = 0; fault = Stored fault })) Says Refuses Stops
   list_not_found fault asked = by_reason (refusal fault) asked
     where
       by_reason : (r : Option Refusal)
           → MatchOption r (GoesInIfOpen g (HoldsTables g) old new (λ a b. b ≡ a)) (λ why. GoesIn g (HoldsTables g) old new (λ a b. (b ≡ a) × (list_refusal a list ≡ Some why)))
-          → MatchOption (option_map (λ (cause : Cause). (0, cause)) (option_map not_taken r)) (GoesIfOpen g old new (λ a b. Stops a b (record { done = 0; fault = Stored fault })))
-          (λ why. Goes g old new (λ a b. Refuses a b why))
+          → MatchOption (option_map (λ (cause : Cause). (0, cause)) (option_map not_taken r)) (GoesHeldIfOpen g old new (λ a b. Stops a b (record { done = 0; fault = Stored fault })))
+          (λ why. GoesHeld g old new (λ a b. Refuses a b why))
       by_reason None it =
-          goes_as_if_open g old new (λ a b. b ≡ a) (λ a b. Stops a b (record { done = 0; fault = Stored fault })) (λ a b same. inl (refl, same))
-          (sound_too_if_open g old new (λ a b. b ≡ a) (λ a b same. same) it)
+          goes_in_as_if_open g (HoldsTables g) old new (λ a b. b ≡ a) (λ a b. Stops a b (record { done = 0; fault = Stored fault })) (λ a b same. inl (refl, same)) it
       by_reason (Some why) it =
-          goes_as g old new (λ a b. (b ≡ a) × (list_refusal a list ≡ Some why)) (λ a b. Refuses a b (0, not_taken why)) (λ a b h. refused_list list text a b why h.0 h.1)
-          (sound_too g old new (λ a b. (b ≡ a) × (list_refusal a list ≡ Some why)) (λ a b h. h.0) it)
+          goes_in_as g (HoldsTables g) old new (λ a b. (b ≡ a) × (list_refusal a list ≡ Some why)) (λ a b. Refuses a b (0, not_taken why))
+          (λ a b h. refused_list list text a b why h.0 h.1) it
 
   -- ---- the file is not cut
 
-  -- the list is there
-  pub there : GoesIn g (HoldsTables g) old new (λ a b. (b ≡ a) × (list_refusal a list ≡ None) × (has_list a list ≡ true))
-      → Goes g old new (λ a b. (b ≡ a) × (list_refusal a list ≡ None) × (has_list a list ≡ true))
-  there before = sound_too g old new (λ a b. (b ≡ a) × (list_refusal a list ≡ None) × (has_list a list ≡ true)) (λ a b h. h.0) before
-
   pub not_mbox : (fault : MboxFault) → IsCutFault text fault
       → GoesIn g (HoldsTables g) old new (λ a b. (b ≡ a) × (list_refusal a list ≡ None) × (has_list a list ≡ true))
-      → Calls g old new {A = Report} stop_reason (Err (record { done = 0; fault = Mbox fault })) Says Refuses Stops
+      → CallsHeld g old new {A = Report} stop_reason (Err (record { done = 0; fault = Mbox fault })) Says Refuses Stops
   not_mbox (Preamble offset) why before =
-      goes_as g old new (λ a b. (b ≡ a) × (list_refusal a list ≡ None) × (has_list a list ≡ true)) (λ a b. Refuses a b (0, no_mbox offset))
-      (λ a b h. (refl, h.0, h.2, why)) (there before)
+      goes_in_as g (HoldsTables g) old new (λ a b. (b ≡ a) × (list_refusal a list ≡ None) × (has_list a list ≡ true)) (λ a b. Refuses a b (0, no_mbox offset))
+      (λ a b h. (refl, h.0, h.2, why)) before
   not_mbox Read why before = absurd why
   not_mbox Memory why before = absurd why
   not_mbox Failed why before = absurd why
 
   pub no_room_to_cut : GoesIn g (HoldsTables g) old new (λ a b. (b ≡ a) × (list_refusal a list ≡ None) × (has_list a list ≡ true))
-      → Calls g old new {A = Report} stop_reason (Err (record { done = 0; fault = Stored NoMemory })) Says Refuses Stops
-  no_room_to_cut before = ((there before).0, (λ returned ready up. let it = (there before).1 returned ready in (it.0, inl (refl, it.1.0))))
+      → CallsHeld g old new {A = Report} stop_reason (Err (record { done = 0; fault = Stored NoMemory })) Says Refuses Stops
+  no_room_to_cut before = (before.0, (λ returned held up. let it = before.1 returned held in (it.0, inl (refl, it.1.0))))
 
 -- ---- its messages are added, one after the other
 
 module _ {S : Type 0} (g : Ghosts S) (old new : Store S) (list : List ℕ) (items : List Item) (lasts : Lasts g old new) where
   -- all of them
   pub added_all : (counts : AddReport) (report : Report) → tally_of report ≡ store_tally counts → AddsAll g (held_of old) (held_of new) (Ok counts) list items
-      → Goes g old new (λ a b. HasAdded list items a b report)
+      → GoesHeld g old new (λ a b. HasAdded list items a b report)
   added_all counts report same adds = (
     lasts,
-    λ returned ready.
-        let it = adds returned ready.held in
-        let a = archive_in g old in (
-          ready_with g new (taken a list items).archive it.0 it.1 (taken_right a list items ready.filed_right),
-          record { archive_is = it.1; told = same ∙ it.2 },
-        ),
+    λ returned held.
+        let it = adds returned held in
+        (it.0, record { archive_is = it.1; told = same ∙ it.2 }),
   )
 
   -- the first of them
@@ -115,7 +108,7 @@ module _ {S : Type 0} (g : Ghosts S) (old new : Store S) (list : List ℕ) (item
     first = take stop.done items
 
     pub added_first : AddsAll g (held_of old) (held_of new) (Err stop) list items
-        → Calls g old new {A = Report} stop_reason (Err (record { done = stop.done; fault = Stored stop.fault })) (λ a b report. HasAdded list items a b report)
+        → CallsHeld g old new {A = Report} stop_reason (Err (record { done = stop.done; fault = Stored stop.fault })) (λ a b report. HasAdded list items a b report)
         (λ a b why. IsRefusedAdd list items a b why.0 why.1) (λ a b stop. IsBrokenAdd list items a b stop.done stop.fault)
     added_first adds = by_reason (refusal stop.fault) adds
       where
@@ -124,21 +117,19 @@ module _ {S : Type 0} (g : Ghosts S) (old new : Store S) (list : List ℕ) (item
             (λ why. IsKept (state g (held_of new)) × (archive_of (state g (held_of new)) ≡ (taken (archive_in g old) list first).archive)
             × IsRefusedAt (archive_in g old) list items stop.done why))
             → MatchOption {T = ℕ × Cause} (option_map (λ (cause : Cause). (stop.done, cause)) (option_map not_taken r))
-            (GoesIfOpen g old new (λ a b. IsBrokenAdd list items a b stop.done (Stored stop.fault)))
-            (λ why. Goes g old new (λ a b. IsRefusedAdd list items a b why.0 why.1))
+            (GoesHeldIfOpen g old new (λ a b. IsBrokenAdd list items a b stop.done (Stored stop.fault)))
+            (λ why. GoesHeld g old new (λ a b. IsRefusedAdd list items a b why.0 why.1))
         by_reason None it = (
           lasts,
-          λ returned ready up.
-              let here = it returned ready.held up in
-              (ready_with g new (taken (archive_in g old) list first).archive here.0 here.1 (taken_right (archive_in g old) list first ready.filed_right), (bound, here.1)),
+          λ returned held up.
+              let here = it returned held up in
+              (here.0, (bound, here.1)),
         )
         by_reason (Some why) it = (
           lasts,
-          λ returned ready.
-              let here = it returned ready.held in (
-                ready_with g new (taken (archive_in g old) list first).archive here.0 here.1 (taken_right (archive_in g old) list first ready.filed_right),
-                ((bound, here.1), here.2),
-              ),
+          λ returned held.
+              let here = it returned held in
+              (here.0, ((bound, here.1), here.2)),
         )
 
 -- ---- the messages of a file
@@ -178,15 +169,56 @@ completed list text items a b c report divides before added =
 module _ {S : Type 0} (g : Ghosts S) (old mid new : Store S) (list text : List ℕ) (items : List Item) (divides : Divides text items) where
   -- the list is there, the file is cut, and its messages are added
   pub import_after : (result : Result Report ImportStop) → GoesIn g (HoldsTables g) old mid (λ a b. (b ≡ a) × (list_refusal a list ≡ None) × (has_list a list ≡ true))
-      → Calls g mid new stop_reason result (λ a b report. HasAdded list items a b report) (λ a b why. IsRefusedAdd list items a b why.0 why.1)
+      → CallsHeld g mid new stop_reason result (λ a b report. HasAdded list items a b report) (λ a b why. IsRefusedAdd list items a b why.0 why.1)
       (λ a b stop. IsBrokenAdd list items a b stop.done stop.fault)
-      → Calls g old new stop_reason result (λ a b report. IsImported list text a b report) (λ a b why. IsRefusedImport list text a b why.0 why.1)
+      → CallsHeld g old new stop_reason result (λ a b report. IsImported list text a b report) (λ a b why. IsRefusedImport list text a b why.0 why.1)
       (λ a b stop. IsBrokenImport list text a b stop.done stop.fault)
   import_after result before call =
-      calls_after g (IsReady g) old mid new stop_reason (λ a b. (b ≡ a) × (list_refusal a list ≡ None) × (has_list a list ≡ true))
+      calls_after g (HoldsTables g) old mid new stop_reason (λ a b. (b ≡ a) × (list_refusal a list ≡ None) × (has_list a list ≡ true))
       (λ a b report. HasAdded list items a b report) (λ a b report. IsImported list text a b report)
       (λ a b why. IsRefusedAdd list items a b why.0 why.1) (λ a b why. IsRefusedImport list text a b why.0 why.1)
       (λ a b stop. IsBrokenAdd list items a b stop.done stop.fault) (λ a b stop. IsBrokenImport list text a b stop.done stop.fault)
       (λ a b c report first it. completed list text items a b c report divides first it)
       (λ a b c why first it. refused_add list text items a b c why.0 why.1 divides first it)
-      (λ a b c stop first it. broken_add list text items a b c stop.done stop.fault divides first.0 it) result (there g old mid list text before) call
+      (λ a b c stop first it. broken_add list text items a b c stop.done stop.fault divides first.0 it) result before call
+
+-- ---- what is filed
+
+-- what was added is filed right
+module _ (list text : List ℕ) (a b : Archive) (right : IsFiledRight a) where
+  imported_right : (report : Report) → IsImported list text a b report → IsFiledRight b
+  imported_right report it = subst IsFiledRight (sym it.added.archive_is) (taken_right a list it.items right)
+
+  first_right : (done : ℕ) → HasImportedFirst list text done a b → IsFiledRight b
+  first_right done it = subst IsFiledRight (sym it.2.1) (taken_right a list (take done it.0) right)
+
+  refused_right : (done : ℕ) (cause : Cause) → IsRefusedImport list text a b done cause → IsFiledRight b
+  refused_right done (no_mbox offset) it = subst IsFiledRight (sym it.1) right
+  refused_right done (not_taken no_list) it = subst IsFiledRight (sym it.1) right
+  refused_right done (not_taken list_full) it = first_right done (it.0, it.1, it.2)
+  refused_right done (not_taken bad_name) it = absurd it
+  refused_right done (not_taken bad_text) it = absurd it
+  refused_right done (not_taken list_exists) it = absurd it
+  refused_right done (not_taken person_exists) it = absurd it
+  refused_right done (not_taken no_person) it = absurd it
+  refused_right done (not_taken token_taken) it = absurd it
+  refused_right done (not_taken no_message) it = absurd it
+  refused_right done (not_taken already_withdrawn) it = absurd it
+  refused_right done (not_taken not_withdrawn) it = absurd it
+  refused_right done (not_taken bad_days) it = absurd it
+  refused_right done (not_taken too_large) it = absurd it
+
+  broken_right : (done : ℕ) (fault : ImportFault) → IsBrokenImport list text a b done fault → IsFiledRight b
+  broken_right done (Mbox fault) it = absurd it
+  broken_right done (Stored fault) it = elim it [ inl none ↦ subst IsFiledRight (sym none.1) right | inr first ↦ first_right done first ]
+
+-- an import into a store that is ready leaves it ready
+pub import_right : {S : Type 0} (g : Ghosts S) (old new : Store S) (list text : List ℕ) (result : Result Report ImportStop)
+    → CallsHeld g old new stop_reason result (λ a b report. IsImported list text a b report) (λ a b why. IsRefusedImport list text a b why.0 why.1)
+    (λ a b stop. IsBrokenImport list text a b stop.done stop.fault)
+    → Calls g old new stop_reason result (λ a b report. IsImported list text a b report) (λ a b why. IsRefusedImport list text a b why.0 why.1)
+    (λ a b stop. IsBrokenImport list text a b stop.done stop.fault)
+import_right g old new list text result call =
+    calls_right g old new stop_reason (λ a b report. IsImported list text a b report) (λ a b why. IsRefusedImport list text a b why.0 why.1)
+    (λ a b stop. IsBrokenImport list text a b stop.done stop.fault) (λ a b report it right. imported_right list text a b right report it)
+    (λ a b why it right. refused_right list text a b right why.0 why.1 it) (λ a b stop it right. broken_right list text a b right stop.done stop.fault it) result call

@@ -4,9 +4,9 @@ use Rattle.std.specs.Prelude.{MatchOption}
 use Rattle.sqlite.specs.Store.{Ghosts}
 use Rattle.archive_machine.specs.Records.{Archive, Message as Remembered}
 use Rattle.archive_machine.specs.Questions.{merge_of}
-use Rattle.archive_store.specs.Told.{HoldsTables, GoesIn, GoesInIfOpen, AsksIn, Goes, GoesIfOpen}
+use Rattle.archive_store.specs.Told.{HoldsTables, GoesIn, GoesInIfOpen, AsksIn}
 use Rattle.archive_store.specs.declared.store.Store.{Store}
-use Rattle.archive_store.proofs.Joins.{goes_in_as, sound_too, sound_too_if_open}
+use Rattle.archive_store.proofs.Joins.{goes_in_as}
 use Rattle.archive_results.specs.Access.{Ask, view_of}
 use Rattle.archive_results.specs.Index.{Header, header_of}
 use Rattle.archive_results.specs.Results.{TreeLine, thread_lines}
@@ -50,49 +50,43 @@ module _ {S : Type 0} (g : Ghosts S) (old new : Store S) (ask : Ask) where
   module _ (headers : List Header) (merge : Bool) (indexed : GoesIn g (HoldsTables g) old new (λ a b. (b ≡ a) × (ask_reason a ask ≡ None) × IsIndexed a ask headers merge)) where
     -- what is made of them
     pub listed_from : (Says : Bool → List Remembered → Type 0) → ((view : List Remembered) → headers ≡ map header_of view → Says merge view)
-        → Goes g old new (λ a b. (b ≡ a) × (ask_reason a ask ≡ None) × Says (merge_of a ask.list) (view_of a ask))
+        → GoesIn g (HoldsTables g) old new (λ a b. (b ≡ a) × (ask_reason a ask ≡ None) × Says (merge_of a ask.list) (view_of a ask))
     listed_from Says says =
-        sound_too g old new (λ a b. (b ≡ a) × (ask_reason a ask ≡ None) × Says (merge_of a ask.list) (view_of a ask)) (λ a b it. it.0)
-        (goes_in_as g (HoldsTables g) old new (λ a b. (b ≡ a) × (ask_reason a ask ≡ None) × IsIndexed a ask headers merge)
+        goes_in_as g (HoldsTables g) old new (λ a b. (b ≡ a) × (ask_reason a ask ≡ None) × IsIndexed a ask headers merge)
         (λ a b. (b ≡ a) × (ask_reason a ask ≡ None) × Says (merge_of a ask.list) (view_of a ask))
-        (λ a b h. (h.0, h.1, subst (λ on. Says on (view_of a ask)) h.2.1 (says (view_of a ask) h.2.0))) indexed)
+        (λ a b h. (h.0, h.1, subst (λ on. Says on (view_of a ask)) h.2.1 (says (view_of a ask) h.2.0))) indexed
 
     -- the thread of a message
     pub thread_from : (key : List ℕ) (rows : List TreeLine) → ((view : List Remembered) → headers ≡ map header_of view → Some rows ≡ thread_lines merge key (map shown_of view))
-        → Goes g old new (λ a b. (b ≡ a) × (thread_reason a ask key ≡ None) × (thread_lines (merge_of a ask.list) key (map shown_of (view_of a ask)) ≡ Some rows))
+        → GoesIn g (HoldsTables g) old new
+        (λ a b. (b ≡ a) × (thread_reason a ask key ≡ None) × (thread_lines (merge_of a ask.list) key (map shown_of (view_of a ask)) ≡ Some rows))
     thread_from key rows says =
-        sound_too g old new (λ a b. (b ≡ a) × (thread_reason a ask key ≡ None) × (thread_lines (merge_of a ask.list) key (map shown_of (view_of a ask)) ≡ Some rows)) (λ a b it. it.0)
-        (goes_in_as g (HoldsTables g) old new (λ a b. (b ≡ a) × (ask_reason a ask ≡ None) × IsIndexed a ask headers merge)
+        goes_in_as g (HoldsTables g) old new (λ a b. (b ≡ a) × (ask_reason a ask ≡ None) × IsIndexed a ask headers merge)
         (λ a b. (b ≡ a) × (thread_reason a ask key ≡ None) × (thread_lines (merge_of a ask.list) key (map shown_of (view_of a ask)) ≡ Some rows))
         (λ a b h.
         let is = sym (says (view_of a ask) h.2.0 ∙ ap (λ on. thread_lines on key (map shown_of (view_of a ask))) h.2.1) in
-        (h.0, then_reason (ask_reason a ask) (thread_lines (merge_of a ask.list) key (map shown_of (view_of a ask))) h.1 ∙ ap without_thread is, is)) indexed)
+        (h.0, then_reason (ask_reason a ask) (thread_lines (merge_of a ask.list) key (map shown_of (view_of a ask))) h.1 ∙ ap without_thread is, is)) indexed
 
     -- the view does not hold it
     pub no_thread_from : (key : List ℕ) → ((view : List Remembered) → headers ≡ map header_of view → None ≡ thread_lines merge key (map shown_of view))
-        → Goes g old new (λ a b. (b ≡ a) × (thread_reason a ask key ≡ Some not_in_view))
+        → GoesIn g (HoldsTables g) old new (λ a b. (b ≡ a) × (thread_reason a ask key ≡ Some not_in_view))
     no_thread_from key says =
-        sound_too g old new (λ a b. (b ≡ a) × (thread_reason a ask key ≡ Some not_in_view)) (λ a b it. it.0)
-        (goes_in_as g (HoldsTables g) old new (λ a b. (b ≡ a) × (ask_reason a ask ≡ None) × IsIndexed a ask headers merge)
+        goes_in_as g (HoldsTables g) old new (λ a b. (b ≡ a) × (ask_reason a ask ≡ None) × IsIndexed a ask headers merge)
         (λ a b. (b ≡ a) × (thread_reason a ask key ≡ Some not_in_view))
         (λ a b h.
         let is = sym (says (view_of a ask) h.2.0 ∙ ap (λ on. thread_lines on key (map shown_of (view_of a ask))) h.2.1) in
-        (h.0, then_reason (ask_reason a ask) (thread_lines (merge_of a ask.list) key (map shown_of (view_of a ask))) h.1 ∙ ap without_thread is)) indexed)
+        (h.0, then_reason (ask_reason a ask) (thread_lines (merge_of a ask.list) key (map shown_of (view_of a ask))) h.1 ∙ ap without_thread is)) indexed
 
   -- memory is wanting for what is made of the headers
-  module _ (Q : Archive → Type 0) (indexed : GoesIn g (HoldsTables g) old new (λ a b. (b ≡ a) × (ask_reason a ask ≡ None) × Q a)) where
-    pub unmade_in : GoesInIfOpen g (HoldsTables g) old new (λ a b. b ≡ a)
-    unmade_in = (indexed.0, (λ returned held up. let it = indexed.1 returned held in (it.0, it.1.0)))
-
-    pub unmade : GoesIfOpen g old new (λ a b. b ≡ a)
-    unmade = sound_too_if_open g old new (λ a b. b ≡ a) (λ a b same. same) unmade_in
+  pub unmade : (Q : Archive → Type 0) → GoesIn g (HoldsTables g) old new (λ a b. (b ≡ a) × (ask_reason a ask ≡ None) × Q a) → GoesInIfOpen g (HoldsTables g) old new (λ a b. b ≡ a)
+  unmade Q indexed = (indexed.0, (λ returned held up. let it = indexed.1 returned held in (it.0, it.1.0)))
 
   -- what is asked is refused
   pub thread_refused : (key : List ℕ) (why : Option Reason)
       → MatchOption why (GoesInIfOpen g (HoldsTables g) old new (λ a b. b ≡ a)) (λ why. GoesIn g (HoldsTables g) old new (λ a b. (b ≡ a) × (ask_reason a ask ≡ Some why)))
-      → MatchOption why (GoesIfOpen g old new (λ a b. b ≡ a)) (λ why. Goes g old new (λ a b. (b ≡ a) × (thread_reason a ask key ≡ Some why)))
-  thread_refused key None same = sound_too_if_open g old new (λ a b. b ≡ a) (λ a b it. it) same
+      → MatchOption why (GoesInIfOpen g (HoldsTables g) old new (λ a b. b ≡ a))
+      (λ why. GoesIn g (HoldsTables g) old new (λ a b. (b ≡ a) × (thread_reason a ask key ≡ Some why)))
+  thread_refused key None same = same
   thread_refused key (Some why) same =
-      sound_too g old new (λ a b. (b ≡ a) × (thread_reason a ask key ≡ Some why)) (λ a b it. it.0)
-      (goes_in_as g (HoldsTables g) old new (λ a b. (b ≡ a) × (ask_reason a ask ≡ Some why)) (λ a b. (b ≡ a) × (thread_reason a ask key ≡ Some why))
-      (λ a b h. (h.0, first_reason (ask_reason a ask) (without_thread (thread_lines (merge_of a ask.list) key (map shown_of (view_of a ask)))) why h.1)) same)
+      goes_in_as g (HoldsTables g) old new (λ a b. (b ≡ a) × (ask_reason a ask ≡ Some why)) (λ a b. (b ≡ a) × (thread_reason a ask key ≡ Some why))
+      (λ a b h. (h.0, first_reason (ask_reason a ask) (without_thread (thread_lines (merge_of a ask.list) key (map shown_of (view_of a ask)))) why h.1)) same

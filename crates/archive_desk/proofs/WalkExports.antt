@@ -7,9 +7,8 @@ use Rattle.mbox_core.specs.Written.{IsCutShort}
 use Rattle.archive_tables.proofs.LastLemmas.{lasts_then}
 use Rattle.archive_machine.specs.Records.{Archive}
 use Rattle.archive_machine.specs.Questions.{list_refusal, messages_in}
-use Rattle.archive_machine.specs.Sound.{IsFiledRight}
 use Rattle.archive_store.specs.Replies.{refusal}
-use Rattle.archive_store.specs.Told.{GoesIn, GoesInIfOpen, Calls, HasReturned, Lasts, HoldsTables, IsReady, IsOpen, archive_in}
+use Rattle.archive_store.specs.Told.{GoesIn, GoesInIfOpen, HasReturned, Lasts, HoldsTables, IsOpen, archive_in}
 use Rattle.archive_store.specs.Walking.{Walk, Begins}
 use Rattle.archive_store.specs.declared.store.Store.{Store}
 use Rattle.archive_store.specs.declared.faults.StoreFault.{StoreFault}
@@ -19,13 +18,13 @@ use Rattle.archive_results.specs.Shown.{shown_of}
 use Rattle.archive_desk.specs.Ending.{StopsExport, TellsWriter}
 use Rattle.archive_desk.specs.Exporting.{Exports, ExportsPart, HasBegun, IsExportRefused, IsExportStop, exported, shown_text, stop_reason}
 use Rattle.archive_desk.specs.Asking.{IsEnough}
+use Rattle.archive_desk.specs.Holding.{CallsHeld}
 use Rattle.archive_desk.specs.Faults.{ask_reason, desk_fault, reason, IsAskFault}
 use Rattle.archive_desk.specs.Walking.{IsWalkStop, StandsOn, WritesWalk}
 use Rattle.archive_desk.specs.declared.exporting.ExportStop.{ExportStop}
 use Rattle.archive_desk.specs.declared.faults.DeskFault.{DeskFault}
 use Rattle.archive_desk.specs.declared.faults.DeskFault.TheVariants.{NoList, NoPerson, NotInView, Store as Stored, Memory, Write}
-use Rattle.archive_store.proofs.Joins.{ready_with}
-use Rattle.archive_desk.proofs.CallLemmas.{calls_after, unanswered_too}
+use Rattle.archive_desk.proofs.CallLemmas.{calls_after}
 use Rattle.archive_desk.proofs.AskLemmas.{list_declined}
 use Rattle.archive_desk.proofs.ExportLemmas.{not_viewed}
 use Rattle.archive_desk.proofs.MarkLemmas.{view_alike}
@@ -41,17 +40,17 @@ module _ {S : Type 0} (g : Ghosts S) (old mid : Store S) (ask : Ask) (First : Ar
   -- it does not begin
   pub not_begun : (last : Store S) (before after : List ℕ) (text : Archive → List ℕ) (fault : StoreFault)
       → MatchOption (refusal fault) (GoesInIfOpen g (HoldsTables g) mid last (λ a b. b ≡ a)) (λ why. GoesIn g (HoldsTables g) mid last (λ a b. (b ≡ a) × (list_refusal a ask.list ≡ Some why)))
-      → Calls g old last {A = ℕ} stop_reason (Err (record { written = 0; fault = desk_fault fault })) (λ a b _. b ≡ a)
+      → CallsHeld g old last {A = ℕ} stop_reason (Err (record { written = 0; fault = desk_fault fault })) (λ a b _. b ≡ a)
       (λ a b why. (b ≡ a) × IsExportRefused (ask_reason a ask) before after (text a) why.0 why.1) (λ a b _. b ≡ a)
   not_begun last before after text fault it =
       let Nothing : Archive → ℕ → Type 0 = λ a n. ⊤ in
       not_viewed g old last ask before after text (desk_fault fault)
-      (unanswered_too g old last reason (λ a. ask_reason a ask) (desk_fault fault) (calls_after g (HoldsTables g) old mid last reason (λ a b. (b ≡ a) × (ask_reason a ask ≡ None) × First a)
+      (calls_after g (HoldsTables g) old mid last reason (λ a b. (b ≡ a) × (ask_reason a ask ≡ None) × First a)
       (λ a b n. (b ≡ a) × (ask_reason a ask ≡ None) × Nothing a n) (λ a b n. (b ≡ a) × (ask_reason a ask ≡ None) × Nothing a n)
       (λ a b why. (b ≡ a) × (ask_reason a ask ≡ Some why)) (λ a b why. (b ≡ a) × (ask_reason a ask ≡ Some why)) (λ a b _. b ≡ a) (λ a b _. b ≡ a)
       (λ a b c n first h. (h.0 ∙ first.0, first.1, tt))
       (λ a b c why first h. (h.0 ∙ first.0, subst (λ x. ask_reason x ask ≡ Some why) first.0 h.1))
-      (λ a b c f first h. h ∙ first.0) (Err (desk_fault fault)) found (list_declined g ask mid last fault Nothing Nothing it)))
+      (λ a b c f first h. h ∙ first.0) (Err (desk_fault fault)) found (list_declined g ask mid last fault Nothing Nothing it))
 
 module _ {S : Type 0} (g : Ghosts S) (old mid last : Store S) (walk new : Walk S) (ask : Ask) (reader : ReaderMarks) (head before after : List ℕ)
     (is : last ≡ new.store.now)
@@ -76,21 +75,21 @@ module _ {S : Type 0} (g : Ghosts S) (old mid last : Store S) (walk new : Walk S
   at_start : HasReturned g last → HasReturned g mid
   at_start returned = begun.lasts.returned (at_walk returned)
 
-  -- the store was ready, and nothing of the archive changed
-  ready_last : StandsOn g (archive_in g mid) new → archive_in g mid ≡ archive_in g old → IsFiledRight (archive_in g old) → IsReady g last
-  ready_last stands same right = ready_with g last (archive_in g old) (subst (HoldsTables g) (sym is) stands.0) (ap (archive_in g) is ∙ stands.1 ∙ same) right
+  -- nothing of the archive changed
+  held_last : StandsOn g (archive_in g mid) new → HoldsTables g last
+  held_last stands = subst (HoldsTables g) (sym is) stands.0
 
   -- all of it is out
   pub walk_exported : (count : ℕ) → WritesWalk g walk new ask reader head before after (Ok count)
       → Exports g old last (Ok count) ask before after (λ a. head ++ exported a ask)
   walk_exported count writes = (
     through,
-    (λ returned ready.
-        let first = found.1 (at_start returned) ready.held in
+    (λ returned held.
+        let first = found.1 (at_start returned) held in
         let walks = begun.over (at_walk returned) first.0 in
         let it = writes (subst (HasReturned g) is returned) (messages_in (archive_in g mid) ask.list) (archive_in g mid) walks.1 in
         let same = texts (archive_in g old) (archive_in g mid) first.1.0 first.1.2 in (
-          ready_last it.0 first.1.0 ready.filed_right,
+          held_last it.0,
           (
             ap (archive_in g) is ∙ it.0.1 ∙ first.1.0,
             first.1.1,
@@ -104,8 +103,8 @@ module _ {S : Type 0} (g : Ghosts S) (old mid last : Store S) (walk new : Walk S
     -- exactly the first bytes of it are
     pub walk_part : (fault : DeskFault) → WritesWalk g walk new ask reader head before after (Err (record { written = written; fault = fault }))
         → ExportsPart g old last before after written (λ a. head ++ exported a ask)
-    walk_part fault writes = λ returned ready fits.
-        let first = found.1 (at_start returned) ready.held in
+    walk_part fault writes = λ returned held fits.
+        let first = found.1 (at_start returned) held in
         let walks = begun.over (at_walk returned) first.0 in
         let it = writes (subst (HasReturned g) is returned) (messages_in (archive_in g mid) ask.list) (archive_in g mid) walks.1 in
         subst (λ x. IsCutShort before after x written) (texts (archive_in g old) (archive_in g mid) first.1.0 first.1.2) (it.1 fits)
@@ -119,36 +118,36 @@ module _ {S : Type 0} (g : Ghosts S) (old mid last : Store S) (walk new : Walk S
     walk_unexported NotInView why writes = absurd why
     walk_unexported Write why writes = (
       through,
-      (λ returned ready.
-          let first = found.1 (at_start returned) ready.held in
+      (λ returned held.
+          let first = found.1 (at_start returned) held in
           let walks = begun.over (at_walk returned) first.0 in
           let it = writes (subst (HasReturned g) is returned) (messages_in (archive_in g mid) ask.list) (archive_in g mid) walks.1 in (
-            ready_last it.0 first.1.0 ready.filed_right,
-            (ap (archive_in g) is ∙ it.0.1 ∙ first.1.0, (first.1.1, walk_part Write writes returned ready)),
+            held_last it.0,
+            (ap (archive_in g) is ∙ it.0.1 ∙ first.1.0, (first.1.1, walk_part Write writes returned held)),
           )),
     )
     walk_unexported Memory why writes = (
       through,
-      (λ returned ready up.
-          let first = found.1 (at_start returned) ready.held in
+      (λ returned held up.
+          let first = found.1 (at_start returned) held in
           let walks = begun.over (at_walk returned) first.0 in
           let it = writes (subst (HasReturned g) is returned) (messages_in (archive_in g mid) ask.list) (archive_in g mid) walks.1 in
           let there = it.0 (subst (IsOpen g) is up) in
-          (ready_last there first.1.0 ready.filed_right, ap (archive_in g) is ∙ there.1 ∙ first.1.0)),
+          (held_last there, ap (archive_in g) is ∙ there.1 ∙ first.1.0)),
     )
     walk_unexported (Stored fault) why writes = rw why.0 (
       through,
-      (λ returned ready up.
-          let first = found.1 (at_start returned) ready.held in
+      (λ returned held up.
+          let first = found.1 (at_start returned) held in
           let walks = begun.over (at_walk returned) first.0 in
           let it = (rw why.0 at writes) (subst (HasReturned g) is returned) (messages_in (archive_in g mid) ask.list) (archive_in g mid) walks.1 in
           let there = it.0 (subst (IsOpen g) is up) in
-          (ready_last there first.1.0 ready.filed_right, ap (archive_in g) is ∙ there.1 ∙ first.1.0)),
+          (held_last there, ap (archive_in g) is ∙ there.1 ∙ first.1.0)),
     )
 
     -- it began, so nothing was refused
     pub walk_begun : HasBegun g old last ask written
-    walk_begun = λ returned ready some. (found.1 (at_start returned) ready.held).1.1
+    walk_begun = λ returned held some. (found.1 (at_start returned) held).1.1
 
     pub walk_cause : (fault : DeskFault) → IsWalkStop before after failed fails written fault → IsExportStop before after failed fails written fault
     walk_cause NoList why = absurd why
@@ -183,9 +182,9 @@ module _ {S : Type 0} (g : Ghosts S) (old mid last : Store S) (walk new : Walk S
 pub leaves_none : {S : Type 0} (g : Ghosts S) (old last : Store S) (ask : Ask) (told : List ℕ) (text : Archive → List ℕ) (fault : DeskFault)
     → StopsExport g old last ask told told text (Err (record { written = 0; fault = fault }))
 leaves_none g old last ask told text fault = record {
-  part = λ returned ready fits. none_cut told (text (archive_in g old));
+  part = λ returned held fits. none_cut told (text (archive_in g old));
   out_open = λ some. absurd (omega (arith, some));
-  begun = λ returned ready some. absurd (omega (arith, some));
+  begun = λ returned held some. absurd (omega (arith, some));
 }
 
 unwritten : (told : List ℕ) (failures : ℕ) (fault : DeskFault) → IsAskFault fault → IsExportStop told told failures failures 0 fault

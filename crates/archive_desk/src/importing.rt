@@ -5,7 +5,8 @@ ghost use Rattle.archive_machine.specs.Commands.{no_list};
 ghost use Rattle.archive_machine.specs.Questions.{has_list, list_refusal};
 ghost use Rattle.archive_store.specs.Replies.{refusal};
 ghost use Rattle.archive_store.specs.Batches.{tally_of as store_tally};
-ghost use Rattle.archive_store.specs.Told.{AsksIn, Calls, Counts as CountsWants, EndsAsk, HoldsTables, WasOpen};
+ghost use Rattle.archive_store.specs.Told.{AsksIn, Counts as CountsWants, EndsAsk, HoldsTables, WasOpen};
+ghost use Rattle.archive_desk.specs.Holding.{CallsHeld};
 ghost use Rattle.archive_desk.specs.Importing.{HasAdded, IsBrokenAdd, IsBrokenImport, IsImportWant, IsUncut};
 ghost use Rattle.archive_desk.specs.Importing.{IsImported, IsRefusedAdd, IsRefusedImport, stop_reason, tally_of};
 ghost use Rattle.archive_desk.specs.declared.importing.ImportFault.TheVariants.{Store as Stored};
@@ -69,7 +70,7 @@ pub fn import<S: Alter>(
     list: &str,
     mbox: &[u8],
 ) -> Result<Report, ImportStop>
-    ensures imports { Calls S.Store store.old store.new stop_reason result
+    ensures imports { CallsHeld S.Store store.old store.new stop_reason result
         (λ a b report. IsImported list.now mbox.now a b report)
         (λ a b why. IsRefusedImport list.now mbox.now a b why.0 why.1)
         (λ a b stop. IsBrokenImport list.now mbox.now a b stop.done stop.fault) }
@@ -140,7 +141,7 @@ fn add_items<S: Alter>(
     list: &str,
     items: &[Item<'_>],
 ) -> Result<Report, ImportStop>
-    ensures added { Calls S.Store store.old store.new stop_reason result
+    ensures added { CallsHeld S.Store store.old store.new stop_reason result
         (λ a b report. HasAdded list.now items.entry.now a b report)
         (λ a b why. IsRefusedAdd list.now items.entry.now a b why.0 why.1)
         (λ a b stop. IsBrokenAdd list.now items.entry.now a b stop.done stop.fault) }

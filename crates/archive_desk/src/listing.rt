@@ -11,6 +11,7 @@ ghost use Rattle.archive_store.specs.Told.{Asks, AsksIn, HoldsTables};
 ghost use Rattle.archive_desk.specs.Causes.{IsUnreadable};
 ghost use Rattle.archive_desk.specs.Ending.{Ends, EndsAsk};
 ghost use Rattle.archive_desk.specs.Faults.{IsAskFault, ask_reason, list_reason, reason};
+ghost use Rattle.archive_desk.specs.Holding.{AsksHeld};
 ghost use Rattle.archive_desk.specs.Listing.{IsThreadFault, thread_reason};
 
 use crate::faults::DeskFault;
@@ -87,7 +88,7 @@ pub fn threads<T: Threader, S: Alter>(
     ask: &Ask<'_>,
     threader: &T,
 ) -> Result<Vec<TreeLine>, DeskFault>
-    ensures listed { Asks S.Store store.old store.new reason result (λ a. ask_reason a ask.now)
+    ensures listed { AsksHeld S.Store store.old store.new reason result (λ a. ask_reason a ask.now)
         (λ a rows. rows.items ≡ tree_lines (merge_of a ask.now.list)
         (map shown_of (view_of a ask.now))) }
     ensures ends { EndsAsk S.Store store.old store.new IsAskFault result
@@ -116,7 +117,7 @@ pub fn thread<T: Threader, S: Alter>(
     threader: &T,
     key: &Key,
 ) -> Result<Vec<TreeLine>, DeskFault>
-    ensures listed { Asks S.Store store.old store.new reason result
+    ensures listed { AsksHeld S.Store store.old store.new reason result
         (λ a. thread_reason a ask.now key.now)
         (λ a rows. thread_lines (merge_of a ask.now.list) key.now
         (map shown_of (view_of a ask.now)) ≡ Some rows.items) }

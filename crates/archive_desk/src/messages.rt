@@ -3,11 +3,12 @@ ghost use Rattle.std.specs.Prelude.{◌≡◌, ◌⊎◌, option_map};
 ghost use Rattle.archive_machine.specs.Questions.{message_of};
 ghost use Rattle.archive_machine.specs.Messages.{remembered};
 ghost use Rattle.archive_results.specs.Access.{asked_of, asked_on, reader_marks, told};
-ghost use Rattle.archive_store.specs.Told.{Asks, AsksIn, HoldsTables};
+ghost use Rattle.archive_store.specs.Told.{AsksIn, HoldsTables};
 ghost use Rattle.archive_desk.specs.Asking.{standing_reason};
 ghost use Rattle.archive_desk.specs.Causes.{IsMessageUnreadable, IsReaderUnreadable};
 ghost use Rattle.archive_desk.specs.Ending.{Ends, EndsAsk};
 ghost use Rattle.archive_desk.specs.Faults.{IsAskFault, ask_reason, list_reason, reason};
+ghost use Rattle.archive_desk.specs.Holding.{AsksHeld};
 
 use crate::faults::DeskFault;
 use crate::viewing::find_marks;
@@ -25,7 +26,8 @@ pub fn message<'p, S: Alter>(
     ask: &Ask<'p>,
     key: &Key,
 ) -> Result<Asked<'p>, DeskFault>
-    ensures asked { Asks S.Store store.old store.new reason result (λ a. ask_reason a ask.entry.now)
+    ensures asked { AsksHeld S.Store store.old store.new reason result
+        (λ a. ask_reason a ask.entry.now)
         (λ a answer. told answer ≡ asked_of a ask.entry.now key.now) }
     ensures ends { EndsAsk S.Store store.old store.new IsAskFault result
         (λ a. IsMessageUnreadable a ask.entry.now key.now ⊎ IsReaderUnreadable a ask.entry.now) }

@@ -3,12 +3,13 @@ ghost use Rattle.std.specs.Prelude.{◌≡◌, map, filter, IfOk, Some, option_m
 ghost use Rattle.archive_machine.specs.Questions.{address_of, messages_in, standing_of, standing_refusal};
 ghost use Rattle.archive_machine.specs.Messages.{remembered};
 ghost use Rattle.archive_results.specs.Access.{is_shown, standing_ranked, view_of};
-ghost use Rattle.archive_store.specs.Told.{Asks, AsksIn, HoldsTables};
+ghost use Rattle.archive_store.specs.Told.{AsksIn, HoldsTables};
 ghost use Rattle.archive_desk.specs.Asking.{IsEnough, person_reason, standing_reason};
 ghost use Rattle.archive_desk.specs.Causes.{AreUnreadable, IsAddressUnreadable, IsPersonUnreadable, IsRankUnknown};
 ghost use Rattle.archive_desk.specs.Causes.{IsReaderUnreadable, IsUnreadable};
 ghost use Rattle.archive_desk.specs.Ending.{Ends, EndsAsk};
 ghost use Rattle.archive_desk.specs.Faults.{IsAskFault, ask_reason, list_reason, reason, reason_by};
+ghost use Rattle.archive_desk.specs.Holding.{AsksHeld};
 
 use crate::faults::DeskFault;
 use crate::importing::find_list;
@@ -26,7 +27,7 @@ pub fn view<S: Alter>(
     alloc: Global,
     ask: &Ask<'_>,
 ) -> Result<Vec<Message>, DeskFault>
-    ensures shown { Asks S.Store store.old store.new reason result (λ a. ask_reason a ask.now)
+    ensures shown { AsksHeld S.Store store.old store.new reason result (λ a. ask_reason a ask.now)
         (λ a found. map (remembered ask.now.list) found.items ≡ view_of a ask.now) }
     ensures ends { Ends S.Store store.old store.new IsAskFault result
         (λ a. IsUnreadable a ask.now (messages_in a ask.now.list)) }

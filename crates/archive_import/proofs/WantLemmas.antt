@@ -1,40 +1,37 @@
 -- Want of memory in an import, counted from call to call.
-use Rattle.std.proofs.Common.{◌≡◌, ◌≤◌, ◌<◌, ap, arith, sym, ◌∙◌, ℕ, Result, Ok, Err, IfErr}
+use Rattle.std.proofs.Common.{◌≡◌, ◌≤◌, ap, subst, inl, inr, ℕ, Err}
 use Rattle.mbox_core.specs.declared.faults.MboxFault.{MboxFault}
-use Rattle.mbox_core.specs.declared.faults.MboxFault.TheVariants.{Memory as NoRoom}
+use Rattle.mbox_core.specs.declared.faults.MboxFault.TheVariants.{Memory as NoRoom, Read}
 use Rattle.archive_store.specs.Wanting.{IsWant, Raises}
 use Rattle.archive_store.specs.declared.batches.AddStop.{AddStop}
-use Rattle.archive_store.specs.declared.faults.StoreFault.TheVariants.{Memory}
-use Rattle.archive_desk.specs.Importing.{IsImportWant}
+use Rattle.archive_store.specs.declared.faults.StoreFault.{StoreFault}
 use Rattle.archive_desk.specs.declared.importing.ImportStop.{ImportStop}
 use Rattle.archive_desk.specs.declared.importing.ImportFault.TheVariants.{Mbox, Store as Stored}
+use Rattle.archive_import.specs.Streaming.{IsWanting}
 
 -- an import that stopped for want of memory
-abbrev pub IsWanting : ImportStop → Type 0
-IsWanting stop = IsImportWant stop.fault
+abbrev pub IsStopWanting : ImportStop → Type 0
+IsStopWanting stop = IsWanting stop.fault
 
--- M1, M2 and M3 are none of the store's
-pub mbox_unwanted : (A : Type 0) (a b done : ℕ) (fault : MboxFault) (stop : ImportStop) → a ≤ b → stop ≡ record { done = done; fault = Mbox fault }
-    → Raises {A = A} IsWanting a b (Err stop)
-mbox_unwanted A a b done fault stop grows is = (
-  grows,
-  (λ it. absurd (let none : Mbox fault ≡ Stored Memory = sym (ap (λ (s : ImportStop). s.fault) is) ∙ it in cc)),
-)
+-- of the faults of a store E14 alone
+pub store_want : (fault : StoreFault) → IsWanting (Stored fault) → IsWant fault
+store_want fault (inl want) = cc
+store_want fault (inr none) = absurd cc
 
--- what is held too, or not
-pub held_unwanted : {A : Type 0} (a b done : ℕ) (result : Result A ImportStop) → a ≤ b → IfErr result (λ stop. stop ≡ record { done = done; fault = Mbox NoRoom })
-    → Raises IsWanting a b result
-held_unwanted a b done (Ok x) grows is = (grows, tt)
-held_unwanted {A = A} a b done (Err stop) grows is = mbox_unwanted A a b done NoRoom stop grows is
+-- of those of the stream M3 alone
+pub uncut_want : (fault : MboxFault) → IsWanting (Mbox fault) → fault ≡ NoRoom
+uncut_want fault (inl none) = absurd cc
+uncut_want fault (inr want) = cc
+
+unread_want : IsWanting (Mbox Read) → ⊥
+unread_want it = absurd (let none : Read ≡ NoRoom = uncut_want Read it in cc)
+
+-- M2 is none
+pub unread_unwanted : (A : Type 0) (a b done : ℕ) (stop : ImportStop) → a ≤ b → stop ≡ record { done = done; fault = Mbox Read }
+    → Raises {A = A} IsStopWanting a b (Err stop)
+unread_unwanted A a b done stop grows is = (grows, (λ want. absurd (unread_want (subst IsWanting (ap (λ (s : ImportStop). s.fault) is) want))))
 
 -- the store's own
 pub added_wants : (A B : Type 0) (a b done : ℕ) (told : AddStop) (stop : ImportStop) → stop ≡ record { done = done; fault = Stored told.fault }
-    → Raises {A = A} (λ (s : AddStop). IsWant s.fault) a b (Err told) → Raises {A = B} IsWanting a b (Err stop)
-added_wants A B a b done told stop is it = (
-  it.0,
-  (λ want. it.1 (let same : Stored told.fault ≡ Stored Memory = sym (ap (λ (s : ImportStop). s.fault) is) ∙ want in let none : told.fault ≡ Memory = cc in none)),
-)
-
--- where 2^64 messages were done, or no memory was left to lend them
-pub wants_more : (A : Type 0) (a b : ℕ) (stop : ImportStop) → a < b → Raises {A = A} IsWanting a b (Err stop)
-wants_more A a b stop more = (omega (arith, more), (λ it. more))
+    → Raises {A = A} (λ (s : AddStop). IsWant s.fault) a b (Err told) → Raises {A = B} IsStopWanting a b (Err stop)
+added_wants A B a b done told stop is it = (it.0, (λ want. it.1 (store_want told.fault (subst IsWanting (ap (λ (s : ImportStop). s.fault) is) want))))

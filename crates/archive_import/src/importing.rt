@@ -7,9 +7,9 @@ ghost use Rattle.archive_store.specs.Batches.{AddsAll, told_in};
 ghost use Rattle.archive_store.specs.Held.{held_of};
 ghost use Rattle.archive_store.specs.Told.{Calls, Counts, Lasts};
 ghost use Rattle.archive_store.specs.Wanting.{IsWant};
-ghost use Rattle.archive_desk.specs.Importing.{IsBrokenAdd, IsImportWant};
+ghost use Rattle.archive_desk.specs.Importing.{IsBrokenAdd};
 ghost use Rattle.archive_import.specs.Streaming.{Imports, halt_reason, HasFailed, FailedBy, IsFresh, IsHalted, IsBroken, IsReadIn};
-ghost use Rattle.archive_import.specs.Streaming.{IsSettled, ReadsIn, TakesWaiting};
+ghost use Rattle.archive_import.specs.Streaming.{IsSettled, IsWanting, ReadsIn, TakesWaiting};
 ghost use Rattle.archive_import.specs.Intake.{IsUnderWay, IsHaltedAdd, IsUnread, IsOfStore};
 
 use crate::intake::Intake;
@@ -39,7 +39,7 @@ pub fn import_from<S: Alter, R: Source>(
     ensures failures { (failed : ℕ) × (R.failures input.new ≡ R.failures input.old + failed)
         × HasFailed result failed }
     ensures end { OnOk result (R.ends input.new ≡ R.ends input.old + 1) }
-    ensures counted { Counts (λ stop. IsImportWant stop.fault) store.old store.new result }
+    ensures counted { Counts (λ stop. IsWanting stop.fault) store.old store.new result }
 {
     if let Err(fault) = find_list(store, list) {
         return Err(ImportStop {
@@ -80,7 +80,7 @@ fn add_settled<S: Alter, R: Source>(
         (R.ends input.new)
         (R.failures input.old) (R.failures input.new) cutter.new.stream result }
     ensures settled { OnOk result (IsSettled cutter.new) }
-    ensures counted { Counts (λ stop. IsImportWant stop.fault) store.old store.new result }
+    ensures counted { Counts (λ stop. IsWanting stop.fault) store.old store.new result }
 {
     for _ in 0..u64::MAX {
         match cutter.read_from(input) {
@@ -88,13 +88,13 @@ fn add_settled<S: Alter, R: Source>(
             Ok(false) => return Ok(()),
             Err(MboxFault::Read) => return stop_unread(store, alloc, list, intake),
             Err(MboxFault::Preamble(at)) => {
-                return Err(intake.stop(ImportFault::Mbox(MboxFault::Preamble(at))));
+                return Err(intake.stop_uncut(&mut store.wants, MboxFault::Preamble(at)));
             }
             Err(MboxFault::Memory) => {
-                return Err(intake.stop(ImportFault::Mbox(MboxFault::Memory)));
+                return Err(intake.stop_uncut(&mut store.wants, MboxFault::Memory));
             }
             Err(MboxFault::Failed) => {
-                return Err(intake.stop(ImportFault::Mbox(MboxFault::Failed)));
+                return Err(intake.stop_uncut(&mut store.wants, MboxFault::Failed));
             }
         }
         match add_waiting(store, alloc, list, cutter, intake) {
@@ -102,7 +102,7 @@ fn add_settled<S: Alter, R: Source>(
             Err(stop) => return Err(stop),
         }
     }
-    Err(intake.stop(ImportFault::Mbox(MboxFault::Memory)))
+    Err(intake.stop_uncut(&mut store.wants, MboxFault::Memory))
 }
 
 /// A read failed: what is held is added, and then it is M2.
@@ -121,7 +121,7 @@ fn stop_unread<S: Alter>(
         → IsUnread list.now items a c why.0 why.1)
         (λ b c stop. (a : Archive) (items : List Message) → IsUnderWay list.now a b items intake.old
         → IsBrokenAdd list.now items a c stop.done stop.fault) }
-    ensures counted { Counts (λ stop. IsImportWant stop.fault) store.old store.new result }
+    ensures counted { Counts (λ stop. IsWanting stop.fault) store.old store.new result }
 {
     match add_held(store, alloc, list, intake) {
         Ok(()) => Err(intake.stop(ImportFault::Mbox(MboxFault::Read))),
@@ -146,11 +146,11 @@ fn add_last<S: Alter>(
         (λ b c stop. (a : Archive) → IsUnderWay list.now a b cutter.old.taken intake.old
         → IsBroken list.now cutter.old.stream 1 a c stop.done stop.fault) }
     ensures kind { IfErr result (λ stop. FailedBy stop.fault 0) }
-    ensures counted { Counts (λ stop. IsImportWant stop.fault) store.old store.new result }
+    ensures counted { Counts (λ stop. IsWanting stop.fault) store.old store.new result }
 {
     match cutter.finish() {
         Ok(()) => {}
-        Err(fault) => return Err(intake.stop(ImportFault::Mbox(fault))),
+        Err(fault) => return Err(intake.stop_uncut(&mut store.wants, fault)),
     }
     match add_waiting(store, alloc, list, cutter, intake) {
         Ok(()) => add_held(store, alloc, list, intake),
@@ -176,7 +176,7 @@ fn add_waiting<S: Alter>(
         → IsBrokenAdd list.now (items ++ cutter.old.waiting) a c stop.done stop.fault) }
     ensures kind { IfErr result (λ stop. FailedBy stop.fault 0) }
     ensures takes { TakesWaiting cutter.old cutter.new result }
-    ensures counted { Counts (λ stop. IsImportWant stop.fault) store.old store.new result }
+    ensures counted { Counts (λ stop. IsWanting stop.fault) store.old store.new result }
 {
     while let Some(item) = cutter.take() {
         match hold_one(store, alloc, list, item, intake) {
@@ -203,13 +203,13 @@ fn hold_one<S: Alter>(
         (λ b c stop. (a : Archive) (items : List Message) → IsUnderWay list.now a b items intake.old
         → IsBrokenAdd list.now (items ++ item ∷ []) a c stop.done stop.fault) }
     ensures kind { IfErr result (λ stop. FailedBy stop.fault 0) }
-    ensures counted { Counts (λ stop. IsImportWant stop.fault) store.old store.new result }
+    ensures counted { Counts (λ stop. IsWanting stop.fault) store.old store.new result }
 {
     if intake.has_room(&item) {
-        return intake.hold(item);
+        return intake.hold(&mut store.wants, item);
     }
     match add_held(store, alloc, list, intake) {
-        Ok(()) => intake.hold(item),
+        Ok(()) => intake.hold(&mut store.wants, item),
         Err(stop) => Err(stop),
     }
 }
@@ -230,7 +230,7 @@ fn add_held<S: Alter>(
         → IsBrokenAdd list.now items a c stop.done stop.fault) }
     ensures kind { IfErr result (λ stop. IsOfStore stop.fault) }
     ensures none { OnOk result (intake.new.held ≡ []) }
-    ensures counted { Counts (λ stop. IsImportWant stop.fault) store.old store.new result }
+    ensures counted { Counts (λ stop. IsWanting stop.fault) store.old store.new result }
 {
     match intake.done_after() {
         Ok(_) => {}

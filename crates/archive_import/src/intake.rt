@@ -1,12 +1,14 @@
 //! Messages that are held, and then added in one call.
-ghost use Rattle.std.specs.Prelude.{◌≡◌, ◌+◌, ◌≤◌, ◌<◌, ◌^◌, ◌∷◌, ◌++◌, [], IsTrue, length, IfErr, IfOk, OnOk};
+ghost use Rattle.std.specs.Prelude.{◌≡◌, ◌+◌, ◌≤◌, ◌<◌, ◌^◌, ◌∷◌, ◌++◌, [], IsTrue, length, IfErr, IfOk, OnOk, Err};
 ghost use Rattle.archive_desk.specs.declared.importing.ImportFault.TheVariants.{Mbox as NotCut, Store as Stored};
 ghost use Rattle.mbox_core.specs.declared.faults.MboxFault.TheVariants.{Memory as NoRoom};
 ghost use Rattle.archive_store.specs.Batches.{told_in, tally_of as store_tally};
+ghost use Rattle.archive_store.specs.Wanting.{Raises};
 ghost use Rattle.archive_import.specs.Intake.{IsSmall, is_more};
+ghost use Rattle.archive_import.specs.Streaming.{IsWanting};
 
 use archive_desk::{ImportFault, ImportStop, Report};
-use archive_store::{AddReport, AddStop};
+use archive_store::{AddReport, AddStop, Wants};
 use mbox_core::{MboxFault, OwnedItem};
 use std::alloc::{AllocError, Global};
 use std::marker::Model;
@@ -85,6 +87,21 @@ impl Intake {
         }
     }
 
+    /// The same for a fault of the stream. M3 is counted.
+    pub(crate) fn stop_uncut(&self, wants: &mut Wants, fault: MboxFault) -> ImportStop
+        ensures stop { result ≡ record { done = self.now.done; fault = NotCut fault } }
+        ensures counted { Raises {A = Unit {0}} (λ stop. IsWanting stop.fault) wants.old wants.new
+            (Err result) }
+    {
+        match fault {
+            MboxFault::Memory => {
+                wants.raise(AllocError.into());
+                self.stop(ImportFault::Mbox(MboxFault::Memory))
+            }
+            _ => self.stop(ImportFault::Mbox(fault)),
+        }
+    }
+
     /// A stop amid what is held, so far as it was added.
     pub(crate) fn stop_amid(&self, stop: AddStop) -> ImportStop
         requires { self.now.done + stop.done < 2 ^ 64 }
@@ -104,13 +121,14 @@ impl Intake {
             && self.bytes.saturating_add(item.text().len()) <= BYTES_HELD
     }
 
-    /// Holds a message more. M3: there was no memory for it.
-    pub(crate) fn hold(&mut self, item: OwnedItem) -> Result<(), ImportStop>
+    /// Holds a message more. M3, which is counted: memory for it was refused.
+    pub(crate) fn hold(&mut self, wants: &mut Wants, item: OwnedItem) -> Result<(), ImportStop>
         requires { IsSmall (self.old.held ++ item ∷ []) }
         ensures ok { OnOk result (self.new ≡ record self.old
             { held = self.old.held ++ item ∷ [] }) }
         ensures fault { IfErr result (λ stop. stop ≡ record
             { done = self.old.done; fault = NotCut NoRoom }) }
+        ensures counted { Raises (λ stop. IsWanting stop.fault) wants.old wants.new result }
     {
         let bytes = self.bytes.saturating_add(item.text().len());
         match self.held.push(item) {
@@ -118,7 +136,10 @@ impl Intake {
                 self.bytes = bytes;
                 Ok(())
             }
-            Err(_) => Err(self.stop(ImportFault::Mbox(MboxFault::Memory))),
+            Err(refused) => {
+                wants.raise(refused.into());
+                Err(self.stop(ImportFault::Mbox(MboxFault::Memory)))
+            }
         }
     }
 

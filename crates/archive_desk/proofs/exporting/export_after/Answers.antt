@@ -10,10 +10,8 @@ use Rattle.archive_desk.specs.Asking.{IsEnough}
 use Rattle.archive_desk.specs.Causes.{IsReaderUnreadable, IsUnreadable}
 use Rattle.archive_desk.specs.Ending.{EndsExport, TellsWriter}
 use Rattle.archive_desk.specs.Exporting.{Exports, IsExportStop, exported}
-use Rattle.archive_desk.specs.Faults.{ask_reason, reason}
 use Rattle.archive_desk.specs.declared.exporting.ExportStop.{ExportStop}
 use Rattle.archive_desk.proofs.AskLemmas.{is_list_fault}
-use Rattle.archive_desk.proofs.CallLemmas.{unanswered_too}
 use Rattle.archive_desk.proofs.EndLemmas.{export_ends, export_stops, unbegun_ends}
 use Rattle.archive_desk.proofs.ExportLemmas.{not_viewed}
 use Rattle.archive_desk.proofs.WalkExports.{leaves_none, not_begun, tells_none, walk_ended, walk_leaves, walk_tells}
@@ -23,8 +21,7 @@ pub returns-in-Err-clause-exported : goal.returns-in-Err-clause-exported
 returns-in-Err-clause-exported g c =
     let ask = c.args.ask.now in
     let told = g.W.Sink.told c.args.out.now in
-    not_viewed g.S.Store c.args.store.now c.find_reader.new.store ask told told (λ a. c.args.head.now ++ exported a ask) c.in-Err.fault
-    (unanswered_too g.S.Store c.args.store.now c.find_reader.new.store reason (λ a. ask_reason a ask) c.in-Err.fault c.in-Err.ensures.found)
+    not_viewed g.S.Store c.args.store.now c.find_reader.new.store ask told told (λ a. c.args.head.now ++ exported a ask) c.in-Err.fault c.in-Err.ensures.found
 
 pub returns-in-Err-clause-stopped : goal.returns-in-Err-clause-stopped
 returns-in-Err-clause-stopped g c =

@@ -1,6 +1,6 @@
 use Rattle.std.proofs.Common.{◌≡◌, ◌∙◌, ap, sym, subst, Err}
 use Rattle.archive_store.specs.declared.faults.StoreFault.TheVariants.{Memory}
-use Rattle.archive_store.specs.Told.{Calls}
+use Rattle.archive_desk.specs.Holding.{CallsHeld}
 use Rattle.archive_desk.specs.Importing.{HasAdded, IsBrokenAdd, IsRefusedAdd, stop_reason}
 use Rattle.archive_desk.specs.declared.importing.Report.{Report}
 use Rattle.archive_desk.specs.declared.importing.ImportStop.{ImportStop}
@@ -23,7 +23,7 @@ returns-in-Err g c =
     let new = c.add_all.new.self in
     record {
       added = subst
-          (λ s. Calls g.S.Store old new {A = Report} stop_reason (Err s) (λ a b report. HasAdded list items a b report)
+          (λ s. CallsHeld g.S.Store old new {A = Report} stop_reason (Err s) (λ a b report. HasAdded list items a b report)
           (λ a b why. IsRefusedAdd list items a b why.0 why.1) (λ a b stop. IsBrokenAdd list items a b stop.done stop.fault)) (sym c.stop_of.ensures)
           (added_first g.S.Store old new list items c.add_all.ensures.ends.lasts c.in-Err.stop c.in-Err.ensures.bound c.in-Err.ensures.step);
       counted = (

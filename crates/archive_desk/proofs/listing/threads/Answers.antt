@@ -1,8 +1,6 @@
 use Rattle.std.proofs.Common.{◌≡◌, map}
 use Rattle.archive_results.specs.Results.{tree_lines}
 use Rattle.archive_results.specs.Shown.{shown_of}
-use Rattle.archive_desk.specs.Faults.{ask_reason, reason}
-use Rattle.archive_desk.proofs.CallLemmas.{unanswered_too}
 use Rattle.archive_desk.proofs.ListLemmas.{listed_from}
 use Rattle.archive_desk.proofs.listing.threads.Goals as goal
 
@@ -10,7 +8,3 @@ pub returns-in-Ok-tree_lines-clause-listed : goal.returns-in-Ok-tree_lines-claus
 returns-in-Ok-tree_lines-clause-listed g c =
     listed_from g.S.Store c.args.store.now c.read_index.new.store c.args.ask.now c.in-Ok.index.headers.items c.in-Ok.index.merge c.in-Ok.ensures.held
     (λ merge view. c.in-Ok-tree_lines.rows.items ≡ tree_lines merge (map shown_of view)) c.in-Ok-tree_lines.ensures
-
-pub returns-in-Err-clause-listed : goal.returns-in-Err-clause-listed
-returns-in-Err-clause-listed g c =
-    unanswered_too g.S.Store c.args.store.now c.read_index.new.store reason (λ a. ask_reason a c.args.ask.now) c.in-Err.fault c.in-Err.ensures.held

@@ -3,11 +3,10 @@ use Rattle.std.specs.Prelude.{option_map}
 use Rattle.archive_machine.specs.Messages.{remembered}
 use Rattle.archive_machine.specs.Questions.{message_of}
 use Rattle.archive_results.specs.Access.{asked_of, asked_on, reader_marks, told}
-use Rattle.archive_store.proofs.Joins.{asks_too}
 use Rattle.archive_desk.specs.Asking.{standing_reason}
-use Rattle.archive_desk.specs.Faults.{IsAskFault, ask_reason, reason}
+use Rattle.archive_desk.specs.Faults.{IsAskFault, reason}
 use Rattle.archive_desk.proofs.AskLemmas.{answer_after, list_refused}
-use Rattle.archive_desk.proofs.CallLemmas.{asks_last, unanswered_too}
+use Rattle.archive_desk.proofs.CallLemmas.{asks_last}
 use Rattle.archive_store.specs.Told.{HoldsTables}
 use Rattle.archive_desk.specs.Causes.{IsMessageUnreadable, IsReaderUnreadable}
 use Rattle.archive_desk.proofs.EndLemmas.{ask_after, ask_stops_as}
@@ -18,18 +17,16 @@ returns-in-Ok-clause-asked g c =
     let ask = c.args.ask.now in
     let old = c.args.store.now in
     let new = c.answer_on.new.store in
-    asks_too g.S.Store old new reason c.answer_on.result (λ a. ask_reason a ask) (λ a answer. told answer ≡ asked_of a ask c.args.key.now)
-    (answer_after g.S.Store ask old c.find_row.new.store new told c.args.key.now (option_map (remembered ask.list) c.in-Ok.held)
-    c.answer_on.result c.in-Ok.ensures.held c.answer_on.ensures.asked)
+    answer_after g.S.Store ask old c.find_row.new.store new told c.args.key.now (option_map (remembered ask.list) c.in-Ok.held)
+    c.answer_on.result c.in-Ok.ensures.held c.answer_on.ensures.asked
 
 pub returns-in-Err-clause-asked : goal.returns-in-Err-clause-asked
 returns-in-Err-clause-asked g c =
     let ask = c.args.ask.now in
     let old = c.args.store.now in
     let new = c.find_row.new.store in
-    unanswered_too g.S.Store old new reason (λ a. ask_reason a ask) c.in-Err.fault
-    (list_refused g.S.Store ask old new c.in-Err.fault
-    (λ a found. option_map (remembered ask.list) found ≡ message_of a ask.list c.args.key.now) (λ a answer. told answer ≡ asked_of a ask c.args.key.now) c.in-Err.ensures.held)
+    list_refused g.S.Store ask old new c.in-Err.fault
+    (λ a found. option_map (remembered ask.list) found ≡ message_of a ask.list c.args.key.now) (λ a answer. told answer ≡ asked_of a ask c.args.key.now) c.in-Err.ensures.held
 
 pub returns-in-Ok-clause-ends : goal.returns-in-Ok-clause-ends
 returns-in-Ok-clause-ends g c =

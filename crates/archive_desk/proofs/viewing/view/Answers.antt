@@ -5,11 +5,10 @@ use Rattle.archive_machine.specs.Messages.{remembered}
 use Rattle.archive_machine.specs.declared.messages.Message.{Message}
 use Rattle.archive_machine.specs.Questions.{messages_in}
 use Rattle.archive_results.specs.Access.{ReaderMarks, view_of}
-use Rattle.archive_store.proofs.Joins.{sound_too}
 use Rattle.archive_desk.specs.Asking.{IsEnough, standing_reason}
-use Rattle.archive_desk.specs.Faults.{IsAskFault, ask_reason, reason}
+use Rattle.archive_desk.specs.Faults.{IsAskFault, reason}
 use Rattle.archive_desk.proofs.AskLemmas.{marks_after, view_found, list_refused}
-use Rattle.archive_desk.proofs.CallLemmas.{unanswered_too, asks_last}
+use Rattle.archive_desk.proofs.CallLemmas.{asks_last}
 use Rattle.archive_desk.proofs.ListLemmas.{unmade}
 use Rattle.archive_store.specs.Told.{HoldsTables}
 use Rattle.archive_desk.specs.Causes.{AreUnreadable, IsReaderUnreadable, IsUnreadable}
@@ -21,9 +20,8 @@ returns-in-Err-clause-shown g c =
     let ask = c.args.ask.now in
     let old = c.args.store.now in
     let new = c.read_list.new.store in
-    unanswered_too g.S.Store old new reason (λ a. ask_reason a ask) c.in-Err.fault
-    (list_refused g.S.Store ask old new c.in-Err.fault (λ a (found : Vec Message Global). map (remembered ask.list) found.items ≡ messages_in a ask.list)
-    (λ a (found : Vec Message Global). map (remembered ask.list) found.items ≡ view_of a ask) c.in-Err.ensures.held)
+    list_refused g.S.Store ask old new c.in-Err.fault (λ a (found : Vec Message Global). map (remembered ask.list) found.items ≡ messages_in a ask.list)
+    (λ a (found : Vec Message Global). map (remembered ask.list) found.items ≡ view_of a ask) c.in-Err.ensures.held
 
 pub returns-in-Ok-keep_shown-clause-shown : goal.returns-in-Ok-keep_shown-clause-shown
 returns-in-Ok-keep_shown-clause-shown g c =
@@ -32,20 +30,18 @@ returns-in-Ok-keep_shown-clause-shown g c =
     let new = c.find_marks.new.store in
     let found = c.in-Ok.messages.items in
     let kept = c.in-Ok-keep_shown.kept.items in
-    sound_too g.S.Store old new (λ a b. (b ≡ a) × (ask_reason a ask ≡ None) × (map (remembered ask.list) kept ≡ view_of a ask)) (λ a b it. it.0)
-    (view_found g.S.Store old new ask c.in-Ok-find_marks.reader found kept
+    view_found g.S.Store old new ask c.in-Ok-find_marks.reader found kept
     (marks_after g.S.Store ask old c.read_list.new.store new (λ a. map (remembered ask.list) found ≡ messages_in a ask.list) (Ok c.in-Ok-find_marks.reader)
     c.in-Ok.ensures.held c.in-Ok-find_marks.ensures.found)
-    c.in-Ok-keep_shown.ensures)
+    c.in-Ok-keep_shown.ensures
 
 pub returns-in-Err-find_marks-clause-shown : goal.returns-in-Err-find_marks-clause-shown
 returns-in-Err-find_marks-clause-shown g c =
     let ask = c.args.ask.now in
     let old = c.args.store.now in
     let new = c.find_marks.new.store in
-    unanswered_too g.S.Store old new reason (λ a. ask_reason a ask) c.in-Err-find_marks.fault
-    (marks_after g.S.Store ask old c.read_list.new.store new (λ a. map (remembered ask.list) c.in-Ok.messages.items ≡ messages_in a ask.list)
-    (Err c.in-Err-find_marks.fault) c.in-Ok.ensures.held c.in-Err-find_marks.ensures.found)
+    marks_after g.S.Store ask old c.read_list.new.store new (λ a. map (remembered ask.list) c.in-Ok.messages.items ≡ messages_in a ask.list)
+    (Err c.in-Err-find_marks.fault) c.in-Ok.ensures.held c.in-Err-find_marks.ensures.found
 
 pub returns-clause-shown : goal.returns-clause-shown
 returns-clause-shown g c =

@@ -1,8 +1,8 @@
-use Rattle.std.proofs.Common.{◌≤◌, arith, length, subst, Ok, Err}
+use Rattle.std.proofs.Common.{◌≤◌, length, subst, Ok, Err}
 use Rattle.archive_store.specs.Batches.{AddsAll}
 use Rattle.archive_store.specs.Held.{held_of, wants_of}
 use Rattle.archive_store.specs.declared.batches.AddReport.{AddReport}
-use Rattle.archive_import.proofs.WantLemmas.{added_wants, wants_more}
+use Rattle.archive_import.proofs.WantLemmas.{added_wants}
 use Rattle.archive_import.proofs.StopLemmas.{held_added, add_stopped}
 use Rattle.archive_import.proofs.importing.add_held.Goals as goal
 

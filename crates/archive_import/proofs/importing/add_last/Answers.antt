@@ -1,9 +1,9 @@
-use Rattle.std.proofs.Common.{[], arith, ◌++◌, ◌∙◌, sym, ap, subst, refl, Err, append-nil, inr}
+use Rattle.std.proofs.Common.{[], ◌++◌, ◌∙◌, sym, ap, subst, refl, Err, append-nil, inr}
 use Rattle.mbox_stream.specs.Cutter.{IsEndFault}
 use Rattle.archive_import.proofs.ReadLemmas.{begun_none, begun_more, settled_taken, ended_divides, end_stopped, waiting_stopped, last_says}
 use Rattle.archive_store.specs.Held.{wants_of}
 use Rattle.archive_store.proofs.WantLemmas.{raises_after}
-use Rattle.archive_import.proofs.WantLemmas.{IsWanting, mbox_unwanted}
+use Rattle.archive_import.proofs.WantLemmas.{IsStopWanting}
 use Rattle.archive_import.proofs.importing.add_last.Goals as goal
 
 pub returns-in-Err-clause-adds : goal.returns-in-Err-clause-adds
@@ -12,7 +12,7 @@ returns-in-Err-clause-adds g c =
     let intake = c.args.intake.now in
     let store = c.args.store.now in
     end_stopped g.S.Store store store c.args.list.now cutter.taken cutter.taken intake intake (begun_none g.S.Store store c.args.list.now cutter.taken cutter.taken intake refl)
-    cutter.stream cutter.stream [] 1 (settled_taken cutter c.requires.given c.requires.goes_on c.requires.none) (sym (append-nil _)) c.in-Err.fault c.stop.result c.stop.ensures
+    cutter.stream cutter.stream [] 1 (settled_taken cutter c.requires.given c.requires.goes_on c.requires.none) (sym (append-nil _)) c.in-Err.fault c.stop_uncut.result c.stop_uncut.ensures.stop
     (subst (λ s. IsEndFault s c.in-Err.fault) c.finish.ensures.stream c.in-Err.ensures.fault.0)
     (λ h. c.finish.ensures.closed.0 (c.in-Err.is ∙ ap Err h) c.requires.goes_on)
 
@@ -42,9 +42,9 @@ returns-in-Err-add_waiting-clause-adds g c =
     (inr (refl, ended_divides cutter ended c.finish.ensures.given c.in-Ok.ensures.finished c.finish.ensures.stream c.finish.ensures.taken)) c.in-Err-add_waiting.ensures.adds
 
 pub returns-in-Err-clause-counted : goal.returns-in-Err-clause-counted
-returns-in-Err-clause-counted g c = mbox_unwanted (Unit {0}) (wants_of c.args.store.now) (wants_of c.args.store.now) _ _ c.stop.result (omega arith) c.stop.ensures
+returns-in-Err-clause-counted g c = c.stop_uncut.ensures.counted
 
 pub returns-in-Ok-add_waiting-clause-counted : goal.returns-in-Ok-add_waiting-clause-counted
 returns-in-Ok-add_waiting-clause-counted g c =
-    raises_after IsWanting (wants_of c.args.store.now) (wants_of c.add_waiting.new.store) (wants_of c.add_held.new.store) c.add_held.result
+    raises_after IsStopWanting (wants_of c.args.store.now) (wants_of c.add_waiting.new.store) (wants_of c.add_held.new.store) c.add_held.result
     c.in-Ok-add_waiting.ensures.counted.0 c.add_held.ensures.counted

@@ -5,7 +5,7 @@ use Rattle.archive_import.specs.Intake.{IsUnderWay}
 use Rattle.archive_import.proofs.ReadLemmas.{settled_taken, settled_given, preamble_stopped, memory_stopped, waiting_stopped, unread_stopped_read}
 use Rattle.archive_store.specs.Held.{wants_of}
 use Rattle.archive_store.proofs.WantLemmas.{raises_after}
-use Rattle.archive_import.proofs.WantLemmas.{IsWanting, mbox_unwanted}
+use Rattle.archive_import.proofs.WantLemmas.{IsStopWanting}
 use Rattle.archive_import.proofs.importing.add_settled.Goals as goal
 
 pub returns-in-Err-Read-clause-adds : goal.returns-in-Err-Read-clause-adds
@@ -23,7 +23,7 @@ returns-in-Err-Preamble-clause-adds g c =
     let cutter = c.loop.cutter in
     let r = c.read_from.ensures.read in
     preamble_stopped g.S.Store c.args.store.now c.loop.store c.args.list.now [] cutter.taken c.args.intake.now c.loop.intake i.adds
-    cutter.stream c.read_from.new.self.stream r.0 0 (settled_taken cutter i.given i.goes_on i.none_waits) r.2 c.in-Err-Preamble.at c.stop.result (rw c.in-Err-Preamble.field-0-is at c.stop.ensures)
+    cutter.stream c.read_from.new.self.stream r.0 0 (settled_taken cutter i.given i.goes_on i.none_waits) r.2 c.in-Err-Preamble.at c.stop_uncut.result (rw c.in-Err-Preamble.field-0-is at c.stop_uncut.ensures.stop)
     (rw c.in-Err-Preamble.field-0-is at c.in-Err-Preamble.ensures.fault.0)
 
 pub returns-in-Err-Memory-clause-adds : goal.returns-in-Err-Memory-clause-adds
@@ -32,7 +32,7 @@ returns-in-Err-Memory-clause-adds g c =
     let cutter = c.loop.cutter in
     let r = c.read_from.ensures.read in
     memory_stopped g.S.Store c.args.store.now c.loop.store c.args.list.now [] cutter.taken c.args.intake.now c.loop.intake i.adds
-    cutter.stream c.read_from.new.self.stream r.0 0 (settled_taken cutter i.given i.goes_on i.none_waits) r.2 c.stop-in-Err-Memory.result c.stop-in-Err-Memory.ensures
+    cutter.stream c.read_from.new.self.stream r.0 0 (settled_taken cutter i.given i.goes_on i.none_waits) r.2 c.stop_uncut-in-Err-Memory.result c.stop_uncut-in-Err-Memory.ensures.stop
 
 pub returns-in-Err-Failed-clause-adds : goal.returns-in-Err-Failed-clause-adds
 returns-in-Err-Failed-clause-adds g c = absurd (c.read_from.ensures.closed.0 (c.in-Err-Failed.is ∙ ap Err c.in-Err-Failed.field-0-is) c.loop.invariant.goes_on)
@@ -52,25 +52,33 @@ returns-clause-adds g c =
     let i = c.loop.invariant in
     let cutter = c.loop.cutter in
     memory_stopped g.S.Store c.args.store.now c.loop.store c.args.list.now [] cutter.taken c.args.intake.now c.loop.intake i.adds
-    cutter.stream cutter.stream [] 0 (settled_taken cutter i.given i.goes_on i.none_waits) (sym (append-nil _)) c.stop-2.result c.stop-2.ensures
+    cutter.stream cutter.stream [] 0 (settled_taken cutter i.given i.goes_on i.none_waits) (sym (append-nil _)) c.stop_uncut-2.result c.stop_uncut-2.ensures.stop
 
 pub returns-in-Err-Read-clause-counted : goal.returns-in-Err-Read-clause-counted
 returns-in-Err-Read-clause-counted g c =
-    raises_after IsWanting (wants_of c.args.store.now) (wants_of c.loop.store) (wants_of c.stop_unread.new.store) c.stop_unread.result c.loop.invariant.grows c.stop_unread.ensures.counted
+    raises_after IsStopWanting (wants_of c.args.store.now) (wants_of c.loop.store) (wants_of c.stop_unread.new.store) c.stop_unread.result c.loop.invariant.grows c.stop_unread.ensures.counted
 
 pub returns-in-Err-clause-counted : goal.returns-in-Err-clause-counted
 returns-in-Err-clause-counted g c =
-    raises_after {A = Unit {0}} IsWanting (wants_of c.args.store.now) (wants_of c.loop.store) (wants_of c.add_waiting.new.store) (Err c.in-Err.stop) c.loop.invariant.grows
+    raises_after {A = Unit {0}} IsStopWanting (wants_of c.args.store.now) (wants_of c.loop.store) (wants_of c.add_waiting.new.store) (Err c.in-Err.stop) c.loop.invariant.grows
     c.in-Err.ensures.counted
 
 pub returns-in-Err-Preamble-clause-counted : goal.returns-in-Err-Preamble-clause-counted
-returns-in-Err-Preamble-clause-counted g c = mbox_unwanted (Unit {0}) (wants_of c.args.store.now) (wants_of c.loop.store) _ _ c.stop.result c.loop.invariant.grows c.stop.ensures
+returns-in-Err-Preamble-clause-counted g c =
+    raises_after {A = Unit {0}} IsStopWanting (wants_of c.args.store.now) (wants_of c.loop.store) c.stop_uncut.new.wants (Err c.stop_uncut.result)
+    c.loop.invariant.grows c.stop_uncut.ensures.counted
 
 pub returns-in-Err-Memory-clause-counted : goal.returns-in-Err-Memory-clause-counted
-returns-in-Err-Memory-clause-counted g c = mbox_unwanted (Unit {0}) (wants_of c.args.store.now) (wants_of c.loop.store) _ _ c.stop-in-Err-Memory.result c.loop.invariant.grows c.stop-in-Err-Memory.ensures
+returns-in-Err-Memory-clause-counted g c =
+    raises_after {A = Unit {0}} IsStopWanting (wants_of c.args.store.now) (wants_of c.loop.store) c.stop_uncut-in-Err-Memory.new.wants (Err c.stop_uncut-in-Err-Memory.result)
+    c.loop.invariant.grows c.stop_uncut-in-Err-Memory.ensures.counted
 
 pub returns-in-Err-Failed-clause-counted : goal.returns-in-Err-Failed-clause-counted
-returns-in-Err-Failed-clause-counted g c = mbox_unwanted (Unit {0}) (wants_of c.args.store.now) (wants_of c.loop.store) _ _ c.stop-in-Err-Failed.result c.loop.invariant.grows c.stop-in-Err-Failed.ensures
+returns-in-Err-Failed-clause-counted g c =
+    raises_after {A = Unit {0}} IsStopWanting (wants_of c.args.store.now) (wants_of c.loop.store) c.stop_uncut-in-Err-Failed.new.wants (Err c.stop_uncut-in-Err-Failed.result)
+    c.loop.invariant.grows c.stop_uncut-in-Err-Failed.ensures.counted
 
 pub returns-clause-counted : goal.returns-clause-counted
-returns-clause-counted g c = mbox_unwanted (Unit {0}) (wants_of c.args.store.now) (wants_of c.loop.store) _ _ c.stop-2.result c.loop.invariant.grows c.stop-2.ensures
+returns-clause-counted g c =
+    raises_after {A = Unit {0}} IsStopWanting (wants_of c.args.store.now) (wants_of c.loop.store) c.stop_uncut-2.new.wants (Err c.stop_uncut-2.result)
+    c.loop.invariant.grows c.stop_uncut-2.ensures.counted

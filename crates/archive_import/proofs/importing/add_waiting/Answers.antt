@@ -3,7 +3,7 @@ use Rattle.archive_store.specs.Held.{wants_of}
 use Rattle.archive_store.proofs.WantLemmas.{raises_after}
 use Rattle.mbox_core.specs.Division.{Item}
 use Rattle.archive_import.proofs.StopLemmas.{grows_none, grows_more, grows_stopped, moved_none, moved_one}
-use Rattle.archive_import.proofs.WantLemmas.{IsWanting}
+use Rattle.archive_import.proofs.WantLemmas.{IsStopWanting}
 use Rattle.archive_import.proofs.importing.add_waiting.Goals as goal
 
 pub loop-item-init : goal.loop-item-init
@@ -40,5 +40,5 @@ returns-in-Err-clause-adds g c =
 
 pub returns-in-Err-clause-counted : goal.returns-in-Err-clause-counted
 returns-in-Err-clause-counted g c =
-    raises_after {A = Unit {0}} IsWanting (wants_of c.args.store.now) (wants_of c.loop-item.store) (wants_of c.hold_one.new.store) (Err c.in-Err.stop) c.loop-item.invariant.grows
+    raises_after {A = Unit {0}} IsStopWanting (wants_of c.args.store.now) (wants_of c.loop-item.store) (wants_of c.hold_one.new.store) (Err c.in-Err.stop) c.loop-item.invariant.grows
     c.in-Err.ensures.counted

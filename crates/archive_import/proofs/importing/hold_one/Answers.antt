@@ -1,7 +1,8 @@
-use Rattle.std.proofs.Common.{[], ◌∷◌, arith}
+use Rattle.std.proofs.Common.{[], ◌∷◌}
 use Rattle.archive_store.specs.Held.{wants_of}
 use Rattle.archive_import.proofs.StopLemmas.{hold_says, held_not_added}
-use Rattle.archive_import.proofs.WantLemmas.{held_unwanted}
+use Rattle.archive_store.proofs.WantLemmas.{raises_after}
+use Rattle.archive_import.proofs.WantLemmas.{IsStopWanting}
 use Rattle.archive_import.proofs.importing.hold_one.Goals as goal
 
 pub returns-in-Ok-clause-adds : goal.returns-in-Ok-clause-adds
@@ -14,9 +15,9 @@ returns-in-Err-clause-adds g c =
     held_not_added g.S.Store c.args.store.now c.add_held.new.store c.args.list.now c.args.intake.now c.add_held.new.intake (c.args.item ∷ []) c.in-Err.stop c.in-Err.ensures.adds
 
 pub returns-then-has_room-clause-counted : goal.returns-then-has_room-clause-counted
-returns-then-has_room-clause-counted g c =
-    held_unwanted (wants_of c.args.store.now) (wants_of c.args.store.now) c.args.intake.now.done c.hold.result (omega arith) c.hold.ensures.fault
+returns-then-has_room-clause-counted g c = c.hold.ensures.counted
 
 pub returns-in-Ok-clause-counted : goal.returns-in-Ok-clause-counted
 returns-in-Ok-clause-counted g c =
-    held_unwanted (wants_of c.args.store.now) (wants_of c.add_held.new.store) c.add_held.new.intake.done c.hold-in-Ok.result c.in-Ok.ensures.counted.0 c.hold-in-Ok.ensures.fault
+    raises_after IsStopWanting (wants_of c.args.store.now) (wants_of c.add_held.new.store) c.hold-in-Ok.new.wants c.hold-in-Ok.result c.in-Ok.ensures.counted.0
+    c.hold-in-Ok.ensures.counted

@@ -1,4 +1,4 @@
-use Rattle.std.proofs.Common.{◌≡◌, ◌≤◌, [], sym, subst, append-nil, arith, Err}
+use Rattle.std.proofs.Common.{◌≤◌, [], sym, subst, append-nil, arith, Err}
 use Rattle.archive_machine.specs.Records.{Archive}
 use Rattle.archive_machine.specs.Questions.{list_refusal}
 use Rattle.archive_store.specs.Replies.{refusal}
@@ -9,10 +9,9 @@ use Rattle.archive_import.specs.Streaming.{IsReadIn}
 use Rattle.archive_import.specs.Intake.{IsUnderWay}
 use Rattle.archive_import.proofs.ReadLemmas.{IsFound, not_found, found_begun, settled_stopped, last_stopped, read_in}
 use Rattle.archive_store.specs.Held.{wants_of}
-use Rattle.archive_store.specs.declared.faults.StoreFault.TheVariants.{Memory}
 use Rattle.archive_store.proofs.WantLemmas.{raises_after}
 use Rattle.archive_desk.specs.declared.importing.Report.{Report}
-use Rattle.archive_import.proofs.WantLemmas.{IsWanting}
+use Rattle.archive_import.proofs.WantLemmas.{IsStopWanting, store_want}
 use Rattle.archive_import.proofs.importing.import_from.Goals as goal
 
 pub returns-in-Err-clause-imports : goal.returns-in-Err-clause-imports
@@ -73,11 +72,11 @@ returns-clause-imports g c =
 
 pub returns-in-Err-clause-counted : goal.returns-in-Err-clause-counted
 returns-in-Err-clause-counted g c =
-    (c.in-Err.ensures.ends.counted.0, (λ it. c.in-Err.ensures.ends.counted.1 (let none : c.in-Err.fault ≡ Memory = cc in none)))
+    (c.in-Err.ensures.ends.counted.0, (λ it. c.in-Err.ensures.ends.counted.1 (store_want c.in-Err.fault it)))
 
 pub returns-in-Err-add_settled-clause-counted : goal.returns-in-Err-add_settled-clause-counted
 returns-in-Err-add_settled-clause-counted g c =
-    raises_after {A = Report} IsWanting (wants_of c.args.store.now) (wants_of c.find_list.new.store) (wants_of c.add_settled.new.store) (Err c.in-Err-add_settled.stop)
+    raises_after {A = Report} IsStopWanting (wants_of c.args.store.now) (wants_of c.find_list.new.store) (wants_of c.add_settled.new.store) (Err c.in-Err-add_settled.stop)
     c.in_default.ensures.ends.counted.0 c.in-Err-add_settled.ensures.counted
 
 pub returns-in-Ok-add_last-clause-counted : goal.returns-in-Ok-add_last-clause-counted
@@ -87,5 +86,5 @@ returns-in-Ok-add_last-clause-counted g c =
 pub returns-clause-counted : goal.returns-clause-counted
 returns-clause-counted g c =
     let grows : wants_of c.args.store.now ≤ wants_of c.add_settled.new.store = omega (arith, c.in_default.ensures.ends.counted.0, c.in-Ok.ensures.counted.0) in
-    raises_after {A = Report} IsWanting (wants_of c.args.store.now) (wants_of c.add_settled.new.store) (wants_of c.add_last.new.store) (Err c.in-Err-add_last.stop)
+    raises_after {A = Report} IsStopWanting (wants_of c.args.store.now) (wants_of c.add_settled.new.store) (wants_of c.add_last.new.store) (Err c.in-Err-add_last.stop)
     grows c.in-Err-add_last.ensures.counted

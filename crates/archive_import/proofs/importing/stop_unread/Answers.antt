@@ -1,6 +1,6 @@
 use Rattle.archive_import.proofs.ReadLemmas.{unread_added, unread_stopped}
 use Rattle.archive_store.specs.Held.{wants_of}
-use Rattle.archive_import.proofs.WantLemmas.{mbox_unwanted}
+use Rattle.archive_import.proofs.WantLemmas.{unread_unwanted}
 use Rattle.archive_import.proofs.importing.stop_unread.Goals as goal
 
 pub returns-in-Ok-clause-adds : goal.returns-in-Ok-clause-adds
@@ -14,4 +14,4 @@ returns-in-Err-clause-adds g c =
 
 pub returns-in-Ok-clause-counted : goal.returns-in-Ok-clause-counted
 returns-in-Ok-clause-counted g c =
-    mbox_unwanted (Unit {0}) (wants_of c.args.store.now) (wants_of c.add_held.new.store) _ _ c.stop.result c.in-Ok.ensures.counted.0 c.stop.ensures
+    unread_unwanted (Unit {0}) (wants_of c.args.store.now) (wants_of c.add_held.new.store) _ c.stop.result c.in-Ok.ensures.counted.0 c.stop.ensures
