@@ -4,16 +4,19 @@ use Rattle.std.specs.Prelude.{insert, option_map, position}
 use Rattle.sqlite.specs.Store.{Ghosts}
 use Rattle.archive_machine.specs.Records.{Archive}
 use Rattle.archive_machine.specs.Questions.{messages_in}
-use Rattle.archive_store.specs.Told.{Asks, Goes, GoesIn, HasReturned, HoldsTables, IsOpen, IsReady, Lasts, WasOpen, archive_in}
+use Rattle.archive_store.specs.Held.{wants_of}
+use Rattle.archive_store.specs.Told.{HasReturned, HoldsTables, IsOpen, Lasts, archive_in}
 use Rattle.archive_store.specs.declared.store.Store.{Store}
-use Rattle.archive_store.proofs.Joins.{goes_as, sound_too, stays_there}
+use Rattle.archive_store.proofs.Joins.{goes_in_as, stays_there_in}
 use Rattle.archive_results.specs.Access.{Ask, ReaderMarks}
 use Rattle.archive_desk.specs.Asking.{IsEnough}
-use Rattle.archive_desk.specs.Causes.{CausedOr, HasCause, IsBroken, IsUnreadable}
-use Rattle.archive_desk.specs.Faults.{Reason, ask_reason, reason}
+use Rattle.archive_desk.specs.Causes.{IsUnreadable}
+use Rattle.archive_desk.specs.Ending.{Ends, EndsAsk}
+use Rattle.archive_desk.specs.Faults.{IsAskFault, Reason, ask_reason, reason}
+use Rattle.archive_desk.specs.Holding.{AsksHeld, GoesHeld}
 use Rattle.archive_desk.specs.declared.faults.DeskFault.{DeskFault}
-use Rattle.archive_desk.proofs.CallLemmas.{calls_after, calls_last, open_still, was_open_by}
-use Rattle.archive_desk.proofs.CauseLemmas.{cause_after, each_fault}
+use Rattle.archive_desk.proofs.CallLemmas.{calls_after, calls_last}
+use Rattle.archive_desk.proofs.EndLemmas.{ask_after}
 use Rattle.archive_kept.specs.Outlines.{Outline, outline_for, outline_under}
 use Rattle.archive_kept.specs.Parts.{Part, whole, month, author, same_part}
 use Rattle.archive_kept.specs.Views.{KeptView, Keeping, DropsOldest, IsBounded, is_view_of, outline_at, put_place}
@@ -50,27 +53,27 @@ module _ {S : Type 0} (g : Ghosts S) (ask : Ask) (reader : ReaderMarks) where
 
   -- what is kept stays of the archive
   abbrev pub Stays : (old new : Store S) (kept later : Keeping) → Type 0
-  Stays old new kept later = HasReturned g new → IsReady g old → Given kept (archive_in g old) (AreOf (archive_in g old) ask.rules ask.day later)
+  Stays old new kept later = HasReturned g new → HoldsTables g old → Given kept (archive_in g old) (AreOf (archive_in g old) ask.rules ask.day later)
 
   module _ (part : Part) where
     -- it is kept
     pub finds_kept : (store : Store S) (kept : Keeping) (place : ℕ) → Some place ≡ position (is_view_of ask.list reader part) kept.views
         → Finds g store store ask reader part kept kept (Ok place)
     finds_kept store kept place is = record {
-      found = goes_as g store store (λ a b. b ≡ a) (Stands part kept kept place)
-          (λ a b same. (same, (λ enough are. outline_found a ask reader part kept place (found_view ask.list reader part kept.views place is) enough are))) (stays_there g store);
-      ready = λ returned ready enough are. are;
+      found = goes_in_as g (HoldsTables g) store store (λ a b. b ≡ a) (Stands part kept kept place)
+          (λ a b same. (same, (λ enough are. outline_found a ask reader part kept place (found_view ask.list reader part kept.views place is) enough are))) (stays_there_in g (HoldsTables g) store);
+      held = λ returned held enough are. are;
       most = refl;
       bounded = λ within. within;
     }
 
     -- it cannot be read
     pub finds_none : (old new : Store S) (kept : Keeping) (fault : DeskFault) (Says : Archive → Outline → Type 0)
-        → Asks g old new {A = Outline} reason (Err fault) (λ a. ask_reason a ask) Says → Finds g old new ask reader part kept kept (Err fault)
-    finds_none old new kept fault Says asks = record { found = asks; ready = λ returned ready enough are. are; most = refl; bounded = λ within. within }
+        → AsksHeld g old new {A = Outline} reason (Err fault) (λ a. ask_reason a ask) Says → Finds g old new ask reader part kept kept (Err fault)
+    finds_none old new kept fault Says asks = record { found = asks; held = λ returned held enough are. are; most = refl; bounded = λ within. within }
 
     -- it is put, or it is not, where so much was kept before
-    module _ (old new : Store S) (kept mid later : Keeping) (outline : Outline) (made : Goes g old new (IsMade part kept outline)) (so_far : Stays old new kept mid)
+    module _ (old new : Store S) (kept mid later : Keeping) (outline : Outline) (made : GoesHeld g old new (IsMade part kept outline)) (so_far : Stays old new kept mid)
         (same_most : later.most ≡ kept.most) (within : IsBounded later) (rest : List KeptView) (dropped : DropsOldest mid.views rest) where
       abbrev view : KeptView
       view = record { list = ask.list; reader = reader; part = part; outline = outline }
@@ -80,35 +83,35 @@ module _ {S : Type 0} (g : Ghosts S) (ask : Ask) (reader : ReaderMarks) where
         upto = let fits = put_within part rest in omega (arith, at, fits)
 
         stays : Stays old new kept later
-        stays returned ready enough are =
+        stays returned held enough are =
             let a = archive_in g old in
-            let is = (made.1 returned ready).1.1 enough are in
+            let is = (made.1 returned held).1.1 enough are in
             subst (λ (vs : List KeptView). EachIsOf a ask.rules ask.day vs) (sym put)
-            (of_more a ask.rules ask.day rest place view (of_dropped a ask.rules ask.day mid.views rest dropped (so_far returned ready enough are))
+            (of_more a ask.rules ask.day rest place view (of_dropped a ask.rules ask.day mid.views rest dropped (so_far returned held enough are))
             (of_asked a ask reader part outline enough is))
 
         pub finds_put : Finds g old new ask reader part kept later (Ok place)
         finds_put = record {
-          found = goes_as g old new (IsMade part kept outline) (Stands part kept later place)
+          found = goes_in_as g (HoldsTables g) old new (IsMade part kept outline) (Stands part kept later place)
               (λ a b h. (h.0, (λ enough are. outline_put later rest view place upto put ∙ ap (λ (o : Outline). Some o) (h.1 enough are)))) made;
-          ready = stays;
+          held = stays;
           most = same_most;
           bounded = λ was. within;
         }
 
       pub finds_no_room : (fault : DeskFault) → reason fault ≡ None → later.views ≡ rest → Finds g old new ask reader part kept later (Err fault)
       finds_no_room fault none left = record {
-        found = rw none (made.0, (λ returned ready up. let it = made.1 returned ready in (it.0, it.1.0)));
-        ready = λ returned ready enough are. let a = archive_in g old in
-            subst (λ (vs : List KeptView). EachIsOf a ask.rules ask.day vs) (sym left) (of_dropped a ask.rules ask.day mid.views rest dropped (so_far returned ready enough are));
+        found = rw none (made.0, (λ returned held up. let it = made.1 returned held in (it.0, it.1.0)));
+        held = λ returned held enough are. let a = archive_in g old in
+            subst (λ (vs : List KeptView). EachIsOf a ask.rules ask.day vs) (sym left) (of_dropped a ask.rules ask.day mid.views rest dropped (so_far returned held enough are));
         most = same_most;
         bounded = λ was. within;
       }
 
     -- it is made of the whole, which was found
     module _ (old new : Store S) (kept mid : Keeping) (place : ℕ) (finds : Finds g old new ask reader whole kept mid (Ok place)) where
-      pub made_of_whole : same_part part whole ≡ false → (outline : Outline) → outline_at mid place ≡ Some outline → Goes g old new (IsMade part kept (outline_under part outline))
-      made_of_whole other outline there = goes_as g old new (Stands whole kept mid place) (IsMade part kept (outline_under part outline))
+      pub made_of_whole : same_part part whole ≡ false → (outline : Outline) → outline_at mid place ≡ Some outline → GoesHeld g old new (IsMade part kept (outline_under part outline))
+      made_of_whole other outline there = goes_in_as g (HoldsTables g) old new (Stands whole kept mid place) (IsMade part kept (outline_under part outline))
           (λ a b h. (
             h.0,
             (λ enough are.
@@ -118,48 +121,43 @@ module _ {S : Type 0} (g : Ghosts S) (ask : Ask) (reader : ReaderMarks) where
   -- the whole cannot be found
   pub finds_no_whole : (old new : Store S) (kept later : Keeping) (fault : DeskFault) (one other : Part) → Finds g old new ask reader one kept later (Err fault)
       → Finds g old new ask reader other kept later (Err fault)
-  finds_no_whole old new kept later fault one other finds = record { found = finds.found; ready = finds.ready; most = finds.most; bounded = finds.bounded }
+  finds_no_whole old new kept later fault one other finds = record { found = finds.found; held = finds.held; most = finds.most; bounded = finds.bounded }
 
   -- ---- once the reader is known
 
   abbrev pub Knows : Archive → Archive → Type 0
   Knows a b = (b ≡ a) × (ask_reason a ask ≡ None) × IsEnough a ask reader
 
-  module _ (part : Part) (old mid new : Store S) (known : GoesIn g (HoldsTables g) old mid Knows) (kept later : Keeping) (result : Result ℕ DeskFault)
+  module _ (part : Part) (old mid new : Store S) (known : GoesHeld g old mid Knows) (kept later : Keeping) (result : Result ℕ DeskFault)
       (finds : Finds g mid new ask reader part kept later result) where
     abbrev Refuses : Archive → Archive → Reason → Type 0
     Refuses a b why = (b ≡ a) × (ask_reason a ask ≡ Some why)
 
-    knows : Goes g old mid Knows
-    knows = sound_too g old mid Knows (λ a b it. it.0) known
-
     lasts : Lasts g mid new
-    lasts = calls_last g (IsReady g) mid new reason (λ a b place. Stands part kept later place a b) Refuses (λ a b _. b ≡ a) result finds.found
+    lasts = calls_last g (HoldsTables g) mid new reason (λ a b place. Stands part kept later place a b) Refuses (λ a b _. b ≡ a) result finds.found
 
-    pub found_then : Asks g old new reason result (λ a. ask_reason a ask) (λ a place. AreOf a ask.rules ask.day kept → outline_at later place ≡ Some (outline_for a ask part))
-    found_then = calls_after g (IsReady g) old mid new reason Knows (λ a b place. Stands part kept later place a b)
+    pub found_then : AsksHeld g old new reason result (λ a. ask_reason a ask) (λ a place. AreOf a ask.rules ask.day kept → outline_at later place ≡ Some (outline_for a ask part))
+    found_then = calls_after g (HoldsTables g) old mid new reason Knows (λ a b place. Stands part kept later place a b)
         (λ a b place. (b ≡ a) × (ask_reason a ask ≡ None) × (AreOf a ask.rules ask.day kept → outline_at later place ≡ Some (outline_for a ask part)))
         Refuses Refuses (λ a b _. b ≡ a) (λ a b _. b ≡ a)
         (λ a b c place first it. (it.0 ∙ first.0, first.1, subst (λ x. Given kept x (outline_at later place ≡ Some (outline_for x ask part))) first.0 it.1 first.2))
         (λ a b c why first it. (it.0 ∙ first.0, subst (λ x. ask_reason x ask ≡ Some why) first.0 it.1))
-        (λ a b c fault first it. it ∙ first.0) result knows finds.found
+        (λ a b c fault first it. it ∙ first.0) result known finds.found
 
     pub keeps_then : (HasReturned g mid → IsOpen g old) → Keeps g old new ask.rules ask.day kept later
     keeps_then up = record {
-      ready = λ returned ready are.
-          let it = knows.1 (lasts.returned returned) ready in
+      held = λ returned held are.
+          let it = known.1 (lasts.returned returned) held in
           let enough = subst (λ a. IsEnough a ask reader) (sym it.1.0) it.1.2 in
-          subst (λ a. AreOf a ask.rules ask.day later) it.1.0 (finds.ready returned it.0 enough (subst (λ a. AreOf a ask.rules ask.day kept) (sym it.1.0) are));
+          subst (λ a. AreOf a ask.rules ask.day later) it.1.0 (finds.held returned it.0 enough (subst (λ a. AreOf a ask.rules ask.day kept) (sym it.1.0) are));
       shut = λ returned shut. absurd (shut (up (lasts.returned returned)));
       most = finds.most;
       bounded = finds.bounded;
     }
 
-    pub open_then : (HasReturned g mid → IsOpen g old) → WasOpen g old new reason result
-    open_then up = was_open_by g old new reason result (open_still g old mid new up lasts)
+    abbrev Unread : Archive → Type 0
+    Unread a = IsUnreadable a ask (messages_in a ask.list)
 
-    pub cause_then : CausedOr g mid new result (λ a. IsUnreadable a ask (messages_in a ask.list)) → CausedOr g old new result (λ a. IsUnreadable a ask (messages_in a ask.list))
-    cause_then why = each_fault (λ fault. IsBroken fault → HasCause g mid new (λ a. IsUnreadable a ask (messages_in a ask.list)))
-        (λ fault. IsBroken fault → HasCause g old new (λ a. IsUnreadable a ask (messages_in a ask.list)))
-        (λ fault from it. cause_after g old mid new (known.0, (λ returned held. let there = known.1 returned held in (there.0, there.1.0))) lasts
-        (λ a. IsUnreadable a ask (messages_in a ask.list)) (from it)) result why
+    pub ends_then : wants_of old ≤ wants_of mid → (HasReturned g mid → IsOpen g old) → Ends g mid new IsAskFault result Unread → EndsAsk g old new IsAskFault result Unread
+    ends_then grows up it = ask_after g old mid new (known.0, (λ returned held. let there = known.1 returned held in (there.0, there.1.0))) lasts grows IsAskFault
+        result Unread Unread (λ a bad. bad) it up

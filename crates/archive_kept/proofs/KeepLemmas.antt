@@ -5,11 +5,12 @@ use Rattle.sqlite.specs.Store.{Ghosts}
 use Rattle.policy_core.specs.Rules.{Rule}
 use Rattle.archive_machine.specs.Records.{Archive, Message}
 use Rattle.archive_machine.specs.Questions.{merge_of, messages_in}
-use Rattle.archive_store.specs.Told.{Goes, Lasts}
+use Rattle.archive_store.specs.Told.{Lasts}
 use Rattle.archive_store.specs.declared.store.Store.{Store}
 use Rattle.archive_results.specs.Access.{Ask, ReaderMarks, is_shown, ruling_on, view_of}
 use Rattle.archive_results.specs.Shown.{shown_of}
 use Rattle.archive_desk.specs.Asking.{IsEnough}
+use Rattle.archive_desk.specs.Holding.{GoesHeld}
 use Rattle.archive_desk.proofs.MarkLemmas.{view_alike}
 use Rattle.archive_kept.specs.Outlines.{Outline, outline_for, outline_in}
 use Rattle.archive_kept.specs.Parts.{Part}
@@ -71,24 +72,24 @@ module _ (a : Archive) (rules : List Rule) (day : ℤ) where
 module _ {S : Type 0} (g : Ghosts S) (rules : List Rule) (day : ℤ) where
   -- a call that lets what is kept be
   pub keeps_same : (old new : Store S) (kept : Keeping) → Keeps g old new rules day kept kept
-  keeps_same old new kept = record { ready = λ returned ready are. are; shut = λ returned shut. refl; most = refl; bounded = λ within. within }
+  keeps_same old new kept = record { held = λ returned held are. are; shut = λ returned shut. refl; most = refl; bounded = λ within. within }
 
   -- before another that does
   pub keeps_later : (old mid new : Store S) (kept later : Keeping) → Keeps g old mid rules day kept later → Lasts g mid new → Keeps g old new rules day kept later
   keeps_later old mid new kept later keeps lasts = record {
-    ready = λ returned ready are. keeps.ready (lasts.returned returned) ready are;
+    held = λ returned held are. keeps.held (lasts.returned returned) held are;
     shut = λ returned shut. keeps.shut (lasts.returned returned) shut;
     most = keeps.most;
     bounded = keeps.bounded;
   }
 
   -- after one that does, and leaves the archive
-  pub keeps_after : (old mid new : Store S) (kept later : Keeping) → Goes g old mid (λ a b. b ≡ a) → Lasts g mid new → Keeps g mid new rules day kept later
+  pub keeps_after : (old mid new : Store S) (kept later : Keeping) → GoesHeld g old mid (λ a b. b ≡ a) → Lasts g mid new → Keeps g mid new rules day kept later
       → Keeps g old new rules day kept later
   keeps_after old mid new kept later goes lasts keeps = record {
-    ready = λ returned ready are.
-        let it = goes.1 (lasts.returned returned) ready in
-        subst (λ a. AreOf a rules day later) it.1 (keeps.ready returned it.0 (subst (λ a. AreOf a rules day kept) (sym it.1) are));
+    held = λ returned held are.
+        let it = goes.1 (lasts.returned returned) held in
+        subst (λ a. AreOf a rules day later) it.1 (keeps.held returned it.0 (subst (λ a. AreOf a rules day kept) (sym it.1) are));
     shut = λ returned shut. keeps.shut returned (λ up. shut (goes.0.stays_shut (lasts.returned returned) up));
     most = keeps.most;
     bounded = keeps.bounded;

@@ -1,9 +1,10 @@
 //! The outline of a part of a view, out of what is kept or read of a store.
-ghost use Rattle.std.specs.Prelude.{◌≡◌, ◌<◌, length, Some, IfOk, IfErr};
+ghost use Rattle.std.specs.Prelude.{◌≡◌, ◌<◌, length, Some, IfOk};
 ghost use Rattle.archive_machine.specs.Questions.{messages_in};
-ghost use Rattle.archive_store.specs.Told.{Asks, Counts, WasOpen};
-ghost use Rattle.archive_desk.specs.Causes.{CausedOr, IsUnreadable, IsWanting};
+ghost use Rattle.archive_desk.specs.Causes.{IsUnreadable};
+ghost use Rattle.archive_desk.specs.Ending.{Ends, EndsAsk};
 ghost use Rattle.archive_desk.specs.Faults.{IsAskFault, ask_reason, reason};
+ghost use Rattle.archive_desk.specs.Holding.{AsksHeld};
 ghost use Rattle.archive_kept.specs.Outlines.{outline_for};
 ghost use Rattle.archive_kept.specs.Parts.{part_named, whole};
 ghost use Rattle.archive_kept.specs.Kept.{AreOf, Finds, Keeps};
@@ -26,12 +27,10 @@ fn read_threads<T: Threader, S: Alter>(
     ask: &Ask<'_>,
     threader: &T,
 ) -> Result<Outline, DeskFault>
-    ensures made { Asks S.Store store.old store.new reason result (λ a. ask_reason a ask.now)
+    ensures made { AsksHeld S.Store store.old store.new reason result (λ a. ask_reason a ask.now)
         (λ a outline. outline ≡ outline_for a ask.now whole) }
-    ensures fault { IfErr result (λ fault. IsAskFault fault) }
-    ensures caused { CausedOr S.Store store.old store.new result
+    ensures ends { Ends S.Store store.old store.new IsAskFault result
         (λ a. IsUnreadable a ask.now (messages_in a ask.now.list)) }
-    ensures counted { Counts IsWanting store.old store.new result }
 {
     let index = match read_index(store, alloc, ask) {
         Ok(index) => index,
@@ -56,10 +55,8 @@ fn find_whole<T: Threader, S: Alter>(
     threader: &T,
 ) -> Result<usize, DeskFault>
     ensures finds { Finds S.Store store.old store.new ask.now reader.now whole kept.old kept.new result }
-    ensures fault { IfErr result (λ fault. IsAskFault fault) }
-    ensures caused { CausedOr S.Store store.old store.new result
+    ensures ends { Ends S.Store store.old store.new IsAskFault result
         (λ a. IsUnreadable a ask.now (messages_in a ask.now.list)) }
-    ensures counted { Counts IsWanting store.old store.new result }
     ensures there { IfOk result (λ place. place < length kept.new.views) }
 {
     if let Some(place) = kept.find(ask.list, reader, &Part::Whole) {
@@ -90,10 +87,8 @@ fn find_part<T: Threader, S: Alter>(
 ) -> Result<usize, DeskFault>
     ensures finds { Finds S.Store store.old store.new ask.now reader.now
         (part_named part.now) kept.old kept.new result }
-    ensures fault { IfErr result (λ fault. IsAskFault fault) }
-    ensures caused { CausedOr S.Store store.old store.new result
+    ensures ends { Ends S.Store store.old store.new IsAskFault result
         (λ a. IsUnreadable a ask.now (messages_in a ask.now.list)) }
-    ensures counted { Counts IsWanting store.old store.new result }
     ensures there { IfOk result (λ place. place < length kept.new.views) }
 {
     if let Some(place) = kept.find(ask.list, reader, part) {
@@ -129,15 +124,12 @@ pub fn find_outline<T: Threader, S: Alter>(
     part: &Part<'_>,
     threader: &T,
 ) -> Result<usize, DeskFault>
-    ensures found { Asks S.Store store.old store.new reason result (λ a. ask_reason a ask.now)
+    ensures found { AsksHeld S.Store store.old store.new reason result (λ a. ask_reason a ask.now)
         (λ a place. AreOf a ask.now.rules ask.now.day kept.old
         → outline_at kept.new place ≡ Some (outline_for a ask.now (part_named part.now))) }
     ensures keeps { Keeps S.Store store.old store.new ask.now.rules ask.now.day kept.old kept.new }
-    ensures was_open { WasOpen S.Store store.old store.new reason result }
-    ensures fault { IfErr result (λ fault. IsAskFault fault) }
-    ensures caused { CausedOr S.Store store.old store.new result
+    ensures ends { EndsAsk S.Store store.old store.new IsAskFault result
         (λ a. IsUnreadable a ask.now (messages_in a ask.now.list)) }
-    ensures counted { Counts IsWanting store.old store.new result }
     ensures there { IfOk result (λ place. place < length kept.new.views) }
 {
     match find_reader(store, ask) {

@@ -1,5 +1,5 @@
 -- Why 503 goes out, and why an mbox breaks off.
-use Rattle.std.proofs.Common.{◌≡◌, ◌∙◌, ◌≤◌, ◌<◌, inl, inr, refl, sym, subst, arith, length, zero, suc, ℕ, List, [], ◌∷◌, Bool, true, false, not, cond, Option, Some, None, Result, Ok, Err}
+use Rattle.std.proofs.Common.{◌≡◌, ◌∙◌, ◌≤◌, ◌<◌, inl, inr, refl, sym, subst, arith, length, zero, suc, ℕ, ℤ, List, [], ◌∷◌, Bool, true, false, not, cond, Option, Some, None, Result, Ok, Err}
 use Rattle.std.specs.Prelude.{◌≢◌, ◌||◌, option_map, slice_get, if◌then◌else◌, find, bytes_eq, MatchResult, MatchOption, IfOk}
 use Rattle.std.specs.List.{list_any}
 use Rattle.std.specs.Option.{IsSomeAnd, option_map_or}
@@ -9,6 +9,7 @@ use Rattle.sqlite.specs.Steps.{over_memory}
 use Rattle.sqlite.proofs.Callers.{memory_is_clean}
 use Rattle.sqlite_disk.specs.Disk.{MoreFaults}
 use Rattle.sqlite_trees.specs.declared.memory.MemStore.{MemStore}
+use Rattle.policy_core.specs.Rules.{Rule}
 use Rattle.archive_machine.specs.Records.{Archive, Person}
 use Rattle.archive_machine.specs.Commands.{Refusal}
 use Rattle.archive_machine.specs.Questions.{has_list, has_person, person_of_token}
@@ -16,7 +17,8 @@ use Rattle.sqlite.specs.Held.{state}
 use Rattle.archive_store.specs.Held.{held_of, wants_of}
 use Rattle.archive_store.proofs.CauseLemmas.{more_since}
 use Rattle.archive_store.specs.Replies.{RefusedFor, refusal}
-use Rattle.archive_store.specs.Told.{CausedOr as StoreCausedOr, Counts, Goes, GoesIfOpen, HasFailed, HasNoLimit, IsReady, Lasts, WasRefused, archive_in}
+use Rattle.archive_store.specs.Told.{CausedOr as StoreCausedOr, Counts, HasFailed, HasNoLimit, HoldsTables, Lasts, WasRefused, archive_in}
+use Rattle.archive_desk.specs.Holding.{GoesHeld, GoesHeldIfOpen}
 use Rattle.archive_store.specs.Wanting.{IsWant}
 use Rattle.archive_store.specs.declared.store.Store.{Store}
 use Rattle.archive_store.specs.declared.faults.StoreFault.{StoreFault}
@@ -26,10 +28,14 @@ use Rattle.archive_desk.specs.Causes.{HasCause, IsBroken, IsWanting}
 use Rattle.archive_desk.specs.Exporting.{Exports, IsExportRefused}
 use Rattle.archive_desk.specs.Faults.{IsAskFault, Reason, ask_reason, declined, reason, refused}
 use Rattle.archive_desk.specs.Readable.{CanBeRead}
+use Rattle.archive_desk.proofs.UnbrokenLemmas.{holder_read, list_read, lists_read, message_or_reader_read}
 use Rattle.archive_desk.specs.declared.faults.DeskFault.{DeskFault}
 use Rattle.archive_desk.specs.declared.faults.DeskFault.TheVariants as desk
 use Rattle.archive_kept.specs.Views.{KeptView, Keeping, outline_at}
-use Rattle.archive_pages.specs.Causes.{FindsOr, HasServeCause, IsUnread, IsUnreadBy, IsUnserved, SendsOr, ServesOr}
+use Rattle.archive_requests.specs.Requests.{Request, bad as no_request, other_method, unauthorized, asks as asking_for, request_of}
+use Rattle.archive_requests.specs.Routes.{Route, lists, message, month, threads, thread, author, mbox, route_of}
+use Rattle.archive_pages.specs.Answers.{asking}
+use Rattle.archive_pages.specs.Causes.{FindsOr, HasServeCause, IsHolderUnread, IsPathUnread, IsRequestUnread, IsRouteUnread, IsUnreadBy, IsUnreadIn, IsUnserved, SendsOr, ServesOr}
 use Rattle.archive_pages.specs.Replies.{Reply, Sends}
 use Rattle.archive_pages.specs.declared.faults.ServeFault.{ServeFault}
 use Rattle.archive_pages.specs.declared.faults.ServeFault.TheVariants.{Read, Write, Broken}
@@ -73,8 +79,44 @@ module _ (test : Person → Bool) (name : List ℕ) where
 pub known : (a : Archive) (token name : List ℕ) → person_of_token a token ≡ Some name → has_person a name ≡ true
 known a token name is = one_named (λ p. bytes_eq p.token token) name a.persons is
 
-pub known_reader : (a : Archive) (token name : List ℕ) → person_of_token a token ≡ Some name → IsUnreadBy (Some name) a → IsUnread a
-known_reader a token name is bad = elim bad [ inl unread ↦ unread | inr none ↦ absurd (let no : true ≡ false = sym (known a token name is) ∙ none in cc) ]
+pub holder_unread : (rules : List Rule) (day : ℤ) (a : Archive) (token path name : List ℕ) → person_of_token a token ≡ Some name
+    → IsUnreadBy (IsPathUnread rules day path (Some name)) (Some name) a → IsHolderUnread rules day token path a
+holder_unread rules day a token path name is bad = elim bad [
+  | inl unread ↦ inr (subst (λ o. IsSomeAnd o (λ who. IsPathUnread rules day path (Some who) a)) (sym is) unread)
+  | inr none ↦ absurd (let no : true ≡ false = sym (known a token name is) ∙ none in cc)
+]
+
+-- ---- where an archive can be read
+
+module _ (a : Archive) (can : CanBeRead a) (rules : List Rule) (day : ℤ) where
+  route_read : (ask_of : List ℕ → Ask) (route : Route) → ¬ IsRouteUnread ask_of route a
+  route_read ask_of lists = lists_read a can
+  route_read ask_of (message list key) = message_or_reader_read a can (ask_of list) key
+  route_read ask_of (month list text) = list_read a can (ask_of list)
+  route_read ask_of (threads list) = list_read a can (ask_of list)
+  route_read ask_of (thread list key) = list_read a can (ask_of list)
+  route_read ask_of (author list key) = list_read a can (ask_of list)
+  route_read ask_of (mbox list) = list_read a can (ask_of list)
+
+  none_so : {X : Type 0} (P : X → Type 0) (o : Option X) → ((x : X) → ¬ P x) → ¬ IsSomeAnd o P
+  none_so P None never = λ bad. bad
+  none_so P (Some x) never = never x
+
+  path_read : (path : List ℕ) (reader : Option (List ℕ)) → ¬ IsPathUnread rules day path reader a
+  path_read path reader = none_so (λ route. IsRouteUnread (asking rules day reader) route a) (route_of path) (route_read (asking rules day reader))
+
+  request_read : (request : Request) → ¬ IsRequestUnread rules day request a
+  request_read no_request = λ never. never
+  request_read other_method = λ never. never
+  request_read unauthorized = λ never. never
+  request_read (asking_for None path) = path_read path None
+  request_read (asking_for (Some token) path) = λ never. elim never [
+    | inl name ↦ holder_read a can token name
+    | inr path' ↦ none_so (λ name. IsPathUnread rules day path (Some name) a) (person_of_token a token) (λ name. path_read path (Some name)) path'
+  ]
+
+  pub nothing_unread : (told_before told_after : List ℕ) → ¬ IsUnreadIn told_before told_after rules day a
+  nothing_unread told_before told_after = λ it. request_read (request_of it.head) it.unread
 
 -- ---- at a place that is kept stands an outline
 
@@ -101,7 +143,7 @@ module _ {S : Type 0} (g : Ghosts S) where
   pub cause_as : (old new : Store S) (P Q : Archive → Type 0) → ((a : Archive) → P a → Q a) → HasServeCause g old new P → HasServeCause g old new Q
   cause_as old new P Q implies it = elim it [
     | inl more ↦ inl more
-    | inr why ↦ inr (λ returned ready free. elim (why returned ready free) [ inl more ↦ inl more | inr bad ↦ inr (implies _ bad) ])
+    | inr why ↦ inr (λ returned held free. elim (why returned held free) [ inl more ↦ inl more | inr bad ↦ inr (implies _ bad) ])
   ]
 
   pub serves_or_as : (old new : Store S) (result : Result ℕ ServeFault) (P Q : Archive → Type 0) → ((a : Archive) → P a → Q a) → ServesOr g old new result P → ServesOr g old new result Q
@@ -110,47 +152,40 @@ module _ {S : Type 0} (g : Ghosts S) where
   module _ (old new : Store S) where
     -- ---- of a fault of the store
 
-    of_store : (fault : StoreFault) (Unread : Archive → Type 0) → ((a : Archive) → CanBeRead a → ¬ Unread a) → fault ≡ faults.Store
-        → StoreCausedOr g old new {A = Unit {0}} (Err fault) Unread → HasServeCause g old new IsUnread
-    of_store fault Unread read it why = inr (λ returned ready free. elim (why returned ready.held free it) [
-      | inl more ↦ inl more
-      | inr bad ↦ inr (λ can. read _ can bad)
-    ])
+    of_store : (fault : StoreFault) (Unread : Archive → Type 0) → fault ≡ faults.Store → StoreCausedOr g old new {A = Unit {0}} (Err fault) Unread → HasServeCause g old new Unread
+    of_store fault Unread it why = inr (λ returned held free. why returned held free it)
 
     -- none of a question that is never refused
-    pub store_unfound : (fault : StoreFault) (Unread : Archive → Type 0) → ((a : Archive) → CanBeRead a → ¬ Unread a) → RefusedFor {A = Unit {0}} (Err fault) []
-        → Counts {A = Unit {0}} IsWant old new (Err fault) → StoreCausedOr g old new {A = Unit {0}} (Err fault) Unread → HasServeCause g old new IsUnread
-    store_unfound faults.Memory Unread read kind counts why = inl (counts.1 refl)
-    store_unfound faults.Store Unread read kind counts why = of_store faults.Store Unread read refl why
-    store_unfound faults.BadName Unread read kind counts why = absurd kind
-    store_unfound faults.BadText Unread read kind counts why = absurd kind
-    store_unfound faults.ListExists Unread read kind counts why = absurd kind
-    store_unfound faults.NoList Unread read kind counts why = absurd kind
-    store_unfound faults.PersonExists Unread read kind counts why = absurd kind
-    store_unfound faults.NoPerson Unread read kind counts why = absurd kind
-    store_unfound faults.TokenTaken Unread read kind counts why = absurd kind
-    store_unfound faults.NoMessage Unread read kind counts why = absurd kind
-    store_unfound faults.AlreadyWithdrawn Unread read kind counts why = absurd kind
-    store_unfound faults.NotWithdrawn Unread read kind counts why = absurd kind
-    store_unfound faults.BadDays Unread read kind counts why = absurd kind
-    store_unfound faults.ListFull Unread read kind counts why = absurd kind
-    store_unfound faults.TooLarge Unread read kind counts why = absurd kind
+    pub store_unfound : (fault : StoreFault) (Unread : Archive → Type 0) → RefusedFor {A = Unit {0}} (Err fault) []
+        → Counts {A = Unit {0}} IsWant old new (Err fault) → StoreCausedOr g old new {A = Unit {0}} (Err fault) Unread → HasServeCause g old new Unread
+    store_unfound faults.Memory Unread kind counts why = inl (counts.1 refl)
+    store_unfound faults.Store Unread kind counts why = of_store faults.Store Unread refl why
+    store_unfound faults.BadName Unread kind counts why = absurd kind
+    store_unfound faults.BadText Unread kind counts why = absurd kind
+    store_unfound faults.ListExists Unread kind counts why = absurd kind
+    store_unfound faults.NoList Unread kind counts why = absurd kind
+    store_unfound faults.PersonExists Unread kind counts why = absurd kind
+    store_unfound faults.NoPerson Unread kind counts why = absurd kind
+    store_unfound faults.TokenTaken Unread kind counts why = absurd kind
+    store_unfound faults.NoMessage Unread kind counts why = absurd kind
+    store_unfound faults.AlreadyWithdrawn Unread kind counts why = absurd kind
+    store_unfound faults.NotWithdrawn Unread kind counts why = absurd kind
+    store_unfound faults.BadDays Unread kind counts why = absurd kind
+    store_unfound faults.ListFull Unread kind counts why = absurd kind
+    store_unfound faults.TooLarge Unread kind counts why = absurd kind
 
     -- ---- of a fault of the desk
 
-    module _ (ask : Ask) (Unread : Archive → Type 0) (read : (a : Archive) → CanBeRead a → ¬ Unread a) where
-      broken_desk : (fault : DeskFault) → IsBroken fault → (IsBroken fault → HasCause g old new Unread) → HasServeCause g old new (IsUnreadBy ask.reader)
-      broken_desk fault it why = inr (λ returned ready free. elim (why it returned ready.held free) [
-        | inl more ↦ inl more
-        | inr bad ↦ inr (inl (λ can. read _ can bad))
-      ])
+    module _ (ask : Ask) (Unread : Archive → Type 0) where
+      broken_desk : (fault : DeskFault) → IsBroken fault → (IsBroken fault → HasCause g old new Unread) → HasServeCause g old new (IsUnreadBy Unread ask.reader)
+      broken_desk fault it why = inr (λ returned held free. elim (why it returned held free) [ inl more ↦ inl more | inr bad ↦ inr (inl bad) ])
 
-      unasked : Goes g old new (λ a b. (b ≡ a) × (ask_reason a ask ≡ Some (refused no_person))) → HasServeCause g old new (IsUnreadBy ask.reader)
-      unasked goes = inr (λ returned ready free. inr (inr (stranger (archive_in g old) ask (goes.1 returned ready).1.1)))
+      unasked : GoesHeld g old new (λ a b. (b ≡ a) × (ask_reason a ask ≡ Some (refused no_person))) → HasServeCause g old new (IsUnreadBy Unread ask.reader)
+      unasked goes = inr (λ returned held free. inr (inr (stranger (archive_in g old) ask (goes.1 returned held).1.1)))
 
       -- of a refusal of the store, which carries no other than E14 and E15
       by_store : (fault : StoreFault) → refusal fault ≡ None → (IsWanting (desk.Store fault) → WasRefused old new)
-          → (IsBroken (desk.Store fault) → HasCause g old new Unread) → HasServeCause g old new (IsUnreadBy ask.reader)
+          → (IsBroken (desk.Store fault) → HasCause g old new Unread) → HasServeCause g old new (IsUnreadBy Unread ask.reader)
       by_store faults.Memory none counts why = inl (counts (inr refl))
       by_store faults.Store none counts why = broken_desk (desk.Store faults.Store) refl why
       by_store faults.BadName none counts why = absurd (cc)
@@ -168,7 +203,7 @@ module _ {S : Type 0} (g : Ghosts S) where
       by_store faults.TooLarge none counts why = absurd (cc)
 
       pub desk_unfound : (fault : DeskFault) → fault ≢ desk.NoList → IsAskFault fault → (IsWanting fault → WasRefused old new) → (IsBroken fault → HasCause g old new Unread)
-          → MatchOption (reason fault) (GoesIfOpen g old new (λ a b. b ≡ a)) (λ why. Goes g old new (λ a b. (b ≡ a) × (ask_reason a ask ≡ Some why))) → HasServeCause g old new (IsUnreadBy ask.reader)
+          → MatchOption (reason fault) (GoesHeldIfOpen g old new (λ a b. b ≡ a)) (λ why. GoesHeld g old new (λ a b. (b ≡ a) × (ask_reason a ask ≡ Some why))) → HasServeCause g old new (IsUnreadBy Unread ask.reader)
       desk_unfound desk.NoList other kind counts why asks = absurd (other refl)
       desk_unfound desk.NoPerson other kind counts why asks = unasked asks
       desk_unfound desk.NotInView other kind counts why asks = absurd kind
@@ -179,20 +214,20 @@ module _ {S : Type 0} (g : Ghosts S) where
       -- an export that stopped for no unknown list, and for no writer
       pub mbox_unserved : (before after : List ℕ) (text : Archive → List ℕ) (written : ℕ) (fault : DeskFault) → fault ≢ desk.NoList → fault ≢ desk.Write
           → (IsWanting fault → WasRefused old new) → (IsBroken fault → HasCause g old new Unread)
-          → Exports g old new (Err (record { written = written; fault = fault })) ask before after text → HasServeCause g old new (IsUnreadBy ask.reader)
+          → Exports g old new (Err (record { written = written; fault = fault })) ask before after text → HasServeCause g old new (IsUnreadBy Unread ask.reader)
       mbox_unserved before after text written desk.NoList other unwritten counts why exports = absurd (other refl)
       mbox_unserved before after text written desk.Write other unwritten counts why exports = absurd (unwritten refl)
       mbox_unserved before after text written desk.NoPerson other unwritten counts why exports = unasked exports
-      mbox_unserved before after text written desk.NotInView other unwritten counts why exports = inr (λ returned ready free. absurd (exports.1 returned ready).1.1)
+      mbox_unserved before after text written desk.NotInView other unwritten counts why exports = inr (λ returned held free. absurd (exports.1 returned held).1.1)
       mbox_unserved before after text written desk.Memory other unwritten counts why exports = inl (counts (inl refl))
       mbox_unserved before after text written (desk.Store fault) other unwritten counts why exports = cases (refusal fault) refl exports
         where
           cases : (o : Option Refusal) → refusal fault ≡ o
-              → MatchOption {T = ℕ × Reason} (option_map (λ why. (written, why)) (option_map declined o)) (GoesIfOpen g old new (λ a b. b ≡ a))
-              (λ why. Goes g old new (λ a b. (b ≡ a) × IsExportRefused (ask_reason a ask) before after (text a) why.0 why.1))
-              → HasServeCause g old new (IsUnreadBy ask.reader)
+              → MatchOption {T = ℕ × Reason} (option_map (λ why. (written, why)) (option_map declined o)) (GoesHeldIfOpen g old new (λ a b. b ≡ a))
+              (λ why. GoesHeld g old new (λ a b. (b ≡ a) × IsExportRefused (ask_reason a ask) before after (text a) why.0 why.1))
+              → HasServeCause g old new (IsUnreadBy Unread ask.reader)
           cases None none it = by_store fault none counts why
-          cases (Some r) some it = inr (λ returned ready free. absurd (it.1 returned ready).1.1)
+          cases (Some r) some it = inr (λ returned held free. absurd (it.1 returned held).1.1)
 
   -- ---- a reply of what was found
 
@@ -211,15 +246,15 @@ module _ {S : Type 0} (g : Ghosts S) where
 
   -- ---- behind a question
 
-  module _ (old mid new : Store S) (P : Archive → Type 0) (first : Goes g old mid (λ a b. (b ≡ a) × P a)) (grows : wants_of old ≤ wants_of mid) (last : Lasts g mid new) where
+  module _ (old mid new : Store S) (P : Archive → Type 0) (first : GoesHeld g old mid (λ a b. (b ≡ a) × P a)) (grows : wants_of old ≤ wants_of mid) (last : Lasts g mid new) where
     pub served_after : (result : Result ℕ ServeFault) (Unread Unread' : Archive → Type 0) → ((a : Archive) → P a → Unread a → Unread' a) → ServesOr g mid new result Unread
         → ServesOr g old new result Unread'
     served_after result Unread Unread' implies it = (
       omega (arith, grows, it.0),
       (λ bad. elim (it.1 bad) [
         | inl more ↦ inl (omega (arith, grows, more))
-        | inr why ↦ inr (λ returned ready free.
-            let there = first.1 (last.returned returned) ready in
+        | inr why ↦ inr (λ returned held free.
+            let there = first.1 (last.returned returned) held in
             elim (why returned there.0 (first.0.limit ∙ free)) [
               | inl more ↦ inl (failed_since more)
               | inr bad ↦ inr (implies _ there.1.1 (subst Unread there.1.0 bad))
@@ -235,9 +270,9 @@ module _ {S : Type 0} (g : Ghosts S) where
 never_more : MoreFaults 0 0 → ⊥
 never_more more = absurd (omega (arith, more))
 
-pub memory_refused : (old new : Store MemStore) → IsReady over_memory old → HasNoLimit over_memory old → CanBeRead (archive_in over_memory old)
-    → HasServeCause over_memory old new IsUnread → WasRefused old new
-memory_refused old new ready free can it = elim it [
+pub memory_refused : (old new : Store MemStore) → HoldsTables over_memory old → HasNoLimit over_memory old → (Unread : Archive → Type 0) → ¬ Unread (archive_in over_memory old)
+    → HasServeCause over_memory old new Unread → WasRefused old new
+memory_refused old new held free Unread read it = elim it [
   | inl more ↦ more
-  | inr why ↦ elim (why (memory_is_clean (held_of new)) ready free) [ inl more ↦ absurd (never_more more) | inr bad ↦ absurd (bad can) ]
+  | inr why ↦ elim (why (memory_is_clean (held_of new)) held free) [ inl more ↦ absurd (never_more more) | inr bad ↦ absurd (read bad) ]
 ]

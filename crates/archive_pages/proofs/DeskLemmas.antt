@@ -9,9 +9,10 @@ use Rattle.archive_machine.specs.Records.{Archive}
 use Rattle.archive_machine.specs.Questions.{has_list, has_person}
 use Rattle.archive_results.specs.Access.{Ask, no_list, no_person}
 use Rattle.archive_results.specs.Results.{export_text}
-use Rattle.archive_store.specs.Told.{Goes, GoesIfOpen, HasReturned, IsOpen, archive_in}
+use Rattle.archive_store.specs.Told.{HasReturned, IsOpen, archive_in, HoldsTables}
+use Rattle.archive_desk.specs.Holding.{GoesHeld, GoesHeldIfOpen}
 use Rattle.archive_store.specs.declared.store.Store.{Store}
-use Rattle.archive_store.proofs.Joins.{goes_as}
+use Rattle.archive_store.proofs.Joins.{goes_in_as}
 use Rattle.archive_desk.specs.Exporting.{ExportsPart, HasBegun, HasWritten, IsExportRefused, IsExportStop, exported, stop_reason}
 use Rattle.archive_desk.specs.declared.exporting.ExportStop.{ExportStop}
 use Rattle.archive_desk.specs.declared.faults.DeskFault.{DeskFault}
@@ -49,10 +50,10 @@ on_unlisted a ask made is = ap (λ b. cond b made not_found)
 
 module _ {S : Type 0} (g : Ghosts S) (old new : Store S) where
   pub stops : {R : Type 0} (o : Option R) (Refuses : Archive → R → Type 0)
-      → MatchOption o (GoesIfOpen g old new (λ a b. b ≡ a)) (λ why. Goes g old new (λ a b. (b ≡ a) × Refuses a why)) → GoesIfOpen g old new (λ a b. b ≡ a)
+      → MatchOption o (GoesHeldIfOpen g old new (λ a b. b ≡ a)) (λ why. GoesHeld g old new (λ a b. (b ≡ a) × Refuses a why)) → GoesHeldIfOpen g old new (λ a b. b ≡ a)
   stops None Refuses said = said
   stops (Some why) Refuses said =
-      if_open g old new (λ a b. b ≡ a) (goes_as g old new (λ a b. (b ≡ a) × Refuses a why) (λ a b. b ≡ a) (λ a b h. h.0) said)
+      if_open g old new (λ a b. b ≡ a) (goes_in_as g (HoldsTables g) old new (λ a b. (b ≡ a) × Refuses a why) (λ a b. b ≡ a) (λ a b h. h.0) said)
 
 -- ---- an mbox
 
@@ -73,10 +74,10 @@ module _ {S : Type 0} (g : Ghosts S) (old new : Store S) (ask : Ask) (before aft
       → Serves g old new (MboxReply ask) before after result
   served_open result up sent = record { sent = sent; shut = λ returned shut. absurd (shut (up returned)) }
 
-  pub exported_whole : (count : ℕ) → Goes g old new (λ a b. (b ≡ a) × (ask_reason a ask ≡ None) × (after ≡ before ++ (mbox_head ++ exported a ask))
+  pub exported_whole : (count : ℕ) → GoesHeld g old new (λ a b. (b ≡ a) × (ask_reason a ask ≡ None) × (after ≡ before ++ (mbox_head ++ exported a ask))
       × (count ≡ min (length (mbox_head ++ exported a ask)) (2 ^ 64 - 1)))
       → (HasReturned g new → IsOpen g old) → Serves g old new (MboxReply ask) before after (Ok 200)
-  exported_whole count goes up = served_open (Ok 200) up (inl (goes_as g old new (λ a b. (b ≡ a) × (ask_reason a ask ≡ None) × (after ≡ before ++ (mbox_head ++ exported a ask))
+  exported_whole count goes up = served_open (Ok 200) up (inl (goes_in_as g (HoldsTables g) old new (λ a b. (b ≡ a) × (ask_reason a ask ≡ None) × (after ≡ before ++ (mbox_head ++ exported a ask))
       × (count ≡ min (length (mbox_head ++ exported a ask)) (2 ^ 64 - 1)))
       (λ a b. (b ≡ a) × Sends (MboxReply ask a) before after (Ok 200))
       (λ a b h. (
@@ -88,9 +89,9 @@ module _ {S : Type 0} (g : Ghosts S) (old new : Store S) (ask : Ask) (before aft
         ),
       )) goes))
 
-  pub exported_part : (count : ℕ) → Goes g old new (λ a b. (b ≡ a) × IsExportRefused (ask_reason a ask) before after (mbox_head ++ exported a ask) count not_written)
+  pub exported_part : (count : ℕ) → GoesHeld g old new (λ a b. (b ≡ a) × IsExportRefused (ask_reason a ask) before after (mbox_head ++ exported a ask) count not_written)
       → (HasReturned g new → IsOpen g old) → Serves g old new (MboxReply ask) before after (Err (Write count))
-  exported_part count goes up = served_open (Err (Write count)) up (inl (goes_as g old new (λ a b. (b ≡ a) × IsExportRefused (ask_reason a ask) before after (mbox_head ++ exported a ask) count not_written)
+  exported_part count goes up = served_open (Err (Write count)) up (inl (goes_in_as g (HoldsTables g) old new (λ a b. (b ≡ a) × IsExportRefused (ask_reason a ask) before after (mbox_head ++ exported a ask) count not_written)
       (λ a b. (b ≡ a) × Sends (MboxReply ask a) before after (Err (Write count)))
       (λ a b h. (
         h.0,
@@ -102,8 +103,8 @@ module _ {S : Type 0} (g : Ghosts S) (old new : Store S) (ask : Ask) (before aft
       )) goes))
 
   pub exported_none : (stop : ExportStop) (mid : List ℕ) (result : Result ℕ ServeFault)
-      → MatchOption (stop_reason stop) (GoesIfOpen g old new (λ a b. b ≡ a))
-      (λ why. Goes g old new (λ a b. (b ≡ a) × IsExportRefused (ask_reason a ask) before mid (mbox_head ++ exported a ask) why.0 why.1)) → mid ≡ before
+      → MatchOption (stop_reason stop) (GoesHeldIfOpen g old new (λ a b. b ≡ a))
+      (λ why. GoesHeld g old new (λ a b. (b ≡ a) × IsExportRefused (ask_reason a ask) before mid (mbox_head ++ exported a ask) why.0 why.1)) → mid ≡ before
       → Sends (λ r. r ≡ unavailable) mid after result
       → Serves g old new (MboxReply ask) before after result
   exported_none stop mid result said same sent = serves_none g before after result old new (MboxReply ask)
@@ -111,9 +112,9 @@ module _ {S : Type 0} (g : Ghosts S) (old new : Store S) (ask : Ask) (before aft
       (subst (λ m. Sends (λ r. r ≡ unavailable) m after result) same sent)
 
   -- there is no such list
-  pub exported_unlisted : (mid : List ℕ) (result : Result ℕ ServeFault) → Goes g old new (λ a b. (b ≡ a) × (ask_reason a ask ≡ Some (refused no_list)))
+  pub exported_unlisted : (mid : List ℕ) (result : Result ℕ ServeFault) → GoesHeld g old new (λ a b. (b ≡ a) × (ask_reason a ask ≡ Some (refused no_list)))
       → (HasReturned g new → IsOpen g old) → mid ≡ before → Sends (λ r. r ≡ not_found) mid after result → Serves g old new (MboxReply ask) before after result
-  exported_unlisted mid result goes up same sent = served_open result up (inl (goes_as g old new (λ a b. (b ≡ a) × (ask_reason a ask ≡ Some (refused no_list)))
+  exported_unlisted mid result goes up same sent = served_open result up (inl (goes_in_as g (HoldsTables g) old new (λ a b. (b ≡ a) × (ask_reason a ask ≡ Some (refused no_list)))
       (λ a b. (b ≡ a) × Sends (MboxReply ask a) before after result)
       (λ a b h. (
         h.0,
@@ -122,18 +123,18 @@ module _ {S : Type 0} (g : Ghosts S) (old new : Store S) (ask : Ask) (before aft
       )) goes))
 
   -- S3: it began, so the list is there, and its first bytes went out
-  pub exported_broken : (stop : ExportStop) → MatchOption (stop_reason stop) (GoesIfOpen g old new (λ a b. b ≡ a))
-      (λ why. Goes g old new (λ a b. (b ≡ a) × IsExportRefused (ask_reason a ask) before after (mbox_head ++ exported a ask) why.0 why.1))
+  pub exported_broken : (stop : ExportStop) → MatchOption (stop_reason stop) (GoesHeldIfOpen g old new (λ a b. b ≡ a))
+      (λ why. GoesHeld g old new (λ a b. (b ≡ a) × IsExportRefused (ask_reason a ask) before after (mbox_head ++ exported a ask) why.0 why.1))
       → ExportsPart g old new before after stop.written (λ a. mbox_head ++ exported a ask) → HasBegun g old new ask stop.written → 0 < stop.written
       → (HasReturned g new → IsOpen g old) → Serves g old new (MboxReply ask) before after (Err (Broken stop.written))
   exported_broken stop said part begun some up = served_open (Err (Broken stop.written)) up (inr (inr (
     stops g old new (stop_reason stop) (λ a why. IsExportRefused (ask_reason a ask) before after (mbox_head ++ exported a ask) why.0 why.1) said,
-    λ returned ready.
+    λ returned held.
         let text = exported (archive_in g old) ask in (
           text,
-          sym (on_listed (archive_in g old) ask (mbox_reply text) (begun returned ready some)),
+          sym (on_listed (archive_in g old) ask (mbox_reply text) (begun returned held some)),
           some,
-          λ fits. subst (λ x. IsCutShort before after (x ++ text) stop.written) (mbox_head_is text) (part returned ready fits),
+          λ fits. subst (λ x. IsCutShort before after (x ++ text) stop.written) (mbox_head_is text) (part returned held fits),
         ),
   )))
 

@@ -6,17 +6,20 @@ use Rattle.httparse.specs.Grammar.{RequestHead}
 use Rattle.httparse.specs.Spans.{RequestExceeds}
 use Rattle.httparse.proofs.GrammarLemmas.{ReadsRequest-append}
 use Rattle.policy_core.specs.Rules.{Rule}
+use Rattle.archive_machine.specs.Records.{Archive}
 use Rattle.archive_store.specs.declared.store.Store.{Store}
-use Rattle.archive_store.proofs.Joins.{stays_there}
+use Rattle.archive_store.specs.Told.{HoldsTables}
+use Rattle.archive_store.proofs.Joins.{stays_there_in}
 use Rattle.archive_requests.specs.Asked.{named_request}
 use Rattle.archive_requests.specs.Heads.{BeginsWith}
-use Rattle.archive_requests.specs.Reading.{IsRequestAs, IsSettled}
+use Rattle.archive_requests.specs.Reading.{IsBegunBy, IsRequestAs, IsSettled}
 use Rattle.archive_requests.specs.declared.requests.Request.{Request as Asked}
 use Rattle.archive_requests.specs.declared.reading.RequestRead.{RequestRead}
 use Rattle.archive_requests.specs.declared.reading.RequestRead.TheVariants.{Whole, Malformed, TooLarge}
 use Rattle.archive_pages.specs.Replies.{Sends, IsReplyStop, IsServeStop, bad_request, head_too_large}
 use Rattle.archive_pages.specs.Answers.{request_reply, direct_reply}
 use Rattle.archive_pages.specs.Answered.{ByOutcome, IsAnswered}
+use Rattle.archive_pages.specs.Causes.{IsReadUnread, IsRequestUnread, IsUnreadIn}
 use Rattle.archive_pages.specs.declared.faults.ServeFault.{ServeFault}
 use Rattle.archive_pages.specs.declared.faults.ServeFault.TheVariants.{Read, Write, Broken}
 use Rattle.archive_pages.specs.Serving.{Serves}
@@ -34,7 +37,7 @@ module _ {S : Type 0} (g : Ghosts S) (rules : List Rule) (day : ℤ) (given all 
     to_bad is sent = record {
       head = λ h begins. absurd (is.head h begins);
       direct = λ h begins. absurd (is.head h begins);
-      none = λ nothing. (stays_there g store, sends_as (λ r. r ≡ bad_request) (λ r. (r ≡ bad_request) ⊎ (r ≡ head_too_large)) before after result (λ r e. inl e) sent);
+      none = λ nothing. (stays_there_in g (HoldsTables g) store, sends_as (λ r. r ≡ bad_request) (λ r. (r ≡ bad_request) ⊎ (r ≡ head_too_large)) before after result (λ r e. inl e) sent);
       many = λ h exceeds. absurd (bad_large (is.many h exceeds));
       long = λ enough nothing could. absurd (bad_large (is.long enough nothing could));
       few = λ nothing less fields. sent;
@@ -48,7 +51,7 @@ module _ {S : Type 0} (g : Ghosts S) (rules : List Rule) (day : ℤ) (given all 
     to_large is sent = record {
       head = λ h begins. absurd (is.head h begins);
       direct = λ h begins. absurd (is.head h begins);
-      none = λ nothing. (stays_there g store, sends_as (λ r. r ≡ head_too_large) (λ r. (r ≡ bad_request) ⊎ (r ≡ head_too_large)) before after result (λ r e. inr e) sent);
+      none = λ nothing. (stays_there_in g (HoldsTables g) store, sends_as (λ r. r ≡ head_too_large) (λ r. (r ≡ bad_request) ⊎ (r ≡ head_too_large)) before after result (λ r e. inr e) sent);
       many = λ h exceeds. sent;
       long = λ enough nothing could. sent;
       few = λ nothing less fields. absurd (large_cases less fields (is.large refl));
@@ -76,7 +79,24 @@ module _ {S : Type 0} (g : Ghosts S) (rules : List Rule) (day : ℤ) (given more
     few = λ nothing less fields. absurd (nothing is.whole.0 (begins_still given more is.whole.0 is.whole.1));
   }
 
+-- what of an archive cannot be read that is asked for
+pub unread_in : (told_before told_after given : List ℕ) (rules : List Rule) (day : ℤ) (a : Archive) (read : RequestRead) → told_after ≡ told_before ++ given → IsBegunBy given read
+    → IsReadUnread rules day read a → IsUnreadIn told_before told_after rules day a
+unread_in told_before told_after given rules day a (Whole request) told begun it = record {
+  given = given;
+  told = told;
+  head = begun.0;
+  begins = begun.1;
+  unread = subst (λ q. IsRequestUnread rules day q a) begun.2 it;
+}
+unread_in told_before told_after given rules day a Malformed told begun it = absurd it
+unread_in told_before told_after given rules day a TooLarge told begun it = absurd it
+
 -- ---- what the input told
+
+pub begun_by : (given : List ℕ) (read : RequestRead) (Ended None Open : Type 0) → (Ended × None × IsRequestAs given given read) ⊎ (Open × IsSettled given read) → IsBegunBy given read
+begun_by given read Ended None Open (inl (ended, none, is)) = is.whole
+begun_by given read Ended None Open (inr (still, settled)) = (settled []).whole
 
 pub said_either : (given : List ℕ) (read : RequestRead) (Ended None Open : Type 0) (Says : List ℕ → Type 0)
     → ((more : List ℕ) → IsRequestAs given (given ++ more) read → Says (given ++ more))

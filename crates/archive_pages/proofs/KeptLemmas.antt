@@ -3,12 +3,13 @@ use Rattle.std.proofs.Common.{◌≡◌, inl, inr, ℕ, List, Result, Ok, Err, r
 use Rattle.std.specs.Prelude.{◌⊎◌, ⊤, MatchResult}
 use Rattle.sqlite.specs.Store.{Ghosts}
 use Rattle.archive_machine.specs.Records.{Archive}
-use Rattle.archive_store.specs.Told.{Goes, HasReturned, IsReady, Lasts, archive_in}
+use Rattle.archive_store.specs.Told.{HasReturned, HoldsTables, Lasts, archive_in}
+use Rattle.archive_desk.specs.Holding.{GoesHeld}
 use Rattle.archive_store.specs.declared.store.Store.{Store}
-use Rattle.archive_store.proofs.Joins.{goes_as}
+use Rattle.archive_store.proofs.Joins.{goes_in_as}
 use Rattle.archive_pages.specs.Replies.{Reply, Sends, Breaks, Is, unavailable}
 use Rattle.archive_pages.specs.Serving.{OfEvery, Sent, Serves, Stays}
-use Rattle.archive_pages.specs.KeptServing.{OfReady, FindsIf, ServesIf}
+use Rattle.archive_pages.specs.KeptServing.{OfRemembered, FindsIf, ServesIf}
 use Rattle.archive_pages.specs.Calls.{KeepsOn}
 use Rattle.archive_pages.specs.declared.faults.ServeFault.{ServeFault}
 use Rattle.archive_pages.specs.declared.pages.Pages.{Pages}
@@ -16,37 +17,37 @@ use Rattle.archive_pages.proofs.ServingLemmas.{sends_as, broken_as, breaks_as, f
 
 -- pages that nothing was done to
 pub keeps_still : {S T : Type 0} (g : Ghosts S) (old new : Store S) (pages : Pages T) → KeepsOn g old new pages pages
-keeps_still g old new pages = record { same = refl; keeps = record { ready = λ returned ready of. of; shut = λ returned shut. refl; most = refl; bounded = λ within. within } }
+keeps_still g old new pages = record { same = refl; keeps = record { held = λ returned held of. of; shut = λ returned shut. refl; most = refl; bounded = λ within. within } }
 
 module _ {S : Type 0} (g : Ghosts S) (before after : List ℕ) (result : Result ℕ ServeFault) where
   module _ (old new : Store S) where
-    -- a reply of which more is known, where the store was ready
+    -- a reply of which more is known, where its tables were an archive's
     sent_as : (Says Says' : Archive → Reply → Type 0)
-        → (HasReturned g new → IsReady g old → (r : Reply) → Says (archive_in g old) r → Says' (archive_in g old) r)
+        → (HasReturned g new → HoldsTables g old → (r : Reply) → Says (archive_in g old) r → Says' (archive_in g old) r)
         → Sent g old new Says before after result → Sent g old new Says' before after result
     sent_as Says Says' weaker (inl goes) = inl (
       goes.0,
-      (λ returned ready.
-          let it = goes.1 returned ready in
-          (it.0, (it.1.0, sends_as (Says (archive_in g old)) (Says' (archive_in g old)) before after result (weaker returned ready) it.1.1))),
+      (λ returned held.
+          let it = goes.1 returned held in
+          (it.0, (it.1.0, sends_as (Says (archive_in g old)) (Says' (archive_in g old)) before after result (weaker returned held) it.1.1))),
     )
     sent_as Says Says' weaker (inr (inl none)) = inr (inl none)
     sent_as Says Says' weaker (inr (inr (goes, broken))) = inr (inr (
       goes,
-      broken_as result (λ n. HasReturned g new → IsReady g old → Breaks (Says (archive_in g old)) before after n)
-          (λ n. HasReturned g new → IsReady g old → Breaks (Says' (archive_in g old)) before after n)
-          (λ n breaks returned ready. breaks_as (Says (archive_in g old)) (Says' (archive_in g old)) before after n (weaker returned ready) (breaks returned ready)) broken,
+      broken_as result (λ n. HasReturned g new → HoldsTables g old → Breaks (Says (archive_in g old)) before after n)
+          (λ n. HasReturned g new → HoldsTables g old → Breaks (Says' (archive_in g old)) before after n)
+          (λ n breaks returned held. breaks_as (Says (archive_in g old)) (Says' (archive_in g old)) before after n (weaker returned held) (breaks returned held)) broken,
     ))
 
     module _ (If : Archive → Type 0) (Says : Archive → Reply → Type 0) where
       -- one of which it holds whatever is kept
       pub serves_whatever : Serves g old new Says before after result → ServesIf g old new If Says before after result
-      serves_whatever serves = record { sent = sent_as Says (λ a r. If a → Says a r) (λ returned ready r it is. it) serves.sent; shut = serves.shut }
+      serves_whatever serves = record { sent = sent_as Says (λ a r. If a → Says a r) (λ returned held r it is. it) serves.sent; shut = serves.shut }
 
       -- and one of which nothing is said
       pub serves_some : ServesIf g old new If Says before after result → Serves g old new (λ a r. ⊤) before after result
       serves_some serves = record {
-        sent = sent_as (λ a r. If a → Says a r) (λ a r. ⊤) (λ returned ready r it. tt) serves.sent;
+        sent = sent_as (λ a r. If a → Says a r) (λ a r. ⊤) (λ returned held r it. tt) serves.sent;
         shut = λ returned shut. sends_as (λ r. (r ≡ unavailable) ⊎ ((a : Archive) → Says a r)) (λ r. (r ≡ unavailable) ⊎ ((a : Archive) → ⊤)) before after result
             (λ r it. inr (λ a. tt)) (serves.shut returned shut);
       }
@@ -58,9 +59,9 @@ module _ {S : Type 0} (g : Ghosts S) (before after : List ℕ) (result : Result 
       lasts_kept serves = serves_lasts g before after result old new (λ a r. ⊤) (serves_some serves)
 
       -- where what is kept is of the archive that the store remembers, it is served out of that archive
-      pub serves_of_ready : OfReady g old new If → ServesIf g old new If Says before after result → Serves g old new Says before after result
-      serves_of_ready of serves = record {
-        sent = sent_as (λ a r. If a → Says a r) Says (λ returned ready r says. says (of returned ready)) serves.sent;
+      pub serves_of_remembered : OfRemembered g old new If → ServesIf g old new If Says before after result → Serves g old new Says before after result
+      serves_of_remembered of serves = record {
+        sent = sent_as (λ a r. If a → Says a r) Says (λ returned held r says. says (of returned held)) serves.sent;
         shut = serves.shut;
       }
 
@@ -72,7 +73,7 @@ module _ {S : Type 0} (g : Ghosts S) (before after : List ℕ) (result : Result 
         → ServesIf g old new If Says before after result
     finds_serves (Ok x) made If Holds Says finds says sent = record {
       sent = found_sent g before after result old new (made x) (λ a r. If a → Says a r)
-          (goes_as g old new (λ a b. (b ≡ a) × (If a → Holds a x)) (λ a b. (b ≡ a) × (If a → Says a (made x))) (λ a b h. (h.0, (λ is. says a x (h.1 is)))) finds.0) sent;
+          (goes_in_as g (HoldsTables g) old new (λ a b. (b ≡ a) × (If a → Holds a x)) (λ a b. (b ≡ a) × (If a → Says a (made x))) (λ a b h. (h.0, (λ is. says a x (h.1 is)))) finds.0) sent;
       shut = λ returned shut. sends_as (Is (made x)) (λ r. (r ≡ unavailable) ⊎ ((a : Archive) → Says a r)) before after result
           (λ r it. elim it [ inl is ↦ inr (λ a. subst (Says a) (sym is) (says a x (finds.1 returned shut a))) | inr none ↦ inl none ]) sent;
     }
@@ -81,7 +82,7 @@ module _ {S : Type 0} (g : Ghosts S) (before after : List ℕ) (result : Result 
   -- ---- a question before
 
   module _ (old mid new : Store S) (P : Archive → Type 0) (If : Archive → Type 0) (Says Says' : Archive → Reply → Type 0)
-      (first : Goes g old mid (λ a b. (b ≡ a) × P a)) (says : (a : Archive) (r : Reply) → P a → Says a r → Says' a r) where
+      (first : GoesHeld g old mid (λ a b. (b ≡ a) × P a)) (says : (a : Archive) (r : Reply) → P a → Says a r → Says' a r) where
     pub serves_if_after : OfEvery g old mid P → ServesIf g mid new If Says before after result → ServesIf g old new If Says' before after result
     serves_if_after every second = record {
       sent = sent_after g before after result old mid new P (λ a r. If a → Says a r) (λ a r. If a → Says' a r) first (λ a r p it is. says a r p (it is)) second.sent;

@@ -7,9 +7,10 @@ use Rattle.civil_time.specs.Calendar.{month_of_text}
 use Rattle.archive_machine.specs.Records.{Archive}
 use Rattle.archive_machine.specs.Questions.{merge_of}
 use Rattle.archive_machine.specs.Keys.{is_key}
-use Rattle.archive_store.specs.Told.{Goes}
+use Rattle.archive_desk.specs.Holding.{GoesHeld}
 use Rattle.archive_store.specs.declared.store.Store.{Store}
-use Rattle.archive_store.proofs.Joins.{goes_as}
+use Rattle.archive_store.specs.Told.{HoldsTables}
+use Rattle.archive_store.proofs.Joins.{goes_in_as}
 use Rattle.archive_results.specs.Access.{Ask}
 use Rattle.archive_results.specs.Results.{TreeLine, author_lines, month_lines, tree_lines, thread_lines, lines_of, rows_of}
 use Rattle.archive_results.specs.Shown.{Line, Shown}
@@ -30,24 +31,24 @@ some_is x y is = cc
 
 module _ {S : Type 0} (g : Ghosts S) (old new : Store S) (If : Archive → Type 0) where
   -- what was found, of which more is known
-  finds_as : (Says Says' : Archive → Type 0) → ((a : Archive) → Says a → Says' a) → Goes g old new (λ a b. (b ≡ a) × (If a → Says a)) × OfEvery g old new Says
-      → Goes g old new (λ a b. (b ≡ a) × (If a → Says' a)) × OfEvery g old new Says'
+  finds_as : (Says Says' : Archive → Type 0) → ((a : Archive) → Says a → Says' a) → GoesHeld g old new (λ a b. (b ≡ a) × (If a → Says a)) × OfEvery g old new Says
+      → GoesHeld g old new (λ a b. (b ≡ a) × (If a → Says' a)) × OfEvery g old new Says'
   finds_as Says Says' more found = (
-    goes_as g old new (λ a b. (b ≡ a) × (If a → Says a)) (λ a b. (b ≡ a) × (If a → Says' a)) (λ a b h. (h.0, (λ of. more a (h.1 of)))) found.0,
+    goes_in_as g (HoldsTables g) old new (λ a b. (b ≡ a) × (If a → Says a)) (λ a b. (b ≡ a) × (If a → Says' a)) (λ a b h. (h.0, (λ of. more a (h.1 of)))) found.0,
     (λ returned shut a. more a (found.1 returned shut a)),
   )
 
   module _ (ask : Ask) (kept : Keeping) (part : Part) (o : Option ℕ) (made : Archive → Reply)
-      (found : Goes g old new (λ a b. (b ≡ a) × (If a → IsPlace a ask kept part o)) × OfEvery g old new (λ a. IsPlace a ask kept part o)) where
+      (found : GoesHeld g old new (λ a b. (b ≡ a) × (If a → IsPlace a ask kept part o)) × OfEvery g old new (λ a. IsPlace a ask kept part o)) where
     -- there is no such list
-    pub found_none : o ≡ None → Goes g old new (λ a b. (b ≡ a) × (If a → not_found ≡ listed_reply a ask.list (made a)))
+    pub found_none : o ≡ None → GoesHeld g old new (λ a b. (b ≡ a) × (If a → not_found ≡ listed_reply a ask.list (made a)))
         × OfEvery g old new (λ a. not_found ≡ listed_reply a ask.list (made a))
     found_none is = finds_as (λ a. IsPlace a ask kept part o) (λ a. not_found ≡ listed_reply a ask.list (made a))
         (λ a at. sym (on_unlisted a ask (made a) (subst (λ x. IsPlace a ask kept part x) is at))) found
 
     pub found_at : (place : ℕ) (outline : Outline) (reply : Reply) → o ≡ Some place → Some outline ≡ outline_at kept place
         → ((a : Archive) → outline ≡ outline_for a ask part → reply ≡ made a)
-        → Goes g old new (λ a b. (b ≡ a) × (If a → reply ≡ listed_reply a ask.list (made a))) × OfEvery g old new (λ a. reply ≡ listed_reply a ask.list (made a))
+        → GoesHeld g old new (λ a b. (b ≡ a) × (If a → reply ≡ listed_reply a ask.list (made a))) × OfEvery g old new (λ a. reply ≡ listed_reply a ask.list (made a))
     found_at place outline reply is there of = finds_as (λ a. IsPlace a ask kept part o) (λ a. reply ≡ listed_reply a ask.list (made a))
         (λ a at.
         let it = subst (λ x. IsPlace a ask kept part x) is at in

@@ -2,9 +2,9 @@
 use Rattle.std.proofs.Common.{◌≡◌, refl, subst, Bool, true, false, ℕ, List, Result, Ok, Err}
 use Rattle.sqlite.specs.Store.{Ghosts}
 use Rattle.archive_machine.specs.Records.{Archive}
-use Rattle.archive_store.specs.Told.{Goes}
 use Rattle.archive_store.specs.declared.store.Store.{Store}
-use Rattle.archive_store.proofs.Joins.{goes_as}
+use Rattle.archive_store.specs.Told.{HoldsTables}
+use Rattle.archive_store.proofs.Joins.{goes_in_as}
 use Rattle.archive_results.specs.Access.{Ask}
 use Rattle.archive_requests.specs.Routes.{Route}
 use Rattle.archive_requests.specs.Routing.{named_route}
@@ -35,7 +35,7 @@ module _ {S F : Type 0} (g : Ghosts S) (old new : Store S) where
   -- found whatever is kept
   pub found_whatever : (result : Result Made F) (If : Archive → Type 0) (made : Archive → Reply) → FindsReply g old new result made → FindsReplyIf g old new result If made
   found_whatever (Ok x) If made found = (
-    goes_as g old new (λ a b. (b ≡ a) × (reply_made x ≡ made a)) (λ a b. (b ≡ a) × (If a → reply_made x ≡ made a)) (λ a b h. (h.0, λ is. h.1)) found.0,
+    goes_in_as g (HoldsTables g) old new (λ a b. (b ≡ a) × (reply_made x ≡ made a)) (λ a b. (b ≡ a) × (If a → reply_made x ≡ made a)) (λ a b h. (h.0, λ is. h.1)) found.0,
     found.1,
   )
   found_whatever (Err e) If made found = found
@@ -51,8 +51,9 @@ module _ {S F : Type 0} (g : Ghosts S) (old new : Store S) where
         → FindsReplyIf g old new result (AreFor known kept) (made known)
     found_for kept made found = subst (λ (q : Ask). FindsReplyIf g old new result (AreFor q kept) (made q)) is found
 
-    pub why_for : FindsMade g old new result (IsUnreadBy asked.reader) → FindsMade g old new result (IsUnreadBy known.reader)
-    why_for why = subst (λ (q : Ask). FindsMade g old new result (IsUnreadBy q.reader)) is why
+    pub why_for : (Unread : Ask → Archive → Type 0) → FindsMade g old new result (IsUnreadBy (Unread asked) asked.reader)
+        → FindsMade g old new result (IsUnreadBy (Unread known) known.reader)
+    why_for Unread why = subst (λ (q : Ask). FindsMade g old new result (IsUnreadBy (Unread q) q.reader)) is why
 
     pub keeps_for : (kept later : Keeping) → Keeps g old new asked.rules asked.day kept later → Keeps g old new known.rules known.day kept later
     keeps_for kept later keeps = subst (λ (q : Ask). Keeps g old new q.rules q.day kept later) is keeps

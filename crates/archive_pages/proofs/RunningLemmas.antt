@@ -13,10 +13,10 @@ use Rattle.sqlite.specs.Closing.{IsCopied}
 use Rattle.httparse.specs.Grammar.{RequestHead, HasNoRequest}
 use Rattle.policy_core.specs.Rules.{Rule}
 use Rattle.archive_machine.specs.Records.{Archive}
-use Rattle.archive_store.specs.Told.{HoldsArchive, IsOpen, IsReady, IsShut, archive_in, HasReturned, Goes}
+use Rattle.archive_store.specs.Told.{HoldsArchive, IsOpen, HoldsTables, IsShut, archive_in, HasReturned}
+use Rattle.archive_desk.specs.Holding.{GoesHeld}
 use Rattle.archive_store.specs.Held.{held_of}
 use Rattle.archive_store.specs.declared.store.Store.{Store}
-use Rattle.archive_store.proofs.Joins.{ready_with}
 use Rattle.archive_pages.specs.Replies.{Sends, Breaks, Is, IsBroken, unavailable}
 use Rattle.archive_pages.specs.Answers.{reply_of}
 use Rattle.archive_pages.specs.Serving.{Sent, Serves, Stays}
@@ -39,7 +39,7 @@ reads told_before told_after ends_before ends_after P Q weaker (given, told, inl
 reads told_before told_after ends_before ends_after P Q weaker (given, told, inr (unended, says)) = (given, told, inr (unended, (λ more. weaker given (given ++ more) (says more))))
 
 module _ {S : Type 0} (g : Ghosts S) (mid new : Store S) (archive : Archive) (returned : HasReturned g new)
-    (ran : HasReturned g mid → IsReady g mid × (archive_in g mid ≡ archive)) (rules : List Rule) (day : ℤ) where
+    (ran : HasReturned g mid → HoldsTables g mid × (archive_in g mid ≡ archive)) (rules : List Rule) (day : ℤ) where
   module _ (before after : List ℕ) (result : Result ℕ ServeFault) where
     sent_from : (h : RequestHead) → Sent g mid new (λ a reply. reply ≡ reply_of a rules day h) before after result
         → Sends (Is (reply_of archive rules day h)) before after result ⊎ IsBroken result (Breaks (λ reply. reply ≡ reply_of archive rules day h) before after)
@@ -51,7 +51,7 @@ module _ {S : Type 0} (g : Ghosts S) (mid new : Store S) (archive : Archive) (re
         inl (sends_as (λ reply. reply ≡ unavailable) (Is (reply_of archive rules day h)) before after result (λ reply is. inr is) sent)
     sent_from h (inr (inr (goes, broken))) =
         let it = ran (goes.0.returned returned) in
-        inr (broken_as result (λ n. HasReturned g new → IsReady g mid → Breaks (λ reply. reply ≡ reply_of (archive_in g mid) rules day h) before after n)
+        inr (broken_as result (λ n. HasReturned g new → HoldsTables g mid → Breaks (λ reply. reply ≡ reply_of (archive_in g mid) rules day h) before after n)
         (Breaks (λ reply. reply ≡ reply_of archive rules day h) before after)
         (λ n breaks. breaks_as (λ reply. reply ≡ reply_of (archive_in g mid) rules day h) (λ reply. reply ≡ reply_of archive rules day h) before after n
         (λ reply is. subst (λ a. reply ≡ reply_of a rules day h) it.1 is) (breaks returned it.0)) broken)
@@ -70,7 +70,7 @@ module _ {S : Type 0} (g : Ghosts S) (mid new : Store S) (archive : Archive) (re
   -- `answer` after the run
   pub answers_from : (result : Result ℕ ServeFault) (told_before told_after : List ℕ) (ends_before ends_after : ℕ) (before after : List ℕ)
       → ByOutcome result (Reads told_before told_after ends_before ends_after (λ given all. IsAnswered g mid new rules day given all before after result))
-      ((given : List ℕ) × (told_after ≡ told_before ++ given) × HasNoRequest given × (after ≡ before) × Goes g mid new (λ a b. b ≡ a))
+      ((given : List ℕ) × (told_after ≡ told_before ++ given) × HasNoRequest given × (after ≡ before) × GoesHeld g mid new (λ a b. b ≡ a))
       → AnswersFrom archive rules day told_before told_after ends_before ends_after before after result
   answers_from result told_before told_after ends_before ends_after before after =
       by_outcome result
@@ -101,7 +101,7 @@ module _ {S : Type 0} (g : Ghosts S) (mid new : Store S) (archive : Archive) (re
   -- of any archive
   pub answers_shut : (told_before told_after : List ℕ) (ends_before ends_after : ℕ)
       → ByOutcome result (Reads told_before told_after ends_before ends_after (λ given all. IsAnswered g mid new rules day given all before after result))
-      ((given : List ℕ) × (told_after ≡ told_before ++ given) × HasNoRequest given × (after ≡ before) × Goes g mid new (λ a b. b ≡ a))
+      ((given : List ℕ) × (told_after ≡ told_before ++ given) × HasNoRequest given × (after ≡ before) × GoesHeld g mid new (λ a b. b ≡ a))
       → AnswersFrom archive rules day told_before told_after ends_before ends_after before after result
   answers_shut told_before told_after ends_before ends_after =
       by_outcome result
@@ -112,10 +112,10 @@ module _ {S : Type 0} (g : Ghosts S) (mid new : Store S) (archive : Archive) (re
 -- ---- a store that was left as it was, or is shut
 
 module _ {S : Type 0} (g : Ghosts S) (mid new : Store S) (archive : Archive) (returned : HasReturned g new)
-    (left : IsOpen g mid → IsReady g mid × (archive_in g mid ≡ archive)) (rules : List Rule) (day : ℤ) (result : Result ℕ ServeFault)
+    (left : IsOpen g mid → HoldsTables g mid × (archive_in g mid ≡ archive)) (rules : List Rule) (day : ℤ) (result : Result ℕ ServeFault)
     (told_before told_after : List ℕ) (ends_before ends_after : ℕ) (before after : List ℕ)
     (said : ByOutcome result (Reads told_before told_after ends_before ends_after (λ given all. IsAnswered g mid new rules day given all before after result))
-    ((given : List ℕ) × (told_after ≡ told_before ++ given) × HasNoRequest given × (after ≡ before) × Goes g mid new (λ a b. b ≡ a))) where
+    ((given : List ℕ) × (told_after ≡ told_before ++ given) × HasNoRequest given × (after ≡ before) × GoesHeld g mid new (λ a b. b ≡ a))) where
   pub answers_left : AnswersFrom archive rules day told_before told_after ends_before ends_after before after result
   answers_left = elim (cases_Bool (state g (held_of mid)).is_open) [
     | inl up ↦ answers_from g mid new archive returned (λ was. left up) rules day result told_before told_after ends_before ends_after before after said
@@ -127,20 +127,20 @@ module _ {S : Type 0} (g : Ghosts S) (mid new : Store S) (archive : Archive) (re
 module _ {S : Type 0} (g : Ghosts S) (old mid new : Store S) (first : Result ℕ ServeFault) (left : Stays g old mid first) (rules : List Rule) (day : ℤ)
     (result : Result ℕ ServeFault) (told_before told_after : List ℕ) (ends_before ends_after : ℕ) (before after : List ℕ) where
   -- of a store that remembers what it remembered before the first of them, or is shut
-  pub answers_second : HasReturned g mid → HasReturned g new → IsReady g old
+  pub answers_second : HasReturned g mid → HasReturned g new → HoldsTables g old
       → ByOutcome result (Reads told_before told_after ends_before ends_after (λ given all. IsAnswered g mid new rules day given all before after result))
-      ((given : List ℕ) × (told_after ≡ told_before ++ given) × HasNoRequest given × (after ≡ before) × Goes g mid new (λ a b. b ≡ a))
+      ((given : List ℕ) × (told_after ≡ told_before ++ given) × HasNoRequest given × (after ≡ before) × GoesHeld g mid new (λ a b. b ≡ a))
       → AnswersFrom (archive_in g old) rules day told_before told_after ends_before ends_after before after result
-  answers_second was returned ready said = answers_left g mid new (archive_in g old) returned (λ up. left.same.1 was ready up) rules day result
+  answers_second was returned held said = answers_left g mid new (archive_in g old) returned (λ up. left.same.1 was held up) rules day result
       told_before told_after ends_before ends_after before after said
 
-pub answers_first : {S : Type 0} (g : Ghosts S) (old mid : Store S) → HasReturned g mid → IsReady g old → (rules : List Rule) (day : ℤ)
+pub answers_first : {S : Type 0} (g : Ghosts S) (old mid : Store S) → HasReturned g mid → HoldsTables g old → (rules : List Rule) (day : ℤ)
     (result : Result ℕ ServeFault) (told_before told_after : List ℕ) (ends_before ends_after : ℕ) (before after : List ℕ)
     → ByOutcome result (Reads told_before told_after ends_before ends_after (λ given all. IsAnswered g old mid rules day given all before after result))
-    ((given : List ℕ) × (told_after ≡ told_before ++ given) × HasNoRequest given × (after ≡ before) × Goes g old mid (λ a b. b ≡ a))
+    ((given : List ℕ) × (told_after ≡ told_before ++ given) × HasNoRequest given × (after ≡ before) × GoesHeld g old mid (λ a b. b ≡ a))
     → AnswersFrom (archive_in g old) rules day told_before told_after ends_before ends_after before after result
-answers_first g old mid returned ready rules day result told_before told_after ends_before ends_after before after said =
-    answers_from g old mid (archive_in g old) returned (λ was. (ready, refl)) rules day result told_before told_after ends_before ends_after before after said
+answers_first g old mid returned held rules day result told_before told_after ends_before ends_after before after said =
+    answers_from g old mid (archive_in g old) returned (λ was. (held, refl)) rules day result told_before told_after ends_before ends_after before after said
 
 -- ---- a file that was closed and opened again
 
@@ -151,5 +151,5 @@ module _ {D : Type 0} {g : DiskGhosts D} (closed opened : Held (FileStore D g)) 
   answers_reopened holds it returned rules day read_before read_after ends_before ends_after told_before told_after result said =
       let found = again holds it.live it.copied it.found it.opens in
       answers_from over_files store new archive returned
-      (λ was. let is = it.adopted archive found was in (ready_with over_files store archive is.0 is.1 found.2, is.1)) rules day
+      (λ was. it.adopted archive found was) rules day
       result read_before read_after ends_before ends_after told_before told_after said

@@ -7,10 +7,11 @@ use Rattle.archive_machine.specs.Commands.{Refusal}
 use Rattle.archive_tables.proofs.LastLemmas.{lasts_then}
 use Rattle.archive_store.specs.Held.{held_of}
 use Rattle.archive_store.specs.Replies.{refusal, Answers}
-use Rattle.archive_store.specs.Told.{Goes, GoesIfOpen, HasReturned, IsOpen, IsReady, Lasts, archive_in}
+use Rattle.archive_store.specs.Told.{HasReturned, IsOpen, HoldsTables, Lasts, archive_in}
+use Rattle.archive_desk.specs.Holding.{GoesHeld, GoesHeldIfOpen}
 use Rattle.archive_store.specs.declared.store.Store.{Store}
 use Rattle.archive_store.specs.declared.faults.StoreFault.{StoreFault}
-use Rattle.archive_store.proofs.Joins.{asked, ask_refused, ask_failed, stays_there, goes_on, goes_on_if_open, goes_as, goes_as_if_open}
+use Rattle.archive_store.proofs.Joins.{asked_in, ask_refused_in, ask_failed_in, stays_there_in, goes_on_in, goes_on_in_if_open, goes_in_as, goes_in_as_if_open}
 use Rattle.archive_pages.specs.Replies.{Reply, Sends, Breaks, Is, IsBroken, mbox_reply, unavailable}
 use Rattle.archive_pages.specs.Serving.{OfEvery, Sent, Serves, Stays}
 use Rattle.archive_pages.specs.declared.faults.ServeFault.{ServeFault}
@@ -35,26 +36,26 @@ breaks_as P Q before after written weaker (text, right, some, part) = (text, wea
 
 module _ {S : Type 0} (g : Ghosts S) where
   -- what goes so, goes so if the connection is open
-  pub if_open : (old new : Store S) (R : Archive → Archive → Type 0) → Goes g old new R → GoesIfOpen g old new R
-  if_open old new R goes = (goes.0, (λ returned ready up. goes.1 returned ready))
+  pub if_open : (old new : Store S) (R : Archive → Archive → Type 0) → GoesHeld g old new R → GoesHeldIfOpen g old new R
+  if_open old new R goes = (goes.0, (λ returned held up. goes.1 returned held))
 
   -- a question of the store that is never refused
   pub found : (old new : Store S) {A : Type 0} (result : Result A StoreFault) (answer : A) (Says : Archive → A → Type 0) → result ≡ Ok answer
-      → Lasts g old new → Answers g (held_of old) (held_of new) result (λ _. None) Says → Goes g old new (λ a b. (b ≡ a) × Says a answer)
+      → Lasts g old new → Answers g (held_of old) (held_of new) result (λ _. None) Says → GoesHeld g old new (λ a b. (b ≡ a) × Says a answer)
   found old new result answer Says is lasts clause =
-      goes_as g old new (λ a b. (b ≡ a) × (◌≡◌ {A = Option Refusal} None None) × Says a answer) (λ a b. (b ≡ a) × Says a answer)
-      (λ a b h. (h.0, h.2)) (asked g old new lasts result answer (λ _. None) Says is clause)
+      goes_in_as g (HoldsTables g) old new (λ a b. (b ≡ a) × (◌≡◌ {A = Option Refusal} None None) × Says a answer) (λ a b. (b ≡ a) × Says a answer)
+      (λ a b h. (h.0, h.2)) (asked_in g old new lasts result answer (λ _. None) Says is clause)
 
   not_found_by : (old new : Store S) {A : Type 0} (result : Result A StoreFault) (fault : StoreFault) (Says : Archive → A → Type 0) (o : Option Refusal)
       → refusal fault ≡ o → result ≡ Err fault → Lasts g old new → Answers g (held_of old) (held_of new) result (λ _. None) Says
-      → GoesIfOpen g old new (λ a b. b ≡ a)
-  not_found_by old new result fault Says None told is lasts clause = ask_failed g old new lasts result fault (λ _. None) Says is told clause
+      → GoesHeldIfOpen g old new (λ a b. b ≡ a)
+  not_found_by old new result fault Says None told is lasts clause = ask_failed_in g old new lasts result fault (λ _. None) Says is told clause
   not_found_by old new result fault Says (Some why) told is lasts clause =
-      if_open old new (λ a b. b ≡ a) (goes_as g old new (λ a b. (b ≡ a) × (◌≡◌ {A = Option Refusal} None (Some why))) (λ a b. b ≡ a) (λ a b h. h.0)
-      (ask_refused g old new lasts result fault why (λ _. None) Says is told clause))
+      if_open old new (λ a b. b ≡ a) (goes_in_as g (HoldsTables g) old new (λ a b. (b ≡ a) × (◌≡◌ {A = Option Refusal} None (Some why))) (λ a b. b ≡ a) (λ a b h. h.0)
+      (ask_refused_in g old new lasts result fault why (λ _. None) Says is told clause))
 
   pub not_found : (old new : Store S) {A : Type 0} (result : Result A StoreFault) (fault : StoreFault) (Says : Archive → A → Type 0) → result ≡ Err fault
-      → Lasts g old new → Answers g (held_of old) (held_of new) result (λ _. None) Says → GoesIfOpen g old new (λ a b. b ≡ a)
+      → Lasts g old new → Answers g (held_of old) (held_of new) result (λ _. None) Says → GoesHeldIfOpen g old new (λ a b. b ≡ a)
   not_found old new result fault Says is lasts clause = not_found_by old new result fault Says (refusal fault) refl is lasts clause
 
   -- ---- what is written
@@ -77,23 +78,23 @@ module _ {S : Type 0} (g : Ghosts S) where
     pub serves_at_once : (store : Store S) (made : Reply) (Says : Archive → Reply → Type 0) → ((a : Archive) → Says a made)
         → Sends (λ r. r ≡ made) before after result → Serves g store store Says before after result
     serves_at_once store made Says says sent = record {
-      sent = inl (goes_as g store store (λ a b. b ≡ a) (λ a b. (b ≡ a) × Sends (Says a) before after result)
-          (λ a b same. (same, sends_as (λ r. r ≡ made) (Says a) before after result (λ r is. subst (Says a) (sym is) (says a)) sent)) (stays_there g store));
+      sent = inl (goes_in_as g (HoldsTables g) store store (λ a b. b ≡ a) (λ a b. (b ≡ a) × Sends (Says a) before after result)
+          (λ a b same. (same, sends_as (λ r. r ≡ made) (Says a) before after result (λ r is. subst (Says a) (sym is) (says a)) sent)) (stays_there_in g (HoldsTables g) store));
       shut = λ returned shut. sends_as (λ r. r ≡ made) (λ r. (r ≡ unavailable) ⊎ ((a : Archive) → Says a r)) before after result
           (λ r is. inr (λ a. subst (Says a) (sym is) (says a))) sent;
     }
 
     -- one that was made of what was found
-    pub found_sent : (old new : Store S) (made : Reply) (Says : Archive → Reply → Type 0) → Goes g old new (λ a b. (b ≡ a) × Says a made)
+    pub found_sent : (old new : Store S) (made : Reply) (Says : Archive → Reply → Type 0) → GoesHeld g old new (λ a b. (b ≡ a) × Says a made)
         → Sends (Is made) before after result
         → Sent g old new Says before after result
-    found_sent old new made Says goes (reply, inl is, told) = inl (goes_as g old new (λ a b. (b ≡ a) × Says a made) (λ a b. (b ≡ a) × Sends (Says a) before after result)
+    found_sent old new made Says goes (reply, inl is, told) = inl (goes_in_as g (HoldsTables g) old new (λ a b. (b ≡ a) × Says a made) (λ a b. (b ≡ a) × Sends (Says a) before after result)
         (λ a b h. (h.0, (reply, subst (Says a) (sym is) h.1, told))) goes)
     found_sent old new made Says goes (reply, inr is, told) =
-        inr (inl (if_open old new (λ a b. b ≡ a) (goes_as g old new (λ a b. (b ≡ a) × Says a made) (λ a b. b ≡ a) (λ a b h. h.0) goes), (reply, is, told)))
+        inr (inl (if_open old new (λ a b. b ≡ a) (goes_in_as g (HoldsTables g) old new (λ a b. (b ≡ a) × Says a made) (λ a b. b ≡ a) (λ a b h. h.0) goes), (reply, is, told)))
 
     pub serves_found : (old new : Store S) (made : Reply) (Says : Archive → Reply → Type 0)
-        → Goes g old new (λ a b. (b ≡ a) × Says a made) × OfEvery g old new (λ a. Says a made)
+        → GoesHeld g old new (λ a b. (b ≡ a) × Says a made) × OfEvery g old new (λ a. Says a made)
         → Sends (Is made) before after result → Serves g old new Says before after result
     serves_found old new made Says goes sent = record {
       sent = found_sent old new made Says goes.0 sent;
@@ -102,7 +103,7 @@ module _ {S : Type 0} (g : Ghosts S) where
     }
 
     -- one that was not made, for want of memory or the database
-    pub serves_none : (old new : Store S) (Says : Archive → Reply → Type 0) → GoesIfOpen g old new (λ a b. b ≡ a)
+    pub serves_none : (old new : Store S) (Says : Archive → Reply → Type 0) → GoesHeldIfOpen g old new (λ a b. b ≡ a)
         → Sends (λ r. r ≡ unavailable) before after result → Serves g old new Says before after result
     serves_none old new Says goes sent = record {
       sent = inr (inl (goes, sent));
@@ -114,25 +115,25 @@ module _ {S : Type 0} (g : Ghosts S) where
     serves_lasts old new Says serves = elim serves.sent [ inl goes ↦ goes.0 | inr other ↦ elim other [ inl it ↦ it.0.0 | inr it ↦ it.0.0 ] ]
 
     -- a question before
-    left_after : (old mid new : Store S) (P : Archive → Type 0) → Goes g old mid (λ a b. (b ≡ a) × P a) → GoesIfOpen g mid new (λ a b. b ≡ a)
-        → GoesIfOpen g old new (λ a b. b ≡ a)
-    left_after old mid new P first second = goes_as_if_open g old new (λ a c. (b : Archive) × ((b ≡ a) × P a) × (c ≡ b)) (λ a c. c ≡ a) (λ a c (b, h, k). k ∙ h.0)
-        (goes_on_if_open g old mid new (λ a b. (b ≡ a) × P a) (λ b c. c ≡ b) first second)
+    left_after : (old mid new : Store S) (P : Archive → Type 0) → GoesHeld g old mid (λ a b. (b ≡ a) × P a) → GoesHeldIfOpen g mid new (λ a b. b ≡ a)
+        → GoesHeldIfOpen g old new (λ a b. b ≡ a)
+    left_after old mid new P first second = goes_in_as_if_open g (HoldsTables g) old new (λ a c. (b : Archive) × ((b ≡ a) × P a) × (c ≡ b)) (λ a c. c ≡ a) (λ a c (b, h, k). k ∙ h.0)
+        (goes_on_in_if_open g (HoldsTables g) old mid new (λ a b. (b ≡ a) × P a) (λ b c. c ≡ b) first second)
 
-    module _ (old mid new : Store S) (P : Archive → Type 0) (Says Says' : Archive → Reply → Type 0) (first : Goes g old mid (λ a b. (b ≡ a) × P a))
+    module _ (old mid new : Store S) (P : Archive → Type 0) (Says Says' : Archive → Reply → Type 0) (first : GoesHeld g old mid (λ a b. (b ≡ a) × P a))
         (says : (a : Archive) (r : Reply) → P a → Says a r → Says' a r) where
       pub sent_after : Sent g mid new Says before after result → Sent g old new Says' before after result
       sent_after (inl second) =
-          inl (goes_as g old new (λ a c. (b : Archive) × ((b ≡ a) × P a) × ((c ≡ b) × Sends (Says b) before after result)) (λ a c. (c ≡ a) × Sends (Says' a) before after result)
+          inl (goes_in_as g (HoldsTables g) old new (λ a c. (b : Archive) × ((b ≡ a) × P a) × ((c ≡ b) × Sends (Says b) before after result)) (λ a c. (c ≡ a) × Sends (Says' a) before after result)
           (λ a c (b, h, k). (k.0 ∙ h.0, sends_as (Says a) (Says' a) before after result (λ r it. says a r h.1 it) (subst (λ x. Sends (Says x) before after result) h.0 k.1)))
-          (goes_on g old mid new (λ a b. (b ≡ a) × P a) (λ b c. (c ≡ b) × Sends (Says b) before after result) first second))
+          (goes_on_in g (HoldsTables g) old mid new (λ a b. (b ≡ a) × P a) (λ b c. (c ≡ b) × Sends (Says b) before after result) first second))
       sent_after (inr (inl (second, sent))) = inr (inl (left_after old mid new P first second, sent))
       sent_after (inr (inr (second, broken))) = inr (inr (
         left_after old mid new P first second,
-        broken_as result (λ n. HasReturned g new → IsReady g mid → Breaks (Says (archive_in g mid)) before after n)
-            (λ n. HasReturned g new → IsReady g old → Breaks (Says' (archive_in g old)) before after n)
-            (λ n breaks returned ready.
-            let there = first.1 (second.0.returned returned) ready in
+        broken_as result (λ n. HasReturned g new → HoldsTables g mid → Breaks (Says (archive_in g mid)) before after n)
+            (λ n. HasReturned g new → HoldsTables g old → Breaks (Says' (archive_in g old)) before after n)
+            (λ n breaks returned held.
+            let there = first.1 (second.0.returned returned) held in
             breaks_as (Says (archive_in g mid)) (Says' (archive_in g old)) before after n
             (λ r it. says (archive_in g old) r there.1.1 (subst (λ x. Says x r) there.1.0 it)) (breaks returned there.0)) broken,
       ))
@@ -147,12 +148,12 @@ module _ {S : Type 0} (g : Ghosts S) where
 
     -- what was found, or 503
     pub serves_either : (old new : Store S) {A F : Type 0} (search_result : Result A F) (made : A → Reply) (Holds : Archive → A → Type 0) (Says : Archive → Reply → Type 0)
-        → MatchResult search_result (λ x. Goes g old new (λ a b. (b ≡ a) × Holds a x) × OfEvery g old new (λ a. Holds a x)) (λ _. GoesIfOpen g old new (λ a b. b ≡ a))
+        → MatchResult search_result (λ x. GoesHeld g old new (λ a b. (b ≡ a) × Holds a x) × OfEvery g old new (λ a. Holds a x)) (λ _. GoesHeldIfOpen g old new (λ a b. b ≡ a))
         → ((a : Archive) (x : A) → Holds a x → Says a (made x))
         → MatchResult search_result (λ x. Sends (Is (made x)) before after result) (λ _. Sends (λ r. r ≡ unavailable) before after result)
         → Serves g old new Says before after result
     serves_either old new (Ok x) made Holds Says goes says sent = serves_found old new (made x) Says (
-      goes_as g old new (λ a b. (b ≡ a) × Holds a x) (λ a b. (b ≡ a) × Says a (made x)) (λ a b h. (h.0, says a x h.1)) goes.0,
+      goes_in_as g (HoldsTables g) old new (λ a b. (b ≡ a) × Holds a x) (λ a b. (b ≡ a) × Says a (made x)) (λ a b h. (h.0, says a x h.1)) goes.0,
       (λ returned shut a. says a x (goes.1 returned shut a)),
     ) sent
     serves_either old new (Err e) made Holds Says goes says sent = serves_none old new Says goes sent
@@ -164,25 +165,25 @@ ok_as (Ok n) weaker it = weaker n it
 ok_as (Err e) weaker it = tt
 
 module _ {S : Type 0} (g : Ghosts S) where
-  ready_at : (store : Store S) (result : Result ℕ ServeFault) → IfOk result (λ status. status ≢ 503 → Goes g store store (λ a b. b ≡ a))
-  ready_at store (Ok status) = λ other. stays_there g store
+  ready_at : (store : Store S) (result : Result ℕ ServeFault) → IfOk result (λ status. status ≢ 503 → GoesHeld g store store (λ a b. b ≡ a))
+  ready_at store (Ok status) = λ other. stays_there_in g (HoldsTables g) store
   ready_at store (Err e) = tt
 
   -- a store that nobody asked
   pub stays_unasked : (store : Store S) (result : Result ℕ ServeFault) → Stays g store store result
-  stays_unasked store result = record { same = if_open g store store (λ a b. b ≡ a) (stays_there g store); ready = ready_at store result }
+  stays_unasked store result = record { same = if_open g store store (λ a b. b ≡ a) (stays_there_in g (HoldsTables g) store); ready = ready_at store result }
 
   module _ (before after : List ℕ) (old new : Store S) (Says : Archive → Reply → Type 0) where
-    same_left : (result : Result ℕ ServeFault) → Serves g old new Says before after result → GoesIfOpen g old new (λ a b. b ≡ a)
+    same_left : (result : Result ℕ ServeFault) → Serves g old new Says before after result → GoesHeldIfOpen g old new (λ a b. b ≡ a)
     same_left result serves = elim serves.sent [
-      | inl goes ↦ if_open g old new (λ a b. b ≡ a) (goes_as g old new (λ a b. (b ≡ a) × Sends (Says a) before after result) (λ a b. b ≡ a) (λ a b h. h.0) goes)
+      | inl goes ↦ if_open g old new (λ a b. b ≡ a) (goes_in_as g (HoldsTables g) old new (λ a b. (b ≡ a) × Sends (Says a) before after result) (λ a b. b ≡ a) (λ a b h. h.0) goes)
       | inr other ↦ elim other [ inl it ↦ it.0 | inr it ↦ it.0 ]
     ]
 
     ready_left : (result : Result ℕ ServeFault) → Serves g old new Says before after result
-        → IfOk result (λ status. status ≢ 503 → Goes g old new (λ a b. b ≡ a))
+        → IfOk result (λ status. status ≢ 503 → GoesHeld g old new (λ a b. b ≡ a))
     ready_left (Ok status) serves = λ other. elim serves.sent [
-      | inl goes ↦ goes_as g old new (λ a b. (b ≡ a) × Sends (Says a) before after (Ok status)) (λ a b. b ≡ a) (λ a b h. h.0) goes
+      | inl goes ↦ goes_in_as g (HoldsTables g) old new (λ a b. (b ≡ a) × Sends (Says a) before after (Ok status)) (λ a b. b ≡ a) (λ a b h. h.0) goes
       | inr none ↦ elim none [ inl it ↦ absurd (other (it.1.2.0 ∙ ap (λ (r : Reply). r.status) it.1.1)) | inr it ↦ absurd it.1 ]
     ]
     ready_left (Err e) serves = tt
@@ -192,22 +193,22 @@ module _ {S : Type 0} (g : Ghosts S) where
     stays_served result serves = record { same = same_left result serves; ready = ready_left result serves }
 
   -- a store that was answered out of before
-  pub same_after : (old mid new : Store S) → GoesIfOpen g old mid (λ a b. b ≡ a) → GoesIfOpen g mid new (λ a b. b ≡ a) → GoesIfOpen g old new (λ a b. b ≡ a)
+  pub same_after : (old mid new : Store S) → GoesHeldIfOpen g old mid (λ a b. b ≡ a) → GoesHeldIfOpen g mid new (λ a b. b ≡ a) → GoesHeldIfOpen g old new (λ a b. b ≡ a)
   same_after old mid new first second = (
     lasts_then _ _ _ first.0 second.0,
-    λ returned ready up.
+    λ returned held up.
         let was = second.0.returned returned in
-        let there = first.1 was ready (second.0.stays_shut returned up) in
+        let there = first.1 was held (second.0.stays_shut returned up) in
         let here = second.1 returned there.0 up in
         (here.0, here.1 ∙ there.1),
   )
 
   -- the same, behind a reply after which the store is ready
-  pub stays_after : (old mid new : Store S) (result : Result ℕ ServeFault) → Goes g old mid (λ a b. b ≡ a) → Stays g mid new result → Stays g old new result
+  pub stays_after : (old mid new : Store S) (result : Result ℕ ServeFault) → GoesHeld g old mid (λ a b. b ≡ a) → Stays g mid new result → Stays g old new result
   stays_after old mid new result first second = record {
-    same = goes_as_if_open g old new (λ a c. (b : Archive) × (b ≡ a) × (c ≡ b)) (λ a c. c ≡ a) (λ a c (b, h, k). k ∙ h)
-        (goes_on_if_open g old mid new (λ a b. b ≡ a) (λ b c. c ≡ b) first second.same);
+    same = goes_in_as_if_open g (HoldsTables g) old new (λ a c. (b : Archive) × (b ≡ a) × (c ≡ b)) (λ a c. c ≡ a) (λ a c (b, h, k). k ∙ h)
+        (goes_on_in_if_open g (HoldsTables g) old mid new (λ a b. b ≡ a) (λ b c. c ≡ b) first second.same);
     ready = ok_as result (λ status then other.
-        goes_as g old new (λ a c. (b : Archive) × (b ≡ a) × (c ≡ b)) (λ a c. c ≡ a) (λ a c (b, h, k). k ∙ h)
-        (goes_on g old mid new (λ a b. b ≡ a) (λ b c. c ≡ b) first (then other))) second.ready;
+        goes_in_as g (HoldsTables g) old new (λ a c. (b : Archive) × (b ≡ a) × (c ≡ b)) (λ a c. c ≡ a) (λ a c (b, h, k). k ∙ h)
+        (goes_on_in g (HoldsTables g) old mid new (λ a b. b ≡ a) (λ b c. c ≡ b) first (then other))) second.ready;
   }

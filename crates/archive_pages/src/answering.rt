@@ -1,12 +1,12 @@
 //! Answering a request: from the bytes of its head to the bytes of the reply.
 ghost use Rattle.std.specs.Prelude.{◌≡◌, ◌++◌, ⊤, ℕ, List, OnOk, IfErr, IfSome};
 ghost use Rattle.httparse.specs.Grammar.{HasNoRequest};
-ghost use Rattle.archive_store.specs.Told.{Goes};
+ghost use Rattle.archive_desk.specs.Holding.{GoesHeld};
 ghost use Rattle.archive_requests.specs.Reading.{IsRequestAs};
 ghost use Rattle.archive_pages.specs.Answered.{AnswersBy, ByOutcome, IsAnswered, IsUnrouted, Reads};
 ghost use Rattle.archive_pages.specs.Calls.{AreKept, EndsAnswer, EndsPages, KeepsOn};
-ghost use Rattle.archive_pages.specs.Causes.{IsUnread, ServesOr};
-ghost use Rattle.archive_pages.specs.KeptServing.{OfReady};
+ghost use Rattle.archive_pages.specs.Causes.{IsReadUnread, IsUnreadIn, ServesOr};
+ghost use Rattle.archive_pages.specs.KeptServing.{OfRemembered};
 ghost use Rattle.archive_pages.specs.Replies.{IsServeStop};
 ghost use Rattle.archive_pages.specs.Serving.{Stays};
 
@@ -33,7 +33,7 @@ fn answer_read<T: Threader, S: Alter, W: Sink>(
     read: &RequestRead<'_>,
     output: &mut W,
 ) -> Result<StatusCode, ServeFault>
-    ensures answered { OfReady S.Store store.old store.new (AreKept pages.old)
+    ensures answered { OfRemembered S.Store store.old store.new (AreKept pages.old)
         → (given more : List ℕ) → IsRequestAs given (given ++ more) read.now
         → IsAnswered S.Store store.old store.new pages.old.policy.now pages.old.day given
         (given ++ more)
@@ -42,7 +42,8 @@ fn answer_read<T: Threader, S: Alter, W: Sink>(
         (λ _. (given more : List ℕ) → IsRequestAs given (given ++ more) read.now
         → IsUnrouted (given ++ more) (W.told output.old) (W.told output.new) result) }
     ensures stays { Stays S.Store store.old store.new result }
-    ensures ends { EndsPages S.Store W.Sink store.old store.new output.old output.new result IsUnread pages.old pages.new }
+    ensures ends { EndsPages S.Store W.Sink store.old store.new output.old output.new result
+        (IsReadUnread pages.old.policy.now pages.old.day read.now) pages.old pages.new }
 {
     match read {
         RequestRead::Whole(request) => answer_request(store, pages, request, output),
@@ -62,7 +63,7 @@ pub fn answer_kept<T: Threader, S: Alter, R: Source, W: Sink>(
     input: &mut R,
     output: &mut W,
 ) -> Result<StatusCode, ServeFault>
-    ensures answered { OfReady S.Store store.old store.new (AreKept pages.old)
+    ensures answered { OfRemembered S.Store store.old store.new (AreKept pages.old)
         → AnswersBy S.Store store.old store.new pages.old.policy.now pages.old.day
         (R.told input.old) (R.told input.new) (R.ends input.old) (R.ends input.new)
         (W.told output.old) (W.told output.new) result }
@@ -71,7 +72,8 @@ pub fn answer_kept<T: Threader, S: Alter, R: Source, W: Sink>(
         (λ given all. IsUnrouted all (W.told output.old) (W.told output.new) result)) ⊤) }
     ensures keeps { KeepsOn S.Store store.old store.new pages.old pages.new }
     ensures ends { EndsAnswer S.Store R.Source W.Sink store.old store.new input.old input.new output.old output.new result }
-    ensures caused { ServesOr S.Store store.old store.new result IsUnread }
+    ensures caused { ServesOr S.Store store.old store.new result (IsUnreadIn
+        (R.told input.old) (R.told input.new) pages.old.policy.now pages.old.day) }
 {
     let mut buffer = [0; MOST_BYTES];
     let Ok(read) = read_request(input, &mut buffer) else {
@@ -101,14 +103,15 @@ pub fn answer<T: Threader, S: Alter, R: Source, W: Sink>(
         (W.told output.old) (W.told output.new) result))
         ((given : List ℕ) × (R.told input.new ≡ R.told input.old ++ given) × HasNoRequest given
         × (W.told output.new ≡ W.told output.old)
-        × Goes S.Store store.old store.new (λ a b. b ≡ a)) }
+        × GoesHeld S.Store store.old store.new (λ a b. b ≡ a)) }
     ensures stays { Stays S.Store store.old store.new result }
     ensures quiet { OnOk result ((R.failures input.new ≡ R.failures input.old)
         × (W.failures output.new ≡ W.failures output.old)) }
     ensures cause { IfErr result (λ fault. IsServeStop (W.told output.old) (W.told output.new)
         (R.failures input.old) (R.failures input.new)
         (W.failures output.old) (W.failures output.new) fault) }
-    ensures caused { ServesOr S.Store store.old store.new result IsUnread }
+    ensures caused { ServesOr S.Store store.old store.new result (IsUnreadIn
+        (R.told input.old) (R.told input.new) policy.now day) }
 {
     let mut pages = Pages {
         alloc,

@@ -1,9 +1,10 @@
 //! What is asked of the store and of the desk.
 ghost use Rattle.std.specs.Prelude.{◌≡◌, option_map, string_bytes};
 ghost use Rattle.archive_machine.specs.Questions.{person_of_token};
+ghost use Rattle.archive_desk.specs.Readable.{AreListsUnreadable, IsHolderUnreadable};
 ghost use Rattle.archive_pages.specs.Answers.{lists_reply, message_for};
 ghost use Rattle.archive_pages.specs.Calls.{FindsMade, FindsReply};
-ghost use Rattle.archive_pages.specs.Causes.{FindsOr, IsUnread, IsUnreadBy};
+ghost use Rattle.archive_pages.specs.Causes.{FindsOr, IsMessageUnread, IsUnreadBy};
 ghost use Rattle.archive_pages.specs.Serving.{Finds};
 
 use crate::replies::{Failure, Reply, Unavailable};
@@ -21,7 +22,8 @@ pub(crate) fn find_person<S: Alter>(
 ) -> Result<Option<String>, Unavailable>
     ensures found { Finds S.Store store.old store.new result
         (λ a name. option_map string_bytes name ≡ person_of_token a token.now) }
-    ensures caused { FindsOr S.Store store.old store.new result IsUnread }
+    ensures caused { FindsOr S.Store store.old store.new result
+        (λ a. IsHolderUnreadable a token.now) }
 {
     match store.person_of_token(token) {
         Ok(name) => Ok(name),
@@ -35,7 +37,7 @@ pub(crate) fn find_lists<S: Alter>(
     alloc: Global,
 ) -> Result<Reply<'static>, Unavailable>
     ensures found { FindsReply S.Store store.old store.new result lists_reply }
-    ensures why { FindsMade S.Store store.old store.new result IsUnread }
+    ensures why { FindsMade S.Store store.old store.new result AreListsUnreadable }
 {
     let names = match store.lists(alloc) {
         Ok(names) => names,
@@ -59,7 +61,8 @@ pub(crate) fn find_message<'p, S: Alter>(
 ) -> Result<Reply<'p>, Unavailable>
     ensures found { FindsReply S.Store store.old store.new result
         (message_for ask.entry.now key.now) }
-    ensures why { FindsMade S.Store store.old store.new result (IsUnreadBy ask.entry.now.reader) }
+    ensures why { FindsMade S.Store store.old store.new result
+        (IsUnreadBy (IsMessageUnread ask.entry.now key.now) ask.entry.now.reader) }
 {
     let Some(key) = Key::read(key) else {
         return Ok(Reply::Failed(Failure::NotFound));

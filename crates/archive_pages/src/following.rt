@@ -1,6 +1,7 @@
 //! Two requests, one after the other.
 ghost use Rattle.std.specs.Prelude.{◌≡◌, ◌≢◌, IfOk};
-ghost use Rattle.archive_store.specs.Told.{GoesIfOpen, IsReady, archive_in, HasReturned};
+ghost use Rattle.archive_store.specs.Told.{HoldsTables, archive_in, HasReturned};
+ghost use Rattle.archive_desk.specs.Holding.{GoesHeldIfOpen};
 ghost use Rattle.archive_pages.specs.Calls.{AnswersPeer};
 ghost use Rattle.archive_pages.specs.Serving.{Stays};
 
@@ -30,11 +31,11 @@ pub fn answer_two<T: Threader, S: Alter, R: Source, W: Sink>(
     Result<StatusCode, ServeFault>,
     Result<StatusCode, ServeFault>,
 )
-    ensures first { HasReturned S.Store store.new → IsReady S.Store store.old
+    ensures first { HasReturned S.Store store.new → HoldsTables S.Store store.old
         → AnswersPeer R.Source W.Sink (archive_in S.Store store.old) policy.now day first.old first.new result.0 }
-    ensures second { HasReturned S.Store store.new → IsReady S.Store store.old
+    ensures second { HasReturned S.Store store.new → HoldsTables S.Store store.old
         → AnswersPeer R.Source W.Sink (archive_in S.Store store.old) policy.now day second.old second.new result.1 }
-    ensures stays { GoesIfOpen S.Store store.old store.new (λ a b. b ≡ a) }
+    ensures stays { GoesHeldIfOpen S.Store store.old store.new (λ a b. b ≡ a) }
     ensures ready { IfOk result.0 (λ status. status ≢ 503
         → Stays S.Store store.old store.new result.1) }
 {

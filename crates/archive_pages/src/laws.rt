@@ -10,9 +10,10 @@ ghost use Rattle.sqlite.specs.Steps.{over_memory};
 ghost use Rattle.policy_core.specs.Rules.{Rule};
 ghost use Rattle.archive_machine.specs.Records.{Archive};
 ghost use Rattle.archive_store.specs.declared.store.Store.{Store};
-ghost use Rattle.archive_store.specs.Told.{Goes, HasNoLimit, IsReady, WasRefused, archive_in};
+ghost use Rattle.archive_store.specs.Told.{HasNoLimit, HoldsTables, WasRefused, archive_in};
+ghost use Rattle.archive_desk.specs.Holding.{GoesHeld};
 ghost use Rattle.archive_desk.specs.Readable.{CanBeRead};
-ghost use Rattle.archive_pages.specs.Causes.{IsUnread, IsUnserved, ServesOr};
+ghost use Rattle.archive_pages.specs.Causes.{IsUnreadIn, IsUnserved, ServesOr};
 ghost use Rattle.archive_pages.specs.declared.faults.ServeFault.{ServeFault};
 ghost use Rattle.archive_pages.specs.Laws.{EqualViews, IsAsIfItNeverCame, LeavesNoTrace, StaysAsIfItNeverCame, StaysHeldBack, ServesWhatIsAllowed, DeniesWhatIsDenied, ShowsWhatIsAllowed};
 ghost use Rattle.archive_pages.specs.Reopened.{AnswersReopened};
@@ -88,14 +89,15 @@ pub fn a_file_opened_again_is_answered_alike<D: Disk>()
 pub fn in_memory_each_request_is_followed_by_the_next()
     ensures { (old new : Store MemStore) (result : Result ℕ ServeFault)
         → Stays over_memory old new result
-        → Goes over_memory old new (λ a b. b ≡ a) }
+        → GoesHeld over_memory old new (λ a b. b ≡ a) }
 {}
 
 /// In memory, out of an archive that commands wrote, 503 and S3 mean that memory was refused in that
 /// call, by the count of the store: a disk does not fail there, and such an archive can be read.
 pub fn in_memory_503_means_that_memory_was_refused()
-    ensures { (old new : Store MemStore) (result : Result ℕ ServeFault) → IsReady over_memory old
-        → HasNoLimit over_memory old
-        → CanBeRead (archive_in over_memory old) → ServesOr over_memory old new result IsUnread
-        → IsUnserved result → WasRefused old new }
+    ensures { (old new : Store MemStore) (result : Result ℕ ServeFault)
+        (told_before told_after : List ℕ) (rules : List Rule) (day : ℤ)
+        → HoldsTables over_memory old → HasNoLimit over_memory old
+        → CanBeRead (archive_in over_memory old) → ServesOr over_memory old new result
+        (IsUnreadIn told_before told_after rules day) → IsUnserved result → WasRefused old new }
 {}

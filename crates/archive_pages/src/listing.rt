@@ -6,7 +6,7 @@ ghost use Rattle.archive_kept.specs.Kept.{Keeps};
 ghost use Rattle.archive_kept.specs.Parts.{part_named};
 ghost use Rattle.archive_pages.specs.Answers.{list_reply};
 ghost use Rattle.archive_pages.specs.Calls.{AreFor, FindsMade, FindsReplyIf, IsPlace};
-ghost use Rattle.archive_pages.specs.Causes.{FindsOr, IsUnreadBy};
+ghost use Rattle.archive_pages.specs.Causes.{FindsOr, IsListUnread, IsUnreadBy};
 ghost use Rattle.archive_pages.specs.KeptServing.{FindsIf};
 
 use crate::replies::{Failure, Reply, Unavailable};
@@ -34,7 +34,8 @@ fn find_place<T: Threader, S: Alter>(
         (λ a place. IsPlace a ask.now kept.new (part_named part.now) place) }
     ensures there { IfOk result (λ place. IfSome place (λ at. at < length kept.new.views)) }
     ensures keeps { Keeps S.Store store.old store.new ask.now.rules ask.now.day kept.old kept.new }
-    ensures caused { FindsOr S.Store store.old store.new result (IsUnreadBy ask.now.reader) }
+    ensures caused { FindsOr S.Store store.old store.new result
+        (IsUnreadBy (IsListUnread ask.now) ask.now.reader) }
 {
     match find_outline(store, kept, alloc, ask, part, threader) {
         Ok(place) => Ok(Some(place)),
@@ -57,7 +58,8 @@ pub(crate) fn find_month<T: Threader, S: Alter>(
     ensures found { FindsReplyIf S.Store store.old store.new result (AreFor ask.now kept.old)
         (λ a. list_reply a ask.now (month ask.now.list text.now)) }
     ensures keeps { Keeps S.Store store.old store.new ask.now.rules ask.now.day kept.old kept.new }
-    ensures why { FindsMade S.Store store.old store.new result (IsUnreadBy ask.now.reader) }
+    ensures why { FindsMade S.Store store.old store.new result
+        (IsUnreadBy (IsListUnread ask.now) ask.now.reader) }
 {
     let Some(asked) = Month::read(text.as_bytes()) else {
         return Ok(Reply::Failed(Failure::NotFound));
@@ -90,7 +92,8 @@ pub(crate) fn find_author<T: Threader, S: Alter>(
     ensures found { FindsReplyIf S.Store store.old store.new result (AreFor ask.now kept.old)
         (λ a. list_reply a ask.now (author ask.now.list (percent_decode text.now))) }
     ensures keeps { Keeps S.Store store.old store.new ask.now.rules ask.now.day kept.old kept.new }
-    ensures why { FindsMade S.Store store.old store.new result (IsUnreadBy ask.now.reader) }
+    ensures why { FindsMade S.Store store.old store.new result
+        (IsUnreadBy (IsListUnread ask.now) ask.now.reader) }
 {
     let key = match decoded(alloc, text) {
         Ok(key) => key,
@@ -125,7 +128,8 @@ pub(crate) fn find_threads<T: Threader, S: Alter>(
     ensures found { FindsReplyIf S.Store store.old store.new result (AreFor ask.now kept.old)
         (λ a. list_reply a ask.now (threads ask.now.list)) }
     ensures keeps { Keeps S.Store store.old store.new ask.now.rules ask.now.day kept.old kept.new }
-    ensures why { FindsMade S.Store store.old store.new result (IsUnreadBy ask.now.reader) }
+    ensures why { FindsMade S.Store store.old store.new result
+        (IsUnreadBy (IsListUnread ask.now) ask.now.reader) }
 {
     let Some(place) = find_place(store, kept, alloc, ask, &Part::Whole, threader)? else {
         return Ok(Reply::Failed(Failure::NotFound));
@@ -154,7 +158,8 @@ pub(crate) fn find_thread<T: Threader, S: Alter>(
     ensures found { FindsReplyIf S.Store store.old store.new result (AreFor ask.now kept.old)
         (λ a. list_reply a ask.now (thread ask.now.list key.now)) }
     ensures keeps { Keeps S.Store store.old store.new ask.now.rules ask.now.day kept.old kept.new }
-    ensures why { FindsMade S.Store store.old store.new result (IsUnreadBy ask.now.reader) }
+    ensures why { FindsMade S.Store store.old store.new result
+        (IsUnreadBy (IsListUnread ask.now) ask.now.reader) }
 {
     let Some(key) = Key::read(key) else {
         return Ok(Reply::Failed(Failure::NotFound));

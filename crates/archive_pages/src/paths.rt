@@ -7,7 +7,7 @@ ghost use Rattle.archive_requests.specs.Routing.{named_route};
 ghost use Rattle.archive_results.specs.Access.{name_of};
 ghost use Rattle.archive_pages.specs.Answers.{direct_reply, path_reply, reader_of, request_reply, unrouted_reply};
 ghost use Rattle.archive_pages.specs.Calls.{AreKept, EndsPages, ServesReplyIf, Writes, WritesWanted};
-ghost use Rattle.archive_pages.specs.Causes.{IsUnread, IsUnreadBy};
+ghost use Rattle.archive_pages.specs.Causes.{IsHolderUnread, IsPathUnread, IsRequestUnread, IsUnreadBy};
 ghost use Rattle.archive_pages.specs.Replies.{not_found, unauthorized};
 
 use crate::faults::ServeFault;
@@ -56,7 +56,8 @@ fn answer_path<T: Threader, S: Alter, W: Sink>(
     ensures unrouted { IfSome pages.old.routes (λ _. route_of path.now ≡ None
         → Writes W.Sink output.old output.new (λ reply. reply ≡ not_found) result) }
     ensures ends { EndsPages S.Store W.Sink store.old store.new output.old output.new result
-        (IsUnreadBy (name_of reader.entry))
+        (IsUnreadBy (IsPathUnread pages.old.policy.now pages.old.day path.now
+        (name_of reader.entry)) (name_of reader.entry))
         pages.old pages.new }
 {
     match find_route(pages.alloc, &pages.routes, path) {
@@ -81,7 +82,9 @@ fn answer_holder<T: Threader, S: Alter, W: Sink>(
         (AreKept pages.old)
         (λ a. option_map_or (path_reply a pages.old.policy.now pages.old.day path.now)
         (reader_of a (Some token.now)) unauthorized) }
-    ensures ends { EndsPages S.Store W.Sink store.old store.new output.old output.new result IsUnread pages.old pages.new }
+    ensures ends { EndsPages S.Store W.Sink store.old store.new output.old output.new result
+        (IsHolderUnread pages.old.policy.now pages.old.day token.now path.now)
+        pages.old pages.new }
 {
     match find_person(store, token) {
         Ok(Some(name)) => answer_path(store, pages, Reader::Person(name.as_str()), path, output),
@@ -105,7 +108,9 @@ pub(crate) fn answer_request<T: Threader, S: Alter, W: Sink>(
     ensures unrouted { IfSome pages.old.routes
         (λ _. WritesWanted W.Sink output.old output.new
         (unrouted_reply (named_request request.now)) result) }
-    ensures ends { EndsPages S.Store W.Sink store.old store.new output.old output.new result IsUnread pages.old pages.new }
+    ensures ends { EndsPages S.Store W.Sink store.old store.new output.old output.new result
+        (IsRequestUnread pages.old.policy.now pages.old.day (named_request request.now))
+        pages.old pages.new }
 {
     match request {
         Request::Bad => write_failure(output, Failure::BadRequest),

@@ -5,7 +5,7 @@ ghost use Rattle.archive_requests.specs.Routing.{named_route};
 ghost use Rattle.archive_results.specs.Access.{name_of};
 ghost use Rattle.archive_pages.specs.Answers.{asking, list_reply, made_reply, route_reply};
 ghost use Rattle.archive_pages.specs.Calls.{AreKept, EndsPages, EndsReply, FindsMade, FindsReplyIf, KeepsOn, ServesReply, ServesReplyIf, Writes};
-ghost use Rattle.archive_pages.specs.Causes.{IsUnreadBy, SendsOr, ServesOr};
+ghost use Rattle.archive_pages.specs.Causes.{IsListUnread, IsRouteUnread, IsUnreadBy, SendsOr, ServesOr};
 ghost use Rattle.archive_pages.specs.Replies.{Is, unavailable};
 ghost use Rattle.archive_pages.specs.Seen.{reply_made};
 
@@ -54,7 +54,9 @@ fn find_page<'a: 'p, 'p, T: Threader, S: Alter>(
     ensures found { FindsReplyIf S.Store store.old store.new result (AreKept pages.old)
         (λ a. made_reply a (asking pages.old.policy.now pages.old.day (name_of reader.entry))
         (named_route route.now)) }
-    ensures why { FindsMade S.Store store.old store.new result (IsUnreadBy (name_of reader.entry)) }
+    ensures why { FindsMade S.Store store.old store.new result (IsUnreadBy
+        (IsRouteUnread (asking pages.old.policy.now pages.old.day (name_of reader.entry))
+        (named_route route.now)) (name_of reader.entry)) }
     ensures keeps { KeepsOn S.Store store.old store.new pages.old pages.new }
 {
     let alloc = pages.alloc;
@@ -118,7 +120,8 @@ fn answer_mbox<S: Alter, W: Sink>(
     ensures sent { ServesReply S.Store W.Sink store.old store.new output.old output.new result
         (λ a. list_reply a ask.now (mbox ask.now.list)) }
     ensures ends { EndsReply W.Sink output.old output.new result }
-    ensures caused { ServesOr S.Store store.old store.new result (IsUnreadBy ask.now.reader) }
+    ensures caused { ServesOr S.Store store.old store.new result
+        (IsUnreadBy (IsListUnread ask.now) ask.now.reader) }
 {
     let stop = match export_after(store, alloc, ask, MBOX_HEAD, output) {
         Ok(_) => return Ok(StatusCode::OK),
@@ -150,7 +153,9 @@ pub(crate) fn answer_route<T: Threader, S: Alter, W: Sink>(
         (λ a. route_reply a (asking pages.old.policy.now pages.old.day (name_of reader.entry))
         (named_route route.now)) }
     ensures ends { EndsPages S.Store W.Sink store.old store.new output.old output.new result
-        (IsUnreadBy (name_of reader.entry))
+        (IsUnreadBy (IsRouteUnread
+        (asking pages.old.policy.now pages.old.day (name_of reader.entry))
+        (named_route route.now)) (name_of reader.entry))
         pages.old pages.new }
 {
     let alloc = pages.alloc;

@@ -5,7 +5,7 @@ ghost use Rattle.archive_machine.specs.Runs.{run};
 ghost use Rattle.archive_tables.specs.Making.{empty_archive};
 ghost use Rattle.archive_store.specs.Replies.{refusal};
 ghost use Rattle.archive_store.specs.Running.{command_of};
-ghost use Rattle.archive_store.specs.Told.{IsReady, archive_in, HasReturned};
+ghost use Rattle.archive_store.specs.Told.{HoldsTables, archive_in, HasReturned};
 ghost use Rattle.archive_pages.specs.Calls.{AnswersPeer, QuietPeer, StopsPeer};
 
 use crate::answering::answer;
@@ -32,7 +32,7 @@ pub fn run_and_answer<T: Threader, S: Alter, R: Source, W: Sink>(
     peer: &mut Peer<R, W>,
 ) -> Result<Result<StatusCode, ServeFault>, RunStop>
     ensures answered { IfOk result (λ answer. HasReturned S.Store store.new
-        → IsReady S.Store store.old → AnswersPeer R.Source W.Sink
+        → HoldsTables S.Store store.old → AnswersPeer R.Source W.Sink
         (run (archive_in S.Store store.old) (map command_of commands.entry.now)).archive policy.now day peer.old peer.new answer) }
     ensures quiet { IfOk result (λ answer. OnOk answer
         (QuietPeer R.Source W.Sink peer.old peer.new)) }

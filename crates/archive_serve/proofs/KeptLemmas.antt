@@ -7,14 +7,14 @@ use Rattle.sqlite.specs.Held.{state}
 use Rattle.policy_core.specs.Rules.{Rule}
 use Rattle.archive_machine.specs.Records.{Archive}
 use Rattle.archive_store.specs.Held.{held_of}
-use Rattle.archive_store.specs.Told.{HasReturned, IsOpen, IsReady, archive_in}
+use Rattle.archive_store.specs.Told.{HasReturned, HoldsTables, IsOpen, archive_in}
 use Rattle.archive_store.specs.declared.store.Store.{Store}
 use Rattle.archive_kept.specs.Kept.{AreOf, Keeps}
 use Rattle.archive_kept.specs.Views.{IsBounded, Keeping}
 use Rattle.archive_pages.specs.Answered.{AnswersBy}
 use Rattle.archive_pages.specs.Calls.{AreKept, KeepsOn}
-use Rattle.archive_pages.specs.Causes.{IsUnread, ServesOr}
-use Rattle.archive_pages.specs.KeptServing.{OfReady}
+use Rattle.archive_pages.specs.Causes.{IsUnreadIn, ServesOr}
+use Rattle.archive_pages.specs.KeptServing.{OfRemembered}
 use Rattle.archive_pages.specs.Replies.{IsServeStop}
 use Rattle.archive_pages.specs.Running.{AnswersFrom}
 use Rattle.archive_pages.specs.Serving.{Stays}
@@ -52,12 +52,12 @@ with_routes (Some routes) says some = says
 -- what a call that answers says
 module _ {S T : Type 0} (g : Ghosts S) (pages later : Pages T) (old new : Store S) (before after : Telling) (result : Result ℕ ServeFault) where
   pub answers_kept : (outcome : Outcome) → outcome ≡ outcome_of result
-      → (OfReady g old new (AreKept pages)
+      → (OfRemembered g old new (AreKept pages)
       → AnswersBy g old new pages.policy.now pages.day before.read after.read before.ends after.ends before.written after.written result)
       → KeepsOn g old new pages later → Stays g old new result
       → OnOk result ((after.read_failures ≡ before.read_failures) × (after.write_failures ≡ before.write_failures))
       → IfErr result (λ fault. IsServeStop before.written after.written before.read_failures after.read_failures before.write_failures after.write_failures fault)
-      → ServesOr g old new result IsUnread → IfSome pages.routes (λ _. TellsUnrouted before after result)
+      → ServesOr g old new result (IsUnreadIn before.read after.read pages.policy.now pages.day) → IfSome pages.routes (λ _. TellsUnrouted before after result)
       → AnswersKept g (record { rules = pages.policy.now; day = pages.day; routes = is_some pages.routes; kept = pages.kept })
       (record { rules = later.policy.now; day = later.day; routes = is_some later.routes; kept = later.kept })
       old new before after outcome
@@ -92,7 +92,7 @@ module _ {S : Type 0} (g : Ghosts S) (rules : List Rule) (day : ℤ) (routes : B
   -- What the pages keep is of this archive, which the store remembers, unless it is shut.
   pub record IsSound (archive : Archive) (serving : Serving) : Type 0 where
     pub kept : AreOf archive rules day serving.service.kept
-    pub left : IsOpen g serving.state → IsReady g serving.state × (archive_in g serving.state ≡ archive)
+    pub left : IsOpen g serving.state → HoldsTables g serving.state × (archive_in g serving.state ≡ archive)
 
   -- one answer on, by pages that go by these rules, on this day
   module _ (archive : Archive) (old new : Serving) (same : SameBy old) (before after : Telling) (outcome : Outcome)
@@ -105,17 +105,17 @@ module _ {S : Type 0} (g : Ghosts S) (rules : List Rule) (day : ℤ) (routes : B
 
     -- where the disk has returned what was written, and what is kept is of the archive
     module _ (had : HasReturned g new.state) (sound : IsSound archive old) where
-      of_ready : OfReady g old.state new.state (λ a. AreOf a rules day old.service.kept)
-      of_ready returned ready = subst (λ a. AreOf a rules day old.service.kept) (sym (sound.left ready.held.is_open).1) sound.kept
+      of_held : OfRemembered g old.state new.state (λ a. AreOf a rules day old.service.kept)
+      of_held returned held = subst (λ a. AreOf a rules day old.service.kept) (sym (sound.left held.is_open).1) sound.kept
 
       answered : AnswersBy g old.state new.state rules day before.read after.read before.ends after.ends before.written after.written law.result
-      answered = (rw (same.0, same.1) at law.answered) of_ready
+      answered = (rw (same.0, same.1) at law.answered) of_held
 
       reply : AnswersFrom archive rules day before.read after.read before.ends after.ends before.written after.written law.result
       reply = answers_left g old.state new.state archive had sound.left rules day law.result
           before.read after.read before.ends after.ends before.written after.written answered
 
-      left : IsOpen g new.state → IsReady g new.state × (archive_in g new.state ≡ archive)
+      left : IsOpen g new.state → HoldsTables g new.state × (archive_in g new.state ≡ archive)
       left up =
           let was = sound.left (law.ends.stays.same.0.stays_shut had up) in
           let now = law.ends.stays.same.1 had was.0 up in
@@ -124,13 +124,13 @@ module _ {S : Type 0} (g : Ghosts S) (rules : List Rule) (day : ℤ) (routes : B
       stays_open : IsSteady outcome → IsOpen g old.state → IsOpen g new.state
       stays_open steady up =
           let goes = goes_by g old.state new.state before after law.result _ (subst IsSteady law.is steady) answered law.ends.stays in
-          (goes.1 had (sound.left up).0).0.held.is_open
+          (goes.1 had (sound.left up).0).0.is_open
 
       kept_on : Keeps g old.state new.state rules day old.service.kept new.service.kept → AreOf archive rules day new.service.kept
       kept_on keeps = elim (cases_Bool (state g (held_of old.state)).is_open) [
         | inl up ↦
             let was = sound.left up in
-            subst (λ a. AreOf a rules day new.service.kept) was.1 (keeps.ready had was.0 (of_ready had was.0))
+            subst (λ a. AreOf a rules day new.service.kept) was.1 (keeps.held had was.0 (of_held had was.0))
         | inr down ↦ subst (λ kept. AreOf archive rules day kept) (sym (keeps.shut had (λ up. let it = sym up ∙ down in absurd (cc)))) sound.kept
       ]
 
@@ -142,7 +142,7 @@ module _ {S : Type 0} (g : Ghosts S) (rules : List Rule) (day : ℤ) (routes : B
       answers_in = record {
         result = law.result;
         is = law.is;
-        ends = law.ends;
+        ends = rw (same.0, same.1) at law.ends;
         unrouted = λ some. law.unrouted (same.2 ∙ some);
         reply = λ i. reply (had i) (sound i);
         left = λ i. left (had i) (sound i);
@@ -157,8 +157,8 @@ module _ {S : Type 0} (g : Ghosts S) (rules : List Rule) (day : ℤ) (routes : B
       pub within : IsWithin kept serving
       pub sound : If → IsSound archive serving
 
-    -- Each connection is answered as if nothing were kept, and what is kept stays of the archive, where it was at first, the store was
-    -- ready, and the disk has returned what was written.
+    -- Each connection is answered as if nothing were kept, and what is kept stays of the archive, where it was at first, the tables
+    -- were an archive's, and the disk has returned what was written.
     pub answers_each : (outcomes : List Outcome) (before after : Served L Serving) → (If → HasReturned g after.state.state) → GoesOn before.state
         → ServesEach KeptLaw accepts closes outcomes before after
         → ServesEach (AnswersIn g If archive rules day routes) accepts closes outcomes
@@ -205,8 +205,8 @@ module _ {S L : Type 0} (g : Ghosts S) (accepts : L → L → Option AcceptFault
         same_rules = goes.same.0;
         same_day = goes.same.1;
         same_routes = goes.same.2;
-        kept = λ of returned ready.
-            let sound = goes.sound (returned, ready, of returned ready) in
+        kept = λ of returned held.
+            let sound = goes.sound (returned, held, of returned held) in
             subst (λ rules. AreOf (archive_in g store) rules later.day later.kept) (sym goes.same.0)
             (subst (λ day. AreOf (archive_in g store) keeper.rules day later.kept) (sym goes.same.1) sound.kept);
         most = goes.within.0;

@@ -6,7 +6,7 @@ use Rattle.httparse.specs.Grammar.{HasNoRequest}
 use Rattle.sqlite.specs.Store.{Ghosts}
 use Rattle.policy_core.specs.Rules.{Rule}
 use Rattle.archive_machine.specs.Records.{Archive}
-use Rattle.archive_store.specs.Told.{IsReady, archive_in, Goes}
+use Rattle.archive_store.specs.Told.{GoesIn, HoldsTables, archive_in}
 use Rattle.archive_store.specs.declared.store.Store.{Store}
 use Rattle.archive_pages.specs.Answered.{ByOutcome}
 use Rattle.archive_pages.specs.Serving.{Stays}
@@ -30,7 +30,7 @@ steady_answer (Err fault) (Err told) written failed sent reached steady = subst 
 -- one answer, by what the call that answers says
 pub goes_by : {S : Type 0} (g : Ghosts S) (old new : Store S) (before after : Telling) (result : Result ℕ ServeFault) (X : Type 0) → IsSteady (outcome_of result)
     → ByOutcome result X ((given : List ℕ) × (after.read ≡ before.read ++ given) × HasNoRequest given × (after.written ≡ before.written)
-    × Goes g old new (λ a b. b ≡ a)) → Stays g old new result → Goes g old new (λ a b. b ≡ a)
+    × GoesIn g (HoldsTables g) old new (λ a b. b ≡ a)) → Stays g old new result → GoesIn g (HoldsTables g) old new (λ a b. b ≡ a)
 goes_by g old new before after (Ok status) X steady answered stays = stays.ready steady
 goes_by g old new before after (Err answering.Read) X steady answered stays = answered.4
 goes_by g old new before after (Err (answering.Write written)) X steady answered stays = absurd steady
@@ -39,25 +39,25 @@ goes_by g old new before after (Err (answering.Broken written)) X steady answere
 module _ {S L : Type 0} (g : Ghosts S) (If : Type 0) (archive : Archive) (rules : List Rule) (day : ℤ) (routes : Bool) (accepts : L → L → Option AcceptFault → Type 0)
     (closes : L → L → Exchange → Bool → Type 0) where
   one_ready : (before after : Served L (Store S)) (outcome : Outcome) → ServesOne (AnswersIn g If archive rules day routes) accepts closes outcome before after
-      → If → IsSteady outcome → IsReady g before.state → (archive_in g before.state ≡ archive)
-      → IsReady g after.state × (archive_in g after.state ≡ archive)
-  one_ready before after outcome (inl takes) i steady ready is =
+      → If → IsSteady outcome → HoldsTables g before.state → (archive_in g before.state ≡ archive)
+      → HoldsTables g after.state × (archive_in g after.state ≡ archive)
+  one_ready before after outcome (inl takes) i steady held is =
       let a = takes.answered in
       let it = a.answered in
       let calm = steady_answer a.answer outcome a.told.written _ takes.sent a.reached steady in
-      it.left i (it.stays_open i calm ready.held.is_open)
-  one_ready before after outcome (inr misses) i steady ready is =
-      (subst (λ s. IsReady g s) (sym misses.unanswered) ready, ap (λ s. archive_in g s) misses.unanswered ∙ is)
+      it.left i (it.stays_open i calm held.is_open)
+  one_ready before after outcome (inr misses) i steady held is =
+      (subst (λ s. HoldsTables g s) (sym misses.unanswered) held, ap (λ s. archive_in g s) misses.unanswered ∙ is)
 
   each_ready : (outcomes : List Outcome) (before after : Served L (Store S)) → ServesEach (AnswersIn g If archive rules day routes) accepts closes outcomes before after
-      → If → AllByRecursion IsSteady outcomes → IsReady g before.state → (archive_in g before.state ≡ archive)
-      → IsReady g after.state × (archive_in g after.state ≡ archive)
-  each_ready [] before after same i steady ready is = (
-    subst (λ (s : Served L (Store S)). IsReady g s.state) (sym same) ready,
+      → If → AllByRecursion IsSteady outcomes → HoldsTables g before.state → (archive_in g before.state ≡ archive)
+      → HoldsTables g after.state × (archive_in g after.state ≡ archive)
+  each_ready [] before after same i steady held is = (
+    subst (λ (s : Served L (Store S)). HoldsTables g s.state) (sym same) held,
     ap (λ (s : Served L (Store S)). archive_in g s.state) same ∙ is,
   )
-  each_ready (outcome ∷ outcomes) before after (between, one, rest) i steady ready is =
-      let it = one_ready before between outcome one i steady.0 ready is in
+  each_ready (outcome ∷ outcomes) before after (between, one, rest) i steady held is =
+      let it = one_ready before between outcome one i steady.0 held is in
       each_ready outcomes between after rest i steady.1 it.0 it.1
 
 pub leaves_ready : {S L : Type 0} (g : Ghosts S) (accepts : L → L → Option AcceptFault → Type 0) (closes : L → L → Exchange → Bool → Type 0)

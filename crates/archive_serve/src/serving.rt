@@ -13,7 +13,7 @@ use sqlite::Alter;
 use thread_core::Threader;
 
 /// Takes `count` connections, one after the other, and answers one request on each as `answer` does, by the policy and on the day,
-/// where the store is ready and what is kept is of the archive that it remembers, as nothing is: all out of this one archive, which
+/// where its tables are an archive's and what is kept is of the archive that it remembers, as nothing is: all out of this one archive, which
 /// stays as it is. What is read of a list for its threads, of a month and of an author is kept for the connections behind. A
 /// connection that fails is told in one line, S1 to S3, and the next one follows. F4: after fewer, the listener gave no more.
 pub fn serve_on<T: Threader, S: Alter, L: Listener, E: Sink>(

@@ -1,6 +1,7 @@
 use Rattle.std.proofs.Common.{◌≡◌, refl, rules, None, Some, subst}
 use Rattle.std.specs.Prelude.{insert, position}
-use Rattle.archive_store.proofs.Joins.{goes_as}
+use Rattle.archive_store.specs.Told.{HoldsTables}
+use Rattle.archive_store.proofs.Joins.{goes_in_as}
 use Rattle.archive_desk.specs.Faults.{ask_reason}
 use Rattle.archive_desk.specs.declared.faults.DeskFault.TheVariants.{Memory}
 use Rattle.archive_kept.specs.Outlines.{Outline, outline_for}
@@ -32,9 +33,9 @@ returns-in-Ok-put-clause-finds g c =
     let put = c.in-Ok-put.ensures.kept in
     let list : c.ask.inside.list.now ≡ ask.list = search rules in
     finds_put g.S.Store ask reader whole c.args.store.now c.read_threads.new.store kept kept c.put.new.self outline
-    (goes_as g.S.Store c.args.store.now c.read_threads.new.store (λ a b. (b ≡ a) × (ask_reason a ask ≡ None) × (outline ≡ outline_for a ask whole))
+    (goes_in_as g.S.Store (HoldsTables g.S.Store) c.args.store.now c.read_threads.new.store (λ a b. (b ≡ a) × (ask_reason a ask ≡ None) × (outline ≡ outline_for a ask whole))
     (IsMade g.S.Store ask reader whole kept outline) (λ a b h. (h.0, (λ enough are. h.2))) c.in-Ok.ensures.made)
-    (λ returned ready enough are. are) c.in-Ok-put.ensures.most c.in-Ok-put.ensures.bounded put.0 put.1 c.in-Ok-put.place put.2.0
+    (λ returned held enough are. are) c.in-Ok-put.ensures.most c.in-Ok-put.ensures.bounded put.0 put.1 c.in-Ok-put.place put.2.0
     (subst (λ l. c.put.new.self.views ≡ insert put.0 c.in-Ok-put.place (record { list = l; reader = reader; part = whole; outline = outline })) list put.2.1)
 
 pub returns-in-Err-put-clause-finds : goal.returns-in-Err-put-clause-finds
@@ -45,9 +46,9 @@ returns-in-Err-put-clause-finds g c =
     let outline = c.in-Ok.outline in
     let put = c.in-Err-put.ensures.kept in
     finds_no_room g.S.Store ask reader whole c.args.store.now c.read_threads.new.store kept kept c.put.new.self outline
-    (goes_as g.S.Store c.args.store.now c.read_threads.new.store (λ a b. (b ≡ a) × (ask_reason a ask ≡ None) × (outline ≡ outline_for a ask whole))
+    (goes_in_as g.S.Store (HoldsTables g.S.Store) c.args.store.now c.read_threads.new.store (λ a b. (b ≡ a) × (ask_reason a ask ≡ None) × (outline ≡ outline_for a ask whole))
     (IsMade g.S.Store ask reader whole kept outline) (λ a b h. (h.0, (λ enough are. h.2))) c.in-Ok.ensures.made)
-    (λ returned ready enough are. are) c.in-Err-put.ensures.most c.in-Err-put.ensures.bounded put.0 put.1 Memory refl put.2
+    (λ returned held enough are. are) c.in-Err-put.ensures.most c.in-Err-put.ensures.bounded put.0 put.1 Memory refl put.2
 
 pub returns-in-Ok-put-clause-there : goal.returns-in-Ok-put-clause-there
 returns-in-Ok-put-clause-there g c =

@@ -1,5 +1,7 @@
 use Rattle.archive_pages.specs.Answered.{IsAnswered, IsUnrouted}
-use Rattle.archive_pages.proofs.HeadReading.{outcome_answered, outcome_cause, outcome_quiet, said_either}
+use Rattle.archive_pages.specs.Causes.{IsReadUnread, IsUnreadIn}
+use Rattle.archive_pages.proofs.CauseLemmas.{serves_or_as}
+use Rattle.archive_pages.proofs.HeadReading.{begun_by, outcome_answered, outcome_cause, outcome_quiet, said_either, unread_in}
 use Rattle.archive_pages.proofs.UnroutedLemmas.{with_same}
 use Rattle.archive_pages.proofs.answering.answer_kept.Goals as goal
 
@@ -36,3 +38,13 @@ returns-clause-unrouted g c = with_same c.args.pages.now.routes
       said_either told.0 c.in-Ok.read _ _ _ (λ all. IsUnrouted all (g.W.Sink.told c.args.output.now) (g.W.Sink.told c.answer_read.new.output) c.answer_read.result)
           (λ more is. says told.0 more is) told.2,
     )) c.answer_read.ensures.unrouted
+
+pub returns-clause-caused : goal.returns-clause-caused
+returns-clause-caused g c =
+    let rules = c.args.pages.now.policy.now in
+    let day = c.args.pages.now.day in
+    let before = g.R.Source.told c.args.input.now in
+    let after = g.R.Source.told c.read_request.new.input in
+    let told = c.in-Ok.ensures.read in
+    serves_or_as g.S.Store c.args.store.now c.answer_read.new.store c.answer_read.result (IsReadUnread rules day c.in-Ok.read) (IsUnreadIn before after rules day)
+    (λ a bad. unread_in before after told.0 rules day a c.in-Ok.read told.1 (begun_by told.0 c.in-Ok.read _ _ _ told.2) bad) c.answer_read.ensures.ends.caused

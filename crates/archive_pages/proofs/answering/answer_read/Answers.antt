@@ -4,7 +4,7 @@ use Rattle.archive_requests.specs.Reading.{IsRequestAs}
 use Rattle.archive_kept.specs.Kept.{AreOf}
 use Rattle.archive_pages.specs.Answers.{request_reply}
 use Rattle.archive_pages.proofs.HeadReading.{to_bad, to_large, to_whole}
-use Rattle.archive_pages.proofs.KeptLemmas.{serves_of_ready, stays_kept}
+use Rattle.archive_pages.proofs.KeptLemmas.{serves_of_remembered, stays_kept}
 use Rattle.archive_pages.proofs.ServingLemmas.{stays_unasked}
 use Rattle.archive_pages.proofs.UnroutedLemmas.{unrouted_bad, unrouted_large, unrouted_whole, with_any, with_same}
 use Rattle.archive_pages.proofs.answering.answer_read.Goals as goal
@@ -13,7 +13,7 @@ pub returns-in-Whole-clause-answered : goal.returns-in-Whole-clause-answered
 returns-in-Whole-clause-answered g c = λ of given more is.
     to_whole g.S.Store c.args.pages.now.policy.now c.args.pages.now.day given more (g.W.Sink.told c.args.output.now) (g.W.Sink.told c.answer_request.new.output)
     c.answer_request.result c.args.store.now c.answer_request.new.store c.in-Whole.request (subst (IsRequestAs given (given ++ more)) c.in-Whole.is is)
-    (serves_of_ready g.S.Store (g.W.Sink.told c.args.output.now) (g.W.Sink.told c.answer_request.new.output) c.answer_request.result c.args.store.now
+    (serves_of_remembered g.S.Store (g.W.Sink.told c.args.output.now) (g.W.Sink.told c.answer_request.new.output) c.answer_request.result c.args.store.now
     c.answer_request.new.store (λ a. AreOf a c.args.pages.now.policy.now c.args.pages.now.day c.args.pages.now.kept)
     (λ a reply. reply ≡ request_reply a c.args.pages.now.policy.now c.args.pages.now.day (named_request c.in-Whole.request)) of c.answer_request.ensures.sent)
     c.answer_request.ensures.direct
@@ -55,3 +55,7 @@ pub returns-in-TooLarge-clause-unrouted : goal.returns-in-TooLarge-clause-unrout
 returns-in-TooLarge-clause-unrouted g c = with_any c.args.pages.now.routes
     (λ given more is. unrouted_large given more (g.W.Sink.told c.args.output.now) (g.W.Sink.told c.write_failure-in-TooLarge.new.output)
     c.write_failure-in-TooLarge.result (subst (IsRequestAs given (given ++ more)) c.in-TooLarge.is is))
+
+pub returns-in-Whole-clause-ends : goal.returns-in-Whole-clause-ends
+returns-in-Whole-clause-ends g c = rw c.in-Whole.is (
+    record { reply = c.answer_request.ensures.ends.reply; caused = c.answer_request.ensures.ends.caused; keeps = c.answer_request.ensures.ends.keeps })

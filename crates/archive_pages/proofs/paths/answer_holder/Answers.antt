@@ -1,15 +1,17 @@
-use Rattle.std.proofs.Common.{◌≡◌, ◌∙◌, Some, List, ℕ, ap, sym, subst}
+use Rattle.std.proofs.Common.{◌≡◌, ◌∙◌, inl, Some, List, ℕ, ap, sym, subst}
 use Rattle.std.specs.Prelude.{option_map, string_bytes}
 use Rattle.std.specs.Option.{option_map_or}
 use Rattle.archive_machine.specs.Questions.{person_of_token}
-use Rattle.archive_store.proofs.Joins.{goes_as}
+use Rattle.archive_store.specs.Told.{HoldsTables}
+use Rattle.archive_store.proofs.Joins.{goes_in_as}
 use Rattle.archive_kept.specs.Kept.{AreOf}
 use Rattle.archive_kept.proofs.KeepLemmas.{keeps_after}
 use Rattle.archive_pages.specs.Answers.{path_reply}
 use Rattle.archive_pages.specs.Replies.{unauthorized}
-use Rattle.archive_pages.specs.Causes.{IsUnread, IsUnreadBy}
-use Rattle.archive_pages.proofs.CauseLemmas.{known_reader, served_after}
-use Rattle.archive_pages.proofs.KeptLemmas.{lasts_kept, serves_if_after}
+use Rattle.archive_desk.specs.Readable.{IsHolderUnreadable}
+use Rattle.archive_pages.specs.Causes.{IsHolderUnread, IsPathUnread, IsUnreadBy}
+use Rattle.archive_pages.proofs.CauseLemmas.{cause_as, holder_unread, served_after}
+use Rattle.archive_pages.proofs.KeptLemmas.{keeps_still, lasts_kept, serves_if_after}
 use Rattle.archive_pages.proofs.paths.answer_holder.Goals as goal
 
 pub returns-in-Ok-Some-clause-sent : goal.returns-in-Ok-Some-clause-sent
@@ -38,13 +40,16 @@ returns-in-Ok-Some-clause-ends g c =
           (lasts_kept g.S.Store (g.W.Sink.told c.args.output.now) (g.W.Sink.told c.answer_path.new.output) c.answer_path.result
           c.find_person.new.store c.answer_path.new.store (λ a. AreOf a c.args.pages.now.policy.now c.args.pages.now.day c.args.pages.now.kept)
           (λ a reply. reply ≡ path_reply a c.args.pages.now.policy.now c.args.pages.now.day c.args.path.now (Some c.as_str.result.now)) c.answer_path.ensures.sent)
-          c.answer_path.result (IsUnreadBy (Some c.as_str.result.now)) IsUnread
-          (λ a is bad. known_reader a c.args.token.now c.as_str.result.now (sym (named ∙ is)) bad) c.answer_path.ensures.ends.caused;
+          c.answer_path.result
+          (IsUnreadBy (IsPathUnread c.args.pages.now.policy.now c.args.pages.now.day c.args.path.now (Some c.as_str.result.now)) (Some c.as_str.result.now))
+          (IsHolderUnread c.args.pages.now.policy.now c.args.pages.now.day c.args.token.now c.args.path.now)
+          (λ a is bad. holder_unread c.args.pages.now.policy.now c.args.pages.now.day a c.args.token.now c.args.path.now c.as_str.result.now (sym (named ∙ is)) bad)
+          c.answer_path.ensures.ends.caused;
       keeps = record {
         same = c.answer_path.ensures.ends.keeps.same;
         keeps = keeps_after g.S.Store c.args.pages.now.policy.now c.args.pages.now.day c.args.store.now c.find_person.new.store c.answer_path.new.store
             c.args.pages.now.kept c.answer_path.new.pages.kept
-            (goes_as g.S.Store c.args.store.now c.find_person.new.store (λ a b. (b ≡ a) × (option_map string_bytes c.in-Ok-Some.field-0 ≡ person_of_token a c.args.token.now))
+            (goes_in_as g.S.Store (HoldsTables g.S.Store) c.args.store.now c.find_person.new.store (λ a b. (b ≡ a) × (option_map string_bytes c.in-Ok-Some.field-0 ≡ person_of_token a c.args.token.now))
             (λ a b. b ≡ a) (λ a b h. h.0) c.in-Ok-Some.ensures.found.0)
             (lasts_kept g.S.Store (g.W.Sink.told c.args.output.now) (g.W.Sink.told c.answer_path.new.output) c.answer_path.result
             c.find_person.new.store c.answer_path.new.store (λ a. AreOf a c.args.pages.now.policy.now c.args.pages.now.day c.args.pages.now.kept)
@@ -52,3 +57,14 @@ returns-in-Ok-Some-clause-ends g c =
             c.answer_path.ensures.ends.keeps.keeps;
       };
     }
+
+pub returns-in-Err-clause-ends : goal.returns-in-Err-clause-ends
+returns-in-Err-clause-ends g c = record {
+  reply = c.write_failure-in-Err.ensures.ends;
+  caused = (
+    c.in-Err.ensures.caused.0,
+    λ it. cause_as g.S.Store c.args.store.now c.find_person.new.store (λ a. IsHolderUnreadable a c.args.token.now)
+        (IsHolderUnread c.args.pages.now.policy.now c.args.pages.now.day c.args.token.now c.args.path.now) (λ a bad. inl bad) c.in-Err.ensures.caused.1,
+  );
+  keeps = keeps_still g.S.Store c.args.store.now c.find_person.new.store c.args.pages.now;
+}

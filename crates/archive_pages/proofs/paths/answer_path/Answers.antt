@@ -1,9 +1,11 @@
 use Rattle.std.proofs.Common.{◌≡◌, subst}
-use Rattle.std.specs.Option.{option_map_or}
+use Rattle.std.specs.Option.{IsSomeAnd, option_map_or}
 use Rattle.archive_results.specs.Access.{name_of}
 use Rattle.archive_kept.specs.Kept.{AreOf}
 use Rattle.archive_pages.specs.Answers.{asking, route_reply}
 use Rattle.archive_pages.specs.Replies.{not_found}
+use Rattle.archive_pages.specs.Calls.{EndsPages}
+use Rattle.archive_pages.specs.Causes.{IsRouteUnread, IsUnreadBy}
 use Rattle.archive_pages.specs.KeptServing.{ServesIf}
 use Rattle.archive_pages.proofs.UnroutedLemmas.{with_any, with_none, with_route}
 use Rattle.archive_pages.proofs.paths.answer_path.Goals as goal
@@ -23,3 +25,10 @@ returns-in-Ok-None-clause-unrouted g c = with_any c.args.pages.now.routes (λ no
 
 pub returns-in-Err-clause-unrouted : goal.returns-in-Err-clause-unrouted
 returns-in-Err-clause-unrouted g c = with_none c.args.pages.now.routes _ c.in-Err.ensures.made
+
+pub returns-in-Ok-Some-clause-ends : goal.returns-in-Ok-Some-clause-ends
+returns-in-Ok-Some-clause-ends g c = subst
+    (λ fits. EndsPages g.S.Store g.W.Sink c.args.store.now c.answer_route.new.store c.args.output.now c.answer_route.new.output c.answer_route.result
+    (IsUnreadBy (λ a. IsSomeAnd fits (λ route. IsRouteUnread (asking c.args.pages.now.policy.now c.args.pages.now.day (name_of c.args.reader)) route a)) (name_of c.args.reader))
+    c.args.pages.now c.answer_route.new.pages)
+    (rw c.in-Ok-Some.field-0-is at c.in-Ok-Some.ensures.route) c.answer_route.ensures.ends

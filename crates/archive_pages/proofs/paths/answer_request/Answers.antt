@@ -5,7 +5,7 @@ use Rattle.archive_requests.specs.declared.requests.Request.TheVariants.{Asks}
 use Rattle.archive_kept.specs.Kept.{AreOf}
 use Rattle.std.specs.Prelude.{IfSome}
 use Rattle.archive_pages.specs.Answers.{request_reply, unrouted_reply}
-use Rattle.archive_pages.specs.Causes.{IsUnread, IsUnreadBy}
+use Rattle.archive_pages.specs.Causes.{IsPathUnread, IsRequestUnread, IsUnreadBy, ServesOr}
 use Rattle.archive_pages.specs.Replies.{Sends}
 use Rattle.archive_pages.proofs.UnroutedLemmas.{unrouted_nobody, with_any, with_same}
 use Rattle.archive_pages.specs.KeptServing.{ServesIf}
@@ -55,9 +55,27 @@ returns-in-Asks-Some-default-clause-unrouted g c =
     (sym (c.in-Asks-Some-default.is ∙ ap (λ t. Asks t c.in-Asks-Some-default.path) held)) (with_any c.args.pages.now.routes tt)
 
 pub returns-in-Asks-None-default-clause-ends : goal.returns-in-Asks-None-default-clause-ends
-returns-in-Asks-None-default-clause-ends g c = record {
-  reply = c.answer_path.ensures.ends.reply;
-  caused = serves_or_as g.S.Store c.args.store.now c.answer_path.new.store c.answer_path.result (IsUnreadBy None) IsUnread
-      (λ a bad. elim bad [ inl unread ↦ unread | inr none ↦ absurd none ]) c.answer_path.ensures.ends.caused;
-  keeps = c.answer_path.ensures.ends.keeps;
-}
+returns-in-Asks-None-default-clause-ends g c =
+    let policy = c.args.pages.now.policy.now in
+    let day = c.args.pages.now.day in
+    let path = c.in-Asks-None-default.path.now in
+    let none : c.in-Asks-None-default.token ≡ None = search rules in
+    record {
+      reply = c.answer_path.ensures.ends.reply;
+      caused = subst (λ (r : Request). ServesOr g.S.Store c.args.store.now c.answer_path.new.store c.answer_path.result (IsRequestUnread policy day (named_request r)))
+          (sym (c.in-Asks-None-default.is ∙ ap (λ t. Asks t c.in-Asks-None-default.path) none))
+          (serves_or_as g.S.Store c.args.store.now c.answer_path.new.store c.answer_path.result (IsUnreadBy (IsPathUnread policy day path None) None)
+          (IsPathUnread policy day path None) (λ a bad. elim bad [ inl unread ↦ unread | inr none ↦ absurd none ]) c.answer_path.ensures.ends.caused);
+      keeps = c.answer_path.ensures.ends.keeps;
+    }
+
+pub returns-in-Asks-Some-default-clause-ends : goal.returns-in-Asks-Some-default-clause-ends
+returns-in-Asks-Some-default-clause-ends g c =
+    let held : c.in-Asks-Some-default.token' ≡ Some c.in-Asks-Some-default.token = search rules in
+    record {
+      reply = c.answer_holder.ensures.ends.reply;
+      caused = subst (λ (r : Request). ServesOr g.S.Store c.args.store.now c.answer_holder.new.store c.answer_holder.result
+          (IsRequestUnread c.args.pages.now.policy.now c.args.pages.now.day (named_request r)))
+          (sym (c.in-Asks-Some-default.is ∙ ap (λ t. Asks t c.in-Asks-Some-default.path) held)) c.answer_holder.ensures.ends.caused;
+      keeps = c.answer_holder.ensures.ends.keeps;
+    }

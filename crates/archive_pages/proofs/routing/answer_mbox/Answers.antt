@@ -1,9 +1,7 @@
 use Rattle.std.proofs.Common.{◌≡◌, ◌∙◌, ◌++◌, arith, ap, sym}
-use Rattle.archive_machine.specs.Questions.{messages_in}
-use Rattle.archive_desk.specs.Causes.{IsUnreadable}
 use Rattle.archive_desk.specs.Exporting.{exported}
 use Rattle.archive_desk.specs.declared.faults.DeskFault.TheVariants.{NoList, NoPerson, NotInView, Store as Stored, Memory, Write}
-use Rattle.archive_desk.proofs.UnbrokenLemmas.{list_read}
+use Rattle.archive_pages.specs.Causes.{IsListUnread}
 use Rattle.archive_pages.specs.Replies.{Reply, not_found}
 use Rattle.archive_pages.proofs.CauseLemmas.{mbox_unserved, other_status}
 use Rattle.archive_pages.proofs.DeskLemmas.{cause_at, exported_whole, exported_part, exported_none, exported_broken, exported_unlisted, mbox_head, none_out}
@@ -94,7 +92,7 @@ returns-in-Store-clause-caused g c =
     let ask = c.args.ask.now in
     let is = c.in-Store.is in (
       c.in-Err.ensures.ends.counted.0,
-      λ bad. mbox_unserved g.S.Store c.args.store.now c.export_after.new.store ask (λ a. IsUnreadable a ask (messages_in a ask.list)) (λ a can. list_read a can ask)
+      λ bad. mbox_unserved g.S.Store c.args.store.now c.export_after.new.store ask (IsListUnread ask)
           (g.W.Sink.told c.args.output.now) (g.W.Sink.told c.export_after.new.out) (λ a. mbox_head ++ exported a ask) c.in-Err.stop.written c.in-Err.stop.fault
           (λ it. absurd (let other : Stored c.in-Store.field-0 ≡ NoList = sym is ∙ it in cc)) (λ it. absurd (let other : Stored c.in-Store.field-0 ≡ Write = sym is ∙ it in cc))
           c.in-Err.ensures.ends.counted.1 c.in-Err.ensures.ends.caused c.in-Err.ensures.exported,
@@ -105,7 +103,7 @@ returns-in-Store-2-clause-caused g c =
     let ask = c.args.ask.now in
     let is = c.in-Store-2.is in (
       c.in-Err.ensures.ends.counted.0,
-      λ bad. mbox_unserved g.S.Store c.args.store.now c.export_after.new.store ask (λ a. IsUnreadable a ask (messages_in a ask.list)) (λ a can. list_read a can ask)
+      λ bad. mbox_unserved g.S.Store c.args.store.now c.export_after.new.store ask (IsListUnread ask)
           (g.W.Sink.told c.args.output.now) (g.W.Sink.told c.export_after.new.out) (λ a. mbox_head ++ exported a ask) c.in-Err.stop.written c.in-Err.stop.fault
           (λ it. absurd (let other : Stored c.in-Store-2.field-0 ≡ NoList = sym is ∙ it in cc)) (λ it. absurd (let other : Stored c.in-Store-2.field-0 ≡ Write = sym is ∙ it in cc))
           c.in-Err.ensures.ends.counted.1 c.in-Err.ensures.ends.caused c.in-Err.ensures.exported,
@@ -116,7 +114,7 @@ returns-in-Memory-clause-caused g c =
     let ask = c.args.ask.now in
     let is = c.in-Memory.is in (
       c.in-Err.ensures.ends.counted.0,
-      λ bad. mbox_unserved g.S.Store c.args.store.now c.export_after.new.store ask (λ a. IsUnreadable a ask (messages_in a ask.list)) (λ a can. list_read a can ask)
+      λ bad. mbox_unserved g.S.Store c.args.store.now c.export_after.new.store ask (IsListUnread ask)
           (g.W.Sink.told c.args.output.now) (g.W.Sink.told c.export_after.new.out) (λ a. mbox_head ++ exported a ask) c.in-Err.stop.written c.in-Err.stop.fault
           (λ it. absurd (let other : Memory ≡ NoList = sym is ∙ it in cc)) (λ it. absurd (let other : Memory ≡ Write = sym is ∙ it in cc))
           c.in-Err.ensures.ends.counted.1 c.in-Err.ensures.ends.caused c.in-Err.ensures.exported,
@@ -127,7 +125,7 @@ returns-in-Memory-2-clause-caused g c =
     let ask = c.args.ask.now in
     let is = c.in-Memory-2.is in (
       c.in-Err.ensures.ends.counted.0,
-      λ bad. mbox_unserved g.S.Store c.args.store.now c.export_after.new.store ask (λ a. IsUnreadable a ask (messages_in a ask.list)) (λ a can. list_read a can ask)
+      λ bad. mbox_unserved g.S.Store c.args.store.now c.export_after.new.store ask (IsListUnread ask)
           (g.W.Sink.told c.args.output.now) (g.W.Sink.told c.export_after.new.out) (λ a. mbox_head ++ exported a ask) c.in-Err.stop.written c.in-Err.stop.fault
           (λ it. absurd (let other : Memory ≡ NoList = sym is ∙ it in cc)) (λ it. absurd (let other : Memory ≡ Write = sym is ∙ it in cc))
           c.in-Err.ensures.ends.counted.1 c.in-Err.ensures.ends.caused c.in-Err.ensures.exported,
@@ -138,7 +136,7 @@ returns-in-NoPerson-clause-caused g c =
     let ask = c.args.ask.now in
     let is = c.in-NoPerson.is in (
       c.in-Err.ensures.ends.counted.0,
-      λ bad. mbox_unserved g.S.Store c.args.store.now c.export_after.new.store ask (λ a. IsUnreadable a ask (messages_in a ask.list)) (λ a can. list_read a can ask)
+      λ bad. mbox_unserved g.S.Store c.args.store.now c.export_after.new.store ask (IsListUnread ask)
           (g.W.Sink.told c.args.output.now) (g.W.Sink.told c.export_after.new.out) (λ a. mbox_head ++ exported a ask) c.in-Err.stop.written c.in-Err.stop.fault
           (λ it. absurd (let other : NoPerson ≡ NoList = sym is ∙ it in cc)) (λ it. absurd (let other : NoPerson ≡ Write = sym is ∙ it in cc))
           c.in-Err.ensures.ends.counted.1 c.in-Err.ensures.ends.caused c.in-Err.ensures.exported,
@@ -149,7 +147,7 @@ returns-in-NotInView-clause-caused g c =
     let ask = c.args.ask.now in
     let is = c.in-NotInView.is in (
       c.in-Err.ensures.ends.counted.0,
-      λ bad. mbox_unserved g.S.Store c.args.store.now c.export_after.new.store ask (λ a. IsUnreadable a ask (messages_in a ask.list)) (λ a can. list_read a can ask)
+      λ bad. mbox_unserved g.S.Store c.args.store.now c.export_after.new.store ask (IsListUnread ask)
           (g.W.Sink.told c.args.output.now) (g.W.Sink.told c.export_after.new.out) (λ a. mbox_head ++ exported a ask) c.in-Err.stop.written c.in-Err.stop.fault
           (λ it. absurd (let other : NotInView ≡ NoList = sym is ∙ it in cc)) (λ it. absurd (let other : NotInView ≡ Write = sym is ∙ it in cc))
           c.in-Err.ensures.ends.counted.1 c.in-Err.ensures.ends.caused c.in-Err.ensures.exported,

@@ -6,7 +6,7 @@ use Rattle.archive_requests.specs.declared.routes.Route.TheVariants.{Lists, Mess
 use Rattle.archive_results.specs.Access.{Ask, name_of}
 use Rattle.archive_pages.specs.Answers.{asking, is_mbox, list_reply, made_reply, route_reply}
 use Rattle.archive_pages.specs.Calls.{AreKept}
-use Rattle.archive_pages.specs.Causes.{IsUnreadBy, ServesOr}
+use Rattle.archive_pages.specs.Causes.{IsListUnread, IsRouteUnread, IsUnreadBy, ServesOr}
 use Rattle.archive_pages.specs.KeptServing.{ServesIf}
 use Rattle.archive_pages.specs.Seen.{reply_made}
 use Rattle.archive_pages.proofs.CauseLemmas.{found_served}
@@ -24,11 +24,13 @@ returns-in-Mbox-clause-sent g c = rw c.in-Mbox.is (
     c.args.store.now c.answer_mbox.new.store (AreKept c.args.pages.now) _ c.answer_mbox.ensures.sent))
 
 pub returns-in-Mbox-clause-ends : goal.returns-in-Mbox-clause-ends
-returns-in-Mbox-clause-ends g c = record {
-  reply = c.answer_mbox.ensures.ends;
-  caused = subst (λ (q : Ask). ServesOr g.S.Store c.args.store.now c.answer_mbox.new.store c.answer_mbox.result (IsUnreadBy q.reader)) c.ask_of-ask.ensures c.answer_mbox.ensures.caused;
-  keeps = keeps_still g.S.Store c.args.store.now c.answer_mbox.new.store c.args.pages.now;
-}
+returns-in-Mbox-clause-ends g c = rw c.in-Mbox.is (
+    record {
+      reply = c.answer_mbox.ensures.ends;
+      caused = subst (λ (q : Ask). ServesOr g.S.Store c.args.store.now c.answer_mbox.new.store c.answer_mbox.result (IsUnreadBy (IsListUnread q) q.reader)) c.ask_of-ask.ensures
+          c.answer_mbox.ensures.caused;
+      keeps = keeps_still g.S.Store c.args.store.now c.answer_mbox.new.store c.args.pages.now;
+    })
 
 pub returns-in_default-clause-sent : goal.returns-in_default-clause-sent
 returns-in_default-clause-sent g c =
@@ -51,7 +53,9 @@ returns-in_default-clause-sent g c =
 pub returns-in_default-clause-ends : goal.returns-in_default-clause-ends
 returns-in_default-clause-ends g c = record {
   reply = c.write_found.ensures.ends;
-  caused = found_served g.S.Store c.args.store.now c.find_page-found.new.store c.write_found.new.wants c.write_found.result (IsUnreadBy (name_of c.args.reader)) c.find_page-found.result reply_made
+  caused = found_served g.S.Store c.args.store.now c.find_page-found.new.store c.write_found.new.wants c.write_found.result
+      (IsUnreadBy (IsRouteUnread (asking c.args.pages.now.policy.now c.args.pages.now.day (name_of c.args.reader)) (named_route c.args.route.now)) (name_of c.args.reader))
+      c.find_page-found.result reply_made
       c.find_page-found.ensures.why.caused c.find_page-found.ensures.why.served c.write_found.ensures.counted;
   keeps = record { same = c.find_page-found.ensures.keeps.same; keeps = c.find_page-found.ensures.keeps.keeps };
 }

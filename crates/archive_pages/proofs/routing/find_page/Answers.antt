@@ -2,9 +2,10 @@ use Rattle.std.proofs.Common.{inl, refl}
 use Rattle.percent_encoding.specs.Percent.{percent_decode}
 use Rattle.archive_requests.specs.Routes.{author, month, thread, threads}
 use Rattle.archive_results.specs.Access.{name_of}
+use Rattle.archive_desk.specs.Readable.{AreListsUnreadable}
 use Rattle.archive_pages.specs.Answers.{list_reply, lists_reply, message_for}
 use Rattle.archive_pages.specs.Calls.{AreFor, AreKept}
-use Rattle.archive_pages.specs.Causes.{IsUnread, IsUnreadBy}
+use Rattle.archive_pages.specs.Causes.{IsListUnread, IsMessageUnread, IsUnreadBy}
 use Rattle.archive_pages.proofs.KeptLemmas.{keeps_still}
 use Rattle.archive_pages.proofs.RouteLemmas.{found_for, found_whatever, keeps_for, why_as, why_for}
 use Rattle.archive_pages.proofs.routing.find_page.Goals as goal
@@ -39,23 +40,29 @@ returns-in-Author-clause-found g c = rw c.in-Author.is (
     (λ q a. list_reply a q (author q.list (percent_decode c.in-Author.author.now))) c.find_author.ensures.found)
 
 pub returns-in-Lists-clause-why : goal.returns-in-Lists-clause-why
-returns-in-Lists-clause-why g c =
-    why_as g.S.Store c.args.store.now c.find_lists.new.store c.find_lists.result IsUnread (IsUnreadBy (name_of c.args.reader)) (λ a bad. inl bad) c.find_lists.ensures.why
+returns-in-Lists-clause-why g c = rw c.in-Lists.is (
+    why_as g.S.Store c.args.store.now c.find_lists.new.store c.find_lists.result AreListsUnreadable (IsUnreadBy AreListsUnreadable (name_of c.args.reader))
+    (λ a bad. inl bad) c.find_lists.ensures.why)
 
 pub returns-in-Message-clause-why : goal.returns-in-Message-clause-why
-returns-in-Message-clause-why g c = why_for g.S.Store c.args.store.now c.find_message.new.store c.find_message.result c.ask_of-ask.ensures c.find_message.ensures.why
+returns-in-Message-clause-why g c = rw c.in-Message.is (
+    why_for g.S.Store c.args.store.now c.find_message.new.store c.find_message.result c.ask_of-ask.ensures (λ q. IsMessageUnread q c.in-Message.key.now) c.find_message.ensures.why)
 
 pub returns-in-Month-clause-why : goal.returns-in-Month-clause-why
-returns-in-Month-clause-why g c = why_for g.S.Store c.args.store.now c.find_month.new.store c.find_month.result c.ask_of-ask-in-Month.ensures c.find_month.ensures.why
+returns-in-Month-clause-why g c = rw c.in-Month.is (
+    why_for g.S.Store c.args.store.now c.find_month.new.store c.find_month.result c.ask_of-ask-in-Month.ensures IsListUnread c.find_month.ensures.why)
 
 pub returns-in-Threads-clause-why : goal.returns-in-Threads-clause-why
-returns-in-Threads-clause-why g c = why_for g.S.Store c.args.store.now c.find_threads.new.store c.find_threads.result c.ask_of-ask-in-Threads.ensures c.find_threads.ensures.why
+returns-in-Threads-clause-why g c = rw c.in-Threads.is (
+    why_for g.S.Store c.args.store.now c.find_threads.new.store c.find_threads.result c.ask_of-ask-in-Threads.ensures IsListUnread c.find_threads.ensures.why)
 
 pub returns-in-Thread-clause-why : goal.returns-in-Thread-clause-why
-returns-in-Thread-clause-why g c = why_for g.S.Store c.args.store.now c.find_thread.new.store c.find_thread.result c.ask_of-ask-in-Thread.ensures c.find_thread.ensures.why
+returns-in-Thread-clause-why g c = rw c.in-Thread.is (
+    why_for g.S.Store c.args.store.now c.find_thread.new.store c.find_thread.result c.ask_of-ask-in-Thread.ensures IsListUnread c.find_thread.ensures.why)
 
 pub returns-in-Author-clause-why : goal.returns-in-Author-clause-why
-returns-in-Author-clause-why g c = why_for g.S.Store c.args.store.now c.find_author.new.store c.find_author.result c.ask_of-ask-in-Author.ensures c.find_author.ensures.why
+returns-in-Author-clause-why g c = rw c.in-Author.is (
+    why_for g.S.Store c.args.store.now c.find_author.new.store c.find_author.result c.ask_of-ask-in-Author.ensures IsListUnread c.find_author.ensures.why)
 
 pub returns-in-Lists-clause-keeps : goal.returns-in-Lists-clause-keeps
 returns-in-Lists-clause-keeps g c = keeps_still g.S.Store c.args.store.now c.find_lists.new.store c.args.pages.now

@@ -2,20 +2,14 @@ use Rattle.std.proofs.Common.{map}
 use Rattle.archive_machine.specs.Runs.{run}
 use Rattle.archive_store.specs.Running.{command_of}
 use Rattle.archive_store.specs.Told.{archive_in}
-use Rattle.archive_store.proofs.Joins.{ready_with}
-use Rattle.archive_store.proofs.RightLemmas.{run_right}
 use Rattle.archive_pages.proofs.RunningLemmas.{answers_from}
 use Rattle.archive_pages.proofs.running.run_and_answer.Goals as goal
 
 pub returns-in-Ok-clause-answered : goal.returns-in-Ok-clause-answered
-returns-in-Ok-clause-answered g c = λ returned ready.
+returns-in-Ok-clause-answered g c = λ returned held.
     answers_from g.S.Store c.run.new.self c.answer.new.store (run (archive_in g.S.Store c.args.store.now) (map command_of c.args.commands.now)).archive returned
     (λ before.
-    let ran = c.in-Ok.ensures.step before ready.held in
-    let commands = map command_of c.args.commands.now in (
-      ready_with g.S.Store c.run.new.self (run (archive_in g.S.Store c.args.store.now) commands).archive ran.0 ran.1
-          (run_right (archive_in g.S.Store c.args.store.now) commands ready.filed_right),
-      ran.1,
-    )) c.args.policy.now c.args.day c.answer.result (g.R.Source.told c.args.peer.now.input)
+    let ran = c.in-Ok.ensures.step before held in
+    (ran.0, ran.1)) c.args.policy.now c.args.day c.answer.result (g.R.Source.told c.args.peer.now.input)
     (g.R.Source.told c.answer.new.input) (g.R.Source.ends c.args.peer.now.input) (g.R.Source.ends c.answer.new.input) (g.W.Sink.told c.args.peer.now.output)
     (g.W.Sink.told c.answer.new.output) c.answer.ensures.answered

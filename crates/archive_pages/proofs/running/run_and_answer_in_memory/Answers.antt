@@ -1,11 +1,7 @@
 use Rattle.std.proofs.Common.{map, subst}
-use Rattle.sqlite.specs.Steps.{over_memory}
 use Rattle.sqlite.proofs.Callers.{memory_is_clean}
 use Rattle.archive_machine.specs.Runs.{run}
-use Rattle.archive_tables.specs.Making.{empty_archive}
 use Rattle.archive_store.specs.Held.{held_of}
-use Rattle.archive_store.proofs.Joins.{ready_with}
-use Rattle.archive_store.proofs.RightLemmas.{empty_right}
 use Rattle.archive_store.specs.Running.{command_of}
 use Rattle.archive_pages.specs.Running.{AnswersFrom}
 use Rattle.archive_pages.proofs.running.run_and_answer_in_memory.Goals as goal
@@ -18,4 +14,4 @@ returns-in-Ok-clause-answered g c =
     (g.R.Source.told c.run_and_answer.new.peer.input) (g.R.Source.ends c.args.peer.now.input) (g.R.Source.ends c.run_and_answer.new.peer.input) (g.W.Sink.told c.args.peer.now.output)
     (g.W.Sink.told c.run_and_answer.new.peer.output) c.in-Ok.answer)
     made.1 (c.in-Ok.ensures.answered (memory_is_clean (held_of c.run_and_answer.new.store))
-    (ready_with over_memory c.in_ok-store.store empty_archive made.0 made.1 empty_right))
+    made.0)
