@@ -1,13 +1,21 @@
--- What a command reads once a command is added to it.
+-- What a command reads once an argument or a command is added to it.
 use Rattle.std.proofs.Common.{ap, ◌∙◌, ◌||◌}
-use Rattle.clap.specs.Words.{AddsSubcommand, App, shape_of, with_subcommand}
+use Rattle.clap.specs.Words.{AddsArg, AddsSubcommand, App, Rule, rule_of, shape_of, with_rule, with_subcommand}
+use Rattle.clap.specs.declared.builder.Arg.{Arg}
 use Rattle.clap.specs.declared.builder.Command.{Command}
 use Rattle.clap.specs.declared.builder.Command.TheViews.{out-Command}
-use Rattle.archive_usage.specs.Program.{IsCommand}
+use Rattle.archive_usage.specs.Program.{IsArg, IsCommand}
+
+pub with_rule_added : {command more : Command} {arg : Arg} → AddsArg command arg more
+    → (app : App) (rule : Rule) → IsCommand app command → IsArg rule arg → IsCommand (with_rule app rule) more
+with_rule_added {command} {more} {arg} adds app rule is of = record {
+  reads = adds.shape of.local ∙ (ap (λ old. with_rule old (rule_of arg)) is.reads ∙ ap (λ new. with_rule app new) of.reads);
+  local = adds.globals ∙ (ap (λ old. old || arg.global) is.local ∙ of.local);
+}
 
 pub with_subcommand_added : {program command more : Command} → AddsSubcommand program command more
     → (app sub : App) → IsCommand app program → IsCommand sub command → IsCommand (with_subcommand app sub.top) more
-with_subcommand_added {program} {command} adds app sub is is_sub = (
-  adds.shape is_sub.1 ∙ ap (λ old. with_subcommand old (shape_of command)) is.0 ∙ ap (λ new. with_subcommand app new.top) is_sub.0,
-  adds.globals ∙ ap (λ old. old || (out-Command command).has_globals) is.1 ∙ is_sub.1,
-)
+with_subcommand_added {program} {command} adds app sub is of = record {
+  reads = adds.shape of.local ∙ (ap (λ old. with_subcommand old (shape_of command)) is.reads ∙ ap (λ new. with_subcommand app new.top) of.reads);
+  local = adds.globals ∙ (ap (λ old. old || (out-Command command).has_globals) is.local ∙ of.local);
+}

@@ -1,11 +1,12 @@
 //! The command line, as `clap` reads it.
-ghost use Rattle.std.specs.Prelude.{◌≡◌, false, IfOk};
-ghost use Rattle.clap.specs.Words.{App, app_of, new_app, rule_of, with_rule, with_subcommand};
-ghost use Rattle.clap.specs.declared.builder.Command.TheViews.{out-Command};
-ghost use Rattle.archive_usage.specs.Program.{IsCommand, with_word, option_rule, needed_rule, word_rule, table_app, message_app, grant_of_app, dated_app};
+ghost use Rattle.std.specs.Prelude.{IfOk};
+ghost use Rattle.clap.specs.Words.{App, Rule, with_rule};
+ghost use Rattle.archive_usage.specs.Program.{IsArg, IsCommand, valued_rule, option_rule, required_rule, empty_app};
+ghost use Rattle.archive_usage.specs.Program.{with_option, with_needed, with_word, with_command, versioned};
+ghost use Rattle.archive_usage.specs.Program.{table_app, message_app, grant_of_app, dated_app};
 ghost use Rattle.archive_usage.specs.Program.{sift_app, list_add_app, merge_app, person_add_app};
 ghost use Rattle.archive_usage.specs.Program.{person_address_app, grant_app, revoke_app, import_app, withdraw_app, restore_app, embargo_app, lift_app};
-ghost use Rattle.archive_usage.specs.Program.{ruled_app, ask_app, get_app, export_app, check_app, serve_app, versioned, bare_app, list_app, person_app, mail_app, archive_app, app_named};
+ghost use Rattle.archive_usage.specs.Program.{ruled_app, ask_app, get_app, export_app, check_app, serve_app, bare_app, list_app, person_app, mail_app, archive_app, app_named};
 
 use crate::help::{self, Help};
 use clap::{Arg, Command};
@@ -13,72 +14,34 @@ use std::alloc::{AllocError, Global};
 
 const VERSION: &str = "0.3.0";
 
-/// An option `--NAME VALUE`, with its line in the help.
+/// An argument with one value, with its line in the help.
+fn valued<'a>(alloc: Global, name: &'a str, value: &'a str, help: &'a str) -> Arg<'a>
+    ensures { IsArg (valued_rule name.entry.now) result }
+{
+    Arg::new(alloc, name).value_name(value).help(help)
+}
+
+/// An option `--NAME VALUE`.
 fn option<'a>(alloc: Global, name: &'a str, value: &'a str, help: &'a str) -> Arg<'a>
-    ensures rule { rule_of result ≡ option_rule name.entry.now }
-    ensures local { result.global ≡ false }
+    ensures { IsArg (option_rule name.entry.now) result }
 {
-    Arg::new(alloc, name)
-        .long(name)
-        .value_name(value)
-        .help(help)
+    valued(alloc, name, value, help).long(name)
 }
 
-/// An option that has to be given.
-fn needed<'a>(alloc: Global, name: &'a str, value: &'a str, help: &'a str) -> Arg<'a>
-    ensures rule { rule_of result ≡ needed_rule name.entry.now }
-    ensures local { result.global ≡ false }
+/// The argument, which has to be given.
+fn required<'a>(arg: Arg<'a>) -> Arg<'a>
+    ensures { (rule : Rule) → IsArg rule arg.entry → IsArg (required_rule rule) result }
 {
-    option(alloc, name, value, help).required(true)
-}
-
-/// A word in its place.
-fn word<'a>(alloc: Global, name: &'a str, value: &'a str, help: &'a str) -> Arg<'a>
-    ensures rule { rule_of result ≡ word_rule name.entry.now }
-    ensures local { result.global ≡ false }
-{
-    Arg::new(alloc, name)
-        .value_name(value)
-        .help(help)
-        .required(true)
+    arg.required(true)
 }
 
 /// The command with an argument more.
 fn with_arg<'a>(command: Command<'a>, arg: Arg<'a>) -> Result<Command<'a>, AllocError>
-    ensures { (app : App) → IsCommand app command.entry → arg.entry.global ≡ false
-        → IfOk result (IsCommand (with_rule app (rule_of arg.entry))) }
+    ensures { (app : App) → (rule : Rule) → IsCommand app command.entry → IsArg rule arg.entry
+        → IfOk result (IsCommand (with_rule app rule)) }
 {
     let more = command.arg(arg)?;
     Ok(more)
-}
-
-/// The command with a word more.
-fn with_word<'a>(
-    alloc: Global,
-    command: Command<'a>,
-    name: &'a str,
-    value: &'a str,
-    help: &'a str,
-) -> Result<Command<'a>, AllocError>
-    ensures { (app : App) → IsCommand app command.entry → IfOk result (IsCommand (with_word app name.entry.now)) }
-{
-    with_arg(command, word(alloc, name, value, help))
-}
-
-/// The command with its line in the help and what stands at the end of its help, which change nothing in how words are
-/// read.
-fn described<'a>(command: Command<'a>, help: Help) -> Command<'a>
-    ensures app { app_of result ≡ app_of command.entry }
-    ensures local { (out-Command result).has_globals ≡ (out-Command command.entry).has_globals }
-{
-    command.about(help.about).after_help(help.end)
-}
-
-/// A command with no argument yet.
-fn new_command<'a>(alloc: Global, name: &'a str, help: Help) -> Command<'a>
-    ensures { IsCommand (new_app name.entry.now) result }
-{
-    described(Command::new(alloc, name), help)
 }
 
 /// The command with an option more.
@@ -89,7 +52,7 @@ fn with_option<'a>(
     value: &'a str,
     help: &'a str,
 ) -> Result<Command<'a>, AllocError>
-    ensures { (app : App) → IsCommand app command.entry → IfOk result (IsCommand (with_rule app (option_rule name.entry.now))) }
+    ensures { (app : App) → IsCommand app command.entry → IfOk result (IsCommand (with_option app name.entry.now)) }
 {
     with_arg(command, option(alloc, name, value, help))
 }
@@ -102,9 +65,37 @@ fn with_needed<'a>(
     value: &'a str,
     help: &'a str,
 ) -> Result<Command<'a>, AllocError>
-    ensures { (app : App) → IsCommand app command.entry → IfOk result (IsCommand (with_rule app (needed_rule name.entry.now))) }
+    ensures { (app : App) → IsCommand app command.entry → IfOk result (IsCommand (with_needed app name.entry.now)) }
 {
-    with_arg(command, needed(alloc, name, value, help))
+    with_arg(command, required(option(alloc, name, value, help)))
+}
+
+/// The command with a word more.
+fn with_word<'a>(
+    alloc: Global,
+    command: Command<'a>,
+    name: &'a str,
+    value: &'a str,
+    help: &'a str,
+) -> Result<Command<'a>, AllocError>
+    ensures { (app : App) → IsCommand app command.entry → IfOk result (IsCommand (with_word app name.entry.now)) }
+{
+    with_arg(command, required(valued(alloc, name, value, help)))
+}
+
+/// The command with its line in the help and what stands at the end of its help, which change nothing in how words are
+/// read.
+fn described<'a>(command: Command<'a>, help: Help) -> Command<'a>
+    ensures { (app : App) → IsCommand app command.entry → IsCommand app result }
+{
+    command.about(help.about).after_help(help.end)
+}
+
+/// A command with no argument yet.
+fn new_command<'a>(alloc: Global, name: &'a str, help: Help) -> Command<'a>
+    ensures { IsCommand (empty_app name.entry.now) result }
+{
+    described(Command::new(alloc, name), help)
 }
 
 /// A command over the tables of a database.
@@ -135,7 +126,6 @@ fn grant_of_command<'a>(alloc: Global, name: &'a str, help: Help) -> Result<Comm
 }
 
 /// `sift` with the options of the day and of the age.
-#[tactic(auto, unfolding(crate::specs::Program::dated_app))]
 fn dated_command<'a>(alloc: Global) -> Result<Command<'a>, AllocError>
     ensures { IfOk result (IsCommand dated_app) }
 {
@@ -144,7 +134,6 @@ fn dated_command<'a>(alloc: Global) -> Result<Command<'a>, AllocError>
     with_option(alloc, dated, "min-age", "DAYS", help::MIN_AGE)
 }
 
-#[tactic(auto, unfolding(crate::specs::Program::sift_app))]
 fn sift_command<'a>(alloc: Global) -> Result<Command<'a>, AllocError>
     ensures { IfOk result (IsCommand sift_app) }
 {
@@ -154,7 +143,6 @@ fn sift_command<'a>(alloc: Global) -> Result<Command<'a>, AllocError>
     with_option(alloc, listed, "standing", "STANDING", help::STANDING)
 }
 
-#[tactic(auto, unfolding(crate::specs::Program::list_add_app))]
 fn list_add_command<'a>(alloc: Global) -> Result<Command<'a>, AllocError>
     ensures { IfOk result (IsCommand list_add_app) }
 {
@@ -162,7 +150,6 @@ fn list_add_command<'a>(alloc: Global) -> Result<Command<'a>, AllocError>
     with_word(alloc, command, "name", "NAME", help::NAME)
 }
 
-#[tactic(auto, unfolding(crate::specs::Program::merge_app))]
 fn merge_command<'a>(alloc: Global) -> Result<Command<'a>, AllocError>
     ensures { IfOk result (IsCommand merge_app) }
 {
@@ -171,7 +158,6 @@ fn merge_command<'a>(alloc: Global) -> Result<Command<'a>, AllocError>
     with_word(alloc, listed, "merge", "MERGE", help::MERGED)
 }
 
-#[tactic(auto, unfolding(crate::specs::Program::person_add_app))]
 fn person_add_command<'a>(alloc: Global) -> Result<Command<'a>, AllocError>
     ensures { IfOk result (IsCommand person_add_app) }
 {
@@ -180,7 +166,6 @@ fn person_add_command<'a>(alloc: Global) -> Result<Command<'a>, AllocError>
     with_word(alloc, named, "token", "TOKEN", help::TOKEN)
 }
 
-#[tactic(auto, unfolding(crate::specs::Program::person_address_app))]
 fn person_address_command<'a>(alloc: Global) -> Result<Command<'a>, AllocError>
     ensures { IfOk result (IsCommand person_address_app) }
 {
@@ -189,7 +174,6 @@ fn person_address_command<'a>(alloc: Global) -> Result<Command<'a>, AllocError>
     with_word(alloc, named, "address", "ADDRESS", help::ADDRESS)
 }
 
-#[tactic(auto, unfolding(crate::specs::Program::grant_app))]
 fn grant_command<'a>(alloc: Global) -> Result<Command<'a>, AllocError>
     ensures { IfOk result (IsCommand grant_app) }
 {
@@ -198,14 +182,12 @@ fn grant_command<'a>(alloc: Global) -> Result<Command<'a>, AllocError>
     with_word(alloc, from, "until", "UNTIL", help::GRANT_UNTIL)
 }
 
-#[tactic(auto, unfolding(crate::specs::Program::revoke_app))]
 fn revoke_command<'a>(alloc: Global) -> Result<Command<'a>, AllocError>
     ensures { IfOk result (IsCommand revoke_app) }
 {
     grant_of_command(alloc, "revoke", help::REVOKE)
 }
 
-#[tactic(auto, unfolding(crate::specs::Program::import_app))]
 fn import_command<'a>(alloc: Global) -> Result<Command<'a>, AllocError>
     ensures { IfOk result (IsCommand import_app) }
 {
@@ -214,7 +196,6 @@ fn import_command<'a>(alloc: Global) -> Result<Command<'a>, AllocError>
     with_word(alloc, listed, "mbox", "MBOX", help::MBOX)
 }
 
-#[tactic(auto, unfolding(crate::specs::Program::withdraw_app))]
 fn withdraw_command<'a>(alloc: Global) -> Result<Command<'a>, AllocError>
     ensures { IfOk result (IsCommand withdraw_app) }
 {
@@ -222,14 +203,12 @@ fn withdraw_command<'a>(alloc: Global) -> Result<Command<'a>, AllocError>
     with_word(alloc, command, "by", "BY", help::BY)
 }
 
-#[tactic(auto, unfolding(crate::specs::Program::restore_app))]
 fn restore_command<'a>(alloc: Global) -> Result<Command<'a>, AllocError>
     ensures { IfOk result (IsCommand restore_app) }
 {
     message_command(alloc, "restore", help::RESTORE)
 }
 
-#[tactic(auto, unfolding(crate::specs::Program::embargo_app))]
 fn embargo_command<'a>(alloc: Global) -> Result<Command<'a>, AllocError>
     ensures { IfOk result (IsCommand embargo_app) }
 {
@@ -237,7 +216,6 @@ fn embargo_command<'a>(alloc: Global) -> Result<Command<'a>, AllocError>
     with_word(alloc, command, "until", "UNTIL", help::EMBARGO_UNTIL)
 }
 
-#[tactic(auto, unfolding(crate::specs::Program::lift_app))]
 fn lift_command<'a>(alloc: Global) -> Result<Command<'a>, AllocError>
     ensures { IfOk result (IsCommand lift_app) }
 {
@@ -262,7 +240,6 @@ fn ask_command<'a>(alloc: Global, name: &'a str, help: Help) -> Result<Command<'
     with_word(alloc, asked, "list", "LIST", help::LIST)
 }
 
-#[tactic(auto, unfolding(crate::specs::Program::get_app))]
 fn get_command<'a>(alloc: Global) -> Result<Command<'a>, AllocError>
     ensures { IfOk result (IsCommand get_app) }
 {
@@ -270,21 +247,18 @@ fn get_command<'a>(alloc: Global) -> Result<Command<'a>, AllocError>
     with_word(alloc, command, "key", "KEY", help::KEY)
 }
 
-#[tactic(auto, unfolding(crate::specs::Program::export_app))]
 fn export_command<'a>(alloc: Global) -> Result<Command<'a>, AllocError>
     ensures { IfOk result (IsCommand export_app) }
 {
     ask_command(alloc, "export", help::EXPORT)
 }
 
-#[tactic(auto, unfolding(crate::specs::Program::check_app))]
 fn check_command<'a>(alloc: Global) -> Result<Command<'a>, AllocError>
     ensures { IfOk result (IsCommand check_app) }
 {
     table_command(alloc, "check", help::CHECK)
 }
 
-#[tactic(auto, unfolding(crate::specs::Program::serve_app))]
 fn serve_command<'a>(alloc: Global) -> Result<Command<'a>, AllocError>
     ensures { IfOk result (IsCommand serve_app) }
 {
@@ -296,7 +270,7 @@ fn serve_command<'a>(alloc: Global) -> Result<Command<'a>, AllocError>
 /// The program with a command more.
 fn with_command<'a>(program: Command<'a>, command: Command<'a>) -> Result<Command<'a>, AllocError>
     ensures { (app : App) → (sub : App) → IsCommand app program.entry → IsCommand sub command.entry
-        → IfOk result (IsCommand (with_subcommand app sub.top)) }
+        → IfOk result (IsCommand (with_command app sub)) }
 {
     let more = program.subcommand(command)?;
     Ok(more)
@@ -304,8 +278,7 @@ fn with_command<'a>(program: Command<'a>, command: Command<'a>) -> Result<Comman
 
 /// The command with the version, whose words do not begin with the program's name.
 fn versioned<'a>(command: Command<'a>) -> Command<'a>
-    ensures app { app_of result ≡ versioned (app_of command.entry) }
-    ensures local { (out-Command result).has_globals ≡ (out-Command command.entry).has_globals }
+    ensures { (app : App) → IsCommand app command.entry → IsCommand (versioned app) result }
 {
     command.version(VERSION).no_binary_name(true)
 }
@@ -319,16 +292,14 @@ fn named<'a>(command: Command<'a>, name: &'a str) -> Result<Command<'a>, AllocEr
 }
 
 /// The program without its commands.
-#[tactic(auto, unfolding(crate::specs::Program::bare_app))]
 fn bare_program<'a>(alloc: Global) -> Result<Command<'a>, AllocError>
     ensures { IfOk result (IsCommand bare_app) }
 {
-    let command = described(Command::new(alloc, "archive"), help::ARCHIVE);
+    let command = new_command(alloc, "archive", help::ARCHIVE);
     named(versioned(command), "archive")
 }
 
 /// The program with `sift` and the commands on lists.
-#[tactic(auto, unfolding(crate::specs::Program::list_app))]
 fn list_program<'a>(alloc: Global) -> Result<Command<'a>, AllocError>
     ensures { IfOk result (IsCommand list_app) }
 {
@@ -338,7 +309,6 @@ fn list_program<'a>(alloc: Global) -> Result<Command<'a>, AllocError>
 }
 
 /// The same, with the commands on persons.
-#[tactic(auto, unfolding(crate::specs::Program::person_app))]
 fn person_program<'a>(alloc: Global) -> Result<Command<'a>, AllocError>
     ensures { IfOk result (IsCommand person_app) }
 {
@@ -349,7 +319,6 @@ fn person_program<'a>(alloc: Global) -> Result<Command<'a>, AllocError>
 }
 
 /// The same, with the commands on messages.
-#[tactic(auto, unfolding(crate::specs::Program::mail_app))]
 fn mail_program<'a>(alloc: Global) -> Result<Command<'a>, AllocError>
     ensures { IfOk result (IsCommand mail_app) }
 {
@@ -361,7 +330,6 @@ fn mail_program<'a>(alloc: Global) -> Result<Command<'a>, AllocError>
 }
 
 /// The program with all of its commands. Its words do not begin with its name.
-#[tactic(auto, unfolding(crate::specs::Program::archive_app))]
 pub fn program<'a>(alloc: Global) -> Result<Command<'a>, AllocError>
     ensures { IfOk result (IsCommand archive_app) }
 {

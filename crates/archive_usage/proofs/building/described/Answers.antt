@@ -1,6 +1,10 @@
 use Rattle.std.proofs.Common.{◌∙◌, ap}
 use Rattle.clap.specs.Simple.{app_of_fields}
+use Rattle.archive_usage.specs.Program.{IsCommand}
 use Rattle.archive_usage.proofs.building.described.Goals as goal
 
-pub returns-clause-app : goal.returns-clause-app
-returns-clause-app c = ap app_of_fields c.after_help.ensures ∙ ap app_of_fields c.about.ensures
+pub returns : goal.returns
+returns c = λ app is. record {
+  reads = ap app_of_fields c.after_help.ensures ∙ (ap app_of_fields c.about.ensures ∙ is.reads);
+  local = ap (λ f. f.has_globals) c.after_help.ensures ∙ (ap (λ f. f.has_globals) c.about.ensures ∙ is.local);
+}

@@ -3,4 +3,7 @@ use Rattle.clap.specs.Simple.{app_of_fields}
 use Rattle.archive_usage.proofs.building.named.Goals as goal
 
 pub returns : goal.returns
-returns c = λ app is. (ap app_of_fields c.in_ok-named.ensures.0 ∙ is.0, ap (λ f. f.has_globals) c.in_ok-named.ensures.0 ∙ is.1)
+returns c = λ app is. record {
+  reads = ap app_of_fields c.in_ok-named.ensures.0 ∙ is.reads;
+  local = ap (λ f. f.has_globals) c.in_ok-named.ensures.0 ∙ is.local;
+}

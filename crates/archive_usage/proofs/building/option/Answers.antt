@@ -1,16 +1,14 @@
 use Rattle.std.proofs.Common.{◌∙◌, ap, Some, Bool}
 use Rattle.clap.specs.Words.{Rule, rule_of}
 use Rattle.clap.specs.declared.builder.Arg.{Arg}
+use Rattle.archive_usage.specs.Program.{option_rule}
 use Rattle.archive_usage.proofs.building.option.Goals as goal
 
-pub returns-clause-rule : goal.returns-clause-rule
-returns-clause-rule c =
-    ap rule_of c.help.ensures
-    ∙ (ap rule_of c.value_name.ensures
-    ∙ ap (λ (r : Rule). record r { value_names = 1 }) (ap rule_of c.long.ensures
-    ∙ ap (λ (r : Rule). record r { long = Some c.args.name.now }) c.new.ensures.rule))
-
-pub returns-clause-local : goal.returns-clause-local
-returns-clause-local c =
+pub returns : goal.returns
+unfolding option_rule
+returns c =
     let global : Arg → Bool = λ a. a.global in
-    ap global c.help.ensures ∙ (ap global c.value_name.ensures ∙ (ap global c.long.ensures ∙ c.new.ensures.optional.1))
+    record {
+      reads = ap rule_of c.long.ensures ∙ ap (λ (r : Rule). record r { long = Some c.args.name.now }) c.valued.ensures.reads;
+      local = ap global c.long.ensures ∙ c.valued.ensures.local;
+    }

@@ -1,8 +1,13 @@
 use Rattle.std.proofs.Common.{ap, ◌∙◌, true}
 use Rattle.clap.specs.Simple.{app_of_fields, App}
+use Rattle.archive_usage.specs.Program.{versioned}
 use Rattle.archive_usage.proofs.building.versioned.Goals as goal
 
-pub returns-clause-app : goal.returns-clause-app
-returns-clause-app c =
-    ap app_of_fields c.no_binary_name.ensures
-    ∙ ap (λ (a : App). record a { top = record a.top { no_binary_name = true } }) (ap app_of_fields c.version.ensures)
+pub returns : goal.returns
+unfolding versioned
+returns c = λ app is. record {
+  reads = ap app_of_fields c.no_binary_name.ensures
+      ∙ (ap (λ (a : App). record a { top = record a.top { no_binary_name = true } }) (ap app_of_fields c.version.ensures)
+      ∙ ap (λ (a : App). record a { top = record a.top { has_version = true; no_binary_name = true } }) is.reads);
+  local = ap (λ f. f.has_globals) c.no_binary_name.ensures ∙ (ap (λ f. f.has_globals) c.version.ensures ∙ is.local);
+}
