@@ -1,10 +1,15 @@
 //! The archives in a system's files.
-ghost use Rattle.std.specs.Prelude.{◌≡◌, ◌≤◌, None, IfErr};
+ghost use Rattle.std.specs.Prelude.{◌≡◌, ◌≤◌, None, IfErr, IfOk};
+ghost use Rattle.sqlite_wal.specs.Files.{image_at};
+ghost use Rattle.sqlite.specs.Files.{file_state, IsOpened};
+ghost use Rattle.sqlite.specs.Start.{FindsIn};
+ghost use Rattle.sqlite.specs.State.{HasCleanDisk};
 ghost use Rattle.archive_store.specs.Replies.{refusal};
+ghost use Rattle.archive.specs.Opening.{WasTakenOver};
 
 use archive_run::Databases;
 use archive_store::{AdoptStop, Store, StoreFault};
-use sqlite::{Connection, File, FileStore, Options, Unknown};
+use sqlite::{Connection, FileFrom, FileStore, Options, Start};
 use sqlite_std_file::OpenError;
 use std::alloc::Global;
 use std::fs;
@@ -84,15 +89,22 @@ fn fault_of(error: &OpenError) -> StoreFault
     }
 }
 
-/// A connection to the file of this name, which is made where it is not there. No name stands for a database in memory.
-fn connect(rt: &HostRuntime, name: &str) -> Result<Connection<FileStore<File>>, StoreFault>
+/// A connection to the file of this name, which is made where it is not there, and which held what `start` stands for. No name stands
+/// for a database in memory.
+fn connect<S: Start>(
+    rt: &HostRuntime,
+    name: &str,
+    start: S,
+) -> Result<Connection<FileStore<FileFrom<S>>>, StoreFault>
+    ensures opened { IfOk result (λ c. HasCleanDisk (file_state c) → IsOpened c) }
+    ensures found { IfOk result (λ c. HasCleanDisk (file_state c) → FindsIn (image_at S.Start) (file_state c)) }
     ensures fault { IfErr result (λ fault. refusal fault ≡ None) }
 {
     if name == ":memory:" || name.starts_with("file:") {
         return Err(StoreFault::Store);
     }
     let options = options(rt, name)?;
-    let files = match sqlite_std_file::open(rt, name, Unknown) {
+    let files = match sqlite_std_file::open(rt, name, start) {
         Ok(files) => files,
         Err(error) => return Err(fault_of(&error)),
     };
@@ -102,29 +114,66 @@ fn connect(rt: &HostRuntime, name: &str) -> Result<Connection<FileStore<File>>, 
     }
 }
 
-/// The system's files, as databases.
-#[derive(Drop)]
-pub struct SystemDatabases<'a> {
-    /// The system whose files they are.
-    pub rt: &'a HostRuntime,
+/// The archive in the file of this name, which held what `start` stands for.
+fn take_over<S: Start>(
+    rt: &HostRuntime,
+    name: &str,
+    start: S,
+) -> Result<Store<FileStore<FileFrom<S>>>, StoreFault>
+    ensures opened { IfOk result (λ store. WasTakenOver (image_at S.Start) store) }
+    ensures fault { IfErr result (λ fault. refusal fault ≡ None) }
+{
+    let connection = match connect(rt, name, start) {
+        Ok(connection) => connection,
+        Err(fault) => return Err(fault),
+    };
+    match Store::adopt(connection) {
+        Ok(store) => Ok(store),
+        Err(AdoptStop { connection, fault }) => {
+            let _closed = connection.close();
+            Err(fault)
+        }
+    }
 }
 
-impl<'a> Databases<Store<FileStore<File>>> for SystemDatabases<'a> {
-    ghost use Rattle.std.specs.Prelude.{⊤};
+/// One of the system's files, as a database. `S` stands for what the file holds before it is opened, which no code can read; its value is
+/// used up by the opening, so a second one is E15. No order opens a database twice.
+#[derive(Drop)]
+pub struct SystemDatabases<'a, S: Start> {
+    /// The system whose file it is.
+    pub rt: &'a HostRuntime,
+    /// What the file holds, until it is opened.
+    pub start: Option<S>,
+}
 
-    fn open(&mut self, _alloc: Global, name: &str) -> Result<Store<FileStore<File>>, StoreFault> {
-        match Store::adopt(connect(self.rt, name)?) {
-            Ok(store) => Ok(store),
-            Err(AdoptStop { connection, fault }) => {
-                let _closed = connection.close();
-                Err(fault)
-            }
-        }
+impl<'a, S: Start> Databases<Store<FileStore<FileFrom<S>>>> for SystemDatabases<'a, S> {
+    ghost use Rattle.std.specs.Prelude.{◌≡◌, None, IfOk};
+    ghost use Rattle.sqlite_wal.specs.Files.{image_at};
+    ghost use Rattle.archive.specs.Opening.{HoldsRows, Until, WasTakenOver};
+
+    // What the file held before it was opened. Of what it holds once it was opened nothing is said: this is so of every archive.
+    ghost holds = { λ it name archive. Until it.start (HoldsRows (image_at S.Start) archive) };
+
+    // It was not opened before, and the store comes of a connection that found what the file held.
+    ghost opens = { λ old new name result. (old.start ≡ None → IfOk result (λ _. ⊥)) × (new.start ≡ None)
+        × IfOk result (λ store. WasTakenOver (image_at S.Start) store) };
+
+    ghost closes = { λ old new store. new.start ≡ old.start };
+
+    fn open(
+        &mut self,
+        _alloc: Global,
+        name: &str,
+    ) -> Result<Store<FileStore<FileFrom<S>>>, StoreFault> {
+        let Some(start) = self.start.take() else {
+            return Err(StoreFault::Store);
+        };
+        take_over(self.rt, name, start)
     }
 
     // What is committed stays in the log where it cannot be copied into the file now.
-    fn close(&mut self, store: Store<FileStore<File>>)
-        ensures { ⊤ }
+    fn close(&mut self, store: Store<FileStore<FileFrom<S>>>)
+        ensures { self.new.start ≡ self.old.start }
     {
         let _closed = store.into_connection().close();
     }

@@ -5,20 +5,24 @@ use archive_listen::{LoopbackPorts, Outgoing};
 use archive_run::{System, World};
 use mbox_core::device::{Sink, Source};
 use sift_run::{SystemDay, SystemFiles};
-use sqlite::{File, FileStore};
+use sqlite::{FileFrom, FileStore, Start};
 use std::marker::PhantomData;
 
-/// The kinds of a system's devices.
-pub struct Machine<'a, I, O, E> {
-    of: PhantomData<(&'a HostRuntime, I, O, E)>,
+/// The kinds of a system's devices. `S` stands for what the file of a database held before it was opened.
+pub struct Machine<'a, S, I, O, E> {
+    of: PhantomData<(&'a HostRuntime, S, I, O, E)>,
 }
 
-impl<'a, I: Source + Drop, O: Outgoing + Drop, E: Sink + Drop> System for Machine<'a, I, O, E> {
-    type Storage = FileStore<File>;
+impl<'a, S: Start, I: Source + Drop, O: Outgoing + Drop, E: Sink + Drop> System
+    for Machine<'a, S, I, O, E> {
+    ghost use Rattle.sqlite_wal.specs.Files.{image_at};
+    ghost use Rattle.archive.specs.Opening.{still_said, was_held};
+
+    type Storage = FileStore<FileFrom<S>>;
 
     type Files = SystemFiles<'a, HostRuntime>;
 
-    type Databases = SystemDatabases<'a>;
+    type Databases = SystemDatabases<'a, S>;
 
     type Clock = SystemDay<'a, HostRuntime>;
 
@@ -31,18 +35,26 @@ impl<'a, I: Source + Drop, O: Outgoing + Drop, E: Sink + Drop> System for Machin
     type Output = O;
 
     type Faults = E;
+
+    ghost opens_held = { λ old new file store archive held opened. was_held (image_at S.Start) old.start archive store held opened.0 opened.2 };
+
+    ghost closes_held = { λ old device new file before after archive held opened closed returned tables. still_said new.start device.start _ closed opened.1 };
 }
 
-/// The devices of a system, over these streams.
-pub fn make_world<'a, I: Source + Drop, O: Outgoing + Drop, E: Sink + Drop>(
+/// The devices of a system, over these streams. `start` stands for what the file of the database holds before it is opened.
+pub fn make_world<'a, S: Start, I: Source + Drop, O: Outgoing + Drop, E: Sink + Drop>(
     rt: &'a HostRuntime,
+    start: S,
     input: I,
     output: O,
     faults: E,
-) -> World<Machine<'a, I, O, E>> {
+) -> World<Machine<'a, S, I, O, E>> {
     World {
         files: SystemFiles { rt },
-        databases: SystemDatabases { rt },
+        databases: SystemDatabases {
+            rt,
+            start: Some(start),
+        },
         clock: SystemDay { rt },
         ports: LoopbackPorts {
             rt,

@@ -5,8 +5,12 @@ use std::alloc::Global;
 /// Whoever has databases, each of which is opened as an archive of the type `T`.
 pub trait Databases<T> {
     ghost use Rattle.std.specs.Prelude.{◌≡◌, ℕ, List, Result, None, IfErr, ⊤};
+    ghost use Rattle.archive_machine.specs.Records.{Archive};
     ghost use Rattle.archive_store.specs.Replies.{refusal};
     ghost use Rattle.archive_store.specs.declared.faults.StoreFault.{StoreFault};
+
+    // The database of this name holds this archive, while it is closed. What a device says of it keeps the laws of `System`.
+    ghost holds: { Self → List ℕ → Archive → Type 0 } = { λ _ _ _. ⊥ };
 
     // Holds of the databases before one is opened and after, of its name, and of what is given.
     ghost opens: { Self → Self → List ℕ → Result T StoreFault → Type 0 } = { λ _ _ _ _. ⊤ };

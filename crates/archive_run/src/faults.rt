@@ -1,10 +1,14 @@
 //! What the program says where it refuses.
+ghost use Rattle.std.specs.Prelude.{◌++◌, codes, decimal};
+ghost use Rattle.sift_run.specs.Refusals.{IsSaid};
+ghost use Rattle.archive_run.specs.Refusals.{import_text};
+
 use archive_desk::{DeskFault, ImportFault, ImportStop};
 use archive_store::StoreFault;
-use sift_run::{MboxText, RunFault};
-use std::fmt;
+use mbox_core::device::{DeviceFailure, Sink};
+use sift_run::{Refuses, RunFault, put, put_number};
 
-/// Why an order was not carried out. It prints its number and its name.
+/// Why an order was not carried out. It says its number and its name.
 #[derive(Debug, PartialEq, Eq, Drop)]
 pub enum Refusal {
     /// M1 to M4, P1 to P8, F1 to F3, F5: what stops any run.
@@ -23,46 +27,58 @@ pub enum Refusal {
     Net,
 }
 
-/// Where an import stopped, as it prints.
-#[derive(Clone, Copy)]
-struct ImportText(ImportStop);
-
-impl fmt::Display for ImportText {
-    ghost use Rattle.std.specs.Prelude.{Some, ◌++◌, codes, decimal};
-    ghost use Rattle.archive_run.specs.Refusals.{import_text};
-
-    ghost output = { λ text. Some (import_text text.0.fault ++ codes " after " ++ decimal text.0.done) };
-
-    fn fmt<W: fmt::Write>(&self, f: &mut fmt::Formatter<W>) -> fmt::Result {
-        let done = self.0.done;
-        match self.0.fault {
-            ImportFault::Mbox(fault) => {
-                let name = MboxText(fault);
-                write!(f, "{name} after {done}")
-            }
-            ImportFault::Store(fault) => {
-                let name = fault.name();
-                write!(f, "{name} after {done}")
-            }
-        }
+/// Says why an import stopped.
+fn say_taking<E: Sink>(faults: &mut E, fault: ImportFault) -> Result<(), DeviceFailure>
+    ensures { IsSaid E.Sink faults.old faults.new (import_text fault) result }
+{
+    match fault {
+        ImportFault::Mbox(fault) => fault.say(faults),
+        ImportFault::Store(fault) => put(faults, fault.name().as_bytes()),
     }
 }
 
-impl fmt::Display for Refusal {
-    ghost use Rattle.std.specs.Prelude.{Some};
+/// Says why an import stopped, and behind how many messages.
+fn say_import<E: Sink>(faults: &mut E, stop: ImportStop) -> Result<(), DeviceFailure>
+    ensures { IsSaid E.Sink faults.old faults.new
+        (import_text stop.fault ++ (codes " after " ++ decimal stop.done)) result }
+{
+    say_taking(faults, stop.fault)?;
+    put_number(faults, b" after ", stop.done)
+}
+
+/// Says which message is damaged.
+fn say_damaged<E: Sink>(faults: &mut E, list: &str, key: &str) -> Result<(), DeviceFailure>
+    ensures { IsSaid E.Sink faults.old faults.new
+        (codes "E16 Damaged " ++ (list.now ++ (codes " " ++ key.now))) result }
+{
+    put(faults, b"E16 Damaged ")?;
+    put(faults, list.as_bytes())?;
+    put(faults, b" ")?;
+    put(faults, key.as_bytes())
+}
+
+/// Says which rule denies a message.
+fn say_denied<E: Sink>(faults: &mut E, rule: &str) -> Result<(), DeviceFailure>
+    ensures { IsSaid E.Sink faults.old faults.new (codes "denied by " ++ rule.now) result }
+{
+    put(faults, b"denied by ")?;
+    put(faults, rule.as_bytes())
+}
+
+impl Refuses for Refusal {
     ghost use Rattle.archive_run.specs.Refusals.{refusal_text};
 
-    ghost output = { λ refusal. Some (refusal_text refusal) };
+    ghost text = { λ refusal. refusal_text refusal };
 
-    fn fmt<W: fmt::Write>(&self, f: &mut fmt::Formatter<W>) -> fmt::Result {
+    fn say<E: Sink>(&self, faults: &mut E) -> Result<(), DeviceFailure> {
         match self {
-            Refusal::Run(fault) => fault.fmt(f),
-            Refusal::Store(fault) => f.write_str(fault.name()),
-            Refusal::Desk(fault) => f.write_str(fault.name()),
-            Refusal::Import(stop) => ImportText(*stop).fmt(f),
-            Refusal::Damaged { list, key } => write!(f, "E16 Damaged {list} {key}"),
-            Refusal::Denied(rule) => write!(f, "denied by {rule}"),
-            Refusal::Net => f.write_str("F4 Net"),
+            Refusal::Run(fault) => fault.say(faults),
+            Refusal::Store(fault) => put(faults, fault.name().as_bytes()),
+            Refusal::Desk(fault) => put(faults, fault.name().as_bytes()),
+            Refusal::Import(stop) => say_import(faults, *stop),
+            Refusal::Damaged { list, key } => say_damaged(faults, list.as_str(), key.as_str()),
+            Refusal::Denied(rule) => say_denied(faults, rule.as_str()),
+            Refusal::Net => put(faults, b"F4 Net"),
         }
     }
 }

@@ -7,6 +7,7 @@ ghost use Rattle.archive_words.specs.declared.orders.OrderStop.{OrderStop};
 ghost use Rattle.archive_words.specs.declared.orders.Order.{Order};
 ghost use Rattle.sift_run.specs.Running.{GiveOrder};
 ghost use Rattle.archive_run.specs.Orders.{RunsSift};
+ghost use Rattle.archive_run.specs.Holding.{RunsOver};
 ghost use Rattle.archive_run.specs.Runs.{IsRefused, Runs, RunSaysStop};
 ghost use Rattle.archive_run.specs.World.{devices};
 
@@ -72,6 +73,12 @@ pub fn run<Y: System>(alloc: Global, world: &mut World<Y>, words: &[&str]) -> u8
         Y.Ports.listens Y.Ports.Listener.accepts Y.Ports.Listener.closes Y.Threaders.makes Y.Input.Source Y.Output.Sink Y.Output.Outgoing.own Y.Faults.Sink)
         world.old world.new order (Ok tt) }
 
+    // At 0 the database of the order holds what the order makes of the archive that it held, and what went out is of that archive.
+    ensures holds { (order : Order) → GiveOrder (map (λ w. w.now) words.now) order → result ≡ 0
+        → RunsOver (devices Y.Storage.Store Y.Files.ReadFiles Y.Files.OpenFiles Y.Files.Input.Source Y.Databases.Databases Y.Clock.DayClock
+        Y.Ports.listens Y.Ports.Listener.accepts Y.Ports.Listener.closes Y.Threaders.makes Y.Input.Source Y.Output.Sink Y.Output.Outgoing.own Y.Faults.Sink)
+        world.old world.new order }
+
     // At 1 it is refused: for a reason that holds, or for want of memory to read the words. One line tells the refusal.
     ensures refused { (order : Order) → GiveOrder (map (λ w. w.now) words.now) order → result ≡ 1
         → IsRefused (devices Y.Storage.Store Y.Files.ReadFiles Y.Files.OpenFiles Y.Files.Input.Source Y.Databases.Databases Y.Clock.DayClock
@@ -95,8 +102,8 @@ pub fn run<Y: System>(alloc: Global, world: &mut World<Y>, words: &[&str]) -> u8
     match order(alloc, words) {
         Ok(asked) => {
             let done = run_order(alloc, world, &asked);
-            finish(alloc, &mut world.faults, &done)
+            finish(&mut world.faults, &done)
         }
-        Err(stop) => say_stop(alloc, &mut world.output, &mut world.faults, &stop),
+        Err(stop) => say_stop(&mut world.output, &mut world.faults, &stop),
     }
 }

@@ -9,6 +9,8 @@ use sqlite::Alter;
 
 /// The kinds of devices that a run is over. No value of it is ever made.
 pub trait System {
+    ghost use Rattle.archive_run.specs.Remembering.{ClosesHeld, OpensHeld};
+
     /// What the pages of a database lie in.
     type Storage: Alter;
 
@@ -30,6 +32,12 @@ pub trait System {
 
     /// Each line that is written to it goes out at once.
     type Faults: Sink + Drop;
+
+    // A database that holds an archive gives a store that remembers it, where the disk has returned what was written to it.
+    ghost opens_held: { OpensHeld Self.Storage.Store Self.Databases.Databases };
+
+    // When it is closed, it holds what its store remembers then.
+    ghost closes_held: { ClosesHeld Self.Storage.Store Self.Databases.Databases };
 }
 
 /// What a run is over.

@@ -17,10 +17,10 @@ fn run_words(rt: &HostRuntime) -> u8 {
     let mut faults = Counted::new(rt.stderr());
     let words = match command_words(rt) {
         Ok(words) => words,
-        Err(stop) => return say_stop(alloc, &mut output, &mut faults, &stop),
+        Err(stop) => return say_stop(&mut output, &mut faults, &stop),
     };
     let Ok(words) = borrowed(alloc, words.as_slice()) else {
-        tell(alloc, &mut faults, &RunFault::Memory);
+        tell(&mut faults, &RunFault::Memory);
         return REFUSED;
     };
     let status = run(

@@ -1,9 +1,26 @@
 //! What stops a run, whatever it does.
-use mbox_core::MboxFault;
-use policy_core::PolicyFault;
-use std::fmt;
+ghost use Rattle.std.specs.Prelude.{◌++◌, decimal};
+ghost use Rattle.sift_run.specs.Refusals.{IsSaid};
 
-/// What stops a run, whatever it does. It prints its number and its name.
+use itoa::Buffer;
+use mbox_core::MboxFault;
+use mbox_core::device::{DeviceFailure, Sink, write_bytes};
+use policy_core::PolicyFault;
+
+/// Why something is refused. It says so piece by piece, and takes no memory for it: so that what is told is always the refusal's own.
+pub trait Refuses {
+    ghost use Rattle.std.specs.Prelude.{ℕ, List};
+    ghost use Rattle.sift_run.specs.Refusals.{IsSaid};
+
+    // The number and the name, and where the fault is.
+    ghost text: { Self → List ℕ };
+
+    /// Writes the number and the name.
+    fn say<E: Sink>(&self, faults: &mut E) -> Result<(), DeviceFailure>
+        ensures { IsSaid E.Sink faults.old faults.new (text self.now) result };
+}
+
+/// What stops a run, whatever it does. It says its number and its name.
 #[derive(Debug, Clone, Copy, PartialEq, Eq, Drop)]
 pub enum RunFault {
     /// M1 to M4: the mbox on standard input.
@@ -20,64 +37,82 @@ pub enum RunFault {
     Memory,
 }
 
-/// A refusal of an mbox, as it prints.
-#[derive(Clone, Copy)]
-pub struct MboxText(pub MboxFault);
+/// Writes a piece of what is said.
+pub fn put<E: Sink>(faults: &mut E, piece: &[u8]) -> Result<(), DeviceFailure>
+    ensures { IsSaid E.Sink faults.old faults.new piece.now result }
+{
+    match write_bytes(faults, piece) {
+        Ok(()) => Ok(()),
+        Err(_) => Err(DeviceFailure),
+    }
+}
 
-impl fmt::Display for MboxText {
-    ghost use Rattle.std.specs.Prelude.{Some};
+/// Writes a piece, and a number in decimal digits behind it.
+pub fn put_number<E: Sink>(faults: &mut E, piece: &[u8], number: u64) -> Result<(), DeviceFailure>
+    ensures { IsSaid E.Sink faults.old faults.new (piece.now ++ decimal number) result }
+{
+    put(faults, piece)?;
+    let mut digits = Buffer::new();
+    put(faults, digits.format(number).as_bytes())
+}
+
+impl Refuses for MboxFault {
     ghost use Rattle.sift_run.specs.Refusals.{mbox_text};
 
-    ghost output = { λ text. Some (mbox_text text.0) };
+    ghost text = { λ fault. mbox_text fault };
 
-    fn fmt<W: fmt::Write>(&self, f: &mut fmt::Formatter<W>) -> fmt::Result {
-        match self.0 {
-            MboxFault::Preamble(offset) => write!(f, "M1 Preamble at {offset}"),
-            MboxFault::Read => f.write_str("M2 Read"),
-            MboxFault::Memory => f.write_str("M3 Memory"),
-            MboxFault::Failed => f.write_str("M4 Failed"),
+    fn say<E: Sink>(&self, faults: &mut E) -> Result<(), DeviceFailure> {
+        match *self {
+            MboxFault::Preamble(offset) => put_number(faults, b"M1 Preamble at ", offset),
+            MboxFault::Read => put(faults, b"M2 Read"),
+            MboxFault::Memory => put(faults, b"M3 Memory"),
+            MboxFault::Failed => put(faults, b"M4 Failed"),
         }
     }
 }
 
-/// A refusal of a policy, as it prints.
-#[derive(Clone, Copy)]
-struct PolicyText(PolicyFault);
-
-impl fmt::Display for PolicyText {
-    ghost use Rattle.std.specs.Prelude.{Some};
+impl Refuses for PolicyFault {
     ghost use Rattle.sift_run.specs.Refusals.{policy_text};
 
-    ghost output = { λ text. Some (policy_text text.0) };
+    ghost text = { λ fault. policy_text fault };
 
-    fn fmt<W: fmt::Write>(&self, f: &mut fmt::Formatter<W>) -> fmt::Result {
-        match self.0 {
-            PolicyFault::NotToml => f.write_str("P1 NotToml"),
-            PolicyFault::UnknownKey(rule) => write!(f, "P2 UnknownKey in rule {rule}"),
-            PolicyFault::WrongType(rule) => write!(f, "P3 WrongType in rule {rule}"),
-            PolicyFault::BadName(rule) => write!(f, "P4 BadName in rule {rule}"),
-            PolicyFault::DuplicateName(rule) => write!(f, "P5 DuplicateName in rule {rule}"),
-            PolicyFault::BadValue(rule) => write!(f, "P6 BadValue in rule {rule}"),
-            PolicyFault::TooManyRules => f.write_str("P7 TooManyRules"),
-            PolicyFault::Memory => f.write_str("P8 Memory"),
+    fn say<E: Sink>(&self, faults: &mut E) -> Result<(), DeviceFailure> {
+        match *self {
+            PolicyFault::NotToml => put(faults, b"P1 NotToml"),
+            PolicyFault::UnknownKey(rule) => put_number(
+                faults,
+                b"P2 UnknownKey in rule ",
+                rule as u64,
+            ),
+            PolicyFault::WrongType(rule) => put_number(
+                faults,
+                b"P3 WrongType in rule ",
+                rule as u64,
+            ),
+            PolicyFault::BadName(rule) => put_number(faults, b"P4 BadName in rule ", rule as u64),
+            PolicyFault::DuplicateName(rule) => {
+                put_number(faults, b"P5 DuplicateName in rule ", rule as u64)
+            }
+            PolicyFault::BadValue(rule) => put_number(faults, b"P6 BadValue in rule ", rule as u64),
+            PolicyFault::TooManyRules => put(faults, b"P7 TooManyRules"),
+            PolicyFault::Memory => put(faults, b"P8 Memory"),
         }
     }
 }
 
-impl fmt::Display for RunFault {
-    ghost use Rattle.std.specs.Prelude.{Some};
+impl Refuses for RunFault {
     ghost use Rattle.sift_run.specs.Refusals.{run_text};
 
-    ghost output = { λ fault. Some (run_text fault) };
+    ghost text = { λ fault. run_text fault };
 
-    fn fmt<W: fmt::Write>(&self, f: &mut fmt::Formatter<W>) -> fmt::Result {
+    fn say<E: Sink>(&self, faults: &mut E) -> Result<(), DeviceFailure> {
         match self {
-            RunFault::Mbox(fault) => MboxText(*fault).fmt(f),
-            RunFault::Policy(fault) => PolicyText(*fault).fmt(f),
-            RunFault::Read => f.write_str("F1 Read"),
-            RunFault::Write => f.write_str("F2 Write"),
-            RunFault::Clock => f.write_str("F3 Clock"),
-            RunFault::Memory => f.write_str("F5 Memory"),
+            RunFault::Mbox(fault) => fault.say(faults),
+            RunFault::Policy(fault) => fault.say(faults),
+            RunFault::Read => put(faults, b"F1 Read"),
+            RunFault::Write => put(faults, b"F2 Write"),
+            RunFault::Clock => put(faults, b"F3 Clock"),
+            RunFault::Memory => put(faults, b"F5 Memory"),
         }
     }
 }

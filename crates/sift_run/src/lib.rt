@@ -13,7 +13,7 @@ mod telling;
 
 pub use clock::{DayClock, SystemDay};
 pub use command_line::{OUTPUT_ROOM, borrowed, command_words};
-pub use faults::{MboxText, RunFault};
+pub use faults::{Refuses, RunFault, put, put_number};
 pub use files::{FileFault, OpenFiles, ReadFiles, SystemFiles};
 pub use policies::asked_policy;
 pub use running::{run, run_sift};

@@ -125,7 +125,7 @@ pub fn run<F: ReadFiles, C: DayClock, R: Source, O: Outgoing, E: Sink>(
     match order(alloc, words) {
         Ok(Order::Sift(asked)) => {
             let done = run_sift(alloc, files, clock, input, output, &asked);
-            finish(alloc, faults, &done)
+            finish(faults, &done)
         }
         Ok(_) => {
             let _ = write_bytes(
@@ -134,6 +134,6 @@ pub fn run<F: ReadFiles, C: DayClock, R: Source, O: Outgoing, E: Sink>(
             );
             BAD_WORDS
         }
-        Err(stop) => say_stop(alloc, output, faults, &stop),
+        Err(stop) => say_stop(output, faults, &stop),
     }
 }

@@ -1,5 +1,5 @@
 use Rattle.std.proofs.Common.{◌∙◌, ap, Err}
-use Rattle.archive_store.specs.Told.{HasReturned, IsReady, archive_in}
+use Rattle.archive_store.specs.Told.{HasReturned, HoldsTables, archive_in}
 use Rattle.archive_listen.specs.Serving.{ServesEach, served}
 use Rattle.archive_serve.specs.Runs.{AnswersIn, CanServe}
 use Rattle.archive_serve.proofs.RunLemmas.{each_if}
@@ -14,7 +14,7 @@ returns-in-Ok-clause-served g c =
     let new = c.serve.new.store in
     let first = served c.args.listening.listener old in
     let last = served c.serve.new.listener new in
-    let More = HasReturned g.S.Store new × IsReady g.S.Store old in
+    let More = HasReturned g.S.Store new × HoldsTables g.S.Store old in
     let archive = archive_in g.S.Store old in (
       it.0,
       c.serve.new.listener,
@@ -38,7 +38,7 @@ returns-in-Err-Listen-clause-served g c =
     let old = c.args.store.now in
     let new = c.serve.new.store in
     let first = served c.args.listening.listener old in
-    let More = HasReturned g.S.Store new × IsReady g.S.Store old in
+    let More = HasReturned g.S.Store new × HoldsTables g.S.Store old in
     let archive = archive_in g.S.Store old in (
       it.0,
       c.serve.new.listener,

@@ -1,6 +1,5 @@
 use Rattle.std.proofs.Common.{inl, inr, refl, subst, Ok, Err}
 use Rattle.archive_words.specs.Values.{SiftValues}
-use Rattle.sift_run.specs.Refusals.{run_text}
 use Rattle.sift_run.specs.Running.{SiftsByPolicy}
 use Rattle.sift_run.specs.declared.faults.RunFault.TheVariants.{Memory}
 use Rattle.sift_run.proofs.StatusLemmas.{at_one, at_zero, memory_alone, memory_said, same_sift}
@@ -22,7 +21,7 @@ returns-in-Ok-Sift-clause-refused g c =
     c.args.input.now c.run_sift-done.new.input c.args.output.now c.run_sift-done.new.output g.F.ReadFiles c.args.files.now order in
     let it = at_one _ _ (By c.in-Ok-Sift.asked) c.run_sift-done.result c.finish.result c.finish.ensures c.run_sift-done.ensures one in
     let P : SiftValues → Type 0 = λ order. By order (Err it.0) in
-    (it.0, inr (subst P (same_sift _ _ _ _ c.in-Ok-Sift.ensures.ok c.in-Ok-Sift.field-0-is given.1) it.1), it.2 (run_text it.0) refl)
+    (it.0, inr (subst P (same_sift _ _ _ _ c.in-Ok-Sift.ensures.ok c.in-Ok-Sift.field-0-is given.1) it.1), it.2)
 
 pub returns-in-Err-clause-refused : goal.returns-in-Err-clause-refused
 returns-in-Err-clause-refused g c =

@@ -1,8 +1,8 @@
 use Rattle.std.proofs.Common.{refl, subst, sym}
 use Rattle.archive_words.specs.declared.orders.OrderStop.{OrderStop}
-use Rattle.sift_run.specs.Refusals.{SaysStop, run_text}
+use Rattle.sift_run.specs.Refusals.{SaysStop}
 use Rattle.sift_run.specs.Streams.{sent}
-use Rattle.sift_run.specs.declared.faults.RunFault.TheVariants.{Memory, Write}
+use Rattle.sift_run.specs.declared.faults.RunFault.TheVariants.{Write}
 use Rattle.sift_run.proofs.ResultLemmas.{sent_as}
 use Rattle.sift_run.proofs.TellLemmas.{help_said}
 use Rattle.sift_run.proofs.telling.say_stop.Goals as goal
@@ -20,4 +20,4 @@ returns-in-Help g c =
 pub returns-in-Memory : goal.returns-in-Memory
 returns-in-Memory g c =
     let P : OrderStop → Type 0 = λ s. SaysStop g.O.Sink g.O.Outgoing g.E.Sink c.args.output.now c.args.output.now c.args.faults.now c.tell.new.faults s 1 in
-    subst P (sym c.in-Memory.is) (refl, refl, c.tell.ensures (run_text Memory) refl)
+    subst P (sym c.in-Memory.is) (refl, refl, c.tell.ensures)
