@@ -1,17 +1,18 @@
 -- Three calls, one after the other, from what each of them says.
-use Rattle.std.proofs.Common.{◌≡◌, sym, subst, ◌++◌, ◌^◌, ◌-◌, ◌<◌, ℕ, List, length, map, min, Option, Some, None}
+use Rattle.std.proofs.Common.{◌≡◌, sym, subst, ◌++◌, ◌^◌, ◌-◌, ◌<◌, ℕ, List, length, map, min, Option, Some, None, Result}
 use Rattle.std.specs.Prelude.{MatchOption, option_map}
 use Rattle.sqlite.specs.Store.{Ghosts}
 use Rattle.mbox_core.specs.Written.{IsCutShort}
 use Rattle.archive_machine.specs.Records.{Archive}
-use Rattle.archive_store.specs.Told.{Goes, GoesIfOpen, HasReturned, IsReady, Lasts, archive_in}
+use Rattle.archive_store.specs.Told.{Calls, Goes, GoesIfOpen, HasReturned, HoldsTables, IsReady, Lasts, archive_in}
 use Rattle.archive_store.specs.declared.store.Store.{Store}
-use Rattle.archive_store.proofs.Joins.{goes_as, goes_as_if_open, goes_on, goes_on_if_open}
+use Rattle.archive_store.proofs.Joins.{calls_too, goes_as, goes_as_if_open, goes_on, goes_on_if_open}
 use Rattle.archive_results.specs.Access.{Ask, view_of}
 use Rattle.archive_results.specs.Results.{month_lines}
 use Rattle.archive_results.specs.Shown.{shown_of}
-use Rattle.archive_desk.specs.Exporting.{IsExportRefused, exported}
+use Rattle.archive_desk.specs.Exporting.{Exports, IsExportRefused, exported, stop_reason as export_reason}
 use Rattle.archive_desk.specs.Faults.{Reason, ask_reason}
+use Rattle.archive_desk.specs.declared.exporting.ExportStop.{ExportStop}
 use Rattle.archive_desk.specs.Importing.{Cause, IsImported, IsRefusedImport}
 use Rattle.archive_desk.specs.declared.importing.Report.{Report}
 use Rattle.desk_tests.specs.Chain.{not_imported, not_listed, not_exported, HasImported, HasTold, IsRefused}
@@ -91,6 +92,17 @@ module _ {S : Type 0} (g : Ghosts S) (ask : Ask) (text : List ℕ) where
             subst (λ x. IsExportRefused (ask_reason x ask) before after (exported x ask) why.0 why.1) (sym two.0) two.1,
           )) left it
 
+-- an export of a store that is ready leaves it ready
+pub export_right : {S : Type 0} (g : Ghosts S) (asked new : Store S) (ask : Ask) (before after : List ℕ) (result : Result ℕ ExportStop)
+    → Exports g asked new result ask before after (λ a. exported a ask)
+    → Calls g asked new export_reason result
+    (λ a b count. (b ≡ a) × (ask_reason a ask ≡ None) × (after ≡ before ++ exported a ask) × (count ≡ min (length (exported a ask)) (2 ^ 64 - 1)))
+    (λ a b why. (b ≡ a) × IsExportRefused (ask_reason a ask) before after (exported a ask) why.0 why.1) (λ a b stop. b ≡ a)
+export_right g asked new ask before after result call = calls_too g asked new export_reason
+    (λ a b count. (b ≡ a) × (ask_reason a ask ≡ None) × (after ≡ before ++ exported a ask) × (count ≡ min (length (exported a ask)) (2 ^ 64 - 1)))
+    (λ a b why. (b ≡ a) × IsExportRefused (ask_reason a ask) before after (exported a ask) why.0 why.1) (λ a b stop. b ≡ a)
+    (λ a b count it. it.0) (λ a b why it. it.0) (λ a b stop it. it) result call
+
 -- ---- what was written of the export that stopped
 
 -- whatever the fault, the store lasts
@@ -102,12 +114,12 @@ lasts_on g old new Stops Refuses (Some why) it = it.0
 -- it is of the archive that was left before
 pub part_of : {S : Type 0} (g : Ghosts S) (ask : Ask) (text : List ℕ) (old asked new : Store S) → Goes g old asked (HasImported ask text)
     → Lasts g asked new → (before after : List ℕ) (count : ℕ)
-    → (HasReturned g new → IsReady g asked → length after < 2 ^ 64 → IsCutShort before after (exported (archive_in g asked) ask) count)
+    → (HasReturned g new → HoldsTables g asked → length after < 2 ^ 64 → IsCutShort before after (exported (archive_in g asked) ask) count)
     → HasReturned g new → IsReady g old → length after < 2 ^ 64
     → (b : Archive) × HasImported ask text (archive_in g old) b × IsCutShort before after (exported b ask) count
 part_of g ask text old asked new left lasts before after count part = λ returned ready fits.
     let it = left.1 (lasts.returned returned) ready in
-    (archive_in g asked, it.1, part returned it.0 fits)
+    (archive_in g asked, it.1, part returned it.0.held fits)
 
 -- ---- all three are told
 

@@ -6,8 +6,9 @@ use Rattle.sqlite_disk.specs.declared.Files.{Files}
 use Rattle.sqlite_store.specs.declared.store.FileStore.{FileStore}
 use Rattle.sqlite.specs.Files.{over_files}
 use Rattle.archive_machine.specs.Records.{Archive}
-use Rattle.archive_store.specs.Told.{HasReturned, IsReady, archive_in, Goes, GoesIfOpen}
+use Rattle.archive_store.specs.Told.{HasReturned, HoldsTables, archive_in, Goes, GoesIfOpen}
 use Rattle.archive_store.specs.declared.store.Store.{Store}
+use Rattle.archive_desk.specs.Holding.{GoesHeldIfOpen}
 use Rattle.archive_desk.specs.Importing.{Cause, IsImported, IsRefusedImport, IsBrokenImport, stop_reason}
 use Rattle.archive_desk.specs.declared.importing.Report.{Report}
 use Rattle.archive_desk.specs.declared.importing.ImportStop.{ImportStop}
@@ -34,8 +35,8 @@ module _ {D : Type 0} {g : DiskGhosts D} (files : Files D) (mid new : Store (Fil
 
   -- what is so of the archive that a store remembers before a request is so of the one that the import made
   pub of_imported : (report : Report) (Says : Archive → Type 0) → LeadsTo files mid (λ a b. IsImported list text a b report)
-      → GoesIfOpen over_files mid new (λ a b. b ≡ a) → (HasReturned over_files new → IsReady over_files mid → Says (archive_in over_files mid))
+      → GoesHeldIfOpen over_files mid new (λ a b. b ≡ a) → (HasReturned over_files new → HoldsTables over_files mid → Says (archive_in over_files mid))
       → OfImported files new list text report Says
   of_imported report Says before goes says returned archive held =
       let here = before (goes.0.returned returned) archive held in
-      (archive_in over_files mid, here.1, says returned here.0)
+      (archive_in over_files mid, here.1, says returned here.0.held)

@@ -1,5 +1,5 @@
 -- Two requests behind a withdrawal, over a store in memory.
-use Rattle.std.proofs.Common.{◌≡◌, ◌<◌, ◌⊎◌, inl, inr, ℕ, List, ◌∙◌, refl, sym, ap, subst, arith, Result}
+use Rattle.std.proofs.Common.{◌≡◌, ◌<◌, ◌⊎◌, inl, inr, ℕ, ℤ, List, ◌∙◌, refl, sym, ap, subst, arith, Result}
 use Rattle.std.specs.List.{All}
 use Rattle.sqlite.specs.Steps.{over_memory}
 use Rattle.sqlite.proofs.Callers.{memory_is_clean}
@@ -8,16 +8,18 @@ use Rattle.byte_device.specs.declared.devices.Sink.{Ghosts as Takes}
 use Rattle.byte_device.specs.declared.devices.Source.{Ghosts as Gives}
 use Rattle.mbox_core.specs.Division.{Item, Divides}
 use Rattle.mbox_core.specs.Written.{IsItem}
+use Rattle.policy_core.specs.Rules.{Rule}
 use Rattle.archive_machine.specs.Records.{Archive}
 use Rattle.archive_machine.specs.Commands.{Command as Told}
 use Rattle.archive_machine.specs.Machine.{Outcome, step}
 use Rattle.archive_machine.specs.Runs.{taken}
 use Rattle.archive_store.specs.Held.{held_of, wants_of}
-use Rattle.archive_store.specs.Told.{Goes, HasNoLimit, IsReady, WasRefused, archive_in}
+use Rattle.archive_store.specs.Told.{HasNoLimit, HoldsTables, IsReady, WasRefused, archive_in}
 use Rattle.archive_store.specs.declared.store.Store.{Store}
+use Rattle.archive_desk.specs.Holding.{GoesHeld}
 use Rattle.archive_desk.specs.Readable.{CanBeRead, IsSaid}
 use Rattle.archive_desk.specs.declared.importing.Report.{Report}
-use Rattle.archive_pages.specs.Causes.{IsUnread, IsUnserved, ServesOr}
+use Rattle.archive_pages.specs.Causes.{IsUnreadIn, IsUnserved, ServesOr}
 use Rattle.archive_pages.specs.Serving.{Stays}
 use Rattle.archive_pages.specs.declared.faults.ServeFault.{ServeFault}
 use Rattle.archive_pages.specs.declared.pages.Peer.{Peer}
@@ -46,27 +48,28 @@ can_be_read takes steps items it a b report made can =
 -- ---- 503
 
 abbrev pub IsRefused : Type 0
-IsRefused = (old new : Store MemStore) (result : Result ℕ ServeFault) → IsReady over_memory old → HasNoLimit over_memory old
-    → CanBeRead (archive_in over_memory old) → ServesOr over_memory old new result IsUnread → IsUnserved result → WasRefused old new
+IsRefused = (old new : Store MemStore) (result : Result ℕ ServeFault) (told_before told_after : List ℕ) (rules : List Rule) (day : ℤ)
+    → HoldsTables over_memory old → HasNoLimit over_memory old → CanBeRead (archive_in over_memory old)
+    → ServesOr over_memory old new result (IsUnreadIn told_before told_after rules day) → IsUnserved result → WasRefused old new
 
 abbrev pub IsFollowed : Type 0
-IsFollowed = (old new : Store MemStore) (result : Result ℕ ServeFault) → Stays over_memory old new result → Goes over_memory old new (λ a b. b ≡ a)
+IsFollowed = (old new : Store MemStore) (result : Result ℕ ServeFault) → Stays over_memory old new result → GoesHeld over_memory old new (λ a b. b ≡ a)
 
 module _ (refused : IsRefused) (followed : IsFollowed) (takes : TakesIn) (steps : StepsOn) (items : AreItems) where
-  module _ {R W : Type 0} (gives : Gives R) (sinks : Takes W) (old new : Store MemStore) (it : Withdrawal) (first first' second second' : Peer R W)
+  module _ {R W : Type 0} (gives : Gives R) (sinks : Takes W) (rules : List Rule) (day : ℤ) (old new : Store MemStore) (it : Withdrawal) (first first' second second' : Peer R W)
       (report : Report) (answered : Answered) where
     pub wanting : IsReady over_memory old → HasNoLimit over_memory old → CanBeRead (archive_in over_memory old)
-        → EndsBehind gives sinks over_memory old new it first first' second second' report answered
+        → EndsBehind gives sinks over_memory rules day old new it first first' second second' report answered
         → IsUnserved answered.first ⊎ IsUnserved answered.second → 0 < wants_of new
     wanting ready free can behind bad =
         let made = behind.withdrawn.1 (memory_is_clean (held_of behind.found)) ready in
         let readable = can_be_read takes steps items it (archive_in over_memory old) (archive_in over_memory behind.found) report made.1 can in
         let unlimited : HasNoLimit over_memory behind.found = behind.withdrawn.0.limit ∙ free in
         let on = followed behind.found behind.ends.between answered.first behind.ends.first_ends.stays in
-        let later = on.1 (memory_is_clean (held_of behind.ends.between)) made.0 in
+        let later = on.1 (memory_is_clean (held_of behind.ends.between)) made.0.held in
         let grown = behind.ends.second_caused.0 in
         elim bad [
-          | inl one ↦ let more = refused behind.found behind.ends.between answered.first made.0 unlimited readable behind.ends.first_caused one in omega (arith, more, grown)
-          | inr other ↦ let more = refused behind.ends.between new answered.second later.0 (on.0.limit ∙ unlimited) (subst CanBeRead (sym later.1) readable)
+          | inl one ↦ let more = refused behind.found behind.ends.between answered.first (gives.told first.input) (gives.told first'.input) rules day made.0.held unlimited readable behind.ends.first_caused one in omega (arith, more, grown)
+          | inr other ↦ let more = refused behind.ends.between new answered.second (gives.told second.input) (gives.told second'.input) rules day later.0 (on.0.limit ∙ unlimited) (subst CanBeRead (sym later.1) readable)
               behind.ends.second_caused other in omega (arith, more)
         ]

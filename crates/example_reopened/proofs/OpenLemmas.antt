@@ -1,5 +1,5 @@
 -- A request to files that were just opened.
-use Rattle.std.proofs.Common.{◌<◌, ◌⊎◌, inl, inr, ℕ, Result, subst, arith}
+use Rattle.std.proofs.Common.{◌<◌, ◌⊎◌, inl, inr, ℕ, ℤ, List, Result, subst, arith}
 use Rattle.sqlite_disk.specs.declared.Disk.{Ghosts as DiskGhosts}
 use Rattle.sqlite_disk.specs.declared.Files.{Files}
 use Rattle.sqlite_store.specs.declared.store.FileStore.{FileStore}
@@ -7,13 +7,15 @@ use Rattle.sqlite.specs.Files.{over_files}
 use Rattle.archive_machine.specs.Records.{Archive}
 use Rattle.archive_machine.specs.Runs.{run}
 use Rattle.archive_tables.specs.Making.{empty_archive}
-use Rattle.archive_store.specs.Told.{HasNoLimit, HasReturned, IsReady, Lasts, archive_in, faults_of}
+use Rattle.archive_store.specs.Told.{HasNoLimit, HasReturned, HoldsTables, Lasts, archive_in, faults_of}
 use Rattle.archive_store.specs.declared.store.Store.{Store}
 use Rattle.archive_store.proofs.RightLemmas.{run_right, empty_right}
-use Rattle.archive_pages.specs.Causes.{IsUnread, IsUnserved, ServesOr}
+use Rattle.policy_core.specs.Rules.{Rule}
+use Rattle.archive_pages.specs.Causes.{IsUnreadIn, IsUnserved, ServesOr}
 use Rattle.archive_pages.specs.declared.faults.ServeFault.{ServeFault}
 use Rattle.example_reopened.specs.Reopening.{TakesOver}
-use Rattle.example_reopened.specs.Opening.{HasCause, OfHeld, OfRun}
+use Rattle.example_reopened.proofs.ReadLemmas.{nothing_unread}
+use Rattle.example_reopened.specs.Opening.{HasCause, IsUnread, OfHeld, OfRun}
 use Rattle.example_reopened.proofs.ReopenLemmas.{leads_to}
 
 module _ {D : Type 0} {g : DiskGhosts D} (files : Files D) where
@@ -24,16 +26,19 @@ module _ {D : Type 0} {g : DiskGhosts D} (files : Files D) where
 
   module _ (mid new : Store (FileStore D g)) (takes : TakesOver files mid) (lasts : Lasts over_files mid new) where
     -- what a call says of the archive that the store remembers
-    pub of_held : (Says : Archive → Type 0) → (HasReturned over_files new → IsReady over_files mid → Says (archive_in over_files mid)) → OfHeld files new Says
+    pub of_held : (Says : Archive → Type 0) → (HasReturned over_files new → HoldsTables over_files mid → Says (archive_in over_files mid)) → OfHeld files new Says
     of_held Says says returned archive held =
         let it = leads_to files mid takes (lasts.returned returned) archive held in
-        subst Says it.1 (says returned it.0)
+        subst Says it.1 (says returned it.0.held)
 
     -- why 503 went out
-    pub caused_since : (result : Result ℕ ServeFault) → HasNoLimit over_files mid → ServesOr over_files mid new result IsUnread
-        → IsUnserved result → HasCause files new
-    caused_since result free serves bad = elim (serves.1 bad) [
+    pub caused_since : (result : Result ℕ ServeFault) (told_before told_after : List ℕ) (rules : List Rule) (day : ℤ) → HasNoLimit over_files mid
+        → ServesOr over_files mid new result (IsUnreadIn told_before told_after rules day) → IsUnserved result → HasCause files new
+    caused_since result told_before told_after rules day free serves bad = elim (serves.1 bad) [
       | inl more ↦ inl (omega (arith, more))
       | inr why ↦ inr (of_held (λ archive. (0 < faults_of over_files new) ⊎ IsUnread archive)
-          (λ returned ready. elim (why returned ready free) [ inl more ↦ inl (omega (arith, more)) | inr unread ↦ inr unread ]))
+          (λ returned held. elim (why returned held free) [
+            | inl more ↦ inl (omega (arith, more))
+            | inr unread ↦ inr (λ can. nothing_unread _ can rules day told_before told_after unread)
+          ]))
     ]

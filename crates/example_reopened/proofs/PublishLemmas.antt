@@ -1,5 +1,5 @@
 -- A withdrawal in files that were just opened.
-use Rattle.std.proofs.Common.{◌≡◌, ◌∙◌, ◌⊎◌, inl, inr, ℕ, Option, Some, None, refl, sym, subst, arith}
+use Rattle.std.proofs.Common.{◌≡◌, ◌∙◌, ◌⊎◌, inl, inr, ℕ, ℤ, List, Option, Some, None, refl, sym, subst, arith}
 use Rattle.std.specs.Prelude.{MatchOption}
 use Rattle.sqlite_disk.specs.declared.Disk.{Ghosts as DiskGhosts}
 use Rattle.sqlite_disk.specs.declared.Files.{Files}
@@ -7,6 +7,7 @@ use Rattle.sqlite_store.specs.declared.store.FileStore.{FileStore}
 use Rattle.byte_device.specs.declared.devices.Sink.{Ghosts as Takes}
 use Rattle.byte_device.specs.declared.devices.Source.{Ghosts as Gives}
 use Rattle.sqlite.specs.Files.{over_files}
+use Rattle.policy_core.specs.Rules.{Rule}
 use Rattle.archive_machine.specs.Records.{Archive}
 use Rattle.archive_machine.specs.Commands.{Refusal, refused}
 use Rattle.archive_machine.specs.Machine.{step}
@@ -16,9 +17,10 @@ use Rattle.archive_store.specs.declared.store.Store.{Store}
 use Rattle.archive_desk.specs.Importing.{Cause, IsImported, IsRefusedImport, IsBrokenImport, stop_reason}
 use Rattle.archive_desk.specs.Readable.{CanBeRead}
 use Rattle.archive_desk.specs.declared.importing.Report.{Report}
-use Rattle.archive_pages.specs.Causes.{IsUnread, IsUnserved}
+use Rattle.archive_pages.specs.Causes.{IsUnreadIn, IsUnserved}
+use Rattle.example_reopened.proofs.ReadLemmas.{nothing_unread}
 use Rattle.archive_pages.specs.declared.pages.Peer.{Peer}
-use Rattle.example_reopened.specs.Opening.{HasCause}
+use Rattle.example_reopened.specs.Opening.{HasCause, IsUnread}
 use Rattle.example_reopened.specs.Reopening.{LeadsTo, LeadsToIfOpen}
 use Rattle.example_reopened.specs.Publishing.{IsLeftWith}
 use Rattle.example_reopened.specs.Withdrawing.{EndsBoth, IsStopped, IsWithdrawn, withdrawal_of}
@@ -47,14 +49,14 @@ module _ {D : Type 0} {g : DiskGhosts D} (files : Files D) (mid new : Store (Fil
 
 -- ---- 503, behind a withdrawal in files that were opened again
 
-module _ (takes : TakesIn) (steps : StepsOn) (items : AreItems) {D R W : Type 0} {g : DiskGhosts D} (gives : Gives R) (sinks : Takes W) (files : Files D)
+module _ (takes : TakesIn) (steps : StepsOn) (items : AreItems) {D R W : Type 0} {g : DiskGhosts D} (gives : Gives R) (sinks : Takes W) (rules : List Rule) (day : ℤ) (files : Files D)
     (found new : Store (FileStore D g)) (it : Withdrawal) (first first' second second' : Peer R W) (report : Report) (answered : Answered)
     (leads : LeadsTo files found (λ a b. IsWithdrawn it a b report)) (free : HasNoLimit over_files found)
-    (ends : EndsBoth gives sinks over_files found new first first' second second' answered) where
-  unread : (before archive : Archive) → archive ≡ archive_in over_files found → IsWithdrawn it before (archive_in over_files found) report
-      → IsUnread archive → IsUnread before
-  unread before archive same made bad can =
-      bad (subst CanBeRead (sym same) (can_be_read takes steps items it before (archive_in over_files found) report made can))
+    (ends : EndsBoth gives sinks over_files rules day found new first first' second second' answered) where
+  unread : (before archive : Archive) (told_before told_after : List ℕ) → archive ≡ archive_in over_files found → IsWithdrawn it before (archive_in over_files found) report
+      → IsUnreadIn told_before told_after rules day archive → IsUnread before
+  unread before archive told_before told_after same made bad can =
+      nothing_unread archive (subst CanBeRead (sym same) (can_be_read takes steps items it before (archive_in over_files found) report made can)) rules day told_before told_after bad
 
   pub caused_behind : IsUnserved answered.first ⊎ IsUnserved answered.second → HasCause files new
   caused_behind (inl one) = elim (ends.first_caused.1 one) [
@@ -64,9 +66,9 @@ module _ (takes : TakesIn) (steps : StepsOn) (items : AreItems) {D R W : Type 0}
         let was = later.returned returned in
         let here = leads (ends.first_ends.stays.same.0.returned was) before held in
         let faults = later.shut.faults in
-        elim (why was here.0 free) [
+        elim (why was here.0.held free) [
           | inl more ↦ inl (omega (arith, more, faults))
-          | inr bad ↦ inr (unread before (archive_in over_files found) refl here.1 bad)
+          | inr bad ↦ inr (unread before (archive_in over_files found) (gives.told first.input) (gives.told first'.input) refl here.1 bad)
         ])
   ]
   caused_behind (inr other) = elim (ends.second_caused.1 other) [
@@ -77,10 +79,10 @@ module _ (takes : TakesIn) (steps : StepsOn) (items : AreItems) {D R W : Type 0}
         let here = leads (ends.first_ends.stays.same.0.returned was) before held in
         let faults = later.shut.faults in
         elim (ends.first_ends.stays.same.0.shut.stays_open was here.0.held.is_open) [
-          | inl up ↦ let there = ends.first_ends.stays.same.1 was here.0 up in
+          | inl up ↦ let there = ends.first_ends.stays.same.1 was here.0.held up in
               elim (why returned there.0 (ends.first_ends.stays.same.0.limit ∙ free)) [
                 | inl more ↦ inl (omega (arith, more))
-                | inr bad ↦ inr (unread before (archive_in over_files ends.between) there.1 here.1 bad)
+                | inr bad ↦ inr (unread before (archive_in over_files ends.between) (gives.told second.input) (gives.told second'.input) there.1 here.1 bad)
               ]
           | inr more ↦ inl (omega (arith, more, faults))
         ])

@@ -22,6 +22,7 @@ use Rattle.archive_store.specs.Held.{held_of}
 use Rattle.archive_store.specs.Told.{HoldsArchive, HoldsTables, HasReturned, IsReady, archive_in, Goes, GoesIfOpen, Asks}
 use Rattle.archive_store.specs.declared.store.Store.{Store}
 use Rattle.archive_store.proofs.Joins.{ready_with}
+use Rattle.archive_desk.specs.Holding.{GoesHeldIfOpen}
 use Rattle.archive_desk.proofs.CallLemmas.{calls_after}
 use Rattle.example_reopened.specs.Reopening.{HoldRows, TakesOver, LeadsTo, LeadsToIfOpen, WasReopened, Continues, ContinuesIfOpen, RemembersTheSame, AsksAgain}
 
@@ -103,11 +104,11 @@ module _ {D : Type 0} {g : DiskGhosts D} where
         (there.0, subst (λ b. R archive b) (sym there.1) here.1)
 
     -- and after a request
-    pub leads_still : (R : Archive → Archive → Type 0) → LeadsTo files mid R → GoesIfOpen over_files mid new (λ a b. b ≡ a) → LeadsToIfOpen files new R
+    pub leads_still : (R : Archive → Archive → Type 0) → LeadsTo files mid R → GoesHeldIfOpen over_files mid new (λ a b. b ≡ a) → LeadsToIfOpen files new R
     leads_still R before goes returned archive held up =
         let here = before (goes.0.returned returned) archive held in
-        let there = goes.1 returned here.0 up in
-        (there.0, subst (λ b. R archive b) (sym there.1) here.1)
+        let there = goes.1 returned here.0.held up in
+        (ready_with over_files new (archive_in over_files mid) there.0 there.1 here.0.filed_right, subst (λ b. R archive b) (sym there.1) here.1)
 
 -- ---- closed and opened again
 

@@ -1,7 +1,7 @@
 //! An import, a withdrawal behind it, and two requests behind that, over one store.
 ghost use Rattle.std.specs.Prelude.{◌≡◌, IfOk, IfErr};
 ghost use Rattle.archive_pages.specs.Calls.{AnswersPeer};
-ghost use Rattle.archive_store.specs.Told.{Counts, Goes, HasReturned, IsReady, archive_in};
+ghost use Rattle.archive_store.specs.Told.{Counts, Goes, HasReturned, HoldsTables, IsReady, archive_in};
 ghost use Rattle.example_reopened.specs.Withdrawing.{AnswersBehind, EndsBehind, EndsBoth, IsStopped, IsWithdrawn, IsWithdrawWant};
 
 use archive_desk::{ImportStop, Report, import};
@@ -80,11 +80,12 @@ pub(crate) fn answer_both<S: Alter, T: Threader, R: Source, W: Sink>(
     first: &mut Peer<R, W>,
     second: &mut Peer<R, W>,
 ) -> Answered
-    ensures first { HasReturned S.Store store.new → IsReady S.Store store.old
+    ensures first { HasReturned S.Store store.new → HoldsTables S.Store store.old
         → AnswersPeer R.Source W.Sink (archive_in S.Store store.old) policy.now day first.old first.new result.first }
-    ensures second { HasReturned S.Store store.new → IsReady S.Store store.old
+    ensures second { HasReturned S.Store store.new → HoldsTables S.Store store.old
         → AnswersPeer R.Source W.Sink (archive_in S.Store store.old) policy.now day second.old second.new result.second }
-    ensures ends { EndsBoth R.Source W.Sink S.Store store.old store.new first.old first.new second.old second.new result }
+    ensures ends { EndsBoth R.Source W.Sink S.Store policy.now day store.old store.new
+        first.old first.new second.old second.new result }
 {
     let one = answer(
         store,
@@ -127,8 +128,8 @@ pub fn import_withdraw_and_answer<S: Alter, T: Threader, R: Source, W: Sink>(
         → IsReady S.Store store.old
         → AnswersBehind R.Source W.Sink withdrawal.now policy.now day (archive_in S.Store store.old)
         first.old first.new second.old second.new told.0 told.1) }
-    ensures ends { IfOk result (λ told. EndsBehind R.Source W.Sink S.Store store.old store.new withdrawal.now
-        first.old first.new second.old second.new told.0 told.1) }
+    ensures ends { IfOk result (λ told. EndsBehind R.Source W.Sink S.Store policy.now day
+        store.old store.new withdrawal.now first.old first.new second.old second.new told.0 told.1) }
     ensures stopped { IfErr result (λ stop. IsStopped S.Store store.old store.new withdrawal.now stop
         × (first.new ≡ first.old) × (second.new ≡ second.old)) }
     ensures counted { Counts IsWithdrawWant store.old store.new result }

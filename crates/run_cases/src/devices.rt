@@ -95,4 +95,8 @@ impl<'a, RT: Files + AllocGlobal> System for Stand<'a, RT> {
     type Output = Gathered<Tap, ROOM>;
 
     type Faults = Tap;
+
+    ghost opens_held = { λ old new file store archive held. absurd held };
+
+    ghost closes_held = { λ old device new file before after archive held. absurd held };
 }

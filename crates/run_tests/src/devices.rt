@@ -103,6 +103,15 @@ impl Shelf {
 }
 
 impl Databases<Store<MemStore>> for Shelf {
+    ghost use Rattle.std.specs.Prelude.{◌≡◌, Some, IfOk, codes};
+    ghost use Rattle.run_tests.specs.Shelf.{IsGiven, KeepsArchive};
+
+    ghost holds = { λ shelf name archive. (name ≡ codes "archive.db") × KeepsArchive shelf.store archive };
+
+    ghost opens = { λ old new name result. IfOk result (λ store. IsGiven old.store store) };
+
+    ghost closes = { λ old new store. new.store ≡ Some store };
+
     fn open(&mut self, alloc: Global, name: &str) -> Result<Store<MemStore>, StoreFault> {
         if name != ARCHIVE {
             return Err(StoreFault::Store);
@@ -116,7 +125,7 @@ impl Databases<Store<MemStore>> for Shelf {
     }
 
     fn close(&mut self, store: Store<MemStore>)
-        ensures { ⊤ }
+        ensures { self.new.store ≡ Some store }
     {
         self.store = Some(store);
         self.closed = self.closed.saturating_add(1);
@@ -224,6 +233,8 @@ impl Ports for Quay {
 pub struct Desk;
 
 impl System for Desk {
+    ghost use Rattle.run_tests.specs.Shelf.{given_held, kept_held};
+
     type Storage = MemStore;
 
     type Files = KnownFiles;
@@ -241,4 +252,8 @@ impl System for Desk {
     type Output = Gathered<Tap, ROOM>;
 
     type Faults = Tap;
+
+    ghost opens_held = { λ old new name store archive held given. given_held old.store store archive held.1 given };
+
+    ghost closes_held = { λ old device new name before after archive held given closed returned tables. (held.0, kept_held new.store after closed tables) };
 }

@@ -1,5 +1,6 @@
 use Rattle.std.proofs.Common.{◌≡◌, List, map, Ok, Err}
 use Rattle.archive_machine.specs.Questions.{merge_of}
+use Rattle.archive_store.proofs.Joins.{asks_too}
 use Rattle.archive_results.specs.Access.{view_of}
 use Rattle.archive_results.specs.Results.{TreeLine, month_lines, tree_lines}
 use Rattle.archive_results.specs.Shown.{shown_of}
@@ -12,11 +13,15 @@ returns-in-Ok-threads-clause-listed g c =
     both_asked g.S.Store c.args.store.now c.month.new.store c.threads.new.store reason (λ a. ask_reason a c.args.ask.now)
     (λ a. c.in-Ok.lines.items ≡ month_lines c.args.asked (map shown_of (view_of a c.args.ask.now)))
     (λ a (rows : List TreeLine). rows ≡ tree_lines (merge_of a c.args.ask.now.list) (map shown_of (view_of a c.args.ask.now)))
-    (Ok c.in-Ok-threads.rows.items) c.in-Ok.ensures.listed c.in-Ok-threads.ensures.listed
+    (Ok c.in-Ok-threads.rows.items) c.in-Ok.ensures.listed
+    (asks_too g.S.Store c.month.new.store c.threads.new.store reason (Ok c.in-Ok-threads.rows.items) (λ a. ask_reason a c.args.ask.now)
+    (λ a (rows : List TreeLine). rows ≡ tree_lines (merge_of a c.args.ask.now.list) (map shown_of (view_of a c.args.ask.now))) c.in-Ok-threads.ensures.listed)
 
 pub returns-in-Err-threads-clause-listed : goal.returns-in-Err-threads-clause-listed
 returns-in-Err-threads-clause-listed g c =
     both_asked g.S.Store c.args.store.now c.month.new.store c.threads.new.store reason (λ a. ask_reason a c.args.ask.now)
     (λ a. c.in-Ok.lines.items ≡ month_lines c.args.asked (map shown_of (view_of a c.args.ask.now)))
     (λ a (rows : List TreeLine). rows ≡ tree_lines (merge_of a c.args.ask.now.list) (map shown_of (view_of a c.args.ask.now)))
-    (Err c.in-Err-threads.fault) c.in-Ok.ensures.listed c.in-Err-threads.ensures.listed
+    (Err c.in-Err-threads.fault) c.in-Ok.ensures.listed
+    (asks_too g.S.Store c.month.new.store c.threads.new.store reason (Err c.in-Err-threads.fault) (λ a. ask_reason a c.args.ask.now)
+    (λ a (rows : List TreeLine). rows ≡ tree_lines (merge_of a c.args.ask.now.list) (map shown_of (view_of a c.args.ask.now))) c.in-Err-threads.ensures.listed)

@@ -13,7 +13,7 @@ returns-clause-answered g c =
     (g.R.Source.ends c.args.input.now) (g.R.Source.ends c.answer-answered.new.input) (g.W.Sink.told c.args.output.now)
     (g.W.Sink.told c.answer-answered.new.output) c.answer-answered.result)
     c.in-Ok.ensures.imported c.answer-answered.ensures.stays.same
-    (λ returned ready. answers_first over_files c.in-Ok.done.0 c.answer-answered.new.store returned ready c.args.policy.now c.args.day c.answer-answered.result
+    (λ returned held. answers_first over_files c.in-Ok.done.0 c.answer-answered.new.store returned held c.args.policy.now c.args.day c.answer-answered.result
     (g.R.Source.told c.args.input.now) (g.R.Source.told c.answer-answered.new.input) (g.R.Source.ends c.args.input.now)
     (g.R.Source.ends c.answer-answered.new.input) (g.W.Sink.told c.args.output.now) (g.W.Sink.told c.answer-answered.new.output)
     c.answer-answered.ensures.answered)

@@ -21,7 +21,7 @@ pub returns-in-Ok-import_withdraw_and_answer-clause-caused : goal.returns-in-Ok-
 returns-in-Ok-import_withdraw_and_answer-clause-caused g c =
     let write = c.what_commands_write_can_be_read.ensures in
     wanting c.in_memory_503_means_that_memory_was_refused.ensures c.in_memory_each_request_is_followed_by_the_next.ensures write.taken write.step
-    c.divided_are_items.ensures g.R.Source g.W.Sink c.in-Ok.store c.import_withdraw_and_answer.new.store c.args.withdrawal.now
+    c.divided_are_items.ensures g.R.Source g.W.Sink c.args.policy.now c.args.day c.in-Ok.store c.import_withdraw_and_answer.new.store c.args.withdrawal.now
     c.args.first.now c.import_withdraw_and_answer.new.first c.args.second.now c.import_withdraw_and_answer.new.second
     c.in-Ok-import_withdraw_and_answer.report c.in-Ok-import_withdraw_and_answer.answered c.in-Ok.ensures.ready c.in-Ok.ensures.unlimited
     (subst CanBeRead (sym c.in-Ok.ensures.remembers)

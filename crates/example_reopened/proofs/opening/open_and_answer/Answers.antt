@@ -12,7 +12,7 @@ returns-clause-answered g c =
     (λ archive. AnswersFrom archive c.args.policy.now c.args.day (g.R.Source.told c.args.peer.now.input) (g.R.Source.told c.answer-answered.new.input)
     (g.R.Source.ends c.args.peer.now.input) (g.R.Source.ends c.answer-answered.new.input) (g.W.Sink.told c.args.peer.now.output)
     (g.W.Sink.told c.answer-answered.new.output) c.answer-answered.result)
-    (λ returned ready. answers_first over_files c.in_ok-store.store c.answer-answered.new.store returned ready c.args.policy.now c.args.day c.answer-answered.result
+    (λ returned held. answers_first over_files c.in_ok-store.store c.answer-answered.new.store returned held c.args.policy.now c.args.day c.answer-answered.result
     (g.R.Source.told c.args.peer.now.input) (g.R.Source.told c.answer-answered.new.input) (g.R.Source.ends c.args.peer.now.input)
     (g.R.Source.ends c.answer-answered.new.input) (g.W.Sink.told c.args.peer.now.output) (g.W.Sink.told c.answer-answered.new.output)
     c.answer-answered.ensures.answered)
@@ -32,5 +32,6 @@ returns-clause-ends g c = record {
   quiet = c.answer-answered.ensures.quiet;
   cause = c.answer-answered.ensures.cause;
   caused = caused_since c.args.files c.in_ok-store.store c.answer-answered.new.store c.in_ok-store.ensures.opened c.answer-answered.ensures.stays.same.0
-      c.answer-answered.result c.in_ok-store.ensures.unlimited c.answer-answered.ensures.caused;
+      c.answer-answered.result (g.R.Source.told c.args.peer.now.input) (g.R.Source.told c.answer-answered.new.input) c.args.policy.now c.args.day
+      c.in_ok-store.ensures.unlimited c.answer-answered.ensures.caused;
 }

@@ -14,8 +14,8 @@ returns-clause-answered g c = λ returned archive held.
     record {
       archive = archive_in over_files c.in-Ok.done.0;
       made = it.1;
-      first_sent = c.answer_both-answered.ensures.first returned it.0;
-      second_sent = c.answer_both-answered.ensures.second returned it.0;
+      first_sent = c.answer_both-answered.ensures.first returned it.0.held;
+      second_sent = c.answer_both-answered.ensures.second returned it.0.held;
     }
 
 pub returns-clause-stays : goal.returns-clause-stays
@@ -28,6 +28,6 @@ returns-clause-stays g c =
 pub returns-clause-caused : goal.returns-clause-caused
 returns-clause-caused g c =
     caused_behind c.what_commands_write_can_be_read.ensures.taken c.what_commands_write_can_be_read.ensures.step c.divided_are_items.ensures g.R.Source g.W.Sink
-    c.args.files c.in-Ok.done.0 c.answer_both-answered.new.store c.args.withdrawal.now c.args.first.now c.answer_both-answered.new.first c.args.second.now
+    c.args.policy.now c.args.day c.args.files c.in-Ok.done.0 c.answer_both-answered.new.store c.args.withdrawal.now c.args.first.now c.answer_both-answered.new.first c.args.second.now
     c.answer_both-answered.new.second c.in-Ok.done.1 c.answer_both-answered.result c.in-Ok.ensures.withdrawn c.in-Ok.ensures.unlimited
     c.answer_both-answered.ensures.ends

@@ -1,15 +1,18 @@
-use Rattle.std.proofs.Common.{arith}
+use Rattle.std.proofs.Common.{arith, Ok, Err}
+use Rattle.archive_desk.proofs.ImportLemmas.{import_right}
 use Rattle.example_reopened.proofs.WithdrawLemmas.{not_withdrawn, withdrawn}
 use Rattle.example_reopened.proofs.withdrawing.import_and_withdraw.Goals as goal
 
 pub returns-in-Ok-withdraw-clause-done : goal.returns-in-Ok-withdraw-clause-done
 returns-in-Ok-withdraw-clause-done g c =
-    withdrawn g.S.Store c.args.store.now c.import.new.store c.withdraw.new.self c.args.withdrawal.now c.in-Ok.report c.in-Ok.ensures.imports
+    withdrawn g.S.Store c.args.store.now c.import.new.store c.withdraw.new.self c.args.withdrawal.now c.in-Ok.report
+    (import_right g.S.Store c.args.store.now c.import.new.store c.args.withdrawal.now.list.now c.args.withdrawal.now.mbox.now (Ok c.in-Ok.report) c.in-Ok.ensures.imports)
     c.in-Ok-withdraw.ensures.ends.lasts c.what_is_withdrawn_might_never_have_come.ensures c.in-Ok-withdraw.ensures.step
 
 pub returns-in-Err-withdraw-clause-stopped : goal.returns-in-Err-withdraw-clause-stopped
 returns-in-Err-withdraw-clause-stopped g c =
-    not_withdrawn g.S.Store c.args.store.now c.import.new.store c.withdraw.new.self c.args.withdrawal.now c.in-Ok.report c.in-Ok.ensures.imports
+    not_withdrawn g.S.Store c.args.store.now c.import.new.store c.withdraw.new.self c.args.withdrawal.now c.in-Ok.report
+    (import_right g.S.Store c.args.store.now c.import.new.store c.args.withdrawal.now.list.now c.args.withdrawal.now.mbox.now (Ok c.in-Ok.report) c.in-Ok.ensures.imports)
     c.in-Err-withdraw.ensures.ends.lasts c.in-Err-withdraw.fault c.in-Err-withdraw.ensures.step
 
 pub returns-in-Ok-withdraw-clause-counted : goal.returns-in-Ok-withdraw-clause-counted
@@ -20,3 +23,7 @@ returns-in-Err-withdraw-clause-counted g c =
     let first = c.in-Ok.ensures.counted.0 in
     let then = c.in-Err-withdraw.ensures.ends.counted in
     let grown = then.0 in (omega (arith, first, grown), (λ want. let more = then.1 want in omega (arith, first, more)))
+
+pub returns-in-Err-clause-stopped : goal.returns-in-Err-clause-stopped
+returns-in-Err-clause-stopped g c =
+    import_right g.S.Store c.args.store.now c.import.new.store c.args.withdrawal.now.list.now c.args.withdrawal.now.mbox.now (Err c.in-Err.stop) c.in-Err.ensures.imports

@@ -11,8 +11,8 @@ returns-clause-answered g c = λ returned ready.
     record {
       archive = archive_in g.S.Store found;
       made = it.1;
-      first_sent = c.answer_both-answered.ensures.first returned it.0;
-      second_sent = c.answer_both-answered.ensures.second returned it.0;
+      first_sent = c.answer_both-answered.ensures.first returned it.0.held;
+      second_sent = c.answer_both-answered.ensures.second returned it.0.held;
     }
 
 pub returns-clause-ends : goal.returns-clause-ends
