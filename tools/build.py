@@ -16,6 +16,9 @@ PROVED = re.compile(r"rt: (\w+) (proved|is kept: .*)")
 # What each crate took in one build on four processors, in minutes; what it took in the last build here, a file beside the log; and what a
 # crate takes of which neither knows.
 MEASURED, SEEN, UNKNOWN = part.ROOT / "tools" / "minutes.txt", "minutes.txt", 2.0
+# The first crate of a chain that has little beside it. It and what stands on it are proved in a second run, in which the toolchain gives
+# each all processors: in one run with the rest it would begin with one, as others wait for theirs, and keep to it.
+CHAIN = "archive_store"
 
 
 def took(*files):
@@ -40,6 +43,12 @@ def span(below, takes, lanes):
     return now
 
 
+def runs(names):
+    """Returns the crates of each run of the toolchain's gate. The later one holds those of the earlier, which are kept then."""
+    first = [it for it in names if CHAIN not in part.with_those_below(it)]
+    return [first, names] if 0 < len(first) < len(names) else [names]
+
+
 class Work:
     """How much is to be done, how much is, and how long the rest takes."""
 
@@ -50,10 +59,12 @@ class Work:
         self.ends, self.kept, self.said = {}, set(), math.inf
 
     def take(self, name, is_kept, at):
-        """Notes that a crate is done, after so many minutes."""
-        if name in self.takes:
-            self.ends[name] = at
-            self.kept |= {name} if is_kept else set()
+        """Notes that a crate is done, after so many minutes, and returns whether that is new."""
+        if name not in self.takes or name in self.ends:
+            return False
+        self.ends[name] = at
+        self.kept |= {name} if is_kept else set()
+        return True
 
     def begun(self, name):
         """Returns when a crate could begin."""
@@ -86,8 +97,8 @@ class Work:
 class Told:
     """Writes what the toolchain says to a log, and says which crates are proved; each minute in which none is, how it stands."""
 
-    def __init__(self, top, early, work, log):
-        self.top, self.early, self.work, self.log = top, early, work, log
+    def __init__(self, early, work, log):
+        self.top, self.early, self.work, self.log = None, early, work, log
         self.begun = self.last = time.monotonic()
         self.ended, self.why = threading.Event(), why.Why()
 
@@ -95,8 +106,8 @@ class Told:
         self.log.write(f"{line}\n")
         self.log.flush()
         self.why.hear(line)
-        if found := PROVED.fullmatch(line):
-            self.work.take(found[1], found[2] != "proved", self.minutes())
+        found = PROVED.fullmatch(line)
+        if found and self.work.take(found[1], found[2] != "proved", self.minutes()):
             self.say(f"proved {found[1]} ({len(self.work.ends)} of {len(self.work.takes)})")
             if found[1] in self.early and writes_well(self.top, found[1]):
                 take(self.top, found[1], self.early[found[1]])
@@ -137,6 +148,15 @@ def take(top, name, made):
     os.replace(made, out / "built-by-the-front-door")
 
 
+def proves(told, names, program=None, made=None):
+    """Runs the toolchain's gate over a copy of these crates, takes the program that is named, and returns whether all passed."""
+    with part.copied(names, ()) as told.top:
+        passed = part.run_ci(told.top, [], told.hear) == 0
+        if passed and program:
+            take(told.top, program, made)
+    return passed
+
+
 def main(words):
     if len(words) < 2 or not all("=" in it for it in words[1:]):
         sys.exit(__doc__)
@@ -146,15 +166,15 @@ def main(words):
     names = [it for it in part.lines() if it in wanted]
     seen = pathlib.Path(words[0]).parent / SEEN
     work = Work(names, took(MEASURED, seen), os.cpu_count() or 1)
-    with part.copied(names, ()) as top, open(words[0], "a", encoding="utf-8") as log:
-        told = Told(top, {name: file for name, file in made.items() if name != last}, work, log)
+    with open(words[0], "a", encoding="utf-8") as log:
+        told = Told({name: file for name, file in made.items() if name != last}, work, log)
         threading.Thread(target=told.go_on, daemon=True).start()
-        failed = part.run_ci(top, [], told.hear)
+        *earlier, whole = runs(names)
+        passed = all(proves(told, it) for it in earlier) and proves(told, whole, last, made[last])
         told.ended.set()
-        if failed:
+        if not passed:
             told.why.tell("archive", sys.stderr)
             return 1
-        take(top, last, made[last])
         work.write(seen)
     return 0
 

@@ -180,6 +180,18 @@ def takes_an_early_program(writes, wanted):
     return holds
 
 
+def proves_in_two_runs():
+    """What stands on the first crate of the long chain is proved in a run of its own, behind one of all others; no crate is told of twice."""
+    files = {**MADE, "crates.txt": "low: memchr\narchive_store: low\nmiddle: archive_store\n", "crates/archive_store/src/lib.rt": "\n"}
+    says_of = "rt: low proved\nrt: archive_store proved\nrt: middle proved\n3 passed, 0 failed\n"
+    with repository(files, **{**BUILT, "says": says_of}) as (top, stand_in), tools() as build:
+        ended, _, errors = run(top, stand_in, "build.py", TO_BUILD)
+        build.part.ROOT = top
+        known = [*build.part.lines()]
+        return equal((ended, (top / "log").read_text(), errors.count("proved low"), build.runs(known), build.runs(["low"])),
+                     (0, says_of * 2, 1, [["low"], known], [["low"]]))
+
+
 def schedule(takes, below, lanes, wanted):
     """A case of how long crates take, so many side by side."""
     def holds():
@@ -220,6 +232,7 @@ BUILD = {
     "the program is taken": takes_the_program,
     "a gate that fails leaves the old one": leaves_the_old_program,
     "a program that is named first is there before": takes_an_early_program("cat", (1, True, True, True)),
+    "in two runs": proves_in_two_runs,
     "unless it writes something else": takes_an_early_program("echo out", (1, False, False, False)),
     "why it fails is said": says("build.py", TO_BUILD, MADE, 1, faults="archive: what failed, and why (what was said before says more):\n"
         "  low: src/lib.rt:3:1: error: not so\n  rt: low NOT PROVED\n",
@@ -434,13 +447,15 @@ QUICK = {
     "tests": says("quick.py", ["low_tests"], TESTED, 0, "1 passed, 0 failed, 0 cut; nothing is proved: ./check proves", **{**PASSES, "tells": TRIED}),
     "a test that fails": says("quick.py", ["low_tests"], TESTED, 1, "quick: low_tests: test a::b ... FAILED", "0 passed, 1 failed, 0 cut; nothing is proved: ./check proves",
         **{**PASSES, "writes": "test a::b ... FAILED\n"}),
-    "a test that is cut": says("quick.py", ["low_tests"], TESTED, 0, "quick: low_tests: test a::b was cut after 60 seconds: no cause is known, so this machine may be busy", "0 passed, 0 failed, 1 cut; nothing is proved: ./check proves",
+    "a test that is cut": says("quick.py", ["low_tests"], TESTED, 0, "quick: low_tests: test a::b was cut after 240 seconds: no cause is known, so this machine may be busy", "0 passed, 0 failed, 1 cut; nothing is proved: ./check proves",
         **{**PASSES, "writes": "test a::b ... FAILED\n    checked: no-answer: the program did not end within the time limit\n    run=no-answer\ntest result: FAILED.\n"}),
-    "a program that is cut": says("quick.py", ["shown"], TESTED, 0, "quick: shown was cut after 120 seconds", "0 passed, 0 failed, 1 cut; nothing is proved: ./check proves",
+    "a program that is cut": says("quick.py", ["shown"], TESTED, 0, "quick: shown was cut after 120 seconds: no cause is known, so this machine may be busy", "0 passed, 0 failed, 1 cut; nothing is proved: ./check proves",
         writes="", tells="checked: no-answer: the program did not end within the time limit\nrun=no-answer proved=no\n"),
     "tests that do not end": says("quick.py", ["low_tests"], TESTED, 1, "0 passed, 1 failed, 0 cut; nothing is proved: ./check proves", **{**PASSES, "writes": "", "tells": "run=none proved=no\n"}),
     "a test that is not tried": says("quick.py", ["low_tests"], {**TESTED, "crates/low_tests/src/lib.rt": "#[test]\nfn f() {}\n\n#[test]\nfn g() {}\n"}, 1,
         "quick: low_tests: of its 2 tests 1 were tried: run=ended status=3 runners=1 proved=no", "1 passed, 1 failed, 0 cut; nothing is proved: ./check proves", **PASSES),
+    "each file by itself": says("quick.py", ["thread_tests"], {**TESTED, "crates.txt": "thread_tests:\n", "crates/thread_tests/src/lib.rt": "#[cfg(test)]\nmod a;\n#[cfg(test)]\nmod b;\n", "crates/thread_tests/src/a.rt": "#[test]\nfn f() {}\n",
+        "crates/thread_tests/src/b.rt": "#[test]\nfn g() {}\n"}, 0, "2 passed, 0 failed, 0 cut; nothing is proved: ./check proves", **PASSES),
     "a program that writes something else": says("quick.py", ["shown"], TESTED, 1, "quick: shown: it wrote something else than its file stdout",
         "0 passed, 1 failed, 0 cut; nothing is proved: ./check proves", **{**PASSES, "writes": "other\n"}),
     "one that ends with another status": says("quick.py", ["shown"], TESTED, 1, "0 passed, 1 failed, 0 cut; nothing is proved: ./check proves", **{**PASSES, "tells": TRIED}),
