@@ -1,11 +1,12 @@
 -- Which databases are taken over.
-use Rattle.std.specs.Prelude.{◌≡◌, ◌⊎◌, ◌≤◌, ◌<◌, ℕ, length}
+use Rattle.std.specs.Prelude.{◌≡◌, ◌⊎◌, ◌≤◌, ◌<◌, ℕ, pos, length}
 use Rattle.sqlite.specs.Effect.{Database}
 use Rattle.sqlite.specs.Held.{Held, state}
 use Rattle.sqlite.specs.Schema.{Schema}
 use Rattle.sqlite.specs.Store.{Ghosts}
 use Rattle.archive_tables.specs.Schema.{no_schema, schema_of}
-use Rattle.archive_tables.specs.Tables.{IsKnown, newest_number}
+use Rattle.archive_tables.specs.Tables.{IsKnown, IsOfVersion, newest_number}
+use Rattle.archive_tables.specs.Statements.{IsRefusedInTurn, making_statements, moving_statements}
 use Rattle.archive_tables.specs.Crashes.{AddsNothing}
 use Rattle.archive_tables.specs.Making.{IsMaking}
 
@@ -25,9 +26,13 @@ pub record HasAsManyObjects (number : ℕ) (schema : Schema) : Type 0 where
 abbrev pub MayBeTaken : Schema → Type 0
 MayBeTaken schema = (schema ≡ no_schema) ⊎ ((number : ℕ) × IsKnown number × HasAsManyObjects number schema)
 
--- a database that adopting understands: an empty one, or one of the tables of a version, whatever their rows are
+-- the tables of a version, whatever their rows are
+abbrev pub HasVersion : Schema → Type 0
+HasVersion schema = (number : ℕ) × IsKnown number × (schema ≡ schema_of number)
+
+-- a database that adopting understands: an empty one, or one of the tables of a version
 abbrev pub IsUnderstood : Schema → Type 0
-IsUnderstood schema = (schema ≡ no_schema) ⊎ ((number : ℕ) × IsKnown number × (schema ≡ schema_of number))
+IsUnderstood schema = (schema ≡ no_schema) ⊎ HasVersion schema
 
 -- a version before the newest
 pub record IsOlder (number : ℕ) : Type 0 where
@@ -37,3 +42,21 @@ pub record IsOlder (number : ℕ) : Type 0 where
 -- within a transaction over the tables of this schema, without rows, a stop of the machine leaves nothing that it did not leave before
 abbrev pub QuietFrom : {S : Type 0} → Ghosts S → Held S → Held S → Schema → Type 0
 QuietFrom g old new schema = (before : Database) → IsMaking (state g old) schema before → AddsNothing g old new
+
+-- ---- why a database that adopting understands is not taken, but for want of memory and the disk
+
+-- it is empty, and SQL refuses in its turn a statement that makes the tables
+abbrev pub IsUnmade : Database → Type 0
+IsUnmade db = (db.schema ≡ no_schema) × IsRefusedInTurn making_statements db
+
+-- its tables are those of a version, and `version` does not hold one row, of its number
+abbrev pub IsUnnumbered : Database → Type 0
+IsUnnumbered db = (number : ℕ) × IsKnown number × (db.schema ≡ schema_of number) × (¬ IsOfVersion (pos number) db.trees)
+
+-- its tables are those of an older version, and SQL refuses in its turn a statement that brings them over
+abbrev pub IsUnmoved : Database → Type 0
+IsUnmoved db = (number : ℕ) × IsOlder number × (db.schema ≡ schema_of number) × IsRefusedInTurn (moving_statements number) db
+
+-- one of these
+abbrev pub IsNotTaken : Database → Type 0
+IsNotTaken db = IsUnmade db ⊎ (IsUnnumbered db ⊎ IsUnmoved db)

@@ -1,5 +1,5 @@
 -- A message that the tables do not hold is written down after the others; or memory or the database was at fault.
-use Rattle.std.specs.Prelude.{◌≡◌, ℕ, false, List, Option, None, Result, MatchResult}
+use Rattle.std.specs.Prelude.{◌≡◌, ℕ, false, List, Option, None, Result, OnOk, MatchResult}
 use Rattle.std.specs.List.{list_any}
 use Rattle.sqlite.specs.Effect.{Database}
 use Rattle.sqlite.specs.Store.{Ghosts}
@@ -10,7 +10,7 @@ use Rattle.archive_machine.specs.Questions.{is_message}
 use Rattle.archive_machine.specs.Filing.{item_filing}
 use Rattle.archive_machine.specs.Machine.{with_keyed, keyed_message}
 use Rattle.archive_tables.specs.Tables.{IsHeld, archive_of}
-use Rattle.archive_tables.specs.Statements.{Statement, adding_message, IsRefused}
+use Rattle.archive_tables.specs.Statements.{Statement, adding_message, IsRefused, IsCarriedOut}
 use Rattle.archive_tables.specs.Crashes.{CrashesOver}
 use Rattle.archive_tables.specs.Calls.{ChangesOver, RestsOver}
 use Rattle.archive_database.specs.Faults.{FailsByDiskOr}
@@ -32,6 +32,11 @@ taking_in list key item = adding_message (keyed_message list key item) (item_fil
 abbrev pub FailsToTake : {S : Type 0} → Ghosts S → Held S → Held S → Result (Unit {0}) Fault → List ℕ → List ℕ → Item → Type 0
 FailsToTake g old new result list key item = HasCleanDisk (state g new) → (behind : Option Database) → IsHeld behind (state g old) → (state g old).step_limit ≡ None
     → FailsByDiskOr (state g old) (state g new) result (IsRefused (taking_in list key item) (state g old).now)
+
+-- and what the rows are once it is
+abbrev pub WritesDown : {S : Type 0} → Ghosts S → Held S → Held S → Result (Unit {0}) Fault → List ℕ → List ℕ → Item → Type 0
+WritesDown g old new result list key item = HasCleanDisk (state g new) → (behind : Option Database) → IsHeld behind (state g old) → (state g old).step_limit ≡ None
+    → OnOk result (IsCarriedOut (taking_in list key item) (state g old).now (state g new).now)
 
 -- what a stop of the machine may leave of it
 abbrev pub TakesWhole : {S : Type 0} → Ghosts S → Held S → Held S → List ℕ → List ℕ → Item → Type 0

@@ -1,5 +1,6 @@
 pub mod Asking
 pub mod Causes
+pub mod Crashes
 pub mod Ending
 pub mod Exporting
 pub mod Faults

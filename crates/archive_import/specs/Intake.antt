@@ -1,10 +1,12 @@
 -- The messages that are held for one call of the store, and what became of those before them.
-use Rattle.std.specs.Prelude.{◌≡◌, ◌⊎◌, ◌≤◌, ◌+◌, ◌++◌, ℕ, true, List, length}
+use Rattle.std.specs.Prelude.{◌≡◌, ◌⊎◌, ◌≤◌, ◌+◌, ◌++◌, ℕ, true, List, length, Result, MatchResult}
 use Rattle.mbox_core.specs.Division.{Item}
 use Rattle.archive_machine.specs.Records.{Archive}
 use Rattle.archive_machine.specs.Questions.{has_list}
 use Rattle.archive_machine.specs.Runs.{taken, Tally, tally}
-use Rattle.archive_store.specs.Batches.{text_bytes, IsFullAt}
+use Rattle.archive_store.specs.Batches.{text_bytes, told_in, IsFullAt}
+use Rattle.archive_store.specs.declared.batches.AddReport.{AddReport}
+use Rattle.archive_store.specs.declared.batches.AddStop.{AddStop}
 use Rattle.archive_desk.specs.Importing.{tally_of, HasAddedFirst}
 use Rattle.archive_desk.specs.declared.importing.Report.{Report}
 use Rattle.archive_desk.specs.declared.importing.ImportFault.{ImportFault}
@@ -61,6 +63,10 @@ IsUnread list items a b done no_room = HasAddedFirst list items done a b
 IsUnread list items a b done unknown_list = ⊥
 IsUnread list items a b done full = HasAddedFirst list items done a b × IsFullAt a list items done
 IsUnread list items a b done (declined why) = ⊥
+
+-- what is told of messages that are added in one call: a report tells of all of them, and a stop of no more
+abbrev pub TellsWithin : List Item → Result AddReport AddStop → Type 0
+TellsWithin items result = MatchResult result (λ report. told_in report ≡ length items) (λ stop. stop.done ≤ length items)
 
 abbrev pub IsOfStore : ImportFault → Type 0
 IsOfStore (Mbox fault) = ⊥

@@ -14,6 +14,7 @@ use Rattle.archive_store.specs.Batches.{IsFullAt}
 use Rattle.archive_store.specs.Replies.{refusal}
 use Rattle.archive_store.specs.Told.{Calls}
 use Rattle.archive_store.specs.declared.store.Store.{Store as Open}
+use Rattle.archive_desk.specs.Crashes.{HasAddedAtLeast}
 use Rattle.archive_desk.specs.Importing.{HasAddedFirst, IsImported, IsImportWant}
 use Rattle.archive_desk.specs.declared.importing.Report.{Report}
 use Rattle.archive_desk.specs.declared.importing.ImportStop.{ImportStop}
@@ -94,6 +95,10 @@ abbrev pub IsBroken : (list text : List ℕ) → (ends : ℕ) → (a b : Archive
 IsBroken list text ends a b done (Mbox fault) = ⊥
 IsBroken list text ends a b done (Store fault) = (items : List Item) × AreRead text ends items × HasAddedFirst list items done a b
 
+-- A stop of the machine: so many first of the messages read were added, at least `done`.
+abbrev pub HasReadAtLeast : (list text : List ℕ) → (ends : ℕ) → (done : ℕ) → (a b : Archive) → Type 0
+HasReadAtLeast list text ends done a b = (items : List Item) × AreRead text ends items × HasAddedAtLeast list items done a b
+
 -- all messages of the input, which was read to its end
 abbrev pub IsReadIn : (list text : List ℕ) → (ends : ℕ) → (a b : Archive) → Report → Type 0
 IsReadIn list text ends a b report = (ends ≡ 1) × IsImported list text a b report
@@ -111,17 +116,19 @@ pub record IsSettled (cutter : CutterState) : Type 0 where
   pub none : cutter.waiting ≡ []
   pub given : IsCutter cutter
 
--- The messages that waited were taken, where all were held; nothing more was read.
-pub record TakesWaiting {A F : Type 0} (old new : CutterState) (result : Result A F) : Type 0 where
+-- The messages that waited were taken, where all were held; nothing more was read, and no read failed.
+pub record TakesWaiting {A : Type 0} (old new : CutterState) (result : Result A ImportStop) : Type 0 where
   pub taken : OnOk result ((new.taken ≡ old.taken ++ old.waiting) × (new.waiting ≡ []))
   pub stream : new.stream ≡ old.stream
   pub phase : new.phase ≡ old.phase
   pub given : IsCutter new
+  pub kind : IfErr result (λ stop. FailedBy stop.fault 0)
 
--- This was read of an input, by what it told before and after: after Ok to its end, which was met once, and else never; and so many
--- reads failed.
-pub record ReadsIn (before after : List ℕ) (ended ends failed fails : ℕ) (stream : List ℕ) {A : Type 0} (result : Result A ImportStop) : Type 0 where
-  pub told : after ≡ before ++ stream
+-- This was read of an input, by what it told before and after: after Ok to its end, which was met once, and all that is settled was
+-- taken, and else never; and so many reads failed.
+pub record ReadsIn (before after : List ℕ) (ended ends failed fails : ℕ) (cutter : CutterState) {A : Type 0} (result : Result A ImportStop) : Type 0 where
+  pub told : after ≡ before ++ cutter.stream
+  pub settled : OnOk result (IsSettled cutter)
   pub end : OnOk result (ends ≡ ended + 1)
   pub no_end : IfErr result (λ _. ends ≡ ended)
   pub failures : (more : ℕ) × (fails ≡ failed + more) × HasFailed result more

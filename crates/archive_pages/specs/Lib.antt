@@ -8,4 +8,5 @@ pub mod KeptServing
 pub mod Answered
 pub mod Running
 pub mod Reopened
+pub mod Stopped
 pub mod Calls

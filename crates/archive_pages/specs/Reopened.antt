@@ -34,11 +34,14 @@ module _ {D : Type 0} {g : Ghosts D} where
       → (told_before told_after : List ℕ) → Result ℕ ServeFault → Type 0
   Answers = AnswersBy over_files
 
-  -- A request to a file that was closed while it held this archive, and was opened again, is answered out of this archive.
-  abbrev pub AnswersReopened : (closed opened : Held (FileStore D g)) → Files D → (store new : Store (FileStore D g)) → Archive → Type 0
-  AnswersReopened closed opened files store new archive =
-      HoldsArchive over_files closed archive → IsReopened closed opened files store → HasReturned over_files new
-      → (rules : List Rule) (day : ℤ) (read_before read_after : List ℕ) (ends_before ends_after : ℕ) (told_before told_after : List ℕ)
+  -- what it comes to: each request to this store, which leaves that one, is answered out of this archive
+  abbrev pub AnswersOutOf : Archive → (store new : Store (FileStore D g)) → Type 0
+  AnswersOutOf archive store new = (rules : List Rule) (day : ℤ) (read_before read_after : List ℕ) (ends_before ends_after : ℕ) (told_before told_after : List ℕ)
       (result : Result ℕ ServeFault)
       → Answers store new rules day read_before read_after ends_before ends_after told_before told_after result
       → AnswersFrom archive rules day read_before read_after ends_before ends_after told_before told_after result
+
+  -- A request to a file that was closed while it held this archive, and was opened again, is answered out of this archive.
+  abbrev pub AnswersReopened : (closed opened : Held (FileStore D g)) → Files D → (store new : Store (FileStore D g)) → Archive → Type 0
+  AnswersReopened closed opened files store new archive =
+      HoldsArchive over_files closed archive → IsReopened closed opened files store → HasReturned over_files new → AnswersOutOf archive store new

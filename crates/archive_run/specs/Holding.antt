@@ -103,7 +103,7 @@ module _ {Y S F D C P T R O E I L K A B M : Type 0} (dev : Devices S F I D C P L
     pub closed : dev.databases.closes device new.databases later
     pub end : L
     pub of_held : HasReturned dev.pages later → (archive : Archive) → dev.databases.holds old.databases order.file archive
-        → ServesEach (AnswersIn dev.pages ⊤ archive rules day true) dev.accepts dev.shuts outcomes (served listening.listener store) (served end later)
+        → ServesEach (AnswersIn dev.pages ⊤ archive rules day) dev.accepts dev.shuts outcomes (served listening.listener store) (served end later)
         × (IsOpen dev.pages later → dev.databases.holds new.databases order.file archive)
 
   -- What becomes of the archive that the database of an order holds, where the order is carried out.

@@ -1,5 +1,5 @@
 -- What refusals print.
-use Rattle.std.specs.Prelude.{◌≡◌, ◌&&◌, ◌++◌, nat_le, ℕ, List, map, codes, decimal, string_bytes, if◌then◌else◌}
+use Rattle.std.specs.Prelude.{◌&&◌, ◌++◌, nat_le, ℕ, List, map, codes, decimal, string_bytes, if◌then◌else◌}
 use Rattle.archive_store.specs.Names.{store_text}
 use Rattle.archive_desk.specs.Names.{desk_text}
 use Rattle.archive_desk.specs.declared.importing.ImportFault.{ImportFault}
@@ -31,14 +31,9 @@ refusal_text (Run fault) = run_text fault
 refusal_text (Store fault) = store_text fault
 refusal_text (Desk fault) = desk_text fault
 refusal_text (Import stop) = import_text stop.fault ++ codes " after " ++ decimal stop.done
-refusal_text (Damaged list key) = codes "E16 Damaged " ++ string_bytes list ++ codes " " ++ string_bytes key
+refusal_text (Damaged list key) = codes "E16 Damaged " ++ visible list.items ++ codes " " ++ visible key.items
 refusal_text (Denied rule) = codes "denied by " ++ string_bytes rule
 refusal_text Net = codes "F4 Net"
-
--- The refusal is E16 of a message of this list and key, each byte of which that is not visible it shows as `?`.
-abbrev pub ShowsDamage : (list key : List ℕ) → Refusal → Type 0
-ShowsDamage list key (Damaged shown_list shown_key) = (string_bytes shown_list ≡ visible list) × (string_bytes shown_key ≡ visible key)
-ShowsDamage list key _ = ⊥
 
 -- the refusal is what stops any run, and this holds of it
 abbrev pub OfRun : (RunFault → Type 0) → Refusal → Type 0

@@ -3,7 +3,6 @@ use Rattle.std.specs.Prelude.{◌≡◌, ◌⊎◌, ◌<◌, ◌≤◌, ℕ, ℤ
 use Rattle.sqlite.specs.Store.{Ghosts}
 use Rattle.byte_device.specs.declared.devices.Sink.{Ghosts as Takes}
 use Rattle.policy_core.specs.Rules.{Rule}
-use Rattle.archive_store.specs.Told.{HasReturned, HoldsTables, archive_in}
 use Rattle.archive_store.specs.declared.store.Store.{Store as Open}
 use Rattle.archive_listen.specs.Connections.{Exchange, Noted, Outcome, Telling, noted}
 use Rattle.archive_listen.specs.Serving.{Served, ServesAll, ServesFewer, served}
@@ -12,9 +11,7 @@ use Rattle.archive_listen.specs.declared.connections.Outgoing.{Ghosts as Passes}
 use Rattle.archive_listen.specs.declared.faults.AcceptFault.{AcceptFault}
 use Rattle.archive_listen.specs.declared.faults.ListenFault.{ListenFault}
 use Rattle.archive_serve.specs.Announced.{IsAnnounced}
-use Rattle.archive_kept.specs.Views.{nothing_kept}
-use Rattle.archive_serve.specs.Pages.{Keeper}
-use Rattle.archive_serve.specs.Runs.{AnswersIn}
+use Rattle.archive_serve.specs.Runs.{RunLaw}
 use Rattle.archive_words.specs.Values.{ServeValues}
 use Rattle.archive_run.specs.Databases.{Works}
 use Rattle.archive_run.specs.Orders.{ByPolicy, OnDay}
@@ -40,18 +37,14 @@ said takes passes notes output faults = record { output = sent takes passes outp
 abbrev pub most_kept : ℕ
 most_kept = 268_435_456
 
--- what serves at first: it has routes, and keeps nothing yet
-abbrev pub fresh_keeper : List Rule → (day : ℤ) → Keeper
-fresh_keeper rules day = record { rules = rules; day = day; routes = true; kept = nothing_kept most_kept }
-
 -- ---- an open store, and a listener that listens already
 
 -- `accepts` and `shuts` are what a listener says of a connection that it gives, or does not, and of one that it takes back.
 module _ {S L : Type 0} (g : Ghosts S) (accepts : L → L → Option AcceptFault → Type 0) (shuts : L → L → Exchange → Bool → Type 0)
     (rules : List Rule) (day : ℤ) (listening : Listening L) (old new : Open S) (before after : Said) where
-  -- how each connection is answered, with routes, and where the tables were an archive's and the disk has returned what was written
+  -- how each connection is answered, where the tables were an archive's and the disk has returned what was written
   abbrev pub AnswersEach : (first last : Open S) → (before after : Telling) → Outcome → Type 0
-  AnswersEach = AnswersIn g (HasReturned g new × HoldsTables g old) (archive_in g old) rules day true
+  AnswersEach = RunLaw g rules day old new
 
   -- The line that says where the archive listens went out, and then this is so of a run of connections, by how each is answered, where
   -- it begins, and what was told of faults; and of what listens and the store at its end.

@@ -1,6 +1,5 @@
 -- What becomes of an open store by an order, and what goes out.
-use Rattle.std.specs.Prelude.{◌≡◌, ◌⊎◌, ◌++◌, ℕ, List, codes, decimal, string_bytes, Result, Ok, Err, Vec, MatchResult}
-use Rattle.std.specs.declared.alloc.Global.{Global}
+use Rattle.std.specs.Prelude.{◌≡◌, ◌⊎◌, ◌++◌, ℕ, List, codes, decimal, string_bytes, Result, Ok, Err, MatchResult}
 use Rattle.sqlite.specs.Store.{Ghosts}
 use Rattle.byte_device.specs.declared.devices.Source.{Ghosts as Reads}
 use Rattle.archive_store.specs.declared.store.Store.{Store as Open}
@@ -23,7 +22,6 @@ use Rattle.sift_run.specs.declared.files.FileFault.TheVariants as file
 use Rattle.sift_run.specs.declared.files.OpenFiles.{Ghosts as Opens}
 use Rattle.archive_run.specs.Databases.{Works, IsUnopened}
 use Rattle.archive_run.specs.Files.{FileTells, GivesNone}
-use Rattle.archive_run.specs.Refusals.{visible}
 use Rattle.archive_run.specs.declared.databases.Databases.{Ghosts as Keeps}
 use Rattle.archive_run.specs.declared.faults.Refusal.{Refusal}
 use Rattle.archive_run.specs.declared.faults.Refusal.TheVariants.{Run, Store, Desk, Import, Damaged, Denied}
@@ -67,15 +65,10 @@ module _ {S : Type 0} (g : Ghosts S) (old new : Open S) where
   GetsNot ask key (Run Memory) = WasRefused old new × (name : _) × Gets g old new ask key (Err (got.Denied name))
   GetsNot ask key _ = ⊥
 
-  -- a check that says E16 of a message
-  abbrev pub FindsDamage : (list key : List ℕ) → Type 0
-  FindsDamage list key = (l : Vec ℕ Global) × (k : Vec ℕ Global) × (list ≡ visible l.items) × (key ≡ visible k.items) × Checks g old new (Err (check.Damaged l k))
-
-  -- A check: E14, E15; or E16; or there was no memory for the list and the key (F5). Memory was refused in that call where this or E14 says so.
+  -- A check: E14, E15; or E16 of the message that it names. Memory was refused in that call where E14 says so.
   abbrev pub ChecksNot : Refusal → Type 0
   ChecksNot (Store fault) = Checks g old new (Err (check.Failed fault)) × (IsWant fault → WasRefused old new)
-  ChecksNot (Damaged list key) = FindsDamage (string_bytes list) (string_bytes key)
-  ChecksNot (Run Memory) = WasRefused old new × (list : List ℕ) × (key : List ℕ) × FindsDamage list key
+  ChecksNot (Damaged list key) = Checks g old new (Err (check.Damaged list key))
   ChecksNot _ = ⊥
 
   -- an export: its text went out, whole, and was passed on

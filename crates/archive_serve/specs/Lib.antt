@@ -1,3 +1,4 @@
 pub mod Pages
+pub mod Keeping
 pub mod Runs
 pub mod Announced

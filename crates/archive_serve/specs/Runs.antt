@@ -1,5 +1,5 @@
 -- Connections one after the other, answered out of one archive.
-use Rattle.std.specs.Prelude.{◌≡◌, ◌≢◌, ◌<◌, ◌⊎◌, ◌++◌, ℕ, ℤ, List, [], ◌∷◌, Bool, true, Option, Result, Ok, Err, ⊤}
+use Rattle.std.specs.Prelude.{◌≡◌, ◌≢◌, ◌<◌, ◌⊎◌, ◌++◌, ℕ, ℤ, List, [], ◌∷◌, Bool, Option, Result, Ok, Err, ⊤}
 use Rattle.std.specs.List.{AllByRecursion}
 use Rattle.sqlite.specs.Store.{Ghosts}
 use Rattle.policy_core.specs.Rules.{Rule}
@@ -13,7 +13,7 @@ use Rattle.archive_listen.specs.declared.faults.AcceptFault.{AcceptFault}
 use Rattle.archive_listen.specs.declared.faults.ConnectionFault.TheVariants.{Read, Write, Broken}
 use Rattle.archive_listen.specs.Serving.{ServesEach, served}
 use Rattle.archive_listen.specs.Sockets.{Accepted, Closed, LoopbackState}
-use Rattle.archive_serve.specs.Pages.{EndsAs, IsKept, Keeper, TellsUnrouted, outcome_of}
+use Rattle.archive_serve.specs.Pages.{EndsAs, TellsUnrouted, outcome_of}
 
 -- a reply other than 503 went out whole, or no request came
 abbrev pub IsSteady : Outcome → Type 0
@@ -24,13 +24,13 @@ IsSteady (Err Broken) = ⊥
 
 -- What one connection of a run was answered, why, and what is left of the store. The reply and its cause are of one answer. The
 -- reply is by these rules, on this day and out of this archive, which the store remembered before the first connection and remembers
--- still, where `If` is so. With routes, a path that no route fits is 404 to nobody, whatever the store is.
-pub record AnswersIn {S : Type 0} (g : Ghosts S) (If : Type 0) (archive : Archive) (rules : List Rule) (day : ℤ) (routes : Bool)
+-- still, where `If` is so. A path that no route fits is 404 to nobody, whatever the store is.
+pub record AnswersIn {S : Type 0} (g : Ghosts S) (If : Type 0) (archive : Archive) (rules : List Rule) (day : ℤ)
     (old new : Store S) (before after : Telling) (outcome : Outcome) : Type 0 where
   pub result : Result ℕ ServeFault
   pub is : outcome ≡ outcome_of result
   pub ends : EndsAs g rules day old new before after result
-  pub unrouted : routes ≡ true → TellsUnrouted before after result
+  pub unrouted : TellsUnrouted before after result
   -- the reply of the definition, or 503, or a beginning of it
   pub reply : If → AnswersFrom archive rules day before.read after.read before.ends after.ends before.written after.written result
   -- the store, if it is still open, remembers the archive; and open it is, if it was, behind a whole reply other than 503
@@ -38,20 +38,20 @@ pub record AnswersIn {S : Type 0} (g : Ghosts S) (If : Type 0) (archive : Archiv
   pub stays_open : If → IsSteady outcome → IsOpen g old → IsOpen g new
 
 -- What is needed for a run whose store was `old` before the first connection and is `new` after the last: the disk has returned
--- what was written to it, the tables of the store were an archive's, and what was kept was of the archive that it remembered.
-abbrev pub CanServe : {S : Type 0} → Ghosts S → Keeper → (old new : Store S) → Type 0
-CanServe g keeper old new = HasReturned g new × HoldsTables g old × IsKept keeper (archive_in g old)
+-- what was written to it, and the tables of the store were an archive's. What the run keeps of it is its own.
+abbrev pub CanServe : {S : Type 0} → Ghosts S → (old new : Store S) → Type 0
+CanServe g old new = HasReturned g new × HoldsTables g old
 
--- how each connection of such a run is answered
-abbrev pub RunLaw : {S : Type 0} → Ghosts S → Keeper → (first last : Store S) → (old new : Store S) → (before after : Telling) → Outcome → Type 0
-RunLaw g keeper first last = AnswersIn g (CanServe g keeper first last) (archive_in g first) keeper.rules keeper.day keeper.routes
+-- how each connection of such a run is answered, by these rules and on this day
+abbrev pub RunLaw : {S : Type 0} → Ghosts S → List Rule → (day : ℤ) → (first last : Store S) → (old new : Store S) → (before after : Telling) → Outcome → Type 0
+RunLaw g rules day first last = AnswersIn g (CanServe g first last) (archive_in g first) rules day
 
 -- Where each connection of such a run got a whole reply other than 503, or asked for nothing, the store is open after the last, too,
 -- and remembers the same.
 abbrev pub LeaveItReady : {S L : Type 0} → Ghosts S → (accepts : L → L → Option AcceptFault → Type 0)
     → (closes : L → L → Exchange → Bool → Type 0) → Type 0
-LeaveItReady {S} {L} g accepts closes = (keeper : Keeper) (outcomes : List Outcome) (listener later : L) (old new : Store S)
-    → ServesEach (RunLaw g keeper old new) accepts closes outcomes (served listener old) (served later new) → CanServe g keeper old new
+LeaveItReady {S} {L} g accepts closes = (rules : List Rule) (day : ℤ) (outcomes : List Outcome) (listener later : L) (old new : Store S)
+    → ServesEach (RunLaw g rules day old new) accepts closes outcomes (served listener old) (served later new) → CanServe g old new
     → AllByRecursion IsSteady outcomes → HoldsTables g new × (archive_in g new ≡ archive_in g old)
 
 -- ---- over sockets
@@ -79,6 +79,6 @@ AreReplied archive rules day (outcome ∷ outcomes) (over ∷ others) =
 
 -- What a listener on the loopback interface has written down of such a run, behind what stood there: each peer's own bytes, and its own reply.
 abbrev pub EachGetsItsReply : {S : Type 0} → Ghosts S → Type 0
-EachGetsItsReply {S} g = (keeper : Keeper) (outcomes : List Outcome) (first last : LoopbackState) (old new : Store S)
-    → ServesEach (RunLaw g keeper old new) Accepted Closed outcomes (served first old) (served last new) → CanServe g keeper old new
-    → (all : List Exchange) × (last.exchanges ≡ first.exchanges ++ all) × AreReplied (archive_in g old) keeper.rules keeper.day outcomes all
+EachGetsItsReply {S} g = (rules : List Rule) (day : ℤ) (outcomes : List Outcome) (first last : LoopbackState) (old new : Store S)
+    → ServesEach (RunLaw g rules day old new) Accepted Closed outcomes (served first old) (served last new) → CanServe g old new
+    → (all : List Exchange) × (last.exchanges ≡ first.exchanges ++ all) × AreReplied (archive_in g old) rules day outcomes all

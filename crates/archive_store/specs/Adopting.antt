@@ -1,5 +1,5 @@
 -- What it says of a connection that it was taken over as a store, and what that it was not.
-use Rattle.std.specs.Prelude.{◌≡◌, ℕ, pos, None}
+use Rattle.std.specs.Prelude.{◌≡◌, ◌⊎◌, ℕ, pos, None}
 use Rattle.sqlite_disk.specs.Disk.{MoreFaults}
 use Rattle.sqlite.specs.Store.{Ghosts}
 use Rattle.sqlite.specs.Held.{Held, state}
@@ -8,7 +8,7 @@ use Rattle.archive_tables.specs.Schema.{no_schema}
 use Rattle.archive_tables.specs.Tables.{IsHeldAs, IsKept, IsKnown, IsOfArchive, HasForm, IsOfVersion, form_of, archive_by, archive_of}
 use Rattle.archive_tables.specs.Calls.{Rests, Lasts}
 use Rattle.archive_tables.specs.Making.{IsUndone, IsIdle, IsBackTo, empty_archive}
-use Rattle.archive_database.specs.Adopting.{MayBeTaken, IsUnderstood}
+use Rattle.archive_database.specs.Adopting.{MayBeTaken, IsUnderstood, IsNotTaken}
 use Rattle.archive_store.specs.Crashes.{CrashAdopts}
 use Rattle.archive_store.specs.Held.{held_of}
 use Rattle.archive_store.specs.Replies.{refusal}
@@ -39,8 +39,8 @@ module _ {S : Type 0} (g : Ghosts S) (connection : Held S) where
     pub unlimited : HasNoLimit g store
 
   -- A connection that was not taken over, and why. An empty database and an archive's are as they were, outside a transaction, if the
-  -- connection is still open, and any other is untouched, for E15. E15 of an archive's means that the disk failed; nothing but E14 and
-  -- E15 comes.
+  -- connection is still open, and any other is untouched, for E15. E15 of an empty one, and of one of the tables of a version, means that
+  -- the disk failed, or is a fact of what the file holds; nothing but E14 and E15 comes.
   pub record IsLeft (stop : AdoptStop S) : Type 0 where
     pub left : HasCleanDisk (state g stop.connection) → IsKept (state g connection) → Rests (state g connection) (state g stop.connection)
     pub undone : HasCleanDisk (state g stop.connection) → (state g connection).now.schema ≡ no_schema
@@ -49,8 +49,8 @@ module _ {S : Type 0} (g : Ghosts S) (connection : Held S) where
         → IsBackTo (state g stop.connection) (state g connection).now
     pub foreign : ¬ MayBeTaken (state g connection).now.schema → stop.connection ≡ connection
     pub why : ¬ MayBeTaken (state g connection).now.schema → stop.fault ≡ faults.Store
-    pub caused : HasCleanDisk (state g stop.connection) → IsKept (state g connection) → (state g connection).step_limit ≡ None
-        → stop.fault ≡ faults.Store → MoreFaults (state g connection).faults (state g stop.connection).faults
+    pub caused : HasCleanDisk (state g stop.connection) → IsIdle (state g connection) → IsUnderstood (state g connection).now.schema → (state g connection).step_limit ≡ None
+        → stop.fault ≡ faults.Store → MoreFaults (state g connection).faults (state g stop.connection).faults ⊎ IsNotTaken (state g connection).now
     pub fault : refusal stop.fault ≡ None
     pub crash : CrashAdopts g connection stop.connection
     pub returned : HasCleanDisk (state g stop.connection) → HasCleanDisk (state g connection)

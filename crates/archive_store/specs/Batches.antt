@@ -1,5 +1,5 @@
 -- Messages added to one list, many in one transaction.
-use Rattle.std.specs.Prelude.{◌≡◌, ◌⊎◌, ℕ, ◌+◌, ◌<◌, ◌≤◌, true, false, IsTrue, List, [], ◌∷◌, ◌++◌, length, take, Option, Some, None, Result, MatchResult, MatchOption}
+use Rattle.std.specs.Prelude.{◌≡◌, ◌⊎◌, ℕ, ◌+◌, ◌<◌, ◌≤◌, true, false, IsTrue, List, [], ◌∷◌, ◌++◌, length, take, Option, Some, None, Result, IfErr, MatchResult, MatchOption}
 use Rattle.std.specs.List.{sum_by}
 use Rattle.sqlite.specs.Effect.{Database}
 use Rattle.sqlite.specs.Store.{Ghosts}
@@ -13,13 +13,19 @@ use Rattle.archive_machine.specs.Machine.{added_within, message_limit}
 use Rattle.archive_machine.specs.Runs.{taken, Tally, tally}
 use Rattle.archive_tables.specs.Tables.{IsHeld, IsKept, archive_of}
 use Rattle.archive_tables.specs.Calls.{RestsOver, IsHeldOrBack}
+use Rattle.archive_store.specs.Held.{held_of}
 use Rattle.archive_store.specs.Replies.{refusal, Steps, says_added}
+use Rattle.archive_store.specs.Refusals.{IsCarried, IsMessageRefused, WritesFor, MakeRows, StopsAmong}
+use Rattle.archive_store.specs.Wanting.{IsWant}
+use Rattle.archive_store.specs.Told.{Counts, Lasts, HasFailed, HasReturned, HasNoLimit}
+use Rattle.archive_store.specs.declared.store.Store.{Store}
 use Rattle.archive_store.specs.declared.words.Added.{Added}
 use Rattle.archive_store.specs.declared.batches.AddReport.{AddReport}
 use Rattle.archive_store.specs.declared.batches.Taken.{Taken}
 use Rattle.archive_store.specs.declared.batches.Taken.TheVariants.{New, Known, TooLarge, Full}
 use Rattle.archive_store.specs.declared.batches.AddStop.{AddStop}
 use Rattle.archive_store.specs.declared.faults.StoreFault.{StoreFault}
+use Rattle.archive_store.specs.declared.faults.StoreFault.TheVariants as faults
 
 abbrev pub tally_of : AddReport → Tally
 tally_of r = record { new = r.new; known = r.known; too_large = r.too_large }
@@ -119,3 +125,31 @@ module _ {S : Type 0} (g : Ghosts S) (old new : Held S) where
       HasCleanDisk (state g new) → IsKept (state g old) → length (messages_in (archive_of (state g old)) list) ≡ before
       → Steps (state g old) (state g new) (λ a. added_within message_limit a list item) (says_added result)
       × (IsTrue (state g new).is_open → length (messages_in (archive_of (state g new)) list) ≡ after)
+
+module _ {S : Type 0} (g : Ghosts S) (old new : Store S) where
+  -- One message more, outside a transaction or within one: what it makes of the rows, or why E15 comes. The machine takes in one that is
+  -- refused, where the list is there and holds `before` messages.
+  abbrev pub WritesOne : Result Taken StoreFault → List ℕ → Item → ℕ → Type 0
+  WritesOne result list item before =
+      HasReturned g new → (behind : Option Database) → IsHeld behind (state g (held_of old)) → HasNoLimit g old
+      → MatchResult result
+      (λ taken. WritesFor list item (taken_reply taken) (state g (held_of old)).now (state g (held_of new)).now)
+      (λ fault. fault ≡ faults.Store → HasFailed g old new ⊎ (IsMessageRefused list item (state g (held_of old)).now
+      × (IsCounted (archive_of (state g (held_of old))) list before → IsCarried (added_within message_limit (archive_of (state g (held_of old))) list item).1)))
+
+  -- Where the first `from` items made the rows that are there of some others, those up to where it came make of these the rows that are
+  -- there then; and where E15 comes, the disk failed, or some of the items make rows that refuse the next.
+  abbrev pub WritesFrom : Option Database → Result ℕ StoreFault → List ℕ → List Item → ℕ → ℕ → AddReport → Type 0
+  WritesFrom behind result list items from before told =
+      HasReturned g new → HasNoLimit g old → (a : Archive) → HasTaken behind (state g (held_of old)) a list (take from items) before told
+      → (first : Database) → MakeRows list (take from items) first (state g (held_of old)).now
+      → MatchResult result
+      (λ at. MakeRows list (take at items) first (state g (held_of new)).now)
+      (λ fault. fault ≡ faults.Store → HasFailed g old new ⊎ StopsAmong list items from first)
+
+  -- how messages of one transaction end: as `EndsUnrefused`, and what is so of the rows
+  pub record EndsAdding {A : Type 0} (result : Result A StoreFault) (Rows : Type 0) : Type 0 where
+    pub lasts : Lasts g old new
+    pub fault : IfErr result (λ fault. refusal fault ≡ None)
+    pub counted : Counts IsWant old new result
+    pub rows : Rows

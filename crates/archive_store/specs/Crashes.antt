@@ -1,4 +1,5 @@
--- What a stop of the machine leaves of a store, in whatever call it comes: an open finds the archive before the call, or the one after it.
+-- What a stop of the machine leaves of a store: of a command, or of a database that is taken over, the archive before or after it; of
+-- many commands or messages, what so many of them made.
 -- To the right of an arrow stands nothing of the state behind the call but what a stop leaves of it (`CrashSteps`, `CrashStepsFrom`,
 -- `CrashAdopts`, `CrashAddsOver`, `CrashBatch`): so they speak of each moment within the call, too.
 use Rattle.std.specs.Prelude.{◌≡◌, ◌⊎◌, ℕ, ◌+◌, ◌≤◌, List, length, take, Option, Some, None, Result, Vec, MatchOption, MatchResult}

@@ -1,5 +1,5 @@
 -- How the answers of a store stand for those of the machine.
-use Rattle.std.specs.Prelude.{◌≡◌, ◌⊎◌, Bool, List, [], ◌∷◌, IfErr, IfSome, MatchResult, MatchOption, Option, Some, None, Result, Ok, Err, option_map}
+use Rattle.std.specs.Prelude.{◌≡◌, ◌⊎◌, ℕ, Bool, List, [], ◌∷◌, IfErr, IfSome, MatchResult, MatchOption, Option, Some, None, Result, Ok, Err, option_map}
 use Rattle.sqlite.specs.Store.{Ghosts}
 use Rattle.sqlite.specs.declared.error.Error.{Error}
 use Rattle.sqlite.specs.declared.error.Error.TheVariants.{SqliteFailure}
@@ -59,6 +59,11 @@ RefusedFor result whys = IfErr result (λ fault. IfSome (refusal fault) (λ why.
 abbrev pub with_fault : {A F : Type 0} → (F → StoreFault) → Result A F → Result A StoreFault
 with_fault fault (Ok a) = Ok a
 with_fault fault (Err stop) = Err (fault stop)
+
+-- how much was done where it stopped
+abbrev pub done_in : {A F : Type 0} → (F → ℕ) → Result A F → ℕ
+done_in count (Ok a) = 0
+done_in count (Err stop) = count stop
 
 -- the answer of a call whose success says this
 abbrev pub reply_of : {A : Type 0} → (A → Reply) → Result A StoreFault → Option Reply

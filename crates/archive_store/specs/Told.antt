@@ -104,11 +104,6 @@ module _ {S : Type 0} (g : Ghosts S) where
     CausedOr result Unread = HasReturned new → HoldsTables old → HasNoLimit old
         → IfErr result (λ fault. fault ≡ faults.Store → HasFailed ⊎ Unread (archive_in old))
 
-    -- the same, or the rows that the store held refuse what the call writes: a fact about these rows alone
-    abbrev pub CausedByRows : {A : Type 0} → Result A StoreFault → (Database → Type 0) → Type 0
-    CausedByRows result Refused = HasReturned new → HoldsTables old → HasNoLimit old
-        → IfErr result (λ fault. fault ≡ faults.Store → HasFailed ⊎ Refused (state g (held_of old)).now)
-
     -- ---- how a call ends, whatever the tables hold and whatever it answers
 
     -- A command: what it does to the store, that who was answered asked one whose connection was open, for which reasons it may be

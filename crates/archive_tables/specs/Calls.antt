@@ -98,6 +98,12 @@ module _ {S : Type 0} (g : Ghosts S) (old new : Held S) where
   FailsByFaultOr result Unread =
       HasCleanDisk (state g new) → IsKept (state g old) → (state g old).step_limit ≡ None → IfErr result (λ e. IsCaused (state g old) (state g new) e ⊎ Unread)
 
+  -- The same of a question that reads each row, outside a transaction or within one.
+  abbrev pub FailsByFault : {A : Type 0} → Result A Error → Type 0
+  FailsByFault result =
+      HasCleanDisk (state g new) → (behind : Option Database) → IsHeld behind (state g old) → (state g old).step_limit ≡ None
+      → IfErr result (λ e. IsCaused (state g old) (state g new) e)
+
   -- Where the connection has no limit on the steps of a query, a write on such tables fails for want of memory, or by a fault of the
   -- disk, or since its rows are refused, and for nothing else.
   abbrev pub FailsByFaultOrRefusal : {A : Type 0} → Result A Error → Statement → Type 0
@@ -128,6 +134,14 @@ module _ {S : Type 0} (g : Ghosts S) (old new : Held S) where
   pub record Asks {A : Type 0} (result : Result A Error) (Says : Archive → A → Type 0) (Unread : Type 0) : Type 0 where
     pub over : AsksOver result Says
     pub caused : FailsByFaultOr result Unread
+    pub same : SeesTheSame result
+    pub quiet : AddsNothing g old new
+    pub ends : Ends result
+
+  -- The same of a question whose faults have a cause within a transaction, too.
+  pub record AsksAnywhere {A : Type 0} (result : Result A Error) (Says : Archive → A → Type 0) : Type 0 where
+    pub over : AsksOver result Says
+    pub caused : FailsByFault result
     pub same : SeesTheSame result
     pub quiet : AddsNothing g old new
     pub ends : Ends result

@@ -1,5 +1,5 @@
 -- How the tables are made: all within one transaction, so that all of them are there or none.
-use Rattle.std.specs.Prelude.{◌≡◌, ◌⊎◌, ℕ, ℤ, Bool, true, false, [], IsTrue, Result, OnOk, OnErr, IfErr}
+use Rattle.std.specs.Prelude.{◌≡◌, ◌⊎◌, ℕ, ℤ, Bool, true, false, List, [], IsTrue, None, Result, OnOk, OnErr, IfErr}
 use Rattle.std.specs.List.{AllByRecursion}
 use Rattle.sqlite.specs.declared.error.Error.{Error}
 use Rattle.sqlite.specs.Effect.{Database}
@@ -12,6 +12,7 @@ use Rattle.archive_machine.specs.Records.{Archive}
 use Rattle.archive_tables.specs.Schema.{archive_schema}
 use Rattle.archive_tables.specs.Calls.{Lasts, AnswersOpen, IsCaused, SeesTheSame}
 use Rattle.archive_tables.specs.Crashes.{AddsNothing, CrashesAtCommit}
+use Rattle.archive_tables.specs.Statements.{Statement, IsRefused, IsCarriedOut, IsRefusedInTurn, AreCarriedOut}
 use Rattle.archive_tables.specs.Tables.{AreTablesWith, newest_number, archive_by}
 use Rattle.archive_tables.specs.declared.texts.schema.TheConstants.{VERSION}
 
@@ -27,8 +28,9 @@ pub record IsMaking (s : State) (schema : Schema) (before : Database) : Type 0 w
   pub schema_is : s.now.schema ≡ schema
   pub empty : AllByRecursion (λ (t : Table). s.now.trees t.tree ≡ []) schema.tables
 
--- a transaction that goes back to this database, over this schema, whatever the rows are
+-- an open transaction that goes back to this database, over this schema, whatever the rows are
 pub record IsWithin (s : State) (before : Database) (schema : Schema) : Type 0 where
+  pub is_open : IsTrue s.is_open
   pub within : s.in_transaction ≡ true
   pub behind : s.committed ≡ before
   pub schema_is : s.now.schema ≡ schema
@@ -51,11 +53,36 @@ IsMade s before archive = IsMoving s before archive_schema VERSION newest_number
 abbrev pub Stops : {S A : Type 0} → Ghosts S → Held S → Held S → Result A Error → Type 0
 Stops g old new result = HasCleanDisk (state g new) → OnErr result (IsUnchanged (state g old) (state g new) ⊎ IsRolledBack (state g old) (state g new))
 
--- How a step of the making or the moving of tables ends: as each call does, and where it fails as is said above.
-pub record EndsStep {S A : Type 0} (g : Ghosts S) (old new : Held S) (result : Result A Error) : Type 0 where
+-- Over this schema, whatever the rows are, on a connection that is open and has no limit on the steps of a query: a statement fails for
+-- want of memory, by a fault of the disk, or since SQL refuses it on this database, and for nothing else.
+abbrev pub FailsOver : {S A : Type 0} → Ghosts S → Held S → Held S → Result A Error → Schema → Statement → Type 0
+FailsOver g old new result schema statement =
+    HasCleanDisk (state g new) → IsTrue (state g old).is_open → (state g old).now.schema ≡ schema → (state g old).step_limit ≡ None
+    → IfErr result (λ e. IsCaused (state g old) (state g new) e ⊎ IsRefused statement (state g old).now)
+
+-- and where it succeeds, the connection sees what the statement makes
+abbrev pub CarriesOver : {S A : Type 0} → Ghosts S → Held S → Held S → Result A Error → Schema → Statement → Type 0
+CarriesOver g old new result schema statement =
+    HasCleanDisk (state g new) → IsTrue (state g old).is_open → (state g old).now.schema ≡ schema → (state g old).step_limit ≡ None
+    → OnOk result (IsCarriedOut statement (state g old).now (state g new).now)
+
+-- How a step of the making or the moving of tables ends: as each call does; where it fails as is said above, and why, over this schema;
+-- and what its statement makes.
+pub record EndsStep {S A : Type 0} (g : Ghosts S) (old new : Held S) (result : Result A Error) (schema : Schema) (statement : Statement) : Type 0 where
   pub lasts : Lasts (state g old) (state g new)
   pub was_open : AnswersOpen g old new result
   pub stopped : Stops g old new result
+  pub caused : FailsOver g old new result schema statement
+  pub carried : CarriesOver g old new result schema statement
+
+-- How some steps end, one after the other, in a transaction of which this holds: as each call does; they fail for want of memory, by a
+-- fault of the disk, or since SQL refuses one of their statements in its turn; and what all of them make.
+pub record EndsSteps {S A : Type 0} (g : Ghosts S) (old new : Held S) (result : Result A Error) (Holds : State → Database → Type 0) (statements : List Statement) : Type 0 where
+  pub lasts : Lasts (state g old) (state g new)
+  pub caused : HasCleanDisk (state g new) → (before : Database) → Holds (state g old) before → (state g old).step_limit ≡ None
+      → IfErr result (λ e. IsCaused (state g old) (state g new) e ⊎ IsRefusedInTurn statements (state g old).now)
+  pub carried : HasCleanDisk (state g new) → (before : Database) → Holds (state g old) before → (state g old).step_limit ≡ None
+      → OnOk result (AreCarriedOut statements (state g old).now (state g new).now)
 
 -- within a transaction over this schema, whatever the rows are, a stop of the machine leaves nothing that it did not leave before
 abbrev pub QuietWithin : {S : Type 0} → Ghosts S → Held S → Held S → Schema → Type 0

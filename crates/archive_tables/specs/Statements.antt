@@ -1,5 +1,5 @@
 -- The statements that change an archive, and what SQL says of them on the rows of a database.
-use Rattle.std.specs.Prelude.{ℕ, ℤ, false, List, [], ◌∷◌, codes, Option, None, Result, Ok, Err}
+use Rattle.std.specs.Prelude.{◌≡◌, ◌⊎◌, ℕ, ℤ, pos, false, List, [], ◌∷◌, ◌++◌, ◌==◌, if◌then◌else◌, codes, Option, None, Result, Ok, Err}
 use Rattle.sqlite.specs.declared.error.Error.{Error}
 use Rattle.sqlite.specs.declared.run.Mode.{Mode}
 use Rattle.sqlite.specs.declared.types.Value.TheVariants.{Int, Text, Blob}
@@ -12,7 +12,8 @@ use Rattle.sqlite_resolve.specs.declared.compiled.Compiled.{Compiled}
 use Rattle.sqlite_resolve.specs.declared.error.CompileError.{CompileError}
 use Rattle.sqlite_schema.specs.declared.schema.Keys.TheVariants.{Enforced}
 use Rattle.archive_machine.specs.Records.{Person, Grant, Message, Filing, ListOption, Address}
-use Rattle.archive_tables.specs.Tables.{person_cells, grant_cells, option_cells, address_cells}
+use Rattle.archive_tables.specs.Schema.{create_version, create_list, create_person, create_grant, create_message, create_month_index, create_author_index, create_option, create_address}
+use Rattle.archive_tables.specs.Tables.{newest_number, person_cells, grant_cells, option_cells, address_cells}
 
 -- the text of a statement, and what is put in for its parameters
 pub record Statement : Type 0 where
@@ -78,6 +79,50 @@ adding_address a = record { sql = codes "INSERT INTO address (person, address) V
 abbrev pub changing_address : Address → Statement
 changing_address a = record { sql = codes "UPDATE address SET address = ?2 WHERE person = ?1"; given = address_cells a }
 
+-- the texts of the schema
+
+abbrev creating : List ℕ → Statement
+creating text = record { sql = text; given = [] }
+
+abbrev pub making_version : Statement
+making_version = creating create_version
+
+abbrev pub making_lists : Statement
+making_lists = creating create_list
+
+abbrev pub making_persons : Statement
+making_persons = creating create_person
+
+abbrev pub making_grants : Statement
+making_grants = creating create_grant
+
+abbrev pub making_messages : Statement
+making_messages = creating create_message
+
+abbrev pub indexing_months : Statement
+indexing_months = creating create_month_index
+
+abbrev pub indexing_authors : Statement
+indexing_authors = creating create_author_index
+
+abbrev pub making_options : Statement
+making_options = creating create_option
+
+abbrev pub making_addresses : Statement
+making_addresses = creating create_address
+
+-- the number of the newest version
+abbrev pub adding_version : Statement
+adding_version = record { sql = codes "INSERT INTO version (number) VALUES (?1)"; given = Int (pos newest_number) ∷ [] }
+
+-- the same in the place of an older one
+abbrev pub changing_version : Statement
+changing_version = record { sql = codes "UPDATE version SET number = ?1"; given = Int (pos newest_number) ∷ [] }
+
+-- an option for each list
+abbrev pub copying_options : Statement
+copying_options = record { sql = codes "INSERT INTO list_option (list, merge) SELECT name, 1 FROM list ORDER BY rowid"; given = [] }
+
 -- ---- what SQL says of one
 
 -- every foreign key holds behind every statement
@@ -100,3 +145,39 @@ IsRefused st db = (stop : Option Error) × MayEnd st db (Err stop)
 -- this is what the statement makes of it
 abbrev pub IsCarriedOut : Statement → Database → Database → Type 0
 IsCarriedOut st db after = (tally : Tally) × MayEnd st db (Ok (tally, after))
+
+-- ---- one after the other
+
+-- SQL refuses one of these, on what those before it make of the database.
+abbrev pub IsRefusedInTurn : List Statement → Database → Type 0
+IsRefusedInTurn [] db = ⊥
+IsRefusedInTurn (st ∷ rest) db = IsRefused st db ⊎ ((next : Database) × IsCarriedOut st db next × IsRefusedInTurn rest next)
+
+-- and this is what all of them make of it
+abbrev pub AreCarriedOut : List Statement → Database → Database → Type 0
+AreCarriedOut [] db after = after ≡ db
+AreCarriedOut (st ∷ rest) db after = (next : Database) × IsCarriedOut st db next × AreCarriedOut rest next after
+
+-- what makes the tables in an empty database, in the order in which it is done
+abbrev pub first_statements : List Statement
+first_statements = making_version ∷ making_lists ∷ making_persons ∷ []
+
+abbrev pub second_statements : List Statement
+second_statements = making_grants ∷ making_messages ∷ []
+
+abbrev pub index_statements : List Statement
+index_statements = indexing_months ∷ indexing_authors ∷ []
+
+abbrev pub later_statements : List Statement
+later_statements = making_options ∷ making_addresses ∷ adding_version ∷ []
+
+abbrev pub making_statements : List Statement
+making_statements = first_statements ++ second_statements ++ index_statements ++ later_statements
+
+-- what brings tables of version 1 to 2
+abbrev pub option_statements : (number : ℕ) → List Statement
+option_statements number = if number == 1 then making_options ∷ copying_options ∷ [] else []
+
+-- what brings tables of an older version to the newest
+abbrev pub moving_statements : (number : ℕ) → List Statement
+moving_statements number = option_statements number ++ making_addresses ∷ changing_version ∷ []
