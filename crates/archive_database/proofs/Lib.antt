@@ -4,3 +4,4 @@ pub mod ReadingLemmas
 pub mod TakingLemmas
 mod HeldLemmas
 mod CauseLemmas
+mod StepsLemmas

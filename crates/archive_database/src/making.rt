@@ -1,15 +1,16 @@
 //! The tables, made in an empty database or found in another.
 ghost use Rattle.std.specs.Prelude.{◌≡◌, ◌↔◌, pos, None, Some, OnOk, OnErr, IfSome, IfErr, IsTrue};
-ghost use Rattle.sqlite_disk.specs.Disk.{MoreFaults};
 ghost use Rattle.sqlite.specs.Held.{state};
 ghost use Rattle.sqlite.specs.State.{HasCleanDisk};
 ghost use Rattle.archive_machine.specs.Records.{Archive};
 ghost use Rattle.archive_tables.specs.Schema.{no_schema, with_person, with_message, schema_1, schema_2, schema_of};
-ghost use Rattle.archive_tables.specs.Tables.{IsHeldAs, IsKept, IsKnown, IsOfArchive, HasForm, IsOfVersion, newest_number, form_of, archive_by, archive_of};
-ghost use Rattle.archive_tables.specs.Calls.{Rests, Lasts, AnswersOpen, Ends};
+ghost use Rattle.archive_tables.specs.Tables.{IsHeldAs, IsKept, IsKnown, IsOfArchive, HasForm, IsOfVersion, form_of, archive_by, archive_of};
+ghost use Rattle.archive_tables.specs.Calls.{Rests};
+ghost use Rattle.archive_tables.specs.Statements.{IsRefusedInTurn, first_statements, second_statements, index_statements, later_statements, making_statements, option_statements, moving_statements};
 ghost use Rattle.archive_tables.specs.Crashes.{AddsNothing, AddsOnly, IsStored};
-ghost use Rattle.archive_tables.specs.Making.{IsMaking, IsWithin, IsMoving, IsMade, Makes, QuietWithin, StopsFrom, IsUndone, IsIdle, IsBackTo, IsStopped, empty_archive};
-ghost use Rattle.archive_database.specs.Adopting.{HasObjects, HasAsManyObjects, MayBeTaken, IsOlder, QuietFrom};
+ghost use Rattle.archive_tables.specs.Making.{IsMaking, IsWithin, IsMoving, IsMade, Makes, QuietWithin, EndsSteps, StopsFrom, IsUndone, IsIdle, IsBackTo, IsStopped, empty_archive};
+ghost use Rattle.archive_database.specs.Adopting.{HasObjects, HasAsManyObjects, HasVersion, MayBeTaken, IsNotTaken, IsOlder, QuietFrom};
+ghost use Rattle.archive_database.specs.Faults.{EndsFrom};
 
 use crate::faults::Fault;
 use archive_tables::texts;
@@ -65,11 +66,9 @@ pub fn find_version<S: Alter>(conn: &mut Connection<S>, number: u8) -> Result<()
         → HasForm (form_of number) (state S.Store conn.old)
         → OnOk result (IsTrue (state S.Store conn.new).is_open) }
     ensures quiet { AddsNothing S.Store conn.old conn.new }
-    ensures ends { Ends S.Store conn.old conn.new result }
-    ensures caused { HasCleanDisk (state S.Store conn.new) → number ≡ newest_number
-        → IsKept (state S.Store conn.old) → (state S.Store conn.old).step_limit ≡ None
-        → IfErr result (λ fault. fault ≡ Fault.Database
-        → MoreFaults (state S.Store conn.old).faults (state S.Store conn.new).faults) }
+    ensures ends { EndsFrom S.Store conn.old conn.new result
+        (λ s. IsKnown number × HasForm (form_of number) s)
+        (λ db. ¬ IsOfVersion (pos number) db.trees) }
 {
     let rows = texts::schema::versions(conn)?;
     let [row] = rows.as_slice() else {
@@ -104,10 +103,6 @@ pub fn take_over<S: Alter>(conn: &mut Connection<S>) -> Result<(), Fault>
         → OnErr result (Rests (state S.Store conn.old) (state S.Store conn.new)) }
     ensures rows { HasCleanDisk (state S.Store conn.new) → IsOfArchive (state S.Store conn.old)
         → OnOk result (IsBackTo (state S.Store conn.new) (state S.Store conn.old).now) }
-    ensures caused { HasCleanDisk (state S.Store conn.new) → IsKept (state S.Store conn.old)
-        → (state S.Store conn.old).step_limit ≡ None
-        → IfErr result (λ fault. fault ≡ Fault.Database
-        → MoreFaults (state S.Store conn.old).faults (state S.Store conn.new).faults) }
     ensures objects { OnOk result (MayBeTaken (state S.Store conn.old).now.schema) }
     ensures foreign { ¬ MayBeTaken (state S.Store conn.old).now.schema → conn.new ≡ conn.old }
     ensures why { ¬ MayBeTaken (state S.Store conn.old).now.schema
@@ -116,7 +111,8 @@ pub fn take_over<S: Alter>(conn: &mut Connection<S>) -> Result<(), Fault>
         → IsHeldAs (form_of number) None (state S.Store conn.old)
         → AddsOnly S.Store conn.old conn.new (IsStored
         (archive_by number (state S.Store conn.old).now.trees)) }
-    ensures ends { Ends S.Store conn.old conn.new result }
+    ensures ends { EndsFrom S.Store conn.old conn.new result
+        (λ s. IsIdle s × HasVersion s.now.schema) IsNotTaken }
 {
     let Some(number) = version_of_objects(conn) else {
         return Err(Fault::Database);
@@ -141,8 +137,9 @@ fn bring_over<S: Alter>(conn: &mut Connection<S>, number: u8) -> Result<(), Faul
     ensures crash { IsOlder number → IsHeldAs (form_of number) None (state S.Store conn.old)
         → AddsOnly S.Store conn.old conn.new (IsStored
         (archive_by number (state S.Store conn.old).now.trees)) }
-    ensures lasts { Lasts (state S.Store conn.old) (state S.Store conn.new) }
-    ensures was_open { AnswersOpen S.Store conn.old conn.new result }
+    ensures ends { EndsFrom S.Store conn.old conn.new result
+        (λ s. IsOlder number × IsIdle s × (s.now.schema ≡ schema_of number))
+        (IsRefusedInTurn (moving_statements number)) }
 {
     texts::schema::begin(conn)?;
     if let Err(error) = move_tables(conn, number) {
@@ -165,7 +162,9 @@ fn move_tables<S: Alter>(conn: &mut Connection<S>, number: u8) -> Result<(), Err
     ensures crash { IsOlder number → (before : _) (archive : Archive)
         → IsMoving (state S.Store conn.old) before (schema_of number) (pos number) number archive
         → AddsOnly S.Store conn.old conn.new (IsStored archive) }
-    ensures lasts { Lasts (state S.Store conn.old) (state S.Store conn.new) }
+    ensures ends { EndsSteps S.Store conn.old conn.new result
+        (λ s before. IsOlder number × IsWithin s before (schema_of number))
+        (moving_statements number) }
 {
     move_options(conn, number)?;
     texts::schema::create_address(conn)?;
@@ -187,7 +186,9 @@ fn move_options<S: Alter>(conn: &mut Connection<S>, number: u8) -> Result<(), Er
         → IsWithin (state S.Store conn.old) before (schema_of number)
         → OnErr result (IsStopped (state S.Store conn.new) before) }
     ensures quiet { IsOlder number → QuietWithin S.Store conn.old conn.new (schema_of number) }
-    ensures lasts { Lasts (state S.Store conn.old) (state S.Store conn.new) }
+    ensures ends { EndsSteps S.Store conn.old conn.new result
+        (λ s before. IsOlder number × IsWithin s before (schema_of number))
+        (option_statements number) }
 {
     if number != 1 {
         return Ok(());
@@ -211,7 +212,8 @@ pub fn make_tables<S: Alter>(conn: &mut Connection<S>) -> Result<(), Fault>
         → OnErr result (IsBackTo (state S.Store conn.new) (state S.Store conn.old).now) }
     ensures crash { (state S.Store conn.old).now.schema ≡ no_schema
         → AddsOnly S.Store conn.old conn.new (IsStored empty_archive) }
-    ensures ends { Ends S.Store conn.old conn.new result }
+    ensures ends { EndsFrom S.Store conn.old conn.new result
+        (λ s. IsIdle s × (s.now.schema ≡ no_schema)) (IsRefusedInTurn making_statements) }
 {
     texts::schema::begin(conn)?;
     if let Err(error) = fill(conn) {
@@ -230,7 +232,8 @@ fn fill<S: Alter>(conn: &mut Connection<S>) -> Result<(), Error>
     ensures stopped { StopsFrom S.Store conn.old conn.new result no_schema }
     ensures crash { (before : _) → IsMaking (state S.Store conn.old) no_schema before
         → AddsOnly S.Store conn.old conn.new (IsStored empty_archive) }
-    ensures lasts { Lasts (state S.Store conn.old) (state S.Store conn.new) }
+    ensures ends { EndsSteps S.Store conn.old conn.new result
+        (λ s before. IsMaking s no_schema before) making_statements }
 {
     make_first(conn)?;
     make_second(conn)?;
@@ -245,7 +248,8 @@ fn make_first<S: Alter>(conn: &mut Connection<S>) -> Result<(), Error>
     ensures made { Makes S.Store conn.old conn.new result no_schema with_person }
     ensures stopped { StopsFrom S.Store conn.old conn.new result no_schema }
     ensures quiet { QuietFrom S.Store conn.old conn.new no_schema }
-    ensures lasts { Lasts (state S.Store conn.old) (state S.Store conn.new) }
+    ensures ends { EndsSteps S.Store conn.old conn.new result
+        (λ s before. IsMaking s no_schema before) first_statements }
 {
     texts::schema::create_version(conn)?;
     texts::schema::create_list(conn)?;
@@ -258,7 +262,8 @@ fn make_second<S: Alter>(conn: &mut Connection<S>) -> Result<(), Error>
     ensures made { Makes S.Store conn.old conn.new result with_person with_message }
     ensures stopped { StopsFrom S.Store conn.old conn.new result with_person }
     ensures quiet { QuietFrom S.Store conn.old conn.new with_person }
-    ensures lasts { Lasts (state S.Store conn.old) (state S.Store conn.new) }
+    ensures ends { EndsSteps S.Store conn.old conn.new result
+        (λ s before. IsMaking s with_person before) second_statements }
 {
     texts::schema::create_grant(conn)?;
     texts::schema::create_message(conn)?;
@@ -270,7 +275,8 @@ fn make_indexes<S: Alter>(conn: &mut Connection<S>) -> Result<(), Error>
     ensures made { Makes S.Store conn.old conn.new result with_message schema_1 }
     ensures stopped { StopsFrom S.Store conn.old conn.new result with_message }
     ensures quiet { QuietFrom S.Store conn.old conn.new with_message }
-    ensures lasts { Lasts (state S.Store conn.old) (state S.Store conn.new) }
+    ensures ends { EndsSteps S.Store conn.old conn.new result
+        (λ s before. IsMaking s with_message before) index_statements }
 {
     texts::schema::create_month_index(conn)?;
     texts::schema::create_author_index(conn)?;
@@ -284,7 +290,8 @@ fn make_later<S: Alter>(conn: &mut Connection<S>) -> Result<(), Error>
         → OnOk result (IsMade (state S.Store conn.new) before empty_archive) }
     ensures stopped { StopsFrom S.Store conn.old conn.new result schema_1 }
     ensures quiet { QuietFrom S.Store conn.old conn.new schema_1 }
-    ensures lasts { Lasts (state S.Store conn.old) (state S.Store conn.new) }
+    ensures ends { EndsSteps S.Store conn.old conn.new result
+        (λ s before. IsMaking s schema_1 before) later_statements }
 {
     texts::schema::create_option(conn)?;
     texts::schema::create_address(conn)?;

@@ -4,7 +4,7 @@ ghost use Rattle.mbox_items.specs.Division.{whole};
 ghost use Rattle.archive_machine.specs.Machine.{longest_text};
 ghost use Rattle.archive_machine.specs.Questions.{messages_in};
 ghost use Rattle.archive_tables.specs.Calls.{Asks, Ends};
-ghost use Rattle.archive_database.specs.Taking.{TakesIn, FailsToTake, TakesWhole};
+ghost use Rattle.archive_database.specs.Taking.{TakesIn, FailsToTake, WritesDown, TakesWhole};
 
 use crate::faults::Fault;
 use crate::filing::file;
@@ -60,6 +60,7 @@ pub fn take_in<S: Alter>(
 ) -> Result<(), Fault>
     ensures taken { TakesIn S.Store conn.old conn.new result list.now key.now item.now }
     ensures caused { FailsToTake S.Store conn.old conn.new result list.now key.now item.now }
+    ensures made { WritesDown S.Store conn.old conn.new result list.now key.now item.now }
     ensures crash { TakesWhole S.Store conn.old conn.new list.now key.now item.now }
     ensures ends { Ends S.Store conn.old conn.new result }
 {
@@ -82,6 +83,8 @@ fn write_down<S: Alter>(
         → TakesIn S.Store conn.old conn.new result list.now key.now item.now }
     ensures caused { text.now ≡ whole item.now.text
         → FailsToTake S.Store conn.old conn.new result list.now key.now item.now }
+    ensures made { text.now ≡ whole item.now.text
+        → WritesDown S.Store conn.old conn.new result list.now key.now item.now }
     ensures crash { text.now ≡ whole item.now.text
         → TakesWhole S.Store conn.old conn.new list.now key.now item.now }
     ensures ends { Ends S.Store conn.old conn.new result }

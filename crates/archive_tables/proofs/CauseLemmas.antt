@@ -11,6 +11,7 @@ use Rattle.sqlite.specs.Order.{Row}
 use Rattle.sqlite.specs.Term.{Term}
 use Rattle.sqlite.specs.Tree.{Trees}
 use Rattle.sqlite.specs.Query.{Query}
+use Rattle.sqlite_schema.specs.declared.schema.Schema.{Schema}
 use Rattle.sqlite_sql.specs.Program.{ProgramOverflows}
 use Rattle.sqlite_value.specs.declared.keys.Key.{Key}
 use Rattle.sqlite.specs.Command.TheVariants.{Select}
@@ -48,39 +49,48 @@ fails_by old new e up (Full, is, why, back, tells) = inr why
 fails_by old new e up (Broken, is, why, back, tells) = absurd (let bad = sym up ∙ why in cc)
 fails_by old new e up (Unstorable, is, why, back, tells) = absurd why
 
+module _ (s : Schema) (sql : List ℕ) (body : Query) (names : List (List ℕ)) (is : command_of (understood s sql) ≡ Select (record { lets = []; body = body }) names)
+    (plain : IsPlain (understood s sql)) (unlisted : reads_listing s sql ≡ false) (params : Row) (fits : Fits sql (length params) (understood s sql))
+    (typed : accepts_program s [] body params ≡ true) (calm : (db : Trees) → ¬ ProgramOverflows db params [] [] body)
+    (old new : State) (up : IsTrue old.is_open) (has : old.now.schema ≡ s) (free : old.step_limit ≡ None) where
+  never_refused : (e : Error) → RefusesQuery old.step_limit old.now (record { lets = []; body = body }) params e → ⊥
+  never_refused e (inl mistyped) =
+      absurd (let bad = sym typed ∙ subst (λ x. accepts_program x [] body params ≡ false) has mistyped.1 in cc)
+  never_refused e (inr (inl over)) = calm old.now.trees over.1
+  never_refused e (inr (inr (code, some))) = absurd (let bad = subst IsSome free some in cc)
+
+  -- whatever the tables are that it reads
+  pub schema_question_fails_by : (e : Error) → FailsToQuery sql params old new e → IsCaused old new e
+  unfolding FailsToQuery IsNotRun
+  schema_question_fails_by e (inl (inl refused)) = absurd (no_statement old sql params e
+      (subst (λ x. Fits sql (length params) (understood x sql)) (sym has) fits) (subst (λ x. IsPlain (understood x sql)) (sym has) plain) refused.0)
+  schema_question_fails_by e (inl (inr failed)) = fails_by old new e up failed
+  schema_question_fails_by e (inr ran) =
+      let known = sym ran.1.is ∙ ap (λ x. understood x sql) has in
+      let bare = subst IsPlain (sym known) plain in
+      let it = rw (bare.0, bare.1, append-nil params) at ran.2 in
+      let db : it.0 ≡ old.now = subst (λ b. IsSourceOf b old.now it.0) (ap (λ x. reads_listing x sql) has ∙ unlisted) it.1 in
+      absurd (never_refused e (subst₂ (λ c d. RefusesToRead old.step_limit c d params e) (ap command_of known ∙ is) db it.2))
+
 module _ (sql : List ℕ) (body : Query) (names : List (List ℕ)) (is : command_of (understood archive_schema sql) ≡ Select (record { lets = []; body = body }) names)
     (plain : IsPlain (understood archive_schema sql)) (unlisted : reads_listing archive_schema sql ≡ false) (params : Row) (fits : Fits sql (length params) (understood archive_schema sql))
     (typed : accepts_program archive_schema [] body params ≡ true) (calm : (db : Trees) → ¬ ProgramOverflows db params [] [] body)
     (old new : State) {behind : Option Database} (k : IsHeld behind old) (free : old.step_limit ≡ None) where
-  never_refused : (e : Error) → RefusesQuery old.step_limit old.now (record { lets = []; body = body }) params e → ⊥
-  never_refused e (inl mistyped) =
-      absurd (let bad = sym typed ∙ subst (λ s. accepts_program s [] body params ≡ false) k.schema mistyped.1 in cc)
-  never_refused e (inr (inl over)) = calm old.now.trees over.1
-  never_refused e (inr (inr (code, some))) = absurd (let bad = subst IsSome free some in cc)
-
   pub any_question_fails_by : (e : Error) → FailsToQuery sql params old new e → IsCaused old new e
-  unfolding FailsToQuery IsNotRun
-  any_question_fails_by e (inl (inl refused)) = absurd (no_statement old sql params e
-      (subst (λ s. Fits sql (length params) (understood s sql)) (sym k.schema) fits) (subst (λ s. IsPlain (understood s sql)) (sym k.schema) plain) refused.0)
-  any_question_fails_by e (inl (inr failed)) = fails_by old new e k.is_open failed
-  any_question_fails_by e (inr ran) =
-      let known = sym ran.1.is ∙ ap (λ s. understood s sql) k.schema in
-      let bare = subst IsPlain (sym known) plain in
-      let it = rw (bare.0, bare.1, append-nil params) at ran.2 in
-      let db : it.0 ≡ old.now = subst (λ b. IsSourceOf b old.now it.0) (ap (λ s. reads_listing s sql) k.schema ∙ unlisted) it.1 in
-      absurd (never_refused e (subst₂ (λ c d. RefusesToRead old.step_limit c d params e) (ap command_of known ∙ is) db it.2))
+  any_question_fails_by = schema_question_fails_by archive_schema sql body names is plain unlisted params fits typed calm old new k.is_open k.schema free
+
+-- a plain query computes no sum
+pub calm : (t : ℕ) (terms shown : List Term) (order : List (Term × Key)) (params : Row) (db : Trees) → ¬ ProgramOverflows db params [] [] (plain_query t terms shown order)
+calm t terms shown order params db (inl grouped) = grouped
+calm t terms shown order params db (inr (i, row, low, at, none)) = none
 
 module _ (sql : List ℕ) (t : ℕ) (terms shown : List Term) (order : List (Term × Key)) (names : List (List ℕ))
     (is : command_of (understood archive_schema sql) ≡ Select (record { lets = []; body = plain_query t terms shown order }) names) (plain : IsPlain (understood archive_schema sql))
     (unlisted : reads_listing archive_schema sql ≡ false) (params : Row) (fits : Fits sql (length params) (understood archive_schema sql))
     (typed : accepts_program archive_schema [] (plain_query t terms shown order) params ≡ true)
     (old new : State) {behind : Option Database} (k : IsHeld behind old) (free : old.step_limit ≡ None) where
-  calm : (db : Trees) → ¬ ProgramOverflows db params [] [] (plain_query t terms shown order)
-  calm db (inl grouped) = grouped
-  calm db (inr (i, row, low, at, none)) = none
-
   pub question_fails_by : (e : Error) → FailsToQuery sql params old new e → IsCaused old new e
-  question_fails_by = any_question_fails_by sql (plain_query t terms shown order) names is plain unlisted params fits typed calm old new k free
+  question_fails_by = any_question_fails_by sql (plain_query t terms shown order) names is plain unlisted params fits typed (calm t terms shown order params) old new k free
 
 -- ---- a result whose error has a cause
 

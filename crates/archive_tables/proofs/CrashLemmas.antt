@@ -305,7 +305,7 @@ module _ {S : Type 0} (g : Ghosts S) where
 
 -- what is moved, or made, is within
 pub is_within : (s : State) (before : Database) (schema : Schema) (said : ℤ) (number : ℕ) (archive : Archive) → IsMoving s before schema said number archive → IsWithin s before schema
-is_within s before schema said number archive k = record { within = k.within; behind = k.behind; schema_is = k.schema_is }
+is_within s before schema said number archive k = record { is_open = k.is_open; within = k.within; behind = k.behind; schema_is = k.schema_is }
 
 pub making_within : (s : State) (before : Database) (schema : Schema) → IsMaking s schema before → IsWithin s before schema
-making_within s before schema k = record { within = k.within; behind = k.behind; schema_is = k.schema_is }
+making_within s before schema k = record { is_open = k.is_open; within = k.within; behind = k.behind; schema_is = k.schema_is }

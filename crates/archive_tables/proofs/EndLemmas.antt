@@ -6,18 +6,19 @@ use Rattle.sqlite.specs.declared.error.Error.{Error}
 use Rattle.sqlite.specs.Effect.{Database}
 use Rattle.sqlite.specs.Order.{Row}
 use Rattle.sqlite.specs.Tree.{Trees}
+use Rattle.sqlite.specs.Schema.{Schema}
 use Rattle.sqlite.specs.Store.{Ghosts}
 use Rattle.sqlite.specs.Held.{Held, state}
 use Rattle.sqlite.specs.State.{State, HasCleanDisk, Survives, Executes, Shown, FailsToQuery, IsUnchanged, IsRolledBack, CommitsBy, CommitsShowing}
 use Rattle.sqlite_resolve.specs.Compile.{first}
 use Rattle.archive_machine.specs.Records.{Archive}
 use Rattle.archive_tables.specs.Tables.{IsHeld, IsKept, archive_of}
-use Rattle.archive_tables.specs.Calls.{StaysOver, RestsOver, RowsRest, IsCaused, ChangesOver, AsksOver, AsksRowsOver, FailsByFaultOr, Ends, Asks, AsksRows, Writes as WritesBy}
+use Rattle.archive_tables.specs.Calls.{StaysOver, RestsOver, RowsRest, IsCaused, ChangesOver, AsksOver, AsksRowsOver, FailsByFaultOr, Ends, Asks, AsksAnywhere, AsksRows, Writes as WritesBy}
 use Rattle.archive_tables.specs.Statements.{Statement}
 use Rattle.archive_tables.specs.Making.{EndsStep}
 use Rattle.archive_tables.proofs.RunLemmas.{execute_fails, on_fault}
 use Rattle.archive_tables.proofs.CauseLemmas.{carried, answers_none}
-use Rattle.archive_tables.proofs.RefusalLemmas.{Knows, write_fails, write_carries_out}
+use Rattle.archive_tables.proofs.RefusalLemmas.{Knows, KnowsIn, write_fails, write_carries_out, step_fails, step_carries_out}
 use Rattle.archive_tables.proofs.CrashLemmas.{IsQuestionText, question_sees, question_adds_nothing, crash_over}
 use Rattle.archive_tables.proofs.LastLemmas.{IsOurText, execute_lasts, execute_open, query_lasts, query_open, shown_open}
 
@@ -48,12 +49,23 @@ module _ {S : Type 0} {g : Ghosts S} {old new : Held S} (sql : List ℕ) (params
       was_open = λ clean. execute_open (state g old) (state g new) sql params r ours (runs clean);
     }
 
-    pub step_ends : EndsStep g old new r
-    step_ends = record { lasts = execute_ends.lasts; was_open = execute_ends.was_open; stopped = λ clean. stops r (runs clean) }
-      where
-        stops : (r : Result ℕ Error) → Executes sql params (state g old) (state g new) r → OnErr r (IsUnchanged (state g old) (state g new) ⊎ IsRolledBack (state g old) (state g new))
-        stops (Ok count) h = tt
-        stops (Err e) h = execute_fails (state g old) (state g new) sql params e h
+-- where it fails, it changes nothing, or goes back
+pub statement_stops : (old new : State) (sql : List ℕ) (params : Row) (r : Result ℕ Error) → Executes sql params old new r → OnErr r (IsUnchanged old new ⊎ IsRolledBack old new)
+statement_stops old new sql params (Ok count) h = tt
+statement_stops old new sql params (Err e) h = execute_fails old new sql params e h
+
+-- a step of the making or the moving
+pub step_ends : {S : Type 0} {g : Ghosts S} {old new : Held S} (s : Schema) (st : Statement) (P : Trees → Type 0) (r : Result ℕ Error) → KnowsIn s st → IsOurText (first st.sql)
+    → Survives (state g old) (state g new) P → (HasCleanDisk (state g new) → Executes st.sql st.given (state g old) (state g new) r) → EndsStep g old new r s st
+step_ends {S} {g} {old} {new} s st P r knows ours survives runs =
+    let ends : Ends g old new r = execute_ends st.sql st.given P r ours survives runs in
+    record {
+      lasts = ends.lasts;
+      was_open = ends.was_open;
+      stopped = λ clean. statement_stops (state g old) (state g new) st.sql st.given r (runs clean);
+      caused = λ clean up has free. step_fails s st knows (state g old) (state g new) up has free r (runs clean);
+      carried = λ clean up has free. step_carries_out s st knows (state g old) (state g new) up has free r (runs clean);
+    }
 
 -- ---- a write of an archive
 
@@ -123,6 +135,19 @@ module _ {S : Type 0} {g : Ghosts S} {old new : Held S} (sql : List ℕ) (params
       ends = failed_ends r _ is;
     }
 
+    -- where its faults have a cause within a transaction, too
+    pub anywhere_fails : {A : Type 0} {Says : Archive → A → Type 0} (r : Result A Error) (e : Error) → IsErrAnd r (λ f. f ≡ e)
+        → (HasCleanDisk (state g new) → (behind : Option Database) → IsHeld behind (state g old) → RestsOver behind (state g old) (state g new))
+        → (HasCleanDisk (state g new) → (behind : Option Database) → IsHeld behind (state g old) → (state g old).step_limit ≡ None → IsCaused (state g old) (state g new) e)
+        → AsksAnywhere g old new r Says
+    anywhere_fails {A} {Says} r e is rests why = record {
+      over = λ clean behind k. on_fault _ _ r is (rests clean behind k);
+      caused = λ clean behind k free. carried r e (λ f. IsCaused (state g old) (state g new) f) is (why clean behind k free);
+      same = λ clean. answers_none r _ _ is;
+      quiet = λ clean db may. question_adds_nothing (state g old) (state g new) sql params asks s clean db may;
+      ends = failed_ends r _ is;
+    }
+
     pub asks_rows_fails : {A : Type 0} {Says : Trees → A → Type 0} {Unread : Type 0} (r : Result A Error) (e : Error) → IsErrAnd r (λ f. f ≡ e)
         → (HasCleanDisk (state g new) → (behind : Option Database) → IsHeld behind (state g old) → RowsRest behind (state g old) (state g new))
         → (HasCleanDisk (state g new) → IsKept (state g old) → (state g old).step_limit ≡ None → IsCaused (state g old) (state g new) e ⊎ Unread)
@@ -150,6 +175,18 @@ module _ {S : Type 0} {g : Ghosts S} {old new : Held S} (sql : List ℕ) (params
     asks_answers a rows shown over = record {
       over = over;
       caused = λ clean k free. tt;
+      same = λ clean. question_sees (state g old) (state g new) sql params rows asks (shown clean);
+      quiet = λ clean db may. question_adds_nothing (state g old) (state g new) sql params asks s clean db may;
+      ends = answered_ends a rows shown;
+    }
+
+    pub anywhere_answers : {A : Type 0} {Says : Archive → A → Type 0} (a : A) (rows : List Row)
+        → (HasCleanDisk (state g new) → Shown sql params (state g old) (state g new) rows)
+        → (HasCleanDisk (state g new) → (behind : Option Database) → IsHeld behind (state g old) → Says (archive_of (state g old)) a × StaysOver behind (state g old) (state g new))
+        → AsksAnywhere g old new (Ok a) Says
+    anywhere_answers a rows shown over = record {
+      over = over;
+      caused = λ clean behind k free. tt;
       same = λ clean. question_sees (state g old) (state g new) sql params rows asks (shown clean);
       quiet = λ clean db may. question_adds_nothing (state g old) (state g new) sql params asks s clean db may;
       ends = answered_ends a rows shown;

@@ -31,3 +31,4 @@ pub mod ApartLemmas
 pub mod OptionLemmas
 pub mod AddressLemmas
 pub mod MoveLemmas
+pub mod TurnLemmas

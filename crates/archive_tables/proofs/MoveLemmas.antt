@@ -102,6 +102,7 @@ module _ {schema : Schema} {said : ℤ} {number : ℕ} {archive : Archive} {befo
 stays_within : (old new : State) (before : Database) (schema next : Schema) → IsWithin old before schema
     → Shows old new new.now (if old.in_transaction then old.committed else new.now) old.in_transaction → new.now.schema ≡ next → IsWithin new before next
 stays_within old new before schema next k shown is = record {
+  is_open = shown.is_open;
   within = shown.mode ∙ k.within;
   behind = shown.committed_is ∙ rw k.within k.behind;
   schema_is = is;
@@ -134,6 +135,7 @@ pub begins_within : (old new : State) (count : ℕ) → Executes begin_text [] o
 begins_within old new count h =
     let ran = runs_as begin_text [] old new old.now.schema refl Begin (begin_is old.now.schema) (begin_plain old.now.schema) count h in
     record {
+      is_open = ran.1.is_open;
       within = ran.1.mode;
       behind = ran.1.committed_is;
       schema_is = ap (λ (d : Database). d.schema) ran.1.now_is;

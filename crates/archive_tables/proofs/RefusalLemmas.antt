@@ -8,7 +8,7 @@ use Rattle.sqlite_resolve.specs.declared.compiled.Compiled.{Compiled}
 use Rattle.sqlite_resolve.specs.declared.error.CompileError.{CompileError}
 use Rattle.sqlite_schema.specs.declared.schema.Schema.{Schema}
 use Rattle.sqlite_schema.specs.declared.command.Command.{Command}
-use Rattle.sqlite_schema.specs.declared.command.Command.TheVariants.{Insert, InsertOr, Update, Delete, Begin, Commit, Rollback}
+use Rattle.sqlite_schema.specs.declared.command.Command.TheVariants.{Insert, InsertOr, Update, Delete, CreateTable, CreateIndex, Begin, Commit, Rollback}
 use Rattle.sqlite_schema.specs.declared.command.Returning.{Returning}
 use Rattle.sqlite.specs.Order.{Row}
 use Rattle.sqlite.specs.Calls.{IsWrite}
@@ -41,25 +41,62 @@ WritesNothing Commit = ⊤
 WritesNothing Rollback = ⊤
 WritesNothing _ = ⊥
 
+-- the same, or makes a table or an index
+abbrev pub WritesIts : Command → Type 0
+WritesIts (Insert at from) = ⊤
+WritesIts (InsertOr at how from clauses) = ⊤
+WritesIts (Update at q) = ⊤
+WritesIts (Delete at q) = ⊤
+WritesIts CreateTable = ⊤
+WritesIts (CreateIndex at) = ⊤
+WritesIts _ = ⊥
+
+rows_are_its : (k : Command) → WritesRows k → WritesIts k
+rows_are_its (Insert at from) ours = tt
+rows_are_its (InsertOr at how from clauses) ours = tt
+rows_are_its (Update at q) ours = tt
+rows_are_its (Delete at q) ours = tt
+rows_are_its _ ours = absurd ours
+
+-- a statement over this schema, of so many parameters, that shows no row and begins or ends no transaction
+pub record KnowsIn (s : Schema) (st : Statement) : Type 0 where
+  pub fits : Fits st.sql (length st.given) (understood s st.sql)
+  pub plain : IsPlain (understood s st.sql)
+  pub writes : WritesIts (command_of (understood s st.sql))
+
 -- a statement of the archive's schema, of so many parameters, that writes rows and shows none
 pub record Knows (st : Statement) : Type 0 where
   pub fits : Fits st.sql (length st.given) (understood archive_schema st.sql)
   pub plain : IsPlain (understood archive_schema st.sql)
   pub writes : WritesRows (command_of (understood archive_schema st.sql))
 
-is_placed : (s : State) (k : Command) (e : Error) → WritesRows k → ¬ IsMisplaced s k e
-is_placed s k e ours (inl it) = elim it.1 [
-  | inl begin ↦ subst WritesRows begin.0 ours
-  | inr ends ↦ elim ends.0 [ inl commit ↦ subst WritesRows commit ours | inr back ↦ subst WritesRows back ours ]
-]
-is_placed s k e ours (inr it) = elim it.2 [ inl release ↦ subst WritesRows release ours | inr to ↦ subst WritesRows to ours ]
+knows_in : (st : Statement) → Knows st → KnowsIn archive_schema st
+knows_in st knows = record { fits = knows.fits; plain = knows.plain; writes = rows_are_its (command_of (understood archive_schema st.sql)) knows.writes }
 
-pub runs_write : (old new : State) (how : Option Returning) (k : Command) (text : List ℕ) (full : Row) (count : ℕ) → WritesRows k → Runs old new how k text full count → Writes old new how k text full count
-runs_write old new how (Insert at from) text full count ours w = w
-runs_write old new how (InsertOr at way from clauses) text full count ours w = w
-runs_write old new how (Update at q) text full count ours w = w
-runs_write old new how (Delete at q) text full count ours w = w
-runs_write old new how _ text full count ours w = absurd ours
+is_placed : (s : State) (k : Command) (e : Error) → WritesIts k → ¬ IsMisplaced s k e
+is_placed s k e ours (inl it) = elim it.1 [
+  | inl begin ↦ subst WritesIts begin.0 ours
+  | inr ends ↦ elim ends.0 [ inl commit ↦ subst WritesIts commit ours | inr back ↦ subst WritesIts back ours ]
+]
+is_placed s k e ours (inr it) = elim it.2 [ inl release ↦ subst WritesIts release ours | inr to ↦ subst WritesIts to ours ]
+
+runs_its : (old new : State) (how : Option Returning) (k : Command) (text : List ℕ) (full : Row) (count : ℕ) → WritesIts k → Runs old new how k text full count → Writes old new how k text full count
+runs_its old new how (Insert at from) text full count ours w = w
+runs_its old new how (InsertOr at way from clauses) text full count ours w = w
+runs_its old new how (Update at q) text full count ours w = w
+runs_its old new how (Delete at q) text full count ours w = w
+runs_its old new how CreateTable text full count ours w = w
+runs_its old new how (CreateIndex at) text full count ours w = w
+runs_its old new how _ text full count ours w = absurd ours
+
+its_shows_nothing : (k : Command) (how : Option Returning) → WritesIts k → how ≡ None → (is_query k || (not false && (is_pragma k || is_some how))) ≡ false
+its_shows_nothing (Insert at from) how ours none = rw none
+its_shows_nothing (InsertOr at way from clauses) how ours none = rw none
+its_shows_nothing (Update at q) how ours none = rw none
+its_shows_nothing (Delete at q) how ours none = rw none
+its_shows_nothing CreateTable how ours none = rw none
+its_shows_nothing (CreateIndex at) how ours none = rw none
+its_shows_nothing _ how ours none = absurd ours
 
 pub shows_nothing : (k : Command) (how : Option Returning) → WritesRows k → how ≡ None → (is_query k || (not false && (is_pragma k || is_some how))) ≡ false
 shows_nothing (Insert at from) how ours none = rw none
@@ -78,51 +115,58 @@ fails_or_big old new big e up (Full, is, why, back, tells) = inl (inr why)
 fails_or_big old new big e up (Broken, is, why, back, tells) = absurd (let bad = sym up ∙ why in cc)
 fails_or_big old new big e up (Unstorable, is, why, back, tells) = inr why
 
-module _ (st : Statement) (knows : Knows st) (old new : State) {behind : Option Database} (k : IsHeld behind old) (free : old.step_limit ≡ None) where
-  in_schema : (P : Result Compiled CompileError → Type 0) → P (understood archive_schema st.sql) → P (understood old.now.schema st.sql)
-  in_schema P it = subst (λ s. P (understood s st.sql)) (sym k.schema) it
+module _ (s : Schema) (st : Statement) (knows : KnowsIn s st) (old new : State) (up : IsTrue old.is_open) (has : old.now.schema ≡ s) (free : old.step_limit ≡ None) where
+  in_schema : (P : Result Compiled CompileError → Type 0) → P (understood s st.sql) → P (understood old.now.schema st.sql)
+  in_schema P it = subst (λ x. P (understood x st.sql)) (sym has) it
 
   -- what is said of the compiled text is said of the statement
   said : (c : Compiled) (full : Row) (out : Result (Tally × Database) (Option Error)) → understood old.now.schema st.sql ≡ Ok c → full ≡ st.given
       → Does old.step_limit (mode_of old) full old.now (text_of st.sql c) c.returning c.command out → MayEnd st old.now out
   said c full out is given it = rw is (rw (free, given) at it)
 
-  pub write_fails_by : (e : Error) → Executes st.sql st.given old new (Err e) → IsCaused old new e ⊎ IsRefused st old.now
+  step_fails_by : (e : Error) → Executes st.sql st.given old new (Err e) → IsCaused old new e ⊎ IsRefused st old.now
   unfolding ExecutesIn IsNotRun
-  write_fails_by e (inl (inl refused)) = absurd (no_statement old st.sql st.given e (in_schema (Fits st.sql (length st.given)) knows.fits) (in_schema IsPlain knows.plain) refused.0)
-  write_fails_by e (inl (inr failed)) = inl (fails_by old new e k.is_open failed)
-  write_fails_by e (inr ran) =
+  step_fails_by e (inl (inl refused)) = absurd (no_statement old st.sql st.given e (in_schema (Fits st.sql (length st.given)) knows.fits) (in_schema IsPlain knows.plain) refused.0)
+  step_fails_by e (inl (inr failed)) = inl (fails_by old new e up failed)
+  step_fails_by e (inr ran) =
       let c = ran.0 in
       let bare = subst IsPlain ran.1.is (in_schema IsPlain knows.plain) in
-      let ours = subst (λ r. WritesRows (command_of r)) ran.1.is (in_schema (λ r. WritesRows (command_of r)) knows.writes) in
+      let ours = subst (λ r. WritesIts (command_of r)) ran.1.is (in_schema (λ r. WritesIts (command_of r)) knows.writes) in
       let full : timed st.given c.formats ran.1.now ≡ st.given = rw (bare.1, append-nil st.given) refl in
-      let silent : shows_rows false c ≡ false = shows_nothing c.command c.returning ours bare.0 in
+      let silent : shows_rows false c ≡ false = its_shows_nothing c.command c.returning ours bare.0 in
       elim (rw silent at ran.2) [
         | inl refused ↦ elim refused.0 [
           | inl misplaced ↦ absurd (is_placed old c.command e ours misplaced)
           | inr may ↦ inr (Some e, said c _ (Err (Some e)) ran.1.is full may.1)
         ]
-        | inr failed ↦ elim (fails_or_big old new _ e k.is_open failed) [ inl why ↦ inl why | inr big ↦ inr (None, said c _ (Err None) ran.1.is full big) ]
+        | inr failed ↦ elim (fails_or_big old new _ e up failed) [ inl why ↦ inl why | inr big ↦ inr (None, said c _ (Err None) ran.1.is full big) ]
       ]
 
-  pub write_makes : (count : ℕ) → Executes st.sql st.given old new (Ok count) → IsCarriedOut st old.now new.now
+  step_makes : (count : ℕ) → Executes st.sql st.given old new (Ok count) → IsCarriedOut st old.now new.now
   unfolding ExecutesIn
-  write_makes count ran =
+  step_makes count ran =
       let c = ran.0 in
       let bare = subst IsPlain ran.1.is (in_schema IsPlain knows.plain) in
-      let ours = subst (λ r. WritesRows (command_of r)) ran.1.is (in_schema (λ r. WritesRows (command_of r)) knows.writes) in
+      let ours = subst (λ r. WritesIts (command_of r)) ran.1.is (in_schema (λ r. WritesIts (command_of r)) knows.writes) in
       let full : timed st.given c.formats ran.1.now ≡ st.given = rw (bare.1, append-nil st.given) refl in
-      let silent : shows_rows false c ≡ false = shows_nothing c.command c.returning ours bare.0 in
-      let w = runs_write old new c.returning c.command _ _ count ours (rw silent at ran.2) in
+      let silent : shows_rows false c ≡ false = its_shows_nothing c.command c.returning ours bare.0 in
+      let w = runs_its old new c.returning c.command _ _ count ours (rw silent at ran.2) in
       (w.tally, said c _ (Ok (w.tally, new.now)) ran.1.is full w.changed)
 
+  pub step_fails : (r : Result ℕ Error) → Executes st.sql st.given old new r → IfErr r (λ e. IsCaused old new e ⊎ IsRefused st old.now)
+  step_fails (Ok count) h = tt
+  step_fails (Err e) h = step_fails_by e h
+
+  pub step_carries_out : (r : Result ℕ Error) → Executes st.sql st.given old new r → OnOk r (IsCarriedOut st old.now new.now)
+  step_carries_out (Ok count) h = step_makes count h
+  step_carries_out (Err e) h = tt
+
+module _ (st : Statement) (knows : Knows st) (old new : State) {behind : Option Database} (k : IsHeld behind old) (free : old.step_limit ≡ None) where
   pub write_fails : (r : Result ℕ Error) → Executes st.sql st.given old new r → IfErr r (λ e. IsCaused old new e ⊎ IsRefused st old.now)
-  write_fails (Ok count) h = tt
-  write_fails (Err e) h = write_fails_by e h
+  write_fails = step_fails archive_schema st (knows_in st knows) old new k.is_open k.schema free
 
   pub write_carries_out : (r : Result ℕ Error) → Executes st.sql st.given old new r → OnOk r (IsCarriedOut st old.now new.now)
-  write_carries_out (Ok count) h = write_makes count h
-  write_carries_out (Err e) h = tt
+  write_carries_out = step_carries_out archive_schema st (knows_in st knows) old new k.is_open k.schema free
 
 -- ---- BEGIN, COMMIT and ROLLBACK, whatever the schema is
 

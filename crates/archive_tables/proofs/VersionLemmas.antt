@@ -22,7 +22,7 @@ use Rattle.archive_tables.specs.declared.texts.schema.TheConstants.{VERSION}
 use Rattle.archive_tables.specs.Calls.{StaysOver, RestsOver, IsCaused}
 use Rattle.archive_tables.proofs.RunLemmas.{query_fails, query_leaves}
 use Rattle.archive_tables.proofs.SelectLemmas.{plain_query, by_number, Picks, in_order, picks_of, picks_all, asked, asked_stays, refused_rests}
-use Rattle.archive_tables.proofs.CauseLemmas.{Fits, question_fails_by}
+use Rattle.archive_tables.proofs.CauseLemmas.{Fits, calm, question_fails_by, schema_question_fails_by}
 use Rattle.sqlite_typing.specs.Types.{accepts_program}
 
 abbrev pub number_text : List ℕ
@@ -56,17 +56,19 @@ record IsRead (s : Schema) : Type 0 where
   is : command_of (understood s number_text) ≡ Select (record { lets = []; body = plain_query 0 [] number_cell by_number }) (codes "number" ∷ [])
   unlisted : reads_listing s number_text ≡ false
   plain : IsPlain (understood s number_text)
+  fit : Fits number_text 0 (understood s number_text)
+  typed : accepts_program s [] (plain_query 0 [] number_cell by_number) [] ≡ true
 
 read_1 : IsRead schema_1
 unfolding understood everything
-read_1 = record { is = refl; unlisted = refl; plain = (refl, refl) }
+read_1 = record { is = refl; unlisted = refl; plain = (refl, refl); fit = (refl, refl); typed = refl }
 
 read_2 : IsRead schema_2
 unfolding understood everything
-read_2 = record { is = refl; unlisted = refl; plain = (refl, refl) }
+read_2 = record { is = refl; unlisted = refl; plain = (refl, refl); fit = (refl, refl); typed = refl }
 
 read_3 : IsRead archive_schema
-read_3 = record { is = number_is.0; unlisted = number_is.1; plain = number_plain }
+read_3 = record { is = number_is.0; unlisted = number_is.1; plain = number_plain; fit = number_fit; typed = number_typed }
 
 reads_each : (number : ℕ) → IsKnown number → IsRead (schema_of number)
 reads_each zero known = absurd (omega (arith, known.least))
@@ -102,6 +104,11 @@ module _ (old new : State) (number : ℕ) (known : IsKnown number) (o : HasForm 
 
   pub numbers_open : (rows : List Row) → Shown number_text [] old new rows → IsTrue new.is_open
   numbers_open rows h = (query_leaves old new number_text [] rows is_plain h).0.is_open
+
+  pub no_numbers_caused : (e : Error) → FailsToQuery number_text [] old new e → old.step_limit ≡ None → IsCaused old new e
+  no_numbers_caused e h free =
+      schema_question_fails_by (schema_of number) number_text (plain_query 0 [] number_cell by_number) _ reads.is reads.plain reads.unlisted [] reads.fit reads.typed (calm 0 [] number_cell by_number []) old new
+      o.is_open o.schema free e h
 
 -- ---- tables of the newest
 

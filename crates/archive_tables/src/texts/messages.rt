@@ -9,7 +9,7 @@ ghost use Rattle.sqlite.specs.State.{HasCleanDisk};
 ghost use Rattle.archive_tables.specs.Tables.{IsKept, reaches_number};
 ghost use Rattle.archive_tables.specs.Rows.{new_message, message_shown, message_in, marks_of, dated_marks_of, places_in, month_places, author_places, message_at, place_shown};
 ghost use Rattle.archive_tables.specs.Statements.{adding_message, withdrawing, holding_back, freeing};
-ghost use Rattle.archive_tables.specs.Calls.{Asks, AsksRows, Writes};
+ghost use Rattle.archive_tables.specs.Calls.{Asks, AsksAnywhere, AsksRows, Writes};
 
 use crate::rows::{
     DatedMarksRow, MarksRow, MessageRow, read_dated_marks, read_marks, read_message,
@@ -46,8 +46,8 @@ pub fn add_message<S: Alter>(
 
 /// Whether the list has a message of the key.
 pub fn has_message<S: Alter>(conn: &mut Connection<S>, list: &str, key: &str) -> Result<bool, Error>
-    ensures { Asks S.Store conn.old conn.new result
-        (λ a found. found ≡ list_any (is_message list.now key.now) a.messages) ⊥ }
+    ensures { AsksAnywhere S.Store conn.old conn.new result
+        (λ a found. found ≡ list_any (is_message list.now key.now) a.messages) }
 {
     let rows = conn.query_all(
         "SELECT pos FROM message WHERE list = ?1 AND key = ?2",

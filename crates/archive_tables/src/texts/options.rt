@@ -9,7 +9,7 @@ ghost use Rattle.archive_machine.specs.Machine.{with_merge};
 ghost use Rattle.archive_tables.specs.Schema.{schema_2};
 ghost use Rattle.archive_tables.specs.Tables.{merge_number};
 ghost use Rattle.archive_tables.specs.Making.{IsMoving, MovesWithin, QuietWithin, EndsStep};
-ghost use Rattle.archive_tables.specs.Statements.{adding_option, changing_option};
+ghost use Rattle.archive_tables.specs.Statements.{adding_option, changing_option, copying_options};
 ghost use Rattle.archive_tables.specs.Calls.{Asks, Writes};
 
 use crate::rows::read_merge;
@@ -73,7 +73,7 @@ pub fn copy_options<S: Alter>(conn: &mut Connection<S>) -> Result<usize, Error>
         → OnOk result (IsMoving (state S.Store conn.new) before schema_2 said 2 archive) }
     ensures within { MovesWithin S.Store conn.old conn.new result schema_2 schema_2 }
     ensures quiet { QuietWithin S.Store conn.old conn.new schema_2 }
-    ensures ends { EndsStep S.Store conn.old conn.new result }
+    ensures ends { EndsStep S.Store conn.old conn.new result schema_2 copying_options }
 {
     conn.execute(
         "INSERT INTO list_option (list, merge) SELECT name, 1 FROM list ORDER BY rowid",

@@ -1,15 +1,16 @@
 //! The schema: the tables are made in one transaction, in this order.
 
-ghost use Rattle.std.specs.Prelude.{◌≡◌, pos, ◌∷◌, [], false, Some, None, OnOk, IfOk, MatchResult, IsTrue, IsPermutation};
+ghost use Rattle.std.specs.Prelude.{◌≡◌, pos, ◌∷◌, [], false, Some, None, OnOk, IfOk, IfErr, MatchResult, IsTrue, IsPermutation};
 ghost use Rattle.sqlite.specs.declared.types.Value.TheVariants.{Int};
 ghost use Rattle.sqlite.specs.State.{HasCleanDisk};
 ghost use Rattle.sqlite.specs.Held.{state};
+ghost use Rattle.archive_tables.specs.Statements.{making_version, making_lists, making_persons, making_grants, making_messages, indexing_months, indexing_authors, making_options, making_addresses, adding_version, changing_version};
 ghost use Rattle.archive_tables.specs.Schema.{no_schema, with_version, with_list, with_person, with_grant, with_message, with_month_index, schema_1, schema_2, archive_schema, schema_of};
 ghost use Rattle.archive_tables.specs.Tables.{IsHeld, IsHeldAs, IsKept, IsKnown, HasForm, form_of, newest_number, archive_by, archive_of};
 ghost use Rattle.archive_machine.specs.Records.{Archive};
 ghost use Rattle.archive_tables.specs.Rows.{versions_shown};
 ghost use Rattle.archive_tables.specs.Making.{IsMaking, IsWithin, IsMoving, IsMade, Makes, MovesWithin, EndsStep, EndsBegin, EndsCommit, EndsRollback, QuietWithin, IsBackTo, IsStopped, empty_archive};
-ghost use Rattle.archive_tables.specs.Calls.{StaysOver, RestsOver, Rests, IsBackAt, IsHeldOrBack, Lasts, Asks};
+ghost use Rattle.archive_tables.specs.Calls.{StaysOver, RestsOver, Rests, IsBackAt, IsHeldOrBack, Lasts, Asks, IsCaused};
 
 use sqlite::{Alter, Connection, Error, Row, params};
 
@@ -43,7 +44,7 @@ pub fn begin<S: Alter>(conn: &mut Connection<S>) -> Result<usize, Error>
 pub fn create_version<S: Alter>(conn: &mut Connection<S>) -> Result<usize, Error>
     ensures made { Makes S.Store conn.old conn.new result no_schema with_version }
     ensures quiet { QuietWithin S.Store conn.old conn.new no_schema }
-    ensures ends { EndsStep S.Store conn.old conn.new result }
+    ensures ends { EndsStep S.Store conn.old conn.new result no_schema making_version }
 {
     conn.execute("CREATE TABLE version (number INTEGER NOT NULL) STRICT", &[])
 }
@@ -52,7 +53,7 @@ pub fn create_version<S: Alter>(conn: &mut Connection<S>) -> Result<usize, Error
 pub fn create_list<S: Alter>(conn: &mut Connection<S>) -> Result<usize, Error>
     ensures made { Makes S.Store conn.old conn.new result with_version with_list }
     ensures quiet { QuietWithin S.Store conn.old conn.new with_version }
-    ensures ends { EndsStep S.Store conn.old conn.new result }
+    ensures ends { EndsStep S.Store conn.old conn.new result with_version making_lists }
 {
     conn.execute(
         "CREATE TABLE list (name TEXT NOT NULL PRIMARY KEY) STRICT",
@@ -64,7 +65,7 @@ pub fn create_list<S: Alter>(conn: &mut Connection<S>) -> Result<usize, Error>
 pub fn create_person<S: Alter>(conn: &mut Connection<S>) -> Result<usize, Error>
     ensures made { Makes S.Store conn.old conn.new result with_list with_person }
     ensures quiet { QuietWithin S.Store conn.old conn.new with_list }
-    ensures ends { EndsStep S.Store conn.old conn.new result }
+    ensures ends { EndsStep S.Store conn.old conn.new result with_list making_persons }
 {
     conn.execute(
         "CREATE TABLE person (name TEXT NOT NULL PRIMARY KEY, token TEXT NOT NULL UNIQUE) STRICT",
@@ -76,7 +77,7 @@ pub fn create_person<S: Alter>(conn: &mut Connection<S>) -> Result<usize, Error>
 pub fn create_grant<S: Alter>(conn: &mut Connection<S>) -> Result<usize, Error>
     ensures made { Makes S.Store conn.old conn.new result with_person with_grant }
     ensures quiet { QuietWithin S.Store conn.old conn.new with_person }
-    ensures ends { EndsStep S.Store conn.old conn.new result }
+    ensures ends { EndsStep S.Store conn.old conn.new result with_person making_grants }
 {
     conn.execute(
         "CREATE TABLE grant_row (person TEXT NOT NULL REFERENCES person (name), list TEXT NOT NULL REFERENCES list (name), kind INTEGER NOT NULL CHECK (kind BETWEEN 1 AND 3), from_day INTEGER NOT NULL CHECK (from_day BETWEEN -25567 AND 2932531), until_day INTEGER NOT NULL CHECK (until_day BETWEEN -25567 AND 2932531), PRIMARY KEY (person, list, kind), CHECK (from_day <= until_day)) STRICT",
@@ -88,7 +89,7 @@ pub fn create_grant<S: Alter>(conn: &mut Connection<S>) -> Result<usize, Error>
 pub fn create_message<S: Alter>(conn: &mut Connection<S>) -> Result<usize, Error>
     ensures made { Makes S.Store conn.old conn.new result with_grant with_message }
     ensures quiet { QuietWithin S.Store conn.old conn.new with_grant }
-    ensures ends { EndsStep S.Store conn.old conn.new result }
+    ensures ends { EndsStep S.Store conn.old conn.new result with_grant making_messages }
 {
     conn.execute(
         "CREATE TABLE message (pos INTEGER PRIMARY KEY AUTOINCREMENT, list TEXT NOT NULL REFERENCES list (name), key TEXT NOT NULL, sender BLOB NOT NULL, arrival INTEGER NOT NULL, text BLOB NOT NULL, withdrawn INTEGER NOT NULL CHECK (withdrawn BETWEEN 0 AND 2), embargo INTEGER CHECK (embargo BETWEEN -25567 AND 2932531), sent INTEGER NOT NULL, month INTEGER NOT NULL, author BLOB NOT NULL, UNIQUE (list, key)) STRICT",
@@ -100,7 +101,7 @@ pub fn create_message<S: Alter>(conn: &mut Connection<S>) -> Result<usize, Error
 pub fn create_month_index<S: Alter>(conn: &mut Connection<S>) -> Result<usize, Error>
     ensures made { Makes S.Store conn.old conn.new result with_message with_month_index }
     ensures quiet { QuietWithin S.Store conn.old conn.new with_message }
-    ensures ends { EndsStep S.Store conn.old conn.new result }
+    ensures ends { EndsStep S.Store conn.old conn.new result with_message indexing_months }
 {
     conn.execute(
         "CREATE INDEX message_by_month ON message (list, month, sent, pos)",
@@ -112,7 +113,7 @@ pub fn create_month_index<S: Alter>(conn: &mut Connection<S>) -> Result<usize, E
 pub fn create_author_index<S: Alter>(conn: &mut Connection<S>) -> Result<usize, Error>
     ensures made { Makes S.Store conn.old conn.new result with_month_index schema_1 }
     ensures quiet { QuietWithin S.Store conn.old conn.new with_month_index }
-    ensures ends { EndsStep S.Store conn.old conn.new result }
+    ensures ends { EndsStep S.Store conn.old conn.new result with_month_index indexing_authors }
 {
     conn.execute(
         "CREATE INDEX message_by_author ON message (list, author, sent, pos)",
@@ -130,7 +131,7 @@ pub fn create_option<S: Alter>(conn: &mut Connection<S>) -> Result<usize, Error>
         × ((state S.Store conn.new).now.trees 13 ≡ [])) }
     ensures within { MovesWithin S.Store conn.old conn.new result schema_1 schema_2 }
     ensures quiet { QuietWithin S.Store conn.old conn.new schema_1 }
-    ensures ends { EndsStep S.Store conn.old conn.new result }
+    ensures ends { EndsStep S.Store conn.old conn.new result schema_1 making_options }
 {
     conn.execute(
         "CREATE TABLE list_option (list TEXT NOT NULL PRIMARY KEY REFERENCES list (name), merge INTEGER NOT NULL CHECK (merge BETWEEN 0 AND 1)) STRICT",
@@ -148,7 +149,7 @@ pub fn create_address<S: Alter>(conn: &mut Connection<S>) -> Result<usize, Error
         (IsMoving (state S.Store conn.new) before archive_schema said newest_number archive) }
     ensures within { MovesWithin S.Store conn.old conn.new result schema_2 archive_schema }
     ensures quiet { QuietWithin S.Store conn.old conn.new schema_2 }
-    ensures ends { EndsStep S.Store conn.old conn.new result }
+    ensures ends { EndsStep S.Store conn.old conn.new result schema_2 making_addresses }
 {
     conn.execute(
         "CREATE TABLE address (person TEXT NOT NULL PRIMARY KEY REFERENCES person (name), address TEXT NOT NULL) STRICT",
@@ -162,7 +163,7 @@ pub fn add_version<S: Alter>(conn: &mut Connection<S>) -> Result<usize, Error>
         → IsMaking (state S.Store conn.old) archive_schema before
         → OnOk result (IsMade (state S.Store conn.new) before empty_archive) }
     ensures quiet { QuietWithin S.Store conn.old conn.new archive_schema }
-    ensures ends { EndsStep S.Store conn.old conn.new result }
+    ensures ends { EndsStep S.Store conn.old conn.new result archive_schema adding_version }
 {
     conn.execute("INSERT INTO version (number) VALUES (?1)", params![VERSION])
 }
@@ -175,7 +176,7 @@ pub fn set_version<S: Alter>(conn: &mut Connection<S>) -> Result<usize, Error>
         → OnOk result (IsMade (state S.Store conn.new) before archive) }
     ensures within { MovesWithin S.Store conn.old conn.new result archive_schema archive_schema }
     ensures quiet { QuietWithin S.Store conn.old conn.new archive_schema }
-    ensures ends { EndsStep S.Store conn.old conn.new result }
+    ensures ends { EndsStep S.Store conn.old conn.new result archive_schema changing_version }
 {
     conn.execute("UPDATE version SET number = ?1", params![VERSION])
 }
@@ -224,6 +225,9 @@ pub fn versions<S: Alter>(conn: &mut Connection<S>) -> Result<Vec<Row>, Error>
         → HasForm (form_of number) (state S.Store conn.old)
         → IfOk result (λ rows. IsPermutation (versions_shown
         (state S.Store conn.old).now.trees) rows.items) }
+    ensures caused { HasCleanDisk (state S.Store conn.new) → (number : _) → IsKnown number
+        → HasForm (form_of number) (state S.Store conn.old) → (state S.Store conn.old).step_limit ≡ None
+        → IfErr result (IsCaused (state S.Store conn.old) (state S.Store conn.new)) }
     ensures left { HasCleanDisk (state S.Store conn.new) → (number : _) → IsKnown number
         → HasForm (form_of number) (state S.Store conn.old)
         → IsBackTo (state S.Store conn.new) (state S.Store conn.old).now }

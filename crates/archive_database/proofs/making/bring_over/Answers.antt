@@ -1,4 +1,7 @@
-use Rattle.std.proofs.Common.{subst, ◌∙◌, inl, inr}
+use Rattle.std.proofs.Common.{subst, ◌∙◌, inl, inr, rules}
+use Rattle.archive_tables.specs.Statements.{IsRefusedInTurn, moving_statements}
+use Rattle.archive_tables.proofs.LastLemmas.{lasts_then, lasts_same}
+use Rattle.archive_database.proofs.StepsLemmas.{blames, blames_it}
 use Rattle.sqlite.specs.Held.{state}
 use Rattle.sqlite.specs.Schema.{Schema}
 use Rattle.archive_tables.specs.Tables.{archive_by}
@@ -9,7 +12,7 @@ pub returns-in-Err-clause-back : goal.returns-in-Err-clause-back
 returns-in-Err-clause-back g c = λ clean older idle schema up.
     let first = state g.S.Store c.args.conn.now in
     let clean_2 = c.rollback-back.ensures.lasts.returned clean in
-    let within = c.in_ok-begin.ensures.within (c.in-Err.ensures.lasts.returned clean_2) in
+    let within = c.in_ok-begin.ensures.within (c.in-Err.ensures.ends.lasts.returned clean_2) in
     let stopped = c.in-Err.ensures.stopped clean_2 older first.committed (subst (λ (s : Schema). IsWithin (state g.S.Store c.begin.new.conn) first.committed s) schema within) in
     let back = c.rollback-back.ensures.back clean first.committed stopped up in
     (back.0 ∙ idle.settled, back.1 ∙ idle.settled, back.2)
@@ -17,7 +20,7 @@ returns-in-Err-clause-back g c = λ clean older idle schema up.
 pub returns-clause-moved : goal.returns-clause-moved
 returns-clause-moved g c = λ clean older kept.
     let first = state g.S.Store c.args.conn.now in
-    c.in_default.ensures.moved clean older first.now (archive_by c.args.number first.now.trees) (c.in_ok-begin.ensures.moving (c.in_default.ensures.lasts.returned clean) c.args.number kept)
+    c.in_default.ensures.moved clean older first.now (archive_by c.args.number first.now.trees) (c.in_ok-begin.ensures.moving (c.in_default.ensures.ends.lasts.returned clean) c.args.number kept)
 
 -- ---- what a stop of the machine leaves
 
@@ -28,7 +31,7 @@ pub returns-in-Err-clause-crash : goal.returns-in-Err-clause-crash
 returns-in-Err-clause-crash g c = λ older kept clean db may.
     let first = state g.S.Store c.args.conn.now in
     let clean_2 = c.rollback-back.ensures.lasts.returned clean in
-    let clean_1 = c.move_tables.ensures.lasts.returned clean_2 in
+    let clean_1 = c.move_tables.ensures.ends.lasts.returned clean_2 in
     let moving = c.in_ok-begin.ensures.moving clean_1 c.args.number kept in
     elim (c.move_tables.ensures.crash older first.now (archive_by c.args.number first.now.trees) moving clean_2 db (c.rollback-back.ensures.ends.quiet clean db may)) [
       | inl before ↦ inl (c.begin.ensures.ends.quiet clean_1 db before)
@@ -38,9 +41,44 @@ returns-in-Err-clause-crash g c = λ older kept clean db may.
 pub returns-clause-crash : goal.returns-clause-crash
 returns-clause-crash g c = λ older kept clean db may.
     let first = state g.S.Store c.args.conn.now in
-    let clean_1 = c.move_tables.ensures.lasts.returned clean in
+    let clean_1 = c.move_tables.ensures.ends.lasts.returned clean in
     let moving = c.in_ok-begin.ensures.moving clean_1 c.args.number kept in
     elim (c.move_tables.ensures.crash older first.now (archive_by c.args.number first.now.trees) moving clean db may) [
       | inl before ↦ inl (c.begin.ensures.ends.quiet clean_1 db before)
       | inr stored ↦ inr stored
     ]
+
+-- ---- how it ends
+
+pub returns-in_err-begin-clause-ends : goal.returns-in_err-begin-clause-ends
+returns-in_err-begin-clause-ends g c =
+    let old = state g.S.Store c.args.conn.now in
+    let new = state g.S.Store c.begin.new.conn in
+    record {
+      lasts = c.begin.ensures.ends.lasts;
+      was_open = λ clean. search rules;
+      caused = λ clean it free. blames old old new new c.from_residual.result c.in_err-begin.field-0.0 _ (IsRefusedInTurn (moving_statements c.args.number) old.now) c.from_residual.ensures.1
+          (lasts_same old) (lasts_same new) (λ no. absurd no) (inl (c.in_err-begin.ensures.ends.caused clean it.1.is_open it.1.autocommit));
+    }
+
+pub returns-in-Err-clause-ends : goal.returns-in-Err-clause-ends
+returns-in-Err-clause-ends g c =
+    let old = state g.S.Store c.args.conn.now in
+    let mid = state g.S.Store c.begin.new.conn in
+    let stop = state g.S.Store c.move_tables.new.conn in
+    let new = state g.S.Store c.rollback-back.new.conn in
+    let number = c.args.number in
+    record {
+      lasts = lasts_then _ _ _ (lasts_then _ _ _ c.begin.ensures.ends.lasts c.move_tables.ensures.ends.lasts) c.rollback-back.ensures.lasts;
+      was_open = λ clean. tt;
+      caused = λ clean it free.
+          let clean_2 = c.rollback-back.ensures.lasts.returned clean in
+          let clean_1 = c.in-Err.ensures.ends.lasts.returned clean_2 in
+          let within = subst (λ (s : Schema). IsWithin mid old.committed s) it.2 (c.in_ok-begin.ensures.within clean_1) in
+          blames_it old mid stop new c.in-Err.error (IsRefusedInTurn (moving_statements number) mid.now) (IsRefusedInTurn (moving_statements number) old.now) c.begin.ensures.ends.lasts
+          c.rollback-back.ensures.lasts (λ refused. subst (IsRefusedInTurn (moving_statements number)) (c.in_ok-begin.ensures.ends.same clean_1) refused)
+          (c.in-Err.ensures.ends.caused clean_2 old.committed (it.0, within) (c.begin.ensures.ends.lasts.limit ∙ free)) _ (search rules);
+    }
+
+pub returns-clause-ends : goal.returns-clause-ends
+returns-clause-ends g c = record { lasts = lasts_then _ _ _ c.begin.ensures.ends.lasts c.move_tables.ensures.ends.lasts; was_open = λ clean. search rules; caused = λ clean it free. tt }

@@ -1,13 +1,15 @@
-use Rattle.std.proofs.Common.{inl, inr, ◌∙◌}
+use Rattle.std.proofs.Common.{inl, inr, subst, ◌∙◌, rules}
+use Rattle.archive_tables.specs.Statements.{IsRefusedInTurn, making_statements}
+use Rattle.archive_database.proofs.StepsLemmas.{blames, blames_it}
 use Rattle.sqlite.specs.Held.{state}
-use Rattle.archive_tables.proofs.LastLemmas.{lasts_then}
+use Rattle.archive_tables.proofs.LastLemmas.{lasts_then, lasts_same}
 use Rattle.archive_database.proofs.making.make_tables.Goals as goal
 
 pub returns-in-Err-clause-back : goal.returns-in-Err-clause-back
 returns-in-Err-clause-back g c = λ clean none idle up.
     let first = state g.S.Store c.args.conn.now in
     let clean_2 = c.rollback-undone.ensures.lasts.returned clean in
-    let making = c.in_ok-begin.ensures.begun (c.in-Err.ensures.lasts.returned clean_2) none in
+    let making = c.in_ok-begin.ensures.begun (c.in-Err.ensures.ends.lasts.returned clean_2) none in
     let back = c.rollback-undone.ensures.back clean first.committed (c.in-Err.ensures.stopped clean_2 first.committed making) up in
     (back.0 ∙ idle.settled, back.1 ∙ idle.settled, back.2)
 
@@ -15,16 +17,44 @@ pub returns-in-Err-clause-undone : goal.returns-in-Err-clause-undone
 returns-in-Err-clause-undone g c = λ clean none up.
     let first = state g.S.Store c.args.conn.now in
     let clean_2 = c.rollback-undone.ensures.lasts.returned clean in
-    let making = c.in_ok-begin.ensures.begun (c.in-Err.ensures.lasts.returned clean_2) none in
+    let making = c.in_ok-begin.ensures.begun (c.in-Err.ensures.ends.lasts.returned clean_2) none in
     (c.rollback-undone.ensures.back clean first.committed (c.in-Err.ensures.stopped clean_2 first.committed making) up).1
+
+pub returns-in_err-begin-clause-ends : goal.returns-in_err-begin-clause-ends
+returns-in_err-begin-clause-ends g c =
+    let old = state g.S.Store c.args.conn.now in
+    let new = state g.S.Store c.begin.new.conn in
+    record {
+      lasts = c.begin.ensures.ends.lasts;
+      was_open = λ clean. search rules;
+      caused = λ clean it free. blames old old new new c.from_residual.result c.in_err-begin.field-0.0 _ (IsRefusedInTurn making_statements old.now) c.from_residual.ensures.1 (lasts_same old) (lasts_same new)
+          (λ no. absurd no) (inl (c.in_err-begin.ensures.ends.caused clean it.0.is_open it.0.autocommit));
+    }
 
 pub returns-in-Err-clause-ends : goal.returns-in-Err-clause-ends
 returns-in-Err-clause-ends g c =
-    record { lasts = lasts_then _ _ _ (lasts_then _ _ _ c.begin.ensures.ends.lasts c.fill.ensures.lasts) c.rollback-undone.ensures.lasts; was_open = λ clean. tt }
+    let old = state g.S.Store c.args.conn.now in
+    let mid = state g.S.Store c.begin.new.conn in
+    let stop = state g.S.Store c.fill.new.conn in
+    let new = state g.S.Store c.rollback-undone.new.conn in
+    record {
+      lasts = lasts_then _ _ _ (lasts_then _ _ _ c.begin.ensures.ends.lasts c.fill.ensures.ends.lasts) c.rollback-undone.ensures.lasts;
+      was_open = λ clean. tt;
+      caused = λ clean it free.
+          let clean_2 = c.rollback-undone.ensures.lasts.returned clean in
+          let clean_1 = c.in-Err.ensures.ends.lasts.returned clean_2 in
+          let making = c.in_ok-begin.ensures.begun clean_1 it.1 in
+          blames_it old mid stop new c.in-Err.error (IsRefusedInTurn making_statements mid.now) (IsRefusedInTurn making_statements old.now) c.begin.ensures.ends.lasts
+          c.rollback-undone.ensures.lasts (λ refused. subst (IsRefusedInTurn making_statements) (c.in_ok-begin.ensures.ends.same clean_1) refused)
+          (c.in-Err.ensures.ends.caused clean_2 old.committed making (c.begin.ensures.ends.lasts.limit ∙ free)) _ (search rules);
+    }
+
+pub returns-clause-ends : goal.returns-clause-ends
+returns-clause-ends g c = record { lasts = lasts_then _ _ _ c.begin.ensures.ends.lasts c.fill.ensures.ends.lasts; was_open = λ clean. search rules; caused = λ clean it free. tt }
 
 pub returns-clause-made : goal.returns-clause-made
 returns-clause-made g c = λ clean none.
-    c.in_default.ensures.kept clean (state g.S.Store c.args.conn.now).committed (c.in_ok-begin.ensures.begun (c.in_default.ensures.lasts.returned clean) none)
+    c.in_default.ensures.kept clean (state g.S.Store c.args.conn.now).committed (c.in_ok-begin.ensures.begun (c.in_default.ensures.ends.lasts.returned clean) none)
 
 -- ---- what a stop of the machine leaves
 
@@ -35,7 +65,7 @@ pub returns-in-Err-clause-crash : goal.returns-in-Err-clause-crash
 returns-in-Err-clause-crash g c = λ none clean db may.
     let first = state g.S.Store c.args.conn.now in
     let clean_2 = c.rollback-undone.ensures.lasts.returned clean in
-    let clean_1 = c.fill.ensures.lasts.returned clean_2 in
+    let clean_1 = c.fill.ensures.ends.lasts.returned clean_2 in
     elim (c.fill.ensures.crash first.committed (c.in_ok-begin.ensures.begun clean_1 none) clean_2 db (c.rollback-undone.ensures.ends.quiet clean db may)) [
       | inl before ↦ inl (c.begin.ensures.ends.quiet clean_1 db before)
       | inr stored ↦ inr stored
@@ -44,7 +74,7 @@ returns-in-Err-clause-crash g c = λ none clean db may.
 pub returns-clause-crash : goal.returns-clause-crash
 returns-clause-crash g c = λ none clean db may.
     let first = state g.S.Store c.args.conn.now in
-    let clean_1 = c.fill.ensures.lasts.returned clean in
+    let clean_1 = c.fill.ensures.ends.lasts.returned clean in
     elim (c.fill.ensures.crash first.committed (c.in_ok-begin.ensures.begun clean_1 none) clean db may) [
       | inl before ↦ inl (c.begin.ensures.ends.quiet clean_1 db before)
       | inr stored ↦ inr stored

@@ -1,10 +1,20 @@
-use Rattle.std.proofs.Common.{pos, inl, inr}
+use Rattle.std.proofs.Common.{pos, inl, inr, refl, Result, Ok, Err, [], ◌∷◌}
+use Rattle.sqlite.specs.declared.error.Error.{Error}
 use Rattle.sqlite.specs.Held.{state}
-use Rattle.archive_tables.proofs.LastLemmas.{lasts_then}
 use Rattle.archive_database.proofs.MakingLemmas.{stopped_by, on_err}
-use Rattle.archive_tables.specs.Schema.{schema_of}
+use Rattle.archive_tables.specs.Schema.{schema_2, archive_schema, schema_of}
+use Rattle.archive_tables.specs.Making.{IsWithin, EndsSteps}
+use Rattle.archive_tables.specs.Statements.{making_addresses, changing_version, option_statements}
+use Rattle.archive_database.specs.Adopting.{IsOlder}
+use Rattle.archive_database.proofs.StepsLemmas.{one_ends, commit_ends, fails_first, fails_then, done_then}
 use Rattle.archive_tables.proofs.CrashLemmas.{is_within, commit_made}
 use Rattle.archive_database.proofs.making.move_tables.Goals as goal
+
+abbrev failed : Error → Result (Unit {0}) Error
+failed e = Err e
+
+abbrev done : Result (Unit {0}) Error
+done = Ok tt
 
 pub returns-clause-moved : goal.returns-clause-moved
 returns-clause-moved g c = λ clean older before archive moving.
@@ -38,15 +48,6 @@ returns-in_err-commit-clause-stopped g c = λ clean older before within.
     let k = c.in_ok-set_version.ensures.within clean_3 before moved in
     on_err c.from_residual-in_err-commit.result _
     (stopped_by (state g.S.Store c.set_version.new.conn) (state g.S.Store c.commit.new.conn) before k.behind k.within (c.in_err-commit.ensures.ends.stopped clean))
-
-pub returns-in_err-set_version-clause-lasts : goal.returns-in_err-set_version-clause-lasts
-returns-in_err-set_version-clause-lasts g c = lasts_then _ _ _ (lasts_then _ _ _ c.move_options.ensures.lasts c.create_address.ensures.ends.lasts) c.set_version.ensures.ends.lasts
-
-pub returns-in_err-commit-clause-lasts : goal.returns-in_err-commit-clause-lasts
-returns-in_err-commit-clause-lasts g c = lasts_then _ _ _ (lasts_then _ _ _ (lasts_then _ _ _ c.move_options.ensures.lasts c.create_address.ensures.ends.lasts) c.set_version.ensures.ends.lasts) c.commit.ensures.ends.lasts
-
-pub returns-clause-lasts : goal.returns-clause-lasts
-returns-clause-lasts g c = lasts_then _ _ _ (lasts_then _ _ _ (lasts_then _ _ _ c.move_options.ensures.lasts c.create_address.ensures.ends.lasts) c.set_version.ensures.ends.lasts) c.commit.ensures.ends.lasts
 
 -- ---- what a stop of the machine leaves
 
@@ -102,3 +103,34 @@ returns-clause-crash g c = λ older before archive moving clean db may.
       | inl earlier ↦ inl (c.move_options.ensures.quiet older before within clean_1 db (c.create_address.ensures.quiet before k clean_2 db (c.set_version.ensures.quiet before l clean_3 db earlier)))
       | inr stored ↦ inr stored
     ]
+
+-- ---- how it ends
+
+pub returns-in_err-move_options-clause-ends : goal.returns-in_err-move_options-clause-ends
+returns-in_err-move_options-clause-ends g c =
+    fails_first c.from_residual.result c.in_err-move_options.field-0.0 c.from_residual.ensures.1 (λ s before. IsOlder c.args.number × IsWithin s before (schema_of c.args.number)) (option_statements c.args.number) (making_addresses ∷ changing_version ∷ []) c.in_err-move_options.ensures.ends
+
+pub returns-in_err-create_address-clause-ends : goal.returns-in_err-create_address-clause-ends
+returns-in_err-create_address-clause-ends g c =
+    fails_then (λ s before. IsOlder c.args.number × IsWithin s before (schema_of c.args.number)) (λ s before. IsWithin s before schema_2) (option_statements c.args.number) (making_addresses ∷ []) c.in_ok-move_options.ensures.ends (λ clean before k. c.in_ok-move_options.ensures.within clean k.0 before k.1)
+    c.from_residual-in_err-create_address.result c.in_err-create_address.field-0.0 c.from_residual-in_err-create_address.ensures.1 (changing_version ∷ []) (one_ends (λ s before. IsWithin s before schema_2) (λ before k. (k.is_open, k.schema_is)) c.in_err-create_address.ensures.ends)
+
+pub returns-in_err-set_version-clause-ends : goal.returns-in_err-set_version-clause-ends
+returns-in_err-set_version-clause-ends g c =
+    let second : EndsSteps g.S.Store c.move_options.new.conn c.set_version.new.conn (failed c.in_err-set_version.field-0.0) (λ s before. IsWithin s before schema_2) (making_addresses ∷ changing_version ∷ []) =
+    fails_then (λ s before. IsWithin s before schema_2) (λ s before. IsWithin s before archive_schema) (making_addresses ∷ []) (changing_version ∷ []) (one_ends (λ s before. IsWithin s before schema_2) (λ before k. (k.is_open, k.schema_is)) c.in_ok-create_address.ensures.ends) c.in_ok-create_address.ensures.within (failed c.in_err-set_version.field-0.0) c.in_err-set_version.field-0.0 refl [] (one_ends (λ s before. IsWithin s before archive_schema) (λ before k. (k.is_open, k.schema_is)) c.in_err-set_version.ensures.ends) in
+    fails_then (λ s before. IsOlder c.args.number × IsWithin s before (schema_of c.args.number)) (λ s before. IsWithin s before schema_2) (option_statements c.args.number) (making_addresses ∷ changing_version ∷ []) c.in_ok-move_options.ensures.ends (λ clean before k. c.in_ok-move_options.ensures.within clean k.0 before k.1)
+    c.from_residual-in_err-set_version.result c.in_err-set_version.field-0.0 c.from_residual-in_err-set_version.ensures.1 [] second
+
+pub returns-in_err-commit-clause-ends : goal.returns-in_err-commit-clause-ends
+returns-in_err-commit-clause-ends g c =
+    let second : EndsSteps g.S.Store c.move_options.new.conn c.commit.new.conn (failed c.in_err-commit.field-0.0) (λ s before. IsWithin s before schema_2) (making_addresses ∷ changing_version ∷ []) =
+    fails_then (λ s before. IsWithin s before schema_2) (λ s before. IsWithin s before archive_schema) (making_addresses ∷ changing_version ∷ []) [] (done_then (λ s before. IsWithin s before schema_2) (λ s before. IsWithin s before archive_schema) (making_addresses ∷ []) (changing_version ∷ []) (one_ends (λ s before. IsWithin s before schema_2) (λ before k. (k.is_open, k.schema_is)) c.in_ok-create_address.ensures.ends) c.in_ok-create_address.ensures.within _ (tt {0}) (one_ends (λ s before. IsWithin s before archive_schema) (λ before k. (k.is_open, k.schema_is)) c.in_ok-set_version.ensures.ends)) (λ clean before k. c.in_ok-set_version.ensures.within clean before (c.in_ok-create_address.ensures.within (c.in_ok-set_version.ensures.ends.lasts.returned clean) before k)) (failed c.in_err-commit.field-0.0) c.in_err-commit.field-0.0 refl [] (commit_ends (λ s before. IsWithin s before archive_schema) (λ before k. (k.is_open, k.within)) c.in_err-commit.ensures.ends) in
+    fails_then (λ s before. IsOlder c.args.number × IsWithin s before (schema_of c.args.number)) (λ s before. IsWithin s before schema_2) (option_statements c.args.number) (making_addresses ∷ changing_version ∷ []) c.in_ok-move_options.ensures.ends (λ clean before k. c.in_ok-move_options.ensures.within clean k.0 before k.1)
+    c.from_residual-in_err-commit.result c.in_err-commit.field-0.0 c.from_residual-in_err-commit.ensures.1 [] second
+
+pub returns-clause-ends : goal.returns-clause-ends
+returns-clause-ends g c =
+    let second : EndsSteps g.S.Store c.move_options.new.conn c.commit.new.conn done (λ s before. IsWithin s before schema_2) (making_addresses ∷ changing_version ∷ []) =
+    done_then (λ s before. IsWithin s before schema_2) (λ s before. IsWithin s before archive_schema) (making_addresses ∷ changing_version ∷ []) [] (done_then (λ s before. IsWithin s before schema_2) (λ s before. IsWithin s before archive_schema) (making_addresses ∷ []) (changing_version ∷ []) (one_ends (λ s before. IsWithin s before schema_2) (λ before k. (k.is_open, k.schema_is)) c.in_ok-create_address.ensures.ends) c.in_ok-create_address.ensures.within _ (tt {0}) (one_ends (λ s before. IsWithin s before archive_schema) (λ before k. (k.is_open, k.schema_is)) c.in_ok-set_version.ensures.ends)) (λ clean before k. c.in_ok-set_version.ensures.within clean before (c.in_ok-create_address.ensures.within (c.in_ok-set_version.ensures.ends.lasts.returned clean) before k)) _ (tt {0}) (commit_ends (λ s before. IsWithin s before archive_schema) (λ before k. (k.is_open, k.within)) c.in_ok-commit.ensures.ends) in
+    done_then (λ s before. IsOlder c.args.number × IsWithin s before (schema_of c.args.number)) (λ s before. IsWithin s before schema_2) (option_statements c.args.number) (making_addresses ∷ changing_version ∷ []) c.in_ok-move_options.ensures.ends (λ clean before k. c.in_ok-move_options.ensures.within clean k.0 before k.1) tt tt second

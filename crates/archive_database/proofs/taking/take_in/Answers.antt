@@ -1,6 +1,12 @@
 use Rattle.std.proofs.Common.{rules}
 use Rattle.archive_database.proofs.taking.take_in.Goals as goal
 
+pub returns-in-Some-clause-made : goal.returns-in-Some-clause-made
+returns-in-Some-clause-made g c = λ clean behind k free. c.write_down.ensures.made (search rules) clean behind k free
+
+pub returns-clause-made : goal.returns-clause-made
+returns-clause-made g c = λ clean behind k free. c.write_down-2.ensures.made (search rules) clean behind k free
+
 pub returns-in-Some-clause-crash : goal.returns-in-Some-clause-crash
 returns-in-Some-clause-crash g c = λ behind k needs clean db may. c.write_down.ensures.crash (search rules) behind k needs clean db may
 

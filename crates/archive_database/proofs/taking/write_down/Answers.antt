@@ -6,6 +6,11 @@ returns-clause-taken g c is clean behind k none =
     let written = c.in_ok-add_message.ensures.over clean behind k in
     search rules
 
+pub returns-clause-made : goal.returns-clause-made
+returns-clause-made g c = λ is clean behind k free.
+    let written = c.in_ok-add_message.ensures.made clean behind k free in
+    search rules
+
 -- ---- what a stop of the machine leaves
 
 pub returns-in_err-add_message-clause-crash : goal.returns-in_err-add_message-clause-crash

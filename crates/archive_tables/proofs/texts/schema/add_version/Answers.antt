@@ -11,6 +11,8 @@ use Rattle.archive_tables.proofs.MakeLemmas.{makes_whole, version_text}
 use Rattle.sqlite_tied.specs.Compute.{everything}
 use Rattle.sqlite_resolve.specs.Compile.{first}
 use Rattle.archive_tables.proofs.LastLemmas.{IsOurText}
+use Rattle.archive_tables.specs.Statements.{adding_version}
+use Rattle.archive_tables.proofs.RefusalLemmas.{KnowsIn}
 use Rattle.archive_tables.proofs.EndLemmas.{step_ends}
 use Rattle.sqlite.specs.Listing.{understood}
 use Rattle.sqlite.proofs.Callers.{command_of}
@@ -28,8 +30,12 @@ ours : IsOurText (first version_text)
 unfolding first everything
 ours = tt
 
+knows : KnowsIn archive_schema adding_version
+unfolding understood everything
+knows = record { fits = (refl, refl); plain = (refl, refl); writes = tt }
+
 pub returns-clause-ends : goal.returns-clause-ends
-returns-clause-ends g c = step_ends _ _ _ c.execute.result ours c.execute.ensures.survives c.execute.ensures.runs
+returns-clause-ends g c = step_ends archive_schema adding_version _ c.execute.result knows ours (rw c.params-to_sql.ensures at c.execute.ensures.survives) (λ clean. rw c.params-to_sql.ensures at (c.execute.ensures.runs clean))
 
 goes_on : EndsNothing (command_of (understood archive_schema version_text))
 unfolding understood everything

@@ -4,14 +4,15 @@ use Rattle.sqlite.specs.Effect.{Database}
 use Rattle.sqlite.specs.Held.{state}
 use Rattle.sqlite.specs.State.{State, IsMisplaced, Executes}
 use Rattle.archive_tables.specs.Tables.{IsKept, archive_of}
-use Rattle.archive_tables.specs.Making.{IsMade, EndsStep}
+use Rattle.archive_tables.specs.Making.{IsMade}
 use Rattle.archive_machine.specs.Records.{Archive}
 use Rattle.archive_tables.proofs.MakeLemmas.{commits, commit_text}
 use Rattle.archive_tables.proofs.HeldLemmas.{commits_over}
 use Rattle.sqlite_tied.specs.Compute.{everything}
 use Rattle.sqlite_resolve.specs.Compile.{first}
 use Rattle.archive_tables.proofs.LastLemmas.{IsOurText}
-use Rattle.archive_tables.proofs.EndLemmas.{step_ends}
+use Rattle.archive_tables.specs.Calls.{Ends}
+use Rattle.archive_tables.proofs.EndLemmas.{execute_ends, statement_stops}
 use Rattle.sqlite.specs.Command.TheVariants.{Commit}
 use Rattle.sqlite.specs.Schema.{Schema}
 use Rattle.sqlite.specs.Listing.{understood}
@@ -60,11 +61,11 @@ pub returns-clause-ends : goal.returns-clause-ends
 returns-clause-ends g c =
     let old = state g.S.Store c.args.conn.now in
     let new = state g.S.Store c.execute.new.self in
-    let step : EndsStep g.S.Store c.args.conn.now c.execute.new.self c.execute.result = step_ends _ _ _ c.execute.result ours c.execute.ensures.survives c.execute.ensures.runs in
+    let ends : Ends g.S.Store c.args.conn.now c.execute.new.self c.execute.result = execute_ends _ _ _ c.execute.result ours c.execute.ensures.survives c.execute.ensures.runs in
     record {
-      lasts = step.lasts;
-      was_open = step.was_open;
-      stopped = step.stopped;
+      lasts = ends.lasts;
+      was_open = ends.was_open;
+      stopped = λ clean. statement_stops old new commit_text [] c.execute.result (c.execute.ensures.runs clean);
       caused = λ clean up within. transaction_fails commit_text Commit any_is any_plain any_fits tt old new up (placed old within) c.execute.result (c.execute.ensures.runs clean);
       same = λ clean. same old new c.execute.result (c.execute.ensures.runs clean);
       crash = λ clean db may. commit_adds commit_text Commit any_is any_plain tt [] old new c.schema-schema.ensures.live c.execute.ensures.survives clean db may;

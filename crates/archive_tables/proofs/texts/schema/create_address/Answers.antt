@@ -12,6 +12,8 @@ use Rattle.archive_tables.proofs.MoveLemmas.{moves_address, address_within}
 use Rattle.sqlite_tied.specs.Compute.{everything}
 use Rattle.sqlite_resolve.specs.Compile.{first}
 use Rattle.archive_tables.proofs.LastLemmas.{IsOurText}
+use Rattle.archive_tables.specs.Statements.{making_addresses}
+use Rattle.archive_tables.proofs.RefusalLemmas.{KnowsIn}
 use Rattle.archive_tables.proofs.EndLemmas.{step_ends}
 use Rattle.sqlite.specs.Listing.{understood}
 use Rattle.sqlite.proofs.Callers.{command_of}
@@ -44,8 +46,12 @@ ours : IsOurText (first create_address)
 unfolding first everything
 ours = tt
 
+knows : KnowsIn schema_2 making_addresses
+unfolding understood everything
+knows = record { fits = (refl, refl); plain = (refl, refl); writes = tt }
+
 pub returns-clause-ends : goal.returns-clause-ends
-returns-clause-ends g c = step_ends _ _ _ c.execute.result ours c.execute.ensures.survives c.execute.ensures.runs
+returns-clause-ends g c = step_ends schema_2 making_addresses _ c.execute.result knows ours c.execute.ensures.survives c.execute.ensures.runs
 
 goes_on : EndsNothing (command_of (understood schema_2 create_address))
 unfolding understood everything

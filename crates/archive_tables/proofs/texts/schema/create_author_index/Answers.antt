@@ -9,6 +9,8 @@ use Rattle.archive_tables.proofs.MakeLemmas.{makes_author_index}
 use Rattle.sqlite_tied.specs.Compute.{everything}
 use Rattle.sqlite_resolve.specs.Compile.{first}
 use Rattle.archive_tables.proofs.LastLemmas.{IsOurText}
+use Rattle.archive_tables.specs.Statements.{indexing_authors}
+use Rattle.archive_tables.proofs.RefusalLemmas.{KnowsIn}
 use Rattle.archive_tables.proofs.EndLemmas.{step_ends}
 use Rattle.sqlite.specs.Listing.{understood}
 use Rattle.sqlite.proofs.Callers.{command_of}
@@ -26,8 +28,12 @@ ours : IsOurText (first create_author_index)
 unfolding first everything
 ours = tt
 
+knows : KnowsIn with_month_index indexing_authors
+unfolding understood everything
+knows = record { fits = (refl, refl); plain = (refl, refl); writes = tt }
+
 pub returns-clause-ends : goal.returns-clause-ends
-returns-clause-ends g c = step_ends _ _ _ c.execute.result ours c.execute.ensures.survives c.execute.ensures.runs
+returns-clause-ends g c = step_ends with_month_index indexing_authors _ c.execute.result knows ours c.execute.ensures.survives c.execute.ensures.runs
 
 goes_on : EndsNothing (command_of (understood with_month_index create_author_index))
 unfolding understood everything

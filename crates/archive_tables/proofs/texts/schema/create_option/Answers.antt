@@ -11,6 +11,8 @@ use Rattle.archive_tables.proofs.MoveLemmas.{moves_option, option_within}
 use Rattle.sqlite_tied.specs.Compute.{everything}
 use Rattle.sqlite_resolve.specs.Compile.{first}
 use Rattle.archive_tables.proofs.LastLemmas.{IsOurText}
+use Rattle.archive_tables.specs.Statements.{making_options}
+use Rattle.archive_tables.proofs.RefusalLemmas.{KnowsIn}
 use Rattle.archive_tables.proofs.EndLemmas.{step_ends}
 use Rattle.sqlite.specs.Listing.{understood}
 use Rattle.sqlite.proofs.Callers.{command_of}
@@ -43,8 +45,12 @@ ours : IsOurText (first create_option)
 unfolding first everything
 ours = tt
 
+knows : KnowsIn schema_1 making_options
+unfolding understood everything
+knows = record { fits = (refl, refl); plain = (refl, refl); writes = tt }
+
 pub returns-clause-ends : goal.returns-clause-ends
-returns-clause-ends g c = step_ends _ _ _ c.execute.result ours c.execute.ensures.survives c.execute.ensures.runs
+returns-clause-ends g c = step_ends schema_1 making_options _ c.execute.result knows ours c.execute.ensures.survives c.execute.ensures.runs
 
 goes_on : EndsNothing (command_of (understood schema_1 create_option))
 unfolding understood everything

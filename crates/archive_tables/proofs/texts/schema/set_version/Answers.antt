@@ -13,6 +13,8 @@ use Rattle.archive_tables.proofs.MoveLemmas.{moves_version, number_within, numbe
 use Rattle.sqlite_tied.specs.Compute.{everything}
 use Rattle.sqlite_resolve.specs.Compile.{first}
 use Rattle.archive_tables.proofs.LastLemmas.{IsOurText}
+use Rattle.archive_tables.specs.Statements.{changing_version}
+use Rattle.archive_tables.proofs.RefusalLemmas.{KnowsIn}
 use Rattle.archive_tables.proofs.EndLemmas.{step_ends}
 use Rattle.sqlite.specs.Listing.{understood}
 use Rattle.sqlite.proofs.Callers.{command_of}
@@ -38,8 +40,12 @@ ours : IsOurText (first number_text)
 unfolding first everything
 ours = tt
 
+knows : KnowsIn archive_schema changing_version
+unfolding understood everything
+knows = record { fits = (refl, refl); plain = (refl, refl); writes = tt }
+
 pub returns-clause-ends : goal.returns-clause-ends
-returns-clause-ends g c = step_ends _ _ _ c.execute.result ours c.execute.ensures.survives c.execute.ensures.runs
+returns-clause-ends g c = step_ends archive_schema changing_version _ c.execute.result knows ours (rw c.params-to_sql.ensures at c.execute.ensures.survives) (λ clean. rw c.params-to_sql.ensures at (c.execute.ensures.runs clean))
 
 goes_on : EndsNothing (command_of (understood archive_schema number_text))
 unfolding understood everything

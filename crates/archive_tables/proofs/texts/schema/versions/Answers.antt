@@ -13,7 +13,7 @@ use Rattle.archive_tables.specs.Rows.{versions_shown}
 use Rattle.archive_tables.specs.Making.{IsBackTo}
 use Rattle.archive_tables.specs.declared.texts.schema.TheConstants.{VERSION}
 use Rattle.archive_tables.specs.Calls.{StaysOver, RestsOver, IsCaused}
-use Rattle.archive_tables.proofs.VersionLemmas.{number_text, numbers_found, numbers_leave, no_numbers_leave, numbers_open, version_found, version_not_found, version_not_found_caused}
+use Rattle.archive_tables.proofs.VersionLemmas.{number_text, numbers_found, numbers_leave, no_numbers_leave, no_numbers_caused, numbers_open, version_found, version_not_found, version_not_found_caused}
 use Rattle.archive_tables.proofs.EndLemmas.{asks_shows}
 use Rattle.sqlite_tied.specs.Compute.{everything}
 use Rattle.sqlite_resolve.specs.Compile.{first}
@@ -47,6 +47,14 @@ module _ (old new : State) (number : ℕ) (known : IsKnown number) (o : HasForm 
   opened : (r : Result (Vec Row Global) Error) → IfOk r (λ rows. Shown number_text [] old new rows.items) → OnOk r (IsTrue new.is_open)
   opened (Ok rows) ok = numbers_open old new number known o rows.items ok
   opened (Err e) ok = tt
+
+  no_numbers : old.step_limit ≡ None → (r : Result (Vec Row Global) Error) → IfErr r (FailsToQuery number_text [] old new) → IfErr r (IsCaused old new)
+  no_numbers free (Ok rows) err = tt
+  no_numbers free (Err e) err = no_numbers_caused old new number known o e err free
+
+pub returns-clause-caused : goal.returns-clause-caused
+returns-clause-caused g c clean number known o free =
+    no_numbers (state g.S.Store c.args.conn.now) (state g.S.Store c.query_all.new.self) number known o free c.query_all.result (c.query_all.ensures.err clean)
 
 pub returns-clause-left : goal.returns-clause-left
 returns-clause-left g c clean number known o =
