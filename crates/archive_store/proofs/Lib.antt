@@ -20,3 +20,5 @@ mod PutLemmas
 mod AskLemmas
 mod PassLemmas
 mod FindLemmas
+pub mod StopLemmas
+mod AdoptLemmas

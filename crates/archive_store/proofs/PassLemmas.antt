@@ -1,21 +1,19 @@
 -- What a call of the tables told and a store handed on: the same value, or its error as a fault.
-use Rattle.std.proofs.Common.{◌≡◌, None, Ok, Err, Result, IfErr, OnOk, List, sym, subst, subst₂, ◌∙◌, ◌⊎◌, inl, inr}
+use Rattle.std.proofs.Common.{◌≡◌, None, Ok, Err, Result, IfErr, OnOk, List, sym, subst, ◌∙◌}
 use Rattle.std.specs.Prelude.{⊤, IsTrue, IsErrAnd, Option, Some, MatchResult, MatchOption}
 use Rattle.sqlite.specs.declared.error.Error.{Error}
 use Rattle.sqlite.specs.Store.{Ghosts}
 use Rattle.sqlite.specs.Held.{Held, state}
 use Rattle.sqlite.specs.State.{State, HasCleanDisk}
-use Rattle.sqlite_disk.specs.Disk.{MoreFaults}
 use Rattle.archive_machine.specs.Records.{Archive}
 use Rattle.archive_tables.specs.Tables.{IsKept, archive_of}
-use Rattle.archive_tables.specs.Statements.{Statement, IsRefused}
-use Rattle.archive_tables.specs.Calls.{Asks, Writes, Changes, Rests, StaysOver, Lasts, AnswersOpen, IsCaused}
+use Rattle.archive_tables.specs.Statements.{Statement}
+use Rattle.archive_tables.specs.Calls.{Asks, Writes, Changes, Rests, StaysOver, Lasts, AnswersOpen}
 use Rattle.archive_machine.specs.Commands.{Refusal}
 use Rattle.archive_store.specs.Replies.{fault_of, refusal, Stays, RefusedFor}
 use Rattle.archive_store.specs.declared.faults.StoreFault.{StoreFault}
 use Rattle.archive_store.specs.declared.faults.StoreFault.TheVariants as faults
 use Rattle.archive_store.proofs.AskLemmas.{answered, unanswered, written, unwritten}
-use Rattle.archive_store.proofs.CauseLemmas.{by_cause, by_later, more_since}
 
 -- ---- what was told of a value, or of an error
 
@@ -69,24 +67,6 @@ pub blamed_on : {A B : Type 0} (result : Result B StoreFault) (told : Result A E
 blamed_on (Ok b) told fault Why X same is why then = tt
 blamed_on (Err f) (Ok a) fault Why X same is why then = absurd is
 blamed_on (Err f) (Err e) fault Why X same is why then = λ it. then e why (sym is ∙ sym same ∙ it)
-
--- the rows in front of a write that stands behind questions
-pub blamed_write : {A B : Type 0} (old mid new : State) (result : Result B StoreFault) (told : Result A Error) (fault : StoreFault) (raw st : Statement)
-    → raw ≡ st → IsErrAnd result (λ f. f ≡ fault) → IsErrAnd told (λ e. fault ≡ fault_of e) → mid.now ≡ old.now → Lasts old mid
-    → IfErr told (λ e. IsCaused mid new e ⊎ IsRefused raw mid.now) → IfErr result (λ f. f ≡ faults.Store → MoreFaults old.faults new.faults ⊎ IsRefused st old.now)
-blamed_write old mid new result told fault raw st by same is now lasts why =
-    blamed_on result told fault (λ e. IsCaused mid new e ⊎ IsRefused raw mid.now) _ same is why
-    (λ e why it. elim why [
-      | inl cause ↦ inl (more_since old mid new lasts (by_cause mid new e cause it))
-      | inr refused ↦ inr (subst₂ IsRefused by now refused)
-    ])
-
--- a question behind others
-pub blamed_later : {A B : Type 0} (X : Type 0) (old mid new : State) (result : Result B StoreFault) (told : Result A Error) (fault : StoreFault)
-    → IsErrAnd result (λ f. f ≡ fault) → IsErrAnd told (λ e. fault ≡ fault_of e) → Lasts old mid
-    → IfErr told (λ e. IsCaused mid new e ⊎ ⊥) → IfErr result (λ f. f ≡ faults.Store → MoreFaults old.faults new.faults ⊎ X)
-blamed_later X old mid new result told fault same is lasts why =
-    blamed_on result told fault (λ e. IsCaused mid new e ⊎ ⊥) _ same is why (λ e why it. inl (by_later old mid new e lasts why it))
 
 -- one that is answered saw the same
 pub saw_same : {A : Type 0} (old mid : State) {told : Result A Error} {a : A} → told ≡ Ok a → OnOk told (mid.now ≡ old.now) → mid.now ≡ old.now

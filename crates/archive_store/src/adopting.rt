@@ -5,6 +5,7 @@ ghost use Rattle.sqlite.specs.State.{HasCleanDisk};
 ghost use Rattle.sqlite.specs.Steps.{over_memory};
 ghost use Rattle.archive_tables.specs.Tables.{IsKept, archive_of};
 ghost use Rattle.archive_tables.specs.Making.{empty_archive};
+ghost use Rattle.archive_database.specs.Adopting.{IsUnmade};
 ghost use Rattle.archive_store.specs.Adopting.{IsAdopted, IsLeft};
 ghost use Rattle.archive_store.specs.Held.{held_of};
 ghost use Rattle.archive_store.specs.Replies.{refusal};
@@ -27,13 +28,14 @@ pub struct AdoptStop<S: Alter> {
 }
 
 impl Store<MemStore> {
-    /// A store in memory, with nothing in it.
+    /// A store in memory, with nothing in it. E14 where no memory was left.
     pub fn open_in_memory(alloc: Global) -> Result<Store<MemStore>, StoreFault>
         ensures made { IfOk result (λ store. HasCleanDisk (state over_memory (held_of store))
             → IsKept (state over_memory (held_of store))
             × (archive_of (state over_memory (held_of store)) ≡ empty_archive)) }
         ensures unlimited { IfOk result (λ store. HasNoLimit over_memory store) }
         ensures fault { IfErr result (λ fault. refusal fault ≡ None) }
+        ensures caused { IfErr result (λ fault. fault ≡ StoreFault.Store → (db : _) × IsUnmade db) }
     {
         match Store::adopt(Connection::open_in_memory(alloc)?) {
             Ok(store) => Ok(store),

@@ -1,13 +1,13 @@
 //! Many messages to one list, in transactions of many messages.
-ghost use Rattle.std.specs.Prelude.{◌≡◌, [], ◌∷◌, ◌≤◌, ◌<◌, ◌+◌, ◌⊎◌, ℕ, IfOk, IfErr, length, take};
+ghost use Rattle.std.specs.Prelude.{◌≡◌, [], ◌∷◌, ◌≤◌, ◌<◌, ◌+◌, ◌⊎◌, ℕ, IfOk, IfErr, Some, None, length, take};
 ghost use Rattle.mbox_items.specs.Division.{Item};
 ghost use Rattle.archive_store.specs.Held.{held_of};
-ghost use Rattle.archive_store.specs.Told.{CausedByRows, Ends, EndsUnrefused};
-ghost use Rattle.archive_store.specs.Refusals.{IsMessageRefused};
-ghost use Rattle.archive_store.specs.Replies.{with_fault};
+ghost use Rattle.archive_store.specs.Told.{EndsOr, EndsUnrefused};
+ghost use Rattle.archive_store.specs.Refusals.{StopsAmong};
+ghost use Rattle.archive_store.specs.Replies.{with_fault, done_in};
 ghost use Rattle.archive_machine.specs.Commands.{no_list, list_full};
 ghost use Rattle.archive_store.specs.Crashes.{AddsSomeQuietly, CrashAddsOver, CrashAll, CrashBatch};
-ghost use Rattle.archive_store.specs.Batches.{AddsOne, AddsSome, AddsBatch, AddsAll, BeginsAt, EndsAt, told_in, text_bytes};
+ghost use Rattle.archive_store.specs.Batches.{AddsOne, AddsSome, AddsBatch, AddsAll, BeginsAt, EndsAt, EndsAdding, WritesOne, WritesFrom, told_in, text_bytes};
 
 use crate::faults::StoreFault;
 use crate::limits::MESSAGES;
@@ -37,7 +37,7 @@ pub struct AddReport {
 }
 
 /// Where messages ceased to be added, for E4, E12, E14 or E15: the first `done` were taken in, known or too large, and no
-/// other was taken in.
+/// other was taken in; after E14 and E15 that is so if the connection is still open.
 #[derive(Clone, Copy, Debug, PartialEq, Eq)]
 pub struct AddStop {
     /// How many of the messages were seen to.
@@ -77,8 +77,9 @@ impl<S: Alter> Store<S> {
             list.now items.entry.now result }
         ensures total { IfOk result (λ report. told_in report ≡ length items.entry.now) }
         ensures bound { IfErr result (λ stop. stop.done ≤ length items.entry.now) }
-        ensures ends { Ends S.Store self.old self.new (with_fault (λ stop. stop.fault) result)
-            (no_list ∷ list_full ∷ []) }
+        ensures ends { EndsOr S.Store self.old self.new (with_fault (λ stop. stop.fault) result)
+            (no_list ∷ list_full ∷ [])
+            (StopsAmong list.now items.entry.now (done_in (λ stop. stop.done) result)) }
     {
         let additions = Additions { alloc, list, items };
         let mut done = 0;
@@ -157,7 +158,8 @@ fn add_batch<S: Alter>(
     ensures crash { CrashBatch S.Store (held_of store.old) (held_of store.new)
         additions.now.list.now additions.now.items.now from to count.old report.entry.now }
     ensures came { EndsAt result from to report.exit.now }
-    ensures ends { EndsUnrefused S.Store store.old store.new result }
+    ensures ends { EndsAdding S.Store store.old store.new result
+        (WritesFrom S.Store store.old store.new None result additions.now.list.now additions.now.items.now from count.old report.entry.now) }
 {
     let begun = texts::schema::begin(&mut store.conn);
     store.wants.pass(begun)?;
@@ -194,7 +196,8 @@ fn add_some<S: Alter>(
     ensures quiet { AddsSomeQuietly S.Store (held_of store.old) (held_of store.new)
         additions.now.list.now additions.now.items.now from count.old report.entry.now }
     ensures came { EndsAt result from to report.exit.now }
-    ensures ends { EndsUnrefused S.Store store.old store.new result }
+    ensures ends { EndsAdding S.Store store.old store.new result ((db : _)
+        → WritesFrom S.Store store.old store.new (Some db) result additions.now.list.now additions.now.items.now from count.old report.entry.now) }
 {
     let mut at = from;
     while at < to {
@@ -223,8 +226,7 @@ pub(crate) fn add_counted<S: Alter>(
     ensures crash { CrashAddsOver S.Store (held_of store.old) (held_of store.new)
         list.now item.now count.old }
     ensures uncounted { IfErr result (λ _. count.new ≡ count.old) }
-    ensures caused { CausedByRows S.Store store.old store.new result
-        (IsMessageRefused list.now item.now) }
+    ensures rows { WritesOne S.Store store.old store.new result list.now item.now count.old }
     ensures ends { EndsUnrefused S.Store store.old store.new result }
 {
     if is_too_large(item) {

@@ -3,7 +3,7 @@ ghost use Rattle.std.specs.Prelude.{[], ◌∷◌};
 ghost use Rattle.archive_machine.specs.Machine.{added_within};
 ghost use Rattle.archive_store.specs.Held.{held_of};
 ghost use Rattle.archive_store.specs.Told.{EndsOr};
-ghost use Rattle.archive_store.specs.Refusals.{IsMessageRefused};
+ghost use Rattle.archive_store.specs.Refusals.{IsMessageRefused, RowsRefuse};
 ghost use Rattle.archive_machine.specs.Commands.{no_list, too_large, list_full};
 ghost use Rattle.archive_store.specs.Crashes.{CrashSteps};
 ghost use Rattle.archive_store.specs.Replies.{Does, says_added};
@@ -34,7 +34,8 @@ pub fn add_limited<S: Alter>(
     ensures crash { CrashSteps S.Store (held_of store.old) (held_of store.new)
         (λ a. added_within limit a list.now item.now) }
     ensures ends { EndsOr S.Store store.old store.new result (no_list ∷ too_large ∷ list_full ∷ [])
-        (IsMessageRefused list.now item.now) }
+        (RowsRefuse (λ a. added_within limit a list.now item.now)
+        (IsMessageRefused list.now item.now)) }
 {
     if !store.has_list(list)? {
         return Err(StoreFault::NoList);

@@ -21,7 +21,7 @@ impl<S: Alter> Store<S> {
     ghost use Rattle.archive_machine.specs.Machine.{message_limit, added_within, withdrawal, restored, held_back, lifted};
     ghost use Rattle.archive_store.specs.Held.{held_of};
     ghost use Rattle.archive_store.specs.Told.{EndsOr};
-    ghost use Rattle.archive_store.specs.Refusals.{IsMessageRefused};
+    ghost use Rattle.archive_store.specs.Refusals.{IsMessageStopped, IsCountedStopped, RowsRefuse};
     ghost use Rattle.archive_tables.specs.Statements.{IsRefused, freeing, holding_back, withdrawing};
     ghost use Rattle.policy_core.specs.Numbers.{party_number};
     ghost use Rattle.archive_machine.specs.Commands.{no_list, no_message, already_withdrawn, not_withdrawn, too_large, list_full};
@@ -41,7 +41,7 @@ impl<S: Alter> Store<S> {
             (λ a. added_within message_limit a list.now item.now) }
         ensures ends { EndsOr S.Store self.old self.new result
             (no_list ∷ too_large ∷ list_full ∷ [])
-            (IsMessageRefused list.now item.now) }
+            (IsMessageStopped list.now item.now) }
     {
         add_limited(self, alloc, list, item, MESSAGES)
     }
@@ -63,7 +63,7 @@ impl<S: Alter> Store<S> {
             (λ a. added_within message_limit a list.now item.now) }
         ensures ends { EndsOr S.Store self.old self.new result
             (no_list ∷ too_large ∷ list_full ∷ [])
-            (IsMessageRefused list.now item.now) }
+            (IsCountedStopped list.now item.now count.old) }
     {
         let listed = texts::lists::has_list(&mut self.conn, list);
         if !self.wants.pass(listed)? {
@@ -86,7 +86,8 @@ impl<S: Alter> Store<S> {
             (λ a. withdrawal a list.now key.now (party_number by)) }
         ensures ends { EndsOr S.Store self.old self.new result
             (no_list ∷ no_message ∷ already_withdrawn ∷ [])
-            (IsRefused (withdrawing list.now key.now (party_number by))) }
+            (RowsRefuse (λ a. withdrawal a list.now key.now (party_number by))
+            (IsRefused (withdrawing list.now key.now (party_number by)))) }
     {
         let listed = texts::lists::has_list(&mut self.conn, list);
         if !self.wants.pass(listed)? {
@@ -114,7 +115,8 @@ impl<S: Alter> Store<S> {
             (λ a. restored a list.now key.now) }
         ensures ends { EndsOr S.Store self.old self.new result
             (no_list ∷ no_message ∷ not_withdrawn ∷ [])
-            (IsRefused (withdrawing list.now key.now (pos 0))) }
+            (RowsRefuse (λ a. restored a list.now key.now)
+            (IsRefused (withdrawing list.now key.now (pos 0)))) }
     {
         let listed = texts::lists::has_list(&mut self.conn, list);
         if !self.wants.pass(listed)? {
@@ -141,7 +143,8 @@ impl<S: Alter> Store<S> {
         ensures crash { CrashSteps S.Store (held_of self.old) (held_of self.new)
             (λ a. held_back a list.now key.now until) }
         ensures ends { EndsOr S.Store self.old self.new result (no_list ∷ no_message ∷ [])
-            (IsRefused (holding_back list.now key.now until)) }
+            (RowsRefuse (λ a. held_back a list.now key.now until)
+            (IsRefused (holding_back list.now key.now until))) }
     {
         let listed = texts::lists::has_list(&mut self.conn, list);
         if !self.wants.pass(listed)? {
@@ -165,7 +168,7 @@ impl<S: Alter> Store<S> {
         ensures crash { CrashSteps S.Store (held_of self.old) (held_of self.new)
             (λ a. lifted a list.now key.now) }
         ensures ends { EndsOr S.Store self.old self.new result (no_list ∷ no_message ∷ [])
-            (IsRefused (freeing list.now key.now)) }
+            (RowsRefuse (λ a. lifted a list.now key.now) (IsRefused (freeing list.now key.now))) }
     {
         let listed = texts::lists::has_list(&mut self.conn, list);
         if !self.wants.pass(listed)? {

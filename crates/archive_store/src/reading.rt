@@ -50,6 +50,7 @@ impl<S: Alter> Store<S> {
         ensures answer { Answers S.Store (held_of self.old) (held_of self.new) result
             (λ a. list_refusal a list.now)
             (λ a count. count ≡ length (messages_in a list.now)) }
+        ensures same { SeesTheSame S.Store self.old self.new result }
         ensures quiet { AddsNothing S.Store (held_of self.old) (held_of self.new) }
         ensures ends { EndsAsk S.Store self.old self.new result (no_list ∷ []) }
     {

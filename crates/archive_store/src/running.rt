@@ -85,7 +85,7 @@ pub enum Outcome {
     Refused(StoreFault),
 }
 
-/// Where a run stopped, for E14 or E15: the first `done` commands were carried out, and no other.
+/// Where a run stopped, for E14 or E15: the first `done` commands were carried out, and, if the connection is still open, no other.
 #[derive(Clone, Copy, Debug, PartialEq, Eq)]
 pub struct RunStop {
     /// How many commands were carried out.

@@ -3,14 +3,17 @@ use Rattle.std.proofs.lemmas.Result.{err_from_is_err_and}
 use Rattle.sqlite.specs.Held.{state}
 use Rattle.archive_tables.proofs.RunLemmas.{on_fault}
 use Rattle.archive_store.proofs.BatchLemmas.{known_over, full_over, new_over, none_of, rests_over}
-use Rattle.std.proofs.Common.{ap, subst, inl, inr, refl, None, []}
+use Rattle.std.proofs.Common.{ap, subst, inl, inr, refl}
 use Rattle.archive_machine.specs.Machine.{Outcome, with_keyed}
 use Rattle.archive_tables.specs.Crashes.{IsStored}
 use Rattle.archive_store.proofs.BatchLemmas.{new_is}
-use Rattle.archive_tables.specs.Statements.{IsRefused}
+use Rattle.archive_machine.specs.Keys.{item_key}
+use Rattle.archive_tables.specs.Statements.{IsRefused, IsCarriedOut}
 use Rattle.archive_database.specs.Taking.{taking_in}
-use Rattle.archive_store.specs.Refusals.{IsMessageRefused}
-use Rattle.archive_store.proofs.EndLemmas.{as_many, stood, asked, stops, stops_asking, blame_fault, same_statement}
+use Rattle.archive_store.proofs.CauseLemmas.{more_since}
+use Rattle.archive_store.proofs.PassLemmas.{saw_same}
+use Rattle.archive_store.proofs.StopLemmas.{blame_disk, carried_as, stopped_by}
+use Rattle.archive_store.proofs.EndLemmas.{blame_fault, same_statement}
 use Rattle.archive_store.proofs.batches.add_counted.Goals as goal
 
 pub returns-in_err-pass-clause-step : goal.returns-in_err-pass-clause-step
@@ -49,37 +52,60 @@ returns-clause-step g c = λ clean behind k n.
     new_over behind old (state g.S.Store c.take_in-taken.new.conn) list c.args.item.now c.args.count.now n c.as_str.result.now c.if-is_too_large.ensures
     c.of-key.result mid c.as_str.ensures c.of-key.ensures none c.if-count.false asked.1 written
 
--- ---- why it fails
+-- ---- what it makes of the rows, and why it fails
 
-pub returns-then-is_too_large-clause-caused : goal.returns-then-is_too_large-clause-caused
-returns-then-is_too_large-clause-caused g c = λ clean kept free. tt
+pub returns-then-is_too_large-clause-rows : goal.returns-then-is_too_large-clause-rows
+returns-then-is_too_large-clause-rows g c = λ clean behind held free. refl
 
-pub returns-then-branch-clause-caused : goal.returns-then-branch-clause-caused
-returns-then-branch-clause-caused g c = λ clean kept free. tt
+pub returns-then-branch-clause-rows : goal.returns-then-branch-clause-rows
+returns-then-branch-clause-rows g c = λ clean behind held free.
+    saw_same (state g.S.Store c.args.store.now.conn) (state g.S.Store c.has_message-known.new.conn) c.in_ok-pass.ensures.passed (c.has_message-known.ensures.same clean)
 
-pub returns-then-count-clause-caused : goal.returns-then-count-clause-caused
-returns-then-count-clause-caused g c = λ clean kept free. tt
+pub returns-then-count-clause-rows : goal.returns-then-count-clause-rows
+returns-then-count-clause-rows g c = λ clean behind held free.
+    saw_same (state g.S.Store c.args.store.now.conn) (state g.S.Store c.has_message-known.new.conn) c.in_ok-pass.ensures.passed (c.has_message-known.ensures.same clean)
 
-pub returns-clause-caused : goal.returns-clause-caused
-returns-clause-caused g c = λ clean kept free. tt
+pub returns-in_err-pass-clause-rows : goal.returns-in_err-pass-clause-rows
+returns-in_err-pass-clause-rows g c = λ clean behind held free.
+    stopped_by _ c.from_residual.result c.in_err-pass.field-0.0 _ c.from_residual.ensures.1
+    (λ it. inl (blame_disk (state g.S.Store c.args.store.now.conn) (state g.S.Store c.has_message-known.new.conn) c.has_message-known.result c.in_err-pass.field-0.0 c.in_err-pass.ensures.passed
+    (c.has_message-known.ensures.caused clean behind held free) it))
 
-pub returns-in_err-pass-clause-caused : goal.returns-in_err-pass-clause-caused
-returns-in_err-pass-clause-caused g c =
-    let s0 = stood g.S.Store c.args.store.now.conn in
-    (stops_asking g.S.Store c.args.store.now (record { conn = c.has_message-known.new.conn; wants = c.pass.new.self }) c.args.store.now.conn c.args.store.now.wants []
-    (IsMessageRefused c.args.list.now c.args.item.now) c.from_residual.result c.in_err-pass.field-0.0 s0 (as_many refl) c.has_message-known.ensures c.in_err-pass.ensures.passed c.in_err-pass.ensures.kind c.in_err-pass.ensures.counted.0 c.from_residual.ensures.1).caused
-
-pub returns-in_err-pass_fault-clause-caused : goal.returns-in_err-pass_fault-clause-caused
-returns-in_err-pass_fault-clause-caused g c =
+pub returns-in_err-pass_fault-clause-rows : goal.returns-in_err-pass_fault-clause-rows
+returns-in_err-pass_fault-clause-rows g c = λ clean behind held free.
+    let list = c.args.list.now in
+    let item = c.args.item.now in
+    let old = state g.S.Store c.args.store.now.conn in
     let mid = state g.S.Store c.has_message-known.new.conn in
     let new = state g.S.Store c.take_in-taken.new.conn in
-    let s0 = stood g.S.Store c.args.store.now.conn in
-    let s1 = asked g.S.Store c.args.store.now.conn c.args.store.now.conn c.has_message-known.new.conn s0 c.has_message-known.ensures c.in_ok-pass.ensures.passed in
-    (stops g.S.Store c.args.store.now (record { conn = c.take_in-taken.new.conn; wants = c.pass_fault.new.self }) c.has_message-known.new.conn c.pass.new.self []
-    (IsRefused (taking_in c.args.list.now c.of-key.result c.args.item.now)) (IsMessageRefused c.args.list.now c.args.item.now) c.from_residual-in_err-pass_fault.result c.in_err-pass_fault.field-0.0 s1 (as_many c.in_ok-pass.ensures.counted.1)
-    c.take_in-taken.ensures.ends.lasts c.in_err-pass_fault.ensures.kind c.in_err-pass_fault.ensures.counted.0 c.from_residual-in_err-pass_fault.ensures.1
-    (λ clean kept free. blame_fault mid new (IsRefused (taking_in c.args.list.now c.of-key.result c.args.item.now) mid.now) c.take_in-taken.result c.in_err-pass_fault.field-0.0 c.in_err-pass_fault.ensures.passed (c.take_in-taken.ensures.caused clean None kept free))
-    (λ clean kept refused. same_statement (state g.S.Store c.args.store.now.conn).now (ap (λ k. taking_in c.args.list.now k c.args.item.now) c.of-key.ensures) refused)).caused
+    let was = c.take_in-taken.ensures.ends.lasts.returned clean in
+    let k = c.as_str.result.now in
+    let same = saw_same old mid c.in_ok-pass.ensures.passed (c.has_message-known.ensures.same was) in
+    let asked = rw c.in_ok-pass.ensures.passed at (c.has_message-known.ensures.over was behind held) in
+    let none = sym c.if-branch.false ∙ asked.0 in
+    let statement = taking_in list c.of-key.result item in
+    stopped_by _ c.from_residual-in_err-pass_fault.result c.in_err-pass_fault.field-0.0 _ c.from_residual-in_err-pass_fault.ensures.1
+    (λ it. elim (blame_fault mid new (IsRefused statement mid.now) c.take_in-taken.result c.in_err-pass_fault.field-0.0 c.in_err-pass_fault.ensures.passed
+    (c.take_in-taken.ensures.caused clean behind asked.1.0 (c.has_message-known.ensures.ends.lasts.limit ∙ free)) it) [
+      | inl more ↦ inl (more_since old mid new c.has_message-known.ensures.ends.lasts more)
+      | inr refused ↦ inr (
+        same_statement old.now (ap (λ key. taking_in list key item) c.of-key.ensures) (subst (IsRefused statement) same refused),
+        (λ n. carried_as _ _ (new_is behind old new list item c.args.count.now n k c.if-is_too_large.ensures c.of-key.result c.as_str.ensures c.of-key.ensures none c.if-count.false) tt),
+      )
+    ])
+
+pub returns-clause-rows : goal.returns-clause-rows
+returns-clause-rows g c = λ clean behind held free.
+    let list = c.args.list.now in
+    let item = c.args.item.now in
+    let old = state g.S.Store c.args.store.now.conn in
+    let mid = state g.S.Store c.has_message-known.new.conn in
+    let new = state g.S.Store c.take_in-taken.new.conn in
+    let was = c.take_in-taken.ensures.ends.lasts.returned clean in
+    let same = saw_same old mid c.in_ok-pass.ensures.passed (c.has_message-known.ensures.same was) in
+    let asked = rw c.in_ok-pass.ensures.passed at (c.has_message-known.ensures.over was behind held) in
+    let made = (rw c.in_ok-pass_fault.ensures.passed at (c.take_in-taken.ensures.made clean behind asked.1.0 (c.has_message-known.ensures.ends.lasts.limit ∙ free))) in
+    subst (λ db. IsCarriedOut (taking_in list (item_key item) item) db new.now) same (subst (λ key. IsCarriedOut (taking_in list key item) mid.now new.now) c.of-key.ensures made)
 
 -- ---- what a stop leaves
 

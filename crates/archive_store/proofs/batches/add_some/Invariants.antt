@@ -1,10 +1,11 @@
-use Rattle.std.proofs.Common.{◌≡◌, ◌-◌, ◌≤◌, take, Some}
+use Rattle.std.proofs.Common.{◌≡◌, ◌-◌, ◌≤◌, take, Some, None}
 use Rattle.sqlite.specs.Effect.{Database}
 use Rattle.sqlite.specs.Tree.{Trees}
 use Rattle.sqlite.specs.Held.{state}
 use Rattle.sqlite.specs.State.{HasCleanDisk}
 use Rattle.archive_machine.specs.Records.{Archive}
 use Rattle.archive_store.specs.Batches.{HasTaken, told_in}
+use Rattle.archive_store.specs.Refusals.{MakeRows}
 use Rattle.archive_tables.specs.Calls.{Lasts}
 use Rattle.archive_store.specs.Held.{wants_of}
 use Rattle.archive_store.proofs.batches.add_some.Given as goal
@@ -18,6 +19,10 @@ invariant-loop-at g l =
     → HasTaken (Some db) now a l.additions.list.now (take l.at l.additions.items.now) l.count l.report) × Lasts first now × (wants_of l.fn.store ≤ wants_of l.store)
     × (HasCleanDisk now → (db : Database) (a : Archive) → HasTaken (Some db) first a l.additions.list.now (take l.from l.additions.items.now) l.fn.count l.fn.report
     → (left : Trees) → now.may_leave left → first.may_leave left)
+    × (HasCleanDisk now → first.step_limit ≡ None → (db : Database) (a : Archive)
+    → HasTaken (Some db) first a l.additions.list.now (take l.from l.additions.items.now) l.fn.count l.fn.report
+    → (base : Database) → MakeRows l.additions.list.now (take l.from l.additions.items.now) base first.now
+    → MakeRows l.additions.list.now (take l.at l.additions.items.now) base now.now)
 
 abbrev pub decreases-loop-at : goal.decreases-loop-at
 decreases-loop-at g l = l.to - l.at

@@ -17,9 +17,10 @@ use Rattle.archive_store.proofs.FindLemmas.{no_reason_of, rests_of, rests_later}
 use Rattle.std.proofs.Common.{inl, inr}
 use Rattle.archive_tables.specs.Statements.{IsRefused}
 use Rattle.archive_database.specs.Taking.{taking_in}
-use Rattle.archive_store.specs.Refusals.{IsMessageRefused}
+use Rattle.archive_store.specs.Refusals.{RowsRefuse, IsMessageRefused}
 use Rattle.archive_store.specs.declared.words.Added.TheVariants as added
 use Rattle.archive_store.specs.declared.faults.StoreFault.TheVariants as faults
+use Rattle.archive_store.proofs.StopLemmas.{carried_by, outside}
 use Rattle.archive_store.proofs.EndLemmas.{Stood, as_many, at_most, stood, asked, stops, stops_asking, refuses, ends_done, blame_fault, same_statement}
 use Rattle.archive_store.proofs.limits.add_limited.Goals as goal
 
@@ -48,7 +49,7 @@ returns-then-branch-clause-step g c =
     (λ clean kept. let has = c.in_ok-has_list.ensures.answer clean kept in (sym c.if-not-branch.false ∙ has.2, has.0)) in
     let two = asks g.S.Store c.args.store.now.conn c.has_list.new.self.conn c.has_message-known.new.conn (λ a. ⊤ × (true ≡ has_list a list)) (λ a. true ≡ list_any (is_message list k) a.messages)
     one c.has_message-known.ensures.ends.lasts.returned
-    (λ clean kept. let it = passed_over c.has_message-known.ensures c.in_ok-pass.ensures.passed clean kept in (sym c.if-branch.true ∙ it.0, it.1)) in
+    (λ clean kept. let it = passed_over (outside c.has_message-known.ensures) c.in_ok-pass.ensures.passed clean kept in (sym c.if-branch.true ∙ it.0, it.1)) in
     answers g.S.Store c.args.store.now.conn c.has_message-known.new.conn _ (λ a. added_within c.args.limit a list c.args.item.now) already_known two
     (add_known c.args.limit list k c.args.item.now (c.as_str.ensures ∙ c.of-key.ensures) c.if-is_too_large.ensures)
 
@@ -61,7 +62,7 @@ returns-then-branch-2-clause-step g c =
     (λ clean kept. let has = c.in_ok-has_list.ensures.answer clean kept in (sym c.if-not-branch.false ∙ has.2, has.0)) in
     let two = asks g.S.Store c.args.store.now.conn c.has_list.new.self.conn c.has_message-known.new.conn (λ a. ⊤ × (true ≡ has_list a list)) (λ a. false ≡ list_any (is_message list k) a.messages)
     one c.has_message-known.ensures.ends.lasts.returned
-    (λ clean kept. let it = passed_over c.has_message-known.ensures c.in_ok-pass.ensures.passed clean kept in (sym c.if-branch.false ∙ it.0, it.1)) in
+    (λ clean kept. let it = passed_over (outside c.has_message-known.ensures) c.in_ok-pass.ensures.passed clean kept in (sym c.if-branch.false ∙ it.0, it.1)) in
     let three = asks g.S.Store c.args.store.now.conn c.has_message-known.new.conn c.is_full-full.new.conn (λ a. (⊤ × (true ≡ has_list a list)) × (false ≡ list_any (is_message list k) a.messages)) (λ a. true ≡ nat_le c.args.limit (length (messages_in a list)))
     two c.is_full-full.ensures.ends.lasts.returned
     (λ clean kept. let it = rw c.in_ok-pass-2.ensures.passed at (c.is_full-full.ensures.over clean None kept) in (sym c.if-branch-2.true ∙ it.0, it.1)) in
@@ -78,7 +79,7 @@ returns-clause-step g c =
     (λ clean kept. let has = c.in_ok-has_list.ensures.answer clean kept in (sym c.if-not-branch.false ∙ has.2, has.0)) in
     let two = asks g.S.Store c.args.store.now.conn c.has_list.new.self.conn c.has_message-known.new.conn (λ a. ⊤ × (true ≡ has_list a list)) (λ a. false ≡ list_any (is_message list k) a.messages)
     one c.has_message-known.ensures.ends.lasts.returned
-    (λ clean kept. let it = passed_over c.has_message-known.ensures c.in_ok-pass.ensures.passed clean kept in (sym c.if-branch.false ∙ it.0, it.1)) in
+    (λ clean kept. let it = passed_over (outside c.has_message-known.ensures) c.in_ok-pass.ensures.passed clean kept in (sym c.if-branch.false ∙ it.0, it.1)) in
     let three = asks g.S.Store c.args.store.now.conn c.has_message-known.new.conn c.is_full-full.new.conn (λ a. (⊤ × (true ≡ has_list a list)) × (false ≡ list_any (is_message list k) a.messages)) (λ a. false ≡ nat_le c.args.limit (length (messages_in a list)))
     two c.is_full-full.ensures.ends.lasts.returned
     (λ clean kept. let it = rw c.in_ok-pass-2.ensures.passed at (c.is_full-full.ensures.over clean None kept) in (sym c.if-branch-2.false ∙ it.0, it.1)) in
@@ -102,7 +103,7 @@ returns-clause-crash g c =
       quiet = c.has_list.ensures.quiet;
     } in
     let two = looks_on g.S.Store c.args.store.now.conn c.has_list.new.self.conn c.has_message-known.new.conn (λ a. ⊤ × (true ≡ has_list a list)) (λ a. false ≡ list_any (is_message list k) a.messages)
-    one c.has_message-known.ensures c.in_ok-pass.ensures.passed (λ a it. sym c.if-branch.false ∙ it) in
+    one (outside c.has_message-known.ensures) c.in_ok-pass.ensures.passed (λ a it. sym c.if-branch.false ∙ it) in
     let three = looks_on g.S.Store c.args.store.now.conn c.has_message-known.new.conn c.is_full-full.new.conn (λ a. (⊤ × (true ≡ has_list a list)) × (false ≡ list_any (is_message list k) a.messages)) (λ a. false ≡ nat_le c.args.limit (length (messages_in a list)))
     two c.is_full-full.ensures c.in_ok-pass-2.ensures.passed (λ a it. sym c.if-branch-2.false ∙ it) in
     steps_by g.S.Store c.args.store.now.conn c.is_full-full.new.conn c.take_in-taken.new.conn _ (λ a. list_any (is_message list key) a.messages ≡ false) (λ a. added_within c.args.limit a list c.args.item.now) taken_in (λ a. with_keyed a list key c.args.item.now)
@@ -122,7 +123,7 @@ returns-in_err-pass_fault-clause-crash g c =
       quiet = c.has_list.ensures.quiet;
     } in
     let two = looks_on g.S.Store c.args.store.now.conn c.has_list.new.self.conn c.has_message-known.new.conn (λ a. ⊤ × (true ≡ has_list a list)) (λ a. false ≡ list_any (is_message list k) a.messages)
-    one c.has_message-known.ensures c.in_ok-pass.ensures.passed (λ a it. sym c.if-branch.false ∙ it) in
+    one (outside c.has_message-known.ensures) c.in_ok-pass.ensures.passed (λ a it. sym c.if-branch.false ∙ it) in
     let three = looks_on g.S.Store c.args.store.now.conn c.has_message-known.new.conn c.is_full-full.new.conn (λ a. (⊤ × (true ≡ has_list a list)) × (false ≡ list_any (is_message list k) a.messages)) (λ a. false ≡ nat_le c.args.limit (length (messages_in a list)))
     two c.is_full-full.ensures c.in_ok-pass-2.ensures.passed (λ a it. sym c.if-branch-2.false ∙ it) in
     steps_by g.S.Store c.args.store.now.conn c.is_full-full.new.conn c.take_in-taken.new.conn _ (λ a. list_any (is_message list key) a.messages ≡ false) (λ a. added_within c.args.limit a list c.args.item.now) taken_in (λ a. with_keyed a list key c.args.item.now)
@@ -176,7 +177,7 @@ returns-in_err-pass-clause-step g c =
     λ clean kept.
     let it = one (c.has_message-known.ensures.ends.lasts.returned clean) kept in
     fails_to_add (state g.S.Store c.args.store.now.conn) (state g.S.Store c.has_message-known.new.conn) (λ a. added_within c.args.limit a list c.args.item.now) c.from_residual-in_err-pass.result _ c.from_residual-in_err-pass.ensures.1 (λ told is. ap refusal is ∙ c.in_err-pass.ensures.kind)
-    (rests_later (state g.S.Store c.args.store.now.conn) (state g.S.Store c.has_list.new.self.conn) (state g.S.Store c.has_message-known.new.conn) it.same (passed_unanswered _ _ c.has_message-known.ensures c.in_err-pass.ensures.passed clean it.kept))
+    (rests_later (state g.S.Store c.args.store.now.conn) (state g.S.Store c.has_list.new.self.conn) (state g.S.Store c.has_message-known.new.conn) it.same (passed_unanswered _ _ (outside c.has_message-known.ensures) c.in_err-pass.ensures.passed clean it.kept))
 
 pub returns-in_err-pass-2-clause-step : goal.returns-in_err-pass-2-clause-step
 returns-in_err-pass-2-clause-step g c =
@@ -187,7 +188,7 @@ returns-in_err-pass-2-clause-step g c =
     (λ clean kept. let has = c.in_ok-has_list.ensures.answer clean kept in (sym c.if-not-branch.false ∙ has.2, has.0)) in
     let two = asks g.S.Store c.args.store.now.conn c.has_list.new.self.conn c.has_message-known.new.conn (λ a. ⊤ × (true ≡ has_list a list)) (λ a. false ≡ list_any (is_message list k) a.messages)
     one c.has_message-known.ensures.ends.lasts.returned
-    (λ clean kept. let it = passed_over c.has_message-known.ensures c.in_ok-pass.ensures.passed clean kept in (sym c.if-branch.false ∙ it.0, it.1)) in
+    (λ clean kept. let it = passed_over (outside c.has_message-known.ensures) c.in_ok-pass.ensures.passed clean kept in (sym c.if-branch.false ∙ it.0, it.1)) in
     λ clean kept.
     let it = two (c.is_full-full.ensures.ends.lasts.returned clean) kept in
     let error = err_from_is_err_and c.is_full-full.result c.in_err-pass-2.ensures.passed in
@@ -204,7 +205,7 @@ returns-in_err-pass_fault-clause-step g c =
     (λ clean kept. let has = c.in_ok-has_list.ensures.answer clean kept in (sym c.if-not-branch.false ∙ has.2, has.0)) in
     let two = asks g.S.Store c.args.store.now.conn c.has_list.new.self.conn c.has_message-known.new.conn (λ a. ⊤ × (true ≡ has_list a list)) (λ a. false ≡ list_any (is_message list k) a.messages)
     one c.has_message-known.ensures.ends.lasts.returned
-    (λ clean kept. let it = passed_over c.has_message-known.ensures c.in_ok-pass.ensures.passed clean kept in (sym c.if-branch.false ∙ it.0, it.1)) in
+    (λ clean kept. let it = passed_over (outside c.has_message-known.ensures) c.in_ok-pass.ensures.passed clean kept in (sym c.if-branch.false ∙ it.0, it.1)) in
     let three = asks g.S.Store c.args.store.now.conn c.has_message-known.new.conn c.is_full-full.new.conn (λ a. (⊤ × (true ≡ has_list a list)) × (false ≡ list_any (is_message list k) a.messages)) (λ a. false ≡ nat_le c.args.limit (length (messages_in a list)))
     two c.is_full-full.ensures.ends.lasts.returned
     (λ clean kept. let it = rw c.in_ok-pass-2.ensures.passed at (c.is_full-full.ensures.over clean None kept) in (sym c.if-branch-2.false ∙ it.0, it.1)) in
@@ -220,7 +221,7 @@ returns-in_err-pass_fault-clause-step g c =
 pub returns-in_err-has_list-clause-ends : goal.returns-in_err-has_list-clause-ends
 returns-in_err-has_list-clause-ends g c =
     stops g.S.Store c.args.store.now c.has_list.new.self c.args.store.now.conn c.args.store.now.wants (no_list ∷ too_large ∷ list_full ∷ [])
-    (λ _. ⊥) (IsMessageRefused c.args.list.now c.args.item.now) c.from_residual.result c.in_err-has_list.field-0.0 (stood g.S.Store c.args.store.now.conn) (as_many refl)
+    (λ _. ⊥) (RowsRefuse (λ a. added_within c.args.limit a c.args.list.now c.args.item.now) (IsMessageRefused c.args.list.now c.args.item.now)) c.from_residual.result c.in_err-has_list.field-0.0 (stood g.S.Store c.args.store.now.conn) (as_many refl)
     c.has_list.ensures.ends.lasts (no_reason_of c.in_err-has_list.field-0.0 c.in_err-has_list.ensures.ends.kind) c.in_err-has_list.ensures.ends.counted c.from_residual.ensures.1
     (λ clean kept free it. inl (c.in_err-has_list.ensures.ends.caused clean kept free it)) (λ clean kept bad. absurd bad)
 
@@ -240,7 +241,7 @@ returns-in_err-pass-clause-ends g c =
       kept = λ clean kept. (c.in_ok-has_list.ensures.answer clean kept).0.0;
     } in
     stops_asking g.S.Store c.args.store.now (record { conn = c.has_message-known.new.conn; wants = c.pass.new.self }) c.has_list.new.self.conn c.has_list.new.self.wants (no_list ∷ too_large ∷ list_full ∷ [])
-    (IsMessageRefused c.args.list.now c.args.item.now) c.from_residual-in_err-pass.result c.in_err-pass.field-0.0 s1 c.in_ok-has_list.ensures.ends.counted.0 c.has_message-known.ensures c.in_err-pass.ensures.passed c.in_err-pass.ensures.kind c.in_err-pass.ensures.counted.0 c.from_residual-in_err-pass.ensures.1
+    (RowsRefuse (λ a. added_within c.args.limit a c.args.list.now c.args.item.now) (IsMessageRefused c.args.list.now c.args.item.now)) c.from_residual-in_err-pass.result c.in_err-pass.field-0.0 s1 c.in_ok-has_list.ensures.ends.counted.0 (outside c.has_message-known.ensures) c.in_err-pass.ensures.passed c.in_err-pass.ensures.kind c.in_err-pass.ensures.counted.0 c.from_residual-in_err-pass.ensures.1
 
 pub returns-then-branch-clause-ends : goal.returns-then-branch-clause-ends
 returns-then-branch-clause-ends g c =
@@ -259,9 +260,9 @@ returns-in_err-pass-2-clause-ends g c =
       same = c.in_ok-has_list.ensures.same;
       kept = λ clean kept. (c.in_ok-has_list.ensures.answer clean kept).0.0;
     } in
-    let s2 = asked g.S.Store c.args.store.now.conn c.has_list.new.self.conn c.has_message-known.new.conn s1 c.has_message-known.ensures c.in_ok-pass.ensures.passed in
+    let s2 = asked g.S.Store c.args.store.now.conn c.has_list.new.self.conn c.has_message-known.new.conn s1 (outside c.has_message-known.ensures) c.in_ok-pass.ensures.passed in
     stops_asking g.S.Store c.args.store.now (record { conn = c.is_full-full.new.conn; wants = c.pass-2.new.self }) c.has_message-known.new.conn c.pass.new.self (no_list ∷ too_large ∷ list_full ∷ [])
-    (IsMessageRefused c.args.list.now c.args.item.now) c.from_residual-in_err-pass-2.result c.in_err-pass-2.field-0.0 s2 (at_most c.in_ok-has_list.ensures.ends.counted.0 (as_many c.in_ok-pass.ensures.counted.1)) c.is_full-full.ensures c.in_err-pass-2.ensures.passed c.in_err-pass-2.ensures.kind c.in_err-pass-2.ensures.counted.0 c.from_residual-in_err-pass-2.ensures.1
+    (RowsRefuse (λ a. added_within c.args.limit a c.args.list.now c.args.item.now) (IsMessageRefused c.args.list.now c.args.item.now)) c.from_residual-in_err-pass-2.result c.in_err-pass-2.field-0.0 s2 (at_most c.in_ok-has_list.ensures.ends.counted.0 (as_many c.in_ok-pass.ensures.counted.1)) c.is_full-full.ensures c.in_err-pass-2.ensures.passed c.in_err-pass-2.ensures.kind c.in_err-pass-2.ensures.counted.0 c.from_residual-in_err-pass-2.ensures.1
 
 pub returns-then-branch-2-clause-ends : goal.returns-then-branch-2-clause-ends
 returns-then-branch-2-clause-ends g c =
@@ -270,7 +271,7 @@ returns-then-branch-2-clause-ends g c =
       same = c.in_ok-has_list.ensures.same;
       kept = λ clean kept. (c.in_ok-has_list.ensures.answer clean kept).0.0;
     } in
-    let s2 = asked g.S.Store c.args.store.now.conn c.has_list.new.self.conn c.has_message-known.new.conn s1 c.has_message-known.ensures c.in_ok-pass.ensures.passed in
+    let s2 = asked g.S.Store c.args.store.now.conn c.has_list.new.self.conn c.has_message-known.new.conn s1 (outside c.has_message-known.ensures) c.in_ok-pass.ensures.passed in
     let s3 = asked g.S.Store c.args.store.now.conn c.has_message-known.new.conn c.is_full-full.new.conn s2 c.is_full-full.ensures c.in_ok-pass-2.ensures.passed in
     refuses g.S.Store c.args.store.now (record { conn = c.is_full-full.new.conn; wants = c.pass-2.new.self }) (no_list ∷ too_large ∷ list_full ∷ []) _ faults.ListFull list_full s3.lasts (at_most c.in_ok-has_list.ensures.ends.counted.0 (as_many (c.in_ok-pass-2.ensures.counted.1 ∙ c.in_ok-pass.ensures.counted.1))) refl (inr (inr (inl refl)))
 
@@ -283,13 +284,30 @@ returns-in_err-pass_fault-clause-ends g c =
       same = c.in_ok-has_list.ensures.same;
       kept = λ clean kept. (c.in_ok-has_list.ensures.answer clean kept).0.0;
     } in
-    let s2 = asked g.S.Store c.args.store.now.conn c.has_list.new.self.conn c.has_message-known.new.conn s1 c.has_message-known.ensures c.in_ok-pass.ensures.passed in
+    let s2 = asked g.S.Store c.args.store.now.conn c.has_list.new.self.conn c.has_message-known.new.conn s1 (outside c.has_message-known.ensures) c.in_ok-pass.ensures.passed in
     let s3 = asked g.S.Store c.args.store.now.conn c.has_message-known.new.conn c.is_full-full.new.conn s2 c.is_full-full.ensures c.in_ok-pass-2.ensures.passed in
+    let list = c.args.list.now in
+    let k = c.as_str.result.now in
+    let key = c.of-key.result in
+    let one : Looks g.S.Store c.args.store.now.conn c.has_list.new.self.conn (λ a. ⊤ × (true ≡ has_list a list)) = record {
+      learnt = asks g.S.Store c.args.store.now.conn c.args.store.now.conn c.has_list.new.self.conn (λ _. ⊤) (λ a. true ≡ has_list a list)
+          (begins g.S.Store c.args.store.now.conn) c.has_list.ensures.ends.lasts.returned
+          (λ clean kept. let has = c.in_ok-has_list.ensures.answer clean kept in (sym c.if-not-branch.false ∙ has.2, has.0));
+      quiet = c.has_list.ensures.quiet;
+    } in
+    let two = looks_on g.S.Store c.args.store.now.conn c.has_list.new.self.conn c.has_message-known.new.conn (λ a. ⊤ × (true ≡ has_list a list)) (λ a. false ≡ list_any (is_message list k) a.messages)
+    one (outside c.has_message-known.ensures) c.in_ok-pass.ensures.passed (λ a it. sym c.if-branch.false ∙ it) in
+    let three = looks_on g.S.Store c.args.store.now.conn c.has_message-known.new.conn c.is_full-full.new.conn (λ a. (⊤ × (true ≡ has_list a list)) × (false ≡ list_any (is_message list k) a.messages)) (λ a. false ≡ nat_le c.args.limit (length (messages_in a list)))
+    two c.is_full-full.ensures c.in_ok-pass-2.ensures.passed (λ a it. sym c.if-branch-2.false ∙ it) in
+    let carries = carried_by g.S.Store c.args.store.now.conn c.is_full-full.new.conn _ (λ a. added_within c.args.limit a list c.args.item.now) taken_in
+    (λ a. with_keyed a list key c.args.item.now)
+    three
+    (add_new c.args.limit list k key c.args.item.now c.as_str.ensures c.of-key.ensures c.if-is_too_large.ensures) tt in
     stops g.S.Store c.args.store.now (record { conn = c.take_in-taken.new.conn; wants = c.pass_fault.new.self }) c.is_full-full.new.conn c.pass-2.new.self (no_list ∷ too_large ∷ list_full ∷ [])
-    (IsRefused (taking_in c.args.list.now c.of-key.result c.args.item.now)) (IsMessageRefused c.args.list.now c.args.item.now) c.from_residual-in_err-pass_fault.result c.in_err-pass_fault.field-0.0 s3 (at_most c.in_ok-has_list.ensures.ends.counted.0 (as_many (c.in_ok-pass-2.ensures.counted.1 ∙ c.in_ok-pass.ensures.counted.1)))
+    (IsRefused (taking_in c.args.list.now c.of-key.result c.args.item.now)) (RowsRefuse (λ a. added_within c.args.limit a c.args.list.now c.args.item.now) (IsMessageRefused c.args.list.now c.args.item.now)) c.from_residual-in_err-pass_fault.result c.in_err-pass_fault.field-0.0 s3 (at_most c.in_ok-has_list.ensures.ends.counted.0 (as_many (c.in_ok-pass-2.ensures.counted.1 ∙ c.in_ok-pass.ensures.counted.1)))
     c.take_in-taken.ensures.ends.lasts c.in_err-pass_fault.ensures.kind c.in_err-pass_fault.ensures.counted.0 c.from_residual-in_err-pass_fault.ensures.1
     (λ clean kept free. blame_fault mid new (IsRefused (taking_in c.args.list.now c.of-key.result c.args.item.now) mid.now) c.take_in-taken.result c.in_err-pass_fault.field-0.0 c.in_err-pass_fault.ensures.passed (c.take_in-taken.ensures.caused clean None kept free))
-    (λ clean kept refused. same_statement (state g.S.Store c.args.store.now.conn).now (ap (λ k. taking_in c.args.list.now k c.args.item.now) c.of-key.ensures) refused)
+    (λ clean kept refused. record { carried = carries clean kept; refused = same_statement (state g.S.Store c.args.store.now.conn).now (ap (λ k. taking_in c.args.list.now k c.args.item.now) c.of-key.ensures) refused })
 
 pub returns-clause-ends : goal.returns-clause-ends
 returns-clause-ends g c =
@@ -298,7 +316,7 @@ returns-clause-ends g c =
       same = c.in_ok-has_list.ensures.same;
       kept = λ clean kept. (c.in_ok-has_list.ensures.answer clean kept).0.0;
     } in
-    let s2 = asked g.S.Store c.args.store.now.conn c.has_list.new.self.conn c.has_message-known.new.conn s1 c.has_message-known.ensures c.in_ok-pass.ensures.passed in
+    let s2 = asked g.S.Store c.args.store.now.conn c.has_list.new.self.conn c.has_message-known.new.conn s1 (outside c.has_message-known.ensures) c.in_ok-pass.ensures.passed in
     let s3 = asked g.S.Store c.args.store.now.conn c.has_message-known.new.conn c.is_full-full.new.conn s2 c.is_full-full.ensures c.in_ok-pass-2.ensures.passed in
     ends_done g.S.Store c.args.store.now (record { conn = c.take_in-taken.new.conn; wants = c.pass_fault.new.self }) c.is_full-full.new.conn c.pass-2.new.self (no_list ∷ too_large ∷ list_full ∷ [])
     _ added.New s3 (at_most c.in_ok-has_list.ensures.ends.counted.0 (as_many (c.in_ok-pass-2.ensures.counted.1 ∙ c.in_ok-pass.ensures.counted.1))) c.take_in-taken.ensures.ends c.in_ok-pass_fault.ensures.passed c.in_ok-pass_fault.ensures.counted.0.0

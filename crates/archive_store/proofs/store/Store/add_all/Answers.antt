@@ -1,4 +1,4 @@
-use Rattle.std.proofs.Common.{rules, arith, refl, sym, None}
+use Rattle.std.proofs.Common.{rules, arith, refl, sym, subst, ◌∙◌, [], None}
 use Rattle.sqlite.specs.Held.{state}
 use Rattle.archive_tables.specs.Tables.{archive_of}
 use Rattle.archive_store.specs.Replies.{refusal}
@@ -9,6 +9,9 @@ use Rattle.std.proofs.Common.{inl, inr, take}
 use Rattle.archive_machine.specs.Runs.{taken}
 use Rattle.archive_store.proofs.RunLemmas.{run_nothing}
 use Rattle.archive_store.proofs.CrashLemmas.{asked_safe, stays_safe}
+use Rattle.archive_store.specs.Refusals.{MakeRows}
+use Rattle.archive_store.proofs.CauseLemmas.{more_since}
+use Rattle.archive_store.proofs.StopLemmas.{no_rows}
 use Rattle.archive_store.proofs.store.Store.add_all.Goals as goal
 
 pub returns-in-Err-clause-step : goal.returns-in-Err-clause-step
@@ -34,6 +37,8 @@ loop-done-init g c = (
   (λ clean kept safe.
       let counted = c.in-Ok.ensures.answer clean kept in
       asked_safe g.S.Store c.args.self.now.conn c.count.new.self.conn c.count.ensures.quiet counted.0.1 clean safe),
+  (λ clean kept free.
+      subst (MakeRows c.args.list.now [] (state g.S.Store c.args.self.now.conn).now) (sym (c.in-Ok.ensures.same clean)) (no_rows c.args.list.now (state g.S.Store c.args.self.now.conn).now)),
 )
 
 pub loop-done-preserved : goal.loop-done-preserved
@@ -54,7 +59,45 @@ loop-done-preserved g c = (
       let step = c.in-Ok-add_batch.ensures.step clean first so_far in
       stays_safe g.S.Store c.loop-done.self.conn c.add_batch.new.store.conn (λ db up may. g.met.S.Store.settled c.add_batch.new.store.conn.store db up may) step.0.held _ (λ db it. ((taken first c.args.list.now (take it.0 c.args.items.now)).archive, it.2))
       (c.add_batch.ensures.crash first so_far) clean (c.loop-done.invariant.7 was kept safe)),
+  (λ clean kept free.
+      let was = c.add_batch.ensures.ends.lasts.returned clean in
+      let so_far = c.loop-done.invariant.3 was kept in
+      c.in-Ok-add_batch.ensures.ends.rows clean (c.loop-done.invariant.4.limit ∙ free) (archive_of (state g.S.Store c.args.self.now.conn)) so_far (state g.S.Store c.args.self.now.conn).now (c.loop-done.invariant.8 was kept free)),
 )
+
+pub returns-in-Err-clause-ends : goal.returns-in-Err-clause-ends
+returns-in-Err-clause-ends g c = record {
+  lasts = c.count.ensures.ends.lasts;
+  was_open = λ clean. tt;
+  kind = search rules;
+  counted = c.in-Err.ensures.ends.counted;
+  caused = λ clean kept free it. inl (c.in-Err.ensures.ends.caused clean kept free it);
+}
+
+pub returns-then-at-to-clause-ends : goal.returns-then-at-to-clause-ends
+returns-then-at-to-clause-ends g c = record {
+  lasts = lasts_then _ _ _ c.loop-done.invariant.4 c.add_batch.ensures.ends.lasts;
+  was_open = λ clean. tt;
+  kind = search rules;
+  counted = (omega (arith, c.loop-done.invariant.6, c.in-Ok-add_batch.ensures.ends.counted.0), (λ want. absurd cc));
+  caused = λ clean kept free it. absurd cc;
+}
+
+pub returns-in-Err-add_batch-clause-ends : goal.returns-in-Err-add_batch-clause-ends
+returns-in-Err-add_batch-clause-ends g c = record {
+  lasts = lasts_then _ _ _ c.loop-done.invariant.4 c.add_batch.ensures.ends.lasts;
+  was_open = λ clean. tt;
+  kind = search rules;
+  counted = (omega (arith, c.loop-done.invariant.6, c.in-Err-add_batch.ensures.ends.counted.0), (λ want. let more = c.in-Err-add_batch.ensures.ends.counted.1 want in omega (arith, c.loop-done.invariant.6, more)));
+  caused = λ clean kept free it.
+      let was = c.add_batch.ensures.ends.lasts.returned clean in
+      let so_far = c.loop-done.invariant.3 was kept in
+      let first = state g.S.Store c.args.self.now.conn in
+      elim (c.in-Err-add_batch.ensures.ends.rows clean (c.loop-done.invariant.4.limit ∙ free) (archive_of first) so_far first.now (c.loop-done.invariant.8 was kept free) it) [
+        | inl more ↦ inl (more_since first (state g.S.Store c.loop-done.self.conn) (state g.S.Store c.add_batch.new.store.conn) c.loop-done.invariant.4 more)
+        | inr stops ↦ inr stops
+      ];
+}
 
 pub returns-clause-ends : goal.returns-clause-ends
 returns-clause-ends g c = record {
@@ -62,6 +105,7 @@ returns-clause-ends g c = record {
   was_open = c.loop-done.invariant.5;
   kind = search rules;
   counted = search rules;
+  caused = λ clean kept free. tt;
 }
 
 -- ---- what a stop leaves

@@ -2,6 +2,8 @@ use Rattle.std.proofs.Common.{◌≡◌, Ok, Err, sym, ap, ◌∙◌, None, rule
 use Rattle.sqlite.specs.Held.{state}
 use Rattle.archive_machine.specs.Commands.{taken_in, already_known, refused, too_large, list_full}
 use Rattle.archive_machine.specs.Machine.{added_within, message_limit}
+use Rattle.archive_tables.specs.Tables.{archive_in}
+use Rattle.archive_store.specs.Batches.{IsCounted}
 use Rattle.archive_store.specs.Replies.{refusal}
 use Rattle.archive_store.proofs.BatchLemmas.{counted_at, steps_counted, rests_counted, fails_to_add}
 use Rattle.archive_store.proofs.PassLemmas.{passed_answer, passed_over, passed_unanswered}
@@ -11,8 +13,8 @@ use Rattle.archive_machine.specs.Questions.{has_list}
 use Rattle.archive_store.proofs.CrashLemmas.{looks, looks_on, steps_if_counted}
 use Rattle.archive_machine.specs.Commands.{no_list}
 use Rattle.archive_tables.proofs.LastLemmas.{lasts_then}
-use Rattle.archive_store.specs.Refusals.{IsMessageRefused}
-use Rattle.archive_store.proofs.EndLemmas.{as_many, at_most, stood, asked, asked_open, stops, stops_asking, refuses, ends_later}
+use Rattle.archive_store.specs.Refusals.{IsCarried, IsCountedStopped, IsMessageRefused}
+use Rattle.archive_store.proofs.EndLemmas.{as_many, at_most, stood, asked, learnt, asked_open, stops, stops_asking, refuses, ends_later}
 use Rattle.archive_store.specs.declared.words.Added.TheVariants as added
 use Rattle.archive_store.specs.declared.faults.StoreFault.TheVariants as faults
 use Rattle.archive_store.proofs.store.Store.add_counted.Goals as goal
@@ -86,7 +88,7 @@ pub returns-in_err-pass-clause-ends : goal.returns-in_err-pass-clause-ends
 returns-in_err-pass-clause-ends g c =
     let s0 = stood g.S.Store c.args.self.now.conn in
     stops_asking g.S.Store c.args.self.now (record { conn = c.has_list-listed.new.conn; wants = c.pass.new.self }) c.args.self.now.conn c.args.self.now.wants (no_list ∷ too_large ∷ list_full ∷ [])
-    (IsMessageRefused c.args.list.now c.args.item.now) c.from_residual.result c.in_err-pass.field-0.0 s0 (as_many refl) c.has_list-listed.ensures c.in_err-pass.ensures.passed c.in_err-pass.ensures.kind c.in_err-pass.ensures.counted.0 c.from_residual.ensures.1
+    (IsCountedStopped c.args.list.now c.args.item.now c.args.count.now) c.from_residual.result c.in_err-pass.field-0.0 s0 (as_many refl) c.has_list-listed.ensures c.in_err-pass.ensures.passed c.in_err-pass.ensures.kind c.in_err-pass.ensures.counted.0 c.from_residual.ensures.1
 
 pub returns-then-not-branch-clause-ends : goal.returns-then-not-branch-clause-ends
 returns-then-not-branch-clause-ends g c =
@@ -99,9 +101,17 @@ returns-in_err-add_counted-clause-ends g c =
     let s0 = stood g.S.Store c.args.self.now.conn in
     let s1 = asked g.S.Store c.args.self.now.conn c.args.self.now.conn c.has_list-listed.new.conn s0 c.has_list-listed.ensures c.in_ok-pass.ensures.passed in
     stops g.S.Store c.args.self.now c.add_counted.new.store c.has_list-listed.new.conn c.pass.new.self (no_list ∷ too_large ∷ list_full ∷ [])
-    (IsMessageRefused c.args.list.now c.args.item.now) (IsMessageRefused c.args.list.now c.args.item.now) c.from_residual-in_err-add_counted.result c.in_err-add_counted.field-0.0 s1 (as_many (c.in_ok-pass.ensures.counted.1))
+    (λ db. IsMessageRefused c.args.list.now c.args.item.now db × (IsCounted (archive_in db.trees) c.args.list.now c.args.count.now → IsCarried (added_within message_limit (archive_in db.trees) c.args.list.now c.args.item.now).1))
+    (IsCountedStopped c.args.list.now c.args.item.now c.args.count.now) c.from_residual-in_err-add_counted.result c.in_err-add_counted.field-0.0 s1 (as_many (c.in_ok-pass.ensures.counted.1))
     c.add_counted.ensures.ends.lasts c.in_err-add_counted.ensures.ends.fault c.in_err-add_counted.ensures.ends.counted c.from_residual-in_err-add_counted.ensures.1
-    c.in_err-add_counted.ensures.caused (λ clean kept refused. refused)
+    (λ clean kept free. c.in_err-add_counted.ensures.rows clean None kept free)
+    (λ clean kept against. record {
+      carried = λ n. against.1 (record {
+        is_there = sym (sym c.if-not-branch.false ∙ learnt g.S.Store c.args.self.now.conn c.args.self.now.conn c.has_list-listed.new.conn s0 c.has_list-listed.ensures c.in_ok-pass.ensures.passed clean kept);
+        length_is = n;
+      });
+      refused = against.0;
+    })
 
 pub returns-in-New-clause-ends : goal.returns-in-New-clause-ends
 returns-in-New-clause-ends g c =

@@ -12,7 +12,8 @@ use Rattle.archive_store.proofs.CrashLemmas.{looks, looks_on, steps_over}
 use Rattle.archive_store.proofs.PassLemmas.{passed_answer, passed_over, of_ok, of_err}
 use Rattle.archive_machine.specs.Commands.{no_person}
 use Rattle.archive_machine.specs.Addresses.{kept_address}
-use Rattle.archive_store.specs.Refusals.{IsAddressRefused}
+use Rattle.archive_store.specs.Refusals.{RowsRefuse, IsAddressRefused}
+use Rattle.archive_store.proofs.StopLemmas.{carried_by}
 use Rattle.archive_store.proofs.EndLemmas.{fails_asking, as_many, stood, asked, stops_asking, stops, refuses, ends_done, blame_error, address_refused}
 use Rattle.archive_store.specs.declared.faults.StoreFault.TheVariants as faults
 use Rattle.archive_store.proofs.store.Store.address_set.Goals as goal
@@ -110,7 +111,7 @@ pub returns-in_err-pass-clause-ends : goal.returns-in_err-pass-clause-ends
 returns-in_err-pass-clause-ends g c =
     let s0 = stood g.S.Store c.args.self.now.conn in
     stops_asking g.S.Store c.args.self.now (record { conn = c.has_person-known.new.conn; wants = c.pass.new.self }) c.args.self.now.conn c.args.self.now.wants (no_person ∷ bad_text ∷ [])
-    (IsAddressRefused (record { person = c.args.person.now; address = kept_address c.args.address.now })) c.from_residual.result c.in_err-pass.field-0.0 s0 (as_many refl) c.has_person-known.ensures c.in_err-pass.ensures.passed c.in_err-pass.ensures.kind c.in_err-pass.ensures.counted.0 c.from_residual.ensures.1
+    (RowsRefuse (λ a. address_given a c.args.person.now c.args.address.now) (IsAddressRefused (record { person = c.args.person.now; address = kept_address c.args.address.now }))) c.from_residual.result c.in_err-pass.field-0.0 s0 (as_many refl) c.has_person-known.ensures c.in_err-pass.ensures.passed c.in_err-pass.ensures.kind c.in_err-pass.ensures.counted.0 c.from_residual.ensures.1
 
 pub returns-then-not-branch-clause-ends : goal.returns-then-not-branch-clause-ends
 returns-then-not-branch-clause-ends g c =
@@ -128,10 +129,19 @@ pub returns-in_err-pass-2-clause-ends : goal.returns-in_err-pass-2-clause-ends
 returns-in_err-pass-2-clause-ends g c =
     let s0 = stood g.S.Store c.args.self.now.conn in
     let s1 = asked g.S.Store c.args.self.now.conn c.args.self.now.conn c.has_person-known.new.conn s0 c.has_person-known.ensures c.in_ok-pass.ensures.passed in
+    let person = c.args.person.now in
+    let address = c.args.address.now in
+    let kept = c.deref.result.now in
+    let one = looks_on g.S.Store c.args.self.now.conn c.args.self.now.conn c.has_person-known.new.conn (λ _. ⊤) (λ a. true ≡ has_person a person)
+    (looks g.S.Store c.args.self.now.conn) c.has_person-known.ensures c.in_ok-pass.ensures.passed (λ a it. sym c.if-not-branch.false ∙ it) in
+    let carries = carried_by g.S.Store c.args.self.now.conn c.has_person-known.new.conn _ (λ a. address_given a person address) done
+    (λ a. record a { addresses = with_address a (record { person = person; address = kept }) })
+    one
+    (address_done person address kept (c.deref.ensures ∙ c.in-Ok.ensures) (sym c.is_address.ensures ∙ c.if-not-is_address.false)) tt in
     stops g.S.Store c.args.self.now (record { conn = c.put_address-put.new.conn; wants = c.pass-2.new.self }) c.has_person-known.new.conn c.pass.new.self (no_person ∷ bad_text ∷ [])
-    (IsAddressRefused (record { person = c.args.person.now; address = c.deref.result.now })) (IsAddressRefused (record { person = c.args.person.now; address = kept_address c.args.address.now })) c.from_residual-in_err-pass-2.result c.in_err-pass-2.field-0.0 s1 (as_many (c.in_ok-pass.ensures.counted.1)) c.put_address-put.ensures.lasts c.in_err-pass-2.ensures.kind c.in_err-pass-2.ensures.counted.0 c.from_residual-in_err-pass-2.ensures.1
+    (IsAddressRefused (record { person = c.args.person.now; address = c.deref.result.now })) (RowsRefuse (λ a. address_given a c.args.person.now c.args.address.now) (IsAddressRefused (record { person = c.args.person.now; address = kept_address c.args.address.now }))) c.from_residual-in_err-pass-2.result c.in_err-pass-2.field-0.0 s1 (as_many (c.in_ok-pass.ensures.counted.1)) c.put_address-put.ensures.lasts c.in_err-pass-2.ensures.kind c.in_err-pass-2.ensures.counted.0 c.from_residual-in_err-pass-2.ensures.1
     (λ clean kept free. blame_error (state g.S.Store c.has_person-known.new.conn) (state g.S.Store c.put_address-put.new.conn) ((IsAddressRefused (record { person = c.args.person.now; address = c.deref.result.now })) (state g.S.Store c.has_person-known.new.conn).now) c.put_address-put.result c.in_err-pass-2.field-0.0 c.in_err-pass-2.ensures.passed (c.put_address-put.ensures.caused clean kept free))
-    (λ clean kept refused. address_refused (state g.S.Store c.args.self.now.conn).now c.args.person.now (kept_address c.args.address.now) c.deref.result.now (c.deref.ensures ∙ c.in-Ok.ensures) refused)
+    (λ clean kept refused. record { carried = carries clean kept; refused = address_refused (state g.S.Store c.args.self.now.conn).now c.args.person.now (kept_address c.args.address.now) c.deref.result.now (c.deref.ensures ∙ c.in-Ok.ensures) refused })
 
 pub returns-clause-ends : goal.returns-clause-ends
 returns-clause-ends g c =

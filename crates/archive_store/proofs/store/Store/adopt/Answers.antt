@@ -1,8 +1,12 @@
-use Rattle.std.proofs.Common.{rules, sym, subst, ◌∙◌, inl}
+use Rattle.std.proofs.Common.{rules, sym, subst, ◌∙◌, ◌⊎◌, inl, inr}
 use Rattle.std.specs.Prelude.{OnOk}
 use Rattle.sqlite.specs.Held.{state}
-use Rattle.archive_database.specs.Adopting.{MayBeTaken}
+use Rattle.sqlite.specs.State.{HasCleanDisk}
+use Rattle.sqlite_disk.specs.Disk.{MoreFaults}
+use Rattle.archive_database.specs.Adopting.{MayBeTaken, IsNotTaken}
 use Rattle.std.proofs.Common.{None}
+use Rattle.archive_store.proofs.AdoptLemmas.{refused_by, has_version}
+use Rattle.archive_store.proofs.CauseLemmas.{is_database}
 use Rattle.archive_store.proofs.CrashLemmas.{adopts_as, adopts_at, none_held}
 use Rattle.archive_store.proofs.store.Store.adopt.Goals.{then-has_nothing, else-has_nothing}
 use Rattle.archive_store.proofs.store.Store.adopt.Goals as goal
@@ -47,7 +51,12 @@ returns-in-Err-clause-refused g c =
         as_before = search rules;
         foreign = search rules;
         why = search rules;
-        caused = search rules;
+        caused = λ clean idle understood free store.
+            let old = state g.S.Store c.args.connection in
+            let clean_1 = subst (λ h. HasCleanDisk (state g.S.Store h)) w.conn-is clean in
+            let premise = c.has_nothing.ensures.0 w.if-has_nothing.true in
+            let why = refused_by old (state g.S.Store w.make_tables-done.new.conn) _ c.in-Err.fault _ (sym w.done-is ∙ c.in-Err.is) (w.make_tables-done.ensures.ends.caused clean_1 (idle, premise) free) (is_database _ (search rules)) in
+            subst (λ h. MoreFaults old.faults (state g.S.Store h).faults ⊎ IsNotTaken old.now) (sym w.conn-is) (elim why [ inl more ↦ inl more | inr refused ↦ inr (inl (premise, refused)) ]);
         fault = search rules;
         returned = search rules;
         crash = adopts_at g.S.Store c.args.connection w.make_tables-done.new.conn c.if-has_nothing.conn w.conn-is
@@ -60,7 +69,12 @@ returns-in-Err-clause-refused g c =
         as_before = search rules;
         foreign = search rules;
         why = search rules;
-        caused = search rules;
+        caused = λ clean idle understood free store.
+            let old = state g.S.Store c.args.connection in
+            let clean_1 = subst (λ h. HasCleanDisk (state g.S.Store h)) w.conn-is clean in
+            let premise = has_version (λ empty. let is = c.has_nothing.ensures.1 empty in let none = w.if-has_nothing.false in cc) understood in
+            let why = refused_by old (state g.S.Store w.take_over-done.new.conn) _ c.in-Err.fault _ (sym w.done-is ∙ c.in-Err.is) (w.take_over-done.ensures.ends.caused clean_1 (idle, premise) free) (is_database _ (search rules)) in
+            subst (λ h. MoreFaults old.faults (state g.S.Store h).faults ⊎ IsNotTaken old.now) (sym w.conn-is) why;
         fault = search rules;
         returned = search rules;
         crash = adopts_at g.S.Store c.args.connection w.take_over-done.new.conn c.if-has_nothing.conn w.conn-is

@@ -9,6 +9,8 @@ use Rattle.archive_store.proofs.CauseLemmas.{more_since}
 use Rattle.archive_store.proofs.WantLemmas.{raises_after}
 use Rattle.archive_store.proofs.PassLemmas.{answer_last}
 use Rattle.archive_store.proofs.FindLemmas.{ends_first, blames, blames_disk, no_reason_of, not_there, rests_of, stops}
+use Rattle.archive_store.proofs.EndLemmas.{passes_same}
+use Rattle.archive_store.proofs.StopLemmas.{same_since}
 use Rattle.archive_store.proofs.store.Store.count.Goals as goal
 
 pub returns-in_err-has_list-clause-answer : goal.returns-in_err-has_list-clause-answer
@@ -46,6 +48,16 @@ returns-clause-ends g c = record {
       blames c.pass.result (more_since old mid (state g.S.Store c.count_messages-count.new.conn) c.has_list.ensures.ends.lasts)
       (blames_disk g.S.Store c.has_list.new.self.conn c.count_messages-count.new.conn c.count_messages-count.result c.pass.result c.pass.ensures.passed c.count_messages-count.ensures.caused clean has.0.0 (c.has_list.ensures.ends.lasts.limit ∙ free));
 }
+
+-- ---- who is answered sees what was seen before
+
+pub returns-clause-same : goal.returns-clause-same
+returns-clause-same g c = λ clean.
+    let old = state g.S.Store c.args.self.now.conn in
+    let mid = state g.S.Store c.has_list.new.self.conn in
+    let new = state g.S.Store c.count_messages-count.new.conn in
+    let before = c.in_ok-has_list.ensures.same (c.count_messages-count.ensures.ends.lasts.returned clean) in
+    passes_same (new.now ≡ old.now) c.count_messages-count.result c.pass.result c.pass.ensures.passed (same_since old mid new c.count_messages-count.result before (c.count_messages-count.ensures.same clean))
 
 -- ---- a stop leaves nothing new
 

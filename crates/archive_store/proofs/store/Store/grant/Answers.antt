@@ -13,7 +13,8 @@ use Rattle.archive_store.proofs.CrashLemmas.{looks, looks_on, steps_by}
 use Rattle.archive_store.proofs.PassLemmas.{passed_answer, passed_over, passed_written, passed_needing}
 use Rattle.sqlite.specs.Held.{state}
 use Rattle.archive_machine.specs.Commands.{no_person}
-use Rattle.archive_store.specs.Refusals.{IsGrantRefused}
+use Rattle.archive_store.specs.Refusals.{RowsRefuse, IsGrantRefused}
+use Rattle.archive_store.proofs.StopLemmas.{carried_by}
 use Rattle.archive_store.proofs.EndLemmas.{fails_asking, fails_writing, as_many, stood, asked, stops_asking, stops_writing, refuses, ends_done, learnt, change_refused, add_refused}
 use Rattle.archive_store.specs.declared.faults.StoreFault.TheVariants as faults
 use Rattle.archive_store.proofs.store.Store.grant.Goals as goal
@@ -227,14 +228,14 @@ pub returns-in_err-pass-clause-ends : goal.returns-in_err-pass-clause-ends
 returns-in_err-pass-clause-ends g c =
     let s0 = stood g.S.Store c.args.self.now.conn in
     stops_asking g.S.Store c.args.self.now (record { conn = c.has_person-known.new.conn; wants = c.pass.new.self }) c.args.self.now.conn c.args.self.now.wants (no_person ∷ no_list ∷ bad_days ∷ [])
-    (IsGrantRefused (record { person = c.args.person.now; list = c.args.list.now; rank = kind_rank c.args.kind; from_day = c.args.from; until_day = c.args.until })) c.from_residual.result c.in_err-pass.field-0.0 s0 (as_many refl) c.has_person-known.ensures c.in_err-pass.ensures.passed c.in_err-pass.ensures.kind c.in_err-pass.ensures.counted.0 c.from_residual.ensures.1
+    (RowsRefuse (λ a. granted a (record { person = c.args.person.now; list = c.args.list.now; rank = kind_rank c.args.kind; from_day = c.args.from; until_day = c.args.until })) (IsGrantRefused (record { person = c.args.person.now; list = c.args.list.now; rank = kind_rank c.args.kind; from_day = c.args.from; until_day = c.args.until }))) c.from_residual.result c.in_err-pass.field-0.0 s0 (as_many refl) c.has_person-known.ensures c.in_err-pass.ensures.passed c.in_err-pass.ensures.kind c.in_err-pass.ensures.counted.0 c.from_residual.ensures.1
 
 pub returns-in_err-pass-2-clause-ends : goal.returns-in_err-pass-2-clause-ends
 returns-in_err-pass-2-clause-ends g c =
     let s0 = stood g.S.Store c.args.self.now.conn in
     let s1 = asked g.S.Store c.args.self.now.conn c.args.self.now.conn c.has_person-known.new.conn s0 c.has_person-known.ensures c.in_ok-pass.ensures.passed in
     stops_asking g.S.Store c.args.self.now (record { conn = c.has_list-listed.new.conn; wants = c.pass-2.new.self }) c.has_person-known.new.conn c.pass.new.self (no_person ∷ no_list ∷ bad_days ∷ [])
-    (IsGrantRefused (record { person = c.args.person.now; list = c.args.list.now; rank = kind_rank c.args.kind; from_day = c.args.from; until_day = c.args.until })) c.from_residual-in_err-pass-2.result c.in_err-pass-2.field-0.0 s1 (as_many (c.in_ok-pass.ensures.counted.1)) c.has_list-listed.ensures c.in_err-pass-2.ensures.passed c.in_err-pass-2.ensures.kind c.in_err-pass-2.ensures.counted.0 c.from_residual-in_err-pass-2.ensures.1
+    (RowsRefuse (λ a. granted a (record { person = c.args.person.now; list = c.args.list.now; rank = kind_rank c.args.kind; from_day = c.args.from; until_day = c.args.until })) (IsGrantRefused (record { person = c.args.person.now; list = c.args.list.now; rank = kind_rank c.args.kind; from_day = c.args.from; until_day = c.args.until }))) c.from_residual-in_err-pass-2.result c.in_err-pass-2.field-0.0 s1 (as_many (c.in_ok-pass.ensures.counted.1)) c.has_list-listed.ensures c.in_err-pass-2.ensures.passed c.in_err-pass-2.ensures.kind c.in_err-pass-2.ensures.counted.0 c.from_residual-in_err-pass-2.ensures.1
 
 pub returns-in_err-pass-3-clause-ends : goal.returns-in_err-pass-3-clause-ends
 returns-in_err-pass-3-clause-ends g c =
@@ -242,7 +243,7 @@ returns-in_err-pass-3-clause-ends g c =
     let s1 = asked g.S.Store c.args.self.now.conn c.args.self.now.conn c.has_person-known.new.conn s0 c.has_person-known.ensures c.in_ok-pass.ensures.passed in
     let s2 = asked g.S.Store c.args.self.now.conn c.has_person-known.new.conn c.has_list-listed.new.conn s1 c.has_list-listed.ensures c.in_ok-pass-2.ensures.passed in
     stops_asking g.S.Store c.args.self.now (record { conn = c.has_grant-had.new.conn; wants = c.pass-3.new.self }) c.has_list-listed.new.conn c.pass-2.new.self (no_person ∷ no_list ∷ bad_days ∷ [])
-    (IsGrantRefused (record { person = c.args.person.now; list = c.args.list.now; rank = kind_rank c.args.kind; from_day = c.args.from; until_day = c.args.until })) c.from_residual-in_err-pass-3.result c.in_err-pass-3.field-0.0 s2 (as_many (c.in_ok-pass-2.ensures.counted.1 ∙ c.in_ok-pass.ensures.counted.1)) c.has_grant-had.ensures c.in_err-pass-3.ensures.passed c.in_err-pass-3.ensures.kind c.in_err-pass-3.ensures.counted.0 c.from_residual-in_err-pass-3.ensures.1
+    (RowsRefuse (λ a. granted a (record { person = c.args.person.now; list = c.args.list.now; rank = kind_rank c.args.kind; from_day = c.args.from; until_day = c.args.until })) (IsGrantRefused (record { person = c.args.person.now; list = c.args.list.now; rank = kind_rank c.args.kind; from_day = c.args.from; until_day = c.args.until }))) c.from_residual-in_err-pass-3.result c.in_err-pass-3.field-0.0 s2 (as_many (c.in_ok-pass-2.ensures.counted.1 ∙ c.in_ok-pass.ensures.counted.1)) c.has_grant-had.ensures c.in_err-pass-3.ensures.passed c.in_err-pass-3.ensures.kind c.in_err-pass-3.ensures.counted.0 c.from_residual-in_err-pass-3.ensures.1
 
 pub returns-then-not-branch-clause-ends : goal.returns-then-not-branch-clause-ends
 returns-then-not-branch-clause-ends g c =
@@ -270,11 +271,28 @@ returns-in_err-pass-4-clause-ends g c =
     let s1 = asked g.S.Store c.args.self.now.conn c.args.self.now.conn c.has_person-known.new.conn s0 c.has_person-known.ensures c.in_ok-pass.ensures.passed in
     let s2 = asked g.S.Store c.args.self.now.conn c.has_person-known.new.conn c.has_list-listed.new.conn s1 c.has_list-listed.ensures c.in_ok-pass-2.ensures.passed in
     let s3 = asked g.S.Store c.args.self.now.conn c.has_list-listed.new.conn c.has_grant-had.new.conn s2 c.has_grant-had.ensures c.in_ok-pass-3.ensures.passed in
-    stops_writing g.S.Store c.args.self.now (record { conn = c.change_grant-put.new.conn; wants = c.pass-then-branch.new.self }) c.has_grant-had.new.conn c.pass-3.new.self (no_person ∷ no_list ∷ bad_days ∷ [])
-    (IsGrantRefused (record { person = c.args.person.now; list = c.args.list.now; rank = kind_rank c.args.kind; from_day = c.args.from; until_day = c.args.until })) c.from_residual-in_err-pass-4.result c.in_err-pass-4.field-0.0 s3 (as_many (c.in_ok-pass-3.ensures.counted.1 ∙ c.in_ok-pass-2.ensures.counted.1 ∙ c.in_ok-pass.ensures.counted.1)) c.change_grant-put.ensures c.in_err-pass-4.ensures.passed c.in_err-pass-4.ensures.kind c.in_err-pass-4.ensures.counted.0 c.from_residual-in_err-pass-4.ensures.1
-    (λ clean kept refused. change_refused (state g.S.Store c.args.self.now.conn).now c.args.person.now c.args.list.now (kind_rank c.args.kind) c.args.from c.args.until (to_z w64 (of_z w64 c.rank-rank.result)) (to_z w64 (of_z w64 c.day_number-first.result)) (to_z w64 (of_z w64 c.day_number-last.result))
+    let person = c.args.person.now in
+    let list = c.args.list.now in
+    let one = looks_on g.S.Store c.args.self.now.conn c.args.self.now.conn c.has_person-known.new.conn (λ _. ⊤) (λ a. true ≡ has_person a person)
+    (looks g.S.Store c.args.self.now.conn) c.has_person-known.ensures c.in_ok-pass.ensures.passed (λ a it. sym c.if-not-branch.false ∙ it) in
+    let two = looks_on g.S.Store c.args.self.now.conn c.has_person-known.new.conn c.has_list-listed.new.conn (λ a. ⊤ × (true ≡ has_person a person)) (λ a. true ≡ has_list a list)
+    one c.has_list-listed.ensures c.in_ok-pass-2.ensures.passed (λ a it. sym c.if-not-branch-2.false ∙ it) in
+    let three = looks_on g.S.Store c.args.self.now.conn c.has_list-listed.new.conn c.has_grant-had.new.conn (λ a. (⊤ × (true ≡ has_person a person)) × (true ≡ has_list a list)) (λ a. true ≡ has_grant a person list (to_z w64 (of_z w64 c.rank-rank.result)))
+    two c.has_grant-had.ensures c.in_ok-pass-3.ensures.passed (λ a it. sym c.if-branch.true ∙ it) in
+    let carries = carried_by g.S.Store c.args.self.now.conn c.has_grant-had.new.conn _ (λ a. granted a (record { person = person; list = list; rank = kind_rank c.args.kind; from_day = c.args.from; until_day = c.args.until })) done
+    (λ a. record a { grants = map (λ g. if is_grant person list (to_z w64 (of_z w64 c.rank-rank.result)) g then record g { from_day = (to_z w64 (of_z w64 c.day_number-first.result)); until_day = (to_z w64 (of_z w64 c.day_number-last.result)) } else g) a.grants })
+    three
+    (grant_again person list (kind_rank c.args.kind) c.args.from c.args.until (to_z w64 (of_z w64 c.rank-rank.result)) (to_z w64 (of_z w64 c.day_number-first.result)) (to_z w64 (of_z w64 c.day_number-last.result))
     (to_z-of_z w64 c.rank-rank.result (record { sfits = c.rank-rank.type_inv }) ∙ c.rank-rank.ensures) (to_z-of_z w64 c.day_number-first.result (record { sfits = c.day_number-first.type_inv }) ∙ c.day_number-first.ensures) (to_z-of_z w64 c.day_number-last.result (record { sfits = c.day_number-last.type_inv }) ∙ c.day_number-last.ensures)
-    (sym c.if-branch.true ∙ learnt g.S.Store c.args.self.now.conn c.has_list-listed.new.conn c.has_grant-had.new.conn s2 c.has_grant-had.ensures c.in_ok-pass-3.ensures.passed clean kept) refused)
+    (sym (is_lt-int_cmp c.args.until c.args.from) ∙ sym c.if-lt.ensures)) tt in
+    stops_writing g.S.Store c.args.self.now (record { conn = c.change_grant-put.new.conn; wants = c.pass-then-branch.new.self }) c.has_grant-had.new.conn c.pass-3.new.self (no_person ∷ no_list ∷ bad_days ∷ [])
+    (RowsRefuse (λ a. granted a (record { person = c.args.person.now; list = c.args.list.now; rank = kind_rank c.args.kind; from_day = c.args.from; until_day = c.args.until })) (IsGrantRefused (record { person = c.args.person.now; list = c.args.list.now; rank = kind_rank c.args.kind; from_day = c.args.from; until_day = c.args.until }))) c.from_residual-in_err-pass-4.result c.in_err-pass-4.field-0.0 s3 (as_many (c.in_ok-pass-3.ensures.counted.1 ∙ c.in_ok-pass-2.ensures.counted.1 ∙ c.in_ok-pass.ensures.counted.1)) c.change_grant-put.ensures c.in_err-pass-4.ensures.passed c.in_err-pass-4.ensures.kind c.in_err-pass-4.ensures.counted.0 c.from_residual-in_err-pass-4.ensures.1
+    (λ clean kept refused. record {
+      carried = carries clean kept;
+      refused = change_refused (state g.S.Store c.args.self.now.conn).now c.args.person.now c.args.list.now (kind_rank c.args.kind) c.args.from c.args.until (to_z w64 (of_z w64 c.rank-rank.result)) (to_z w64 (of_z w64 c.day_number-first.result)) (to_z w64 (of_z w64 c.day_number-last.result))
+          (to_z-of_z w64 c.rank-rank.result (record { sfits = c.rank-rank.type_inv }) ∙ c.rank-rank.ensures) (to_z-of_z w64 c.day_number-first.result (record { sfits = c.day_number-first.type_inv }) ∙ c.day_number-first.ensures) (to_z-of_z w64 c.day_number-last.result (record { sfits = c.day_number-last.type_inv }) ∙ c.day_number-last.ensures)
+          (sym c.if-branch.true ∙ learnt g.S.Store c.args.self.now.conn c.has_list-listed.new.conn c.has_grant-had.new.conn s2 c.has_grant-had.ensures c.in_ok-pass-3.ensures.passed clean kept) refused;
+    })
 
 pub returns-in_ok-pass-4-clause-ends : goal.returns-in_ok-pass-4-clause-ends
 returns-in_ok-pass-4-clause-ends g c =
@@ -291,11 +309,28 @@ returns-in_err-pass-5-clause-ends g c =
     let s1 = asked g.S.Store c.args.self.now.conn c.args.self.now.conn c.has_person-known.new.conn s0 c.has_person-known.ensures c.in_ok-pass.ensures.passed in
     let s2 = asked g.S.Store c.args.self.now.conn c.has_person-known.new.conn c.has_list-listed.new.conn s1 c.has_list-listed.ensures c.in_ok-pass-2.ensures.passed in
     let s3 = asked g.S.Store c.args.self.now.conn c.has_list-listed.new.conn c.has_grant-had.new.conn s2 c.has_grant-had.ensures c.in_ok-pass-3.ensures.passed in
-    stops_writing g.S.Store c.args.self.now (record { conn = c.add_grant-put.new.conn; wants = c.pass-else-branch.new.self }) c.has_grant-had.new.conn c.pass-3.new.self (no_person ∷ no_list ∷ bad_days ∷ [])
-    (IsGrantRefused (record { person = c.args.person.now; list = c.args.list.now; rank = kind_rank c.args.kind; from_day = c.args.from; until_day = c.args.until })) c.from_residual-in_err-pass-5.result c.in_err-pass-5.field-0.0 s3 (as_many (c.in_ok-pass-3.ensures.counted.1 ∙ c.in_ok-pass-2.ensures.counted.1 ∙ c.in_ok-pass.ensures.counted.1)) c.add_grant-put.ensures c.in_err-pass-5.ensures.passed c.in_err-pass-5.ensures.kind c.in_err-pass-5.ensures.counted.0 c.from_residual-in_err-pass-5.ensures.1
-    (λ clean kept refused. add_refused (state g.S.Store c.args.self.now.conn).now c.args.person.now c.args.list.now (kind_rank c.args.kind) c.args.from c.args.until (to_z w64 (of_z w64 c.rank-rank.result)) (to_z w64 (of_z w64 c.day_number-first.result)) (to_z w64 (of_z w64 c.day_number-last.result))
+    let person = c.args.person.now in
+    let list = c.args.list.now in
+    let one = looks_on g.S.Store c.args.self.now.conn c.args.self.now.conn c.has_person-known.new.conn (λ _. ⊤) (λ a. true ≡ has_person a person)
+    (looks g.S.Store c.args.self.now.conn) c.has_person-known.ensures c.in_ok-pass.ensures.passed (λ a it. sym c.if-not-branch.false ∙ it) in
+    let two = looks_on g.S.Store c.args.self.now.conn c.has_person-known.new.conn c.has_list-listed.new.conn (λ a. ⊤ × (true ≡ has_person a person)) (λ a. true ≡ has_list a list)
+    one c.has_list-listed.ensures c.in_ok-pass-2.ensures.passed (λ a it. sym c.if-not-branch-2.false ∙ it) in
+    let three = looks_on g.S.Store c.args.self.now.conn c.has_list-listed.new.conn c.has_grant-had.new.conn (λ a. (⊤ × (true ≡ has_person a person)) × (true ≡ has_list a list)) (λ a. false ≡ has_grant a person list (to_z w64 (of_z w64 c.rank-rank.result)))
+    two c.has_grant-had.ensures c.in_ok-pass-3.ensures.passed (λ a it. sym c.if-branch.false ∙ it) in
+    let carries = carried_by g.S.Store c.args.self.now.conn c.has_grant-had.new.conn _ (λ a. granted a (record { person = person; list = list; rank = kind_rank c.args.kind; from_day = c.args.from; until_day = c.args.until })) done
+    (λ a. record a { grants = a.grants ++ record { person = person; list = list; rank = (to_z w64 (of_z w64 c.rank-rank.result)); from_day = (to_z w64 (of_z w64 c.day_number-first.result)); until_day = (to_z w64 (of_z w64 c.day_number-last.result)) } ∷ [] })
+    three
+    (grant_new person list (kind_rank c.args.kind) c.args.from c.args.until (to_z w64 (of_z w64 c.rank-rank.result)) (to_z w64 (of_z w64 c.day_number-first.result)) (to_z w64 (of_z w64 c.day_number-last.result))
     (to_z-of_z w64 c.rank-rank.result (record { sfits = c.rank-rank.type_inv }) ∙ c.rank-rank.ensures) (to_z-of_z w64 c.day_number-first.result (record { sfits = c.day_number-first.type_inv }) ∙ c.day_number-first.ensures) (to_z-of_z w64 c.day_number-last.result (record { sfits = c.day_number-last.type_inv }) ∙ c.day_number-last.ensures)
-    (sym c.if-branch.false ∙ learnt g.S.Store c.args.self.now.conn c.has_list-listed.new.conn c.has_grant-had.new.conn s2 c.has_grant-had.ensures c.in_ok-pass-3.ensures.passed clean kept) refused)
+    (sym (is_lt-int_cmp c.args.until c.args.from) ∙ sym c.if-lt.ensures)) tt in
+    stops_writing g.S.Store c.args.self.now (record { conn = c.add_grant-put.new.conn; wants = c.pass-else-branch.new.self }) c.has_grant-had.new.conn c.pass-3.new.self (no_person ∷ no_list ∷ bad_days ∷ [])
+    (RowsRefuse (λ a. granted a (record { person = c.args.person.now; list = c.args.list.now; rank = kind_rank c.args.kind; from_day = c.args.from; until_day = c.args.until })) (IsGrantRefused (record { person = c.args.person.now; list = c.args.list.now; rank = kind_rank c.args.kind; from_day = c.args.from; until_day = c.args.until }))) c.from_residual-in_err-pass-5.result c.in_err-pass-5.field-0.0 s3 (as_many (c.in_ok-pass-3.ensures.counted.1 ∙ c.in_ok-pass-2.ensures.counted.1 ∙ c.in_ok-pass.ensures.counted.1)) c.add_grant-put.ensures c.in_err-pass-5.ensures.passed c.in_err-pass-5.ensures.kind c.in_err-pass-5.ensures.counted.0 c.from_residual-in_err-pass-5.ensures.1
+    (λ clean kept refused. record {
+      carried = carries clean kept;
+      refused = add_refused (state g.S.Store c.args.self.now.conn).now c.args.person.now c.args.list.now (kind_rank c.args.kind) c.args.from c.args.until (to_z w64 (of_z w64 c.rank-rank.result)) (to_z w64 (of_z w64 c.day_number-first.result)) (to_z w64 (of_z w64 c.day_number-last.result))
+          (to_z-of_z w64 c.rank-rank.result (record { sfits = c.rank-rank.type_inv }) ∙ c.rank-rank.ensures) (to_z-of_z w64 c.day_number-first.result (record { sfits = c.day_number-first.type_inv }) ∙ c.day_number-first.ensures) (to_z-of_z w64 c.day_number-last.result (record { sfits = c.day_number-last.type_inv }) ∙ c.day_number-last.ensures)
+          (sym c.if-branch.false ∙ learnt g.S.Store c.args.self.now.conn c.has_list-listed.new.conn c.has_grant-had.new.conn s2 c.has_grant-had.ensures c.in_ok-pass-3.ensures.passed clean kept) refused;
+    })
 
 pub returns-in_ok-pass-5-clause-ends : goal.returns-in_ok-pass-5-clause-ends
 returns-in_ok-pass-5-clause-ends g c =

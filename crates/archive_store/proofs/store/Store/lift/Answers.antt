@@ -12,6 +12,8 @@ use Rattle.sqlite.specs.Held.{state}
 use Rattle.archive_tables.specs.Statements.{freeing, IsRefused}
 use Rattle.archive_store.specs.declared.faults.StoreFault.TheVariants as faults
 use Rattle.archive_machine.specs.Commands.{no_list, no_message}
+use Rattle.archive_store.specs.Refusals.{RowsRefuse}
+use Rattle.archive_store.proofs.StopLemmas.{carried_by}
 use Rattle.archive_store.proofs.EndLemmas.{fails_asking, fails_writing, as_many, stood, asked, stops_asking, stops_writing, refuses, ends_done, same_statement}
 use Rattle.archive_store.proofs.store.Store.lift.Goals as goal
 
@@ -120,14 +122,14 @@ pub returns-in_err-pass-clause-ends : goal.returns-in_err-pass-clause-ends
 returns-in_err-pass-clause-ends g c =
     let s0 = stood g.S.Store c.args.self.now.conn in
     stops_asking g.S.Store c.args.self.now (record { conn = c.has_list-listed.new.conn; wants = c.pass.new.self }) c.args.self.now.conn c.args.self.now.wants (no_list ∷ no_message ∷ [])
-    (IsRefused (freeing c.args.list.now c.args.key.now)) c.from_residual.result c.in_err-pass.field-0.0 s0 (as_many refl) c.has_list-listed.ensures c.in_err-pass.ensures.passed c.in_err-pass.ensures.kind c.in_err-pass.ensures.counted.0 c.from_residual.ensures.1
+    (RowsRefuse (λ a. lifted a c.args.list.now c.args.key.now) (IsRefused (freeing c.args.list.now c.args.key.now))) c.from_residual.result c.in_err-pass.field-0.0 s0 (as_many refl) c.has_list-listed.ensures c.in_err-pass.ensures.passed c.in_err-pass.ensures.kind c.in_err-pass.ensures.counted.0 c.from_residual.ensures.1
 
 pub returns-in_err-marks-clause-ends : goal.returns-in_err-marks-clause-ends
 returns-in_err-marks-clause-ends g c =
     let s0 = stood g.S.Store c.args.self.now.conn in
     let s1 = asked g.S.Store c.args.self.now.conn c.args.self.now.conn c.has_list-listed.new.conn s0 c.has_list-listed.ensures c.in_ok-pass.ensures.passed in
     stops_asking g.S.Store c.args.self.now (record { conn = c.marks-found.new.conn; wants = c.pass-2.new.self }) c.has_list-listed.new.conn c.pass.new.self (no_list ∷ no_message ∷ [])
-    (IsRefused (freeing c.args.list.now c.args.key.now)) c.from_residual-in_err-marks.result c.in_err-marks.field-0.0 s1 (as_many (c.in_ok-pass.ensures.counted.1)) c.marks-found.ensures c.in_err-marks.ensures.passed c.in_err-marks.ensures.kind c.in_err-marks.ensures.counted.0 c.from_residual-in_err-marks.ensures.1
+    (RowsRefuse (λ a. lifted a c.args.list.now c.args.key.now) (IsRefused (freeing c.args.list.now c.args.key.now))) c.from_residual-in_err-marks.result c.in_err-marks.field-0.0 s1 (as_many (c.in_ok-pass.ensures.counted.1)) c.marks-found.ensures c.in_err-marks.ensures.passed c.in_err-marks.ensures.kind c.in_err-marks.ensures.counted.0 c.from_residual-in_err-marks.ensures.1
 
 pub returns-then-not-branch-clause-ends : goal.returns-then-not-branch-clause-ends
 returns-then-not-branch-clause-ends g c =
@@ -147,9 +149,22 @@ returns-in_err-pass-2-clause-ends g c =
     let s0 = stood g.S.Store c.args.self.now.conn in
     let s1 = asked g.S.Store c.args.self.now.conn c.args.self.now.conn c.has_list-listed.new.conn s0 c.has_list-listed.ensures c.in_ok-pass.ensures.passed in
     let s2 = asked g.S.Store c.args.self.now.conn c.has_list-listed.new.conn c.marks-found.new.conn s1 c.marks-found.ensures c.in_ok-marks.ensures.passed in
+    let list = c.args.list.now in
+    let key = c.args.key.now in
+    let k = c.as_str.result.now in
+    let k2 = c.as_str-2.result.now in
+    let one = looks_on g.S.Store c.args.self.now.conn c.args.self.now.conn c.has_list-listed.new.conn (λ _. ⊤) (λ a. true ≡ has_list a list)
+    (looks g.S.Store c.args.self.now.conn) c.has_list-listed.ensures c.in_ok-pass.ensures.passed (λ a it. sym c.if-not-branch.false ∙ it) in
+    let r = c.in-Some.marks in
+    let two = looks_on g.S.Store c.args.self.now.conn c.has_list-listed.new.conn c.marks-found.new.conn (λ a. ⊤ × (true ≡ has_list a list)) (λ a. Some r ≡ option_map marks_of (message_of a list k))
+    one c.marks-found.ensures c.in_ok-marks.ensures.passed (λ a it. sym c.in-Some.is ∙ it) in
+    let carries = carried_by g.S.Store c.args.self.now.conn c.marks-found.new.conn _ (λ a. lifted a list key) (was_there c.is_some-had_one.result)
+    (λ a. record a { messages = map (λ m. if is_message list k2 m then record m { embargo = None } else m) a.messages })
+    two
+    (lift_done list key k k2 r c.is_some-had_one.result c.as_str.ensures c.as_str-2.ensures c.is_some-had_one.ensures) tt in
     stops_writing g.S.Store c.args.self.now (record { conn = c.clear_embargo-cleared.new.conn; wants = c.pass-3.new.self }) c.marks-found.new.conn c.pass-2.new.self (no_list ∷ no_message ∷ [])
-    (IsRefused (freeing c.args.list.now c.args.key.now)) c.from_residual-in_err-pass-2.result c.in_err-pass-2.field-0.0 s2 (as_many (c.in_ok-marks.ensures.counted.1 ∙ c.in_ok-pass.ensures.counted.1)) c.clear_embargo-cleared.ensures c.in_err-pass-2.ensures.passed c.in_err-pass-2.ensures.kind c.in_err-pass-2.ensures.counted.0 c.from_residual-in_err-pass-2.ensures.1
-    (λ clean kept refused. same_statement (state g.S.Store c.args.self.now.conn).now (ap (freeing c.args.list.now) c.as_str-2.ensures) refused)
+    (RowsRefuse (λ a. lifted a c.args.list.now c.args.key.now) (IsRefused (freeing c.args.list.now c.args.key.now))) c.from_residual-in_err-pass-2.result c.in_err-pass-2.field-0.0 s2 (as_many (c.in_ok-marks.ensures.counted.1 ∙ c.in_ok-pass.ensures.counted.1)) c.clear_embargo-cleared.ensures c.in_err-pass-2.ensures.passed c.in_err-pass-2.ensures.kind c.in_err-pass-2.ensures.counted.0 c.from_residual-in_err-pass-2.ensures.1
+    (λ clean kept refused. record { carried = carries clean kept; refused = same_statement (state g.S.Store c.args.self.now.conn).now (ap (freeing c.args.list.now) c.as_str-2.ensures) refused })
 
 pub returns-clause-ends : goal.returns-clause-ends
 returns-clause-ends g c =

@@ -13,6 +13,8 @@ use Rattle.archive_store.proofs.CrashLemmas.{looks, looks_on, steps_over}
 use Rattle.archive_store.proofs.PassLemmas.{passed_answer, passed_over, of_ok, of_err}
 use Rattle.archive_machine.specs.Commands.{bad_name, list_exists}
 use Rattle.archive_database.specs.Lists.{IsListRefused}
+use Rattle.archive_store.specs.Refusals.{RowsRefuse}
+use Rattle.archive_store.proofs.StopLemmas.{carried_by}
 use Rattle.archive_store.proofs.EndLemmas.{fails_asking, as_many, stood, asked, stops_asking, stops, refuses, ends_done, blame_fault}
 use Rattle.archive_store.specs.declared.faults.StoreFault.TheVariants as faults
 use Rattle.archive_store.proofs.store.Store.list_add.Goals as goal
@@ -80,7 +82,7 @@ pub returns-in_err-pass-clause-ends : goal.returns-in_err-pass-clause-ends
 returns-in_err-pass-clause-ends g c =
     let s0 = stood g.S.Store c.args.self.now.conn in
     stops_asking g.S.Store c.args.self.now (record { conn = c.has_list-listed.new.conn; wants = c.pass.new.self }) c.args.self.now.conn c.args.self.now.wants (bad_name ∷ list_exists ∷ [])
-    (IsListRefused c.args.name.now) c.from_residual.result c.in_err-pass.field-0.0 s0 (as_many refl) c.has_list-listed.ensures c.in_err-pass.ensures.passed c.in_err-pass.ensures.kind c.in_err-pass.ensures.counted.0 c.from_residual.ensures.1
+    (RowsRefuse (λ a. list_added a c.args.name.now) (IsListRefused c.args.name.now)) c.from_residual.result c.in_err-pass.field-0.0 s0 (as_many refl) c.has_list-listed.ensures c.in_err-pass.ensures.passed c.in_err-pass.ensures.kind c.in_err-pass.ensures.counted.0 c.from_residual.ensures.1
 
 pub returns-then-not-is_name-clause-ends : goal.returns-then-not-is_name-clause-ends
 returns-then-not-is_name-clause-ends g c =
@@ -97,10 +99,17 @@ pub returns-in_err-pass_fault-clause-ends : goal.returns-in_err-pass_fault-claus
 returns-in_err-pass_fault-clause-ends g c =
     let s0 = stood g.S.Store c.args.self.now.conn in
     let s1 = asked g.S.Store c.args.self.now.conn c.args.self.now.conn c.has_list-listed.new.conn s0 c.has_list-listed.ensures c.in_ok-pass.ensures.passed in
+    let name = c.args.name.now in
+    let one = looks_on g.S.Store c.args.self.now.conn c.args.self.now.conn c.has_list-listed.new.conn (λ _. ⊤) (λ a. false ≡ has_list a name)
+    (looks g.S.Store c.args.self.now.conn) c.has_list-listed.ensures c.in_ok-pass.ensures.passed (λ a it. sym c.if-branch.false ∙ it) in
+    let carries = carried_by g.S.Store c.args.self.now.conn c.has_list-listed.new.conn _ (λ a. list_added a name) done
+    (λ a. with_list a name)
+    one
+    (list_done name (sym c.is_name.ensures ∙ c.if-not-is_name.false)) tt in
     stops g.S.Store c.args.self.now (record { conn = c.add_list-added.new.conn; wants = c.pass_fault.new.self }) c.has_list-listed.new.conn c.pass.new.self (bad_name ∷ list_exists ∷ [])
-    (IsListRefused c.args.name.now) (IsListRefused c.args.name.now) c.from_residual-in_err-pass_fault.result c.in_err-pass_fault.field-0.0 s1 (as_many (c.in_ok-pass.ensures.counted.1)) c.add_list-added.ensures.lasts c.in_err-pass_fault.ensures.kind c.in_err-pass_fault.ensures.counted.0 c.from_residual-in_err-pass_fault.ensures.1
+    (IsListRefused c.args.name.now) (RowsRefuse (λ a. list_added a c.args.name.now) (IsListRefused c.args.name.now)) c.from_residual-in_err-pass_fault.result c.in_err-pass_fault.field-0.0 s1 (as_many (c.in_ok-pass.ensures.counted.1)) c.add_list-added.ensures.lasts c.in_err-pass_fault.ensures.kind c.in_err-pass_fault.ensures.counted.0 c.from_residual-in_err-pass_fault.ensures.1
     (λ clean kept free. blame_fault (state g.S.Store c.has_list-listed.new.conn) (state g.S.Store c.add_list-added.new.conn) ((IsListRefused c.args.name.now) (state g.S.Store c.has_list-listed.new.conn).now) c.add_list-added.result c.in_err-pass_fault.field-0.0 c.in_err-pass_fault.ensures.passed (c.add_list-added.ensures.caused clean kept free))
-    (λ clean kept refused. refused)
+    (λ clean kept refused. record { carried = carries clean kept; refused = refused })
 
 pub returns-clause-ends : goal.returns-clause-ends
 returns-clause-ends g c =

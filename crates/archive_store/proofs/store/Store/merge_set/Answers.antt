@@ -8,6 +8,8 @@ use Rattle.archive_store.proofs.StepEquations.{merge_done}
 use Rattle.archive_store.proofs.CrashLemmas.{looks, looks_on, steps_by}
 use Rattle.archive_store.proofs.PassLemmas.{passed_answer, passed_over, passed_written}
 use Rattle.archive_tables.specs.Statements.{changing_option, IsRefused}
+use Rattle.archive_store.specs.Refusals.{RowsRefuse}
+use Rattle.archive_store.proofs.StopLemmas.{carried_by}
 use Rattle.archive_store.proofs.EndLemmas.{fails_asking, fails_writing, as_many, stood, asked, stops_asking, stops_writing, refuses, ends_done}
 use Rattle.archive_store.specs.declared.faults.StoreFault.TheVariants as faults
 use Rattle.archive_store.proofs.store.Store.merge_set.Goals as goal
@@ -78,7 +80,7 @@ pub returns-in_err-pass-clause-ends : goal.returns-in_err-pass-clause-ends
 returns-in_err-pass-clause-ends g c =
     let s0 = stood g.S.Store c.args.self.now.conn in
     stops_asking g.S.Store c.args.self.now (record { conn = c.has_list-listed.new.conn; wants = c.pass.new.self }) c.args.self.now.conn c.args.self.now.wants (no_list ∷ [])
-    (IsRefused (changing_option (record { list = c.args.list.now; merge = c.args.merge }))) c.from_residual.result c.in_err-pass.field-0.0 s0 (as_many refl) c.has_list-listed.ensures c.in_err-pass.ensures.passed c.in_err-pass.ensures.kind c.in_err-pass.ensures.counted.0 c.from_residual.ensures.1
+    (RowsRefuse (λ a. merge_chosen a c.args.list.now c.args.merge) (IsRefused (changing_option (record { list = c.args.list.now; merge = c.args.merge })))) c.from_residual.result c.in_err-pass.field-0.0 s0 (as_many refl) c.has_list-listed.ensures c.in_err-pass.ensures.passed c.in_err-pass.ensures.kind c.in_err-pass.ensures.counted.0 c.from_residual.ensures.1
 
 pub returns-then-not-branch-clause-ends : goal.returns-then-not-branch-clause-ends
 returns-then-not-branch-clause-ends g c =
@@ -90,9 +92,17 @@ pub returns-in_err-pass-2-clause-ends : goal.returns-in_err-pass-2-clause-ends
 returns-in_err-pass-2-clause-ends g c =
     let s0 = stood g.S.Store c.args.self.now.conn in
     let s1 = asked g.S.Store c.args.self.now.conn c.args.self.now.conn c.has_list-listed.new.conn s0 c.has_list-listed.ensures c.in_ok-pass.ensures.passed in
+    let list = c.args.list.now in
+    let merge = c.args.merge in
+    let one = looks_on g.S.Store c.args.self.now.conn c.args.self.now.conn c.has_list-listed.new.conn (λ _. ⊤) (λ a. true ≡ has_list a list)
+    (looks g.S.Store c.args.self.now.conn) c.has_list-listed.ensures c.in_ok-pass.ensures.passed (λ a it. sym c.if-not-branch.false ∙ it) in
+    let carries = carried_by g.S.Store c.args.self.now.conn c.has_list-listed.new.conn _ (λ a. merge_chosen a list merge) done
+    (λ a. record a { options = map (with_merge list merge) a.options })
+    one
+    (merge_done list merge) tt in
     stops_writing g.S.Store c.args.self.now (record { conn = c.set_option-set.new.conn; wants = c.pass-2.new.self }) c.has_list-listed.new.conn c.pass.new.self (no_list ∷ [])
-    (IsRefused (changing_option (record { list = c.args.list.now; merge = c.args.merge }))) c.from_residual-in_err-pass-2.result c.in_err-pass-2.field-0.0 s1 (as_many (c.in_ok-pass.ensures.counted.1)) c.set_option-set.ensures c.in_err-pass-2.ensures.passed c.in_err-pass-2.ensures.kind c.in_err-pass-2.ensures.counted.0 c.from_residual-in_err-pass-2.ensures.1
-    (λ clean kept it. it)
+    (RowsRefuse (λ a. merge_chosen a c.args.list.now c.args.merge) (IsRefused (changing_option (record { list = c.args.list.now; merge = c.args.merge })))) c.from_residual-in_err-pass-2.result c.in_err-pass-2.field-0.0 s1 (as_many (c.in_ok-pass.ensures.counted.1)) c.set_option-set.ensures c.in_err-pass-2.ensures.passed c.in_err-pass-2.ensures.kind c.in_err-pass-2.ensures.counted.0 c.from_residual-in_err-pass-2.ensures.1
+    (λ clean kept it. record { carried = carries clean kept; refused = it })
 
 pub returns-clause-ends : goal.returns-clause-ends
 returns-clause-ends g c =

@@ -14,6 +14,8 @@ use Rattle.sqlite.specs.Held.{state}
 use Rattle.archive_tables.specs.Statements.{removing_grant, IsRefused}
 use Rattle.archive_store.specs.declared.faults.StoreFault.TheVariants as faults
 use Rattle.archive_machine.specs.Commands.{no_person}
+use Rattle.archive_store.specs.Refusals.{RowsRefuse}
+use Rattle.archive_store.proofs.StopLemmas.{carried_by}
 use Rattle.archive_store.proofs.EndLemmas.{fails_asking, fails_writing, as_many, stood, asked, stops_asking, stops_writing, refuses, ends_done, same_statement}
 use Rattle.archive_store.proofs.store.Store.revoke.Goals as goal
 
@@ -143,14 +145,14 @@ pub returns-in_err-pass-clause-ends : goal.returns-in_err-pass-clause-ends
 returns-in_err-pass-clause-ends g c =
     let s0 = stood g.S.Store c.args.self.now.conn in
     stops_asking g.S.Store c.args.self.now (record { conn = c.has_person-known.new.conn; wants = c.pass.new.self }) c.args.self.now.conn c.args.self.now.wants (no_person ∷ no_list ∷ [])
-    (IsRefused (removing_grant c.args.person.now c.args.list.now (kind_rank c.args.kind))) c.from_residual.result c.in_err-pass.field-0.0 s0 (as_many refl) c.has_person-known.ensures c.in_err-pass.ensures.passed c.in_err-pass.ensures.kind c.in_err-pass.ensures.counted.0 c.from_residual.ensures.1
+    (RowsRefuse (λ a. revoked a c.args.person.now c.args.list.now (kind_rank c.args.kind)) (IsRefused (removing_grant c.args.person.now c.args.list.now (kind_rank c.args.kind)))) c.from_residual.result c.in_err-pass.field-0.0 s0 (as_many refl) c.has_person-known.ensures c.in_err-pass.ensures.passed c.in_err-pass.ensures.kind c.in_err-pass.ensures.counted.0 c.from_residual.ensures.1
 
 pub returns-in_err-pass-2-clause-ends : goal.returns-in_err-pass-2-clause-ends
 returns-in_err-pass-2-clause-ends g c =
     let s0 = stood g.S.Store c.args.self.now.conn in
     let s1 = asked g.S.Store c.args.self.now.conn c.args.self.now.conn c.has_person-known.new.conn s0 c.has_person-known.ensures c.in_ok-pass.ensures.passed in
     stops_asking g.S.Store c.args.self.now (record { conn = c.has_list-listed.new.conn; wants = c.pass-2.new.self }) c.has_person-known.new.conn c.pass.new.self (no_person ∷ no_list ∷ [])
-    (IsRefused (removing_grant c.args.person.now c.args.list.now (kind_rank c.args.kind))) c.from_residual-in_err-pass-2.result c.in_err-pass-2.field-0.0 s1 (as_many (c.in_ok-pass.ensures.counted.1)) c.has_list-listed.ensures c.in_err-pass-2.ensures.passed c.in_err-pass-2.ensures.kind c.in_err-pass-2.ensures.counted.0 c.from_residual-in_err-pass-2.ensures.1
+    (RowsRefuse (λ a. revoked a c.args.person.now c.args.list.now (kind_rank c.args.kind)) (IsRefused (removing_grant c.args.person.now c.args.list.now (kind_rank c.args.kind)))) c.from_residual-in_err-pass-2.result c.in_err-pass-2.field-0.0 s1 (as_many (c.in_ok-pass.ensures.counted.1)) c.has_list-listed.ensures c.in_err-pass-2.ensures.passed c.in_err-pass-2.ensures.kind c.in_err-pass-2.ensures.counted.0 c.from_residual-in_err-pass-2.ensures.1
 
 pub returns-in_err-was_there-clause-ends : goal.returns-in_err-was_there-clause-ends
 returns-in_err-was_there-clause-ends g c =
@@ -158,7 +160,7 @@ returns-in_err-was_there-clause-ends g c =
     let s1 = asked g.S.Store c.args.self.now.conn c.args.self.now.conn c.has_person-known.new.conn s0 c.has_person-known.ensures c.in_ok-pass.ensures.passed in
     let s2 = asked g.S.Store c.args.self.now.conn c.has_person-known.new.conn c.has_list-listed.new.conn s1 c.has_list-listed.ensures c.in_ok-pass-2.ensures.passed in
     stops_asking g.S.Store c.args.self.now (record { conn = c.has_grant-had.new.conn; wants = c.pass-3.new.self }) c.has_list-listed.new.conn c.pass-2.new.self (no_person ∷ no_list ∷ [])
-    (IsRefused (removing_grant c.args.person.now c.args.list.now (kind_rank c.args.kind))) c.from_residual-in_err-was_there.result c.in_err-was_there.field-0.0 s2 (as_many (c.in_ok-pass-2.ensures.counted.1 ∙ c.in_ok-pass.ensures.counted.1)) c.has_grant-had.ensures c.in_err-was_there.ensures.passed c.in_err-was_there.ensures.kind c.in_err-was_there.ensures.counted.0 c.from_residual-in_err-was_there.ensures.1
+    (RowsRefuse (λ a. revoked a c.args.person.now c.args.list.now (kind_rank c.args.kind)) (IsRefused (removing_grant c.args.person.now c.args.list.now (kind_rank c.args.kind)))) c.from_residual-in_err-was_there.result c.in_err-was_there.field-0.0 s2 (as_many (c.in_ok-pass-2.ensures.counted.1 ∙ c.in_ok-pass.ensures.counted.1)) c.has_grant-had.ensures c.in_err-was_there.ensures.passed c.in_err-was_there.ensures.kind c.in_err-was_there.ensures.counted.0 c.from_residual-in_err-was_there.ensures.1
 
 pub returns-then-not-branch-clause-ends : goal.returns-then-not-branch-clause-ends
 returns-then-not-branch-clause-ends g c =
@@ -179,9 +181,22 @@ returns-in_err-pass-3-clause-ends g c =
     let s1 = asked g.S.Store c.args.self.now.conn c.args.self.now.conn c.has_person-known.new.conn s0 c.has_person-known.ensures c.in_ok-pass.ensures.passed in
     let s2 = asked g.S.Store c.args.self.now.conn c.has_person-known.new.conn c.has_list-listed.new.conn s1 c.has_list-listed.ensures c.in_ok-pass-2.ensures.passed in
     let s3 = asked g.S.Store c.args.self.now.conn c.has_list-listed.new.conn c.has_grant-had.new.conn s2 c.has_grant-had.ensures c.in_ok-was_there.ensures.passed in
+    let person = c.args.person.now in
+    let list = c.args.list.now in
+    let had = c.in_ok-was_there.was_there in
+    let one = looks_on g.S.Store c.args.self.now.conn c.args.self.now.conn c.has_person-known.new.conn (λ _. ⊤) (λ a. true ≡ has_person a person)
+    (looks g.S.Store c.args.self.now.conn) c.has_person-known.ensures c.in_ok-pass.ensures.passed (λ a it. sym c.if-not-branch.false ∙ it) in
+    let two = looks_on g.S.Store c.args.self.now.conn c.has_person-known.new.conn c.has_list-listed.new.conn (λ a. ⊤ × (true ≡ has_person a person)) (λ a. true ≡ has_list a list)
+    one c.has_list-listed.ensures c.in_ok-pass-2.ensures.passed (λ a it. sym c.if-not-branch-2.false ∙ it) in
+    let three = looks_on g.S.Store c.args.self.now.conn c.has_list-listed.new.conn c.has_grant-had.new.conn (λ a. (⊤ × (true ≡ has_person a person)) × (true ≡ has_list a list)) (λ a. had ≡ has_grant a person list (to_z w64 (of_z w64 c.rank-rank.result)))
+    two c.has_grant-had.ensures c.in_ok-was_there.ensures.passed (λ a it. it) in
+    let carries = carried_by g.S.Store c.args.self.now.conn c.has_grant-had.new.conn _ (λ a. revoked a person list (kind_rank c.args.kind)) (was_there had)
+    (λ a. record a { grants = filter (λ g. not (is_grant person list (to_z w64 (of_z w64 c.rank-rank.result)) g)) a.grants })
+    three
+    (revoke_done person list (kind_rank c.args.kind) (to_z w64 (of_z w64 c.rank-rank.result)) had (to_z-of_z w64 c.rank-rank.result (record { sfits = c.rank-rank.type_inv }) ∙ c.rank-rank.ensures)) tt in
     stops_writing g.S.Store c.args.self.now (record { conn = c.remove_grant-removed.new.conn; wants = c.pass-4.new.self }) c.has_grant-had.new.conn c.pass-3.new.self (no_person ∷ no_list ∷ [])
-    (IsRefused (removing_grant c.args.person.now c.args.list.now (kind_rank c.args.kind))) c.from_residual-in_err-pass-3.result c.in_err-pass-3.field-0.0 s3 (as_many (c.in_ok-was_there.ensures.counted.1 ∙ c.in_ok-pass-2.ensures.counted.1 ∙ c.in_ok-pass.ensures.counted.1)) c.remove_grant-removed.ensures c.in_err-pass-3.ensures.passed c.in_err-pass-3.ensures.kind c.in_err-pass-3.ensures.counted.0 c.from_residual-in_err-pass-3.ensures.1
-    (λ clean kept refused. same_statement (state g.S.Store c.args.self.now.conn).now (ap (removing_grant c.args.person.now c.args.list.now) (to_z-of_z w64 c.rank-rank.result (record { sfits = c.rank-rank.type_inv }) ∙ c.rank-rank.ensures)) refused)
+    (RowsRefuse (λ a. revoked a c.args.person.now c.args.list.now (kind_rank c.args.kind)) (IsRefused (removing_grant c.args.person.now c.args.list.now (kind_rank c.args.kind)))) c.from_residual-in_err-pass-3.result c.in_err-pass-3.field-0.0 s3 (as_many (c.in_ok-was_there.ensures.counted.1 ∙ c.in_ok-pass-2.ensures.counted.1 ∙ c.in_ok-pass.ensures.counted.1)) c.remove_grant-removed.ensures c.in_err-pass-3.ensures.passed c.in_err-pass-3.ensures.kind c.in_err-pass-3.ensures.counted.0 c.from_residual-in_err-pass-3.ensures.1
+    (λ clean kept refused. record { carried = carries clean kept; refused = same_statement (state g.S.Store c.args.self.now.conn).now (ap (removing_grant c.args.person.now c.args.list.now) (to_z-of_z w64 c.rank-rank.result (record { sfits = c.rank-rank.type_inv }) ∙ c.rank-rank.ensures)) refused })
 
 pub returns-clause-ends : goal.returns-clause-ends
 returns-clause-ends g c =

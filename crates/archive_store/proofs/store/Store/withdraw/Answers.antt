@@ -15,6 +15,8 @@ use Rattle.sqlite.specs.Held.{state}
 use Rattle.archive_tables.specs.Statements.{withdrawing, IsRefused}
 use Rattle.archive_store.specs.declared.faults.StoreFault.TheVariants as faults
 use Rattle.archive_machine.specs.Commands.{no_list, no_message, already_withdrawn}
+use Rattle.archive_store.specs.Refusals.{RowsRefuse}
+use Rattle.archive_store.proofs.StopLemmas.{carried_by}
 use Rattle.archive_store.proofs.EndLemmas.{fails_asking, fails_writing, as_many, stood, asked, stops_asking, stops_writing, refuses, ends_done, same_statement}
 use Rattle.archive_store.proofs.store.Store.withdraw.Goals as goal
 
@@ -133,14 +135,14 @@ pub returns-in_err-pass-clause-ends : goal.returns-in_err-pass-clause-ends
 returns-in_err-pass-clause-ends g c =
     let s0 = stood g.S.Store c.args.self.now.conn in
     stops_asking g.S.Store c.args.self.now (record { conn = c.has_list-listed.new.conn; wants = c.pass.new.self }) c.args.self.now.conn c.args.self.now.wants (no_list ∷ no_message ∷ already_withdrawn ∷ [])
-    (IsRefused (withdrawing c.args.list.now c.args.key.now (party_number c.args.by))) c.from_residual.result c.in_err-pass.field-0.0 s0 (as_many refl) c.has_list-listed.ensures c.in_err-pass.ensures.passed c.in_err-pass.ensures.kind c.in_err-pass.ensures.counted.0 c.from_residual.ensures.1
+    (RowsRefuse (λ a. withdrawal a c.args.list.now c.args.key.now (party_number c.args.by)) (IsRefused (withdrawing c.args.list.now c.args.key.now (party_number c.args.by)))) c.from_residual.result c.in_err-pass.field-0.0 s0 (as_many refl) c.has_list-listed.ensures c.in_err-pass.ensures.passed c.in_err-pass.ensures.kind c.in_err-pass.ensures.counted.0 c.from_residual.ensures.1
 
 pub returns-in_err-marks-clause-ends : goal.returns-in_err-marks-clause-ends
 returns-in_err-marks-clause-ends g c =
     let s0 = stood g.S.Store c.args.self.now.conn in
     let s1 = asked g.S.Store c.args.self.now.conn c.args.self.now.conn c.has_list-listed.new.conn s0 c.has_list-listed.ensures c.in_ok-pass.ensures.passed in
     stops_asking g.S.Store c.args.self.now (record { conn = c.marks-found.new.conn; wants = c.pass-2.new.self }) c.has_list-listed.new.conn c.pass.new.self (no_list ∷ no_message ∷ already_withdrawn ∷ [])
-    (IsRefused (withdrawing c.args.list.now c.args.key.now (party_number c.args.by))) c.from_residual-in_err-marks.result c.in_err-marks.field-0.0 s1 (as_many (c.in_ok-pass.ensures.counted.1)) c.marks-found.ensures c.in_err-marks.ensures.passed c.in_err-marks.ensures.kind c.in_err-marks.ensures.counted.0 c.from_residual-in_err-marks.ensures.1
+    (RowsRefuse (λ a. withdrawal a c.args.list.now c.args.key.now (party_number c.args.by)) (IsRefused (withdrawing c.args.list.now c.args.key.now (party_number c.args.by)))) c.from_residual-in_err-marks.result c.in_err-marks.field-0.0 s1 (as_many (c.in_ok-pass.ensures.counted.1)) c.marks-found.ensures c.in_err-marks.ensures.passed c.in_err-marks.ensures.kind c.in_err-marks.ensures.counted.0 c.from_residual-in_err-marks.ensures.1
 
 pub returns-then-not-branch-clause-ends : goal.returns-then-not-branch-clause-ends
 returns-then-not-branch-clause-ends g c =
@@ -167,9 +169,22 @@ returns-in_err-pass-2-clause-ends g c =
     let s0 = stood g.S.Store c.args.self.now.conn in
     let s1 = asked g.S.Store c.args.self.now.conn c.args.self.now.conn c.has_list-listed.new.conn s0 c.has_list-listed.ensures c.in_ok-pass.ensures.passed in
     let s2 = asked g.S.Store c.args.self.now.conn c.has_list-listed.new.conn c.marks-found.new.conn s1 c.marks-found.ensures c.in_ok-marks.ensures.passed in
+    let list = c.args.list.now in
+    let key = c.args.key.now in
+    let k = c.as_str.result.now in
+    let k2 = c.as_str-2.result.now in
+    let one = looks_on g.S.Store c.args.self.now.conn c.args.self.now.conn c.has_list-listed.new.conn (λ _. ⊤) (λ a. true ≡ has_list a list)
+    (looks g.S.Store c.args.self.now.conn) c.has_list-listed.ensures c.in_ok-pass.ensures.passed (λ a it. sym c.if-not-branch.false ∙ it) in
+    let r = c.in-Some.marks in
+    let two = looks_on g.S.Store c.args.self.now.conn c.has_list-listed.new.conn c.marks-found.new.conn (λ a. ⊤ × (true ≡ has_list a list)) (λ a. Some r ≡ option_map marks_of (message_of a list k))
+    one c.marks-found.ensures c.in_ok-marks.ensures.passed (λ a it. sym c.in-Some.is ∙ it) in
+    let carries = carried_by g.S.Store c.args.self.now.conn c.marks-found.new.conn _ (λ a. withdrawal a list key (party_number c.args.by)) done
+    (λ a. record a { messages = map (λ m. if is_message list k2 m then record m { withdrawn = (to_z w64 (of_z w64 c.number.result)) } else m) a.messages })
+    two
+    (withdraw_done list key k k2 (party_number c.args.by) (to_z w64 (of_z w64 c.number.result)) r c.as_str.ensures c.as_str-2.ensures (to_z-of_z w64 c.number.result (record { sfits = c.number.type_inv }) ∙ c.number.ensures) c.if-is_withdrawn.ensures) tt in
     stops_writing g.S.Store c.args.self.now (record { conn = c.set_withdrawn-set.new.conn; wants = c.pass-3.new.self }) c.marks-found.new.conn c.pass-2.new.self (no_list ∷ no_message ∷ already_withdrawn ∷ [])
-    (IsRefused (withdrawing c.args.list.now c.args.key.now (party_number c.args.by))) c.from_residual-in_err-pass-2.result c.in_err-pass-2.field-0.0 s2 (as_many (c.in_ok-marks.ensures.counted.1 ∙ c.in_ok-pass.ensures.counted.1)) c.set_withdrawn-set.ensures c.in_err-pass-2.ensures.passed c.in_err-pass-2.ensures.kind c.in_err-pass-2.ensures.counted.0 c.from_residual-in_err-pass-2.ensures.1
-    (λ clean kept refused. same_statement (state g.S.Store c.args.self.now.conn).now (ap (λ k. withdrawing c.args.list.now k (to_z w64 (of_z w64 c.number.result))) c.as_str-2.ensures ∙ ap (withdrawing c.args.list.now c.args.key.now) (to_z-of_z w64 c.number.result (record { sfits = c.number.type_inv }) ∙ c.number.ensures)) refused)
+    (RowsRefuse (λ a. withdrawal a c.args.list.now c.args.key.now (party_number c.args.by)) (IsRefused (withdrawing c.args.list.now c.args.key.now (party_number c.args.by)))) c.from_residual-in_err-pass-2.result c.in_err-pass-2.field-0.0 s2 (as_many (c.in_ok-marks.ensures.counted.1 ∙ c.in_ok-pass.ensures.counted.1)) c.set_withdrawn-set.ensures c.in_err-pass-2.ensures.passed c.in_err-pass-2.ensures.kind c.in_err-pass-2.ensures.counted.0 c.from_residual-in_err-pass-2.ensures.1
+    (λ clean kept refused. record { carried = carries clean kept; refused = same_statement (state g.S.Store c.args.self.now.conn).now (ap (λ k. withdrawing c.args.list.now k (to_z w64 (of_z w64 c.number.result))) c.as_str-2.ensures ∙ ap (withdrawing c.args.list.now c.args.key.now) (to_z-of_z w64 c.number.result (record { sfits = c.number.type_inv }) ∙ c.number.ensures)) refused })
 
 pub returns-clause-ends : goal.returns-clause-ends
 returns-clause-ends g c =

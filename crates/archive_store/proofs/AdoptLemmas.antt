@@ -1,0 +1,58 @@
+-- Why a connection was not taken over.
+use Rattle.std.proofs.Common.{◌≡◌, ◌⊎◌, inl, inr, ℕ, zero, suc, Result, Err, sym, ap, subst, ◌∙◌, arith}
+use Rattle.sqlite_trees.specs.declared.memory.MemStore.{MemStore}
+use Rattle.sqlite_disk.specs.Disk.{MoreFaults}
+use Rattle.sqlite.specs.Schema.{Schema}
+use Rattle.sqlite.specs.Effect.{Database}
+use Rattle.sqlite.specs.Held.{Held, IsNew, state}
+use Rattle.sqlite.specs.Steps.{IsEmpty, over_memory}
+use Rattle.sqlite.specs.State.{State}
+use Rattle.sqlite.proofs.Callers.{memory_is_clean}
+use Rattle.archive_tables.specs.Schema.{no_schema, schema_of}
+use Rattle.archive_tables.specs.Tables.{IsKnown}
+use Rattle.archive_tables.specs.Making.{IsIdle}
+use Rattle.archive_database.specs.Adopting.{HasVersion, IsUnderstood, IsOlder, IsUnmade, IsNotTaken}
+use Rattle.archive_store.specs.Adopting.{IsLeft}
+use Rattle.archive_store.specs.declared.adopting.AdoptStop.{AdoptStop}
+use Rattle.archive_store.specs.declared.faults.StoreFault.TheVariants as faults
+use Rattle.archive_database.specs.Faults.{FailsByDiskOr}
+use Rattle.archive_database.specs.declared.faults.Fault.{Fault}
+use Rattle.archive_database.specs.declared.faults.Fault.TheVariants as inner
+
+pub refused_by : {A : Type 0} (old new : State) (done : Result A Fault) (fault : Fault) (Refused : Type 0) → done ≡ Err fault → FailsByDiskOr old new done Refused → fault ≡ inner.Database
+    → MoreFaults old.faults new.faults ⊎ Refused
+refused_by old new done fault Refused is fails it = subst (λ r. FailsByDiskOr old new r Refused) is fails it
+
+pub has_version : {schema : Schema} → ¬ (schema ≡ no_schema) → IsUnderstood schema → HasVersion schema
+has_version some (inl empty) = absurd (some empty)
+has_version some (inr it) = it
+
+-- ---- in memory
+
+never_more : MoreFaults 0 0 → ⊥
+never_more more = absurd (omega (arith, more))
+
+is_some : (number : ℕ) → IsKnown number → schema_of number ≡ no_schema → ⊥
+is_some zero known is = absurd (omega (arith, known.least))
+is_some (suc zero) known is = absurd (let tables = ap (λ (s : Schema). s.tables) is in cc)
+is_some (suc (suc zero)) known is = absurd (let tables = ap (λ (s : Schema). s.tables) is in cc)
+is_some (suc (suc (suc zero))) known is = absurd (let tables = ap (λ (s : Schema). s.tables) is in cc)
+is_some (suc (suc (suc (suc n)))) known is = absurd (omega (arith, known.most))
+
+is_known : (number : ℕ) → IsOlder number → IsKnown number
+is_known number older = record { least = older.least; most = omega (arith, older.most) }
+
+only_unmade : (db : Database) → db.schema ≡ no_schema → IsNotTaken db → IsUnmade db
+only_unmade db empty (inl unmade) = unmade
+only_unmade db empty (inr (inl (number, known, schema, other))) = absurd (is_some number known (sym schema ∙ empty))
+only_unmade db empty (inr (inr (number, older, schema, refused))) = absurd (is_some number (is_known number older) (sym schema ∙ empty))
+
+pub memory_refuses : (connection : Held MemStore) (stop : AdoptStop MemStore) → IsEmpty (state over_memory connection) → IsNew connection → IsLeft over_memory connection stop
+    → stop.fault ≡ faults.Store → (db : Database) × IsUnmade db
+memory_refuses connection stop empty new left store =
+    let s = state over_memory connection in
+    let idle : IsIdle s = record { is_open = empty.0.is_open; autocommit = empty.0.autocommit; settled = sym empty.0.clean } in
+    elim (left.caused (memory_is_clean stop.connection) idle (inl empty.2) new.unlimited store) [
+      | inl more ↦ absurd (never_more more)
+      | inr it ↦ (s.now, only_unmade s.now empty.2 it)
+    ]

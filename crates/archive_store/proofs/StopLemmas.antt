@@ -1,0 +1,113 @@
+-- Messages that are added one after the other: what they make of the rows, and which of them the rows refuse.
+use Rattle.std.proofs.Common.{◌≡◌, ◌≤◌, ◌<◌, ◌⊎◌, ◌∙◌, ◌+◌, ℕ, suc, inl, List, [], ◌∷◌, ◌++◌, length, get_or, take, drop, None, Result, Ok, Err, IfErr, refl, sym, ap, subst, arith, take-suc, drop-cons, take-append-drop, length-take-le}
+use Rattle.std.specs.Prelude.{IsErrAnd, OnOk, MatchResult}
+use Rattle.sqlite_disk.specs.Disk.{MoreFaults}
+use Rattle.sqlite.specs.declared.error.Error.{Error}
+use Rattle.sqlite.specs.Effect.{Database}
+use Rattle.sqlite.specs.Store.{Ghosts}
+use Rattle.sqlite.specs.Held.{Held, state}
+use Rattle.sqlite.specs.State.{State, HasCleanDisk}
+use Rattle.mbox_items.specs.Division.{Item}
+use Rattle.archive_machine.specs.Records.{Archive}
+use Rattle.archive_machine.specs.Commands.{Reply}
+use Rattle.archive_machine.specs.Machine.{Outcome, added_within, message_limit}
+use Rattle.archive_tables.specs.Tables.{IsKept, archive_in, archive_of}
+use Rattle.archive_tables.specs.Calls.{Asks, AsksAnywhere, IsCaused}
+use Rattle.archive_store.specs.Replies.{fault_of}
+use Rattle.archive_store.specs.Refusals.{IsCarried, IsMessageStopped, MakeRows, StopsAmong, WritesFor}
+use Rattle.archive_store.specs.declared.faults.StoreFault.{StoreFault}
+use Rattle.archive_store.specs.declared.faults.StoreFault.TheVariants as faults
+use Rattle.archive_store.proofs.CauseLemmas.{by_cause}
+use Rattle.archive_store.proofs.CrashLemmas.{Looks}
+
+-- ---- a question
+
+-- outside a transaction
+pub outside : {S A : Type 0} {g : Ghosts S} {old new : Held S} {result : Result A Error} {Says : Archive → A → Type 0} → AsksAnywhere g old new result Says → Asks g old new result Says ⊥
+outside {S} {A} {g} {old} {new} {result} {Says} it = record {
+  over = it.over;
+  caused = λ clean kept free. either result (it.caused clean None kept free);
+  same = it.same;
+  quiet = it.quiet;
+  ends = it.ends;
+}
+  where
+    either : (r : Result A Error) → IfErr r (λ e. IsCaused (state g old) (state g new) e) → IfErr r (λ e. IsCaused (state g old) (state g new) e ⊎ ⊥)
+    either (Ok a) why = tt
+    either (Err e) why = inl why
+
+pub blame_disk : {A : Type 0} (old new : State) (told : Result A Error) (fault : StoreFault) → IsErrAnd told (λ e. fault ≡ fault_of e) → IfErr told (λ e. IsCaused old new e)
+    → fault ≡ faults.Store → MoreFaults old.faults new.faults
+blame_disk old new (Ok a) fault is why it = absurd is
+blame_disk old new (Err e) fault is why it = by_cause old new e why (sym is ∙ it)
+
+-- the exit of a `?`
+pub stopped_by : {A : Type 0} (Y : A → Type 0) (r : Result A StoreFault) (f : StoreFault) (X : Type 0) → IsErrAnd r (λ h. h ≡ f) → (f ≡ faults.Store → X)
+    → MatchResult r Y (λ h. h ≡ faults.Store → X)
+stopped_by Y (Ok a) f X is why = absurd is
+stopped_by Y (Err h) f X is why = λ it. why (sym is ∙ it)
+
+-- what the machine answers is known
+pub carried_as : (o p : Outcome) → o ≡ p → IsCarried p.1 → IsCarried o.1
+carried_as o p is so = subst (λ (r : Reply). IsCarried r) (sym (ap (λ (x : Outcome). x.1) is)) so
+
+-- what the machine answers is known of what was found of the tables
+pub carried_by : {S : Type 0} (g : Ghosts S) (old mid : Held S) (P : Archive → Type 0) (step : Archive → Outcome) (reply : Reply) (change : Archive → Archive) → Looks g old mid P
+    → ((a : Archive) → P a → step a ≡ (change a, reply)) → IsCarried reply → HasCleanDisk (state g mid) → IsKept (state g old) → IsCarried (step (archive_in (state g old).now.trees)).1
+carried_by g old mid P step reply change looks is so clean kept =
+    carried_as (step (archive_of (state g old))) (change (archive_of (state g old)), reply) (is (archive_of (state g old)) (looks.learnt clean kept).fact) so
+
+-- who is answered behind a question sees what was seen before it
+pub same_since : {A E : Type 0} (old mid new : State) (r : Result A E) → mid.now ≡ old.now → OnOk r (new.now ≡ mid.now) → OnOk r (new.now ≡ old.now)
+same_since old mid new (Ok a) before is = is ∙ before
+same_since old mid new (Err e) before is = tt
+
+-- ---- one item more
+
+rows_more : (list : List ℕ) (items : List Item) (item : Item) (first mid after : Database) → MakeRows list items first mid
+    → WritesFor list item (added_within message_limit (archive_in mid.trees) list item).1 mid after → MakeRows list (items ++ item ∷ []) first after
+unfolding MakeRows
+rows_more list [] item first mid after made more = (after, subst (λ (db : Database). WritesFor list item (added_within message_limit (archive_in db.trees) list item).1 db after) made more, refl)
+rows_more list (x ∷ xs) item first mid after made more = (made.0, made.1, rows_more list xs item made.0 mid after made.2 more)
+
+pub no_rows : (list : List ℕ) (db : Database) → MakeRows list [] db db
+unfolding MakeRows
+no_rows list db = refl
+
+module _ (list : List ℕ) (items : List Item) (i : ℕ) (item : Item) (within : i < length items) (is : item ≡ get_or items i item) (first mid : Database) (made : MakeRows list (take i items) first mid) where
+  one_more : take (i + 1) items ≡ take i items ++ item ∷ []
+  one_more =
+      let on : i + 1 ≡ suc i = omega arith in
+      ap (λ n. take n items) on ∙ take-suc items i item within ∙ ap (λ x. take i items ++ x ∷ []) (sym is)
+
+  -- the rows are those that the machine's answer says
+  pub rows_next : (reply : Reply) (a after : Archive) (new : Database) → a ≡ archive_in mid.trees → ((after, reply) ≡ added_within message_limit a list item) → WritesFor list item reply mid new
+      → MakeRows list (take (i + 1) items) first new
+  rows_next reply a after new same answer writes =
+      let told = ap (λ (o : Outcome). o.1) answer ∙ ap (λ x. (added_within message_limit x list item).1) same in
+      subst (λ xs. MakeRows list xs first new) (sym one_more) (rows_more list (take i items) item first mid new made (subst (λ r. WritesFor list item r mid new) told writes))
+
+  pub stops_there : (done : ℕ) → done ≤ i → IsMessageStopped list item mid → StopsAmong list items done first
+  stops_there done least stopped = record {
+    before = take i items;
+    item = item;
+    rest = drop (suc i) items;
+    are = ap (λ x. take i items ++ x ∷ drop (suc i) items) is ∙ ap (λ xs. take i items ++ xs) (sym (drop-cons items i item within)) ∙ take-append-drop i items;
+    behind = (let many = length-take-le i items (omega (arith, within)) in omega (arith, many, least));
+    rows = mid;
+    made = made;
+    stopped = stopped;
+  }
+
+-- fewer are done
+pub stops_before : (list : List ℕ) (items : List Item) (done less : ℕ) (db : Database) → less ≤ done → StopsAmong list items done db → StopsAmong list items less db
+stops_before list items done less db fewer it = record {
+  before = it.before;
+  item = it.item;
+  rest = it.rest;
+  are = it.are;
+  behind = (let many = it.behind in omega (arith, many, fewer));
+  rows = it.rows;
+  made = it.made;
+  stopped = it.stopped;
+}
