@@ -1,4 +1,5 @@
 pub mod CauseLemmas
+pub mod CrashLemmas
 pub mod WantLemmas
 pub mod CallLemmas
 pub mod ImportLemmas
@@ -13,3 +14,4 @@ pub mod WalkExports
 pub mod ReadableLemmas
 pub mod UnbrokenLemmas
 pub mod PassLemmas
+pub mod RepeatLemmas

@@ -3,9 +3,12 @@ ghost use Rattle.std.specs.Prelude.{◌≡◌, ◌∷◌, [], true, IfOk, IfErr}
 ghost use Rattle.mbox_core.specs.Division.{Divides};
 ghost use Rattle.archive_machine.specs.Commands.{no_list};
 ghost use Rattle.archive_machine.specs.Questions.{has_list, list_refusal};
+ghost use Rattle.archive_tables.specs.Crashes.{AddsNothing};
+ghost use Rattle.archive_store.specs.Held.{held_of};
 ghost use Rattle.archive_store.specs.Replies.{refusal};
 ghost use Rattle.archive_store.specs.Batches.{tally_of as store_tally};
 ghost use Rattle.archive_store.specs.Told.{AsksIn, Counts as CountsWants, EndsAsk, HoldsTables, WasOpen};
+ghost use Rattle.archive_desk.specs.Crashes.{CrashesHeld, HasAddedAtLeast, HasImportedAtLeast};
 ghost use Rattle.archive_desk.specs.Holding.{CallsHeld};
 ghost use Rattle.archive_desk.specs.Importing.{HasAdded, IsBrokenAdd, IsBrokenImport, IsImportWant, IsUncut};
 ghost use Rattle.archive_desk.specs.Importing.{IsImported, IsRefusedAdd, IsRefusedImport, stop_reason, tally_of};
@@ -30,7 +33,7 @@ pub struct Report {
 }
 
 /// Where an import stopped: the first `done` messages of the file were taken in, known or too large, and no other was
-/// taken in.
+/// taken in; after E14 and E15 that is so if the connection is still open.
 #[derive(Clone, Copy, Debug, PartialEq, Eq, Drop)]
 pub struct ImportStop {
     /// How many messages of the file were seen to.
@@ -63,7 +66,8 @@ impl Error for ImportFault {}
 /// changes nothing, one that is too large is passed over. The list is looked up before the file is cut: E4 where there
 /// is no such list, M1 where the file's first line that is not empty is no separator line, E12 where the list holds
 /// 50,000 messages and the next is not on it, E14 where no memory is left, E15 where the database fails. After a stop the
-/// same file can be imported again.
+/// same file can be imported again. Wherever the machine stops, an open finds so many first messages of the file, at least
+/// those that were told, and no other: what is repeated then is known.
 pub fn import<S: Alter>(
     store: &mut Store<S>,
     alloc: Global,
@@ -74,6 +78,8 @@ pub fn import<S: Alter>(
         (λ a b report. IsImported list.now mbox.now a b report)
         (λ a b why. IsRefusedImport list.now mbox.now a b why.0 why.1)
         (λ a b stop. IsBrokenImport list.now mbox.now a b stop.done stop.fault) }
+    ensures crash { CrashesHeld S.Store store.old store.new result
+        (λ a stop b. HasImportedAtLeast list.now mbox.now stop.done a b) }
     ensures counted { CountsWants (λ stop. IsImportWant stop.fault) store.old store.new result }
 {
     if let Err(fault) = find_list(store, list) {
@@ -109,6 +115,7 @@ pub fn find_list<S: Alter>(store: &mut Store<S>, list: &str) -> Result<(), Store
     ensures found { AsksIn S.Store (HoldsTables S.Store) store.old store.new refusal result
         (λ a. list_refusal a list.now)
         (λ a _. has_list a list.now ≡ true) }
+    ensures quiet { AddsNothing S.Store (held_of store.old) (held_of store.new) }
     ensures was_open { WasOpen S.Store store.old store.new refusal result }
     ensures ends { EndsAsk S.Store store.old store.new result (no_list ∷ []) }
 {
@@ -145,6 +152,8 @@ fn add_items<S: Alter>(
         (λ a b report. HasAdded list.now items.entry.now a b report)
         (λ a b why. IsRefusedAdd list.now items.entry.now a b why.0 why.1)
         (λ a b stop. IsBrokenAdd list.now items.entry.now a b stop.done stop.fault) }
+    ensures crash { CrashesHeld S.Store store.old store.new result
+        (λ a stop b. HasAddedAtLeast list.now items.entry.now stop.done a b) }
     ensures counted { CountsWants (λ stop. IsImportWant stop.fault) store.old store.new result }
 {
     match store.add_all(alloc, list, items) {

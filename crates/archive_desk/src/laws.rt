@@ -1,5 +1,5 @@
 //! Laws of the desk: each contract is a law over definitions, or over what it is given, and no call does anything.
-ghost use Rattle.std.specs.Prelude.{ℕ, List, Result, map};
+ghost use Rattle.std.specs.Prelude.{◌≡◌, ℕ, List, Result, map};
 ghost use Rattle.std.specs.List.{All};
 ghost use Rattle.sqlite.specs.Steps.{over_memory};
 ghost use Rattle.sqlite_trees.specs.declared.memory.MemStore.{MemStore};
@@ -14,17 +14,20 @@ ghost use Rattle.archive_store.specs.Running.{command_of};
 ghost use Rattle.archive_store.specs.declared.faults.StoreFault.{StoreFault};
 ghost use Rattle.archive_store.specs.declared.store.Store.{Store};
 ghost use Rattle.archive_results.specs.Access.{Ask};
+ghost use Rattle.archive_desk.specs.Crashes.{HasAddedAtLeast, HasImportedAtLeast};
+ghost use Rattle.archive_desk.specs.Importing.{IsImported};
 ghost use Rattle.archive_desk.specs.Readable.{BreaksNoQuestion, CanBeRead, IsNeverBroken, IsNeverCutOff};
 ghost use Rattle.archive_desk.specs.Readable.{IsNeverLost, IsSaid, IsTellable, IsUntroubled};
 ghost use Rattle.archive_desk.specs.declared.exporting.ExportStop.{ExportStop};
+ghost use Rattle.archive_desk.specs.declared.importing.Report.{Report};
 ghost use Rattle.archive_desk.specs.declared.faults.DeskFault.{DeskFault};
 
 use archive_store::Command;
 use mbox_core::laws::whole_items_are_items;
 use sqlite::Alter;
 
-/// Where an archive can be read, the same holds after a command of which this is so that is so of each command of the code, and
-/// after any number of them, as after messages that can be written are added to a list. The empty archive can be read.
+/// Where an archive can be read, it can be after a command for which `IsSaid` holds, as it does for each of the code, after any
+/// number of them, and after messages that can be written are added. The empty archive can be read.
 pub fn what_commands_write_can_be_read()
     ensures step { (a : Archive) (command : Told) → IsSaid command → CanBeRead a
         → CanBeRead (step a command).0 }
@@ -36,6 +39,17 @@ pub fn what_commands_write_can_be_read()
 {
     whole_items_are_items();
 }
+
+/// What is repeated is known. Where so many first messages of a file were added and no other, as a stop of the machine leaves it,
+/// the same file imported again ends with the archive that an import ends with which was not stopped.
+pub fn what_is_repeated_is_known()
+    ensures added { (list : List ℕ) (items : List Item) (done : ℕ) (a b : Archive)
+        → HasAddedAtLeast list items done a b
+        → (taken b list items).archive ≡ (taken a list items).archive }
+    ensures imported { (list text : List ℕ) (done : ℕ) (a b c d : Archive) (report whole : Report)
+        → HasImportedAtLeast list text done a b → IsImported list text b c report
+        → IsImported list text a d whole → c ≡ d }
+{}
 
 /// Of each command of the code this is so: what it adds can be written, what it grants is of rank 1 to 3, it withdraws for the author
 /// or the board, and holds back up to a day.
@@ -54,7 +68,7 @@ pub fn each_command_is_said(command: &Command<'_>)
     }
 }
 
-/// So it is of all commands of a run of the code.
+/// `IsSaid` holds of all commands of a run.
 pub fn the_commands_of_a_run_are_said(commands: &[Command<'_>])
     ensures { All IsSaid (map command_of commands.now) }
 {

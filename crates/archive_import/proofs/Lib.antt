@@ -2,3 +2,5 @@ pub mod IntakeLemmas
 pub mod StopLemmas
 pub mod ReadLemmas
 pub mod WantLemmas
+pub mod CrashLemmas
+pub mod RepeatLemmas

@@ -113,10 +113,10 @@ pub settled_taken : (c : CutterState) → IsCutter c → c.phase ≡ Open → c.
 settled_taken c g o none = sym (append-nil c.taken) ∙ ap (λ is. c.taken ++ is) (sym none) ∙ given_open c g o
 
 -- the first of some
-first_of : (list : List ℕ) (items all : List Item) (done : ℕ) (a b : Archive) → IsBeginning items all → HasAddedFirst list items done a b → HasAddedFirst list all done a b
+pub first_of : (list : List ℕ) (items all : List Item) (done : ℕ) (a b : Archive) → IsBeginning items all → HasAddedFirst list items done a b → HasAddedFirst list all done a b
 first_of list items all done a b begins it = subst (λ is. HasAddedFirst list is done a b) (sym begins.1) (first_longer list items begins.0 done a b it)
 
-settled_beginning : (stream text piece : List ℕ) → text ≡ stream ++ piece → IsBeginning (settled_items stream) (settled_items text)
+pub settled_beginning : (stream text piece : List ℕ) → text ≡ stream ++ piece → IsBeginning (settled_items stream) (settled_items text)
 settled_beginning stream text piece e =
     let S : List ℕ → Type 0 = λ x. IsBeginning (settled_items stream) (settled_items x) in subst S (sym e) (settled_grow stream piece)
 
@@ -233,7 +233,7 @@ ended_divides c d g o s t =
 abbrev pub IsFound : (list : List ℕ) → Archive → Archive → Type 0
 IsFound list a b = (b ≡ a) × (list_refusal a list ≡ None) × (has_list a list ≡ true)
 
-abbrev no_intake : IntakeState
+abbrev pub no_intake : IntakeState
 no_intake = record { held = []; done = 0; report = record { new = 0; known = 0; too_large = 0 } }
 
 module _ {S : Type 0} (g : Ghosts S) (old new : Store S) (list : List ℕ) where

@@ -1,16 +1,18 @@
 //! Taking the messages of an mbox that is read piece by piece into a list.
-ghost use Rattle.std.specs.Prelude.{◌≡◌, ◌≢◌, ◌+◌, ◌≤◌, ◌++◌, ◌∷◌, [], ℕ, List, length, IfOk, IfErr, OnOk, Ok, Err};
+ghost use Rattle.std.specs.Prelude.{◌≡◌, ◌≢◌, ◌+◌, ◌++◌, ◌∷◌, [], ℕ, List, IfOk, IfErr, OnOk, Ok, Err};
 ghost use Rattle.mbox_core.specs.Division.{Item as Message};
 ghost use Rattle.mbox_stream.specs.Cutter.{IsCutter};
 ghost use Rattle.archive_machine.specs.Records.{Archive};
-ghost use Rattle.archive_store.specs.Batches.{AddsAll, told_in};
+ghost use Rattle.archive_store.specs.Batches.{AddsAll};
+ghost use Rattle.archive_store.specs.Crashes.{CrashAll};
 ghost use Rattle.archive_store.specs.Held.{held_of};
 ghost use Rattle.archive_store.specs.Told.{Calls, Counts, Lasts};
 ghost use Rattle.archive_store.specs.Wanting.{IsWant};
+ghost use Rattle.archive_desk.specs.Crashes.{CrashesReady, HasAddedAtLeast};
 ghost use Rattle.archive_desk.specs.Importing.{IsBrokenAdd};
-ghost use Rattle.archive_import.specs.Streaming.{Imports, halt_reason, HasFailed, FailedBy, IsFresh, IsHalted, IsBroken, IsReadIn};
+ghost use Rattle.archive_import.specs.Streaming.{Imports, halt_reason, HasFailed, FailedBy, IsFresh, IsHalted, IsBroken, IsReadIn, HasReadAtLeast};
 ghost use Rattle.archive_import.specs.Streaming.{IsSettled, IsWanting, ReadsIn, TakesWaiting};
-ghost use Rattle.archive_import.specs.Intake.{IsUnderWay, IsHaltedAdd, IsUnread, IsOfStore};
+ghost use Rattle.archive_import.specs.Intake.{IsUnderWay, IsHaltedAdd, IsUnread, IsOfStore, TellsWithin};
 
 use crate::intake::Intake;
 use archive_desk::{ImportFault, ImportStop, Report, find_list};
@@ -26,7 +28,9 @@ use std::alloc::{AllocError, Global};
 /// there is no such list. M1: the first line that is not empty is no separator line; nothing was added. M2: a read failed,
 /// and all messages that were settled before it were done. M3: no memory was left to hold a message, or there were 2^64
 /// reads. E12, E14 (also after 2^64 messages), E15 as of `import`. After each stop the first `done` messages were taken in,
-/// known or too large, and no other was taken in; the same input can be imported again.
+/// known or too large, and no other was taken in (after E14 and E15 that is so if the connection is still open); the same
+/// input can be imported again. Wherever the machine stops, an
+/// open finds so many first messages of what was read, at least those that were told, and no other.
 pub fn import_from<S: Alter, R: Source>(
     store: &mut Store<S>,
     alloc: Global,
@@ -36,6 +40,10 @@ pub fn import_from<S: Alter, R: Source>(
     ensures imports { (text : List ℕ) × (ends : ℕ) × (R.told input.new ≡ R.told input.old ++ text)
         × (R.ends input.new ≡ R.ends input.old + ends)
         × Imports S.Store store.old store.new list.now text ends result }
+    ensures crash { (text : List ℕ) (ends : ℕ) → R.told input.new ≡ R.told input.old ++ text
+        → R.ends input.new ≡ R.ends input.old + ends
+        → CrashesReady S.Store store.old store.new result
+        (λ a stop b. HasReadAtLeast list.now text ends stop.done a b) }
     ensures failures { (failed : ℕ) × (R.failures input.new ≡ R.failures input.old + failed)
         × HasFailed result failed }
     ensures end { OnOk result (R.ends input.new ≡ R.ends input.old + 1) }
@@ -76,10 +84,12 @@ fn add_settled<S: Alter, R: Source>(
         → IsHalted list.now cutter.new.stream 0 a c why.0 why.1)
         (λ b c stop. (a : Archive) → IsUnderWay list.now a b [] intake.old
         → IsBroken list.now cutter.new.stream 0 a c stop.done stop.fault) }
+    ensures crash { CrashesReady S.Store store.old store.new result
+        (λ b stop c. (a : Archive) → IsUnderWay list.now a b [] intake.old
+        → HasReadAtLeast list.now cutter.new.stream 0 stop.done a c) }
     ensures read { ReadsIn (R.told input.old) (R.told input.new) (R.ends input.old)
         (R.ends input.new)
-        (R.failures input.old) (R.failures input.new) cutter.new.stream result }
-    ensures settled { OnOk result (IsSettled cutter.new) }
+        (R.failures input.old) (R.failures input.new) cutter.new result }
     ensures counted { Counts (λ stop. IsWanting stop.fault) store.old store.new result }
 {
     for _ in 0..u64::MAX {
@@ -121,6 +131,9 @@ fn stop_unread<S: Alter>(
         → IsUnread list.now items a c why.0 why.1)
         (λ b c stop. (a : Archive) (items : List Message) → IsUnderWay list.now a b items intake.old
         → IsBrokenAdd list.now items a c stop.done stop.fault) }
+    ensures crash { CrashesReady S.Store store.old store.new result
+        (λ b stop c. (a : Archive) (items : List Message) → IsUnderWay list.now a b items intake.old
+        → HasAddedAtLeast list.now items stop.done a c) }
     ensures counted { Counts (λ stop. IsWanting stop.fault) store.old store.new result }
 {
     match add_held(store, alloc, list, intake) {
@@ -145,6 +158,9 @@ fn add_last<S: Alter>(
         → IsHalted list.now cutter.old.stream 1 a c why.0 why.1)
         (λ b c stop. (a : Archive) → IsUnderWay list.now a b cutter.old.taken intake.old
         → IsBroken list.now cutter.old.stream 1 a c stop.done stop.fault) }
+    ensures crash { CrashesReady S.Store store.old store.new result
+        (λ b stop c. (a : Archive) → IsUnderWay list.now a b cutter.old.taken intake.old
+        → HasReadAtLeast list.now cutter.old.stream 1 stop.done a c) }
     ensures kind { IfErr result (λ stop. FailedBy stop.fault 0) }
     ensures counted { Counts (λ stop. IsWanting stop.fault) store.old store.new result }
 {
@@ -174,7 +190,9 @@ fn add_waiting<S: Alter>(
         → IsHaltedAdd list.now (items ++ cutter.old.waiting) a c why.0 why.1)
         (λ b c stop. (a : Archive) (items : List Message) → IsUnderWay list.now a b items intake.old
         → IsBrokenAdd list.now (items ++ cutter.old.waiting) a c stop.done stop.fault) }
-    ensures kind { IfErr result (λ stop. FailedBy stop.fault 0) }
+    ensures crash { CrashesReady S.Store store.old store.new result
+        (λ b stop c. (a : Archive) (items : List Message) → IsUnderWay list.now a b items intake.old
+        → HasAddedAtLeast list.now (items ++ cutter.old.waiting) stop.done a c) }
     ensures takes { TakesWaiting cutter.old cutter.new result }
     ensures counted { Counts (λ stop. IsWanting stop.fault) store.old store.new result }
 {
@@ -202,6 +220,9 @@ fn hold_one<S: Alter>(
         → IsHaltedAdd list.now (items ++ item ∷ []) a c why.0 why.1)
         (λ b c stop. (a : Archive) (items : List Message) → IsUnderWay list.now a b items intake.old
         → IsBrokenAdd list.now (items ++ item ∷ []) a c stop.done stop.fault) }
+    ensures crash { CrashesReady S.Store store.old store.new result
+        (λ b stop c. (a : Archive) (items : List Message) → IsUnderWay list.now a b items intake.old
+        → HasAddedAtLeast list.now (items ++ item ∷ []) stop.done a c) }
     ensures kind { IfErr result (λ stop. FailedBy stop.fault 0) }
     ensures counted { Counts (λ stop. IsWanting stop.fault) store.old store.new result }
 {
@@ -228,6 +249,9 @@ fn add_held<S: Alter>(
         → IsHaltedAdd list.now items a c why.0 why.1)
         (λ b c stop. (a : Archive) (items : List Message) → IsUnderWay list.now a b items intake.old
         → IsBrokenAdd list.now items a c stop.done stop.fault) }
+    ensures crash { CrashesReady S.Store store.old store.new result
+        (λ b stop c. (a : Archive) (items : List Message) → IsUnderWay list.now a b items intake.old
+        → HasAddedAtLeast list.now items stop.done a c) }
     ensures kind { IfErr result (λ stop. IsOfStore stop.fault) }
     ensures none { OnOk result (intake.new.held ≡ []) }
     ensures counted { Counts (λ stop. IsWanting stop.fault) store.old store.new result }
@@ -257,8 +281,9 @@ fn add_owned<S: Alter>(
 ) -> Result<AddReport, AddStop>
     ensures step { AddsAll S.Store (held_of store.old)
         (held_of store.new) result list.now items.now }
-    ensures total { IfOk result (λ report. told_in report ≡ length items.now) }
-    ensures bound { IfErr result (λ stop. stop.done ≤ length items.now) }
+    ensures crash { CrashAll S.Store (held_of store.old) (held_of store.new)
+        list.now items.now result }
+    ensures tells { TellsWithin items.now result }
     ensures lasts { Lasts S.Store store.old store.new }
     ensures counted { Counts (λ stop. IsWant stop.fault) store.old store.new result }
 {

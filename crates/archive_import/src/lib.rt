@@ -4,5 +4,6 @@
 
 mod importing;
 mod intake;
+pub mod laws;
 
 pub use importing::import_from;

@@ -5,6 +5,7 @@ use Rattle.archive_desk.specs.Importing.{HasAdded, IsBrokenAdd, IsRefusedAdd, st
 use Rattle.archive_desk.specs.declared.importing.Report.{Report}
 use Rattle.archive_desk.specs.declared.importing.ImportStop.{ImportStop}
 use Rattle.archive_desk.specs.declared.importing.ImportFault.TheVariants.{Store as Stored}
+use Rattle.archive_desk.proofs.CrashLemmas.{stopped_crash}
 use Rattle.archive_desk.proofs.ImportLemmas.{added_all, added_first}
 use Rattle.archive_desk.proofs.importing.add_items.Goals as goal
 
@@ -12,6 +13,7 @@ pub returns-in-Ok : goal.returns-in-Ok
 returns-in-Ok g c = record {
   added = added_all g.S.Store c.args.store.now c.add_all.new.self c.args.list.now c.args.items.now c.add_all.ensures.ends.lasts c.in-Ok.counts c.report_of.result
       c.report_of.ensures c.in-Ok.ensures.step;
+  crash = c.in-Ok.ensures.crash;
   counted = (c.in-Ok.ensures.ends.counted.0, tt);
 }
 
@@ -26,6 +28,7 @@ returns-in-Err g c =
           (λ s. CallsHeld g.S.Store old new {A = Report} stop_reason (Err s) (λ a b report. HasAdded list items a b report)
           (λ a b why. IsRefusedAdd list items a b why.0 why.1) (λ a b stop. IsBrokenAdd list items a b stop.done stop.fault)) (sym c.stop_of.ensures)
           (added_first g.S.Store old new list items c.add_all.ensures.ends.lasts c.in-Err.stop c.in-Err.ensures.bound c.in-Err.ensures.step);
+      crash = stopped_crash g.S.Store old new list items c.in-Err.stop c.stop_of.result (ap (λ (s : ImportStop). s.done) c.stop_of.ensures) c.in-Err.ensures.crash;
       counted = (
         c.in-Err.ensures.ends.counted.0,
         λ it. let same : Stored c.in-Err.stop.fault ≡ Stored Memory = sym (ap (λ (s : ImportStop). s.fault) c.stop_of.ensures) ∙ it in

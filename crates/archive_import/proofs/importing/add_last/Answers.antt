@@ -1,6 +1,8 @@
 use Rattle.std.proofs.Common.{[], ◌++◌, ◌∙◌, sym, ap, subst, refl, Err, append-nil, inr}
 use Rattle.mbox_stream.specs.Cutter.{IsEndFault}
 use Rattle.archive_import.proofs.ReadLemmas.{begun_none, begun_more, settled_taken, ended_divides, end_stopped, waiting_stopped, last_says}
+use Rattle.archive_import.proofs.StopLemmas.{Keeps}
+use Rattle.archive_import.proofs.CrashLemmas.{amid_lasts, last_crash, more_lasts, read_crash, safe_still, waiting_crash}
 use Rattle.archive_store.specs.Held.{wants_of}
 use Rattle.archive_store.proofs.WantLemmas.{raises_after}
 use Rattle.archive_import.proofs.WantLemmas.{IsStopWanting}
@@ -48,3 +50,41 @@ pub returns-in-Ok-add_waiting-clause-counted : goal.returns-in-Ok-add_waiting-cl
 returns-in-Ok-add_waiting-clause-counted g c =
     raises_after IsStopWanting (wants_of c.args.store.now) (wants_of c.add_waiting.new.store) (wants_of c.add_held.new.store) c.add_held.result
     c.in-Ok-add_waiting.ensures.counted.0 c.add_held.ensures.counted
+
+-- ---- what a stop of the machine leaves
+
+pub returns-in-Err-clause-crash : goal.returns-in-Err-clause-crash
+returns-in-Err-clause-crash g c =
+    let cutter = c.args.cutter.now in
+    let intake = c.args.intake.now in
+    let store = c.args.store.now in
+    read_crash g.S.Store store store c.args.list.now cutter.taken cutter.taken intake intake (safe_still g.S.Store store)
+    (begun_none g.S.Store store c.args.list.now cutter.taken cutter.taken intake refl) cutter.stream cutter.stream [] 1
+    (settled_taken cutter c.requires.given c.requires.goes_on c.requires.none) (sym (append-nil _)) c.stop_uncut.result _ c.stop_uncut.ensures.stop
+
+pub returns-in-Ok-add_waiting-clause-crash : goal.returns-in-Ok-add_waiting-clause-crash
+returns-in-Ok-add_waiting-clause-crash g c =
+    let cutter = c.args.cutter.now in
+    let intake = c.args.intake.now in
+    let store = c.args.store.now in
+    let list = c.args.list.now in
+    let ended = c.finish.new.self in
+    let mid = c.add_waiting.new.store in
+    last_crash g.S.Store store mid list cutter.taken (cutter.taken ++ ended.waiting) intake c.add_waiting.new.intake c.in-Ok-add_waiting.ensures.crash
+    (begun_more g.S.Store store store mid list cutter.taken cutter.taken intake intake (begun_none g.S.Store store list cutter.taken cutter.taken intake refl)
+    c.add_waiting.new.intake ended.waiting (cutter.taken ++ ended.waiting) refl c.in-Ok-add_waiting.ensures.adds)
+    c.add_held.new.store (amid_lasts g.S.Store mid c.add_held.new.store list c.add_waiting.new.intake (λ b d _. Keeps list c.add_waiting.new.intake c.add_held.new.intake b d)
+    c.add_held.result c.add_held.ensures.adds) cutter.stream 1 c.add_held.result
+    (inr (refl, ended_divides cutter ended c.finish.ensures.given c.in-Ok.ensures.finished c.finish.ensures.stream c.finish.ensures.taken)) c.add_held.ensures.crash
+
+pub returns-in-Err-add_waiting-clause-crash : goal.returns-in-Err-add_waiting-clause-crash
+returns-in-Err-add_waiting-clause-crash g c =
+    let cutter = c.args.cutter.now in
+    let intake = c.args.intake.now in
+    let store = c.args.store.now in
+    let list = c.args.list.now in
+    let ended = c.finish.new.self in
+    waiting_crash g.S.Store store store list cutter.taken cutter.taken intake intake (safe_still g.S.Store store) (begun_none g.S.Store store list cutter.taken cutter.taken intake refl)
+    c.add_waiting.new.store (more_lasts g.S.Store store c.add_waiting.new.store list intake c.add_waiting.new.intake ended.waiting c.in-Err-add_waiting.stop c.in-Err-add_waiting.ensures.adds)
+    cutter.stream 1 ended.waiting c.in-Err-add_waiting.stop
+    (inr (refl, ended_divides cutter ended c.finish.ensures.given c.in-Ok.ensures.finished c.finish.ensures.stream c.finish.ensures.taken)) c.in-Err-add_waiting.ensures.crash

@@ -1,12 +1,34 @@
-use Rattle.std.proofs.Common.{[], ◌∙◌, sym, ap, Err, append-nil, inl, inr}
+use Rattle.std.proofs.Common.{rules, arith, [], ◌++◌, ◌∙◌, sym, ap, Err, append-nil, append_assoc, inl, inr}
 use Rattle.mbox_stream.specs.Stream.{settled_items}
 use Rattle.archive_machine.specs.Records.{Archive}
 use Rattle.archive_import.specs.Intake.{IsUnderWay}
-use Rattle.archive_import.proofs.ReadLemmas.{settled_taken, settled_given, preamble_stopped, memory_stopped, waiting_stopped, unread_stopped_read}
+use Rattle.archive_import.proofs.ReadLemmas.{Begun, begun_more, settled_taken, settled_given, preamble_stopped, memory_stopped, waiting_stopped, unread_stopped_read}
+use Rattle.archive_import.proofs.CrashLemmas.{last_crash, more_lasts, read_crash, safe_then, unread_lasts, waiting_crash}
 use Rattle.archive_store.specs.Held.{wants_of}
 use Rattle.archive_store.proofs.WantLemmas.{raises_after}
 use Rattle.archive_import.proofs.WantLemmas.{IsStopWanting}
 use Rattle.archive_import.proofs.importing.add_settled.Goals as goal
+
+pub loop-preserved : goal.loop-preserved
+loop-preserved g c =
+    let i = c.loop.invariant in
+    let read = c.read_from.new.self in
+    let list = c.args.list.now in
+    let takes = c.in-Ok.ensures.takes in
+    let r = c.read_from.ensures.read in
+    record {
+      adds = begun_more g.S.Store c.args.store.now c.loop.store c.add_waiting.new.store list [] c.loop.cutter.taken c.args.intake.now c.loop.intake i.adds c.add_waiting.new.intake read.waiting
+          c.add_waiting.new.cutter.taken (takes.taken.0 ∙ ap (λ is. is ++ read.waiting) c.read_from.ensures.taken) c.in-Ok.ensures.adds;
+      told = r.1 ∙ ap (λ t. t ++ r.0) i.told ∙ append_assoc _ c.loop.cutter.stream r.0 ∙ ap (λ t. g.R.Source.told c.args.input.now ++ t) (sym r.2 ∙ sym takes.stream);
+      read_well = search rules;
+      no_end = search rules;
+      none_waits = takes.taken.1;
+      goes_on = takes.phase ∙ c.in-Ok-true.ensures.open;
+      given = takes.given;
+      grows = omega (arith, i.grows, c.in-Ok.ensures.counted.0);
+      safe = safe_then g.S.Store c.args.store.now c.loop.store c.add_waiting.new.store (Begun list [] c.loop.cutter.taken c.args.intake.now c.loop.intake) i.safe i.adds c.in-Ok.ensures.adds.0
+          c.in-Ok.ensures.crash;
+    }
 
 pub returns-in-Err-Read-clause-adds : goal.returns-in-Err-Read-clause-adds
 returns-in-Err-Read-clause-adds g c =
@@ -82,3 +104,51 @@ pub returns-clause-counted : goal.returns-clause-counted
 returns-clause-counted g c =
     raises_after {A = Unit {0}} IsStopWanting (wants_of c.args.store.now) (wants_of c.loop.store) c.stop_uncut-2.new.wants (Err c.stop_uncut-2.result)
     c.loop.invariant.grows c.stop_uncut-2.ensures.counted
+
+-- ---- what a stop of the machine leaves
+
+pub returns-in-Err-Read-clause-crash : goal.returns-in-Err-Read-clause-crash
+returns-in-Err-Read-clause-crash g c =
+    let i = c.loop.invariant in
+    let cutter = c.loop.cutter in
+    last_crash g.S.Store c.args.store.now c.loop.store c.args.list.now [] cutter.taken c.args.intake.now c.loop.intake i.safe i.adds c.stop_unread.new.store
+    (unread_lasts g.S.Store c.loop.store c.stop_unread.new.store c.args.list.now c.loop.intake c.stop_unread.result c.stop_unread.ensures.adds) c.read_from.new.self.stream 0 c.stop_unread.result
+    (inl (settled_taken cutter i.given i.goes_on i.none_waits ∙ ap settled_items (sym (c.read_from.ensures.none (inr (c.in-Err-Read.is ∙ ap Err c.in-Err-Read.field-0-is))).0)))
+    c.stop_unread.ensures.crash
+
+pub returns-in-Err-Preamble-clause-crash : goal.returns-in-Err-Preamble-clause-crash
+returns-in-Err-Preamble-clause-crash g c =
+    let i = c.loop.invariant in
+    let cutter = c.loop.cutter in
+    let r = c.read_from.ensures.read in
+    read_crash g.S.Store c.args.store.now c.loop.store c.args.list.now [] cutter.taken c.args.intake.now c.loop.intake i.safe i.adds
+    cutter.stream c.read_from.new.self.stream r.0 0 (settled_taken cutter i.given i.goes_on i.none_waits) r.2 c.stop_uncut.result _ c.stop_uncut.ensures.stop
+
+pub returns-in-Err-Memory-clause-crash : goal.returns-in-Err-Memory-clause-crash
+returns-in-Err-Memory-clause-crash g c =
+    let i = c.loop.invariant in
+    let cutter = c.loop.cutter in
+    let r = c.read_from.ensures.read in
+    read_crash g.S.Store c.args.store.now c.loop.store c.args.list.now [] cutter.taken c.args.intake.now c.loop.intake i.safe i.adds
+    cutter.stream c.read_from.new.self.stream r.0 0 (settled_taken cutter i.given i.goes_on i.none_waits) r.2 c.stop_uncut-in-Err-Memory.result _ c.stop_uncut-in-Err-Memory.ensures.stop
+
+pub returns-in-Err-Failed-clause-crash : goal.returns-in-Err-Failed-clause-crash
+returns-in-Err-Failed-clause-crash g c = absurd (c.read_from.ensures.closed.0 (c.in-Err-Failed.is ∙ ap Err c.in-Err-Failed.field-0-is) c.loop.invariant.goes_on)
+
+pub returns-in-Err-clause-crash : goal.returns-in-Err-clause-crash
+returns-in-Err-clause-crash g c =
+    let i = c.loop.invariant in
+    let cutter = c.loop.cutter in
+    let read = c.read_from.new.self in
+    waiting_crash g.S.Store c.args.store.now c.loop.store c.args.list.now [] cutter.taken c.args.intake.now c.loop.intake i.safe i.adds c.add_waiting.new.store
+    (more_lasts g.S.Store c.loop.store c.add_waiting.new.store c.args.list.now c.loop.intake c.add_waiting.new.intake read.waiting c.in-Err.stop c.in-Err.ensures.adds)
+    c.add_waiting.new.cutter.stream 0 read.waiting c.in-Err.stop
+    (inl (settled_given read cutter.taken c.read_from.ensures.given c.in-Ok-true.ensures.open c.read_from.ensures.taken ∙ ap settled_items (sym c.add_waiting.ensures.takes.stream)))
+    c.in-Err.ensures.crash
+
+pub returns-clause-crash : goal.returns-clause-crash
+returns-clause-crash g c =
+    let i = c.loop.invariant in
+    let cutter = c.loop.cutter in
+    read_crash g.S.Store c.args.store.now c.loop.store c.args.list.now [] cutter.taken c.args.intake.now c.loop.intake i.safe i.adds
+    cutter.stream cutter.stream [] 0 (settled_taken cutter i.given i.goes_on i.none_waits) (sym (append-nil _)) c.stop_uncut-2.result _ c.stop_uncut-2.ensures.stop

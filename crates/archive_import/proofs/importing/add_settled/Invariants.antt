@@ -3,6 +3,7 @@ use Rattle.mbox_stream.specs.Cutter.{IsCutter}
 use Rattle.mbox_stream.specs.declared.cutter.Phase.TheVariants.{Open}
 use Rattle.archive_store.specs.Held.{wants_of}
 use Rattle.archive_store.specs.Told.{Goes}
+use Rattle.archive_import.proofs.CrashLemmas.{KeepsSafe}
 use Rattle.archive_import.proofs.ReadLemmas.{Begun}
 use Rattle.archive_import.proofs.importing.add_settled.Given as goal
 
@@ -16,4 +17,5 @@ invariant-loop g l = record {
   goes_on : l.cutter.phase ≡ Open;
   given : IsCutter l.cutter;
   grows : wants_of l.initial.store ≤ wants_of l.store;
+  safe : KeepsSafe g.S.Store l.initial.store l.store;
 }

@@ -2,7 +2,8 @@ use Rattle.std.proofs.Common.{[], ◌∷◌, ◌++◌, ◌∙◌, ap, arith, ref
 use Rattle.archive_store.specs.Held.{wants_of}
 use Rattle.archive_store.proofs.WantLemmas.{raises_after}
 use Rattle.mbox_core.specs.Division.{Item}
-use Rattle.archive_import.proofs.StopLemmas.{grows_none, grows_more, grows_stopped, moved_none, moved_one}
+use Rattle.archive_import.proofs.CrashLemmas.{grown_crash, more_lasts, safe_still, safe_then}
+use Rattle.archive_import.proofs.StopLemmas.{Grows, grows_none, grows_more, grows_stopped, moved_none, moved_one}
 use Rattle.archive_import.proofs.WantLemmas.{IsStopWanting}
 use Rattle.archive_import.proofs.importing.add_waiting.Goals as goal
 
@@ -13,6 +14,7 @@ loop-item-init g c = record {
   phase = refl;
   given = c.requires;
   grows = omega arith;
+  safe = safe_still g.S.Store c.args.store.now;
 }
 
 pub loop-item-preserved : goal.loop-item-preserved
@@ -29,6 +31,8 @@ loop-item-preserved g c =
       phase = c.take.ensures.phase ∙ i.phase;
       given = c.take.ensures.given;
       grows = omega (arith, i.grows, c.hold_one.ensures.counted.0);
+      safe = safe_then g.S.Store c.args.store.now c.loop-item.store c.hold_one.new.store (Grows c.args.list.now c.args.intake.now c.loop-item.intake i.adds.0.done) i.safe i.adds.1
+          c.in-Ok.ensures.adds.0 c.in-Ok.ensures.crash;
     }
 
 pub returns-in-Err-clause-adds : goal.returns-in-Err-clause-adds
@@ -42,3 +46,13 @@ pub returns-in-Err-clause-counted : goal.returns-in-Err-clause-counted
 returns-in-Err-clause-counted g c =
     raises_after {A = Unit {0}} IsStopWanting (wants_of c.args.store.now) (wants_of c.loop-item.store) (wants_of c.hold_one.new.store) (Err c.in-Err.stop) c.loop-item.invariant.grows
     c.in-Err.ensures.counted
+
+pub returns-in-Err-clause-crash : goal.returns-in-Err-clause-crash
+returns-in-Err-clause-crash g c =
+    let item : Item = c.in-Some.item in
+    let i = c.loop-item.invariant in
+    let m = i.adds in
+    grown_crash g.S.Store c.args.store.now c.loop-item.store c.hold_one.new.store c.args.list.now c.args.intake.now c.loop-item.intake m.0.done (item ∷ []) c.take.new.self.waiting
+    c.args.cutter.now.waiting i.safe m.1
+    (more_lasts g.S.Store c.loop-item.store c.hold_one.new.store c.args.list.now c.loop-item.intake c.hold_one.new.intake (item ∷ []) c.in-Err.stop c.in-Err.ensures.adds)
+    c.in-Err.stop (m.0.was ∙ ap (λ is. m.0.done ++ is) c.in-Some.ensures.item) c.in-Err.ensures.crash

@@ -2,6 +2,7 @@ use Rattle.std.proofs.Common.{◌≡◌, ◌≤◌, length}
 use Rattle.mbox_stream.specs.Cutter.{IsCutter}
 use Rattle.archive_store.specs.Held.{wants_of}
 use Rattle.archive_store.specs.Told.{Goes}
+use Rattle.archive_import.proofs.CrashLemmas.{KeepsSafe}
 use Rattle.archive_import.proofs.StopLemmas.{Grows, Moved}
 use Rattle.archive_import.proofs.importing.add_waiting.Given as goal
 
@@ -13,6 +14,7 @@ invariant-loop-item g l = record {
   phase : l.cutter.phase ≡ l.initial.cutter.phase;
   given : IsCutter l.cutter;
   grows : wants_of l.initial.store ≤ wants_of l.store;
+  safe : KeepsSafe g.S.Store l.initial.store l.store;
 }
 
 abbrev pub decreases-loop-item : goal.decreases-loop-item

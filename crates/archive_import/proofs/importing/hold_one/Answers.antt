@@ -1,6 +1,7 @@
 use Rattle.std.proofs.Common.{[], ◌∷◌}
 use Rattle.archive_store.specs.Held.{wants_of}
-use Rattle.archive_import.proofs.StopLemmas.{hold_says, held_not_added}
+use Rattle.archive_import.proofs.StopLemmas.{hold_says, held_not_added, keeps_all}
+use Rattle.archive_import.proofs.CrashLemmas.{amid_more, hold_crash, safe_still}
 use Rattle.archive_store.proofs.WantLemmas.{raises_after}
 use Rattle.archive_import.proofs.WantLemmas.{IsStopWanting}
 use Rattle.archive_import.proofs.importing.hold_one.Goals as goal
@@ -21,3 +22,20 @@ pub returns-in-Ok-clause-counted : goal.returns-in-Ok-clause-counted
 returns-in-Ok-clause-counted g c =
     raises_after IsStopWanting (wants_of c.args.store.now) (wants_of c.add_held.new.store) c.hold-in-Ok.new.wants c.hold-in-Ok.result c.in-Ok.ensures.counted.0
     c.hold-in-Ok.ensures.counted
+
+-- ---- what a stop of the machine leaves
+
+pub returns-then-has_room-clause-crash : goal.returns-then-has_room-clause-crash
+returns-then-has_room-clause-crash g c =
+    let store = c.args.store.now in
+    let intake = c.args.intake.now in
+    hold_crash g.S.Store store store c.args.list.now intake intake c.args.item (safe_still g.S.Store store) (keeps_all g.S.Store store c.args.list.now intake) c.hold.result c.hold.ensures.fault
+
+pub returns-in-Ok-clause-crash : goal.returns-in-Ok-clause-crash
+returns-in-Ok-clause-crash g c =
+    hold_crash g.S.Store c.args.store.now c.add_held.new.store c.args.list.now c.args.intake.now c.add_held.new.intake c.args.item c.in-Ok.ensures.crash c.in-Ok.ensures.adds
+    c.hold-in-Ok.result c.hold-in-Ok.ensures.fault
+
+pub returns-in-Err-clause-crash : goal.returns-in-Err-clause-crash
+returns-in-Err-clause-crash g c =
+    amid_more g.S.Store c.args.store.now c.add_held.new.store c.args.list.now c.args.intake.now (c.args.item ∷ []) c.in-Err.stop c.in-Err.ensures.crash

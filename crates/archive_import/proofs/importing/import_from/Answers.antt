@@ -7,7 +7,9 @@ use Rattle.archive_store.proofs.Joins.{sound_too}
 use Rattle.archive_desk.proofs.CallLemmas.{unanswered_too}
 use Rattle.archive_import.specs.Streaming.{IsReadIn}
 use Rattle.archive_import.specs.Intake.{IsUnderWay}
-use Rattle.archive_import.proofs.ReadLemmas.{IsFound, not_found, found_begun, settled_stopped, last_stopped, read_in}
+use Rattle.archive_import.proofs.ReadLemmas.{Begun, IsFound, not_found, found_begun, settled_stopped, last_stopped, read_in}
+use Rattle.archive_desk.specs.Crashes.{CrashesReady}
+use Rattle.archive_import.proofs.CrashLemmas.{LeavesRead, begun_crash, ended_crash, found_crash, found_safe, read_all, read_lasts, safe_then}
 use Rattle.archive_store.specs.Held.{wants_of}
 use Rattle.archive_store.proofs.WantLemmas.{raises_after}
 use Rattle.archive_desk.specs.declared.importing.Report.{Report}
@@ -88,3 +90,61 @@ returns-clause-counted g c =
     let grows : wants_of c.args.store.now ≤ wants_of c.add_settled.new.store = omega (arith, c.in_default.ensures.ends.counted.0, c.in-Ok.ensures.counted.0) in
     raises_after {A = Report} IsStopWanting (wants_of c.args.store.now) (wants_of c.add_settled.new.store) (wants_of c.add_last.new.store) (Err c.in-Err-add_last.stop)
     grows c.in-Err-add_last.ensures.counted
+
+-- ---- what a stop of the machine leaves
+
+pub returns-in-Err-clause-crash : goal.returns-in-Err-clause-crash
+returns-in-Err-clause-crash g c = λ text ends told ended. found_crash g.S.Store c.args.store.now c.find_list.new.store c.args.list.now text ends c.in-Err.fault c.in-Err.ensures.quiet
+
+pub returns-in-Err-add_settled-clause-crash : goal.returns-in-Err-add_settled-clause-crash
+returns-in-Err-add_settled-clause-crash g c = λ text ends told ended.
+    let list = c.args.list.now in
+    let store = c.args.store.now in
+    let mid = c.find_list.new.store in
+    let new = c.add_settled.new.store in
+    let stop = c.in-Err-add_settled.stop in
+    let stream = c.add_settled.new.cutter.stream in
+    let found = sound_too g.S.Store store mid (IsFound list) (λ a b h. h.0) c.in_default.ensures.found in
+    begun_crash g.S.Store store mid new list c.new-intake.result c.new-intake.ensures (found_safe g.S.Store store mid list c.in_default.ensures.found c.in_default.ensures.quiet) found
+    (read_lasts g.S.Store mid new list stream 0 [] c.new-intake.result (λ b d _. Begun list [] c.add_settled.new.cutter.taken c.new-intake.result c.add_settled.new.intake b d) stop
+    c.in-Err-add_settled.ensures.adds)
+    text ends stop
+    (subst (λ n. CrashesReady g.S.Store mid new {A = Unit {0}} (Err stop) (LeavesRead list text n [] c.new-intake.result)) (omega (arith, ended, c.in-Err-add_settled.ensures.read.no_end))
+    (subst (λ t. CrashesReady g.S.Store mid new {A = Unit {0}} (Err stop) (LeavesRead list t 0 [] c.new-intake.result)) (read_all _ stream text _ c.add_settled.ensures.read.told told)
+    c.in-Err-add_settled.ensures.crash))
+
+pub returns-in-Ok-add_last-clause-crash : goal.returns-in-Ok-add_last-clause-crash
+returns-in-Ok-add_last-clause-crash g c = λ text ends told ended.
+    let list = c.args.list.now in
+    let cutter = c.add_settled.new.cutter in
+    let intake = c.add_settled.new.intake in
+    let store = c.args.store.now in
+    let mid = c.find_list.new.store in
+    let later = c.add_settled.new.store in
+    let found = sound_too g.S.Store store mid (IsFound list) (λ a b h. h.0) c.in_default.ensures.found in
+    let safe = safe_then g.S.Store store mid later (IsFound list) (found_safe g.S.Store store mid list c.in_default.ensures.found c.in_default.ensures.quiet) found c.in-Ok.ensures.adds.0
+    c.in-Ok.ensures.crash in
+    safe_then g.S.Store store later c.add_last.new.store (λ a c. IsUnderWay list a c cutter.taken intake) safe
+    (found_begun g.S.Store store mid later list c.new-intake.result c.new-intake.ensures found cutter.taken intake c.in-Ok.ensures.adds)
+    c.in-Ok-add_last.ensures.adds.0 c.in-Ok-add_last.ensures.crash
+
+pub returns-clause-crash : goal.returns-clause-crash
+returns-clause-crash g c = λ text ends told ended.
+    let list = c.args.list.now in
+    let cutter = c.add_settled.new.cutter in
+    let intake = c.add_settled.new.intake in
+    let store = c.args.store.now in
+    let mid = c.find_list.new.store in
+    let later = c.add_settled.new.store in
+    let new = c.add_last.new.store in
+    let stop = c.in-Err-add_last.stop in
+    let found = sound_too g.S.Store store mid (IsFound list) (λ a b h. h.0) c.in_default.ensures.found in
+    let safe = safe_then g.S.Store store mid later (IsFound list) (found_safe g.S.Store store mid list c.in_default.ensures.found c.in_default.ensures.quiet) found c.in-Ok.ensures.adds.0
+    c.in-Ok.ensures.crash in
+    ended_crash g.S.Store store later new list cutter.taken intake safe
+    (found_begun g.S.Store store mid later list c.new-intake.result c.new-intake.ensures found cutter.taken intake c.in-Ok.ensures.adds)
+    (read_lasts g.S.Store later new list cutter.stream 1 cutter.taken intake (λ b d _. (a : Archive) → IsUnderWay list a b cutter.taken intake → IsReadIn list cutter.stream 1 a d c.add_last.new.intake.report)
+    stop c.in-Err-add_last.ensures.adds) text ends stop
+    (subst (λ n. CrashesReady g.S.Store later new {A = Unit {0}} (Err stop) (LeavesRead list text n cutter.taken intake)) (omega (arith, ended, c.in-Ok.ensures.read.end))
+    (subst (λ t. CrashesReady g.S.Store later new {A = Unit {0}} (Err stop) (LeavesRead list t 1 cutter.taken intake)) (read_all _ cutter.stream text _ c.add_settled.ensures.read.told told)
+    c.in-Err-add_last.ensures.crash))

@@ -1,3 +1,6 @@
+use Rattle.std.proofs.Common.{ap}
+use Rattle.archive_desk.specs.declared.importing.ImportStop.{ImportStop}
+use Rattle.archive_import.proofs.CrashLemmas.{kept_crash}
 use Rattle.archive_import.proofs.ReadLemmas.{unread_added, unread_stopped}
 use Rattle.archive_store.specs.Held.{wants_of}
 use Rattle.archive_import.proofs.WantLemmas.{unread_unwanted}
@@ -15,3 +18,8 @@ returns-in-Err-clause-adds g c =
 pub returns-in-Ok-clause-counted : goal.returns-in-Ok-clause-counted
 returns-in-Ok-clause-counted g c =
     unread_unwanted (Unit {0}) (wants_of c.args.store.now) (wants_of c.add_held.new.store) _ c.stop.result c.in-Ok.ensures.counted.0 c.stop.ensures
+
+pub returns-in-Ok-clause-crash : goal.returns-in-Ok-clause-crash
+returns-in-Ok-clause-crash g c =
+    kept_crash g.S.Store c.args.store.now c.add_held.new.store c.args.list.now c.args.intake.now c.add_held.new.intake c.in-Ok.ensures.crash c.in-Ok.ensures.adds c.stop.result
+    (ap (λ (s : ImportStop). s.done) c.stop.ensures)
