@@ -9,7 +9,8 @@ mod HeadReading
 mod UnroutedLemmas
 mod DeskLemmas
 mod PlaceLemmas
-mod CauseLemmas
+pub mod CauseLemmas
 mod RouteLemmas
 pub mod AnswerExamples
 pub mod RunningLemmas
+mod StopLemmas

@@ -1,6 +1,6 @@
 //! Laws of the replies: each contract is a law over the definitions of `specs/` alone, and no call
 //! does anything.
-ghost use Rattle.std.specs.Prelude.{◌≡◌, ℕ, ℤ, List, Result};
+ghost use Rattle.std.specs.Prelude.{◌≡◌, ℕ, ℤ, List, Option, Result};
 ghost use Rattle.httparse.specs.Grammar.{RequestHead};
 ghost use Rattle.sqlite_disk.specs.declared.Files.{Files};
 ghost use Rattle.sqlite_store.specs.declared.store.FileStore.{FileStore};
@@ -8,6 +8,8 @@ ghost use Rattle.sqlite_trees.specs.declared.memory.MemStore.{MemStore};
 ghost use Rattle.sqlite.specs.Held.{Held};
 ghost use Rattle.sqlite.specs.Steps.{over_memory};
 ghost use Rattle.policy_core.specs.Rules.{Rule};
+ghost use Rattle.archive_machine.specs.Commands.{Reply};
+ghost use Rattle.archive_machine.specs.Machine.{Outcome};
 ghost use Rattle.archive_machine.specs.Records.{Archive};
 ghost use Rattle.archive_store.specs.declared.store.Store.{Store};
 ghost use Rattle.archive_store.specs.Told.{HasNoLimit, HoldsTables, WasRefused, archive_in};
@@ -18,9 +20,13 @@ ghost use Rattle.archive_pages.specs.declared.faults.ServeFault.{ServeFault};
 ghost use Rattle.archive_pages.specs.Laws.{EqualViews, IsAsIfItNeverCame, LeavesNoTrace, StaysAsIfItNeverCame, StaysHeldBack, ServesWhatIsAllowed, DeniesWhatIsDenied, ShowsWhatIsAllowed};
 ghost use Rattle.archive_pages.specs.Reopened.{AnswersReopened};
 ghost use Rattle.archive_pages.specs.Serving.{Stays};
+ghost use Rattle.archive_pages.specs.Stopped.{AnswersBehindStop};
 
 use archive_results::laws::what_is_withheld_is_so_later;
-use archive_store::laws::a_file_opened_again_holds_the_same_archive;
+use archive_store::laws::{
+    a_crash_leaves_the_archive_before_a_command_or_after_it,
+    a_file_opened_again_holds_the_same_archive,
+};
 use sqlite_disk::Disk;
 
 /// Where two archives have the same list names, a request's token is a person's in both or in
@@ -82,6 +88,18 @@ pub fn a_file_opened_again_is_answered_alike<D: Disk>()
         → AnswersReopened closed opened files store new archive }
 {
     a_file_opened_again_holds_the_same_archive::<D>();
+}
+
+/// Whatever a stop of the machine cut off, the file that is opened again is answered out of the archive before the command or out of
+/// the one behind it, and behind a command that was answered out of the latter alone. The clauses `step` and `crash` of the command
+/// are said of the end of a call, over any disk: over one that is frozen from some access on, a command ends with what a stop at
+/// that access leaves.
+pub fn a_file_opened_after_a_stop_is_answered_for_one_of_the_two<D: Disk>()
+    ensures { (old cut opened : Held (FileStore D D.Disk)) (files : Files D)
+        (store : Store (FileStore D D.Disk)) (step : Archive → Outcome) (reply : Option Reply)
+        → AnswersBehindStop old cut opened files store step reply }
+{
+    a_crash_leaves_the_archive_before_a_command_or_after_it::<sqlite::FileStore<D>>();
 }
 
 /// In memory each request is followed by the next, whatever was answered, 503 too: the store is

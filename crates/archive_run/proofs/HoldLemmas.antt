@@ -1,5 +1,5 @@
 -- From what became of a store to what becomes of the archive that its database holds.
-use Rattle.std.proofs.Common.{◌≡◌, ◌∙◌, inl, inr, subst, sym, refl, ℕ, ℤ, Bool, true, List, [], ◌∷◌, Option, Ok}
+use Rattle.std.proofs.Common.{◌≡◌, ◌∙◌, inl, inr, subst, sym, refl, ℕ, ℤ, Bool, List, [], ◌∷◌, Option, Ok}
 use Rattle.std.specs.Prelude.{⊤}
 use Rattle.sqlite.specs.Store.{Ghosts}
 use Rattle.policy_core.specs.Rules.{Rule}
@@ -67,14 +67,14 @@ module _ {S D : Type 0} (g : Ghosts S) (keeps : Keeps D (Open S)) (opens : Opens
 -- ---- a run of connections
 
 module _ {S L : Type 0} (g : Ghosts S) (accepts : L → L → Option AcceptFault → Type 0) (closes : L → L → Exchange → Bool → Type 0)
-    (If : Type 0) (archive : Archive) (rules : List Rule) (day : ℤ) (routes : Bool) where
+    (If : Type 0) (archive : Archive) (rules : List Rule) (day : ℤ) where
   -- a disk that has returned what was written so far had done so before
-  had_one : (outcome : Outcome) (before after : Served L (Open S)) → ServesOne (AnswersIn g If archive rules day routes) accepts closes outcome before after
+  had_one : (outcome : Outcome) (before after : Served L (Open S)) → ServesOne (AnswersIn g If archive rules day) accepts closes outcome before after
       → HasReturned g after.state → HasReturned g before.state
   had_one outcome before after (inl takes) returned = takes.answered.answered.ends.stays.same.0.returned returned
   had_one outcome before after (inr misses) returned = subst (λ (s : Open S). HasReturned g s) misses.unanswered returned
 
-  pub had_before : (outcomes : List Outcome) (before after : Served L (Open S)) → ServesEach (AnswersIn g If archive rules day routes) accepts closes outcomes before after
+  pub had_before : (outcomes : List Outcome) (before after : Served L (Open S)) → ServesEach (AnswersIn g If archive rules day) accepts closes outcomes before after
       → HasReturned g after.state → HasReturned g before.state
   had_before [] before after same returned = subst (λ (s : Served L (Open S)). HasReturned g s.state) same returned
   had_before (outcome ∷ outcomes) before after (between, first, rest) returned =
@@ -84,11 +84,11 @@ module _ {S L : Type 0} (g : Ghosts S) (accepts : L → L → Option AcceptFault
   -- still open
   pub each_held : If → (outcomes : List Outcome) (before after : Served L (Open S))
       → (IsOpen g before.state → HoldsTables g before.state × (archive_in g before.state ≡ archive))
-      → ServesEach (AnswersIn g If archive rules day routes) accepts closes outcomes before after
-      → ServesEach (AnswersIn g ⊤ archive rules day routes) accepts closes outcomes before after
+      → ServesEach (AnswersIn g If archive rules day) accepts closes outcomes before after
+      → ServesEach (AnswersIn g ⊤ archive rules day) accepts closes outcomes before after
       × (IsOpen g after.state → HoldsTables g after.state × (archive_in g after.state ≡ archive))
   each_held so outcomes before after holds each =
-      each_through (AnswersIn g If archive rules day routes) (AnswersIn g ⊤ archive rules day routes) (λ (s : Open S). s) accepts closes
+      each_through (AnswersIn g If archive rules day) (AnswersIn g ⊤ archive rules day) (λ (s : Open S). s) accepts closes
       (λ (s : Open S). IsOpen g s → HoldsTables g s × (archive_in g s ≡ archive))
       (λ old new first last outcome held it. (
         record {
@@ -109,16 +109,16 @@ pub serves_held : {S L D : Type 0} (g : Ghosts S) (accepts : L → L → Option 
     (keeps : Keeps D (Open S)) (opened : OpensHeld g keeps) (closed : ClosesHeld g keeps) (old device new : D) (file : List ℕ)
     (rules : List Rule) (day : ℤ) (outcomes : List Outcome) (first last : Served L (Open S)) (archive : Archive)
     → keeps.opens old device file (Ok first.state) → keeps.closes device new last.state
-    → ServesEach (AnswersIn g (HasReturned g last.state × HoldsTables g first.state) (archive_in g first.state) rules day true) accepts closes outcomes first last
+    → ServesEach (AnswersIn g (HasReturned g last.state × HoldsTables g first.state) (archive_in g first.state) rules day) accepts closes outcomes first last
     → HasReturned g last.state → keeps.holds old file archive
-    → ServesEach (AnswersIn g ⊤ archive rules day true) accepts closes outcomes first last × (IsOpen g last.state → keeps.holds new file archive)
+    → ServesEach (AnswersIn g ⊤ archive rules day) accepts closes outcomes first last × (IsOpen g last.state → keeps.holds new file archive)
 serves_held g accepts closes keeps opened closed old device new file rules day outcomes first last archive opens shuts each returned held =
     let If = HasReturned g last.state × HoldsTables g first.state in
     let was = opened old device file first.state archive held opens
-    (had_before g accepts closes If (archive_in g first.state) rules day true outcomes first last each returned) in
+    (had_before g accepts closes If (archive_in g first.state) rules day outcomes first last each returned) in
     let so : If = (returned, was.0) in
-    let it = each_held g accepts closes If (archive_in g first.state) rules day true so outcomes first last (λ up. (was.0, refl)) each in (
-      subst (λ a. ServesEach (AnswersIn g ⊤ a rules day true) accepts closes outcomes first last) was.1 it.0,
+    let it = each_held g accepts closes If (archive_in g first.state) rules day so outcomes first last (λ up. (was.0, refl)) each in (
+      subst (λ a. ServesEach (AnswersIn g ⊤ a rules day) accepts closes outcomes first last) was.1 it.0,
       λ up.
           let left = it.1 up in
           subst (λ a. keeps.holds new file a) (left.1 ∙ was.1) (closed old device new file first.state last.state archive held opens shuts returned left.0),

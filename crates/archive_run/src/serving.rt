@@ -1,7 +1,7 @@
 //! Serving an archive: the policy is read, the day asked and the database opened once, and then connections are answered.
-ghost use Rattle.std.specs.Prelude.{◌≡◌, ◌≤◌, Ok, Err, IfErr, IfOk, MatchResult};
+ghost use Rattle.std.specs.Prelude.{◌≡◌, ◌≤◌, Ok, Err, MatchResult};
 ghost use Rattle.archive_listen.specs.declared.faults.ListenFault.{ListenFault};
-ghost use Rattle.archive_run.specs.Serving.{AnswersAll, RunsServe, ServesIn, ServesNot, ServesOpen, ServesUnder, fresh_keeper, said};
+ghost use Rattle.archive_run.specs.Serving.{AnswersAll, RunsServe, ServesIn, ServesNot, ServesOpen, ServesUnder, most_kept, said};
 
 use crate::databases::Databases;
 use crate::faults::Refusal;
@@ -9,8 +9,7 @@ use crate::ordering::{asking_day, named_policy};
 use crate::threaders::Threaders;
 use crate::world::{System, World};
 use archive_listen::{Listener, Listening, Outgoing, Ports};
-use archive_pages::Pages;
-use archive_serve::{PageService, ServeStop, serve};
+use archive_serve::{ServeStop, Terms, serve};
 use archive_store::Store;
 use archive_words::ServeOrder;
 use civil_time::Day;
@@ -36,21 +35,24 @@ fn listen_on<P: Ports>(ports: &mut P, port: u16) -> Result<Listening<P::Listener
     }
 }
 
-/// The pages of an archive as a service, which has routes and keeps nothing yet. F5: there was no memory for the routes.
-fn page_service<'a, T: Threader>(
+/// By what an archive is served.
+fn serving_terms<'a, T>(
     alloc: Global,
     policy: &'a Policy,
     threader: &'a T,
     day: Day,
-) -> Result<PageService<'a, T>, Refusal>
-    ensures ok { IfOk result (λ service. service ≡ fresh_keeper policy.now day) }
-    ensures cause { IfErr result (λ refusal. refusal ≡ Refusal.Run RunFault.Memory) }
+) -> Terms<'a, T>
+    ensures rules { result.policy.now ≡ policy.now }
+    ensures day { result.day ≡ day }
+    ensures most { result.most ≡ most_kept }
 {
-    let pages = Pages::new(alloc, policy, threader, day, KEPT_BYTES);
-    if pages.routes.is_none() {
-        return Err(Refusal::Run(RunFault::Memory));
+    Terms {
+        alloc,
+        policy,
+        threader,
+        day,
+        most: KEPT_BYTES,
     }
-    Ok(PageService::new(pages))
 }
 
 /// Says where a listener listens, and answers so many of its connections out of an open store. F4: no more connections come.
@@ -77,19 +79,12 @@ fn serve_listening<T: Threader, S: Alter, L: Listener + Drop, O: Outgoing, E: Si
 {
     let Listening { listener, port } = listening;
     let mut listener = listener;
-    let mut pages = page_service(alloc, policy, threader, day)?;
-    match serve(
-        store,
-        &mut pages,
-        &mut listener,
-        port,
-        count,
-        output,
-        faults,
-    ) {
+    let terms = serving_terms(alloc, policy, threader, day);
+    match serve(store, &terms, &mut listener, port, count, output, faults) {
         Ok(()) => Ok(()),
         Err(ServeStop::Listen) => Err(Refusal::Net),
         Err(ServeStop::Write) => Err(Refusal::Run(RunFault::Write)),
+        Err(ServeStop::Memory) => Err(Refusal::Run(RunFault::Memory)),
     }
 }
 

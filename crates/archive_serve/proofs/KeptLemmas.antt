@@ -10,7 +10,6 @@ use Rattle.archive_store.specs.Held.{held_of}
 use Rattle.archive_store.specs.Told.{HasReturned, HoldsTables, IsOpen, archive_in}
 use Rattle.archive_store.specs.declared.store.Store.{Store}
 use Rattle.archive_kept.specs.Kept.{AreOf, Keeps}
-use Rattle.archive_kept.specs.Views.{IsBounded, Keeping}
 use Rattle.archive_pages.specs.Answered.{AnswersBy}
 use Rattle.archive_pages.specs.Calls.{AreKept, KeepsOn}
 use Rattle.archive_pages.specs.Causes.{IsUnreadIn, ServesOr}
@@ -21,11 +20,12 @@ use Rattle.archive_pages.specs.Serving.{Stays}
 use Rattle.archive_pages.specs.declared.faults.ServeFault.{ServeFault}
 use Rattle.archive_pages.specs.declared.pages.Pages.{Pages}
 use Rattle.archive_pages.proofs.RunningLemmas.{answers_left}
-use Rattle.archive_listen.specs.Connections.{Telling, Outcome, Exchange}
+use Rattle.archive_listen.specs.Connections.{Telling, Outcome, Exchange, Noted}
 use Rattle.archive_listen.specs.declared.faults.AcceptFault.{AcceptFault}
-use Rattle.archive_listen.specs.Serving.{AtWork, Served, ServesEach, at_work, law_of, served}
+use Rattle.archive_listen.specs.Serving.{AtWork, Served, ServesAll, ServesEach, ServesFewer, at_work, law_of, served}
 use Rattle.archive_listen.proofs.ThroughLemmas.{each_had_through, part_of}
-use Rattle.archive_serve.specs.Pages.{AnswersKept, Keeper, LeavesKept, TellsUnrouted, outcome_of}
+use Rattle.archive_serve.specs.Keeping.{AnswersKept, Keeper, fresh_keeper}
+use Rattle.archive_serve.specs.Pages.{TellsUnrouted, outcome_of}
 use Rattle.archive_serve.specs.Runs.{AnswersIn, CanServe, IsSteady, RunLaw}
 use Rattle.archive_serve.proofs.SteadyLemmas.{goes_by}
 
@@ -36,10 +36,6 @@ on_ok (Err e) f it = tt
 pub on_err : {A E : Type 0} (result : Result A E) {P Q : Type 0} → (P → Q) → OnErr result P → OnErr result Q
 on_err (Ok a) f it = tt
 on_err (Err e) f it = f it
-
-pub on_either : {A E X : Type 0} (result : Result A E) {P Q : Type 0} → (P → X) → (Q → X) → OnOk result P → OnErr result Q → X
-on_either (Ok a) f g it other = f it
-on_either (Err e) f g it other = g other
 
 pub same_state : {V St : Type 0} (service : V) (store : St) (w : AtWork V St) → at_work service store ≡ w → store ≡ w.state
 same_state {V} {St} service store w same = ap (λ (x : AtWork V St). x.state) same
@@ -73,7 +69,7 @@ module _ {S T : Type 0} (g : Ghosts S) (pages later : Pages T) (old new : Store 
     keeps = keeps.keeps;
   }
 
-module _ {S : Type 0} (g : Ghosts S) (rules : List Rule) (day : ℤ) (routes : Bool) where
+module _ {S : Type 0} (g : Ghosts S) (rules : List Rule) (day : ℤ) where
   -- pages and the store that they answer out of
   abbrev Serving : Type 0
   Serving = AtWork Keeper (Store S)
@@ -81,13 +77,9 @@ module _ {S : Type 0} (g : Ghosts S) (rules : List Rule) (day : ℤ) (routes : B
   abbrev pub KeptLaw : Serving → Serving → Telling → Telling → Outcome → Type 0
   KeptLaw = law_of (λ keeper later. AnswersKept g keeper later)
 
-  -- the pages go by these rules, on this day, and have routes or not
+  -- the pages go by these rules, on this day, and have routes
   abbrev pub SameBy : Serving → Type 0
-  SameBy serving = (serving.service.rules ≡ rules) × (serving.service.day ≡ day) × (serving.service.routes ≡ routes)
-
-  -- What they keep weighs no more than this might, which was kept before.
-  abbrev IsWithin : Keeping → Serving → Type 0
-  IsWithin kept serving = (serving.service.kept.most ≡ kept.most) × (IsBounded kept → IsBounded serving.service.kept)
+  SameBy serving = (serving.service.rules ≡ rules) × (serving.service.day ≡ day) × (serving.service.routes ≡ true)
 
   -- What the pages keep is of this archive, which the store remembers, unless it is shut.
   pub record IsSound (archive : Archive) (serving : Serving) : Type 0 where
@@ -99,9 +91,6 @@ module _ {S : Type 0} (g : Ghosts S) (rules : List Rule) (day : ℤ) (routes : B
       (law : KeptLaw old new before after outcome) where
     same_on : SameBy new
     same_on = (law.same_rules ∙ same.0, law.same_day ∙ same.1, law.same_routes ∙ same.2)
-
-    within_on : (kept : Keeping) → IsWithin kept old → IsWithin kept new
-    within_on kept within = (law.keeps.most ∙ within.0, λ was. law.keeps.bounded (within.1 was))
 
     -- where the disk has returned what was written, and what is kept is of the archive
     module _ (had : HasReturned g new.state) (sound : IsSound archive old) where
@@ -138,77 +127,80 @@ module _ {S : Type 0} (g : Ghosts S) (rules : List Rule) (day : ℤ) (routes : B
       sound_on = record { kept = kept_on (rw (same.0, same.1) at law.keeps); left = left }
 
     module _ (If : Type 0) (had : If → HasReturned g new.state) (sound : If → IsSound archive old) where
-      answers_in : AnswersIn g If archive rules day routes old.state new.state before after outcome
+      answers_in : AnswersIn g If archive rules day old.state new.state before after outcome
       answers_in = record {
         result = law.result;
         is = law.is;
         ends = rw (same.0, same.1) at law.ends;
-        unrouted = λ some. law.unrouted (same.2 ∙ some);
+        unrouted = law.unrouted same.2;
         reply = λ i. reply (had i) (sound i);
         left = λ i. left (had i) (sound i);
         stays_open = λ i. stays_open (had i) (sound i);
       }
 
-  module _ {L : Type 0} (accepts : L → L → Option AcceptFault → Type 0) (closes : L → L → Exchange → Bool → Type 0) (If : Type 0) (archive : Archive)
-      (kept : Keeping) where
+  module _ {L : Type 0} (accepts : L → L → Option AcceptFault → Type 0) (closes : L → L → Exchange → Bool → Type 0) (If : Type 0) (archive : Archive) where
     -- what a run hands on from connection to connection
     pub record GoesOn (serving : Serving) : Type 0 where
       pub same : SameBy serving
-      pub within : IsWithin kept serving
       pub sound : If → IsSound archive serving
 
     -- Each connection is answered as if nothing were kept, and what is kept stays of the archive, where it was at first, the tables
     -- were an archive's, and the disk has returned what was written.
     pub answers_each : (outcomes : List Outcome) (before after : Served L Serving) → (If → HasReturned g after.state.state) → GoesOn before.state
         → ServesEach KeptLaw accepts closes outcomes before after
-        → ServesEach (AnswersIn g If archive rules day routes) accepts closes outcomes
-        (part_of KeptLaw (AnswersIn g If archive rules day routes) (λ (w : Serving). w.state) accepts closes before)
-        (part_of KeptLaw (AnswersIn g If archive rules day routes) (λ (w : Serving). w.state) accepts closes after)
+        → ServesEach (AnswersIn g If archive rules day) accepts closes outcomes
+        (part_of KeptLaw (AnswersIn g If archive rules day) (λ (w : Serving). w.state) accepts closes before)
+        (part_of KeptLaw (AnswersIn g If archive rules day) (λ (w : Serving). w.state) accepts closes after)
         × GoesOn after.state
     answers_each outcomes before after had goes each =
-        each_had_through KeptLaw (AnswersIn g If archive rules day routes) (λ (w : Serving). w.state) accepts closes (λ w. If → HasReturned g w.state) GoesOn
+        each_had_through KeptLaw (AnswersIn g If archive rules day) (λ (w : Serving). w.state) accepts closes (λ w. If → HasReturned g w.state) GoesOn
         (λ old new first last outcome law returned i. law.ends.stays.same.0.returned (returned i))
         (λ old new first last outcome returned on law. (
           answers_in archive old new on.same first last outcome law If returned on.sound,
           record {
             same = same_on archive old new on.same first last outcome law;
-            within = within_on archive old new on.same first last outcome law kept on.within;
             sound = λ i. sound_on archive old new on.same first last outcome law (returned i) (on.sound i);
           },
         ))
         outcomes before after had goes each
 
--- a run of a service, from a store and what it keeps
+-- a run of a service that keeps nothing before the first connection
 module _ {S L : Type 0} (g : Ghosts S) (accepts : L → L → Option AcceptFault → Type 0) (closes : L → L → Exchange → Bool → Type 0)
-    (keeper : Keeper) (store last : Store S) (listener : L) (outcomes : List Outcome) (after : Served L (AtWork Keeper (Store S)))
-    (same : last ≡ after.state.state)
-    (each : ServesEach (KeptLaw g keeper.rules keeper.day keeper.routes) accepts closes outcomes (served listener (at_work keeper store)) after) where
-  abbrev If : Type 0
-  If = CanServe g keeper store last
+    (rules : List Rule) (day : ℤ) (most : ℕ) (keeper : Keeper) (fresh : keeper ≡ fresh_keeper rules day most) (store : Store S) (listener : L) where
+  abbrev Law : AtWork Keeper (Store S) → AtWork Keeper (Store S) → Telling → Telling → Outcome → Type 0
+  Law = KeptLaw g rules day
 
-  through : ServesEach (RunLaw g keeper store last) accepts closes outcomes (served listener store) (served after.listener after.state.state)
-      × GoesOn g keeper.rules keeper.day keeper.routes accepts closes If (archive_in g store) keeper.kept after.state
-  through = answers_each g keeper.rules keeper.day keeper.routes accepts closes If (archive_in g store) keeper.kept outcomes (served listener (at_work keeper store)) after
+  run_each : (last : Store S) (outcomes : List Outcome) (after : Served L (AtWork Keeper (Store S))) → last ≡ after.state.state
+      → ServesEach Law accepts closes outcomes (served listener (at_work keeper store)) after
+      → ServesEach (RunLaw g rules day store last) accepts closes outcomes (served listener store) (served after.listener after.state.state)
+  run_each last outcomes after same each =
+      let through = answers_each g rules day accepts closes (CanServe g store last) (archive_in g store) outcomes (served listener (at_work keeper store)) after
       (λ i. subst (λ s. HasReturned g s) same i.0)
-      (record { same = (refl, refl, refl); within = (refl, λ was. was); sound = λ i. record { kept = i.2; left = λ up. (i.1, refl) } }) each
+      (record {
+        same = (ap (λ (k : Keeper). k.rules) fresh, ap (λ (k : Keeper). k.day) fresh, ap (λ (k : Keeper). k.routes) fresh);
+        sound = λ i. record {
+          kept = subst (λ (k : Keeper). AreOf (archive_in g store) rules day k.kept) (sym fresh) tt;
+          left = λ up. (i.1, refl);
+        };
+      }) each in
+      through.0
 
-  -- how each connection was answered
-  pub run_each : ServesEach (RunLaw g keeper store last) accepts closes outcomes (served listener store) (served after.listener after.state.state)
-  run_each = through.0
+  module _ (before after : Noted) (count : ℕ) (service : Keeper) (last : Store S) (end : L) where
+    abbrev left_at : Served L (AtWork Keeper (Store S))
+    left_at = served end (at_work service last)
 
-  -- what is left of what answers
-  pub leaves_kept : LeavesKept g keeper after.state.service store last
-  leaves_kept =
-      let later = after.state.service in
-      let goes = through.1 in
-      record {
-        same_rules = goes.same.0;
-        same_day = goes.same.1;
-        same_routes = goes.same.2;
-        kept = λ of returned held.
-            let sound = goes.sound (returned, held, of returned held) in
-            subst (λ rules. AreOf (archive_in g store) rules later.day later.kept) (sym goes.same.0)
-            (subst (λ day. AreOf (archive_in g store) keeper.rules day later.kept) (sym goes.same.1) sound.kept);
-        most = goes.within.0;
-        bounded = goes.within.1;
-      }
+    pub all_of_fresh : ServesAll Law accepts closes (served listener (at_work keeper store)) before after count left_at
+        → ServesAll (RunLaw g rules day store last) accepts closes (served listener store) before after count (served end last)
+    all_of_fresh it = (it.0, it.1, record { each = run_each last it.0 left_at refl it.2.each; told = it.2.told })
+
+    pub fewer_of_fresh : ServesFewer Law accepts closes (served listener (at_work keeper store)) before after count left_at
+        → ServesFewer (RunLaw g rules day store last) accepts closes (served listener store) before after count (served end last)
+    fewer_of_fresh it =
+        let same = same_state service last it.1.state it.4 in (
+          it.0,
+          served it.1.listener it.1.state.state,
+          it.2,
+          record { each = run_each last it.0 it.1 same it.3.each; told = it.3.told },
+          same,
+          it.5,
+        )

@@ -1,4 +1,3 @@
-pub mod RunLemmas
 mod SteadyLemmas
 mod SocketLemmas
 mod KeptLemmas

@@ -1,5 +1,5 @@
 -- What a listener on the loopback interface wrote down of a run of connections.
-use Rattle.std.proofs.Common.{◌≡◌, ◌<◌, ◌∙◌, inl, inr, ℤ, Bool, List, [], ◌∷◌, ◌++◌, Err, sym, ap, subst, append_assoc}
+use Rattle.std.proofs.Common.{◌≡◌, ◌<◌, ◌∙◌, inl, inr, ℤ, List, [], ◌∷◌, ◌++◌, Err, sym, ap, subst, append_assoc}
 use Rattle.std.proofs.lemmas.List.{append-nil}
 use Rattle.sqlite.specs.Store.{Ghosts}
 use Rattle.policy_core.specs.Rules.{Rule}
@@ -13,7 +13,7 @@ use Rattle.archive_listen.specs.Sockets.{Accepted, Closed, LoopbackState}
 use Rattle.archive_listen.specs.declared.faults.ConnectionFault.TheVariants.{Read}
 use Rattle.archive_serve.specs.Runs.{AnswersIn, AreReplied, CanServe, EachGetsItsReply, IsReplied}
 
-module _ {S : Type 0} (g : Ghosts S) (If : Type 0) (archive : Archive) (rules : List Rule) (day : ℤ) (routes : Bool) where
+module _ {S : Type 0} (g : Ghosts S) (If : Type 0) (archive : Archive) (rules : List Rule) (day : ℤ) where
   -- one that was gone
   replied_gone : (outcome : Outcome) (outcomes : List Outcome) (others : List Exchange) → outcome ≡ Err Read
       → AreReplied archive rules day outcomes others → AreReplied archive rules day (outcome ∷ outcomes) others
@@ -21,7 +21,7 @@ module _ {S : Type 0} (g : Ghosts S) (If : Type 0) (archive : Archive) (rules : 
   replied_gone outcome outcomes (over ∷ others) gone rest = inr (gone, rest)
 
   module _ (before between : Served LoopbackState (Store S)) (outcome : Outcome)
-      (takes : Takes (AnswersIn g If archive rules day routes) Accepted Closed before between outcome) where
+      (takes : Takes (AnswersIn g If archive rules day) Accepted Closed before between outcome) where
     abbrev over : Exchange
     over = exchange takes.told.read takes.sent
 
@@ -44,7 +44,7 @@ module _ {S : Type 0} (g : Ghosts S) (If : Type 0) (archive : Archive) (rules : 
         }
 
   pub each_replied : (outcomes : List Outcome) (before after : Served LoopbackState (Store S))
-      → ServesEach (AnswersIn g If archive rules day routes) Accepted Closed outcomes before after → If
+      → ServesEach (AnswersIn g If archive rules day) Accepted Closed outcomes before after → If
       → (all : List Exchange) × (after.listener.exchanges ≡ before.listener.exchanges ++ all) × AreReplied archive rules day outcomes all
   each_replied [] before after same i =
       ([], ap (λ (s : Served LoopbackState (Store S)). s.listener.exchanges) same ∙ sym (append-nil before.listener.exchanges), tt)
@@ -64,6 +64,6 @@ module _ {S : Type 0} (g : Ghosts S) (If : Type 0) (archive : Archive) (rules : 
       )
 
 pub each_gets : {S : Type 0} (g : Ghosts S) → EachGetsItsReply g
-each_gets g keeper outcomes first last old new each can =
-    each_replied g (CanServe g keeper old new) (archive_in g old) keeper.rules keeper.day keeper.routes outcomes
+each_gets g rules day outcomes first last old new each can =
+    each_replied g (CanServe g old new) (archive_in g old) rules day outcomes
     (record { listener = first; state = old }) (record { listener = last; state = new }) each can

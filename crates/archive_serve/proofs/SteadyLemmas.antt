@@ -36,9 +36,9 @@ goes_by g old new before after (Err answering.Read) X steady answered stays = an
 goes_by g old new before after (Err (answering.Write written)) X steady answered stays = absurd steady
 goes_by g old new before after (Err (answering.Broken written)) X steady answered stays = absurd steady
 
-module _ {S L : Type 0} (g : Ghosts S) (If : Type 0) (archive : Archive) (rules : List Rule) (day : ℤ) (routes : Bool) (accepts : L → L → Option AcceptFault → Type 0)
+module _ {S L : Type 0} (g : Ghosts S) (If : Type 0) (archive : Archive) (rules : List Rule) (day : ℤ) (accepts : L → L → Option AcceptFault → Type 0)
     (closes : L → L → Exchange → Bool → Type 0) where
-  one_ready : (before after : Served L (Store S)) (outcome : Outcome) → ServesOne (AnswersIn g If archive rules day routes) accepts closes outcome before after
+  one_ready : (before after : Served L (Store S)) (outcome : Outcome) → ServesOne (AnswersIn g If archive rules day) accepts closes outcome before after
       → If → IsSteady outcome → HoldsTables g before.state → (archive_in g before.state ≡ archive)
       → HoldsTables g after.state × (archive_in g after.state ≡ archive)
   one_ready before after outcome (inl takes) i steady held is =
@@ -49,7 +49,7 @@ module _ {S L : Type 0} (g : Ghosts S) (If : Type 0) (archive : Archive) (rules 
   one_ready before after outcome (inr misses) i steady held is =
       (subst (λ s. HoldsTables g s) (sym misses.unanswered) held, ap (λ s. archive_in g s) misses.unanswered ∙ is)
 
-  each_ready : (outcomes : List Outcome) (before after : Served L (Store S)) → ServesEach (AnswersIn g If archive rules day routes) accepts closes outcomes before after
+  each_ready : (outcomes : List Outcome) (before after : Served L (Store S)) → ServesEach (AnswersIn g If archive rules day) accepts closes outcomes before after
       → If → AllByRecursion IsSteady outcomes → HoldsTables g before.state → (archive_in g before.state ≡ archive)
       → HoldsTables g after.state × (archive_in g after.state ≡ archive)
   each_ready [] before after same i steady held is = (
@@ -62,6 +62,6 @@ module _ {S L : Type 0} (g : Ghosts S) (If : Type 0) (archive : Archive) (rules 
 
 pub leaves_ready : {S L : Type 0} (g : Ghosts S) (accepts : L → L → Option AcceptFault → Type 0) (closes : L → L → Exchange → Bool → Type 0)
     → LeaveItReady g accepts closes
-leaves_ready g accepts closes keeper outcomes listener later old new each can steady =
-    each_ready g (CanServe g keeper old new) (archive_in g old) keeper.rules keeper.day keeper.routes accepts closes outcomes
+leaves_ready g accepts closes rules day outcomes listener later old new each can steady =
+    each_ready g (CanServe g old new) (archive_in g old) rules day accepts closes outcomes
     (served listener old) (served later new) each can steady can.1 refl

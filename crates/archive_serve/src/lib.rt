@@ -2,10 +2,12 @@
 #![tactic(auto)]
 
 mod announcing;
+mod faults;
 pub mod laws;
 mod pages;
 mod serving;
 
-pub use announcing::{ServeStop, serve};
-pub use pages::PageService;
+pub use announcing::serve;
+pub use faults::ServeStop;
+pub use pages::Terms;
 pub use serving::serve_on;

@@ -1,24 +1,46 @@
 //! The archive's pages as a service.
-ghost use Rattle.std.specs.Prelude.{◌≡◌, is_some};
+ghost use Rattle.std.specs.Prelude.{◌≡◌, IfOk};
+ghost use Rattle.archive_serve.specs.Keeping.{fresh_keeper};
 
+use archive_kept::Kept;
 use archive_listen::{ConnectionFault, Service};
 use archive_pages::{Pages, ServeFault, answer_kept};
+use archive_requests::Routes;
 use archive_store::Store;
+use civil_time::Day;
+use mail_core::Memory;
 use mbox_core::device::{Sink, Source};
+use policy_core::Policy;
 use sqlite::Alter;
+use std::alloc::Global;
 use std::marker::Model;
 use thread_core::Threader;
+
+/// By what connections are answered.
+#[derive(Drop)]
+pub struct Terms<'a, T> {
+    /// What gives memory.
+    pub alloc: Global,
+    /// Decides what each reader is shown.
+    pub policy: &'a Policy,
+    /// Threads the messages of a list.
+    pub threader: &'a T,
+    /// The day that the policy is asked about, in UTC.
+    pub day: Day,
+    /// How many bytes of lists, months and authors are kept at most for the connections behind, or one of them alone.
+    pub most: usize,
+}
 
 /// Answers requests by pages, out of a store that stays as it is. What is read of lists for threads, of months and of authors is kept
 /// for those that follow.
 #[derive(Drop)]
-pub struct PageService<'a, T> {
-    pub(crate) pages: Pages<'a, T>,
+pub(crate) struct PageService<'a, T> {
+    pages: Pages<'a, T>,
 }
 
 impl<'a, T> Model for PageService<'a, T> {
     ghost use Rattle.std.specs.Prelude.{is_some};
-    ghost use Rattle.archive_serve.specs.Pages.{Keeper};
+    ghost use Rattle.archive_serve.specs.Keeping.{Keeper};
 
     ghost Value = { Keeper };
 
@@ -26,17 +48,26 @@ impl<'a, T> Model for PageService<'a, T> {
 }
 
 impl<'a, T> PageService<'a, T> {
-    /// What the pages keep has to be of what the store remembers, as for `answer_kept`: nothing at first (`Pages::new`). With routes it says
-    /// never 503 where no route fits.
-    pub fn new(pages: Pages<'a, T>) -> PageService<'a, T>
-        ensures { result ≡ record { rules = pages.entry.policy.now; day = pages.entry.day; routes = is_some pages.entry.routes; kept = pages.entry.kept } }
+    /// It has routes, and keeps nothing yet. `Memory`: that of the routes was refused.
+    pub(crate) fn new(terms: &Terms<'a, T>) -> Result<PageService<'a, T>, Memory>
+        ensures { IfOk result (λ service. service ≡ fresh_keeper terms.now.policy.now terms.now.day terms.now.most) }
     {
-        PageService { pages }
+        let routes = Routes::new(terms.alloc)?;
+        Ok(PageService {
+            pages: Pages {
+                alloc: terms.alloc,
+                policy: terms.policy,
+                threader: terms.threader,
+                day: terms.day,
+                routes: Some(routes),
+                kept: Kept::new(terms.alloc, terms.most),
+            },
+        })
     }
 }
 
 impl<'a, T: Threader, S: Alter> Service<Store<S>> for PageService<'a, T> {
-    ghost use Rattle.archive_serve.specs.Pages.{AnswersKept};
+    ghost use Rattle.archive_serve.specs.Keeping.{AnswersKept};
 
     ghost answers = { λ p q. AnswersKept S.Store p q };
 
