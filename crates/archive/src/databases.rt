@@ -1,15 +1,17 @@
 //! The archives in a system's files.
-ghost use Rattle.std.specs.Prelude.{◌≡◌, ◌≤◌, None, IfErr, IfOk};
+ghost use Rattle.std.specs.Prelude.{◌≡◌, ◌≤◌, None, IfErr, IfOk, IfSome};
 ghost use Rattle.sqlite_wal.specs.Files.{image_at};
 ghost use Rattle.sqlite.specs.Files.{file_state, IsOpened};
 ghost use Rattle.sqlite.specs.Start.{FindsIn};
 ghost use Rattle.sqlite.specs.State.{HasCleanDisk};
 ghost use Rattle.archive_store.specs.Replies.{refusal};
 ghost use Rattle.archive.specs.Opening.{WasTakenOver};
+ghost use Rattle.archive.specs.Closing.{IsLeftBy};
 
 use archive_run::Databases;
 use archive_store::{AdoptStop, Store, StoreFault};
-use sqlite::{Connection, FileFrom, FileStore, Options, Start};
+use sqlite::{Connection, FileFrom, FileStore, Files, Options, Start};
+use sqlite_disk::Disk;
 use sqlite_std_file::OpenError;
 use std::alloc::Global;
 use std::fs;
@@ -136,6 +138,20 @@ fn take_over<S: Start>(
     }
 }
 
+/// Closes a store, and hands its files back: what is committed is in the database file. Where it cannot be copied there now, it stays in
+/// the log, and nothing is handed back.
+fn close_store<D: Disk + Drop>(store: Store<FileStore<D>>) -> Option<Files<D>>
+    ensures { IfSome result (λ files. IsLeftBy store files) }
+{
+    let connection = store.into_connection();
+    // It says that an open connection is to a database.
+    let _schema = connection.schema();
+    match connection.close_files() {
+        Ok(files) => Some(files),
+        Err((_error, _left)) => None,
+    }
+}
+
 /// One of the system's files, as a database. `S` stands for what the file holds before it is opened, which no code can read; its value is
 /// used up by the opening, so a second one is E15. No order opens a database twice.
 #[derive(Drop)]
@@ -144,21 +160,24 @@ pub struct SystemDatabases<'a, S: Start> {
     pub rt: &'a HostRuntime,
     /// What the file holds, until it is opened.
     pub start: Option<S>,
+    /// The file and its log once the database was closed, if that did not fail.
+    pub left: Option<Files<FileFrom<S>>>,
 }
 
 impl<'a, S: Start> Databases<Store<FileStore<FileFrom<S>>>> for SystemDatabases<'a, S> {
     ghost use Rattle.std.specs.Prelude.{◌≡◌, None, IfOk};
     ghost use Rattle.sqlite_wal.specs.Files.{image_at};
     ghost use Rattle.archive.specs.Opening.{HoldsRows, Until, WasTakenOver};
+    ghost use Rattle.archive.specs.Closing.{IsClosedAs, StillHolds};
 
-    // What the file held before it was opened. Of what it holds once it was opened nothing is said: this is so of every archive.
-    ghost holds = { λ it name archive. Until it.start (HoldsRows (image_at S.Start) archive) };
+    // What the file holds before it is opened, and once it was closed. While it is open, and behind a close that failed, nothing is said.
+    ghost holds = { λ it name archive. Until it.start (HoldsRows (image_at S.Start) archive) × StillHolds ⟦<FileFrom<S> as Disk>⟧ it.left archive };
 
     // It was not opened before, and the store comes of a connection that found what the file held.
     ghost opens = { λ old new name result. (old.start ≡ None → IfOk result (λ _. ⊥)) × (new.start ≡ None)
         × IfOk result (λ store. WasTakenOver (image_at S.Start) store) };
 
-    ghost closes = { λ old new store. new.start ≡ old.start };
+    ghost closes = { λ old new store. (new.start ≡ old.start) × IsClosedAs new.left store };
 
     fn open(
         &mut self,
@@ -171,10 +190,7 @@ impl<'a, S: Start> Databases<Store<FileStore<FileFrom<S>>>> for SystemDatabases<
         take_over(self.rt, name, start)
     }
 
-    // What is committed stays in the log where it cannot be copied into the file now.
-    fn close(&mut self, store: Store<FileStore<FileFrom<S>>>)
-        ensures { self.new.start ≡ self.old.start }
-    {
-        let _closed = store.into_connection().close();
+    fn close(&mut self, store: Store<FileStore<FileFrom<S>>>) {
+        self.left = close_store(store);
     }
 }

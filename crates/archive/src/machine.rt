@@ -16,7 +16,8 @@ pub struct Machine<'a, S, I, O, E> {
 impl<'a, S: Start, I: Source + Drop, O: Outgoing + Drop, E: Sink + Drop> System
     for Machine<'a, S, I, O, E> {
     ghost use Rattle.sqlite_wal.specs.Files.{image_at};
-    ghost use Rattle.archive.specs.Opening.{still_said, was_held};
+    ghost use Rattle.archive.specs.Opening.{was_held};
+    ghost use Rattle.archive.specs.Closing.{closed_holds};
 
     type Storage = FileStore<FileFrom<S>>;
 
@@ -36,9 +37,9 @@ impl<'a, S: Start, I: Source + Drop, O: Outgoing + Drop, E: Sink + Drop> System
 
     type Faults = E;
 
-    ghost opens_held = { λ old new file store archive held opened. was_held (image_at S.Start) old.start archive store held opened.0 opened.2 };
+    ghost opens_held = { λ old new file store archive held opened. was_held (image_at S.Start) old.start archive store held.0 opened.0 opened.2 };
 
-    ghost closes_held = { λ old device new file before after archive held opened closed returned tables. still_said new.start device.start _ closed opened.1 };
+    ghost closes_held = { λ old device new file before after archive held opened closed returned tables. closed_holds after _ device.start new.start new.left closed opened.1 tables };
 }
 
 /// The devices of a system, over these streams. `start` stands for what the file of the database holds before it is opened.
@@ -54,6 +55,7 @@ pub fn make_world<'a, S: Start, I: Source + Drop, O: Outgoing + Drop, E: Sink + 
         databases: SystemDatabases {
             rt,
             start: Some(start),
+            left: None,
         },
         clock: SystemDay { rt },
         ports: LoopbackPorts {

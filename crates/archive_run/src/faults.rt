@@ -1,7 +1,7 @@
 //! What the program says where it refuses.
-ghost use Rattle.std.specs.Prelude.{◌++◌, codes, decimal};
+ghost use Rattle.std.specs.Prelude.{◌≡◌, ◌++◌, codes, decimal};
 ghost use Rattle.sift_run.specs.Refusals.{IsSaid};
-ghost use Rattle.archive_run.specs.Refusals.{import_text};
+ghost use Rattle.archive_run.specs.Refusals.{import_text, visible, visible_byte};
 
 use archive_desk::{DeskFault, ImportFault, ImportStop};
 use archive_store::StoreFault;
@@ -19,8 +19,8 @@ pub enum Refusal {
     Desk(DeskFault),
     /// M1 to M3, E4, E12, E14, E15: an import, with the number of messages that were done.
     Import(ImportStop),
-    /// E16: the message of this list and key is damaged. Each byte that is not visible is `?`.
-    Damaged { list: String, key: String },
+    /// E16: the message of this list and key is damaged.
+    Damaged { list: Vec<u8>, key: Vec<u8> },
     /// The rule of this name denies a message.
     Denied(String),
     /// F4: the network.
@@ -46,15 +46,35 @@ fn say_import<E: Sink>(faults: &mut E, stop: ImportStop) -> Result<(), DeviceFai
     put_number(faults, b" after ", stop.done)
 }
 
+/// A byte as a line shows it: `?` where it is not visible.
+fn visible_byte(byte: u8) -> u8
+    ensures { result ≡ visible_byte byte }
+{
+    match byte {
+        b'!'..=b'~' => byte,
+        _ => b'?',
+    }
+}
+
+/// Writes bytes of a database as a line shows them.
+fn put_visible<E: Sink>(faults: &mut E, bytes: &[u8]) -> Result<(), DeviceFailure>
+    ensures { IsSaid E.Sink faults.old faults.new (visible bytes.now) result }
+{
+    for byte in bytes.iter() {
+        put(faults, &[visible_byte(*byte)])?;
+    }
+    Ok(())
+}
+
 /// Says which message is damaged.
-fn say_damaged<E: Sink>(faults: &mut E, list: &str, key: &str) -> Result<(), DeviceFailure>
+fn say_damaged<E: Sink>(faults: &mut E, list: &[u8], key: &[u8]) -> Result<(), DeviceFailure>
     ensures { IsSaid E.Sink faults.old faults.new
-        (codes "E16 Damaged " ++ (list.now ++ (codes " " ++ key.now))) result }
+        (codes "E16 Damaged " ++ (visible list.now ++ (codes " " ++ visible key.now))) result }
 {
     put(faults, b"E16 Damaged ")?;
-    put(faults, list.as_bytes())?;
+    put_visible(faults, list)?;
     put(faults, b" ")?;
-    put(faults, key.as_bytes())
+    put_visible(faults, key)
 }
 
 /// Says which rule denies a message.
@@ -76,7 +96,7 @@ impl Refuses for Refusal {
             Refusal::Store(fault) => put(faults, fault.name().as_bytes()),
             Refusal::Desk(fault) => put(faults, fault.name().as_bytes()),
             Refusal::Import(stop) => say_import(faults, *stop),
-            Refusal::Damaged { list, key } => say_damaged(faults, list.as_str(), key.as_str()),
+            Refusal::Damaged { list, key } => say_damaged(faults, list, key),
             Refusal::Denied(rule) => say_denied(faults, rule.as_str()),
             Refusal::Net => put(faults, b"F4 Net"),
         }

@@ -1,8 +1,7 @@
 //! Orders over a database: each opens the database of the name, does one thing, and closes it.
-ghost use Rattle.std.specs.Prelude.{◌≡◌, ◌⊎◌, Ok, Err, MatchResult, IfOk, string_bytes};
+ghost use Rattle.std.specs.Prelude.{◌≡◌, ◌⊎◌, Ok, Err, MatchResult};
 ghost use Rattle.archive_work.specs.Working.{Carries, Gets};
 ghost use Rattle.archive_run.specs.Databases.{Works, IsUnopened};
-ghost use Rattle.archive_run.specs.Refusals.{ShowsDamage, visible, visible_byte};
 ghost use Rattle.archive_run.specs.Working.{Answers, CarriesNot, ChecksNot, ExportsNot, GetsNot, ImportsFile, ImportsNot, IsExported, NotOpened};
 ghost use Rattle.sift_run.specs.Streams.{sent};
 ghost use Rattle.archive_store.specs.Checking.{Checks};
@@ -18,7 +17,7 @@ use archive_words::{CheckOrder, ImportOrder, TableOrder};
 use archive_work::{Answer, GetStop, carry_out, get};
 use sift_run::{FileFault, OpenFiles, RunFault};
 use sqlite::Alter;
-use std::alloc::{AllocError, Global};
+use std::alloc::Global;
 
 /// Carries a command out in the database of the order.
 pub(crate) fn work_table<S: Alter, D: Databases<Store<S>>>(
@@ -129,37 +128,6 @@ pub(crate) fn work_get<S: Alter, D: Databases<Store<S>>>(
     text
 }
 
-/// A byte as a line shows it: `?` where it is not visible.
-fn visible_byte(byte: u8) -> u8
-    ensures { result ≡ visible_byte byte }
-{
-    match byte {
-        b'!'..=b'~' => byte,
-        _ => b'?',
-    }
-}
-
-/// Bytes of a database as a line shows them.
-fn visible(alloc: Global, bytes: &[u8]) -> Result<String, AllocError>
-    ensures { IfOk result (λ text. string_bytes text ≡ visible bytes.now) }
-{
-    let mut text = String::with_capacity(alloc, bytes.len())?;
-    for byte in bytes.iter() {
-        text.push(char::from(visible_byte(*byte)))?;
-    }
-    Ok(text)
-}
-
-/// E16 of a message of this list and key, where there is memory to show them.
-fn damaged(alloc: Global, list: &[u8], key: &[u8]) -> Result<Refusal, AllocError>
-    ensures { IfOk result (ShowsDamage list.now key.now) }
-{
-    Ok(Refusal::Damaged {
-        list: visible(alloc, list)?,
-        key: visible(alloc, key)?,
-    })
-}
-
 /// Looks whether an open store is whole.
 fn check_store<S: Alter>(store: &mut Store<S>, alloc: Global) -> Result<(), Refusal>
     ensures checked { MatchResult result
@@ -169,13 +137,7 @@ fn check_store<S: Alter>(store: &mut Store<S>, alloc: Global) -> Result<(), Refu
     match store.check(alloc) {
         Ok(()) => Ok(()),
         Err(CheckStop::Failed(fault)) => Err(Refusal::Store(fault)),
-        Err(CheckStop::Damaged { list, key }) => match damaged(alloc, &list, &key) {
-            Ok(refusal) => Err(refusal),
-            Err(refused) => {
-                store.wants.raise(refused.into());
-                Err(Refusal::Run(RunFault::Memory))
-            }
-        },
+        Err(CheckStop::Damaged { list, key }) => Err(Refusal::Damaged { list, key }),
     }
 }
 
