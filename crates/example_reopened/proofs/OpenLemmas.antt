@@ -14,7 +14,7 @@ use Rattle.policy_core.specs.Rules.{Rule}
 use Rattle.archive_pages.specs.Causes.{IsUnreadIn, IsUnserved, ServesOr}
 use Rattle.archive_pages.specs.declared.faults.ServeFault.{ServeFault}
 use Rattle.example_reopened.specs.Reopening.{TakesOver}
-use Rattle.example_reopened.proofs.ReadLemmas.{nothing_unread}
+use Rattle.archive_pages.proofs.CauseLemmas.{nothing_unread}
 use Rattle.example_reopened.specs.Opening.{HasCause, IsUnread, OfHeld, OfRun}
 use Rattle.example_reopened.proofs.ReopenLemmas.{leads_to}
 

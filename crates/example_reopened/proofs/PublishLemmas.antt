@@ -18,7 +18,7 @@ use Rattle.archive_desk.specs.Importing.{Cause, IsImported, IsRefusedImport, IsB
 use Rattle.archive_desk.specs.Readable.{CanBeRead}
 use Rattle.archive_desk.specs.declared.importing.Report.{Report}
 use Rattle.archive_pages.specs.Causes.{IsUnreadIn, IsUnserved}
-use Rattle.example_reopened.proofs.ReadLemmas.{nothing_unread}
+use Rattle.archive_pages.proofs.CauseLemmas.{nothing_unread}
 use Rattle.archive_pages.specs.declared.pages.Peer.{Peer}
 use Rattle.example_reopened.specs.Opening.{HasCause, IsUnread}
 use Rattle.example_reopened.specs.Reopening.{LeadsTo, LeadsToIfOpen}

@@ -2,8 +2,7 @@
 use crate::peers::{Peer, Peers};
 use crate::serving::{GETS, LISTS, MOST, fill, today};
 use archive_listen::{Gathered, ROOM};
-use archive_pages::Pages;
-use archive_serve::{PageService, ServeStop, serve};
+use archive_serve::{ServeStop, Terms, serve};
 use archive_store::Store;
 use mbox_core::device::Tap;
 use policy_core::Policy;
@@ -78,10 +77,16 @@ fn says_where<S: Alter>(
     let mut output: Gathered<Tap, ROOM> = Gathered::new(Tap::new(alloc, b"", case.room)?);
     let mut faults = Tap::new(alloc, b"", 1000)?;
     let policy = Policy::open();
-    let mut pages = PageService::new(Pages::new(alloc, &policy, &PlainThreader, today()?, MOST));
+    let terms = Terms {
+        alloc,
+        policy: &policy,
+        threader: &PlainThreader,
+        day: today()?,
+        most: MOST,
+    };
     let outcome = serve(
         store,
-        &mut pages,
+        &terms,
         &mut listener,
         case.port,
         case.count,

@@ -1,8 +1,7 @@
 //! Peers that fail at each byte, and the next ones.
 use crate::peers::{ALL, Peer, Peers};
 use crate::serving::{GET, GETS, LISTS, MOST, fill, joined, today};
-use archive_pages::Pages;
-use archive_serve::{PageService, serve_on};
+use archive_serve::{Terms, serve_on};
 use archive_store::Store;
 use mbox_core::device::Tap;
 use policy_core::Policy;
@@ -25,8 +24,14 @@ fn is_followed<S: Alter>(
     let mut listener = Peers::new(alloc, &peers);
     let mut faults = Tap::new(alloc, b"", 1000)?;
     let policy = Policy::open();
-    let mut pages = PageService::new(Pages::new(alloc, &policy, &PlainThreader, today()?, MOST));
-    let outcome = serve_on(store, &mut pages, &mut listener, 2, &mut faults);
+    let terms = Terms {
+        alloc,
+        policy: &policy,
+        threader: &PlainThreader,
+        day: today()?,
+        most: MOST,
+    };
+    let outcome = serve_on(store, &terms, &mut listener, 2, &mut faults);
     assert_eq!(rt; outcome, Ok(()));
     assert_eq!(rt;
         listener.got.as_slice(),

@@ -1,9 +1,7 @@
 //! Peers one after the other, and what comes of them.
 use crate::peers::{ALL, Peer, Peers};
 use archive_desk::import;
-use archive_listen::ListenFault;
-use archive_pages::Pages;
-use archive_serve::{PageService, serve_on};
+use archive_serve::{ServeStop, Terms, serve_on};
 use archive_store::{Key, Store};
 use civil_time::Day;
 use mbox_core::cut;
@@ -92,7 +90,7 @@ const LEAVES: Peer = Peer::Says {
 struct Case {
     peers: &'static [Peer],
     count: u32,
-    outcome: Result<(), ListenFault>,
+    outcome: Result<(), ServeStop>,
     got: &'static [&'static [u8]],
     told: &'static [u8],
 }
@@ -136,14 +134,14 @@ const CASES: [Case; 7] = [
     Case {
         peers: &[GETS, Peer::Gone],
         count: 3,
-        outcome: Err(ListenFault),
+        outcome: Err(ServeStop::Listen),
         got: &[LISTS],
         told: b"archive: S1 Read\n",
     },
     Case {
         peers: &[],
         count: 1,
-        outcome: Err(ListenFault),
+        outcome: Err(ServeStop::Listen),
         got: &[],
         told: b"",
     },
@@ -185,8 +183,14 @@ fn comes<S: Alter>(
 ) -> Result<(), Fail> {
     let mut listener = Peers::new(alloc, case.peers);
     let mut faults = Tap::new(alloc, b"", 1000)?;
-    let mut pages = PageService::new(Pages::new(alloc, policy, &PlainThreader, today()?, MOST));
-    let outcome = serve_on(store, &mut pages, &mut listener, case.count, &mut faults);
+    let terms = Terms {
+        alloc,
+        policy,
+        threader: &PlainThreader,
+        day: today()?,
+        most: MOST,
+    };
+    let outcome = serve_on(store, &terms, &mut listener, case.count, &mut faults);
     assert_eq!(rt; outcome, case.outcome);
     assert_eq!(rt;
         listener.got.as_slice(),

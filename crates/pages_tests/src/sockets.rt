@@ -1,8 +1,7 @@
 //! A peer of this process, on the loopback interface.
 use crate::serving::{GET, LISTS, MOST, fill, today};
 use archive_listen::Loopback;
-use archive_pages::Pages;
-use archive_serve::{PageService, serve_on};
+use archive_serve::{Terms, serve_on};
 use archive_store::Store;
 use mbox_core::device::Tap;
 use policy_core::Policy;
@@ -22,8 +21,14 @@ fn asks<S: Alter>(rt: &HostRuntime, alloc: Global, store: &mut Store<S>) -> Resu
     peer.write_all(GET)?;
     let mut faults = Tap::new(alloc, b"", 1000)?;
     let policy = Policy::open();
-    let mut pages = PageService::new(Pages::new(alloc, &policy, &PlainThreader, today()?, MOST));
-    let outcome = serve_on(store, &mut pages, &mut listener, 1, &mut faults);
+    let terms = Terms {
+        alloc,
+        policy: &policy,
+        threader: &PlainThreader,
+        day: today()?,
+        most: MOST,
+    };
+    let outcome = serve_on(store, &terms, &mut listener, 1, &mut faults);
     let mut got = Vec::new(alloc);
     peer.read_to_end(&mut got)?;
     if outcome.is_err() || !faults.bytes().is_empty() {

@@ -16,6 +16,9 @@ use thread_core::NodeThreader;
 /// A file that writes a policy.
 pub const POLICY: &str = "policy.toml";
 
+/// A file that writes another one, which hides what was withdrawn from everybody.
+pub const HIDING: &str = "hiding.toml";
+
 /// A file that writes none.
 pub const NO_POLICY: &str = "archive.mbox";
 
@@ -44,7 +47,7 @@ const TAKEN: u16 = 22;
 /// What port 0 stands for.
 const PICKED: u16 = 49152;
 
-/// Two policies, of which one is none, and mboxes.
+/// Policies, of which one is none, and mboxes.
 #[derive(Drop)]
 pub struct KnownFiles;
 
@@ -52,6 +55,8 @@ impl ReadFiles for KnownFiles {
     fn read_file(&self, alloc: Global, name: &str) -> Result<Vec<u8>, FileFault> {
         let text: &[u8] = match name {
             POLICY => b"[[rule]]\nname = \"all\"\neffect = \"allow\"\n",
+            HIDING =>
+                b"[[rule]]\nname = \"withdrawn\"\neffect = \"deny\"\nwithdrawn = [\"author\", \"board\"]\n\n[[rule]]\nname = \"all\"\neffect = \"allow\"\n",
             NO_POLICY => b"From anna@example.org Tue Mar  4 10:00:00 2003\n",
             _ => return Err(FileFault::Read),
         };
@@ -161,13 +166,20 @@ pub enum Peer {
     Gone,
     /// It asks for all lists.
     Asks,
+    /// It says this, and waits for this reply.
+    Waits {
+        text: &'static [u8],
+        reply: &'static [u8],
+    },
 }
 
-/// Gives these peers, and then no more.
+/// Gives these peers, and then no more; nor any behind one that was sent another reply than it waits for.
 #[derive(Drop)]
 pub struct Peers {
     alloc: Global,
     peers: &'static [Peer],
+    // What the last one waits for.
+    reply: Option<&'static [u8]>,
 }
 
 impl Listener for Peers {
@@ -180,10 +192,13 @@ impl Listener for Peers {
             return Err(AcceptFault::Listener);
         };
         self.peers = rest;
-        let Peer::Asks = *first else {
-            return Err(AcceptFault::Peer);
+        let (text, reply): (&[u8], Option<&'static [u8]>) = match *first {
+            Peer::Gone => return Err(AcceptFault::Peer),
+            Peer::Asks => (b"GET / HTTP/1.1\r\n\r\n", None),
+            Peer::Waits { text, reply } => (text, Some(reply)),
         };
-        let Ok(input) = Tap::new(self.alloc, b"GET / HTTP/1.1\r\n\r\n", 1000) else {
+        self.reply = reply;
+        let Ok(input) = Tap::new(self.alloc, text, 1000) else {
             return Err(AcceptFault::Listener);
         };
         let Ok(output) = Tap::new(self.alloc, b"", 4000) else {
@@ -198,8 +213,13 @@ impl Listener for Peers {
     fn close(&mut self, connection: Connection<Tap, Gathered<Tap, ROOM>>, breaks_off: bool)
         ensures closes { ⊤ }
     {
-        let _connection = connection;
+        let output = connection.output.into_inner();
         let _breaks_off = breaks_off;
+        if let Some(reply) = self.reply {
+            if output.bytes() != reply {
+                self.peers = &[];
+            }
+        }
     }
 }
 
@@ -223,6 +243,7 @@ impl Ports for Quay {
             listener: Peers {
                 alloc: self.alloc,
                 peers: self.peers,
+                reply: None,
             },
             port: if port == 0 { PICKED } else { port },
         })

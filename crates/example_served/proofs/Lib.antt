@@ -1,0 +1,2 @@
+pub mod PublishLemmas
+mod WorkedExamples

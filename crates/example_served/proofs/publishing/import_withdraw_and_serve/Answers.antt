@@ -1,0 +1,53 @@
+use Rattle.std.proofs.Common.{inl, inr}
+use Rattle.archive_run.specs.World.{devices}
+use Rattle.archive_words.specs.declared.orders.Order.TheVariants.{Table, Import, Serve}
+use Rattle.example_served.specs.Publishing.{import_of, service_of, withdrawal_of}
+use Rattle.example_served.proofs.PublishLemmas.{not_done, published}
+use Rattle.example_served.proofs.publishing.import_withdraw_and_serve.Goals as goal
+
+pub returns-clause-published : goal.returns-clause-published
+returns-clause-published g c =
+    λ zero it words.
+    let dev = devices g.Y.Storage.Store g.Y.Files.ReadFiles g.Y.Files.OpenFiles g.Y.Files.Input.Source g.Y-Databases-Databases g.Y.Clock.DayClock
+    g.Y.Ports.Ports.listens g.Y.Ports.Listener.Listener.accepts g.Y.Ports.Listener.Listener.closes g.Y.Threaders.Threaders.makes g.Y.Input.Source g.Y.Output.Sink g.Y.Output.Outgoing g.Y.Faults.Sink in
+    let one = c.run-imported.ensures in
+    let two = c.run-withdrawn.ensures in
+    let three = c.run.ensures in
+    published dev c.args.world.now c.run-imported.new.world c.run-withdrawn.new.world c.run.new.world it
+    (one.done (Import (import_of it)) words.imports c.if-imported-ne0.false) (one.holds (Import (import_of it)) words.imports c.if-imported-ne0.false)
+    (two.done (Table (withdrawal_of it)) words.withdraws c.if-withdrawn-ne0.false) (two.holds (Table (withdrawal_of it)) words.withdraws c.if-withdrawn-ne0.false)
+    (three.holds (Serve (service_of it)) words.serves zero)
+
+pub returns-then-withdrawn-ne0-clause-stopped : goal.returns-then-withdrawn-ne0-clause-stopped
+returns-then-withdrawn-ne0-clause-stopped g c =
+    λ some.
+    let dev = devices g.Y.Storage.Store g.Y.Files.ReadFiles g.Y.Files.OpenFiles g.Y.Files.Input.Source g.Y-Databases-Databases g.Y.Clock.DayClock
+    g.Y.Ports.Ports.listens g.Y.Ports.Listener.Listener.accepts g.Y.Ports.Listener.Listener.closes g.Y.Threaders.Threaders.makes g.Y.Input.Source g.Y.Output.Sink g.Y.Output.Outgoing g.Y.Faults.Sink in
+    let first = c.run-imported.new.world in
+    let one = c.run-imported.ensures in
+    let two = c.run-withdrawn.ensures in
+    inr (
+      first,
+      (λ order given. one.done order given c.if-imported-ne0.false),
+      inl (not_done dev first c.run-withdrawn.new.world _ c.run-withdrawn.result some two.refused two.stopped),
+    )
+
+pub returns-clause-stopped : goal.returns-clause-stopped
+returns-clause-stopped g c =
+    λ some.
+    let dev = devices g.Y.Storage.Store g.Y.Files.ReadFiles g.Y.Files.OpenFiles g.Y.Files.Input.Source g.Y-Databases-Databases g.Y.Clock.DayClock
+    g.Y.Ports.Ports.listens g.Y.Ports.Listener.Listener.accepts g.Y.Ports.Listener.Listener.closes g.Y.Threaders.Threaders.makes g.Y.Input.Source g.Y.Output.Sink g.Y.Output.Outgoing g.Y.Faults.Sink in
+    let first = c.run-imported.new.world in
+    let second = c.run-withdrawn.new.world in
+    let one = c.run-imported.ensures in
+    let two = c.run-withdrawn.ensures in
+    let three = c.run.ensures in
+    inr (
+      first,
+      (λ order given. one.done order given c.if-imported-ne0.false),
+      inr (
+        second,
+        (λ order given. two.done order given c.if-withdrawn-ne0.false),
+        inl (not_done dev second c.run.new.world _ c.run.result some three.refused three.stopped),
+      ),
+    )
