@@ -8,6 +8,7 @@
 # The library is proved and built by the toolchain (rt), which builds nothing that is not proved; where it lies already, ARCHIVE
 # names it, and no toolchain is needed but for the few lines that call malloc.
 set -eu
+case ${1-} in -h | --help) sed -n '2,/^[^#]/s/^# \{0,1\}//p' -- "$0"; exit ;; esac
 here=$(dirname -- "$(readlink -f -- "${BASH_SOURCE[0]}")")
 to=${1:-$here/out}
 archive=${2:-$here/../crates/luvazhimba_c/out/libluvazhimba_c.a}

@@ -19,7 +19,7 @@ case $1 in
   version) echo stand-in 1 ;;
   ci)
     [ ! -e "$STAND_IN/fails" ] || { echo 'rt: civil_time NOT PROVED'; echo '0 passed, 1 failed'; exit 1; }
-    echo x >> "$STAND_IN/builds"
+    ! grep -q "^archive:" crates.txt || echo x >> "$STAND_IN/builds"
     mkdir -p crates/archive/out crates/sift/out
     printf '#!/bin/sh\\necho ran "$@"\\nwc -c\\n' > crates/archive/out/archive
     { printf '#!/bin/sh\\nif [ $# -gt 0 ]; then echo sifted "$@"; exec wc -c; fi\\ncat << END\\n'; cat crates/sift/stdout; echo END; } > crates/sift/out/sift
