@@ -6,7 +6,7 @@ use Rattle.sqlite.specs.Schema.{Schema}
 use Rattle.sqlite.specs.Store.{Ghosts}
 use Rattle.archive_tables.specs.Schema.{no_schema, schema_of}
 use Rattle.archive_tables.specs.Tables.{IsKnown, IsOfVersion, newest_number}
-use Rattle.archive_tables.specs.Statements.{IsRefusedInTurn, making_statements, moving_statements}
+use Rattle.archive_tables.specs.Statements.{IsRefusedInTurn, moving_statements}
 use Rattle.archive_tables.specs.Crashes.{AddsNothing}
 use Rattle.archive_tables.specs.Making.{IsMaking}
 
@@ -43,11 +43,7 @@ pub record IsOlder (number : ℕ) : Type 0 where
 abbrev pub QuietFrom : {S : Type 0} → Ghosts S → Held S → Held S → Schema → Type 0
 QuietFrom g old new schema = (before : Database) → IsMaking (state g old) schema before → AddsNothing g old new
 
--- ---- why a database that adopting understands is not taken, but for want of memory and the disk
-
--- it is empty, and SQL refuses in its turn a statement that makes the tables
-abbrev pub IsUnmade : Database → Type 0
-IsUnmade db = (db.schema ≡ no_schema) × IsRefusedInTurn making_statements db
+-- ---- why a database that adopting understands is not taken, but for want of memory and the disk: an empty one always is
 
 -- its tables are those of a version, and `version` does not hold one row, of its number
 abbrev pub IsUnnumbered : Database → Type 0
@@ -59,4 +55,4 @@ IsUnmoved db = (number : ℕ) × IsOlder number × (db.schema ≡ schema_of numb
 
 -- one of these
 abbrev pub IsNotTaken : Database → Type 0
-IsNotTaken db = IsUnmade db ⊎ (IsUnnumbered db ⊎ IsUnmoved db)
+IsNotTaken db = IsUnnumbered db ⊎ IsUnmoved db

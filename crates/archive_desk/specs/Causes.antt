@@ -3,12 +3,15 @@
 use Rattle.std.specs.Prelude.{◌≡◌, ◌≢◌, ◌⊎◌, ℕ, true, List, Result, IfErr, IsUtf8}
 use Rattle.std.specs.List.{All}
 use Rattle.std.specs.Option.{IsSomeAnd}
+use Rattle.sqlite.specs.Effect.{Database}
 use Rattle.sqlite.specs.Store.{Ghosts}
+use Rattle.sqlite.specs.Held.{state}
 use Rattle.policy_core.specs.declared.access.Standing.{Standing}
 use Rattle.policy_core.specs.Rules.{asks_own}
 use Rattle.archive_machine.specs.Records.{Archive, Message}
 use Rattle.archive_machine.specs.Questions.{address_of, message_of, standing_of}
 use Rattle.archive_database.specs.Messages.{IsReadable}
+use Rattle.archive_store.specs.Held.{held_of}
 use Rattle.archive_store.specs.Told.{HasFailed, HasNoLimit, HasReturned, HoldsTables, archive_in}
 use Rattle.archive_store.specs.Words.{standing_rank}
 use Rattle.archive_store.specs.declared.store.Store.{Store}
@@ -73,6 +76,12 @@ module _ {S : Type 0} (g : Ghosts S) (old new : Store S) where
   -- the archive, which holds what no command writes.
   abbrev pub HasCause : (Archive → Type 0) → Type 0
   HasCause Unread = HasReturned g new → HoldsTables g old → HasNoLimit g old → HasFailed g old new ⊎ Unread (archive_in g old)
+
+  -- The same of a call that carries out as much as it can, under a premise on the store (`HoldsTables`, `IsReady`): the disk failed, or
+  -- this is so of the archive before the call and of the rows which the store holds then.
+  abbrev pub HasCauseBehind : (Store S → Type 0) → (Archive → Database → Type 0) → Type 0
+  HasCauseBehind Premise Stops = HasReturned g new → Premise old → HasNoLimit g old
+      → HasFailed g old new ⊎ Stops (archive_in g old) (state g (held_of new)).now
 
   -- the same, where every archive can be read: the disk failed
   abbrev pub HasDiskCause : Type 0

@@ -1,5 +1,6 @@
 -- How a call of the desk ends, whatever the tables hold and whatever it answers.
 use Rattle.std.specs.Prelude.{◌≡◌, ◌<◌, ℕ, List, Result, IfErr, OnOk}
+use Rattle.sqlite.specs.Effect.{Database}
 use Rattle.sqlite.specs.Store.{Ghosts}
 use Rattle.archive_machine.specs.Records.{Archive}
 use Rattle.archive_machine.specs.Questions.{messages_in}
@@ -7,12 +8,15 @@ use Rattle.archive_store.specs.Told.{Counts, HasReturned, IsOpen, Lasts, WasOpen
 use Rattle.archive_store.specs.Walking.{Walk}
 use Rattle.archive_store.specs.declared.store.Store.{Store}
 use Rattle.archive_results.specs.Access.{Ask}
-use Rattle.archive_desk.specs.Causes.{CausedOr, HasCause, IsBroken, IsUnreadable, IsWanting}
+use Rattle.archive_desk.specs.Causes.{CausedOr, HasCause, HasCauseBehind, IsBroken, IsUnreadable, IsWanting}
 use Rattle.archive_desk.specs.Exporting.{ExportsPart, HasBegun, stop_reason}
 use Rattle.archive_desk.specs.Faults.{reason}
+use Rattle.archive_desk.specs.Importing.{IsImportBroken}
 use Rattle.archive_desk.specs.Walking.{HasWalkCause}
 use Rattle.archive_desk.specs.declared.exporting.ExportStop.{ExportStop}
 use Rattle.archive_desk.specs.declared.faults.DeskFault.{DeskFault}
+use Rattle.archive_desk.specs.declared.importing.ImportFault.{ImportFault}
+use Rattle.archive_desk.specs.declared.importing.ImportStop.{ImportStop}
 
 module _ {S : Type 0} (g : Ghosts S) (old new : Store S) where
   -- A question: for what it fails, that G4 with E15 means that the disk failed or that this is so of the archive, and that want of
@@ -41,6 +45,13 @@ module _ {S : Type 0} (g : Ghosts S) (old new : Store S) where
     pub part : IfErr result (λ stop. ExportsPart g old new before after stop.written text)
     pub out_open : IfErr result (λ stop. 0 < stop.written → HasReturned g new → IsOpen g old)
     pub begun : IfErr result (λ stop. HasBegun g old new ask stop.written)
+
+  -- An import, of a file or of what is read piece by piece: why E15 comes, and that want of memory is counted. `Stops` is said of the
+  -- archive before the call, of how many messages are done, and of the rows which the store holds then.
+  pub record EndsImport (Premise : Store S → Type 0) (IsWant : ImportFault → Type 0) {A : Type 0} (result : Result A ImportStop)
+      (Stops : Archive → ℕ → Database → Type 0) : Type 0 where
+    pub caused : IfErr result (λ stop. IsImportBroken stop.fault → HasCauseBehind g old new Premise (λ a db. Stops a stop.done db))
+    pub counted : Counts (λ stop. IsWant stop.fault) old new result
 
 -- A walk over messages of the list, made by a reader of them whose fault carries one of the desk: what it does to the store, why G4
 -- with E15 comes, and that want of memory is counted.

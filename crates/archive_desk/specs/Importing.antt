@@ -1,5 +1,6 @@
 -- What becomes of the messages of a file that are added to a list.
-use Rattle.std.specs.Prelude.{◌≡◌, ◌⊎◌, ◌≤◌, ℕ, ⊤, true, false, List, length, take, Option, Some, None, option_map}
+use Rattle.std.specs.Prelude.{◌≡◌, ◌⊎◌, ◌≤◌, ℕ, ⊤, true, false, List, length, take, drop, Option, Some, None, option_map}
+use Rattle.sqlite.specs.Effect.{Database}
 use Rattle.mbox_core.specs.Division.{Item, Divides, IsPreamble}
 use Rattle.mbox_core.specs.Faults.{IsCutFault}
 use Rattle.mbox_core.specs.declared.faults.MboxFault.TheVariants.{Preamble, Read, Memory, Failed}
@@ -8,8 +9,9 @@ use Rattle.archive_machine.specs.Commands.{Refusal, no_list, list_full}
 use Rattle.archive_machine.specs.Questions.{has_list}
 use Rattle.archive_machine.specs.Runs.{taken, Tally, tally}
 use Rattle.archive_store.specs.Batches.{IsFullAt, IsRefusedAt}
+use Rattle.archive_store.specs.Refusals.{StopsAmong}
 use Rattle.archive_store.specs.Replies.{refusal}
-use Rattle.archive_store.specs.declared.faults.StoreFault.TheVariants.{Memory as NoMemory}
+use Rattle.archive_store.specs.declared.faults.StoreFault.TheVariants.{Memory as NoMemory, Store as Broken}
 use Rattle.archive_desk.specs.declared.importing.Report.{Report}
 use Rattle.archive_desk.specs.declared.importing.ImportStop.{ImportStop}
 use Rattle.archive_desk.specs.declared.importing.ImportFault.{ImportFault}
@@ -42,6 +44,10 @@ stop_reason stop = option_map (λ cause. (stop.done, cause)) (cause_of stop.faul
 -- E14
 abbrev pub IsImportWant : ImportFault → Type 0
 IsImportWant fault = fault ≡ Store NoMemory
+
+-- E15
+abbrev pub IsImportBroken : ImportFault → Type 0
+IsImportBroken fault = fault ≡ Store Broken
 
 -- ---- messages, added one after the other
 
@@ -95,3 +101,7 @@ IsRefusedImport list text a b done _ = ⊥
 abbrev pub IsBrokenImport : List ℕ → List ℕ → Archive → Archive → ℕ → ImportFault → Type 0
 IsBrokenImport list text a b done (Mbox fault) = ⊥
 IsBrokenImport list text a b done (Store fault) = ((done ≡ 0) × (b ≡ a)) ⊎ HasImportedFirst list text done a b
+
+-- Some of the messages of the file behind the first `done` make rows that refuse the next, which the machine takes in.
+abbrev pub StopsImport : List ℕ → List ℕ → ℕ → Database → Type 0
+StopsImport list text done db = (items : List Item) × Divides text items × StopsAmong list (drop done items) db

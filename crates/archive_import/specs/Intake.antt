@@ -1,10 +1,12 @@
 -- The messages that are held for one call of the store, and what became of those before them.
-use Rattle.std.specs.Prelude.{◌≡◌, ◌⊎◌, ◌≤◌, ◌+◌, ◌++◌, ℕ, true, List, length, Result, MatchResult}
+use Rattle.std.specs.Prelude.{◌≡◌, ◌⊎◌, ◌≤◌, ◌+◌, ◌++◌, ℕ, true, List, length, drop, Result, MatchResult}
+use Rattle.sqlite.specs.Effect.{Database}
 use Rattle.mbox_core.specs.Division.{Item}
 use Rattle.archive_machine.specs.Records.{Archive}
 use Rattle.archive_machine.specs.Questions.{has_list}
 use Rattle.archive_machine.specs.Runs.{taken, Tally, tally}
 use Rattle.archive_store.specs.Batches.{text_bytes, told_in, IsFullAt}
+use Rattle.archive_store.specs.Refusals.{StopsAmong}
 use Rattle.archive_store.specs.declared.batches.AddReport.{AddReport}
 use Rattle.archive_store.specs.declared.batches.AddStop.{AddStop}
 use Rattle.archive_desk.specs.Importing.{tally_of, HasAddedFirst}
@@ -12,7 +14,7 @@ use Rattle.archive_desk.specs.declared.importing.Report.{Report}
 use Rattle.archive_desk.specs.declared.importing.ImportFault.{ImportFault}
 use Rattle.archive_desk.specs.declared.importing.ImportFault.TheVariants.{Mbox, Store}
 use Rattle.archive_import.specs.declared.intake.TheConstants.{MESSAGES_HELD, BYTES_HELD}
-use Rattle.archive_import.specs.Streaming.{Halt, no_mbox, not_read, no_room, unknown_list, full, declined}
+use Rattle.archive_import.specs.Streaming.{Halt, no_mbox, not_read, no_room, unknown_list, full, declined, StopsReading}
 
 pub record IntakeState : Type 0 where
   -- the messages that are held
@@ -63,6 +65,18 @@ IsUnread list items a b done no_room = HasAddedFirst list items done a b
 IsUnread list items a b done unknown_list = ⊥
 IsUnread list items a b done full = HasAddedFirst list items done a b × IsFullAt a list items done
 IsUnread list items a b done (declined why) = ⊥
+
+-- Messages under way: the rows stop them behind the first `done`.
+abbrev pub StopsAmid : (list : List ℕ) → IntakeState → Archive → (done : ℕ) → Database → Type 0
+StopsAmid list intake b done db = (a : Archive) (items : List Item) → IsUnderWay list a b items intake → StopsAmong list (drop done items) db
+
+-- these and more
+abbrev pub StopsMore : (list : List ℕ) → IntakeState → (more : List Item) → Archive → (done : ℕ) → Database → Type 0
+StopsMore list intake more b done db = (a : Archive) (items : List Item) → IsUnderWay list a b items intake → StopsAmong list (drop done (items ++ more)) db
+
+-- those that are read
+abbrev pub StopsRead : (list text : List ℕ) → (ends : ℕ) → (items : List Item) → IntakeState → Archive → (done : ℕ) → Database → Type 0
+StopsRead list text ends items intake b done db = (a : Archive) → IsUnderWay list a b items intake → StopsReading list text ends done db
 
 -- what is told of messages that are added in one call: a report tells of all of them, and a stop of no more
 abbrev pub TellsWithin : List Item → Result AddReport AddStop → Type 0

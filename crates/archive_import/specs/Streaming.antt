@@ -1,5 +1,6 @@
 -- What becomes of the messages of an mbox that is read piece by piece into a list.
-use Rattle.std.specs.Prelude.{◌≡◌, ◌⊎◌, ◌≤◌, ◌+◌, ◌++◌, ℕ, true, false, List, [], length, Option, Some, None, option_map, Result, Ok, Err, IfErr, OnOk}
+use Rattle.std.specs.Prelude.{◌≡◌, ◌⊎◌, ◌≤◌, ◌+◌, ◌++◌, ℕ, true, false, List, [], length, drop, Option, Some, None, option_map, Result, Ok, Err, IfErr, OnOk}
+use Rattle.sqlite.specs.Effect.{Database}
 use Rattle.sqlite.specs.Store.{Ghosts}
 use Rattle.mbox_core.specs.Division.{Item, Divides, IsPreamble}
 use Rattle.mbox_core.specs.declared.faults.MboxFault.TheVariants.{Preamble, Read, Memory, Failed}
@@ -11,10 +12,12 @@ use Rattle.archive_machine.specs.Commands.{Refusal, no_list, list_full}
 use Rattle.archive_machine.specs.Questions.{has_list}
 use Rattle.archive_machine.specs.Runs.{taken}
 use Rattle.archive_store.specs.Batches.{IsFullAt}
+use Rattle.archive_store.specs.Refusals.{StopsAmong}
 use Rattle.archive_store.specs.Replies.{refusal}
-use Rattle.archive_store.specs.Told.{Calls}
+use Rattle.archive_store.specs.Told.{Calls, IsReady}
 use Rattle.archive_store.specs.declared.store.Store.{Store as Open}
 use Rattle.archive_desk.specs.Crashes.{HasAddedAtLeast}
+use Rattle.archive_desk.specs.Ending.{EndsImport}
 use Rattle.archive_desk.specs.Importing.{HasAddedFirst, IsImported, IsImportWant}
 use Rattle.archive_desk.specs.declared.importing.Report.{Report}
 use Rattle.archive_desk.specs.declared.importing.ImportStop.{ImportStop}
@@ -99,6 +102,10 @@ IsBroken list text ends a b done (Store fault) = (items : List Item) × AreRead 
 abbrev pub HasReadAtLeast : (list text : List ℕ) → (ends : ℕ) → (done : ℕ) → (a b : Archive) → Type 0
 HasReadAtLeast list text ends done a b = (items : List Item) × AreRead text ends items × HasAddedAtLeast list items done a b
 
+-- Some of the messages read behind the first `done` make rows that refuse the next, which the machine takes in.
+abbrev pub StopsReading : (list text : List ℕ) → (ends : ℕ) → (done : ℕ) → Database → Type 0
+StopsReading list text ends done db = (items : List Item) × AreRead text ends items × StopsAmong list (drop done items) db
+
 -- all messages of the input, which was read to its end
 abbrev pub IsReadIn : (list text : List ℕ) → (ends : ℕ) → (a b : Archive) → Report → Type 0
 IsReadIn list text ends a b report = (ends ≡ 1) × IsImported list text a b report
@@ -141,3 +148,7 @@ Imports g old new list text ends result = Calls g old new halt_reason result
     (λ a b report. IsReadIn list text ends a b report)
     (λ a b why. IsHalted list text ends a b why.0 why.1)
     (λ a b stop. IsBroken list text ends a b stop.done stop.fault)
+
+-- How it ends, and each call of it: why E15 comes, where the store is ready, and that want of memory is counted.
+abbrev pub EndsReading : {S : Type 0} → Ghosts S → (old new : Open S) → {A : Type 0} → Result A ImportStop → (Archive → ℕ → Database → Type 0) → Type 0
+EndsReading g old new result Stops = EndsImport g old new (IsReady g) IsWanting result Stops

@@ -39,8 +39,8 @@ module _ {S : Type 0} (g : Ghosts S) (connection : Held S) where
     pub unlimited : HasNoLimit g store
 
   -- A connection that was not taken over, and why. An empty database and an archive's are as they were, outside a transaction, if the
-  -- connection is still open, and any other is untouched, for E15. E15 of an empty one, and of one of the tables of a version, means that
-  -- the disk failed, or is a fact of what the file holds; nothing but E14 and E15 comes.
+  -- connection is still open, and any other is untouched, for E15. E15 of an empty one means that the disk failed; of one of the tables of
+  -- a version it means that, or is a fact of what the file holds; nothing but E14 and E15 comes.
   pub record IsLeft (stop : AdoptStop S) : Type 0 where
     pub left : HasCleanDisk (state g stop.connection) → IsKept (state g connection) → Rests (state g connection) (state g stop.connection)
     pub undone : HasCleanDisk (state g stop.connection) → (state g connection).now.schema ≡ no_schema

@@ -1,5 +1,5 @@
 -- Messages added to one list, many in one transaction.
-use Rattle.std.specs.Prelude.{◌≡◌, ◌⊎◌, ℕ, ◌+◌, ◌<◌, ◌≤◌, true, false, IsTrue, List, [], ◌∷◌, ◌++◌, length, take, Option, Some, None, Result, IfErr, MatchResult, MatchOption}
+use Rattle.std.specs.Prelude.{◌≡◌, ◌⊎◌, ℕ, ◌+◌, ◌<◌, ◌≤◌, true, false, IsTrue, List, [], ◌∷◌, ◌++◌, length, take, drop, Option, Some, None, Result, IfErr, MatchResult, MatchOption}
 use Rattle.std.specs.List.{sum_by}
 use Rattle.sqlite.specs.Effect.{Database}
 use Rattle.sqlite.specs.Store.{Ghosts}
@@ -15,9 +15,8 @@ use Rattle.archive_tables.specs.Tables.{IsHeld, IsKept, archive_of}
 use Rattle.archive_tables.specs.Calls.{RestsOver, IsHeldOrBack}
 use Rattle.archive_store.specs.Held.{held_of}
 use Rattle.archive_store.specs.Replies.{refusal, Steps, says_added}
-use Rattle.archive_store.specs.Refusals.{IsCarried, IsMessageRefused, WritesFor, MakeRows, StopsAmong}
-use Rattle.archive_store.specs.Wanting.{IsWant}
-use Rattle.archive_store.specs.Told.{Counts, Lasts, HasFailed, HasReturned, HasNoLimit}
+use Rattle.archive_store.specs.Refusals.{IsCarried, IsMessageRefused, WritesFor, StopsAmong}
+use Rattle.archive_store.specs.Told.{HasFailed, HasReturned, HasNoLimit}
 use Rattle.archive_store.specs.declared.store.Store.{Store}
 use Rattle.archive_store.specs.declared.words.Added.{Added}
 use Rattle.archive_store.specs.declared.batches.AddReport.{AddReport}
@@ -137,19 +136,8 @@ module _ {S : Type 0} (g : Ghosts S) (old new : Store S) where
       (λ fault. fault ≡ faults.Store → HasFailed g old new ⊎ (IsMessageRefused list item (state g (held_of old)).now
       × (IsCounted (archive_of (state g (held_of old))) list before → IsCarried (added_within message_limit (archive_of (state g (held_of old))) list item).1)))
 
-  -- Where the first `from` items made the rows that are there of some others, those up to where it came make of these the rows that are
-  -- there then; and where E15 comes, the disk failed, or some of the items make rows that refuse the next.
-  abbrev pub WritesFrom : Option Database → Result ℕ StoreFault → List ℕ → List Item → ℕ → ℕ → AddReport → Type 0
-  WritesFrom behind result list items from before told =
+  -- Items from a place on: where E15 comes, the disk failed, or some of them make of these rows others that refuse the next.
+  abbrev pub FailsFrom : Option Database → Result ℕ StoreFault → List ℕ → List Item → ℕ → ℕ → AddReport → Database → Type 0
+  FailsFrom behind result list items from before told rows =
       HasReturned g new → HasNoLimit g old → (a : Archive) → HasTaken behind (state g (held_of old)) a list (take from items) before told
-      → (first : Database) → MakeRows list (take from items) first (state g (held_of old)).now
-      → MatchResult result
-      (λ at. MakeRows list (take at items) first (state g (held_of new)).now)
-      (λ fault. fault ≡ faults.Store → HasFailed g old new ⊎ StopsAmong list items from first)
-
-  -- how messages of one transaction end: as `EndsUnrefused`, and what is so of the rows
-  pub record EndsAdding {A : Type 0} (result : Result A StoreFault) (Rows : Type 0) : Type 0 where
-    pub lasts : Lasts g old new
-    pub fault : IfErr result (λ fault. refusal fault ≡ None)
-    pub counted : Counts IsWant old new result
-    pub rows : Rows
+      → IfErr result (λ fault. fault ≡ faults.Store → HasFailed g old new ⊎ StopsAmong list (drop from items) rows)

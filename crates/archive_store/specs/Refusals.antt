@@ -1,14 +1,16 @@
 -- Which statement a command carries out, by what the rows of the database are: why they refuse it (`IsRefused` of the tables).
-use Rattle.std.specs.Prelude.{◌≡◌, ◌≤◌, ⊤, ℕ, List, [], ◌∷◌, ◌++◌, length, if◌then◌else◌}
+use Rattle.std.specs.Prelude.{◌≡◌, ⊤, ℕ, pos, List, [], ◌∷◌, ◌++◌, length, if◌then◌else◌}
 use Rattle.mbox_items.specs.Division.{Item}
 use Rattle.sqlite.specs.Effect.{Database}
 use Rattle.archive_machine.specs.Records.{Archive, Grant, Address}
-use Rattle.archive_machine.specs.Commands.{Reply, taken_in, already_known, refused as refused_by}
+use Rattle.archive_machine.specs.Addresses.{kept_address}
+use Rattle.archive_machine.specs.Commands.{Command, list_add, person_add, grant, revoke, add, withdraw, restore, embargo, lift, merge_set, address_set, Reply, taken_in, already_known, refused as refused_by}
 use Rattle.archive_machine.specs.Keys.{item_key}
 use Rattle.archive_machine.specs.Questions.{has_grant, has_address, messages_in}
-use Rattle.archive_machine.specs.Machine.{Outcome, added_within, message_limit}
+use Rattle.archive_machine.specs.Machine.{Outcome, added_within, message_limit, step}
 use Rattle.archive_tables.specs.Tables.{archive_in}
-use Rattle.archive_tables.specs.Statements.{Statement, changing_grant, adding_grant, changing_address, adding_address, IsRefused, IsCarriedOut}
+use Rattle.archive_tables.specs.Statements.{Statement, adding_person, changing_grant, adding_grant, removing_grant, withdrawing, holding_back, freeing, changing_option, changing_address, adding_address, IsRefused, IsCarriedOut}
+use Rattle.archive_database.specs.Lists.{IsListRefused}
 use Rattle.archive_database.specs.Taking.{taking_in}
 
 -- ---- a command
@@ -42,14 +44,31 @@ IsAddressRefused a db = IsRefused (giving_address a db) db
 abbrev pub IsMessageRefused : List ℕ → Item → Database → Type 0
 IsMessageRefused list item = IsRefused (taking_in list (item_key item) item)
 
--- a message that the machine takes in
-abbrev pub IsMessageStopped : List ℕ → Item → Database → Type 0
-IsMessageStopped list item = RowsRefuse (λ a. added_within message_limit a list item) (IsMessageRefused list item)
-
 -- The same of a list of which it was said that it holds so many messages: if it does, the machine takes the message in.
 pub record IsCountedStopped (list : List ℕ) (item : Item) (count : ℕ) (db : Database) : Type 0 where
   pub carried : length (messages_in (archive_in db.trees) list) ≡ count → IsCarried (added_within message_limit (archive_in db.trees) list item).1
   pub refused : IsMessageRefused list item db
+
+-- ---- any command
+
+-- the rows refuse what a command writes
+abbrev pub IsWriteRefused : Command → Database → Type 0
+IsWriteRefused (list_add name) = IsListRefused name
+IsWriteRefused (person_add name token) = IsRefused (adding_person (record { name = name; token = token }))
+IsWriteRefused (grant person list rank from until) =
+    IsGrantRefused (record { person = person; list = list; rank = rank; from_day = from; until_day = until })
+IsWriteRefused (revoke person list rank) = IsRefused (removing_grant person list rank)
+IsWriteRefused (add list item) = IsMessageRefused list item
+IsWriteRefused (withdraw list key party) = IsRefused (withdrawing list key party)
+IsWriteRefused (restore list key) = IsRefused (withdrawing list key (pos 0))
+IsWriteRefused (embargo list key until) = IsRefused (holding_back list key until)
+IsWriteRefused (lift list key) = IsRefused (freeing list key)
+IsWriteRefused (merge_set list merge) = IsRefused (changing_option (record { list = list; merge = merge }))
+IsWriteRefused (address_set person address) = IsAddressRefused (record { person = person; address = kept_address address })
+
+-- the machine carries a command out, and the rows refuse what it writes
+abbrev pub IsCommandRefused : Command → Database → Type 0
+IsCommandRefused command = RowsRefuse (λ a. step a command) (IsWriteRefused command)
 
 -- ---- many messages
 
@@ -64,13 +83,23 @@ MakeRows list [] db after = after ≡ db
 MakeRows list (item ∷ items) db after =
     (mid : Database) × WritesFor list item (added_within message_limit (archive_in db.trees) list item).1 db mid × MakeRows list items mid after
 
--- The rows that some of the items make, at least the first `done`, refuse the next, which the machine takes in.
-pub record StopsAmong (list : List ℕ) (items : List Item) (done : ℕ) (db : Database) : Type 0 where
+-- Some of the items make rows that refuse the next, which the machine takes in.
+pub record StopsAmong (list : List ℕ) (items : List Item) (db : Database) : Type 0 where
   pub before : List Item
   pub item : Item
   pub rest : List Item
   pub are : before ++ item ∷ rest ≡ items
-  pub behind : done ≤ length before
   pub rows : Database
   pub made : MakeRows list before db rows
-  pub stopped : IsMessageStopped list item rows
+  pub stopped : IsCommandRefused (add list item) rows
+
+-- ---- many commands
+
+-- The machine carries out the command behind the first `done`, and the rows refuse what it writes.
+pub record StopsRun (commands : List Command) (done : ℕ) (db : Database) : Type 0 where
+  pub before : List Command
+  pub command : Command
+  pub rest : List Command
+  pub are : before ++ command ∷ rest ≡ commands
+  pub first : length before ≡ done
+  pub stopped : IsCommandRefused command db

@@ -1,5 +1,5 @@
 -- How the answers of a store stand for those of the machine.
-use Rattle.std.specs.Prelude.{◌≡◌, ◌⊎◌, ℕ, Bool, List, [], ◌∷◌, IfErr, IfSome, MatchResult, MatchOption, Option, Some, None, Result, Ok, Err, option_map}
+use Rattle.std.specs.Prelude.{◌≡◌, ◌⊎◌, ℕ, Bool, List, [], ◌∷◌, IfErr, IfSome, IsTrue, MatchResult, MatchOption, Option, Some, None, Result, Ok, Err, option_map}
 use Rattle.sqlite.specs.Store.{Ghosts}
 use Rattle.sqlite.specs.declared.error.Error.{Error}
 use Rattle.sqlite.specs.declared.error.Error.TheVariants.{SqliteFailure}
@@ -83,7 +83,7 @@ abbrev pub says_added : Result Added StoreFault → Option Reply
 says_added = reply_of added_reply
 
 -- Where there is an answer, the tables are kept, and they and the answer are what the machine says. Where memory or the
--- database was at fault, they are as they were, if the connection is still open.
+-- database was at fault, their rows are as they were, if the connection is still open.
 abbrev pub Steps : State → State → (Archive → Outcome) → Option Reply → Type 0
 Steps old new step None = Rests old new
 Steps old new step (Some reply) = IsKept new × ((archive_of new, reply) ≡ step (archive_of old))
@@ -98,9 +98,9 @@ module _ {S : Type 0} (g : Ghosts S) (old new : Held S) where
   Stays = IsKept (state g new) × (archive_of (state g new) ≡ archive_of (state g old))
 
   -- A question that is refused where this says so, and is else answered by a value of which this holds. It leaves the
-  -- tables as they were; where memory or the database was at fault, if the connection is still open.
+  -- archive as it was; where memory or the database was at fault, if the connection is still open.
   abbrev pub Answers : {A : Type 0} → Result A StoreFault → (Archive → Option Refusal) → (Archive → A → Type 0) → Type 0
   Answers result refuses Says = HasCleanDisk (state g new) → IsKept (state g old) →
       MatchResult result
       (λ a. Stays × (refuses (archive_of (state g old)) ≡ None) × Says (archive_of (state g old)) a)
-      (λ fault. MatchOption (refusal fault) (Rests (state g old) (state g new)) (λ r. Stays × (refuses (archive_of (state g old)) ≡ Some r)))
+      (λ fault. MatchOption (refusal fault) (IsTrue (state g new).is_open → Stays) (λ r. Stays × (refuses (archive_of (state g old)) ≡ Some r)))

@@ -1,5 +1,5 @@
 -- How the commands and outcomes of the code stand for those of the machine.
-use Rattle.std.specs.Prelude.{◌≡◌, ⊤, ℕ, IsTrue, false, List, length, map, take, Option, Some, None, Result, Ok, Err, option_map, MatchOption, MatchResult, Vec}
+use Rattle.std.specs.Prelude.{◌≡◌, ◌⊎◌, ⊤, ℕ, IsTrue, false, true, is_some, List, length, map, take, Option, Some, None, Result, Ok, Err, option_map, MatchOption, MatchResult, Vec}
 use Rattle.std.specs.declared.alloc.Global.{Global}
 use Rattle.sqlite.specs.Store.{Ghosts}
 use Rattle.sqlite.specs.Held.{Held, state}
@@ -14,6 +14,10 @@ use Rattle.archive_tables.specs.Calls.{Rests, StaysOver}
 use Rattle.archive_store.specs.Words.{added_reply}
 use Rattle.policy_core.specs.Numbers.{kind_rank, party_number}
 use Rattle.archive_store.specs.Replies.{refusal, Steps}
+use Rattle.archive_store.specs.Refusals.{IsCommandRefused}
+use Rattle.archive_store.specs.Told.{CausedBy, HasFailed, archive_in}
+use Rattle.archive_store.specs.Held.{held_of}
+use Rattle.archive_store.specs.declared.store.Store.{Store}
 use Rattle.archive_store.specs.declared.faults.StoreFault.{StoreFault}
 use Rattle.archive_store.specs.declared.running.Command.{Command}
 use Rattle.archive_store.specs.declared.running.Command.TheVariants.{ListAdd, PersonAdd, Grant, Revoke, Add, Withdraw, Restore, Embargo, Lift, MergeSet, AddressSet}
@@ -88,3 +92,12 @@ module _ {S : Type 0} (g : Ghosts S) (old new : Held S) where
       (λ outcomes. RanAll (state g old) (run (archive_of (state g old)) commands) (state g new) outcomes.items)
       (λ stop. IsTrue (state g new).is_open → IsKept (state g new)
       × (archive_of (state g new) ≡ (run (archive_of (state g old)) (take stop.done commands)).archive))
+
+-- What E15 of a command means, where the count was right: the disk failed, or the rows refuse what the command writes.
+abbrev pub CausedCounted : {S A : Type 0} → Ghosts S → Store S → Store S → Option Counted → Told → Result A StoreFault → Type 0
+CausedCounted g old new counted command result =
+    IsRightCount counted (archive_in g old) → CausedBy g old new (HasFailed g old new ⊎ IsCommandRefused command (state g (held_of old)).now) result
+
+-- what a command answers: an outcome that the machine gives, or that memory or the database was at fault
+abbrev pub IsTold : Result Outcome StoreFault → Type 0
+IsTold result = MatchResult result (λ outcome. is_some (answer_of outcome) ≡ true) (λ fault. refusal fault ≡ None)

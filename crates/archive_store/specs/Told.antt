@@ -9,7 +9,7 @@ use Rattle.archive_machine.specs.Records.{Archive}
 use Rattle.archive_machine.specs.Commands.{Refusal}
 use Rattle.archive_machine.specs.Sound.{IsFiledRight}
 use Rattle.archive_tables.specs.Tables.{IsKept, archive_of}
-use Rattle.archive_tables.specs.Calls.{Lasts as LastsOpen}
+use Rattle.archive_tables.specs.Calls.{Lasts as LastsOpen, Rests}
 use Rattle.archive_store.specs.Held.{held_of, wants_of}
 use Rattle.archive_store.specs.Replies.{refusal, RefusedFor}
 use Rattle.archive_store.specs.Wanting.{IsWant, Raises}
@@ -91,18 +91,22 @@ module _ {S : Type 0} (g : Ghosts S) where
     abbrev pub HasFailed : Type 0
     HasFailed = MoreFaults (faults_of old) (faults_of new)
 
-    -- who is answered sees what was seen before
+    -- Who is answered sees what was seen before. After a fault the rows of an archive are as they were, unless the fault shut the connection.
     abbrev pub SeesTheSame : {A F : Type 0} → Result A F → Type 0
-    SeesTheSame result = HasReturned new → OnOk result ((state g (held_of new)).now ≡ (state g (held_of old)).now)
+    SeesTheSame result = HasReturned new → MatchResult result (λ _. (state g (held_of new)).now ≡ (state g (held_of old)).now)
+        (λ _. HoldsTables old → Rests (state g (held_of old)) (state g (held_of new)))
 
-    -- What E15 of a question means, where the tables are an archive's and no limit is set: the disk failed in that call.
+    -- What E15 means, where the tables are an archive's and no limit is set.
+    abbrev pub CausedBy : Type 0 → {A : Type 0} → Result A StoreFault → Type 0
+    CausedBy Cause result = HasReturned new → HoldsTables old → HasNoLimit old → IfErr result (λ fault. fault ≡ faults.Store → Cause)
+
+    -- of a question: the disk failed in that call
     abbrev pub Caused : {A : Type 0} → Result A StoreFault → Type 0
-    Caused result = HasReturned new → HoldsTables old → HasNoLimit old → IfErr result (λ fault. fault ≡ faults.Store → HasFailed)
+    Caused result = CausedBy HasFailed result
 
     -- the same, or this is so of the archive, which holds what no command writes
     abbrev pub CausedOr : {A : Type 0} → Result A StoreFault → (Archive → Type 0) → Type 0
-    CausedOr result Unread = HasReturned new → HoldsTables old → HasNoLimit old
-        → IfErr result (λ fault. fault ≡ faults.Store → HasFailed ⊎ Unread (archive_in old))
+    CausedOr result Unread = CausedBy (HasFailed ⊎ Unread (archive_in old)) result
 
     -- ---- how a call ends, whatever the tables hold and whatever it answers
 
@@ -120,7 +124,7 @@ module _ {S : Type 0} (g : Ghosts S) where
       pub was_open : HasReturned new → OnOk result (IsOpen old)
       pub kind : RefusedFor result reasons
       pub counted : Counts IsWant old new result
-      pub caused : HasReturned new → HoldsTables old → HasNoLimit old → IfErr result (λ fault. fault ≡ faults.Store → Cause)
+      pub caused : CausedBy Cause result
 
     -- a question whose E15 means that the disk failed in that call
     abbrev pub EndsAsk : {A : Type 0} → Result A StoreFault → List Refusal → Type 0
@@ -135,12 +139,30 @@ module _ {S : Type 0} (g : Ghosts S) where
     abbrev pub EndsOr : {A : Type 0} → Result A StoreFault → List Refusal → (Database → Type 0) → Type 0
     EndsOr result reasons Refused = EndsBy (HasFailed ⊎ Refused (state g (held_of old)).now) result reasons
 
+    -- A call that carries out as much as it can. Its E15 means that the disk failed in that call, or that the rows which the store holds
+    -- then refuse what it writes next.
+    abbrev pub EndsBehind : {A : Type 0} → Result A StoreFault → List Refusal → (Database → Type 0) → Type 0
+    EndsBehind result reasons Refused = EndsBy (HasFailed ⊎ Refused (state g (held_of new)).now) result reasons
+
     -- A call that no reason of the archive's refuses, and that may answer without asking the database: memory or the database is at
     -- fault where it fails.
     pub record EndsUnrefused {A : Type 0} (result : Result A StoreFault) : Type 0 where
       pub lasts : Lasts
       pub fault : IfErr result (λ fault. refusal fault ≡ None)
       pub counted : Counts IsWant old new result
+
+    -- the same, and what its E15 means, where the tables are an archive's and no limit is set
+    pub record EndsUnrefusedBy (Cause : Type 0) {A : Type 0} (result : Result A StoreFault) : Type 0 where
+      pub lasts : Lasts
+      pub fault : IfErr result (λ fault. refusal fault ≡ None)
+      pub counted : Counts IsWant old new result
+      pub caused : CausedBy Cause result
+
+    -- A part of a call: what it does to the store, that want of memory is counted, and what its E15 means.
+    pub record EndsPart (Meaning : Type 0) {A : Type 0} (result : Result A StoreFault) : Type 0 where
+      pub lasts : Lasts
+      pub counted : Counts IsWant old new result
+      pub caused : Meaning
 
   -- ---- under a premise: `HoldsTables` or `IsReady`
 

@@ -10,7 +10,7 @@ use Rattle.sqlite.specs.Store.{Ghosts}
 use Rattle.sqlite.specs.Held.{Held, state}
 use Rattle.sqlite.specs.State.{State, HasCleanDisk}
 use Rattle.archive_machine.specs.Records.{Archive}
-use Rattle.archive_tables.specs.Tables.{IsHeld, IsKept, archive_in, archive_of}
+use Rattle.archive_tables.specs.Tables.{IsHeld, IsKept, archive_of}
 use Rattle.archive_tables.specs.Statements.{Statement, IsRefused, IsCarriedOut}
 use Rattle.archive_tables.specs.Crashes.{AddsNothing, CrashesOver}
 
@@ -22,32 +22,26 @@ ChangesOver behind old new change = IsHeld behind new × (archive_of new ≡ cha
 abbrev pub Changes : State → State → (Archive → Archive) → Type 0
 Changes = ChangesOver None
 
--- the same archive, over the same
+-- the same rows, over the same
 abbrev pub StaysOver : Option Database → State → State → Type 0
-StaysOver behind old new = IsHeld behind new × (archive_of new ≡ archive_of old)
+StaysOver behind old new = IsHeld behind new × (new.now ≡ old.now)
 
--- outside a transaction again, with the archive that was behind it
+-- outside a transaction again, with the rows that were behind it
 abbrev pub IsBackAt : Database → State → Type 0
-IsBackAt db s = IsKept s × (archive_of s ≡ archive_in db.trees)
+IsBackAt db s = IsKept s × (s.now ≡ db)
 
 -- within the transaction still, or back already, where the connection is open
 abbrev pub IsHeldOrBack : Database → State → Type 0
 IsHeldOrBack db s = IsTrue s.is_open → IsHeld (Some db) s ⊎ IsBackAt db s
 
--- A fault: the same archive, where the connection is still open; within a transaction that, or what was behind it.
+-- A fault: the same rows, where the connection is still open; within a transaction these, or what was behind it.
 abbrev pub RestsOver : Option Database → State → State → Type 0
 RestsOver None old new = IsTrue new.is_open → StaysOver None old new
 RestsOver (Some db) old new = IsTrue new.is_open → StaysOver (Some db) old new ⊎ IsBackAt db new
 
--- After a fault outside a transaction what is remembered is as it was, unless the fault shut the connection.
+-- After a fault outside a transaction the rows are as they were, unless the fault shut the connection.
 abbrev pub Rests : State → State → Type 0
 Rests = RestsOver None
-
--- A fault in a question on the rows: they are as they were, where the connection is still open; within a transaction that, or
--- what was behind it.
-abbrev pub RowsRest : Option Database → State → State → Type 0
-RowsRest None old new = IsTrue new.is_open → (new.now ≡ old.now) × IsHeld None new
-RowsRest (Some db) old new = IsTrue new.is_open → ((new.now ≡ old.now) × IsHeld (Some db) new) ⊎ IsBackAt db new
 
 -- What shuts a connection: nothing but a fault of the disk, and none is forgotten.
 pub record ShutsByFault (old new : State) : Type 0 where
@@ -85,8 +79,8 @@ module _ {S : Type 0} (g : Ghosts S) (old new : Held S) where
   abbrev pub AsksRowsOver : {A : Type 0} → Result A Error → (Trees → A → Type 0) → Type 0
   AsksRowsOver result Says =
       HasCleanDisk (state g new) → (behind : Option Database) → IsHeld behind (state g old)
-      → MatchResult result (λ a. Says (state g old).now.trees a × ((state g new).now ≡ (state g old).now) × IsHeld behind (state g new))
-      (λ _. RowsRest behind (state g old) (state g new))
+      → MatchResult result (λ a. Says (state g old).now.trees a × StaysOver behind (state g old) (state g new))
+      (λ _. RestsOver behind (state g old) (state g new))
 
   -- a connection that is shut answers nothing
   abbrev pub AnswersOpen : {A E : Type 0} → Result A E → Type 0

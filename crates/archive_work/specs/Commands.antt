@@ -1,32 +1,47 @@
 -- What the commands of the words do to the archive, and the word that answers each.
-use Rattle.std.specs.Prelude.{ℕ, ℤ, pos, Bool, true, false, List, codes, Option, Some, None, Result, Ok, Err, if◌then◌else◌}
+use Rattle.std.specs.Prelude.{ℕ, Bool, true, false, List, codes, Option, Some, None, Result, Ok, Err, if◌then◌else◌}
+use Rattle.sqlite.specs.Effect.{Database}
 use Rattle.archive_machine.specs.Records.{Archive}
 use Rattle.archive_machine.specs.Commands as machine
 use Rattle.archive_machine.specs.Keys.{is_key}
 use Rattle.archive_machine.specs.Machine.{Outcome, refuse, step}
 use Rattle.policy_core.specs.Numbers.{kind_rank, party_number}
+use Rattle.archive_store.specs.Refusals.{IsWriteRefused, RowsRefuse}
 use Rattle.archive_words.specs.Values.{TableCommand, list_add, merge, person_add, person_address, grant, revoke, withdraw, restore, embargo, lift}
 use Rattle.archive_work.specs.declared.commands.Answer.{Answer}
 use Rattle.archive_work.specs.declared.commands.Answer.TheVariants.{Added, Merging, AddressSet, Granted, Revoked, NoGrant, Withdrawn, Restored, Embargoed, Lifted, NoEmbargo}
 
 -- ---- the step
 
--- no list holds a message of a key that is none: E8, before anything is looked up
-abbrev pub keyed : Archive → (key : List ℕ) → machine.Command → Outcome
-keyed archive key command = if is_key key then step archive command else refuse archive machine.no_message
+-- the machine's command that a command of the words stands for
+abbrev pub told : TableCommand → machine.Command
+told (list_add name) = machine.list_add name
+told (merge list merged) = machine.merge_set list merged
+told (person_add name token) = machine.person_add name token
+told (person_address person address) = machine.address_set person address
+told (grant person list kind from until) = machine.grant person list (kind_rank kind) from until
+told (revoke person list kind) = machine.revoke person list (kind_rank kind)
+told (withdraw list key by) = machine.withdraw list key (party_number by)
+told (restore list key) = machine.restore list key
+told (embargo list key until) = machine.embargo list key until
+told (lift list key) = machine.lift list key
 
--- what a command of the words does to the archive, and what it answers
+-- the key that it has, if it has one, is valid
+abbrev pub is_keyed : TableCommand → Bool
+is_keyed (withdraw list key by) = is_key key
+is_keyed (restore list key) = is_key key
+is_keyed (embargo list key until) = is_key key
+is_keyed (lift list key) = is_key key
+is_keyed _ = true
+
+-- What a command of the words does to the archive, and what it answers. No list holds a message of a key that is not valid: E8, before
+-- anything is looked up.
 abbrev pub stepped : Archive → TableCommand → Outcome
-stepped archive (list_add name) = step archive (machine.list_add name)
-stepped archive (merge list merged) = step archive (machine.merge_set list merged)
-stepped archive (person_add name token) = step archive (machine.person_add name token)
-stepped archive (person_address person address) = step archive (machine.address_set person address)
-stepped archive (grant person list kind from until) = step archive (machine.grant person list (kind_rank kind) from until)
-stepped archive (revoke person list kind) = step archive (machine.revoke person list (kind_rank kind))
-stepped archive (withdraw list key by) = keyed archive key (machine.withdraw list key (party_number by))
-stepped archive (restore list key) = keyed archive key (machine.restore list key)
-stepped archive (embargo list key until) = keyed archive key (machine.embargo list key until)
-stepped archive (lift list key) = keyed archive key (machine.lift list key)
+stepped archive command = if is_keyed command then step archive (told command) else refuse archive machine.no_message
+
+-- the machine carries it out, and the rows refuse what it writes
+abbrev pub IsUnwritten : TableCommand → Database → Type 0
+IsUnwritten command = RowsRefuse (λ a. stepped a command) (IsWriteRefused (told command))
 
 -- ---- the answer in a word
 

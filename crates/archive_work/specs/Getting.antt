@@ -1,9 +1,9 @@
 -- One message, asked for by words.
-use Rattle.std.specs.Prelude.{ℕ, List, Option, Some, None, Result, Ok, Err, if◌then◌else◌, option_map}
+use Rattle.std.specs.Prelude.{◌⊎◌, ℕ, List, Option, Some, None, Result, Ok, Err, if◌then◌else◌, option_map}
 use Rattle.archive_machine.specs.Records.{Archive}
 use Rattle.archive_machine.specs.Keys.{is_key}
 use Rattle.archive_results.specs.Access.{Ask, Asked, served, denied_by, absent, asked_of}
-use Rattle.archive_desk.specs.Causes.{IsWanting}
+use Rattle.archive_desk.specs.Causes.{IsBroken, IsMessageUnreadable, IsReaderUnreadable, IsWanting}
 use Rattle.archive_desk.specs.Faults.{Reason, reason, ask_reason}
 use Rattle.archive_work.specs.declared.getting.GetStop.{GetStop}
 use Rattle.archive_work.specs.declared.getting.GetStop.TheVariants.{Fault, NoMessage, Denied}
@@ -39,3 +39,13 @@ abbrev pub IsGetWant : GetStop → Type 0
 IsGetWant (Fault fault) = IsWanting fault
 IsGetWant NoMessage = ⊥
 IsGetWant (Denied rule) = ⊥
+
+-- the database broke, E15 in G4, which no other reason is
+abbrev pub IsGetBroken : GetStop → Type 0
+IsGetBroken (Fault fault) = IsBroken fault
+IsGetBroken NoMessage = ⊥
+IsGetBroken (Denied rule) = ⊥
+
+-- the message of the key, or what is asked of the reader, cannot be read, which no command writes
+abbrev pub IsUngettable : Archive → Ask → (key : List ℕ) → Type 0
+IsUngettable archive ask key = IsMessageUnreadable archive ask key ⊎ IsReaderUnreadable archive ask

@@ -1,20 +1,25 @@
 -- What becomes of an open store by each order.
-use Rattle.std.specs.Prelude.{◌≡◌, ◌++◌, ℕ, List, Some, None, Result, Ok, Err, Vec, length, min, ◌^◌, ◌-◌}
+use Rattle.std.specs.Prelude.{◌≡◌, ◌⊎◌, ◌++◌, ℕ, List, Some, None, Result, Ok, Err, Vec, IfErr, length, min, ◌^◌, ◌-◌}
 use Rattle.std.specs.declared.alloc.Global.{Global}
 use Rattle.sqlite.specs.Store.{Ghosts}
+use Rattle.sqlite.specs.Held.{state}
 use Rattle.archive_machine.specs.Commands.{refused}
+use Rattle.archive_store.specs.Held.{held_of}
 use Rattle.archive_store.specs.Replies.{refusal}
-use Rattle.archive_store.specs.Told.{Calls}
+use Rattle.archive_store.specs.Told.{Calls, Counts, HasFailed, HasNoLimit, HasReturned, HoldsTables}
+use Rattle.archive_store.specs.Wanting.{IsWant}
 use Rattle.archive_store.specs.declared.store.Store.{Store}
 use Rattle.archive_store.specs.declared.faults.StoreFault.{StoreFault}
+use Rattle.archive_store.specs.declared.faults.StoreFault.TheVariants as faults
 use Rattle.archive_results.specs.Access.{Ask}
+use Rattle.archive_desk.specs.Causes.{HasCause}
 use Rattle.archive_desk.specs.Exporting.{IsExportRefused, exported, stop_reason as export_reason}
 use Rattle.archive_desk.specs.Faults.{ask_reason}
 use Rattle.archive_desk.specs.Holding.{CallsHeld}
 use Rattle.archive_desk.specs.declared.exporting.ExportStop.{ExportStop}
 use Rattle.archive_words.specs.Values.{TableCommand}
-use Rattle.archive_work.specs.Commands.{answer_to, stepped}
-use Rattle.archive_work.specs.Getting.{got_of, not_given}
+use Rattle.archive_work.specs.Commands.{IsUnwritten, answer_to, stepped}
+use Rattle.archive_work.specs.Getting.{IsGetBroken, IsGetWant, IsUngettable, got_of, not_given}
 use Rattle.archive_work.specs.declared.commands.Answer.{Answer}
 use Rattle.archive_work.specs.declared.getting.GetStop.{GetStop}
 
@@ -40,3 +45,30 @@ module _ {S : Type 0} (g : Ghosts S) (old new : Store S) where
       (λ a b count. (b ≡ a) × (ask_reason a ask ≡ None) × (after ≡ before ++ exported a ask) × (count ≡ min (length (exported a ask)) (2 ^ 64 - 1)))
       (λ a b why. (b ≡ a) × IsExportRefused (ask_reason a ask) before after (exported a ask) why.0 why.1)
       (λ a b stop. b ≡ a)
+
+  -- ---- why the database was at fault, and memory
+
+  -- Why a command is E15: where the disk has returned what was written to it, the tables are an archive's and no limit is set on the
+  -- steps of a query, the disk failed in that call, or the rows which were there refuse what the machine carries out.
+  abbrev pub HasCarryCause : TableCommand → Type 0
+  HasCarryCause command = HasReturned g new → HoldsTables g old → HasNoLimit g old
+      → HasFailed g old new ⊎ IsUnwritten command (state g (held_of old)).now
+
+  -- Why a question for a message is G4 with E15: the disk failed, or what is asked for cannot be read.
+  abbrev pub HasGetCause : Ask → (key : List ℕ) → Type 0
+  HasGetCause ask key = HasCause g old new (λ a. IsUngettable a ask key)
+
+-- How an order ends over an open store, by which faults are a want of memory and which say that the database broke: why it did, and
+-- that want of memory is counted.
+pub record Ends {S F : Type 0} (old new : Store S) (IsWant IsBroken : F → Type 0) (Cause : Type 0) {A : Type 0} (result : Result A F) : Type 0 where
+  pub caused : IfErr result (λ fault. IsBroken fault → Cause)
+  pub counted : Counts IsWant old new result
+
+module _ {S : Type 0} (g : Ghosts S) (old new : Store S) where
+  -- How a command ends: E15 has its cause, and want of memory is counted.
+  abbrev pub EndsCarry : TableCommand → Result Answer StoreFault → Type 0
+  EndsCarry command result = Ends old new IsWant (λ fault. fault ≡ faults.Store) (HasCarryCause g old new command) result
+
+  -- How a question for a message ends: G4 with E15 has its cause, and want of memory is counted.
+  abbrev pub EndsGet : Ask → (key : List ℕ) → Result (Vec ℕ Global) GetStop → Type 0
+  EndsGet ask key result = Ends old new IsGetWant IsGetBroken (HasGetCause g old new ask key) result
