@@ -1,5 +1,5 @@
 -- Whole clauses of a call, from what the database says of its statement.
-use Rattle.std.proofs.Common.{◌≡◌, ◌⊎◌, inl, inr, ◌∙◌, List, ℕ, Ok, Err, Result, None, Some, Option, refl}
+use Rattle.std.proofs.Common.{ap, ◌≡◌, ◌⊎◌, inl, inr, ◌∙◌, List, ℕ, Ok, Err, Result, None, Some, Option, refl}
 use Rattle.std.specs.Prelude.{⊤, IsTrue, IsErrAnd, IfOk, IfErr, OnOk, OnErr, MatchResult, Vec}
 use Rattle.std.specs.declared.alloc.Global.{Global}
 use Rattle.sqlite.specs.declared.error.Error.{Error}
@@ -12,8 +12,8 @@ use Rattle.sqlite.specs.Held.{Held, state}
 use Rattle.sqlite.specs.State.{State, HasCleanDisk, Survives, Executes, Shown, FailsToQuery, IsUnchanged, IsRolledBack, CommitsBy, CommitsShowing}
 use Rattle.sqlite_resolve.specs.Compile.{first}
 use Rattle.archive_machine.specs.Records.{Archive}
-use Rattle.archive_tables.specs.Tables.{IsHeld, IsKept, archive_of}
-use Rattle.archive_tables.specs.Calls.{StaysOver, RestsOver, RowsRest, IsCaused, ChangesOver, AsksOver, AsksRowsOver, FailsByFaultOr, Ends, Asks, AsksAnywhere, AsksRows, Writes as WritesBy}
+use Rattle.archive_tables.specs.Tables.{IsHeld, IsKept, archive_in, archive_of}
+use Rattle.archive_tables.specs.Calls.{StaysOver, RestsOver, IsCaused, ChangesOver, AsksOver, AsksRowsOver, FailsByFaultOr, Ends, Asks, AsksAnywhere, AsksRows, Writes as WritesBy}
 use Rattle.archive_tables.specs.Statements.{Statement}
 use Rattle.archive_tables.specs.Making.{EndsStep}
 use Rattle.archive_tables.proofs.RunLemmas.{execute_fails, on_fault}
@@ -24,12 +24,16 @@ use Rattle.archive_tables.proofs.LastLemmas.{IsOurText, execute_lasts, execute_o
 
 -- ---- one call after the other
 
+-- the same rows remember the same archive
+pub archive_stays : {a b : Database} → b ≡ a → archive_in b.trees ≡ archive_in a.trees
+archive_stays same = ap (λ (db : Database). archive_in db.trees) same
+
 pub stays_then : (behind : Option Database) (a b c : State) → StaysOver behind a b → StaysOver behind b c → StaysOver behind a c
 stays_then behind a b c p q = (q.0, q.1 ∙ p.1)
 
-pub rests_then : (behind : Option Database) (a b c : State) → StaysOver behind a b → RestsOver behind b c → RestsOver behind a c
-rests_then None a b c p rests = λ up. stays_then None a b c p (rests up)
-rests_then (Some db) a b c p rests = λ up. elim (rests up) [ inl stays ↦ inl (stays_then (Some db) a b c p stays) | inr back ↦ inr back ]
+pub rests_behind : (behind : Option Database) (old mid new : State) → mid.now ≡ old.now → RestsOver behind mid new → RestsOver behind old new
+rests_behind None old mid new same rests = λ up. let it = rests up in (it.0, it.1 ∙ same)
+rests_behind (Some db) old mid new same rests = λ up. elim (rests up) [ inl stays ↦ inl (stays.0, stays.1 ∙ same) | inr back ↦ inr back ]
 
 -- ---- one call
 
@@ -149,7 +153,7 @@ module _ {S : Type 0} {g : Ghosts S} {old new : Held S} (sql : List ℕ) (params
     }
 
     pub asks_rows_fails : {A : Type 0} {Says : Trees → A → Type 0} {Unread : Type 0} (r : Result A Error) (e : Error) → IsErrAnd r (λ f. f ≡ e)
-        → (HasCleanDisk (state g new) → (behind : Option Database) → IsHeld behind (state g old) → RowsRest behind (state g old) (state g new))
+        → (HasCleanDisk (state g new) → (behind : Option Database) → IsHeld behind (state g old) → RestsOver behind (state g old) (state g new))
         → (HasCleanDisk (state g new) → IsKept (state g old) → (state g old).step_limit ≡ None → IsCaused (state g old) (state g new) e ⊎ Unread)
         → AsksRows g old new r Says Unread
     asks_rows_fails {A} {Says} {Unread} r e is rests why = record {
@@ -195,7 +199,7 @@ module _ {S : Type 0} {g : Ghosts S} {old new : Held S} (sql : List ℕ) (params
     pub asks_rows_answers : {A : Type 0} {Says : Trees → A → Type 0} {Unread : Type 0} (a : A) (rows : List Row)
         → (HasCleanDisk (state g new) → Shown sql params (state g old) (state g new) rows)
         → (HasCleanDisk (state g new) → (behind : Option Database) → IsHeld behind (state g old)
-        → Says (state g old).now.trees a × ((state g new).now ≡ (state g old).now) × IsHeld behind (state g new))
+        → Says (state g old).now.trees a × StaysOver behind (state g old) (state g new))
         → AsksRows g old new (Ok a) Says Unread
     asks_rows_answers a rows shown over = record {
       over = over;

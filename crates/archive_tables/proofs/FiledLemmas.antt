@@ -35,11 +35,10 @@ use Rattle.archive_machine.specs.Filing.{Filed, filed, with_filed, by_filed_date
 use Rattle.archive_tables.specs.Schema.{archive_schema}
 use Rattle.archive_tables.specs.Tables.{IsHeld, AreTables, Numbered, row_of, filed_cells, filed_read, archive_in}
 use Rattle.archive_tables.specs.Rows.{numbered_filed, message_at, place_shown, was_sent_before, with_row, rows_by_date, places_where, month_places, author_places}
-use Rattle.archive_tables.specs.Calls.{RowsRest, IsCaused}
+use Rattle.archive_tables.specs.Calls.{RestsOver, StaysOver, IsCaused}
 use Rattle.archive_tables.proofs.MessageLemmas.{filed_back, filed_are}
 use Rattle.archive_tables.proofs.OrderLemmas.{one_order}
-use Rattle.archive_tables.proofs.RunLemmas.{stays}
-use Rattle.archive_tables.proofs.SelectLemmas.{plain_query, env_of, passes, Picks, hits, asked, leaves, refused_rows, alone, text_is, int_is, truth_back}
+use Rattle.archive_tables.proofs.SelectLemmas.{plain_query, env_of, passes, Picks, hits, asked, asked_stays, refused_rests, alone, text_is, int_is, truth_back}
 use Rattle.archive_tables.proofs.WalkLemmas.{finds, each_found, kept_found, messages_at}
 use Rattle.archive_tables.proofs.CauseLemmas.{Fits, question_fails_by}
 use Rattle.sqlite_typing.specs.Types.{accepts_program}
@@ -269,29 +268,29 @@ walked_author trees list key k = walked_where of_author (Text list ∷ Blob key 
 
 module _ (old new : State) {behind : Option Database} (k : IsHeld behind old) (list : List ℕ) where
   pub month_found : (month : ℤ) (rows : List Row) → Shown month_text (Text list ∷ Int month ∷ []) old new rows
-      → (rows ≡ map place_shown (month_places old.now.trees list month)) × (new.now ≡ old.now) × IsHeld behind new
+      → (rows ≡ map place_shown (month_places old.now.trees list month)) × StaysOver behind old new
   month_found month rows h =
       let params = Text list ∷ Int month ∷ [] in
       let picks = asked month_text 8 of_month number_cell by_date _ month_is.0 month_plain month_is.1 (λ t. refl) params old new k rows h in
-      let same = leaves month_text 8 of_month number_cell by_date _ month_is.0 month_plain month_is.1 (λ t. refl) params old new k rows h in
-      (picked_places of_month params (is_filed_in_month list month) (has_month list month) old.now.trees k.tables rows picks, same.0.now_is, (stays old new k same).0)
+      let same = asked_stays month_text 8 of_month number_cell by_date _ month_is.0 month_plain month_is.1 (λ t. refl) params old new k rows h in
+      (picked_places of_month params (is_filed_in_month list month) (has_month list month) old.now.trees k.tables rows picks, same)
 
-  pub no_month : (month : ℤ) (e : Error) → FailsToQuery month_text (Text list ∷ Int month ∷ []) old new e → RowsRest behind old new
-  no_month month e h = refused_rows month_text 8 of_month number_cell by_date _ month_is.0 month_plain month_is.1 (λ t. refl) (Text list ∷ Int month ∷ []) old new k e h
+  pub no_month : (month : ℤ) (e : Error) → FailsToQuery month_text (Text list ∷ Int month ∷ []) old new e → RestsOver behind old new
+  no_month month e h = refused_rests month_text 8 of_month number_cell by_date _ month_is.0 month_plain month_is.1 (λ t. refl) (Text list ∷ Int month ∷ []) old new k e h
 
   pub no_month_caused : (month : ℤ) (e : Error) → FailsToQuery month_text (Text list ∷ Int month ∷ []) old new e → old.step_limit ≡ None → IsCaused old new e
   no_month_caused month e h free = question_fails_by month_text 8 of_month number_cell by_date _ month_is.0 month_plain month_is.1 (Text list ∷ Int month ∷ []) month_fit (month_typed list month) old new k free e h
 
   pub author_found : (key : List ℕ) (rows : List Row) → Shown author_text (Text list ∷ Blob key ∷ []) old new rows
-      → (rows ≡ map place_shown (author_places old.now.trees list key)) × (new.now ≡ old.now) × IsHeld behind new
+      → (rows ≡ map place_shown (author_places old.now.trees list key)) × StaysOver behind old new
   author_found key rows h =
       let params = Text list ∷ Blob key ∷ [] in
       let picks = asked author_text 8 of_author number_cell by_date _ author_is.0 author_plain author_is.1 (λ t. refl) params old new k rows h in
-      let same = leaves author_text 8 of_author number_cell by_date _ author_is.0 author_plain author_is.1 (λ t. refl) params old new k rows h in
-      (picked_places of_author params (is_filed_by_author list key) (has_author list key) old.now.trees k.tables rows picks, same.0.now_is, (stays old new k same).0)
+      let same = asked_stays author_text 8 of_author number_cell by_date _ author_is.0 author_plain author_is.1 (λ t. refl) params old new k rows h in
+      (picked_places of_author params (is_filed_by_author list key) (has_author list key) old.now.trees k.tables rows picks, same)
 
-  pub no_author : (key : List ℕ) (e : Error) → FailsToQuery author_text (Text list ∷ Blob key ∷ []) old new e → RowsRest behind old new
-  no_author key e h = refused_rows author_text 8 of_author number_cell by_date _ author_is.0 author_plain author_is.1 (λ t. refl) (Text list ∷ Blob key ∷ []) old new k e h
+  pub no_author : (key : List ℕ) (e : Error) → FailsToQuery author_text (Text list ∷ Blob key ∷ []) old new e → RestsOver behind old new
+  no_author key e h = refused_rests author_text 8 of_author number_cell by_date _ author_is.0 author_plain author_is.1 (λ t. refl) (Text list ∷ Blob key ∷ []) old new k e h
 
   pub no_author_caused : (key : List ℕ) (e : Error) → FailsToQuery author_text (Text list ∷ Blob key ∷ []) old new e → old.step_limit ≡ None → IsCaused old new e
   no_author_caused key e h free = question_fails_by author_text 8 of_author number_cell by_date _ author_is.0 author_plain author_is.1 (Text list ∷ Blob key ∷ []) author_fit (author_typed list key) old new k free e h

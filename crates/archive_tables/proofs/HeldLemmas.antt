@@ -13,7 +13,7 @@ use Rattle.sqlite.specs.State.{State, Executes, ExecutesIn, shows_rows, IsNotRun
 use Rattle.sqlite.proofs.Callers.{IsPlain, command_of, runs_as}
 use Rattle.sqlite_tied.specs.Compute.{everything}
 use Rattle.archive_tables.specs.Schema.{archive_schema}
-use Rattle.archive_tables.specs.Tables.{IsHeld, IsKept, archive_in}
+use Rattle.archive_tables.specs.Tables.{IsHeld, IsKept}
 use Rattle.archive_tables.specs.Making.{IsBackTo, IsStopped}
 use Rattle.archive_tables.specs.Calls.{StaysOver, RestsOver, Rests, IsBackAt, IsHeldOrBack}
 use Rattle.archive_tables.proofs.RunLemmas.{execute_fails, rests, goes_back, kept_at}
@@ -41,7 +41,7 @@ begins_over old new (Ok count) k h =
         tables = rw ran.1.now_is k.tables;
         whole = (k.schema, k.tables);
       },
-      ap (λ (d : Database). archive_in d.trees) ran.1.now_is,
+      ran.1.now_is,
     )
 begins_over old new (Err e) k h = rests old new k (execute_fails old new begin_text [] e h)
 

@@ -32,3 +32,5 @@ pub mod OptionLemmas
 pub mod AddressLemmas
 pub mod MoveLemmas
 pub mod TurnLemmas
+pub mod CreateLemmas
+pub mod RefusedLemmas

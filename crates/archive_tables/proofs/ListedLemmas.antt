@@ -35,12 +35,11 @@ use Rattle.archive_tables.specs.Schema.{archive_schema}
 use Rattle.archive_tables.specs.Tables.{IsHeld, AreTables, Numbered, row_of, filed_cells, filed_read, archive_in}
 use Rattle.archive_tables.specs.Rows.{numbered_filed, place_shown}
 use Rattle.archive_tables.specs.Listed.{was_listed_before, with_listed_row, rows_by_list, all_places, filed_at, filed_shown}
-use Rattle.archive_tables.specs.Calls.{RowsRest, IsCaused}
+use Rattle.archive_tables.specs.Calls.{RestsOver, StaysOver, IsCaused}
 use Rattle.archive_tables.proofs.MessageLemmas.{filed_back, filed_are}
 use Rattle.archive_tables.proofs.OrderLemmas.{one_order}
 use Rattle.archive_tables.proofs.RowLemmas.{records_are}
-use Rattle.archive_tables.proofs.RunLemmas.{stays}
-use Rattle.archive_tables.proofs.SelectLemmas.{plain_query, by_number, env_of, passes, all_pass, Picks, in_order, asked, leaves, refused_rows, alone, int_is, first_kept}
+use Rattle.archive_tables.proofs.SelectLemmas.{plain_query, by_number, env_of, passes, all_pass, Picks, in_order, asked, asked_stays, refused_rests, alone, int_is, first_kept}
 use Rattle.archive_tables.proofs.WalkLemmas.{finds, each_found}
 use Rattle.archive_tables.proofs.CauseLemmas.{Fits, question_fails_by}
 use Rattle.sqlite_typing.specs.Types.{accepts_program}
@@ -279,31 +278,31 @@ module _ (place : ℤ) where
 -- ---- what the texts show
 
 module _ (old new : State) {behind : Option Database} (k : IsHeld behind old) where
-  pub all_found : (rows : List Row) → Shown places_text [] old new rows → (rows ≡ map place_shown (all_places old.now.trees)) × (new.now ≡ old.now) × IsHeld behind new
+  pub all_found : (rows : List Row) → Shown places_text [] old new rows → (rows ≡ map place_shown (all_places old.now.trees)) × StaysOver behind old new
   all_found rows h =
       let picks = asked places_text 8 [] number_cell list_then_number _ places_is.0 places_plain places_is.1 (λ t. refl) [] old new k rows h in
-      let same = leaves places_text 8 [] number_cell list_then_number _ places_is.0 places_plain places_is.1 (λ t. refl) [] old new k rows h in
-      (picked_places old.now.trees k.tables rows picks, same.0.now_is, (stays old new k same).0)
+      let same = asked_stays places_text 8 [] number_cell list_then_number _ places_is.0 places_plain places_is.1 (λ t. refl) [] old new k rows h in
+      (picked_places old.now.trees k.tables rows picks, same)
 
-  pub none_found : (e : Error) → FailsToQuery places_text [] old new e → RowsRest behind old new
-  none_found e h = refused_rows places_text 8 [] number_cell list_then_number _ places_is.0 places_plain places_is.1 (λ t. refl) [] old new k e h
+  pub none_found : (e : Error) → FailsToQuery places_text [] old new e → RestsOver behind old new
+  none_found e h = refused_rests places_text 8 [] number_cell list_then_number _ places_is.0 places_plain places_is.1 (λ t. refl) [] old new k e h
 
   pub none_found_caused : (e : Error) → FailsToQuery places_text [] old new e → old.step_limit ≡ None → IsCaused old new e
   none_found_caused e h free = question_fails_by places_text 8 [] number_cell list_then_number _ places_is.0 places_plain places_is.1 [] places_fit places_typed old new k free e h
 
   pub filed_found : (place : ℤ) (rows : List Row) → Shown filed_text (Int place ∷ []) old new rows
-      → (slice_get rows 0 ≡ option_map filed_shown (filed_at old.now.trees place)) × (new.now ≡ old.now) × IsHeld behind new
+      → (slice_get rows 0 ≡ option_map filed_shown (filed_at old.now.trees place)) × StaysOver behind old new
   filed_found place rows h =
       let params = Int place ∷ [] in
       let all = numbered_filed old.now.trees in
       let picks = asked filed_text 8 at_place cells by_number _ filed_is.0 filed_plain filed_is.1 (λ t. refl) params old new k rows h in
-      let same = leaves filed_text 8 at_place cells by_number _ filed_is.0 filed_plain filed_is.1 (λ t. refl) params old new k rows h in
+      let same = asked_stays filed_text 8 at_place cells by_number _ filed_is.0 filed_plain filed_is.1 (λ t. refl) params old new k rows h in
       let are = in_order 8 at_place cells params (old.now.trees 8) rows k.tables.messages.rise picks
       ∙ ap (map (cells_of place)) (ap (filter (passes at_place params)) k.tables.messages.coded ∙ passing place all) ∙ shown_cells place (filter (is_at place) all) in
-      (first_is place all rows are, same.0.now_is, (stays old new k same).0)
+      (first_is place all rows are, same)
 
-  pub not_filed : (place : ℤ) (e : Error) → FailsToQuery filed_text (Int place ∷ []) old new e → RowsRest behind old new
-  not_filed place e h = refused_rows filed_text 8 at_place cells by_number _ filed_is.0 filed_plain filed_is.1 (λ t. refl) (Int place ∷ []) old new k e h
+  pub not_filed : (place : ℤ) (e : Error) → FailsToQuery filed_text (Int place ∷ []) old new e → RestsOver behind old new
+  not_filed place e h = refused_rests filed_text 8 at_place cells by_number _ filed_is.0 filed_plain filed_is.1 (λ t. refl) (Int place ∷ []) old new k e h
 
   pub not_filed_caused : (place : ℤ) (e : Error) → FailsToQuery filed_text (Int place ∷ []) old new e → old.step_limit ≡ None → IsCaused old new e
   not_filed_caused place e h free = question_fails_by filed_text 8 at_place cells by_number _ filed_is.0 filed_plain filed_is.1 (Int place ∷ []) filed_fit (filed_typed place) old new k free e h

@@ -38,7 +38,7 @@ pub record Makes (s : Schema) (table : Table) (old new : Database) : Type 0 wher
   pub empty : new.trees (next_tree s) ≡ []
   pub others : KeepsRows s.tables old.trees new.trees
 
-one_made : (s : Schema) (sql : List ℕ) (table : Table) (old new : Database) → old.schema ≡ s → table_defined_by sql ≡ Ok table → MakesTable sql old (Ok new) → Makes s table old new
+pub one_made : (s : Schema) (sql : List ℕ) (table : Table) (old new : Database) → old.schema ≡ s → table_defined_by sql ≡ Ok table → MakesTable sql old (Ok new) → Makes s table old new
 one_made s sql table old new has defined it =
     let same : it.table ≡ table = value_is (sym it.defined ∙ defined) in
     record {
@@ -47,14 +47,14 @@ one_made s sql table old new has defined it =
       others = subst (λ x. KeepsRows x.tables old.trees new.trees) has it.others;
     }
 
-abbrev AreEmpty : Trees → List Table → Type 0
+abbrev pub AreEmpty : Trees → List Table → Type 0
 AreEmpty trees = AllByRecursion (λ t. trees t.tree ≡ [])
 
 all_empty : (old new : Trees) (tables : List Table) (table : Table) → KeepsRows tables old new → AreEmpty old tables → new table.tree ≡ [] → AreEmpty new (tables ++ table ∷ [])
 all_empty old new [] table same empty last = (last, tt)
 all_empty old new (t ∷ tables) table same empty last = (same.0 ∙ empty.0, all_empty old new tables table same.1 empty.1 last)
 
-still_empty : (s : Schema) (table : Table) (old new : Database) → Makes s table old new → AreEmpty old.trees s.tables → AreEmpty new.trees (created s table).tables
+pub still_empty : (s : Schema) (table : Table) (old new : Database) → Makes s table old new → AreEmpty old.trees s.tables → AreEmpty new.trees (created s table).tables
 still_empty s table old new made empty = all_empty old.trees new.trees s.tables (record table { tree = next_tree s }) made.others empty made.empty
 
 module _ (s : Schema) (sql : List ℕ) (table : Table) (is : command_of (understood s sql) ≡ CreateTable) (whole : statement_of sql (understood s sql) ≡ sql) (plain : IsPlain (understood s sql))
@@ -100,15 +100,15 @@ module _ (s : Schema) (sql : List ℕ) (table : Table) (is : command_of (underst
 
 -- ---- one index more: the rows of all tables stay
 
-same_empty : (old new : Trees) (tables : List Table) → KeepsRows tables old new → AreEmpty old tables → AreEmpty new tables
+pub same_empty : (old new : Trees) (tables : List Table) → KeepsRows tables old new → AreEmpty old tables → AreEmpty new tables
 same_empty old new [] same empty = tt
 same_empty old new (t ∷ tables) same empty = (same.0 ∙ empty.0, same_empty old new tables same.1 empty.1)
 
-record Indexes (s : Schema) (table : Table) (index : Index) (old new : Database) : Type 0 where
-  schema : new.schema ≡ indexed s table index
-  rows : KeepsRows s.tables old.trees new.trees
+pub record Indexes (s : Schema) (table : Table) (index : Index) (old new : Database) : Type 0 where
+  pub schema : new.schema ≡ indexed s table index
+  pub rows : KeepsRows s.tables old.trees new.trees
 
-one_indexed : (s : Schema) (table : Table) (sql : List ℕ) (index : Index) (old new : Database) → old.schema ≡ s → index_defined_by table sql ≡ Ok index
+pub one_indexed : (s : Schema) (table : Table) (sql : List ℕ) (index : Index) (old new : Database) → old.schema ≡ s → index_defined_by table sql ≡ Ok index
     → MakesIndex sql old table (Ok new) → Indexes s table index old new
 one_indexed s table sql index old new has defined it =
     let same : it.index ≡ index = value_is (sym it.defined ∙ defined) in
@@ -148,7 +148,7 @@ version_plain : IsPlain (understood no_schema create_version)
 unfolding understood everything
 version_plain = (refl, refl)
 
-version_alone : (lacks_sequence (created no_schema (unplaced version_table)) ≡ false) × (created no_schema (unplaced version_table) ≡ with_version)
+pub version_alone : (lacks_sequence (created no_schema (unplaced version_table)) ≡ false) × (created no_schema (unplaced version_table) ≡ with_version)
 unfolding everything
 version_alone = (refl, refl)
 
@@ -160,7 +160,7 @@ list_plain : IsPlain (understood with_version create_list)
 unfolding understood everything
 list_plain = (refl, refl)
 
-list_alone : (lacks_sequence (created with_version (unplaced list_table)) ≡ false) × (created with_version (unplaced list_table) ≡ with_list)
+pub list_alone : (lacks_sequence (created with_version (unplaced list_table)) ≡ false) × (created with_version (unplaced list_table) ≡ with_list)
 unfolding everything
 list_alone = (refl, refl)
 
@@ -172,7 +172,7 @@ person_plain : IsPlain (understood with_list create_person)
 unfolding understood everything
 person_plain = (refl, refl)
 
-person_alone : (lacks_sequence (created with_list (unplaced person_table)) ≡ false) × (created with_list (unplaced person_table) ≡ with_person)
+pub person_alone : (lacks_sequence (created with_list (unplaced person_table)) ≡ false) × (created with_list (unplaced person_table) ≡ with_person)
 unfolding everything
 person_alone = (refl, refl)
 
@@ -184,7 +184,7 @@ grant_plain : IsPlain (understood with_person create_grant)
 unfolding understood everything
 grant_plain = (refl, refl)
 
-grant_alone : (lacks_sequence (created with_person (unplaced grant_table)) ≡ false) × (created with_person (unplaced grant_table) ≡ with_grant)
+pub grant_alone : (lacks_sequence (created with_person (unplaced grant_table)) ≡ false) × (created with_person (unplaced grant_table) ≡ with_grant)
 unfolding everything
 grant_alone = (refl, refl)
 
@@ -196,7 +196,7 @@ message_plain : IsPlain (understood with_grant create_message)
 unfolding understood everything
 message_plain = (refl, refl)
 
-message_brings : (lacks_sequence (created with_grant (unplaced message_table)) ≡ true)
+pub message_brings : (lacks_sequence (created with_grant (unplaced message_table)) ≡ true)
     × (created (created with_grant (unplaced message_table)) (unplaced sequence_table) ≡ with_message)
 unfolding everything
 message_brings = (refl, refl)
@@ -223,7 +223,7 @@ author_index_plain : IsPlain (understood with_month_index create_author_index)
 unfolding understood everything
 author_index_plain = (refl, refl)
 
-author_indexed : indexed with_month_index message_table author_index ≡ schema_1
+pub author_indexed : indexed with_month_index message_table author_index ≡ schema_1
 unfolding everything
 author_indexed = refl
 
@@ -361,7 +361,7 @@ undoes old new count h up =
 abbrev pub version_text : List ℕ
 version_text = codes "INSERT INTO version (number) VALUES (?1)"
 
-abbrev version_cells : List Term
+abbrev pub version_cells : List Term
 version_cells = lit Null ∷ col 0 0 ∷ []
 
 add_is : command_of (understood archive_schema version_text) ≡ Insert 0 (Values version_cells 2)
@@ -372,7 +372,7 @@ add_plain : IsPlain (understood archive_schema version_text)
 unfolding understood everything
 add_plain = (refl, refl)
 
-puts : (db : Trees) (given : List Row) → db 0 ≡ [] → given ≡ (Null ∷ Int VERSION ∷ []) ∷ [] → edited db (edit_of db version_table [] Chosen 0 given) ≡ version_rows VERSION
+pub puts : (db : Trees) (given : List Row) → db 0 ≡ [] → given ≡ (Null ∷ Int VERSION ∷ []) ∷ [] → edited db (edit_of db version_table [] Chosen 0 given) ≡ version_rows VERSION
 puts db given none from = rw (from, none, cast_null, cast_int VERSION)
 
 nothing_in : (trees : Trees) → trees 0 ≡ version_rows VERSION → trees 1 ≡ [] → trees 3 ≡ [] → trees 6 ≡ [] → trees 8 ≡ [] → trees 13 ≡ [] → trees 15 ≡ []

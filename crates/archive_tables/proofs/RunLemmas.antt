@@ -16,8 +16,8 @@ use Rattle.sqlite.proofs.Callers.{IsPlain}
 use Rattle.sqlite_rules.specs.Action.{works}
 use Rattle.sqlite_schema.specs.declared.schema.Keys.TheVariants.{Enforced}
 use Rattle.archive_tables.specs.Schema.{archive_schema}
-use Rattle.archive_tables.specs.Tables.{IsHeld, AreTables, archive_in, committed_behind}
-use Rattle.archive_tables.specs.Calls.{RestsOver, RowsRest, StaysOver, IsBackAt}
+use Rattle.archive_tables.specs.Tables.{IsHeld, AreTables, committed_behind}
+use Rattle.archive_tables.specs.Calls.{RestsOver, StaysOver, IsBackAt}
 
 -- ---- a statement that fails
 
@@ -63,7 +63,7 @@ kept_at new d up now committed mode schema tables = (
     tables = rw now tables;
     whole = tt;
   },
-  ap (λ (x : Database). archive_in x.trees) now,
+  now,
 )
 
 -- a call that changes nothing
@@ -77,7 +77,7 @@ stays {behind} old new k same = (
     tables = rw same.0.now_is k.tables;
     whole = k.whole;
   },
-  ap (λ (d : Database). archive_in d.trees) same.0.now_is,
+  same.0.now_is,
 )
 
 -- a call that goes back to the last commit
@@ -94,17 +94,6 @@ rests_over (Some db) old new k (inr undone) = λ up. inr (goes_back db old new k
 
 pub rests : {behind : Option Database} (old new : State) → IsHeld behind old → IsUnchanged old new ⊎ IsRolledBack old new → RestsOver behind old new
 rests {behind} old new k how = rests_over behind old new k how
-
-rows_rest_over : (behind : Option Database) (old new : State) → IsHeld behind old → IsUnchanged old new ⊎ IsRolledBack old new → RowsRest behind old new
-rows_rest_over None old new k (inl same) = λ up. (same.0.now_is, (stays old new k same).0)
-rows_rest_over None old new k (inr undone) = λ up.
-    let back = (undone.undone up).0 ∙ k.settled in
-    (back, (kept_at new old.now up back ((undone.undone up).1 ∙ k.settled) undone.autocommit k.schema k.tables).0)
-rows_rest_over (Some db) old new k (inl same) = λ up. inl (same.0.now_is, (stays old new k same).0)
-rows_rest_over (Some db) old new k (inr undone) = λ up. inr (goes_back db old new k undone up)
-
-pub rows_rest : {behind : Option Database} (old new : State) → IsHeld behind old → IsUnchanged old new ⊎ IsRolledBack old new → RowsRest behind old new
-rows_rest {behind} old new k how = rows_rest_over behind old new k how
 
 -- a write outside a transaction is committed, and one within leaves what is behind
 settles : (behind : Option Database) (old new : State) → IsHeld behind old → new.committed ≡ (if old.in_transaction then old.committed else new.now)

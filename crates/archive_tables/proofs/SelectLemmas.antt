@@ -35,9 +35,9 @@ use Rattle.sqlite_sql.proofs.QueryLemmas.{output_cmp_total}
 use Rattle.sqlite_trees.proofs.ListLemmas.{map-map}
 use Rattle.archive_tables.specs.Schema.{archive_schema}
 use Rattle.archive_tables.specs.Tables.{IsHeld, Numbered, row_of, read_of, Holds}
-use Rattle.archive_tables.specs.Calls.{RestsOver, RowsRest, StaysOver}
+use Rattle.archive_tables.specs.Calls.{RestsOver, StaysOver}
 use Rattle.archive_tables.proofs.OrderLemmas.{one_order, ties_flip}
-use Rattle.archive_tables.proofs.RunLemmas.{query_fails, query_leaves, rests, rows_rest, stays}
+use Rattle.archive_tables.proofs.RunLemmas.{query_fails, query_leaves, rests, stays}
 use Rattle.archive_tables.proofs.RowLemmas.{records_are}
 
 abbrev pub plain_query : ℕ → List Term → List Term → List (Term × Key) → Query
@@ -216,12 +216,6 @@ module _ (sql : List ℕ) (t : ℕ) (terms shown : List Term) (order : List (Ter
 
     pub asked_rests : (rows : List Row) → Shown sql params old new rows → RestsOver behind old new
     asked_rests rows h = rests old new k (inl (leaves rows h))
-
-    pub asked_rows : (rows : List Row) → Shown sql params old new rows → RowsRest behind old new
-    asked_rows rows h = rows_rest old new k (inl (leaves rows h))
-
-    pub refused_rows : (e : Error) → FailsToQuery sql params old new e → RowsRest behind old new
-    refused_rows e h = rows_rest old new k (query_fails old new sql params e plain_here h)
 
     pub refused_rests : (e : Error) → FailsToQuery sql params old new e → RestsOver behind old new
     refused_rests e h = rests old new k (query_fails old new sql params e plain_here h)

@@ -28,11 +28,10 @@ use Rattle.archive_machine.specs.Questions.{messages_in}
 use Rattle.archive_tables.specs.Schema.{archive_schema}
 use Rattle.archive_tables.specs.Tables.{IsHeld, AreTables, Numbered, row_of, filed_cells, filed_read, archive_in}
 use Rattle.archive_tables.specs.Rows.{message_shown, dated_marks_shown, numbered_filed, places_in, message_at, place_shown}
-use Rattle.archive_tables.specs.Calls.{RowsRest, IsCaused}
+use Rattle.archive_tables.specs.Calls.{RestsOver, StaysOver, IsCaused}
 use Rattle.archive_tables.proofs.MessageLemmas.{filed_back, wanted_messages}
 use Rattle.archive_tables.proofs.MailboxLemmas.{of_list, has_list}
-use Rattle.archive_tables.proofs.RunLemmas.{stays}
-use Rattle.archive_tables.proofs.SelectLemmas.{plain_query, by_number, env_of, passes, hits, in_order, asked, leaves, asked_rows, refused_rows, alone, int_is, tie_is}
+use Rattle.archive_tables.proofs.SelectLemmas.{plain_query, by_number, env_of, passes, hits, in_order, asked, asked_stays, asked_rests, refused_rests, alone, int_is, tie_is}
 use Rattle.archive_tables.proofs.CauseLemmas.{Fits, question_fails_by}
 use Rattle.sqlite_typing.specs.Types.{accepts_program}
 
@@ -209,65 +208,62 @@ walked trees list t =
 
 module _ (old new : State) {behind : Option Database} (k : IsHeld behind old) where
   pub places_found : (list : List ℕ) (rows : List Row) → Shown places_text (Text list ∷ []) old new rows
-      → (rows ≡ map place_shown (places_in old.now.trees list)) × (new.now ≡ old.now) × IsHeld behind new
+      → (rows ≡ map place_shown (places_in old.now.trees list)) × StaysOver behind old new
   places_found list rows h =
       let params = Text list ∷ [] in
       let all = numbered_filed old.now.trees in
       let wanted = filter (λ (r : Numbered Filed). bytes_eq r.it.0.list list) all in
       let picks = asked places_text 8 of_list number_cell by_number _ places_is.0 places_plain places_is.1 (λ t. refl) params old new k rows h in
       let its = hits filed_cells filed_read filed_back (plain_query 8 of_list number_cell by_number) params (λ (f : Filed). bytes_eq f.0.list list) (has_list list) (old.now.trees 8) k.tables.messages in
-      let same = leaves places_text 8 of_list number_cell by_number _ places_is.0 places_plain places_is.1 (λ t. refl) params old new k rows h in (
+      let same = asked_stays places_text 8 of_list number_cell by_number _ places_is.0 places_plain places_is.1 (λ t. refl) params old new k rows h in (
         in_order 8 of_list number_cell params (old.now.trees 8) rows k.tables.messages.rise picks ∙ ap (map (cell_of list)) its.0 ∙ shown_cell list wanted,
-        same.0.now_is,
-        (stays old new k same).0,
+        same,
       )
 
-  pub no_places : (list : List ℕ) (e : Error) → FailsToQuery places_text (Text list ∷ []) old new e → RowsRest behind old new
-  no_places list e h = refused_rows places_text 8 of_list number_cell by_number _ places_is.0 places_plain places_is.1 (λ t. refl) (Text list ∷ []) old new k e h
+  pub no_places : (list : List ℕ) (e : Error) → FailsToQuery places_text (Text list ∷ []) old new e → RestsOver behind old new
+  no_places list e h = refused_rests places_text 8 of_list number_cell by_number _ places_is.0 places_plain places_is.1 (λ t. refl) (Text list ∷ []) old new k e h
 
   pub no_places_caused : (list : List ℕ) (e : Error) → FailsToQuery places_text (Text list ∷ []) old new e → old.step_limit ≡ None → IsCaused old new e
   no_places_caused list e h free = question_fails_by places_text 8 of_list number_cell by_number _ places_is.0 places_plain places_is.1 (Text list ∷ []) places_fit (places_typed list) old new k free e h
 
   pub at_found : (place : ℤ) (rows : List Row) → Shown at_text (Int place ∷ []) old new rows
-      → (rows ≡ map (λ (r : Numbered Filed). message_shown r.it.0) (filter (is_at place) (numbered_filed old.now.trees))) × (new.now ≡ old.now) × IsHeld behind new
+      → (rows ≡ map (λ (r : Numbered Filed). message_shown r.it.0) (filter (is_at place) (numbered_filed old.now.trees))) × StaysOver behind old new
   at_found place rows h =
       let params = Int place ∷ [] in
       let all = numbered_filed old.now.trees in
       let picks = asked at_text 8 at_place all_cells by_number _ at_is.0 at_plain at_is.1 (λ t. refl) params old new k rows h in
-      let same = leaves at_text 8 at_place all_cells by_number _ at_is.0 at_plain at_is.1 (λ t. refl) params old new k rows h in (
+      let same = asked_stays at_text 8 at_place all_cells by_number _ at_is.0 at_plain at_is.1 (λ t. refl) params old new k rows h in (
         in_order 8 at_place all_cells params (old.now.trees 8) rows k.tables.messages.rise picks
             ∙ ap (map (cells_of place)) (ap (filter (passes at_place params)) k.tables.messages.coded ∙ passing place all) ∙ shown_cells place (filter (is_at place) all),
-        same.0.now_is,
-        (stays old new k same).0,
+        same,
       )
 
-  pub none_at : (place : ℤ) (e : Error) → FailsToQuery at_text (Int place ∷ []) old new e → RowsRest behind old new
-  none_at place e h = refused_rows at_text 8 at_place all_cells by_number _ at_is.0 at_plain at_is.1 (λ t. refl) (Int place ∷ []) old new k e h
+  pub none_at : (place : ℤ) (e : Error) → FailsToQuery at_text (Int place ∷ []) old new e → RestsOver behind old new
+  none_at place e h = refused_rests at_text 8 at_place all_cells by_number _ at_is.0 at_plain at_is.1 (λ t. refl) (Int place ∷ []) old new k e h
 
   pub none_at_caused : (place : ℤ) (e : Error) → FailsToQuery at_text (Int place ∷ []) old new e → old.step_limit ≡ None → IsCaused old new e
   none_at_caused place e h free = question_fails_by at_text 8 at_place all_cells by_number _ at_is.0 at_plain at_is.1 (Int place ∷ []) at_fit (at_typed place) old new k free e h
 
-  pub at_rests : (place : ℤ) (rows : List Row) → Shown at_text (Int place ∷ []) old new rows → RowsRest behind old new
-  at_rests place rows h = asked_rows at_text 8 at_place all_cells by_number _ at_is.0 at_plain at_is.1 (λ t. refl) (Int place ∷ []) old new k rows h
+  pub at_rests : (place : ℤ) (rows : List Row) → Shown at_text (Int place ∷ []) old new rows → RestsOver behind old new
+  at_rests place rows h = asked_rests at_text 8 at_place all_cells by_number _ at_is.0 at_plain at_is.1 (λ t. refl) (Int place ∷ []) old new k rows h
 
   pub marks_found : (place : ℤ) (rows : List Row) → Shown marks_at_text (Int place ∷ []) old new rows
-      → (rows ≡ map (λ (r : Numbered Filed). dated_marks_shown r.it.0) (filter (is_at place) (numbered_filed old.now.trees))) × (new.now ≡ old.now) × IsHeld behind new
+      → (rows ≡ map (λ (r : Numbered Filed). dated_marks_shown r.it.0) (filter (is_at place) (numbered_filed old.now.trees))) × StaysOver behind old new
   marks_found place rows h =
       let params = Int place ∷ [] in
       let all = numbered_filed old.now.trees in
       let picks = asked marks_at_text 8 at_place mark_cells by_number _ marks_at_is.0 marks_at_plain marks_at_is.1 (λ t. refl) params old new k rows h in
-      let same = leaves marks_at_text 8 at_place mark_cells by_number _ marks_at_is.0 marks_at_plain marks_at_is.1 (λ t. refl) params old new k rows h in (
+      let same = asked_stays marks_at_text 8 at_place mark_cells by_number _ marks_at_is.0 marks_at_plain marks_at_is.1 (λ t. refl) params old new k rows h in (
         in_order 8 at_place mark_cells params (old.now.trees 8) rows k.tables.messages.rise picks
             ∙ ap (map (marks_seen place)) (ap (filter (passes at_place params)) k.tables.messages.coded ∙ passing place all) ∙ shown_marks place (filter (is_at place) all),
-        same.0.now_is,
-        (stays old new k same).0,
+        same,
       )
 
-  pub no_marks_at : (place : ℤ) (e : Error) → FailsToQuery marks_at_text (Int place ∷ []) old new e → RowsRest behind old new
-  no_marks_at place e h = refused_rows marks_at_text 8 at_place mark_cells by_number _ marks_at_is.0 marks_at_plain marks_at_is.1 (λ t. refl) (Int place ∷ []) old new k e h
+  pub no_marks_at : (place : ℤ) (e : Error) → FailsToQuery marks_at_text (Int place ∷ []) old new e → RestsOver behind old new
+  no_marks_at place e h = refused_rests marks_at_text 8 at_place mark_cells by_number _ marks_at_is.0 marks_at_plain marks_at_is.1 (λ t. refl) (Int place ∷ []) old new k e h
 
   pub no_marks_at_caused : (place : ℤ) (e : Error) → FailsToQuery marks_at_text (Int place ∷ []) old new e → old.step_limit ≡ None → IsCaused old new e
   no_marks_at_caused place e h free = question_fails_by marks_at_text 8 at_place mark_cells by_number _ marks_at_is.0 marks_at_plain marks_at_is.1 (Int place ∷ []) marks_at_fit (marks_at_typed place) old new k free e h
 
-  pub marks_at_rests : (place : ℤ) (rows : List Row) → Shown marks_at_text (Int place ∷ []) old new rows → RowsRest behind old new
-  marks_at_rests place rows h = asked_rows marks_at_text 8 at_place mark_cells by_number _ marks_at_is.0 marks_at_plain marks_at_is.1 (λ t. refl) (Int place ∷ []) old new k rows h
+  pub marks_at_rests : (place : ℤ) (rows : List Row) → Shown marks_at_text (Int place ∷ []) old new rows → RestsOver behind old new
+  marks_at_rests place rows h = asked_rests marks_at_text 8 at_place mark_cells by_number _ marks_at_is.0 marks_at_plain marks_at_is.1 (λ t. refl) (Int place ∷ []) old new k rows h

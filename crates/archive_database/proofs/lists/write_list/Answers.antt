@@ -6,6 +6,7 @@ use Rattle.archive_tables.specs.Tables.{archive_of}
 use Rattle.archive_tables.specs.Calls.{IsCaused}
 use Rattle.archive_tables.proofs.CauseLemmas.{carried}
 use Rattle.archive_tables.proofs.CrashLemmas.{commit_over, adds_as}
+use Rattle.archive_tables.proofs.EndLemmas.{archive_stays}
 use Rattle.archive_tables.proofs.LastLemmas.{lasts_then}
 use Rattle.archive_tables.proofs.RunLemmas.{on_fault}
 use Rattle.archive_database.specs.Lists.{with_list, IsListRefused}
@@ -20,7 +21,7 @@ returns-clause-written g c = λ clean db held.
     let listed = c.in_ok-add_list.ensures.over clean_1 (Some db) held tt in
     let said = c.in_ok-add_option.ensures.over clean_2 (Some db) listed.0 tt in
     let kept = c.in_ok-commit.ensures.held clean db said.0 in
-    (kept.0, kept.1 ∙ said.1 ∙ ap (λ (a : Archive). record a { options = a.options ++ merging c.args.name.now ∷ [] }) listed.1)
+    (kept.0, archive_stays kept.1 ∙ said.1 ∙ ap (λ (a : Archive). record a { options = a.options ++ merging c.args.name.now ∷ [] }) listed.1)
 
 pub returns-in_err-add_list-clause-written : goal.returns-in_err-add_list-clause-written
 returns-in_err-add_list-clause-written g c = λ clean db held.

@@ -1,5 +1,6 @@
 use Rattle.std.proofs.Common.{inl, inr, subst, ◌∙◌, rules}
 use Rattle.archive_tables.specs.Statements.{IsRefusedInTurn, making_statements}
+use Rattle.archive_tables.proofs.RefusedLemmas.{never_unmade}
 use Rattle.archive_database.proofs.StepsLemmas.{blames, blames_it}
 use Rattle.sqlite.specs.Held.{state}
 use Rattle.archive_tables.proofs.LastLemmas.{lasts_then, lasts_same}
@@ -27,7 +28,7 @@ returns-in_err-begin-clause-ends g c =
     record {
       lasts = c.begin.ensures.ends.lasts;
       was_open = λ clean. search rules;
-      caused = λ clean it free. blames old old new new c.from_residual.result c.in_err-begin.field-0.0 _ (IsRefusedInTurn making_statements old.now) c.from_residual.ensures.1 (lasts_same old) (lasts_same new)
+      caused = λ clean it free. blames old old new new c.from_residual.result c.in_err-begin.field-0.0 _ ⊥ c.from_residual.ensures.1 (lasts_same old) (lasts_same new)
           (λ no. absurd no) (inl (c.in_err-begin.ensures.ends.caused clean it.0.is_open it.0.autocommit));
     }
 
@@ -44,8 +45,8 @@ returns-in-Err-clause-ends g c =
           let clean_2 = c.rollback-undone.ensures.lasts.returned clean in
           let clean_1 = c.in-Err.ensures.ends.lasts.returned clean_2 in
           let making = c.in_ok-begin.ensures.begun clean_1 it.1 in
-          blames_it old mid stop new c.in-Err.error (IsRefusedInTurn making_statements mid.now) (IsRefusedInTurn making_statements old.now) c.begin.ensures.ends.lasts
-          c.rollback-undone.ensures.lasts (λ refused. subst (IsRefusedInTurn making_statements) (c.in_ok-begin.ensures.ends.same clean_1) refused)
+          blames_it old mid stop new c.in-Err.error (IsRefusedInTurn making_statements mid.now) ⊥ c.begin.ensures.ends.lasts
+          c.rollback-undone.ensures.lasts (never_unmade mid.now making.schema_is)
           (c.in-Err.ensures.ends.caused clean_2 old.committed making (c.begin.ensures.ends.lasts.limit ∙ free)) _ (search rules);
     }
 

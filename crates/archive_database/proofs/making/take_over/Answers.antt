@@ -26,5 +26,5 @@ returns-in_err-find_version-clause-ends g c =
       caused = λ clean it free.
           let told = told_version old.now.schema it.1 c.version_of_objects.result c.version_of_objects.ensures.own c.in-Some.number (search rules) in
           passes old old new new c.from_residual.result c.in_err-find_version.field-0.0 _ (IsNotTaken old.now) (search rules) (lasts_same old) (lasts_same new)
-          (λ no. inr (inl (c.in-Some.number, told.0, told.1, no))) (c.in_err-find_version.ensures.ends.caused clean (told.0, idle_form c.in-Some.number old it.0 told.1) free);
+          (λ no. inl (c.in-Some.number, told.0, told.1, no)) (c.in_err-find_version.ensures.ends.caused clean (told.0, idle_form c.in-Some.number old it.0 told.1) free);
     }

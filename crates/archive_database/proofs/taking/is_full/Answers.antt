@@ -7,7 +7,7 @@ use Rattle.archive_tables.specs.Calls.{IsCaused}
 use Rattle.archive_tables.proofs.RunLemmas.{on_fault}
 use Rattle.archive_tables.proofs.CauseLemmas.{carried, answers_none}
 use Rattle.archive_tables.proofs.LastLemmas.{lasts_then}
-use Rattle.archive_tables.proofs.EndLemmas.{stays_then, rests_then}
+use Rattle.archive_tables.proofs.EndLemmas.{archive_stays, stays_then, rests_behind}
 use Rattle.archive_database.proofs.CauseLemmas.{caused_since}
 use Rattle.archive_database.proofs.TakingLemmas.{not_full}
 use Rattle.archive_database.proofs.taking.is_full.Goals as goal
@@ -29,7 +29,7 @@ returns g c = record {
       let before = c.in_ok-count.ensures.ends.lasts.returned clean in
       let first = c.in_ok-may_be_full.ensures.over before behind k in
       let last = c.in_ok-count.ensures.over clean behind first.1.0 in (
-        ap (nat_le c.args.limit) (last.0 ∙ ap (λ a. length (messages_in a c.args.list.now)) first.1.1),
+        ap (nat_le c.args.limit) (last.0 ∙ ap (λ a. length (messages_in a c.args.list.now)) (archive_stays first.1.1)),
         stays_then behind (state g.S.Store c.args.conn.now) (state g.S.Store c.may_be_full.new.conn) (state g.S.Store c.count_messages.new.conn) first.1 last.1,
       );
   caused = λ clean k free. tt;
@@ -64,7 +64,7 @@ returns-in_err-count g c =
     record {
       over = λ clean behind k.
           let first = c.in_ok-may_be_full.ensures.over (c.in_err-count.ensures.ends.lasts.returned clean) behind k in
-          on_fault _ _ exit.result exit.ensures.1 (rests_then behind old mid new first.1 (c.in_err-count.ensures.over clean behind first.1.0));
+          on_fault _ _ exit.result exit.ensures.1 (rests_behind behind old mid new first.1.1 (c.in_err-count.ensures.over clean behind first.1.0));
       caused = λ clean k free.
           let first = c.in_ok-may_be_full.ensures.over (c.in_err-count.ensures.ends.lasts.returned clean) None k in
           carried exit.result error (λ e. IsCaused old new e ⊎ ⊥) exit.ensures.1

@@ -9,7 +9,7 @@ use Rattle.sqlite.specs.State.{State, Shown, FailsToQuery}
 use Rattle.archive_tables.specs.Tables.{IsHeld, IsKept}
 use Rattle.archive_tables.specs.Rows.{place_shown}
 use Rattle.archive_tables.specs.Listed.{all_places}
-use Rattle.archive_tables.specs.Calls.{RowsRest, IsCaused}
+use Rattle.archive_tables.specs.Calls.{StaysOver, RestsOver, IsCaused}
 use Rattle.archive_tables.proofs.ListedLemmas.{places_text, all_found, none_found, none_found_caused}
 use Rattle.archive_tables.proofs.EndLemmas.{asks_rows_shows}
 use Rattle.sqlite_tied.specs.Compute.{everything}
@@ -24,7 +24,7 @@ asks = tt
 
 found : (behind : Option Database) (old new : State) (r : Result (Vec Row Global) Error) → IsHeld behind old
     → IfOk r (λ rows. Shown places_text [] old new rows.items) → IfErr r (FailsToQuery places_text [] old new)
-    → MatchResult r (λ rows. (rows.items ≡ map place_shown (all_places old.now.trees)) × (new.now ≡ old.now) × IsHeld behind new) (λ _. RowsRest behind old new)
+    → MatchResult r (λ rows. (rows.items ≡ map place_shown (all_places old.now.trees)) × StaysOver behind old new) (λ _. RestsOver behind old new)
 found behind old new (Ok rows) k ok err = all_found old new k rows.items ok
 found behind old new (Err e) k ok err = none_found old new k e err
 

@@ -10,7 +10,7 @@ use Rattle.sqlite.specs.Held.{state}
 use Rattle.sqlite.specs.State.{State, Shown, FailsToQuery}
 use Rattle.archive_tables.specs.Tables.{IsHeld, IsKept}
 use Rattle.archive_tables.specs.Listed.{filed_at, filed_shown}
-use Rattle.archive_tables.specs.Calls.{RowsRest, IsCaused}
+use Rattle.archive_tables.specs.Calls.{StaysOver, RestsOver, IsCaused}
 use Rattle.archive_tables.proofs.ListedLemmas.{filed_text, filed_found, not_filed, not_filed_caused}
 use Rattle.archive_tables.proofs.EndLemmas.{asks_rows_shows}
 use Rattle.sqlite_tied.specs.Compute.{everything}
@@ -25,7 +25,7 @@ asks = tt
 
 found : (behind : Option Database) (old new : State) (place : ℤ) (r : Result (Vec Row Global) Error) → IsHeld behind old
     → IfOk r (λ rows. Shown filed_text (Int place ∷ []) old new rows.items) → IfErr r (FailsToQuery filed_text (Int place ∷ []) old new)
-    → MatchResult r (λ rows. (slice_get rows.items 0 ≡ option_map filed_shown (filed_at old.now.trees place)) × (new.now ≡ old.now) × IsHeld behind new) (λ _. RowsRest behind old new)
+    → MatchResult r (λ rows. (slice_get rows.items 0 ≡ option_map filed_shown (filed_at old.now.trees place)) × StaysOver behind old new) (λ _. RestsOver behind old new)
 found behind old new place (Ok rows) k ok err = filed_found old new k place rows.items ok
 found behind old new place (Err e) k ok err = not_filed old new k place e err
 

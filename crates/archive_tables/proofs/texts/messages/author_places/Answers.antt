@@ -9,7 +9,7 @@ use Rattle.sqlite.specs.Held.{state}
 use Rattle.sqlite.specs.State.{State, Shown, FailsToQuery}
 use Rattle.archive_tables.specs.Tables.{IsHeld, IsKept}
 use Rattle.archive_tables.specs.Rows.{author_places, place_shown}
-use Rattle.archive_tables.specs.Calls.{RowsRest, IsCaused}
+use Rattle.archive_tables.specs.Calls.{StaysOver, RestsOver, IsCaused}
 use Rattle.archive_tables.proofs.FiledLemmas.{author_text, author_found, no_author, no_author_caused}
 use Rattle.archive_tables.proofs.EndLemmas.{asks_rows_shows}
 use Rattle.sqlite_tied.specs.Compute.{everything}
@@ -24,7 +24,7 @@ asks = tt
 
 found : (behind : Option Database) (old new : State) (list it : List ℕ) (r : Result (Vec Row Global) Error) → IsHeld behind old
     → IfOk r (λ rows. Shown author_text (Text list ∷ Blob it ∷ []) old new rows.items) → IfErr r (FailsToQuery author_text (Text list ∷ Blob it ∷ []) old new)
-    → MatchResult r (λ rows. (rows.items ≡ map place_shown (author_places old.now.trees list it)) × (new.now ≡ old.now) × IsHeld behind new) (λ _. RowsRest behind old new)
+    → MatchResult r (λ rows. (rows.items ≡ map place_shown (author_places old.now.trees list it)) × StaysOver behind old new) (λ _. RestsOver behind old new)
 found behind old new list it (Ok rows) k ok err = author_found old new k list it rows.items ok
 found behind old new list it (Err e) k ok err = no_author old new k list it e err
 

@@ -56,7 +56,7 @@ returns-in-Some g c =
     (λ clean behind k.
     let found = marks_found old new k c.args.place rows (rw number at (c.in_ok-rows.ensures.ok clean)) in
     let it = first_found (is_at c.args.place) (λ (r : Numbered Filed). dated_marks_shown r.it.0) _ rows found.0 c.in-Some.row.now first in
-    (ap Some (c.in_ok-read_dated_marks-in-Some.ensures.read it.0.it.0 it.2) ∙ sym (ap (λ o. option_map dated_marks_of (option_map (λ (r : Numbered Filed). r.it.0) o)) it.1), found.1, found.2))
+    (ap Some (c.in_ok-read_dated_marks-in-Some.ensures.read it.0.it.0 it.2) ∙ sym (ap (λ o. option_map dated_marks_of (option_map (λ (r : Numbered Filed). r.it.0) o)) it.1), found.1))
 
 pub returns : goal.returns
 returns g c =
@@ -68,4 +68,4 @@ returns g c =
     asks_rows_answers _ _ asks c.query_all.result c.query_all.ensures.survives c.query_all.ensures.ok c.query_all.ensures.err _ rows c.in_ok-rows.ensures.ok
     (λ clean behind k.
     let found = marks_found old new k c.args.place rows (rw number at (c.in_ok-rows.ensures.ok clean)) in
-    (sym (ap (λ o. option_map dated_marks_of (option_map (λ (r : Numbered Filed). r.it.0) o)) (none_found (is_at c.args.place) (λ (r : Numbered Filed). dated_marks_shown r.it.0) _ rows found.0 first)), found.1, found.2))
+    (sym (ap (λ o. option_map dated_marks_of (option_map (λ (r : Numbered Filed). r.it.0) o)) (none_found (is_at c.args.place) (λ (r : Numbered Filed). dated_marks_shown r.it.0) _ rows found.0 first)), found.1))

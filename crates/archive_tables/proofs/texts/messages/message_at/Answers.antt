@@ -59,7 +59,7 @@ returns-in-Some g c =
     (λ clean behind k.
     let found = at_found old new k c.args.place rows (rw number at (c.in_ok-rows.ensures.ok clean)) in
     let it = first_found (is_at c.args.place) (λ (r : Numbered Filed). message_shown r.it.0) _ rows found.0 c.in-Some.row.now first in
-    ((it.0.it.0, ap (option_map (λ (r : Numbered Filed). r.it.0)) it.1, c.in_ok-read_message-in-Some.ensures.read it.0.it.0 it.2), found.1, found.2))
+    ((it.0.it.0, ap (option_map (λ (r : Numbered Filed). r.it.0)) it.1, c.in_ok-read_message-in-Some.ensures.read it.0.it.0 it.2), found.1))
 
 pub returns : goal.returns
 returns g c =
@@ -71,4 +71,4 @@ returns g c =
     asks_rows_answers _ _ asks c.query_all.result c.query_all.ensures.survives c.query_all.ensures.ok c.query_all.ensures.err _ rows c.in_ok-rows.ensures.ok
     (λ clean behind k.
     let found = at_found old new k c.args.place rows (rw number at (c.in_ok-rows.ensures.ok clean)) in
-    (ap (option_map (λ (r : Numbered Filed). r.it.0)) (none_found (is_at c.args.place) (λ (r : Numbered Filed). message_shown r.it.0) _ rows found.0 first), found.1, found.2))
+    (ap (option_map (λ (r : Numbered Filed). r.it.0)) (none_found (is_at c.args.place) (λ (r : Numbered Filed). message_shown r.it.0) _ rows found.0 first), found.1))

@@ -9,7 +9,7 @@ use Rattle.sqlite.specs.Held.{state}
 use Rattle.sqlite.specs.State.{State, Shown, FailsToQuery}
 use Rattle.archive_tables.specs.Tables.{IsHeld, IsKept}
 use Rattle.archive_tables.specs.Rows.{places_in, place_shown}
-use Rattle.archive_tables.specs.Calls.{RowsRest, IsCaused}
+use Rattle.archive_tables.specs.Calls.{StaysOver, RestsOver, IsCaused}
 use Rattle.archive_tables.proofs.WalkLemmas.{places_text, places_found, no_places, no_places_caused}
 use Rattle.archive_tables.proofs.EndLemmas.{asks_rows_shows}
 use Rattle.sqlite_tied.specs.Compute.{everything}
@@ -24,7 +24,7 @@ asks = tt
 
 found : (behind : Option Database) (old new : State) (list : List ℕ) (r : Result (Vec Row Global) Error) → IsHeld behind old
     → IfOk r (λ rows. Shown places_text (Text list ∷ []) old new rows.items) → IfErr r (FailsToQuery places_text (Text list ∷ []) old new)
-    → MatchResult r (λ rows. (rows.items ≡ map place_shown (places_in old.now.trees list)) × (new.now ≡ old.now) × IsHeld behind new) (λ _. RowsRest behind old new)
+    → MatchResult r (λ rows. (rows.items ≡ map place_shown (places_in old.now.trees list)) × StaysOver behind old new) (λ _. RestsOver behind old new)
 found behind old new list (Ok rows) k ok err = places_found old new k list rows.items ok
 found behind old new list (Err e) k ok err = no_places old new k list e err
 
