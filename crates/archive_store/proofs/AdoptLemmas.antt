@@ -1,5 +1,5 @@
 -- Why a connection was not taken over.
-use Rattle.std.proofs.Common.{◌≡◌, ◌⊎◌, inl, inr, ℕ, zero, suc, Result, Err, sym, ap, subst, ◌∙◌, arith}
+use Rattle.std.proofs.Common.{◌≡◌, ◌⊎◌, inl, inr, ℕ, zero, suc, Result, Err, None, refl, sym, ap, subst, ◌∙◌, arith}
 use Rattle.sqlite_trees.specs.declared.memory.MemStore.{MemStore}
 use Rattle.sqlite_disk.specs.Disk.{MoreFaults}
 use Rattle.sqlite.specs.Schema.{Schema}
@@ -11,8 +11,10 @@ use Rattle.sqlite.proofs.Callers.{memory_is_clean}
 use Rattle.archive_tables.specs.Schema.{no_schema, schema_of}
 use Rattle.archive_tables.specs.Tables.{IsKnown}
 use Rattle.archive_tables.specs.Making.{IsIdle}
-use Rattle.archive_database.specs.Adopting.{HasVersion, IsUnderstood, IsOlder, IsUnmade, IsNotTaken}
+use Rattle.archive_database.specs.Adopting.{HasVersion, IsUnderstood, IsOlder, IsNotTaken}
 use Rattle.archive_store.specs.Adopting.{IsLeft}
+use Rattle.archive_store.specs.Replies.{refusal}
+use Rattle.archive_store.specs.declared.faults.StoreFault.{StoreFault}
 use Rattle.archive_store.specs.declared.adopting.AdoptStop.{AdoptStop}
 use Rattle.archive_store.specs.declared.faults.StoreFault.TheVariants as faults
 use Rattle.archive_database.specs.Faults.{FailsByDiskOr}
@@ -42,17 +44,21 @@ is_some (suc (suc (suc (suc n)))) known is = absurd (omega (arith, known.most))
 is_known : (number : ℕ) → IsOlder number → IsKnown number
 is_known number older = record { least = older.least; most = omega (arith, older.most) }
 
-only_unmade : (db : Database) → db.schema ≡ no_schema → IsNotTaken db → IsUnmade db
-only_unmade db empty (inl unmade) = unmade
-only_unmade db empty (inr (inl (number, known, schema, other))) = absurd (is_some number known (sym schema ∙ empty))
-only_unmade db empty (inr (inr (number, older, schema, refused))) = absurd (is_some number (is_known number older) (sym schema ∙ empty))
+always_taken : (db : Database) → db.schema ≡ no_schema → ¬ IsNotTaken db
+always_taken db empty (inl (number, known, schema, other)) = is_some number known (sym schema ∙ empty)
+always_taken db empty (inr (number, older, schema, refused)) = is_some number (is_known number older) (sym schema ∙ empty)
+
+only_memory : (fault : StoreFault) → refusal fault ≡ None → ¬ (fault ≡ faults.Store) → fault ≡ faults.Memory
+only_memory faults.Memory none other = refl
+only_memory faults.Store none other = absurd (other refl)
+only_memory _ none other = absurd cc
 
 pub memory_refuses : (connection : Held MemStore) (stop : AdoptStop MemStore) → IsEmpty (state over_memory connection) → IsNew connection → IsLeft over_memory connection stop
-    → stop.fault ≡ faults.Store → (db : Database) × IsUnmade db
-memory_refuses connection stop empty new left store =
+    → stop.fault ≡ faults.Memory
+memory_refuses connection stop empty new left = only_memory stop.fault left.fault (λ store.
     let s = state over_memory connection in
     let idle : IsIdle s = record { is_open = empty.0.is_open; autocommit = empty.0.autocommit; settled = sym empty.0.clean } in
     elim (left.caused (memory_is_clean stop.connection) idle (inl empty.2) new.unlimited store) [
-      | inl more ↦ absurd (never_more more)
-      | inr it ↦ (s.now, only_unmade s.now empty.2 it)
-    ]
+      | inl more ↦ never_more more
+      | inr it ↦ always_taken s.now empty.2 it
+    ])

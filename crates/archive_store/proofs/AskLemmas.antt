@@ -8,13 +8,14 @@ use Rattle.sqlite.specs.State.{HasCleanDisk}
 use Rattle.archive_machine.specs.Records.{Archive}
 use Rattle.archive_tables.specs.Tables.{IsKept, archive_of}
 use Rattle.archive_tables.specs.Calls.{Asks, Writes, Changes, Rests}
+use Rattle.archive_tables.proofs.EndLemmas.{archive_stays}
 use Rattle.archive_tables.specs.Statements.{Statement}
 
 module _ {S A : Type 0} {g : Ghosts S} {old new : Held S} where
   -- a question that is answered, or not
   pub answered : {a : A} {Says : Archive → A → Type 0} {Unread : Type 0} → Asks g old new (Ok a) Says Unread → HasCleanDisk (state g new) → IsKept (state g old)
       → Says (archive_of (state g old)) a × IsKept (state g new) × (archive_of (state g new) ≡ archive_of (state g old))
-  answered asks clean kept = let it = asks.over clean None kept in (it.0, it.1.0, it.1.1)
+  answered asks clean kept = let it = asks.over clean None kept in (it.0, it.1.0, archive_stays it.1.1)
 
   pub unanswered : {e : Error} {Says : Archive → A → Type 0} {Unread : Type 0} → Asks g old new (Err e) Says Unread → HasCleanDisk (state g new) → IsKept (state g old)
       → Rests (state g old) (state g new)

@@ -18,6 +18,7 @@ use Rattle.archive_machine.specs.Machine.{Outcome, added_within, longest_text, m
 use Rattle.archive_machine.specs.Runs.{taken, run, Tally, tally, is_new, is_known, is_too_large}
 use Rattle.archive_tables.specs.Tables.{IsHeld, IsKept, archive_of}
 use Rattle.archive_tables.specs.Calls.{ChangesOver, Rests, RestsOver, StaysOver, IsHeldOrBack}
+use Rattle.archive_tables.proofs.EndLemmas.{archive_stays}
 use Rattle.archive_store.specs.Batches.{IsCounted, AddsTo, HasTaken, IsAfter, IsFullAt, IsRefusedAt, text_bytes, tally_of}
 use Rattle.archive_store.specs.Replies.{refusal, Steps, says_added}
 use Rattle.archive_store.specs.declared.batches.AddReport.{AddReport}
@@ -58,8 +59,8 @@ module _ (behind : Option Database) (old new : State) (list : List ℕ) (item : 
   pub large_over : true ≡ nat_lt longest_text (length (whole item.text)) → StaysOver behind old new → AddsTo behind old new list item count (refused too_large)
   large_over large stays = (
     stays.0,
-    ap (λ a. (a, refused too_large)) stays.1 ∙ rw (n.is_there, sym large) refl,
-    subst (λ a. IsCounted a list count) (sym stays.1) n,
+    ap (λ a. (a, refused too_large)) (archive_stays stays.1) ∙ rw (n.is_there, sym large) refl,
+    subst (λ a. IsCounted a list count) (sym (archive_stays stays.1)) n,
   )
 
   module _ (k : List ℕ) (small : false ≡ nat_lt longest_text (length (whole item.text))) where
@@ -67,17 +68,17 @@ module _ (behind : Option Database) (old new : State) (list : List ℕ) (item : 
         → AddsTo behind old new list item count already_known
     known_over e known stays = (
       stays.0,
-      ap (λ a. (a, already_known)) stays.1 ∙ sym (add_known message_limit list k item e small (archive_of old) ((tt, sym n.is_there), known)),
-      subst (λ a. IsCounted a list count) (sym stays.1) n,
+      ap (λ a. (a, already_known)) (archive_stays stays.1) ∙ sym (add_known message_limit list k item e small (archive_of old) ((tt, sym n.is_there), known)),
+      subst (λ a. IsCounted a list count) (sym (archive_stays stays.1)) n,
     )
 
     pub full_over : k ≡ item_key item → false ≡ list_any (is_message list k) (archive_of old).messages → 50000 ≤ count → StaysOver behind old new
         → AddsTo behind old new list item count (refused list_full)
     full_over e none full stays = (
       stays.0,
-      ap (λ a. (a, refused list_full)) stays.1
+      ap (λ a. (a, refused list_full)) (archive_stays stays.1)
           ∙ sym (add_full message_limit list k item e small (archive_of old) (((tt, sym n.is_there), none), subst (λ m. true ≡ nat_le message_limit m) (sym n.length_is) (is_full count full))),
-      subst (λ a. IsCounted a list count) (sym stays.1) n,
+      subst (λ a. IsCounted a list count) (sym (archive_stays stays.1)) n,
     )
 
     pub new_is : (key : List ℕ) → k ≡ key → key ≡ item_key item → false ≡ list_any (is_message list k) (archive_of old).messages → count < 50000
@@ -90,7 +91,7 @@ module _ (behind : Option Database) (old new : State) (list : List ℕ) (item : 
         → AddsTo behind old new list item (count + 1) taken_in
     new_over key mid e ek none room stays written =
         let change : Archive → Archive = λ a. with_keyed a list key item in
-        let is : archive_of new ≡ change (archive_of old) = written.1 ∙ ap change stays.1 in
+        let is : archive_of new ≡ change (archive_of old) = written.1 ∙ ap change (archive_stays stays.1) in
         let more : IsCounted (change (archive_of old)) list (count + 1) = record {
           is_there = n.is_there;
           length_is = counted_more (λ (m : Message). bytes_eq m.list list) (archive_of old).messages (keyed_message list key item) (same_word list) ∙ ap (λ m. m + 1) n.length_is;
@@ -102,19 +103,19 @@ module _ (behind : Option Database) (old new : State) (list : List ℕ) (item : 
         )
 
 -- the same outside a transaction, of the tables before a question on them
-module _ (old mid new : State) (list : List ℕ) (same : archive_of mid ≡ archive_of old) where
+module _ (old mid new : State) (list : List ℕ) (same : mid.now ≡ old.now) where
   pub counted_at : (count : ℕ) → true ≡ has_list (archive_of old) list → length (messages_in (archive_of old) list) ≡ count → IsCounted (archive_of mid) list count
-  counted_at count there n = subst (λ a. IsCounted a list count) (sym same) (record { is_there = sym there; length_is = n })
+  counted_at count there n = subst (λ a. IsCounted a list count) (sym (archive_stays same)) (record { is_there = sym there; length_is = n })
 
   pub steps_counted : (item : Item) (after : ℕ) (reply : Reply) → AddsTo None mid new list item after reply
       → (IsKept new × ((archive_of new, reply) ≡ added_within message_limit (archive_of old) list item)) × (IsTrue new.is_open → length (messages_in (archive_of new) list) ≡ after)
-  steps_counted item after reply it = ((it.0, it.1 ∙ ap (λ a. added_within message_limit a list item) same), λ up. it.2.length_is)
+  steps_counted item after reply it = ((it.0, it.1 ∙ ap (λ a. added_within message_limit a list item) (archive_stays same)), λ up. it.2.length_is)
 
   pub rests_counted : (before after : ℕ) → after ≡ before → length (messages_in (archive_of old) list) ≡ before → Rests mid new
       → Rests old new × (IsTrue new.is_open → length (messages_in (archive_of new) list) ≡ after)
   rests_counted before after is n rests = (
     λ up. ((rests up).0, (rests up).1 ∙ same),
-    λ up. subst (λ a. length (messages_in a list) ≡ after) (sym ((rests up).1 ∙ same)) (n ∙ sym is),
+    λ up. subst (λ a. length (messages_in a list) ≡ after) (sym (archive_stays ((rests up).1 ∙ same))) (n ∙ sym is),
   )
 
 -- a fault is no answer
@@ -123,15 +124,10 @@ pub fails_to_add : (old new : State) (step : Archive → Outcome) (r : Result Ad
 fails_to_add old new step (Ok added) Q none why rests = absurd none
 fails_to_add old new step (Err fault) Q it why rests = rw (why fault it) rests
 
-pub none_of : (old mid : State) (list k key : List ℕ) → k ≡ key → false ≡ list_any (is_message list k) (archive_of old).messages → archive_of mid ≡ archive_of old
+pub none_of : (old mid : State) (list k key : List ℕ) → k ≡ key → false ≡ list_any (is_message list k) (archive_of old).messages → mid.now ≡ old.now
     → list_any (is_message list key) (archive_of mid).messages ≡ false
 none_of old mid list k key e none same =
-    subst (λ (a : Archive). list_any (is_message list key) a.messages ≡ false) (sym same) (subst (λ w. list_any (is_message list w) (archive_of old).messages ≡ false) e (sym none))
-
--- a fault behind a question
-pub rests_over : (behind : Option Database) (old mid new : State) → archive_of mid ≡ archive_of old → RestsOver behind mid new → RestsOver behind old new
-rests_over None old mid new same rests = λ up. let it = rests up in (it.0, it.1 ∙ same)
-rests_over (Some db) old mid new same rests = λ up. elim (rests up) [ inl stays ↦ inl (stays.0, stays.1 ∙ same) | inr back ↦ inr back ]
+    subst (λ (a : Archive). list_any (is_message list key) a.messages ≡ false) (sym (archive_stays same)) (subst (λ w. list_any (is_message list w) (archive_of old).messages ≡ false) e (sym none))
 
 -- ---- messages one after the other
 
@@ -245,13 +241,13 @@ held_or_back db old new rests up = elim (rests up) [ inl held ↦ inl held.0 | i
 
 -- ---- transactions one after the other
 
--- the same archive, over something else
+-- the same rows, over something else
 pub stays_taken : (before after : Option Database) (old new : State) (a : Archive) (list : List ℕ) (items : List Item) (count : ℕ) (told : AddReport)
     → HasTaken before old a list items count told → StaysOver after old new → HasTaken after new a list items count told
 stays_taken before after old new a list items count told t stays = record {
   held = stays.0;
-  archive_is = stays.1 ∙ t.archive_is;
-  counted = subst (λ x. IsCounted x list count) (sym stays.1) t.counted;
+  archive_is = archive_stays stays.1 ∙ t.archive_is;
+  counted = subst (λ x. IsCounted x list count) (sym (archive_stays stays.1)) t.counted;
   told = t.told;
 }
 
@@ -278,9 +274,9 @@ pub none_added : (o : Option Refusal) (old new : State) (list : List ℕ) (items
     → MatchOption o (Rests old new) (λ r. StaysOver None old new × (r ≡ no_list) × (has_list (archive_of old) list ≡ false))
     → MatchOption o (IsAfter new (archive_of old) list (take 0 items))
     (λ r. IsKept new × (archive_of new ≡ (taken (archive_of old) list (take 0 items)).archive) × IsRefusedAt (archive_of old) list items 0 r)
-none_added None old new list items rests = λ up. let r = rests up in (r.0, r.1 ∙ run_nothing (archive_of old))
+none_added None old new list items rests = λ up. let r = rests up in (r.0, archive_stays r.1 ∙ run_nothing (archive_of old))
 none_added (Some r) old new list items it =
-    (it.0.0, it.0.1 ∙ run_nothing (archive_of old), subst (λ why. IsRefusedAt (archive_of old) list items 0 why) (sym it.1) (refl, it.2))
+    (it.0.0, archive_stays it.0.1 ∙ run_nothing (archive_of old), subst (λ why. IsRefusedAt (archive_of old) list items 0 why) (sym it.1) (refl, it.2))
 
 pub no_reason : (o : Option Refusal) {X : Type 0} (Y : Refusal → Type 0) → o ≡ None → X → MatchOption o X Y
 no_reason None Y is x = x

@@ -19,13 +19,14 @@ use Rattle.archive_tables.specs.Schema.{archive_schema, no_schema, schema_1, sch
 use Rattle.archive_tables.specs.Tables.{IsHeldAs, IsKept, AreTables, form_of, archive_in, archive_of}
 use Rattle.archive_tables.specs.Calls.{Asks}
 use Rattle.archive_tables.specs.Crashes.{IsStored, IsSafe, AddsNothing, AddsOnly, CrashesOver}
+use Rattle.archive_tables.proofs.EndLemmas.{archive_stays}
 use Rattle.archive_store.specs.Replies.{Does, Steps}
 use Rattle.archive_store.specs.Batches.{IsCounted}
 use Rattle.archive_store.specs.Crashes.{CrashSteps, CrashStepsFrom, CrashAddsOver, CrashAdopts, StopsIn}
 use Rattle.archive_store.proofs.StepLemmas.{Learns, begins, asks}
 use Rattle.archive_store.proofs.PassLemmas.{passed_over}
 
--- what was found of the tables, which hold what they held, while a stop leaves nothing new
+-- what was found of the tables, whose rows are as they were, while a stop leaves nothing new
 pub record Looks {S : Type 0} (g : Ghosts S) (old new : Held S) (P : Archive → Type 0) : Type 0 where
   pub learnt : Learns g old new P
   pub quiet : AddsNothing g old new
@@ -53,8 +54,8 @@ module _ {S : Type 0} (g : Ghosts S) where
   steps_over old mid new P Needs step reply change before was adds needs is = λ kept clean db may.
       let k = before.learnt (was clean) kept in
       let first = archive_of (state g old) in
-      let made = ap change k.same ∙ ap (λ (o : Outcome). o.0) (sym (is first k.fact)) in
-      elim (adds k.kept (subst Needs (sym k.same) (needs first k.fact)) clean db may) [
+      let made = ap change (archive_stays k.same) ∙ ap (λ (o : Outcome). o.0) (sym (is first k.fact)) in
+      elim (adds k.kept (subst Needs (sym (archive_stays k.same)) (needs first k.fact)) clean db may) [
         | inl earlier ↦ inl (before.quiet (was clean) db earlier)
         | inr it ↦ inr (subst (λ a. IsStored a db) made it)
       ]
@@ -74,10 +75,10 @@ module _ {S : Type 0} (g : Ghosts S) where
   steps_if_counted old mid new list item count before was crash = λ kept n clean db may.
       let k = before.learnt (was clean) kept in
       let there : IsCounted (archive_of (state g mid)) list count =
-      subst (λ a. IsCounted a list count) (sym k.same) (record { is_there = sym k.fact.1; length_is = n }) in
+      subst (λ a. IsCounted a list count) (sym (archive_stays k.same)) (record { is_there = sym k.fact.1; length_is = n }) in
       elim (crash None k.kept there clean db may) [
         | inl earlier ↦ inl (before.quiet (was clean) db earlier)
-        | inr made ↦ inr (subst (λ a. IsStored (added_within message_limit a list item).0 db) k.same made.1)
+        | inr made ↦ inr (subst (λ a. IsStored (added_within message_limit a list item).0 db) (archive_stays k.same) made.1)
       ]
 
   -- ---- what a stop leaves of an open connection is what is committed

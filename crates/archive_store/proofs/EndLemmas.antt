@@ -1,6 +1,6 @@
 -- How a command ends, call by call: what the calls before did, and each exit behind them.
 use Rattle.std.proofs.Common.{◌≡◌, ◌≤◌, ◌<◌, ◌⊎◌, ◌∙◌, ◌+◌, ℕ, ℤ, true, false, inl, inr, List, None, Some, Option, Result, Ok, Err, IfErr, OnOk, refl, sym, ap, subst, arith}
-use Rattle.std.specs.Prelude.{IsTrue, IsErrAnd, IfSome, option_map, if◌then◌else◌}
+use Rattle.std.specs.Prelude.{IsTrue, IsErrAnd, IfSome, MatchResult, option_map, if◌then◌else◌}
 use Rattle.std.specs.List.{list_any}
 use Rattle.sqlite_disk.specs.Disk.{MoreFaults}
 use Rattle.sqlite.specs.declared.error.Error.{Error}
@@ -15,6 +15,7 @@ use Rattle.archive_machine.specs.Machine.{Outcome}
 use Rattle.archive_tables.specs.Tables.{IsKept, archive_in}
 use Rattle.archive_tables.specs.Calls.{Asks, Writes, Lasts, Ends, IsCaused, FailsByFaultOr, Rests}
 use Rattle.archive_tables.proofs.CauseLemmas.{each_error}
+use Rattle.archive_tables.proofs.EndLemmas.{rests_behind}
 use Rattle.archive_tables.specs.Statements.{Statement, IsRefused, changing_grant, adding_grant, changing_address, adding_address}
 use Rattle.archive_tables.proofs.LastLemmas.{lasts_then, lasts_same}
 use Rattle.archive_database.specs.Faults.{FailsByDiskOr}
@@ -28,7 +29,7 @@ use Rattle.archive_store.specs.declared.store.Store.{Store}
 use Rattle.archive_store.specs.declared.faults.StoreFault.{StoreFault}
 use Rattle.archive_store.specs.declared.faults.StoreFault.TheVariants as faults
 use Rattle.archive_store.proofs.CauseLemmas.{by_cause, is_database}
-use Rattle.archive_store.proofs.PassLemmas.{Passes, passed_over, passed_unanswered, passed_unwritten, saw_same}
+use Rattle.archive_store.proofs.PassLemmas.{Passes, passed_over, passed_resting, passed_unwritten, saw_same}
 
 -- ---- the count of refused memory
 
@@ -42,10 +43,19 @@ as_many is = omega (arith, is)
 pub at_most : {a b c : ℕ} → a ≤ b → b ≤ c → a ≤ c
 at_most first next = omega (arith, first, next)
 
--- what is so of an answer is so of it when it is handed on
-pub passes_same : {A : Type 0} (P : Type 0) (told : Result A Error) (result : Result A StoreFault) → Passes told result → OnOk told P → OnOk result P
-passes_same P told (Ok a) is it = subst (λ t. OnOk t P) is it
-passes_same P told (Err f) is it = tt
+-- what is so of an answer, and of a fault, is so of them when they are handed on
+pub passes_same : {A : Type 0} (P Q : Type 0) (told : Result A Error) (result : Result A StoreFault) → Passes told result → MatchResult told (λ _. P) (λ _. Q)
+    → MatchResult result (λ _. P) (λ _. Q)
+passes_same P Q told (Ok a) is it = subst (λ t. MatchResult t (λ _. P) (λ _. Q)) is it
+passes_same P Q (Ok a) (Err f) is it = absurd is
+passes_same P Q (Err e) (Err f) is it = it
+
+-- the rows behind a question: seen as before it, or at rest where they were held
+pub rows_asked : {S A : Type 0} {g : Ghosts S} {mid new : Held S} (old : State) (told : Result A Error) {Says : Archive → A → Type 0} {Unread : Type 0} → Asks g mid new told Says Unread
+    → HasCleanDisk (state g new) → (state g mid).now ≡ old.now → (IsKept old → IsKept (state g mid))
+    → MatchResult told (λ _. (state g new).now ≡ old.now) (λ _. IsKept old → Rests old (state g new))
+rows_asked old (Ok a) asks clean same held = asks.same clean ∙ same
+rows_asked {g = g} {mid = mid} {new = new} old (Err e) asks clean same held = λ kept. rests_behind None old (state g mid) (state g new) same (asks.over clean None (held kept))
 
 -- ---- why a call failed that told an error
 
@@ -258,10 +268,6 @@ module _ {S : Type 0} (g : Ghosts S) where
   fails old new step says (Err f) fault is none rests = λ clean kept.
       subst (λ o. Steps (state g old) (state g new) step (option_map refused_by o)) (sym (ap refusal is ∙ none)) (rests clean kept)
 
-  -- the rows behind questions rest where those before them rested
-  rests_behind : (old mid : Held S) (new : State) → (state g mid).now ≡ (state g old).now → Rests (state g mid) new → Rests (state g old) new
-  rests_behind old mid new same rests = λ up. let it = rests up in (it.0, it.1 ∙ ap (λ (db : Database). archive_in db.trees) same)
-
   pub fails_asking : {A B : Type 0} (old mid new : Held S) (step : Archive → Outcome) (says : B → Reply) (result : Result B StoreFault) (fault : StoreFault)
       {told : Result A Error} {Says : Archive → A → Type 0} {Unread : Type 0}
       → Stood old mid → Asks g mid new told Says Unread → IsErrAnd told (λ e. fault ≡ fault_of e) → refusal fault ≡ None → IsErrAnd result (λ f. f ≡ fault)
@@ -270,7 +276,7 @@ module _ {S : Type 0} (g : Ghosts S) where
       fails old new step says result fault is none
       (λ clean kept.
       let was = asks.ends.lasts.returned clean in
-      rests_behind old mid (state g new) (before.same was) (passed_unanswered told (λ e. fault ≡ fault_of e) asks told_is clean (before.kept was kept)))
+      rests_behind None (state g old) (state g mid) (state g new) (before.same was) (passed_resting told (λ e. fault ≡ fault_of e) asks told_is clean (before.kept was kept)))
 
   pub fails_writing : {A B : Type 0} (old mid new : Held S) (step : Archive → Outcome) (says : B → Reply) (result : Result B StoreFault) (fault : StoreFault)
       {told : Result A Error} {Needs : Archive → Type 0} {change : Archive → Archive} {statement : Statement}
@@ -280,4 +286,4 @@ module _ {S : Type 0} (g : Ghosts S) where
       fails old new step says result fault is none
       (λ clean kept.
       let was = writes.ends.lasts.returned clean in
-      rests_behind old mid (state g new) (before.same was) (passed_unwritten told (λ e. fault ≡ fault_of e) writes told_is clean (before.kept was kept)))
+      rests_behind None (state g old) (state g mid) (state g new) (before.same was) (passed_unwritten told (λ e. fault ≡ fault_of e) writes told_is clean (before.kept was kept)))

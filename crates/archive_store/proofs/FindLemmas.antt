@@ -4,6 +4,7 @@ use Rattle.std.specs.Prelude.{⊤, Bool, not, if◌then◌else◌, IsTrue, IsUtf
 use Rattle.std.specs.Option.{IsSomeAnd}
 use Rattle.sqlite_disk.specs.Disk.{MoreFaults}
 use Rattle.sqlite.specs.declared.error.Error.{Error}
+use Rattle.sqlite.specs.Effect.{Database}
 use Rattle.sqlite.specs.Tree.{Trees}
 use Rattle.sqlite.specs.Store.{Ghosts}
 use Rattle.sqlite.specs.Held.{Held, state}
@@ -11,12 +12,13 @@ use Rattle.sqlite.specs.State.{State, HasCleanDisk}
 use Rattle.archive_machine.specs.Records.{Message, Person, Archive}
 use Rattle.archive_machine.specs.Commands.{Refusal, no_list, no_person}
 use Rattle.archive_machine.specs.Questions.{has_list, has_person, list_refusal, standing_refusal}
-use Rattle.archive_tables.specs.Tables.{IsHeld, IsKept, archive_of}
-use Rattle.archive_tables.specs.Calls.{Asks, AsksRows, StaysOver, RowsRest, AnswersOpen, FailsByFaultOr, IsCaused, Rests}
+use Rattle.archive_tables.specs.Tables.{IsHeld, IsKept, archive_in, archive_of}
+use Rattle.archive_tables.specs.Calls.{Asks, AsksRows, StaysOver, AnswersOpen, FailsByFaultOr, IsCaused, Rests}
 use Rattle.archive_database.specs.Messages.{IsReadable}
 use Rattle.archive_database.specs.declared.faults.Fault.{Fault}
 use Rattle.archive_database.specs.declared.faults.Fault.TheVariants as inner
 use Rattle.archive_tables.proofs.CauseLemmas.{answers_none}
+use Rattle.archive_tables.proofs.EndLemmas.{rests_behind}
 use Rattle.archive_store.specs.Replies.{refusal, fault_in, IsOneOf, RefusedFor, Answers}
 use Rattle.archive_store.specs.Told.{EndsAsk, EndsBy, HasFailed}
 use Rattle.archive_store.specs.declared.store.Store.{Store}
@@ -81,12 +83,14 @@ module _ {S A : Type 0} (g : Ghosts S) (old new : Held S) (told : Result A Error
 module _ {S A : Type 0} {g : Ghosts S} {old new : Held S} where
   pub passed_rows : {told : Result A Error} {a : A} {Says : Trees → A → Type 0} {Unread : Type 0} → AsksRows g old new told Says Unread → told ≡ Ok a
       → HasCleanDisk (state g new) → IsKept (state g old) → Says (state g old).now.trees a × ((state g new).now ≡ (state g old).now) × IsHeld None (state g new)
-  passed_rows {Says = Says} {Unread = Unread} asks is clean kept = (subst (λ t. AsksRows g old new t Says Unread) is asks).over clean None kept
+  passed_rows {Says = Says} {Unread = Unread} asks is clean kept =
+      let it = (subst (λ t. AsksRows g old new t Says Unread) is asks).over clean None kept in
+      (it.0, it.1.1, it.1.0)
 
   pub passed_no_rows : (told : Result A Error) (Is : Error → Type 0) {Says : Trees → A → Type 0} {Unread : Type 0} → AsksRows g old new told Says Unread → IsErrAnd told Is
-      → HasCleanDisk (state g new) → IsKept (state g old) → RowsRest None (state g old) (state g new)
+      → HasCleanDisk (state g new) → IsKept (state g old) → IsTrue (state g new).is_open → ((state g new).now ≡ (state g old).now) × IsHeld None (state g new)
   passed_no_rows (Ok a) Is asks is = absurd is
-  passed_no_rows (Err e) Is asks is = λ clean kept. asks.over clean None kept
+  passed_no_rows (Err e) Is asks is = λ clean kept up. let it = asks.over clean None kept up in (it.1, it.0)
 
 -- ---- what was read of rows, handed on
 
@@ -167,8 +171,9 @@ fails_as (Err told) fault is P R X it = subst (λ f. MatchOption (refusal f) X R
 pub rests_of : (fault : StoreFault) (Y : Refusal → Type 0) {X : Type 0} → refusal fault ≡ None → MatchOption (refusal fault) X Y → X
 rests_of fault Y {X} none it = subst (λ o. MatchOption o X Y) none it
 
-pub rests_later : (old mid new : State) → archive_of mid ≡ archive_of old → Rests mid new → Rests old new
-rests_later old mid new same rests = λ up. ((rests up).0, (rests up).1 ∙ same)
+pub rests_later : (old mid new : State) → archive_of mid ≡ archive_of old → (IsTrue new.is_open → IsKept new × (archive_of new ≡ archive_of mid))
+    → IsTrue new.is_open → IsKept new × (archive_of new ≡ archive_of old)
+rests_later old mid new same rests = λ up. let it = rests up in (it.0, it.1 ∙ same)
 
 -- a list that is not there
 pub not_there : (list : List ℕ) (a : Archive) → false ≡ has_list a list → list_refusal a list ≡ Some no_list
@@ -190,13 +195,13 @@ why_not list a why is = go (has_list a list) is
     go false is = (cc, refl)
 
 -- a list that is not counted
-pub not_counted : (old mid new : State) (list : List ℕ) (o : Option Refusal) → archive_of mid ≡ archive_of old
-    → MatchOption o (Rests mid new) (λ why. (IsKept new × (archive_of new ≡ archive_of mid)) × (list_refusal (archive_of mid) list ≡ Some why))
+pub not_counted : (old mid new : State) (list : List ℕ) (o : Option Refusal) → mid.now ≡ old.now → Rests mid new
+    → MatchOption o (IsTrue new.is_open → IsKept new × (archive_of new ≡ archive_of mid)) (λ why. (IsKept new × (archive_of new ≡ archive_of mid)) × (list_refusal (archive_of mid) list ≡ Some why))
     → MatchOption o (Rests old new) (λ why. StaysOver None old new × (why ≡ no_list) × (has_list (archive_of old) list ≡ false))
-not_counted old mid new list None same rests = rests_later old mid new same rests
-not_counted old mid new list (Some why) same it =
+not_counted old mid new list None same rests it = rests_behind None old mid new same rests
+not_counted old mid new list (Some why) same rests it =
     let is = why_not list (archive_of mid) why it.1 in
-    ((it.0.0, it.0.1 ∙ same), is.0, subst (λ a. has_list a list ≡ false) same is.1)
+    (rests_behind None old mid new same rests it.0.0.is_open, is.0, subst (λ (db : Database). has_list (archive_in db.trees) list ≡ false) same is.1)
 
 -- of a standing
 pub no_such_person : (person list : List ℕ) (a : Archive) → false ≡ has_person a person → standing_refusal a person list ≡ Some no_person

@@ -6,6 +6,7 @@ use Rattle.archive_machine.specs.Records.{Archive}
 use Rattle.archive_machine.specs.Commands.{Refusal, Reply}
 use Rattle.archive_machine.specs.Machine.{Outcome}
 use Rattle.archive_machine.specs.Sound.{IsFiledRight, IsSound}
+use Rattle.archive_tables.proofs.EndLemmas.{archive_stays}
 use Rattle.archive_tables.proofs.LastLemmas.{lasts_then, lasts_same}
 use Rattle.archive_store.specs.Held.{held_of}
 use Rattle.archive_store.specs.declared.store.Store.{Store}
@@ -131,7 +132,7 @@ module _ {S : Type 0} (g : Ghosts S) where
 
     -- one in which memory or the database was at fault
     pub step_failed : (step : Archive → Outcome) (said : Option Reply) → said ≡ None → Does g (held_of old) (held_of new) step said → GoesIfOpen g old new (λ a b. b ≡ a)
-    step_failed step said is clause = sound_too_if_open old new (λ a b. b ≡ a) (λ a b it. it) (lasts, (rw is at clause))
+    step_failed step said is clause = sound_too_if_open old new (λ a b. b ≡ a) (λ a b it. it) (lasts, λ returned held up. let it = (rw is at clause) returned held up in (it.0, archive_stays it.1))
 
   -- ---- one call after the other, under a premise
 

@@ -9,6 +9,7 @@ use Rattle.archive_machine.specs.Records.{Archive}
 use Rattle.archive_tables.specs.Tables.{IsKept, archive_of}
 use Rattle.archive_tables.specs.Statements.{Statement}
 use Rattle.archive_tables.specs.Calls.{Asks, Writes, Changes, Rests, StaysOver, Lasts, AnswersOpen}
+use Rattle.archive_tables.proofs.EndLemmas.{archive_stays}
 use Rattle.archive_machine.specs.Commands.{Refusal}
 use Rattle.archive_store.specs.Replies.{fault_of, refusal, Stays, RefusedFor}
 use Rattle.archive_store.specs.declared.faults.StoreFault.{StoreFault}
@@ -33,15 +34,21 @@ module _ {S A : Type 0} {g : Ghosts S} {old new : Held S} where
       → Says (archive_of (state g old)) a × IsKept (state g new) × (archive_of (state g new) ≡ archive_of (state g old))
   passed_answer {Says = Says} {Unread = Unread} asks is = answered (subst (λ r. Asks g old new r Says Unread) is asks)
 
-  -- the same, as a step of a command takes it
+  -- the same of the rows
   pub passed_over : {told : Result A Error} {a : A} {Says : Archive → A → Type 0} {Unread : Type 0} → Asks g old new told Says Unread → told ≡ Ok a
       → HasCleanDisk (state g new) → IsKept (state g old) → Says (archive_of (state g old)) a × StaysOver None (state g old) (state g new)
   passed_over {Says = Says} {Unread = Unread} asks is clean kept = (subst (λ r. Asks g old new r Says Unread) is asks).over clean None kept
 
   pub passed_unanswered : (told : Result A Error) (Is : Error → Type 0) {Says : Archive → A → Type 0} {Unread : Type 0} → Asks g old new told Says Unread → IsErrAnd told Is
-      → HasCleanDisk (state g new) → IsKept (state g old) → Rests (state g old) (state g new)
+      → HasCleanDisk (state g new) → IsKept (state g old) → IsTrue (state g new).is_open → Stays g old new
   passed_unanswered (Ok a) Is asks is = absurd is
-  passed_unanswered (Err e) Is asks is = unanswered asks
+  passed_unanswered (Err e) Is asks is = λ clean kept up. let it = unanswered asks clean kept up in (it.0, archive_stays it.1)
+
+  -- the same of the rows
+  pub passed_resting : (told : Result A Error) (Is : Error → Type 0) {Says : Archive → A → Type 0} {Unread : Type 0} → Asks g old new told Says Unread → IsErrAnd told Is
+      → HasCleanDisk (state g new) → IsKept (state g old) → Rests (state g old) (state g new)
+  passed_resting (Ok a) Is asks is = absurd is
+  passed_resting (Err e) Is asks is = unanswered asks
 
   -- a write that is done, or not
   pub passed_written : {told : Result A Error} {a : A} {change : Archive → Archive} {statement : Statement} → Writes g old new told (λ _. ⊤) change statement → told ≡ Ok a
@@ -98,12 +105,12 @@ module _ {S A : Type 0} (g : Ghosts S) (old mid new : Held S) (told : Result A E
   -- a question behind others, which left the archive and did not refuse it
   pub answer_last : {Unread : Type 0} (Says : Archive → A → Type 0) (refuses : Archive → Option Refusal) (result : Result A StoreFault)
       → Passes told result → IfErr result (λ fault. refusal fault ≡ None) → Asks g mid new told Says Unread → HasCleanDisk (state g new)
-      → StaysOver None (state g old) (state g mid) → refuses (archive_of (state g old)) ≡ None
+      → Stays g old mid → refuses (archive_of (state g old)) ≡ None
       → MatchResult result (λ a. Stays g old new × (refuses (archive_of (state g old)) ≡ None) × Says (archive_of (state g old)) a)
-      (λ fault. MatchOption (refusal fault) (Rests (state g old) (state g new)) (λ r. Stays g old new × (refuses (archive_of (state g old)) ≡ Some r)))
+      (λ fault. MatchOption (refusal fault) (IsTrue (state g new).is_open → Stays g old new) (λ r. Stays g old new × (refuses (archive_of (state g old)) ≡ Some r)))
   answer_last Says refuses (Ok a) is kind asks clean stays none =
-      let it = passed_over asks is clean stays.0 in
-      ((it.1.0, it.1.1 ∙ stays.1), none, subst (λ b. Says b a) stays.1 it.0)
+      let it = passed_answer asks is clean stays.0 in
+      ((it.1, it.2 ∙ stays.1), none, subst (λ b. Says b a) stays.1 it.0)
   answer_last Says refuses (Err f) is kind asks clean stays none =
       let rest = passed_unanswered _ _ asks is clean stays.0 in
       rw kind (λ up. let r = rest up in (r.0, r.1 ∙ stays.1))

@@ -1,4 +1,4 @@
--- A write behind a question that leaves the archive.
+-- A write behind a question that leaves the rows.
 use Rattle.std.proofs.Common.{◌≡◌, ℕ, None, Ok, Err, Result, ◌∙◌}
 use Rattle.std.specs.Prelude.{⊤, MatchResult}
 use Rattle.sqlite.specs.declared.error.Error.{Error}

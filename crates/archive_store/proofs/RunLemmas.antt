@@ -1,16 +1,28 @@
 -- Commands that are carried out one after the other.
-use Rattle.std.proofs.Common.{◌≡◌, ℕ, ◌+◌, ◌<◌, true, List, [], ◌∷◌, ◌++◌, length, get_or, take, map, refl, ap, sym, subst, ◌∙◌, Option, Some, None}
+use Rattle.std.proofs.Common.{◌≡◌, ◌⊎◌, ℕ, ◌+◌, ◌<◌, suc, true, List, [], ◌∷◌, ◌++◌, length, get_or, take, drop, map, length-take-le, take-append-drop, drop-cons, refl, ap, sym, subst, arith, ◌∙◌, Option, Some, None, Result, Ok, Err, IfErr}
 use Rattle.std.specs.Prelude.{IsTrue, is_some}
-use Rattle.std.proofs.lemmas.List.{map-append, map_more, take-map}
+use Rattle.std.proofs.lemmas.List.{length-map, map-append, map_more, take-map}
+use Rattle.sqlite.specs.Effect.{Database}
+use Rattle.sqlite.specs.Store.{Ghosts}
+use Rattle.sqlite.specs.Held.{state}
 use Rattle.sqlite.specs.State.{State}
 use Rattle.archive_machine.specs.Records.{Archive}
-use Rattle.archive_machine.specs.Commands.{Command, Reply}
+use Rattle.archive_machine.specs.Commands.{Command, Refusal, Reply}
 use Rattle.archive_machine.specs.Machine.{step}
 use Rattle.archive_machine.specs.Runs.{run}
 use Rattle.archive_tables.specs.Tables.{IsKept, archive_of}
 use Rattle.archive_tables.specs.Calls.{Rests}
+use Rattle.archive_tables.proofs.EndLemmas.{archive_stays}
+use Rattle.archive_store.specs.Held.{held_of, wants_of}
 use Rattle.archive_store.specs.Replies.{Steps}
-use Rattle.archive_store.specs.Running.{command_of, answer_of, RanAll}
+use Rattle.archive_store.specs.Refusals.{IsCommandRefused, StopsRun}
+use Rattle.archive_store.specs.Running.{command_of, answer_of, CausedCounted, RanAll}
+use Rattle.archive_store.specs.Told.{EndsOr, EndsPart, HasFailed}
+use Rattle.archive_store.specs.declared.store.Store.{Store}
+use Rattle.archive_store.specs.declared.faults.StoreFault.{StoreFault}
+use Rattle.archive_store.specs.declared.faults.StoreFault.TheVariants as faults
+use Rattle.archive_store.specs.declared.running.Counted.{Counted}
+use Rattle.archive_store.proofs.WantLemmas.{raises_carried}
 use Rattle.archive_store.specs.declared.running.Command.{Command as Given}
 use Rattle.archive_store.specs.declared.running.Outcome.{Outcome}
 
@@ -53,7 +65,7 @@ ran_more old mid new cs c outcomes o ran told steps = go (answer_of o) refl told
 -- a command that is stopped leaves what those before it made
 pub ran_stop : (old mid new : State) (cs : List Command) (outcomes : List Outcome) → RanAll old (run (archive_of old) cs) mid outcomes → Rests mid new
     → IsTrue new.is_open → IsKept new × (archive_of new ≡ (run (archive_of old) cs).archive)
-ran_stop old mid new cs outcomes ran rests up = let r = rests up in (r.0, r.1 ∙ ran.1)
+ran_stop old mid new cs outcomes ran rests up = let r = rests up in (r.0, archive_stays r.1 ∙ ran.1)
 
 pub ran_next : (old mid new : State) (commands : List Given) (i : ℕ) (d : Given) (outcomes outcomes' : List Outcome) (o : Outcome)
     → RanAll old (run (archive_of old) (map command_of (take i commands))) mid outcomes → is_some (answer_of o) ≡ true
@@ -74,3 +86,38 @@ next_archive a b commands i d made within is =
 -- the same commands, taken before they are told
 pub first_commands : (commands : List Given) (n i : ℕ) → n ≡ i → take n (map command_of commands) ≡ map command_of (take i commands)
 first_commands commands n i e = ap (λ k. take k (map command_of commands)) e ∙ take-map command_of i commands
+
+-- ---- why a command stops
+
+told_on : {A B : Type 0} (X : Type 0) (answer : Result A StoreFault) (result : Result B StoreFault) → IfErr result (λ fault. answer ≡ Err fault)
+    → IfErr answer (λ fault. fault ≡ faults.Store → X) → IfErr result (λ fault. fault ≡ faults.Store → X)
+told_on X answer (Ok b) is why = tt
+told_on {A = A} X answer (Err fault) is why = subst (λ (r : Result A StoreFault). IfErr r (λ f. f ≡ faults.Store → X)) is why
+
+module _ {S A : Type 0} (g : Ghosts S) (old new : Store S) (counted : Option Counted) (given : Given) (command : Command) (answer : Result A StoreFault) (result : Result Outcome StoreFault)
+    (is : command_of given ≡ command) (told : IfErr result (λ fault. answer ≡ Err fault)) where
+  -- a part of a call, carried out as a command
+  pub ends_told : EndsPart g old new (CausedCounted g old new counted command answer) answer → EndsPart g old new (CausedCounted g old new counted (command_of given) result) result
+  ends_told ends = record {
+    lasts = ends.lasts;
+    counted = raises_carried (wants_of old) (wants_of new) result answer told ends.counted;
+    caused = subst (λ x. CausedCounted g old new counted x result) (sym is) (λ right clean kept free. told_on (HasFailed g old new ⊎ IsCommandRefused command (state g (held_of old)).now) answer result told (ends.caused right clean kept free));
+  }
+
+  -- a call
+  pub ends_called : (reasons : List Refusal) → EndsOr g old new answer reasons (IsCommandRefused command) → EndsPart g old new (CausedCounted g old new counted (command_of given) result) result
+  ends_called reasons ends = ends_told (record { lasts = ends.lasts; counted = ends.counted; caused = λ right. ends.caused })
+
+-- the next of the commands is refused
+pub stops_run : (commands : List Given) (done i : ℕ) (given : Given) (db : Database) → done ≡ i → i < length commands → given ≡ get_or commands i given
+    → IsCommandRefused (command_of given) db → StopsRun (map command_of commands) done db
+stops_run commands done i given db at within is refused = record {
+  before = map command_of (take i commands);
+  command = command_of given;
+  rest = map command_of (drop (suc i) commands);
+  are =
+      let whole = ap (λ x. take i commands ++ x ∷ drop (suc i) commands) is ∙ ap (λ xs. take i commands ++ xs) (sym (drop-cons commands i given within)) ∙ take-append-drop i commands in
+      sym (map-append command_of (take i commands) (given ∷ drop (suc i) commands)) ∙ ap (map command_of) whole;
+  first = length-map (take i commands) command_of ∙ length-take-le i commands (omega (arith, within)) ∙ sym at;
+  stopped = refused;
+}

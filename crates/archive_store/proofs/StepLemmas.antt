@@ -1,21 +1,23 @@
--- A command, call by call: what it learns of the archive while the tables rest, and how it ends.
+-- A command, call by call: what it learns of the archive while the rows rest, and how it ends.
 use Rattle.std.proofs.Common.{◌≡◌, Some, None, refl, sym, ap, subst, ◌∙◌}
 use Rattle.std.specs.Prelude.{⊤}
+use Rattle.sqlite.specs.Effect.{Database}
 use Rattle.sqlite.specs.Store.{Ghosts}
 use Rattle.sqlite.specs.Held.{Held, state}
 use Rattle.sqlite.specs.State.{HasCleanDisk}
 use Rattle.archive_machine.specs.Records.{Archive}
 use Rattle.archive_machine.specs.Commands.{Reply}
 use Rattle.archive_machine.specs.Machine.{Outcome}
-use Rattle.archive_tables.specs.Tables.{IsKept, archive_of}
+use Rattle.archive_tables.specs.Tables.{IsKept, archive_in, archive_of}
 use Rattle.archive_tables.specs.Calls.{Changes, StaysOver}
+use Rattle.archive_tables.proofs.EndLemmas.{archive_stays}
 use Rattle.archive_store.specs.Replies.{Does}
 
--- the tables hold what they held, and this was found of it
+-- the rows are as they were, and this was found of them
 pub record Known {S : Type 0} (g : Ghosts S) (old new : Held S) (P : Archive → Type 0) : Type 0 where
   pub clean : HasCleanDisk (state g old)
   pub kept : IsKept (state g new)
-  pub same : archive_of (state g new) ≡ archive_of (state g old)
+  pub same : (state g new).now ≡ (state g old).now
   pub fact : P (archive_of (state g old))
 
 module _ {S : Type 0} (g : Ghosts S) where
@@ -36,14 +38,14 @@ module _ {S : Type 0} (g : Ghosts S) where
   asks old mid new P Q before was found = λ clean kept.
       let k = before (was clean) kept in
       let it = found clean k.kept in
-      record { clean = k.clean; kept = it.1.0; same = it.1.1 ∙ k.same; fact = (k.fact, subst Q k.same it.0) }
+      record { clean = k.clean; kept = it.1.0; same = it.1.1 ∙ k.same; fact = (k.fact, subst (λ (db : Database). Q (archive_in db.trees)) k.same it.0) }
 
   -- a refusal, or an answer that changes nothing
   pub answers : (old new : Held S) (P : Archive → Type 0) (step : Archive → Outcome) (reply : Reply) → Learns old new P
       → ((a : Archive) → P a → step a ≡ (a, reply)) → Does g old new step (Some reply)
   answers old new P step reply learnt is = λ clean kept.
       let k = learnt clean kept in
-      (k.kept, ap (λ a. (a, reply)) k.same ∙ sym (is (archive_of (state g old)) k.fact))
+      (k.kept, ap (λ a. (a, reply)) (archive_stays k.same) ∙ sym (is (archive_of (state g old)) k.fact))
 
   -- a write that succeeds
   pub writes : (old mid new : Held S) (P : Archive → Type 0) (step : Archive → Outcome) (reply : Reply) (change : Archive → Archive)
@@ -53,7 +55,7 @@ module _ {S : Type 0} (g : Ghosts S) where
   writes old mid new P step reply change learnt was does is = λ clean kept.
       let k = learnt (was clean) kept in
       let w = does clean k.kept in
-      (w.0, ap (λ a. (a, reply)) (w.1 ∙ ap change k.same) ∙ sym (is (archive_of (state g old)) k.fact))
+      (w.0, ap (λ a. (a, reply)) (w.1 ∙ ap change (archive_stays k.same)) ∙ sym (is (archive_of (state g old)) k.fact))
 
   -- the same, where the write needs something of the archive
   pub writes_when : (old mid new : Held S) (P Needs : Archive → Type 0) (step : Archive → Outcome) (reply : Reply) (change : Archive → Archive)
@@ -63,5 +65,5 @@ module _ {S : Type 0} (g : Ghosts S) where
       → ((a : Archive) → P a → step a ≡ (change a, reply)) → Does g old new step (Some reply)
   writes_when old mid new P Needs step reply change learnt was does needs is = λ clean kept.
       let k = learnt (was clean) kept in
-      let w = does clean k.kept (subst Needs (sym k.same) (needs (archive_of (state g old)) k.fact)) in
-      (w.0, ap (λ a. (a, reply)) (w.1 ∙ ap change k.same) ∙ sym (is (archive_of (state g old)) k.fact))
+      let w = does clean k.kept (subst Needs (sym (archive_stays k.same)) (needs (archive_of (state g old)) k.fact)) in
+      (w.0, ap (λ a. (a, reply)) (w.1 ∙ ap change (archive_stays k.same)) ∙ sym (is (archive_of (state g old)) k.fact))

@@ -1,6 +1,6 @@
 -- Messages that are added one after the other: what they make of the rows, and which of them the rows refuse.
-use Rattle.std.proofs.Common.{◌≡◌, ◌≤◌, ◌<◌, ◌⊎◌, ◌∙◌, ◌+◌, ℕ, suc, inl, List, [], ◌∷◌, ◌++◌, length, get_or, take, drop, None, Result, Ok, Err, IfErr, refl, sym, ap, subst, arith, take-suc, drop-cons, take-append-drop, length-take-le}
-use Rattle.std.specs.Prelude.{IsErrAnd, OnOk, MatchResult}
+use Rattle.std.proofs.Common.{◌≡◌, ◌≤◌, ◌<◌, ◌⊎◌, ◌∙◌, ◌+◌, ◌-◌, ℕ, suc, inl, inr, List, [], ◌∷◌, ◌++◌, length, get_or, take, drop, None, Result, Ok, Err, IfErr, refl, sym, ap, subst, arith, take-suc, drop-cons, take-append-drop, get_or-drop}
+use Rattle.std.specs.Prelude.{IsErrAnd, IsTrue, OnOk, MatchResult}
 use Rattle.sqlite_disk.specs.Disk.{MoreFaults}
 use Rattle.sqlite.specs.declared.error.Error.{Error}
 use Rattle.sqlite.specs.Effect.{Database}
@@ -9,12 +9,12 @@ use Rattle.sqlite.specs.Held.{Held, state}
 use Rattle.sqlite.specs.State.{State, HasCleanDisk}
 use Rattle.mbox_items.specs.Division.{Item}
 use Rattle.archive_machine.specs.Records.{Archive}
-use Rattle.archive_machine.specs.Commands.{Reply}
+use Rattle.archive_machine.specs.Commands.{Reply, add}
 use Rattle.archive_machine.specs.Machine.{Outcome, added_within, message_limit}
 use Rattle.archive_tables.specs.Tables.{IsKept, archive_in, archive_of}
-use Rattle.archive_tables.specs.Calls.{Asks, AsksAnywhere, IsCaused}
+use Rattle.archive_tables.specs.Calls.{Asks, AsksAnywhere, IsCaused, Lasts}
 use Rattle.archive_store.specs.Replies.{fault_of}
-use Rattle.archive_store.specs.Refusals.{IsCarried, IsMessageStopped, MakeRows, StopsAmong, WritesFor}
+use Rattle.archive_store.specs.Refusals.{IsCarried, IsCommandRefused, MakeRows, StopsAmong, WritesFor}
 use Rattle.archive_store.specs.declared.faults.StoreFault.{StoreFault}
 use Rattle.archive_store.specs.declared.faults.StoreFault.TheVariants as faults
 use Rattle.archive_store.proofs.CauseLemmas.{by_cause}
@@ -87,27 +87,31 @@ module _ (list : List ℕ) (items : List Item) (i : ℕ) (item : Item) (within :
       let told = ap (λ (o : Outcome). o.1) answer ∙ ap (λ x. (added_within message_limit x list item).1) same in
       subst (λ xs. MakeRows list xs first new) (sym one_more) (rows_more list (take i items) item first mid new made (subst (λ r. WritesFor list item r mid new) told writes))
 
-  pub stops_there : (done : ℕ) → done ≤ i → IsMessageStopped list item mid → StopsAmong list items done first
-  stops_there done least stopped = record {
+  pub stops_there : IsCommandRefused (add list item) mid → StopsAmong list items first
+  stops_there stopped = record {
     before = take i items;
     item = item;
     rest = drop (suc i) items;
     are = ap (λ x. take i items ++ x ∷ drop (suc i) items) is ∙ ap (λ xs. take i items ++ xs) (sym (drop-cons items i item within)) ∙ take-append-drop i items;
-    behind = (let many = length-take-le i items (omega (arith, within)) in omega (arith, many, least));
     rows = mid;
     made = made;
     stopped = stopped;
   }
 
--- fewer are done
-pub stops_before : (list : List ℕ) (items : List Item) (done less : ℕ) (db : Database) → less ≤ done → StopsAmong list items done db → StopsAmong list items less db
-stops_before list items done less db fewer it = record {
-  before = it.before;
-  item = it.item;
-  rest = it.rest;
-  are = it.are;
-  behind = (let many = it.behind in omega (arith, many, fewer));
-  rows = it.rows;
-  made = it.made;
-  stopped = it.stopped;
-}
+-- ---- items from a place on
+
+-- the item at a later place is among them
+pub among_later : (items : List Item) (from at : ℕ) (item : Item) → from ≤ at → item ≡ get_or items at item → item ≡ get_or (drop from items) (at - from) item
+among_later items from at item order is =
+    let place : from + (at - from) ≡ at = omega (arith, order) in
+    is ∙ sym (get_or-drop from items (at - from) item ∙ ap (λ n. get_or items n item) place)
+
+-- ---- rows that a fault left
+
+-- They are those that were there, or the disk failed.
+pub left_or_failed : (first last : State) (P : Database → Type 0) → Lasts first last → HasCleanDisk last → IsTrue first.is_open → (IsTrue last.is_open → last.now ≡ first.now)
+    → P first.now → MoreFaults first.faults last.faults ⊎ P last.now
+left_or_failed first last P lasts clean was same it = elim (lasts.shut.stays_open clean was) [
+  | inl up ↦ inr (subst P (sym (same up)) it)
+  | inr more ↦ inl more
+]

@@ -1,14 +1,12 @@
 //! Taking a connection over as a store: it has our tables, of a version that we know.
-ghost use Rattle.std.specs.Prelude.{◌≡◌, None, IfOk, IfErr};
+ghost use Rattle.std.specs.Prelude.{◌≡◌, IfOk, IfErr};
 ghost use Rattle.sqlite.specs.Held.{state};
 ghost use Rattle.sqlite.specs.State.{HasCleanDisk};
 ghost use Rattle.sqlite.specs.Steps.{over_memory};
 ghost use Rattle.archive_tables.specs.Tables.{IsKept, archive_of};
 ghost use Rattle.archive_tables.specs.Making.{empty_archive};
-ghost use Rattle.archive_database.specs.Adopting.{IsUnmade};
 ghost use Rattle.archive_store.specs.Adopting.{IsAdopted, IsLeft};
 ghost use Rattle.archive_store.specs.Held.{held_of};
-ghost use Rattle.archive_store.specs.Replies.{refusal};
 ghost use Rattle.archive_store.specs.Told.{HasNoLimit};
 
 use crate::faults::StoreFault;
@@ -28,14 +26,13 @@ pub struct AdoptStop<S: Alter> {
 }
 
 impl Store<MemStore> {
-    /// A store in memory, with nothing in it. E14 where no memory was left.
+    /// A store in memory, with nothing in it. E14 where no memory was left, and nothing else.
     pub fn open_in_memory(alloc: Global) -> Result<Store<MemStore>, StoreFault>
         ensures made { IfOk result (λ store. HasCleanDisk (state over_memory (held_of store))
             → IsKept (state over_memory (held_of store))
             × (archive_of (state over_memory (held_of store)) ≡ empty_archive)) }
         ensures unlimited { IfOk result (λ store. HasNoLimit over_memory store) }
-        ensures fault { IfErr result (λ fault. refusal fault ≡ None) }
-        ensures caused { IfErr result (λ fault. fault ≡ StoreFault.Store → (db : _) × IsUnmade db) }
+        ensures fault { IfErr result (λ fault. fault ≡ StoreFault.Memory) }
     {
         match Store::adopt(Connection::open_in_memory(alloc)?) {
             Ok(store) => Ok(store),

@@ -1,13 +1,14 @@
 //! Many messages to one list, in transactions of many messages.
-ghost use Rattle.std.specs.Prelude.{◌≡◌, [], ◌∷◌, ◌≤◌, ◌<◌, ◌+◌, ◌⊎◌, ℕ, IfOk, IfErr, Some, None, length, take};
+ghost use Rattle.std.specs.Prelude.{◌≡◌, [], ◌∷◌, ◌≤◌, ◌<◌, ◌+◌, ◌⊎◌, ℕ, IfOk, IfErr, Some, None, length, take, drop};
 ghost use Rattle.mbox_items.specs.Division.{Item};
 ghost use Rattle.archive_store.specs.Held.{held_of};
-ghost use Rattle.archive_store.specs.Told.{EndsOr, EndsUnrefused};
+ghost use Rattle.sqlite.specs.Held.{state};
+ghost use Rattle.archive_store.specs.Told.{EndsBehind, EndsPart, EndsUnrefused};
 ghost use Rattle.archive_store.specs.Refusals.{StopsAmong};
 ghost use Rattle.archive_store.specs.Replies.{with_fault, done_in};
 ghost use Rattle.archive_machine.specs.Commands.{no_list, list_full};
 ghost use Rattle.archive_store.specs.Crashes.{AddsSomeQuietly, CrashAddsOver, CrashAll, CrashBatch};
-ghost use Rattle.archive_store.specs.Batches.{AddsOne, AddsSome, AddsBatch, AddsAll, BeginsAt, EndsAt, EndsAdding, WritesOne, WritesFrom, told_in, text_bytes};
+ghost use Rattle.archive_store.specs.Batches.{AddsOne, AddsSome, AddsBatch, AddsAll, BeginsAt, EndsAt, FailsFrom, WritesOne, told_in, text_bytes};
 
 use crate::faults::StoreFault;
 use crate::limits::MESSAGES;
@@ -77,9 +78,9 @@ impl<S: Alter> Store<S> {
             list.now items.entry.now result }
         ensures total { IfOk result (λ report. told_in report ≡ length items.entry.now) }
         ensures bound { IfErr result (λ stop. stop.done ≤ length items.entry.now) }
-        ensures ends { EndsOr S.Store self.old self.new (with_fault (λ stop. stop.fault) result)
+        ensures ends { EndsBehind S.Store self.old self.new (with_fault (λ stop. stop.fault) result)
             (no_list ∷ list_full ∷ [])
-            (StopsAmong list.now items.entry.now (done_in (λ stop. stop.done) result)) }
+            (StopsAmong list.now (drop (done_in (λ stop. stop.done) result) items.entry.now)) }
     {
         let additions = Additions { alloc, list, items };
         let mut done = 0;
@@ -158,8 +159,10 @@ fn add_batch<S: Alter>(
     ensures crash { CrashBatch S.Store (held_of store.old) (held_of store.new)
         additions.now.list.now additions.now.items.now from to count.old report.entry.now }
     ensures came { EndsAt result from to report.exit.now }
-    ensures ends { EndsAdding S.Store store.old store.new result
-        (WritesFrom S.Store store.old store.new None result additions.now.list.now additions.now.items.now from count.old report.entry.now) }
+    ensures ends { EndsPart S.Store store.old store.new
+        (FailsFrom S.Store store.old store.new None result additions.now.list.now
+        additions.now.items.now from count.old report.entry.now
+        (state S.Store (held_of store.new)).now) result }
 {
     let begun = texts::schema::begin(&mut store.conn);
     store.wants.pass(begun)?;
@@ -196,8 +199,10 @@ fn add_some<S: Alter>(
     ensures quiet { AddsSomeQuietly S.Store (held_of store.old) (held_of store.new)
         additions.now.list.now additions.now.items.now from count.old report.entry.now }
     ensures came { EndsAt result from to report.exit.now }
-    ensures ends { EndsAdding S.Store store.old store.new result ((db : _)
-        → WritesFrom S.Store store.old store.new (Some db) result additions.now.list.now additions.now.items.now from count.old report.entry.now) }
+    ensures ends { EndsPart S.Store store.old store.new ((db : _)
+        → FailsFrom S.Store store.old store.new (Some db) result additions.now.list.now
+        additions.now.items.now from count.old report.entry.now
+        (state S.Store (held_of store.old)).now) result }
 {
     let mut at = from;
     while at < to {

@@ -10,11 +10,10 @@ use sqlite::Alter;
 impl<S: Alter> Store<S> {
     ghost use Rattle.archive_machine.specs.Machine.{granted, revoked};
     ghost use Rattle.archive_store.specs.Held.{held_of};
-    ghost use Rattle.archive_store.specs.Refusals.{IsGrantRefused, RowsRefuse};
+    ghost use Rattle.archive_store.specs.Refusals.{IsCommandRefused};
     ghost use Rattle.archive_store.specs.Told.{EndsOr};
-    ghost use Rattle.archive_tables.specs.Statements.{IsRefused, removing_grant};
     ghost use Rattle.policy_core.specs.Numbers.{kind_rank};
-    ghost use Rattle.archive_machine.specs.Commands.{no_person, no_list, bad_days};
+    ghost use Rattle.archive_machine.specs.Commands.{grant, revoke, no_person, no_list, bad_days};
     ghost use Rattle.archive_store.specs.Crashes.{CrashSteps};
     ghost use Rattle.archive_store.specs.Replies.{Does, says_done, says_whether};
     ghost use Rattle.std.specs.Prelude.{[], ◌∷◌};
@@ -40,19 +39,7 @@ impl<S: Alter> Store<S> {
               until_day = until;
             })) }
         ensures ends { EndsOr S.Store self.old self.new result (no_person ∷ no_list ∷ bad_days ∷ [])
-            (RowsRefuse (λ a. granted a (record {
-              person = person.now;
-              list = list.now;
-              rank = kind_rank kind;
-              from_day = from;
-              until_day = until;
-            })) (IsGrantRefused (record {
-              person = person.now;
-              list = list.now;
-              rank = kind_rank kind;
-              from_day = from;
-              until_day = until;
-            }))) }
+            (IsCommandRefused (grant person.now list.now (kind_rank kind) from until)) }
     {
         let known = texts::persons::has_person(&mut self.conn, person);
         if !self.wants.pass(known)? {
@@ -87,8 +74,7 @@ impl<S: Alter> Store<S> {
         ensures crash { CrashSteps S.Store (held_of self.old) (held_of self.new)
             (λ a. revoked a person.now list.now (kind_rank kind)) }
         ensures ends { EndsOr S.Store self.old self.new result (no_person ∷ no_list ∷ [])
-            (RowsRefuse (λ a. revoked a person.now list.now (kind_rank kind))
-            (IsRefused (removing_grant person.now list.now (kind_rank kind)))) }
+            (IsCommandRefused (revoke person.now list.now (kind_rank kind))) }
     {
         let known = texts::persons::has_person(&mut self.conn, person);
         if !self.wants.pass(known)? {

@@ -17,14 +17,13 @@ use sqlite::Alter;
 use std::alloc::Global;
 
 impl<S: Alter> Store<S> {
-    ghost use Rattle.std.specs.Prelude.{◌≡◌, [], ◌∷◌, length, pos, Some, None};
+    ghost use Rattle.std.specs.Prelude.{◌≡◌, [], ◌∷◌, length, Some, None};
     ghost use Rattle.archive_machine.specs.Machine.{message_limit, added_within, withdrawal, restored, held_back, lifted};
     ghost use Rattle.archive_store.specs.Held.{held_of};
     ghost use Rattle.archive_store.specs.Told.{EndsOr};
-    ghost use Rattle.archive_store.specs.Refusals.{IsMessageStopped, IsCountedStopped, RowsRefuse};
-    ghost use Rattle.archive_tables.specs.Statements.{IsRefused, freeing, holding_back, withdrawing};
+    ghost use Rattle.archive_store.specs.Refusals.{IsCommandRefused, IsCountedStopped};
     ghost use Rattle.policy_core.specs.Numbers.{party_number};
-    ghost use Rattle.archive_machine.specs.Commands.{no_list, no_message, already_withdrawn, not_withdrawn, too_large, list_full};
+    ghost use Rattle.archive_machine.specs.Commands.{add, withdraw, restore, embargo, lift, no_list, no_message, already_withdrawn, not_withdrawn, too_large, list_full};
     ghost use Rattle.archive_machine.specs.Questions.{messages_in};
     ghost use Rattle.archive_store.specs.Crashes.{CrashSteps, CrashStepsFrom};
     ghost use Rattle.archive_store.specs.Replies.{Does, says_added, says_done, says_whether};
@@ -41,7 +40,7 @@ impl<S: Alter> Store<S> {
             (λ a. added_within message_limit a list.now item.now) }
         ensures ends { EndsOr S.Store self.old self.new result
             (no_list ∷ too_large ∷ list_full ∷ [])
-            (IsMessageStopped list.now item.now) }
+            (IsCommandRefused (add list.now item.now)) }
     {
         add_limited(self, alloc, list, item, MESSAGES)
     }
@@ -86,8 +85,7 @@ impl<S: Alter> Store<S> {
             (λ a. withdrawal a list.now key.now (party_number by)) }
         ensures ends { EndsOr S.Store self.old self.new result
             (no_list ∷ no_message ∷ already_withdrawn ∷ [])
-            (RowsRefuse (λ a. withdrawal a list.now key.now (party_number by))
-            (IsRefused (withdrawing list.now key.now (party_number by)))) }
+            (IsCommandRefused (withdraw list.now key.now (party_number by))) }
     {
         let listed = texts::lists::has_list(&mut self.conn, list);
         if !self.wants.pass(listed)? {
@@ -115,8 +113,7 @@ impl<S: Alter> Store<S> {
             (λ a. restored a list.now key.now) }
         ensures ends { EndsOr S.Store self.old self.new result
             (no_list ∷ no_message ∷ not_withdrawn ∷ [])
-            (RowsRefuse (λ a. restored a list.now key.now)
-            (IsRefused (withdrawing list.now key.now (pos 0)))) }
+            (IsCommandRefused (restore list.now key.now)) }
     {
         let listed = texts::lists::has_list(&mut self.conn, list);
         if !self.wants.pass(listed)? {
@@ -143,8 +140,7 @@ impl<S: Alter> Store<S> {
         ensures crash { CrashSteps S.Store (held_of self.old) (held_of self.new)
             (λ a. held_back a list.now key.now until) }
         ensures ends { EndsOr S.Store self.old self.new result (no_list ∷ no_message ∷ [])
-            (RowsRefuse (λ a. held_back a list.now key.now until)
-            (IsRefused (holding_back list.now key.now until))) }
+            (IsCommandRefused (embargo list.now key.now until)) }
     {
         let listed = texts::lists::has_list(&mut self.conn, list);
         if !self.wants.pass(listed)? {
@@ -168,7 +164,7 @@ impl<S: Alter> Store<S> {
         ensures crash { CrashSteps S.Store (held_of self.old) (held_of self.new)
             (λ a. lifted a list.now key.now) }
         ensures ends { EndsOr S.Store self.old self.new result (no_list ∷ no_message ∷ [])
-            (RowsRefuse (λ a. lifted a list.now key.now) (IsRefused (freeing list.now key.now))) }
+            (IsCommandRefused (lift list.now key.now)) }
     {
         let listed = texts::lists::has_list(&mut self.conn, list);
         if !self.wants.pass(listed)? {

@@ -24,9 +24,8 @@ impl<S: Alter> Store<S> {
     ghost use Rattle.archive_machine.specs.Questions.{merge_of, address_of, list_refusal, person_refusal};
     ghost use Rattle.archive_store.specs.Held.{held_of};
     ghost use Rattle.archive_store.specs.Told.{EndsAsk, EndsAskOr, EndsOr};
-    ghost use Rattle.archive_store.specs.Refusals.{RowsRefuse};
-    ghost use Rattle.archive_tables.specs.Statements.{IsRefused, changing_option};
-    ghost use Rattle.archive_machine.specs.Commands.{no_list, no_person, bad_text};
+    ghost use Rattle.archive_store.specs.Refusals.{IsCommandRefused};
+    ghost use Rattle.archive_machine.specs.Commands.{merge_set, address_set, no_list, no_person, bad_text};
     ghost use Rattle.archive_store.specs.Crashes.{CrashSteps};
     ghost use Rattle.archive_store.specs.Replies.{Does, Answers, says_done};
 
@@ -37,8 +36,7 @@ impl<S: Alter> Store<S> {
         ensures crash { CrashSteps S.Store (held_of self.old) (held_of self.new)
             (λ a. merge_chosen a list.now merge) }
         ensures ends { EndsOr S.Store self.old self.new result (no_list ∷ [])
-            (RowsRefuse (λ a. merge_chosen a list.now merge)
-            (IsRefused (changing_option (record { list = list.now; merge = merge })))) }
+            (IsCommandRefused (merge_set list.now merge)) }
     {
         let listed = texts::lists::has_list(&mut self.conn, list);
         if !self.wants.pass(listed)? {
@@ -76,10 +74,7 @@ impl<S: Alter> Store<S> {
         ensures crash { CrashSteps S.Store (held_of self.old) (held_of self.new)
             (λ a. address_given a person.now address.now) }
         ensures ends { EndsOr S.Store self.old self.new result (no_person ∷ bad_text ∷ [])
-            (RowsRefuse (λ a. address_given a person.now address.now) (IsAddressRefused (record {
-              person = person.now;
-              address = kept_address address.now;
-            }))) }
+            (IsCommandRefused (address_set person.now address.now)) }
     {
         let known = texts::persons::has_person(&mut self.conn, person);
         if !self.wants.pass(known)? {

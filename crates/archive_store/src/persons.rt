@@ -13,10 +13,8 @@ impl<S: Alter> Store<S> {
     ghost use Rattle.archive_machine.specs.Machine.{list_added, person_added};
     ghost use Rattle.archive_store.specs.Held.{held_of};
     ghost use Rattle.archive_store.specs.Told.{EndsOr};
-    ghost use Rattle.archive_store.specs.Refusals.{RowsRefuse};
-    ghost use Rattle.archive_database.specs.Lists.{IsListRefused};
-    ghost use Rattle.archive_tables.specs.Statements.{IsRefused, adding_person};
-    ghost use Rattle.archive_machine.specs.Commands.{bad_name, bad_text, list_exists, person_exists, token_taken};
+    ghost use Rattle.archive_store.specs.Refusals.{IsCommandRefused};
+    ghost use Rattle.archive_machine.specs.Commands.{list_add, person_add, bad_name, bad_text, list_exists, person_exists, token_taken};
     ghost use Rattle.archive_store.specs.Crashes.{CrashSteps};
     ghost use Rattle.archive_store.specs.Replies.{Does, says_done};
     ghost use Rattle.std.specs.Prelude.{[], ◌∷◌};
@@ -28,7 +26,7 @@ impl<S: Alter> Store<S> {
         ensures crash { CrashSteps S.Store (held_of self.old) (held_of self.new)
             (λ a. list_added a name.now) }
         ensures ends { EndsOr S.Store self.old self.new result (bad_name ∷ list_exists ∷ [])
-            (RowsRefuse (λ a. list_added a name.now) (IsListRefused name.now)) }
+            (IsCommandRefused (list_add name.now)) }
     {
         if !is_name(name) {
             return Err(StoreFault::BadName);
@@ -51,8 +49,7 @@ impl<S: Alter> Store<S> {
             (λ a. person_added a name.now token.now) }
         ensures ends { EndsOr S.Store self.old self.new result
             (bad_name ∷ bad_text ∷ person_exists ∷ token_taken ∷ [])
-            (RowsRefuse (λ a. person_added a name.now token.now)
-            (IsRefused (adding_person (record { name = name.now; token = token.now })))) }
+            (IsCommandRefused (person_add name.now token.now)) }
     {
         if !is_name(name) {
             return Err(StoreFault::BadName);

@@ -1,13 +1,15 @@
 //! Commands one after the other.
-ghost use Rattle.std.specs.Prelude.{◌≡◌, ◌≤◌, true, length, map, is_some, IfOk, IfErr, Err, None};
+ghost use Rattle.std.specs.Prelude.{◌≡◌, ◌⊎◌, ◌≤◌, length, map, IfErr, Err};
+ghost use Rattle.archive_machine.specs.Commands.{add};
 ghost use Rattle.archive_machine.specs.Machine.{added_within, message_limit, step};
 ghost use Rattle.archive_store.specs.Held.{held_of};
-ghost use Rattle.archive_store.specs.Told.{Counts, EndsUnrefused, Lasts as StoreLasts};
-ghost use Rattle.archive_store.specs.Wanting.{IsWant};
-ghost use Rattle.archive_store.specs.Replies.{Does, refusal, with_fault, says_done, says_whether, says_added};
+ghost use Rattle.archive_store.specs.Told.{Caused, EndsPart, EndsUnrefusedBy, HasFailed};
+ghost use Rattle.archive_store.specs.Refusals.{StopsRun};
+ghost use Rattle.sqlite.specs.Held.{state};
+ghost use Rattle.archive_store.specs.Replies.{done_in, with_fault, says_done, says_whether, says_added};
 ghost use Rattle.archive_tables.specs.Crashes.{AddsNothing};
 ghost use Rattle.archive_store.specs.Crashes.{CrashStepsFrom, CrashRuns};
-ghost use Rattle.archive_store.specs.Running.{command_of, answer_of, carried, CountsOn, DoesCounted, FindsCount, IsCountedOn, IsRightCount, Runs};
+ghost use Rattle.archive_store.specs.Running.{command_of, carried, CausedCounted, CountsOn, DoesCounted, FindsCount, IsCountedOn, IsRightCount, IsTold, Runs};
 
 use crate::faults::StoreFault;
 use crate::limits::MESSAGES;
@@ -104,8 +106,7 @@ struct Counted<'a> {
 /// A refusal, or a stop.
 fn refused(fault: StoreFault) -> Result<Outcome, StoreFault>
     ensures value { carried result ≡ says_done (Err fault) }
-    ensures told { IfOk result (λ outcome. is_some (answer_of outcome) ≡ true) }
-    ensures stop { IfErr result (λ fault. refusal fault ≡ None) }
+    ensures told { IsTold result }
     ensures passed { IfErr result (λ told. told ≡ fault) }
 {
     match fault {
@@ -117,8 +118,7 @@ fn refused(fault: StoreFault) -> Result<Outcome, StoreFault>
 /// The outcome of a command that says nothing more than that it is done.
 fn done(answer: Result<(), StoreFault>) -> Result<Outcome, StoreFault>
     ensures value { carried result ≡ says_done answer }
-    ensures told { IfOk result (λ outcome. is_some (answer_of outcome) ≡ true) }
-    ensures stop { IfErr result (λ fault. refusal fault ≡ None) }
+    ensures told { IsTold result }
     ensures passed { IfErr result (λ fault. answer ≡ Err fault) }
 {
     match answer {
@@ -130,8 +130,7 @@ fn done(answer: Result<(), StoreFault>) -> Result<Outcome, StoreFault>
 /// The outcome of a command that takes something away.
 fn whether(answer: Result<bool, StoreFault>) -> Result<Outcome, StoreFault>
     ensures value { carried result ≡ says_whether answer }
-    ensures told { IfOk result (λ outcome. is_some (answer_of outcome) ≡ true) }
-    ensures stop { IfErr result (λ fault. refusal fault ≡ None) }
+    ensures told { IsTold result }
     ensures passed { IfErr result (λ fault. answer ≡ Err fault) }
 {
     match answer {
@@ -143,8 +142,7 @@ fn whether(answer: Result<bool, StoreFault>) -> Result<Outcome, StoreFault>
 /// The outcome of a command that adds a message.
 fn added(answer: Result<Added, StoreFault>) -> Result<Outcome, StoreFault>
     ensures value { carried result ≡ says_added answer }
-    ensures told { IfOk result (λ outcome. is_some (answer_of outcome) ≡ true) }
-    ensures stop { IfErr result (λ fault. refusal fault ≡ None) }
+    ensures told { IsTold result }
     ensures passed { IfErr result (λ fault. answer ≡ Err fault) }
 {
     match answer {
@@ -164,8 +162,8 @@ impl<S: Alter> Store<S> {
         ensures found { FindsCount S.Store (held_of self.old)
             (held_of self.new) counted.entry list.now result }
         ensures quiet { AddsNothing S.Store (held_of self.old) (held_of self.new) }
-        ensures lasts { StoreLasts S.Store self.old self.new }
-        ensures wanted { Counts IsWant self.old self.new result }
+        ensures ends { EndsPart S.Store self.old self.new
+            (Caused S.Store self.old self.new result) result }
     {
         match counted {
             Some(known) if known.list == list => return Ok(Some(known.count)),
@@ -192,8 +190,9 @@ impl<S: Alter> Store<S> {
             (IsRightCount counted.old) (λ a. added_within message_limit a list.now item.now) }
         ensures counted { IsCountedOn S.Store (held_of self.old)
             (held_of self.new) counted.old counted.new (says_added result) }
-        ensures lasts { StoreLasts S.Store self.old self.new }
-        ensures wanted { Counts IsWant self.old self.new result }
+        ensures ends { EndsPart S.Store self.old self.new
+            (CausedCounted S.Store self.old self.new counted.old
+            (add list.now item.now) result) result }
     {
         match self.find_count(list, *counted)? {
             Some(before) => {
@@ -222,8 +221,10 @@ impl<S: Alter> Store<S> {
             (IsRightCount counted.old) (λ a. step a (command_of command.now)) }
         ensures counted { CountsOn S.Store (held_of self.old)
             (held_of self.new) command.now counted.old counted.new (carried result) }
-        ensures told { IfOk result (λ outcome. is_some (answer_of outcome) ≡ true) }
-        ensures ends { EndsUnrefused S.Store self.old self.new result }
+        ensures told { IsTold result }
+        ensures ends { EndsPart S.Store self.old self.new
+            (CausedCounted S.Store self.old self.new counted.old
+            (command_of command.now) result) result }
     {
         match command {
             Command::ListAdd { name } => done(self.list_add(name)),
@@ -256,7 +257,10 @@ impl<S: Alter> Store<S> {
         ensures crash { CrashRuns S.Store (held_of self.old) (held_of self.new)
             (map command_of commands.entry.now) result }
         ensures bound { IfErr result (λ stop. stop.done ≤ length commands.entry.now) }
-        ensures ends { EndsUnrefused S.Store self.old self.new
+        ensures ends { EndsUnrefusedBy S.Store self.old self.new
+            (HasFailed S.Store self.old self.new
+            ⊎ StopsRun (map command_of commands.entry.now) (done_in (λ stop. stop.done) result)
+            (state S.Store (held_of self.new)).now)
             (with_fault (λ stop. stop.fault) result) }
     {
         let mut outcomes = match Vec::with_capacity(alloc, commands.len()) {

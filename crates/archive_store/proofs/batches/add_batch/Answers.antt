@@ -1,12 +1,14 @@
-use Rattle.std.proofs.Common.{take, ◌∙◌, Some, None}
+use Rattle.std.proofs.Common.{take, drop, ◌∙◌, Some, None}
 use Rattle.std.proofs.lemmas.Result.{err_from_is_err_and}
 use Rattle.sqlite.specs.Held.{state}
 use Rattle.archive_store.proofs.BatchLemmas.{held_or_back, stays_taken}
-use Rattle.std.proofs.Common.{inl, inr, subst, sym, arith, rules}
+use Rattle.std.proofs.Common.{inl, inr, subst, arith, rules}
+use Rattle.archive_tables.proofs.EndLemmas.{archive_stays}
 use Rattle.archive_tables.proofs.LastLemmas.{lasts_then}
-use Rattle.archive_store.specs.Refusals.{MakeRows}
+use Rattle.archive_store.specs.Refusals.{StopsAmong}
 use Rattle.archive_store.proofs.PassLemmas.{saw_same}
-use Rattle.archive_store.proofs.StopLemmas.{blame_disk, stopped_by}
+use Rattle.archive_store.proofs.CauseLemmas.{passed_on}
+use Rattle.archive_store.proofs.StopLemmas.{blame_disk, left_or_failed}
 use Rattle.archive_tables.specs.Crashes.{IsStored}
 use Rattle.archive_tables.proofs.CrashLemmas.{quiet_then, commit_over}
 use Rattle.archive_store.proofs.batches.add_batch.Goals as goal
@@ -38,7 +40,7 @@ returns-in-Err-pass-clause-step g c = λ clean a t up.
     let failed = rw error.1 at c.commit-committed.ensures.held in
     let back = c.rollback-undone.ensures.left clean first.now
     (held_or_back first.now (state g.S.Store c.add_some.new.store.conn) (state g.S.Store c.commit-committed.new.conn) (failed clean_3 first.now added.0.held)) up in
-    (back.0, back.1 ∙ t.archive_is)
+    (back.0, archive_stays back.1 ∙ t.archive_is)
 
 pub returns-in-Err-clause-step : goal.returns-in-Err-clause-step
 returns-in-Err-clause-step g c = λ clean a t up.
@@ -47,17 +49,16 @@ returns-in-Err-clause-step g c = λ clean a t up.
     let begun = (rw c.in_ok-pass.ensures.passed at c.begin-begun.ensures.held) (c.add_some.ensures.ends.lasts.returned clean_2) t.held in
     let there = stays_taken None (Some first.now) first (state g.S.Store c.begin-begun.new.conn) a c.args.additions.now.list.now (take c.args.from c.args.additions.now.items.now) c.args.count.now c.args.report.now t begun in
     let back = c.rollback-undone-in-Err.ensures.left clean first.now (c.in-Err.ensures.step clean_2 first.now a there) up in
-    (back.0, back.1 ∙ t.archive_is)
+    (back.0, archive_stays back.1 ∙ t.archive_is)
 
 -- ---- how it ends
 
 pub returns-in_err-pass-clause-ends : goal.returns-in_err-pass-clause-ends
 returns-in_err-pass-clause-ends g c = record {
   lasts = c.begin-begun.ensures.ends.lasts;
-  fault = search rules;
   counted = search rules;
-  rows = λ clean free a t base made.
-      stopped_by _ c.from_residual.result c.in_err-pass.field-0.0 _ c.from_residual.ensures.1
+  caused = λ clean free a t.
+      passed_on c.from_residual.result c.in_err-pass.field-0.0 _ c.from_residual.ensures.1
       (λ it. inl (blame_disk (state g.S.Store c.args.store.now.conn) (state g.S.Store c.begin-begun.new.conn) c.begin-begun.result c.in_err-pass.field-0.0 c.in_err-pass.ensures.passed
       (c.begin-begun.ensures.ends.caused clean t.held.is_open t.held.autocommit) it));
 }
@@ -65,41 +66,23 @@ returns-in_err-pass-clause-ends g c = record {
 pub returns-in-Ok-pass-clause-ends : goal.returns-in-Ok-pass-clause-ends
 returns-in-Ok-pass-clause-ends g c = record {
   lasts = lasts_then _ _ _ (lasts_then _ _ _ c.begin-begun.ensures.ends.lasts c.add_some.ensures.ends.lasts) c.commit-committed.ensures.ends.lasts;
-  fault = tt;
   counted = search rules;
-  rows = λ clean free a t base made.
-      let list = c.args.additions.now.list.now in
-      let items = c.args.additions.now.items.now in
-      let first = state g.S.Store c.args.store.now.conn in
-      let clean_2 = c.commit-committed.ensures.ends.lasts.returned clean in
-      let clean_1 = c.add_some.ensures.ends.lasts.returned clean_2 in
-      let limit = c.begin-begun.ensures.ends.lasts.limit ∙ free in
-      let begun = (rw c.in_ok-pass.ensures.passed at c.begin-begun.ensures.held) clean_1 t.held in
-      let there = stays_taken None (Some first.now) first (state g.S.Store c.begin-begun.new.conn) a list (take c.args.from items) c.args.count.now c.args.report.now t begun in
-      let same = saw_same first (state g.S.Store c.begin-begun.new.conn) c.in_ok-pass.ensures.passed (c.begin-begun.ensures.ends.same clean_1) in
-      let made_1 = subst (MakeRows list (take c.args.from items) base) (sym same) made in
-      let added = c.in-Ok.ensures.ends.rows first.now clean_2 limit a there base made_1 in
-      let last = saw_same (state g.S.Store c.add_some.new.store.conn) (state g.S.Store c.commit-committed.new.conn) c.in-Ok-pass.ensures.passed (c.commit-committed.ensures.ends.same clean) in
-      subst (MakeRows list (take c.in-Ok.at items) base) (sym last) added;
+  caused = λ clean free a t. tt;
 }
 
 pub returns-in-Err-pass-clause-ends : goal.returns-in-Err-pass-clause-ends
 returns-in-Err-pass-clause-ends g c = record {
   lasts = lasts_then _ _ _ (lasts_then _ _ _ (lasts_then _ _ _ c.begin-begun.ensures.ends.lasts c.add_some.ensures.ends.lasts) c.commit-committed.ensures.ends.lasts) c.rollback-undone.ensures.lasts;
-  fault = search rules;
   counted = search rules;
-  rows = λ clean free a t base made it.
+  caused = λ clean free a t it.
       let list = c.args.additions.now.list.now in
       let items = c.args.additions.now.items.now in
       let first = state g.S.Store c.args.store.now.conn in
       let clean_3 = c.rollback-undone.ensures.lasts.returned clean in
       let clean_2 = c.commit-committed.ensures.ends.lasts.returned clean_3 in
       let clean_1 = c.add_some.ensures.ends.lasts.returned clean_2 in
-      let limit = c.begin-begun.ensures.ends.lasts.limit ∙ free in
       let begun = (rw c.in_ok-pass.ensures.passed at c.begin-begun.ensures.held) clean_1 t.held in
       let there = stays_taken None (Some first.now) first (state g.S.Store c.begin-begun.new.conn) a list (take c.args.from items) c.args.count.now c.args.report.now t begun in
-      let same = saw_same first (state g.S.Store c.begin-begun.new.conn) c.in_ok-pass.ensures.passed (c.begin-begun.ensures.ends.same clean_1) in
-      let made_1 = subst (MakeRows list (take c.args.from items) base) (sym same) made in
       let added = c.in-Ok.ensures.step clean_2 first.now a there in
       let more = blame_disk (state g.S.Store c.add_some.new.store.conn) (state g.S.Store c.commit-committed.new.conn) c.commit-committed.result _ c.in-Err-pass.ensures.passed
       (c.commit-committed.ensures.ends.caused clean_3 added.0.held.is_open added.0.held.autocommit) it in
@@ -109,9 +92,8 @@ returns-in-Err-pass-clause-ends g c = record {
 pub returns-in-Err-clause-ends : goal.returns-in-Err-clause-ends
 returns-in-Err-clause-ends g c = record {
   lasts = lasts_then _ _ _ (lasts_then _ _ _ c.begin-begun.ensures.ends.lasts c.add_some.ensures.ends.lasts) c.rollback-undone-in-Err.ensures.lasts;
-  fault = search rules;
   counted = search rules;
-  rows = λ clean free a t base made it.
+  caused = λ clean free a t it.
       let list = c.args.additions.now.list.now in
       let items = c.args.additions.now.items.now in
       let first = state g.S.Store c.args.store.now.conn in
@@ -121,10 +103,12 @@ returns-in-Err-clause-ends g c = record {
       let begun = (rw c.in_ok-pass.ensures.passed at c.begin-begun.ensures.held) clean_1 t.held in
       let there = stays_taken None (Some first.now) first (state g.S.Store c.begin-begun.new.conn) a list (take c.args.from items) c.args.count.now c.args.report.now t begun in
       let same = saw_same first (state g.S.Store c.begin-begun.new.conn) c.in_ok-pass.ensures.passed (c.begin-begun.ensures.ends.same clean_1) in
-      let made_1 = subst (MakeRows list (take c.args.from items) base) (sym same) made in
-      elim (c.in-Err.ensures.ends.rows first.now clean_2 limit a there base made_1 it) [
+      let last = state g.S.Store c.rollback-undone-in-Err.new.conn in
+      let whole = lasts_then _ _ _ (lasts_then _ _ _ c.begin-begun.ensures.ends.lasts c.add_some.ensures.ends.lasts) c.rollback-undone-in-Err.ensures.lasts in
+      let back = c.rollback-undone-in-Err.ensures.left clean first.now (c.in-Err.ensures.step clean_2 first.now a there) in
+      elim (c.in-Err.ensures.ends.caused first.now clean_2 limit a there it) [
         | inl more ↦ inl (omega (arith, more, c.begin-begun.ensures.ends.lasts.shut.faults, c.rollback-undone-in-Err.ensures.lasts.shut.faults))
-        | inr stops ↦ inr stops
+        | inr stops ↦ left_or_failed first last (StopsAmong list (drop c.args.from items)) whole clean t.held.is_open (λ up. (back up).1) (subst (StopsAmong list (drop c.args.from items)) same stops)
       ];
 }
 

@@ -1,8 +1,9 @@
 use Rattle.std.proofs.Common.{sym, ◌∙◌}
 use Rattle.std.proofs.lemmas.Result.{err_from_is_err_and}
 use Rattle.sqlite.specs.Held.{state}
+use Rattle.archive_tables.proofs.EndLemmas.{archive_stays, rests_behind}
 use Rattle.archive_tables.proofs.RunLemmas.{on_fault}
-use Rattle.archive_store.proofs.BatchLemmas.{known_over, full_over, new_over, none_of, rests_over}
+use Rattle.archive_store.proofs.BatchLemmas.{known_over, full_over, new_over, none_of}
 use Rattle.std.proofs.Common.{ap, subst, inl, inr, refl}
 use Rattle.archive_machine.specs.Machine.{Outcome, with_keyed}
 use Rattle.archive_tables.specs.Crashes.{IsStored}
@@ -38,7 +39,7 @@ returns-in_err-pass_fault-clause-step g c = λ clean behind k n.
     let asked = rw c.in_ok-pass.ensures.passed at (c.has_message-known.ensures.over (c.take_in-taken.ensures.ends.lasts.returned clean) behind k) in
     let error = err_from_is_err_and c.take_in-taken.result c.in_err-pass_fault.ensures.passed in
     on_fault _ _ c.from_residual-in_err-pass_fault.result c.from_residual-in_err-pass_fault.ensures.1
-    (rests_over behind (state g.S.Store c.args.store.now.conn) (state g.S.Store c.has_message-known.new.conn) (state g.S.Store c.take_in-taken.new.conn) asked.1.1
+    (rests_behind behind (state g.S.Store c.args.store.now.conn) (state g.S.Store c.has_message-known.new.conn) (state g.S.Store c.take_in-taken.new.conn) asked.1.1
     (rw error.1 at (c.take_in-taken.ensures.taken clean behind asked.1.0)))
 
 pub returns-clause-step : goal.returns-clause-step
@@ -132,7 +133,7 @@ returns-in_err-pass_fault-clause-crash g c = λ behind held n clean db may.
     let none = sym c.if-branch.false ∙ asked.0 in
     let absent = none_of old mid list k c.of-key.result c.as_str.ensures none asked.1.1 in
     let is = new_is behind old (state g.S.Store c.take_in-taken.new.conn) list item c.args.count.now n k c.if-is_too_large.ensures c.of-key.result c.as_str.ensures c.of-key.ensures none c.if-count.false in
-    let made = ap (λ a. with_keyed a list c.of-key.result item) asked.1.1 ∙ ap (λ (o : Outcome). o.0) (sym is) in
+    let made = ap (λ a. with_keyed a list c.of-key.result item) (archive_stays asked.1.1) ∙ ap (λ (o : Outcome). o.0) (sym is) in
     elim (c.take_in-taken.ensures.crash behind asked.1.0 absent clean db may) [
       | inl earlier ↦ inl (c.has_message-known.ensures.quiet (c.take_in-taken.ensures.ends.lasts.returned clean) db earlier)
       | inr it ↦ inr (it.0, subst (λ a. IsStored a db) made it.1)
@@ -149,7 +150,7 @@ returns-clause-crash g c = λ behind held n clean db may.
     let none = sym c.if-branch.false ∙ asked.0 in
     let absent = none_of old mid list k c.of-key.result c.as_str.ensures none asked.1.1 in
     let is = new_is behind old (state g.S.Store c.take_in-taken.new.conn) list item c.args.count.now n k c.if-is_too_large.ensures c.of-key.result c.as_str.ensures c.of-key.ensures none c.if-count.false in
-    let made = ap (λ a. with_keyed a list c.of-key.result item) asked.1.1 ∙ ap (λ (o : Outcome). o.0) (sym is) in
+    let made = ap (λ a. with_keyed a list c.of-key.result item) (archive_stays asked.1.1) ∙ ap (λ (o : Outcome). o.0) (sym is) in
     elim (c.take_in-taken.ensures.crash behind asked.1.0 absent clean db may) [
       | inl earlier ↦ inl (c.has_message-known.ensures.quiet (c.take_in-taken.ensures.ends.lasts.returned clean) db earlier)
       | inr it ↦ inr (it.0, subst (λ a. IsStored a db) made it.1)

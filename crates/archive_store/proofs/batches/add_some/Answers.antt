@@ -1,4 +1,4 @@
-use Rattle.std.proofs.Common.{rules, ◌<◌, ◌∙◌, ap, get_or, length, take, arith, refl, sym, subst, Some, inl, inr}
+use Rattle.std.proofs.Common.{rules, ◌≡◌, ◌<◌, ◌+◌, ◌-◌, ◌∙◌, ap, get_or, length, take, drop, length-drop, arith, refl, subst, Some, inl, inr}
 use Rattle.sqlite.specs.Held.{state}
 use Rattle.archive_machine.specs.Commands.{taken_in, already_known, refused, too_large}
 use Rattle.archive_machine.specs.Runs.{taken}
@@ -9,8 +9,8 @@ use Rattle.archive_store.specs.Batches.{told_in, tally_of}
 use Rattle.archive_store.proofs.BatchLemmas.{one_taken, none_taken, held_or_back, told_new, told_known, told_too_large}
 use Rattle.archive_tables.specs.Tables.{archive_of}
 use Rattle.archive_store.specs.Refusals.{MakeRows}
-use Rattle.archive_store.proofs.CauseLemmas.{more_since}
-use Rattle.archive_store.proofs.StopLemmas.{rows_next, stopped_by, stops_there}
+use Rattle.archive_store.proofs.CauseLemmas.{more_since, passed_on}
+use Rattle.archive_store.proofs.StopLemmas.{among_later, no_rows, rows_next, stops_there}
 use Rattle.archive_store.proofs.batches.add_some.Goals.{in-New, in-Known, in-TooLarge}
 use Rattle.archive_tables.proofs.LastLemmas.{lasts_then, lasts_same}
 use Rattle.archive_tables.proofs.CrashLemmas.{never_adds}
@@ -61,65 +61,83 @@ loop-at-preserved g c = (
       let so_far = c.loop-at.invariant.4 was db a from in
       c.loop-at.invariant.7 was db a from left
       (never_adds g.S.Store c.loop-at.store.conn c.add_counted.new.store.conn db _ (c.add_counted.ensures.crash (Some db) so_far.held so_far.counted) clean left may)),
-  (λ clean free db a from base made.
+  (λ clean free db a from.
       let was = c.add_counted.ensures.ends.lasts.returned clean in
       let so_far = c.loop-at.invariant.4 was db a from in
+      let list = c.args.additions.now.list.now in
       let items = c.args.additions.now.items.now in
-      let within : c.loop-at.at < length items = omega (arith, c.loop-at-test.true, c.requires.begins.place) in
+      let rest = drop c.args.from items in
+      let i = c.loop-at.at - c.args.from in
+      let item = get_or items c.loop-at.at c.index-additions-at.result in
+      let within : i < length rest = omega (arith, c.loop-at-test.true, c.requires.begins.place, c.loop-at.invariant.0, length-drop c.args.from items) in
+      let first = state g.S.Store c.args.store.now.conn in
       let loop = state g.S.Store c.loop-at.store.conn in
       let new = state g.S.Store c.add_counted.new.store.conn in
-      let next = rows_next c.args.additions.now.list.now items c.loop-at.at (get_or items c.loop-at.at c.index-additions-at.result) within (ap (get_or items c.loop-at.at) c.index-additions-at.is)
-      base loop.now (c.loop-at.invariant.8 was free db a from base made) in
+      let next = rows_next list rest i item within (among_later items c.args.from c.loop-at.at item c.loop-at.invariant.0 (ap (get_or items c.loop-at.at) c.index-additions-at.is))
+      first.now loop.now (c.loop-at.invariant.8 was free db a from) in
       let adds = c.in_ok-add_counted.ensures.step clean (Some db) so_far.held so_far.counted in
       let writes = c.in_ok-add_counted.ensures.rows clean (Some db) so_far.held (c.loop-at.invariant.5.limit ∙ free) in
-      elim c.match-branch-2.branch [
+      let on : i + 1 ≡ c.loop-at.at + 1 - c.args.from = omega (arith, c.loop-at.invariant.0) in
+      subst (λ n. MakeRows list (take n rest) first.now new.now) on (elim c.match-branch-2.branch [
         | in-New w ↦ (let told = rw w.in-New.is at adds in next taken_in (archive_of loop) (archive_of new) new.now refl told.1 (rw w.in-New.is at writes))
         | in-Known w ↦ (let told = rw w.in-Known.is at adds in next already_known (archive_of loop) (archive_of new) new.now refl told.1 (rw w.in-Known.is at writes))
         | in-TooLarge w ↦ (let told = rw w.in-TooLarge.is at adds in next (refused too_large) (archive_of loop) (archive_of new) new.now refl told.1 (rw w.in-TooLarge.is at writes))
-      ]),
+      ])),
 )
 
 pub loop-at-init : goal.loop-at-init
-loop-at-init g c = (omega arith, omega (arith, c.requires.begins.order), c.requires.begins.told, (λ clean. clean), (λ clean db a from. from), lasts_same _, omega arith, (λ clean db a from left may. may), (λ clean free db a from base made. made))
+loop-at-init g c = (
+  omega arith,
+  omega (arith, c.requires.begins.order),
+  c.requires.begins.told,
+  (λ clean. clean),
+  (λ clean db a from. from),
+  lasts_same _,
+  omega arith,
+  (λ clean db a from left may. may),
+  (λ clean free db a from.
+      let list = c.args.additions.now.list.now in
+      let first = state g.S.Store c.args.store.now.conn in
+      let none : 0 ≡ c.args.from - c.args.from = omega arith in
+      subst (λ n. MakeRows list (take n (drop c.args.from c.args.additions.now.items.now)) first.now first.now) none (no_rows list first.now)),
+)
 
 pub returns-in-Full-clause-ends : goal.returns-in-Full-clause-ends
 returns-in-Full-clause-ends g c = record {
   lasts = lasts_then _ _ _ c.loop-at.invariant.5 c.add_counted.ensures.ends.lasts;
-  fault = tt;
   counted = (omega (arith, c.loop-at.invariant.6, c.in_ok-add_counted.ensures.ends.counted.0), tt);
-  rows = λ db clean free a from base made.
-      let was = c.add_counted.ensures.ends.lasts.returned clean in
-      let so_far = c.loop-at.invariant.4 was db a from in
-      let same = rw c.in-Full.is at (c.in_ok-add_counted.ensures.rows clean (Some db) so_far.held (c.loop-at.invariant.5.limit ∙ free)) in
-      subst (MakeRows c.args.additions.now.list.now (take c.loop-at.at c.args.additions.now.items.now) base) (sym same) (c.loop-at.invariant.8 was free db a from base made);
+  caused = λ db clean free a from. tt;
 }
 
 pub returns-in_err-add_counted-clause-ends : goal.returns-in_err-add_counted-clause-ends
 returns-in_err-add_counted-clause-ends g c = record {
   lasts = lasts_then _ _ _ c.loop-at.invariant.5 c.add_counted.ensures.ends.lasts;
-  fault = search rules;
   counted = raises_after IsWant _ _ _ c.from_residual.result c.loop-at.invariant.6
       (raises_on (Unit {0}) _ _ c.from_residual.result c.in_err-add_counted.field-0.0 c.from_residual.ensures.1 c.in_err-add_counted.ensures.ends.counted);
-  rows = λ db clean free a from base made.
+  caused = λ db clean free a from.
       let was = c.add_counted.ensures.ends.lasts.returned clean in
       let so_far = c.loop-at.invariant.4 was db a from in
       let items = c.args.additions.now.items.now in
-      let within : c.loop-at.at < length items = omega (arith, c.loop-at-test.true, c.requires.begins.place) in
+      let rest = drop c.args.from items in
+      let i = c.loop-at.at - c.args.from in
+      let item = get_or items c.loop-at.at c.index-additions-at.result in
+      let within : i < length rest = omega (arith, c.loop-at-test.true, c.requires.begins.place, c.loop-at.invariant.0, length-drop c.args.from items) in
+      let first = state g.S.Store c.args.store.now.conn in
       let loop = state g.S.Store c.loop-at.store.conn in
-      stopped_by _ c.from_residual.result c.in_err-add_counted.field-0.0 _ c.from_residual.ensures.1
+      passed_on c.from_residual.result c.in_err-add_counted.field-0.0 _ c.from_residual.ensures.1
       (λ it. elim (c.in_err-add_counted.ensures.rows clean (Some db) so_far.held (c.loop-at.invariant.5.limit ∙ free) it) [
-        | inl more ↦ inl (more_since (state g.S.Store c.args.store.now.conn) loop (state g.S.Store c.add_counted.new.store.conn) c.loop-at.invariant.5 more)
-        | inr against ↦ inr (stops_there c.args.additions.now.list.now items c.loop-at.at (get_or items c.loop-at.at c.index-additions-at.result) within (ap (get_or items c.loop-at.at) c.index-additions-at.is)
-            base loop.now (c.loop-at.invariant.8 was free db a from base made) c.args.from c.loop-at.invariant.0 (record { carried = against.1 so_far.counted; refused = against.0 }))
+        | inl more ↦ inl (more_since first loop (state g.S.Store c.add_counted.new.store.conn) c.loop-at.invariant.5 more)
+        | inr against ↦ inr (stops_there c.args.additions.now.list.now rest i item within
+            (among_later items c.args.from c.loop-at.at item c.loop-at.invariant.0 (ap (get_or items c.loop-at.at) c.index-additions-at.is))
+            first.now loop.now (c.loop-at.invariant.8 was free db a from) (record { carried = against.1 so_far.counted; refused = against.0 }))
       ]);
 }
 
 pub returns-clause-ends : goal.returns-clause-ends
 returns-clause-ends g c = record {
   lasts = c.loop-at.invariant.5;
-  fault = tt;
   counted = (c.loop-at.invariant.6, tt);
-  rows = λ db clean free a from base made. c.loop-at.invariant.8 clean free db a from base made;
+  caused = λ db clean free a from. tt;
 }
 
 -- ---- what a stop leaves

@@ -1,4 +1,4 @@
-use Rattle.std.proofs.Common.{◌≡◌, ◌-◌, ◌≤◌, take, Some, None}
+use Rattle.std.proofs.Common.{◌≡◌, ◌-◌, ◌≤◌, take, drop, Some, None}
 use Rattle.sqlite.specs.Effect.{Database}
 use Rattle.sqlite.specs.Tree.{Trees}
 use Rattle.sqlite.specs.Held.{state}
@@ -21,8 +21,7 @@ invariant-loop-at g l =
     → (left : Trees) → now.may_leave left → first.may_leave left)
     × (HasCleanDisk now → first.step_limit ≡ None → (db : Database) (a : Archive)
     → HasTaken (Some db) first a l.additions.list.now (take l.from l.additions.items.now) l.fn.count l.fn.report
-    → (base : Database) → MakeRows l.additions.list.now (take l.from l.additions.items.now) base first.now
-    → MakeRows l.additions.list.now (take l.at l.additions.items.now) base now.now)
+    → MakeRows l.additions.list.now (take (l.at - l.from) (drop l.from l.additions.items.now)) first.now now.now)
 
 abbrev pub decreases-loop-at : goal.decreases-loop-at
 decreases-loop-at g l = l.to - l.at

@@ -6,14 +6,15 @@ use Rattle.sqlite.specs.Held.{state}
 use Rattle.archive_machine.specs.Commands.{already_known, list_full, no_list, taken_in, too_large, refused}
 use Rattle.archive_machine.specs.Questions.{has_list, is_message, messages_in}
 use Rattle.archive_machine.specs.Machine.{added_within, with_keyed}
+use Rattle.archive_tables.proofs.EndLemmas.{rests_behind}
 use Rattle.archive_store.specs.Replies.{refusal}
 use Rattle.archive_store.proofs.StepLemmas.{begins, asks, answers, writes_when}
 use Rattle.archive_store.proofs.StepEquations.{add_known, add_full, add_new}
 use Rattle.std.proofs.Common.{inl}
 use Rattle.archive_store.proofs.CrashLemmas.{Looks, looks_on, steps_by}
 use Rattle.archive_store.proofs.BatchLemmas.{fails_to_add}
-use Rattle.archive_store.proofs.PassLemmas.{passed_over, passed_unanswered}
-use Rattle.archive_store.proofs.FindLemmas.{no_reason_of, rests_of, rests_later}
+use Rattle.archive_store.proofs.PassLemmas.{passed_over, passed_resting}
+use Rattle.archive_store.proofs.FindLemmas.{no_reason_of}
 use Rattle.std.proofs.Common.{inl, inr}
 use Rattle.archive_tables.specs.Statements.{IsRefused}
 use Rattle.archive_database.specs.Taking.{taking_in}
@@ -29,7 +30,7 @@ returns-then-not-branch-clause-step g c =
     let list = c.args.list.now in
     let one = asks g.S.Store c.args.store.now.conn c.args.store.now.conn c.has_list.new.self.conn (λ _. ⊤) (λ a. false ≡ has_list a list)
     (begins g.S.Store c.args.store.now.conn) c.has_list.ensures.ends.lasts.returned
-    (λ clean kept. let has = c.in_ok-has_list.ensures.answer clean kept in (sym c.if-not-branch.true ∙ has.2, has.0)) in
+    (λ clean kept. let has = c.in_ok-has_list.ensures.answer clean kept in (sym c.if-not-branch.true ∙ has.2, (has.0.0, c.in_ok-has_list.ensures.same clean))) in
     answers g.S.Store c.args.store.now.conn c.has_list.new.self.conn _ (λ a. added_within c.args.limit a list c.args.item.now) (refused no_list) one (λ a p. rw (sym p.1) refl)
 
 pub returns-then-is_too_large-clause-step : goal.returns-then-is_too_large-clause-step
@@ -37,7 +38,7 @@ returns-then-is_too_large-clause-step g c =
     let list = c.args.list.now in
     let one = asks g.S.Store c.args.store.now.conn c.args.store.now.conn c.has_list.new.self.conn (λ _. ⊤) (λ a. true ≡ has_list a list)
     (begins g.S.Store c.args.store.now.conn) c.has_list.ensures.ends.lasts.returned
-    (λ clean kept. let has = c.in_ok-has_list.ensures.answer clean kept in (sym c.if-not-branch.false ∙ has.2, has.0)) in
+    (λ clean kept. let has = c.in_ok-has_list.ensures.answer clean kept in (sym c.if-not-branch.false ∙ has.2, (has.0.0, c.in_ok-has_list.ensures.same clean))) in
     answers g.S.Store c.args.store.now.conn c.has_list.new.self.conn _ (λ a. added_within c.args.limit a list c.args.item.now) (refused too_large) one (λ a p. rw (sym p.1, sym c.if-is_too_large.ensures) refl)
 
 pub returns-then-branch-clause-step : goal.returns-then-branch-clause-step
@@ -46,7 +47,7 @@ returns-then-branch-clause-step g c =
     let k = c.as_str.result.now in
     let one = asks g.S.Store c.args.store.now.conn c.args.store.now.conn c.has_list.new.self.conn (λ _. ⊤) (λ a. true ≡ has_list a list)
     (begins g.S.Store c.args.store.now.conn) c.has_list.ensures.ends.lasts.returned
-    (λ clean kept. let has = c.in_ok-has_list.ensures.answer clean kept in (sym c.if-not-branch.false ∙ has.2, has.0)) in
+    (λ clean kept. let has = c.in_ok-has_list.ensures.answer clean kept in (sym c.if-not-branch.false ∙ has.2, (has.0.0, c.in_ok-has_list.ensures.same clean))) in
     let two = asks g.S.Store c.args.store.now.conn c.has_list.new.self.conn c.has_message-known.new.conn (λ a. ⊤ × (true ≡ has_list a list)) (λ a. true ≡ list_any (is_message list k) a.messages)
     one c.has_message-known.ensures.ends.lasts.returned
     (λ clean kept. let it = passed_over (outside c.has_message-known.ensures) c.in_ok-pass.ensures.passed clean kept in (sym c.if-branch.true ∙ it.0, it.1)) in
@@ -59,7 +60,7 @@ returns-then-branch-2-clause-step g c =
     let k = c.as_str.result.now in
     let one = asks g.S.Store c.args.store.now.conn c.args.store.now.conn c.has_list.new.self.conn (λ _. ⊤) (λ a. true ≡ has_list a list)
     (begins g.S.Store c.args.store.now.conn) c.has_list.ensures.ends.lasts.returned
-    (λ clean kept. let has = c.in_ok-has_list.ensures.answer clean kept in (sym c.if-not-branch.false ∙ has.2, has.0)) in
+    (λ clean kept. let has = c.in_ok-has_list.ensures.answer clean kept in (sym c.if-not-branch.false ∙ has.2, (has.0.0, c.in_ok-has_list.ensures.same clean))) in
     let two = asks g.S.Store c.args.store.now.conn c.has_list.new.self.conn c.has_message-known.new.conn (λ a. ⊤ × (true ≡ has_list a list)) (λ a. false ≡ list_any (is_message list k) a.messages)
     one c.has_message-known.ensures.ends.lasts.returned
     (λ clean kept. let it = passed_over (outside c.has_message-known.ensures) c.in_ok-pass.ensures.passed clean kept in (sym c.if-branch.false ∙ it.0, it.1)) in
@@ -76,7 +77,7 @@ returns-clause-step g c =
     let key = c.of-key.result in
     let one = asks g.S.Store c.args.store.now.conn c.args.store.now.conn c.has_list.new.self.conn (λ _. ⊤) (λ a. true ≡ has_list a list)
     (begins g.S.Store c.args.store.now.conn) c.has_list.ensures.ends.lasts.returned
-    (λ clean kept. let has = c.in_ok-has_list.ensures.answer clean kept in (sym c.if-not-branch.false ∙ has.2, has.0)) in
+    (λ clean kept. let has = c.in_ok-has_list.ensures.answer clean kept in (sym c.if-not-branch.false ∙ has.2, (has.0.0, c.in_ok-has_list.ensures.same clean))) in
     let two = asks g.S.Store c.args.store.now.conn c.has_list.new.self.conn c.has_message-known.new.conn (λ a. ⊤ × (true ≡ has_list a list)) (λ a. false ≡ list_any (is_message list k) a.messages)
     one c.has_message-known.ensures.ends.lasts.returned
     (λ clean kept. let it = passed_over (outside c.has_message-known.ensures) c.in_ok-pass.ensures.passed clean kept in (sym c.if-branch.false ∙ it.0, it.1)) in
@@ -99,7 +100,7 @@ returns-clause-crash g c =
     let one : Looks g.S.Store c.args.store.now.conn c.has_list.new.self.conn (λ a. ⊤ × (true ≡ has_list a list)) = record {
       learnt = asks g.S.Store c.args.store.now.conn c.args.store.now.conn c.has_list.new.self.conn (λ _. ⊤) (λ a. true ≡ has_list a list)
           (begins g.S.Store c.args.store.now.conn) c.has_list.ensures.ends.lasts.returned
-          (λ clean kept. let has = c.in_ok-has_list.ensures.answer clean kept in (sym c.if-not-branch.false ∙ has.2, has.0));
+          (λ clean kept. let has = c.in_ok-has_list.ensures.answer clean kept in (sym c.if-not-branch.false ∙ has.2, (has.0.0, c.in_ok-has_list.ensures.same clean)));
       quiet = c.has_list.ensures.quiet;
     } in
     let two = looks_on g.S.Store c.args.store.now.conn c.has_list.new.self.conn c.has_message-known.new.conn (λ a. ⊤ × (true ≡ has_list a list)) (λ a. false ≡ list_any (is_message list k) a.messages)
@@ -119,7 +120,7 @@ returns-in_err-pass_fault-clause-crash g c =
     let one : Looks g.S.Store c.args.store.now.conn c.has_list.new.self.conn (λ a. ⊤ × (true ≡ has_list a list)) = record {
       learnt = asks g.S.Store c.args.store.now.conn c.args.store.now.conn c.has_list.new.self.conn (λ _. ⊤) (λ a. true ≡ has_list a list)
           (begins g.S.Store c.args.store.now.conn) c.has_list.ensures.ends.lasts.returned
-          (λ clean kept. let has = c.in_ok-has_list.ensures.answer clean kept in (sym c.if-not-branch.false ∙ has.2, has.0));
+          (λ clean kept. let has = c.in_ok-has_list.ensures.answer clean kept in (sym c.if-not-branch.false ∙ has.2, (has.0.0, c.in_ok-has_list.ensures.same clean)));
       quiet = c.has_list.ensures.quiet;
     } in
     let two = looks_on g.S.Store c.args.store.now.conn c.has_list.new.self.conn c.has_message-known.new.conn (λ a. ⊤ × (true ≡ has_list a list)) (λ a. false ≡ list_any (is_message list k) a.messages)
@@ -166,18 +167,18 @@ returns-in_err-has_list-clause-step g c =
     let none = no_reason_of c.in_err-has_list.field-0.0 c.in_err-has_list.ensures.ends.kind in
     λ clean kept.
     fails_to_add (state g.S.Store c.args.store.now.conn) (state g.S.Store c.has_list.new.self.conn) (λ a. added_within c.args.limit a list c.args.item.now) c.from_residual.result _ c.from_residual.ensures.1 (λ told is. ap refusal is ∙ none)
-    (rests_of c.in_err-has_list.field-0.0 _ none (c.in_err-has_list.ensures.answer clean kept))
+    (c.in_err-has_list.ensures.same clean kept)
 
 pub returns-in_err-pass-clause-step : goal.returns-in_err-pass-clause-step
 returns-in_err-pass-clause-step g c =
     let list = c.args.list.now in
     let one = asks g.S.Store c.args.store.now.conn c.args.store.now.conn c.has_list.new.self.conn (λ _. ⊤) (λ a. true ≡ has_list a list)
     (begins g.S.Store c.args.store.now.conn) c.has_list.ensures.ends.lasts.returned
-    (λ clean kept. let has = c.in_ok-has_list.ensures.answer clean kept in (sym c.if-not-branch.false ∙ has.2, has.0)) in
+    (λ clean kept. let has = c.in_ok-has_list.ensures.answer clean kept in (sym c.if-not-branch.false ∙ has.2, (has.0.0, c.in_ok-has_list.ensures.same clean))) in
     λ clean kept.
     let it = one (c.has_message-known.ensures.ends.lasts.returned clean) kept in
     fails_to_add (state g.S.Store c.args.store.now.conn) (state g.S.Store c.has_message-known.new.conn) (λ a. added_within c.args.limit a list c.args.item.now) c.from_residual-in_err-pass.result _ c.from_residual-in_err-pass.ensures.1 (λ told is. ap refusal is ∙ c.in_err-pass.ensures.kind)
-    (rests_later (state g.S.Store c.args.store.now.conn) (state g.S.Store c.has_list.new.self.conn) (state g.S.Store c.has_message-known.new.conn) it.same (passed_unanswered _ _ (outside c.has_message-known.ensures) c.in_err-pass.ensures.passed clean it.kept))
+    (rests_behind None (state g.S.Store c.args.store.now.conn) (state g.S.Store c.has_list.new.self.conn) (state g.S.Store c.has_message-known.new.conn) it.same (passed_resting _ _ (outside c.has_message-known.ensures) c.in_err-pass.ensures.passed clean it.kept))
 
 pub returns-in_err-pass-2-clause-step : goal.returns-in_err-pass-2-clause-step
 returns-in_err-pass-2-clause-step g c =
@@ -185,7 +186,7 @@ returns-in_err-pass-2-clause-step g c =
     let k = c.as_str.result.now in
     let one = asks g.S.Store c.args.store.now.conn c.args.store.now.conn c.has_list.new.self.conn (λ _. ⊤) (λ a. true ≡ has_list a list)
     (begins g.S.Store c.args.store.now.conn) c.has_list.ensures.ends.lasts.returned
-    (λ clean kept. let has = c.in_ok-has_list.ensures.answer clean kept in (sym c.if-not-branch.false ∙ has.2, has.0)) in
+    (λ clean kept. let has = c.in_ok-has_list.ensures.answer clean kept in (sym c.if-not-branch.false ∙ has.2, (has.0.0, c.in_ok-has_list.ensures.same clean))) in
     let two = asks g.S.Store c.args.store.now.conn c.has_list.new.self.conn c.has_message-known.new.conn (λ a. ⊤ × (true ≡ has_list a list)) (λ a. false ≡ list_any (is_message list k) a.messages)
     one c.has_message-known.ensures.ends.lasts.returned
     (λ clean kept. let it = passed_over (outside c.has_message-known.ensures) c.in_ok-pass.ensures.passed clean kept in (sym c.if-branch.false ∙ it.0, it.1)) in
@@ -194,7 +195,7 @@ returns-in_err-pass-2-clause-step g c =
     let error = err_from_is_err_and c.is_full-full.result c.in_err-pass-2.ensures.passed in
     let rest = rw error.1 at (c.is_full-full.ensures.over clean None it.kept) in
     fails_to_add (state g.S.Store c.args.store.now.conn) (state g.S.Store c.is_full-full.new.conn) (λ a. added_within c.args.limit a list c.args.item.now) c.from_residual-in_err-pass-2.result _ c.from_residual-in_err-pass-2.ensures.1 (λ told is. ap refusal is ∙ c.in_err-pass-2.ensures.kind)
-    (rests_later (state g.S.Store c.args.store.now.conn) (state g.S.Store c.has_message-known.new.conn) (state g.S.Store c.is_full-full.new.conn) it.same (rest))
+    (rests_behind None (state g.S.Store c.args.store.now.conn) (state g.S.Store c.has_message-known.new.conn) (state g.S.Store c.is_full-full.new.conn) it.same (rest))
 
 pub returns-in_err-pass_fault-clause-step : goal.returns-in_err-pass_fault-clause-step
 returns-in_err-pass_fault-clause-step g c =
@@ -202,7 +203,7 @@ returns-in_err-pass_fault-clause-step g c =
     let k = c.as_str.result.now in
     let one = asks g.S.Store c.args.store.now.conn c.args.store.now.conn c.has_list.new.self.conn (λ _. ⊤) (λ a. true ≡ has_list a list)
     (begins g.S.Store c.args.store.now.conn) c.has_list.ensures.ends.lasts.returned
-    (λ clean kept. let has = c.in_ok-has_list.ensures.answer clean kept in (sym c.if-not-branch.false ∙ has.2, has.0)) in
+    (λ clean kept. let has = c.in_ok-has_list.ensures.answer clean kept in (sym c.if-not-branch.false ∙ has.2, (has.0.0, c.in_ok-has_list.ensures.same clean))) in
     let two = asks g.S.Store c.args.store.now.conn c.has_list.new.self.conn c.has_message-known.new.conn (λ a. ⊤ × (true ≡ has_list a list)) (λ a. false ≡ list_any (is_message list k) a.messages)
     one c.has_message-known.ensures.ends.lasts.returned
     (λ clean kept. let it = passed_over (outside c.has_message-known.ensures) c.in_ok-pass.ensures.passed clean kept in (sym c.if-branch.false ∙ it.0, it.1)) in
@@ -214,7 +215,7 @@ returns-in_err-pass_fault-clause-step g c =
     let error = err_from_is_err_and c.take_in-taken.result c.in_err-pass_fault.ensures.passed in
     let rest = rw error.1 at (c.take_in-taken.ensures.taken clean None it.kept) in
     fails_to_add (state g.S.Store c.args.store.now.conn) (state g.S.Store c.take_in-taken.new.conn) (λ a. added_within c.args.limit a list c.args.item.now) c.from_residual-in_err-pass_fault.result _ c.from_residual-in_err-pass_fault.ensures.1 (λ told is. ap refusal is ∙ c.in_err-pass_fault.ensures.kind)
-    (rests_later (state g.S.Store c.args.store.now.conn) (state g.S.Store c.is_full-full.new.conn) (state g.S.Store c.take_in-taken.new.conn) it.same (rest))
+    (rests_behind None (state g.S.Store c.args.store.now.conn) (state g.S.Store c.is_full-full.new.conn) (state g.S.Store c.take_in-taken.new.conn) it.same (rest))
 
 -- ---- how it ends
 
@@ -292,7 +293,7 @@ returns-in_err-pass_fault-clause-ends g c =
     let one : Looks g.S.Store c.args.store.now.conn c.has_list.new.self.conn (λ a. ⊤ × (true ≡ has_list a list)) = record {
       learnt = asks g.S.Store c.args.store.now.conn c.args.store.now.conn c.has_list.new.self.conn (λ _. ⊤) (λ a. true ≡ has_list a list)
           (begins g.S.Store c.args.store.now.conn) c.has_list.ensures.ends.lasts.returned
-          (λ clean kept. let has = c.in_ok-has_list.ensures.answer clean kept in (sym c.if-not-branch.false ∙ has.2, has.0));
+          (λ clean kept. let has = c.in_ok-has_list.ensures.answer clean kept in (sym c.if-not-branch.false ∙ has.2, (has.0.0, c.in_ok-has_list.ensures.same clean)));
       quiet = c.has_list.ensures.quiet;
     } in
     let two = looks_on g.S.Store c.args.store.now.conn c.has_list.new.self.conn c.has_message-known.new.conn (λ a. ⊤ × (true ≡ has_list a list)) (λ a. false ≡ list_any (is_message list k) a.messages)

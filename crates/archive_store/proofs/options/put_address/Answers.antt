@@ -15,6 +15,7 @@ use Rattle.archive_store.proofs.CrashLemmas.{looks, looks_on, steps_by}
 use Rattle.archive_store.proofs.AskLemmas.{unanswered}
 use Rattle.archive_tables.specs.Calls.{IsCaused}
 use Rattle.archive_tables.proofs.CauseLemmas.{carried}
+use Rattle.archive_tables.proofs.EndLemmas.{archive_stays}
 use Rattle.archive_store.specs.Refusals.{IsAddressRefused}
 use Rattle.archive_store.proofs.EndLemmas.{stood, asked, learnt, write_caused, change_address_refused, add_address_refused}
 use Rattle.archive_store.proofs.options.put_address.Goals as goal
@@ -29,7 +30,7 @@ returns-then-had-clause-put g c = λ clean kept.
     let had : true ≡ list_any (is_address_of x.person) (archive_of old).addresses = sym c.if-had.true ∙ asked.0 in
     puts c.change_address.result old (state g.S.Store c.has_address.new.conn) (state g.S.Store c.change_address.new.conn)
     (λ a. record a { addresses = map (readdressed x) a.addresses }) (λ a. record a { addresses = with_address a x }) stays
-    (ap (λ (a : Archive). record a { addresses = map (readdressed x) a.addresses }) stays.1 ∙ ap (λ l. record (archive_of old) { addresses = l }) (put_again (archive_of old) x had))
+    (ap (λ (a : Archive). record a { addresses = map (readdressed x) a.addresses }) (archive_stays stays.1) ∙ ap (λ l. record (archive_of old) { addresses = l }) (put_again (archive_of old) x had))
     (c.change_address.ensures.over clean None stays.0)
 
 pub returns-clause-put : goal.returns-clause-put
@@ -42,7 +43,7 @@ returns-clause-put g c = λ clean kept.
     let had : false ≡ list_any (is_address_of x.person) (archive_of old).addresses = sym c.if-had.false ∙ asked.0 in
     puts c.add_address.result old (state g.S.Store c.has_address.new.conn) (state g.S.Store c.add_address.new.conn)
     (λ a. record a { addresses = a.addresses ++ x ∷ [] }) (λ a. record a { addresses = with_address a x }) stays
-    (ap (λ (a : Archive). record a { addresses = a.addresses ++ x ∷ [] }) stays.1 ∙ ap (λ l. record (archive_of old) { addresses = l }) (put_first (archive_of old) x had))
+    (ap (λ (a : Archive). record a { addresses = a.addresses ++ x ∷ [] }) (archive_stays stays.1) ∙ ap (λ l. record (archive_of old) { addresses = l }) (put_first (archive_of old) x had))
     (c.add_address.ensures.over clean None stays.0)
 
 -- ---- what a stop leaves

@@ -1,4 +1,4 @@
-use Rattle.std.proofs.Common.{rules, arith, refl, sym, subst, ◌∙◌, [], None}
+use Rattle.std.proofs.Common.{rules, arith, refl, sym, ◌∙◌, None}
 use Rattle.sqlite.specs.Held.{state}
 use Rattle.archive_tables.specs.Tables.{archive_of}
 use Rattle.archive_store.specs.Replies.{refusal}
@@ -9,16 +9,14 @@ use Rattle.std.proofs.Common.{inl, inr, take}
 use Rattle.archive_machine.specs.Runs.{taken}
 use Rattle.archive_store.proofs.RunLemmas.{run_nothing}
 use Rattle.archive_store.proofs.CrashLemmas.{asked_safe, stays_safe}
-use Rattle.archive_store.specs.Refusals.{MakeRows}
 use Rattle.archive_store.proofs.CauseLemmas.{more_since}
-use Rattle.archive_store.proofs.StopLemmas.{no_rows}
 use Rattle.archive_store.proofs.store.Store.add_all.Goals as goal
 
 pub returns-in-Err-clause-step : goal.returns-in-Err-clause-step
 returns-in-Err-clause-step g c = λ clean kept.
     let first = state g.S.Store c.args.self.now.conn in
     let now = state g.S.Store c.count.new.self.conn in
-    none_added (refusal c.in-Err.fault) first now c.args.list.now c.args.items.now (not_counted first first now c.args.list.now (refusal c.in-Err.fault) refl (c.in-Err.ensures.answer clean kept))
+    none_added (refusal c.in-Err.fault) first now c.args.list.now c.args.items.now (not_counted first first now c.args.list.now (refusal c.in-Err.fault) refl (c.in-Err.ensures.same clean kept) (c.in-Err.ensures.answer clean kept))
 
 pub loop-done-init : goal.loop-done-init
 loop-done-init g c = (
@@ -30,15 +28,13 @@ loop-done-init g c = (
       let now = state g.S.Store c.count.new.self.conn in
       let counted = c.in-Ok.ensures.answer clean kept in
       first_taken None now (archive_of first) c.args.list.now c.args.items.now c.in-Ok.count counted.0.0 counted.0.1
-      (counted_at first now now c.args.list.now counted.0.1 c.in-Ok.count (is_listed c.args.list.now (archive_of first) counted.1) (sym counted.2))),
+      (counted_at first now now c.args.list.now (c.in-Ok.ensures.same clean) c.in-Ok.count (is_listed c.args.list.now (archive_of first) counted.1) (sym counted.2))),
   c.count.ensures.ends.lasts,
   c.in-Ok.ensures.ends.was_open,
   c.in-Ok.ensures.ends.counted.0,
   (λ clean kept safe.
       let counted = c.in-Ok.ensures.answer clean kept in
       asked_safe g.S.Store c.args.self.now.conn c.count.new.self.conn c.count.ensures.quiet counted.0.1 clean safe),
-  (λ clean kept free.
-      subst (MakeRows c.args.list.now [] (state g.S.Store c.args.self.now.conn).now) (sym (c.in-Ok.ensures.same clean)) (no_rows c.args.list.now (state g.S.Store c.args.self.now.conn).now)),
 )
 
 pub loop-done-preserved : goal.loop-done-preserved
@@ -59,10 +55,6 @@ loop-done-preserved g c = (
       let step = c.in-Ok-add_batch.ensures.step clean first so_far in
       stays_safe g.S.Store c.loop-done.self.conn c.add_batch.new.store.conn (λ db up may. g.met.S.Store.settled c.add_batch.new.store.conn.store db up may) step.0.held _ (λ db it. ((taken first c.args.list.now (take it.0 c.args.items.now)).archive, it.2))
       (c.add_batch.ensures.crash first so_far) clean (c.loop-done.invariant.7 was kept safe)),
-  (λ clean kept free.
-      let was = c.add_batch.ensures.ends.lasts.returned clean in
-      let so_far = c.loop-done.invariant.3 was kept in
-      c.in-Ok-add_batch.ensures.ends.rows clean (c.loop-done.invariant.4.limit ∙ free) (archive_of (state g.S.Store c.args.self.now.conn)) so_far (state g.S.Store c.args.self.now.conn).now (c.loop-done.invariant.8 was kept free)),
 )
 
 pub returns-in-Err-clause-ends : goal.returns-in-Err-clause-ends
@@ -93,7 +85,7 @@ returns-in-Err-add_batch-clause-ends g c = record {
       let was = c.add_batch.ensures.ends.lasts.returned clean in
       let so_far = c.loop-done.invariant.3 was kept in
       let first = state g.S.Store c.args.self.now.conn in
-      elim (c.in-Err-add_batch.ensures.ends.rows clean (c.loop-done.invariant.4.limit ∙ free) (archive_of first) so_far first.now (c.loop-done.invariant.8 was kept free) it) [
+      elim (c.in-Err-add_batch.ensures.ends.caused clean (c.loop-done.invariant.4.limit ∙ free) (archive_of first) so_far it) [
         | inl more ↦ inl (more_since first (state g.S.Store c.loop-done.self.conn) (state g.S.Store c.add_batch.new.store.conn) c.loop-done.invariant.4 more)
         | inr stops ↦ inr stops
       ];

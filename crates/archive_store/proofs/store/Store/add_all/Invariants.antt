@@ -7,7 +7,6 @@ use Rattle.archive_store.specs.Batches.{HasTaken, told_in}
 use Rattle.archive_tables.specs.Calls.{Lasts}
 use Rattle.archive_tables.specs.Crashes.{IsSafe}
 use Rattle.archive_store.specs.Held.{wants_of}
-use Rattle.archive_store.specs.Refusals.{MakeRows}
 use Rattle.archive_store.proofs.store.Store.add_all.Given as goal
 
 abbrev pub invariant-loop-done : goal.invariant-loop-done
@@ -18,7 +17,6 @@ invariant-loop-done g l =
     × (HasCleanDisk now → IsKept first → HasTaken None now (archive_of first) l.list (take l.done l.items) l.count l.report) × Lasts first now
     × (HasCleanDisk now → IsTrue first.is_open) × (wants_of l.fn.self ≤ wants_of l.self)
     × (HasCleanDisk now → IsKept first → IsSafe first → IsSafe now)
-    × (HasCleanDisk now → IsKept first → first.step_limit ≡ None → MakeRows l.list (take l.done l.items) first.now now.now)
 
 abbrev pub decreases-loop-done : goal.decreases-loop-done
 decreases-loop-done g l = length l.items - l.done

@@ -6,7 +6,7 @@ use Rattle.archive_tables.specs.Tables.{archive_in}
 use Rattle.archive_store.specs.Batches.{IsCounted}
 use Rattle.archive_store.specs.Replies.{refusal}
 use Rattle.archive_store.proofs.BatchLemmas.{counted_at, steps_counted, rests_counted, fails_to_add}
-use Rattle.archive_store.proofs.PassLemmas.{passed_answer, passed_over, passed_unanswered}
+use Rattle.archive_store.proofs.PassLemmas.{passed_answer, passed_over, passed_resting}
 use Rattle.std.proofs.Common.{true, inl, ◌∷◌, [], refl, inr}
 use Rattle.std.specs.Prelude.{⊤}
 use Rattle.archive_machine.specs.Questions.{has_list}
@@ -74,8 +74,11 @@ returns-in_err-add_counted-clause-step g c = λ clean kept n.
 
 pub returns-in_err-pass-clause-step : goal.returns-in_err-pass-clause-step
 returns-in_err-pass-clause-step g c = λ clean kept n.
-    let rest = passed_unanswered _ _ c.has_list-listed.ensures c.in_err-pass.ensures.passed clean kept in
-    search rules
+    let old = state g.S.Store c.args.self.now.conn in
+    let new = state g.S.Store c.has_list-listed.new.conn in
+    let rest = passed_resting _ _ c.has_list-listed.ensures c.in_err-pass.ensures.passed clean kept in
+    let rests = rests_counted old old new c.args.list.now refl c.args.count.now c.args.count.now refl n rest in
+    (fails_to_add old new (λ a. added_within message_limit a c.args.list.now c.args.item.now) c.from_residual.result _ c.from_residual.ensures.1 (λ fault it. ap refusal it ∙ c.in_err-pass.ensures.kind) rests.0, rests.1)
 
 pub returns-then-not-branch-clause-step : goal.returns-then-not-branch-clause-step
 returns-then-not-branch-clause-step g c = λ clean kept n.

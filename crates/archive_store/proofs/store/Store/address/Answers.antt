@@ -12,15 +12,16 @@ use Rattle.archive_store.proofs.WantLemmas.{raises_after}
 use Rattle.archive_store.proofs.ReadingLemmas.{is_person}
 use Rattle.archive_store.proofs.CauseLemmas.{by_error, by_address}
 use Rattle.archive_store.proofs.PassLemmas.{passed_answer, passed_over, passed_unanswered, blamed_on, answer_last, open_last, kind_last, blamed_last}
+use Rattle.archive_tables.proofs.EndLemmas.{archive_stays}
 use Rattle.archive_store.proofs.store.Store.address.Goals as goal
 
 pub returns-clause-answer : goal.returns-clause-answer
 returns-clause-answer g c = λ clean kept.
     let person = c.args.person.now in
     let found = c.find_address-found.ensures in
-    let has = passed_over c.has_person-known.ensures c.in_ok-pass.ensures.passed (found.ends.lasts.returned clean) kept in
+    let has = passed_answer c.has_person-known.ensures c.in_ok-pass.ensures.passed (found.ends.lasts.returned clean) kept in
     answer_last g.S.Store c.args.self.now.conn c.has_person-known.new.conn c.find_address-found.new.conn c.find_address-found.result
-    (λ a found. option_map string_bytes found ≡ address_of a person) (λ a. person_refusal a person) c.pass-2.result c.pass-2.ensures.passed c.pass-2.ensures.kind found clean has.1
+    (λ a found. option_map string_bytes found ≡ address_of a person) (λ a. person_refusal a person) c.pass-2.result c.pass-2.ensures.passed c.pass-2.ensures.kind found clean (has.1, has.2)
     (is_person person (archive_of (state g.S.Store c.args.self.now.conn)) (sym c.if-not-branch.false ∙ has.0))
 
 pub returns-clause-ends : goal.returns-clause-ends
@@ -40,7 +41,7 @@ returns-clause-ends g c = record {
       let has = passed_over c.has_person-known.ensures c.in_ok-pass.ensures.passed (found.ends.lasts.returned clean) kept in
       blamed_last c.find_address-found.result c.pass-2.result _ _ c.pass-2.ensures.passed (found.caused clean has.1.0 (lasts.limit ∙ free))
       (λ e why it.
-      let here = subst (λ (a : Archive). IsCaused mid new e ⊎ IsSomeAnd (find (is_address_of person) a.addresses) (λ x. ¬ IsUtf8 x.address)) has.1.1 why in
+      let here = subst (λ (a : Archive). IsCaused mid new e ⊎ IsSomeAnd (find (is_address_of person) a.addresses) (λ x. ¬ IsUtf8 x.address)) (archive_stays has.1.1) why in
       by_address old mid new e (find (is_address_of person) (archive_of old).addresses) lasts here it);
 }
 

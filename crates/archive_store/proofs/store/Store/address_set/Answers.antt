@@ -1,10 +1,11 @@
-use Rattle.std.proofs.Common.{◌≡◌, true, sym, ◌∙◌, rules, refl, inl, inr, ◌∷◌, []}
+use Rattle.std.proofs.Common.{◌≡◌, true, None, sym, ◌∙◌, rules, refl, inl, inr, ◌∷◌, []}
 use Rattle.std.specs.Prelude.{⊤}
 use Rattle.archive_machine.specs.Commands.{done, bad_text, refused}
 use Rattle.archive_machine.specs.Questions.{has_person}
 use Rattle.archive_machine.specs.Machine.{address_given, with_address}
 use Rattle.sqlite.specs.Held.{state}
 use Rattle.archive_tables.specs.Calls.{Rests}
+use Rattle.archive_tables.proofs.EndLemmas.{rests_behind}
 use Rattle.archive_store.proofs.StepLemmas.{begins, asks, answers, writes}
 use Rattle.archive_store.proofs.StepEquations.{address_bad_text, address_done}
 use Rattle.std.proofs.Common.{inl}
@@ -100,9 +101,10 @@ returns-in-Err-clause-step g c = λ clean kept.
 pub returns-in_err-pass-2-clause-step : goal.returns-in_err-pass-2-clause-step
 returns-in_err-pass-2-clause-step g c = λ clean kept.
     let clean_1 = c.put_address-put.ensures.lasts.returned clean in
-    let it_1 = passed_answer c.has_person-known.ensures c.in_ok-pass.ensures.passed clean_1 kept in
+    let it_1 = passed_over c.has_person-known.ensures c.in_ok-pass.ensures.passed clean_1 kept in
     let rest : Rests (state g.S.Store c.has_person-known.new.conn) (state g.S.Store c.put_address-put.new.conn) =
-    of_err c.put_address-put.result _ _ c.in_err-pass-2.ensures.passed (c.put_address-put.ensures.put clean it_1.1) in
+    of_err c.put_address-put.result _ _ c.in_err-pass-2.ensures.passed (c.put_address-put.ensures.put clean it_1.1.0) in
+    let whole = rests_behind None (state g.S.Store c.args.self.now.conn) (state g.S.Store c.has_person-known.new.conn) (state g.S.Store c.put_address-put.new.conn) it_1.1.1 rest in
     search rules
 
 -- ---- how it ends

@@ -56,7 +56,7 @@ returns-in-Err-clause-refused g c =
             let clean_1 = subst (λ h. HasCleanDisk (state g.S.Store h)) w.conn-is clean in
             let premise = c.has_nothing.ensures.0 w.if-has_nothing.true in
             let why = refused_by old (state g.S.Store w.make_tables-done.new.conn) _ c.in-Err.fault _ (sym w.done-is ∙ c.in-Err.is) (w.make_tables-done.ensures.ends.caused clean_1 (idle, premise) free) (is_database _ (search rules)) in
-            subst (λ h. MoreFaults old.faults (state g.S.Store h).faults ⊎ IsNotTaken old.now) (sym w.conn-is) (elim why [ inl more ↦ inl more | inr refused ↦ inr (inl (premise, refused)) ]);
+            subst (λ h. MoreFaults old.faults (state g.S.Store h).faults ⊎ IsNotTaken old.now) (sym w.conn-is) (elim why [ inl more ↦ inl more | inr refused ↦ absurd refused ]);
         fault = search rules;
         returned = search rules;
         crash = adopts_at g.S.Store c.args.connection w.make_tables-done.new.conn c.if-has_nothing.conn w.conn-is

@@ -3,14 +3,14 @@ use Rattle.sqlite.specs.Held.{state}
 use Rattle.archive_machine.specs.Commands.{no_list}
 use Rattle.archive_machine.specs.Questions.{list_refusal, messages_in}
 use Rattle.archive_tables.specs.Tables.{archive_of}
+use Rattle.archive_tables.proofs.RunLemmas.{on_fault}
 use Rattle.archive_store.specs.Wanting.{IsWant}
 use Rattle.archive_store.proofs.ReadingLemmas.{is_there}
 use Rattle.archive_store.proofs.CauseLemmas.{more_since}
 use Rattle.archive_store.proofs.WantLemmas.{raises_after}
 use Rattle.archive_store.proofs.PassLemmas.{answer_last}
 use Rattle.archive_store.proofs.FindLemmas.{ends_first, blames, blames_disk, no_reason_of, not_there, rests_of, stops}
-use Rattle.archive_store.proofs.EndLemmas.{passes_same}
-use Rattle.archive_store.proofs.StopLemmas.{same_since}
+use Rattle.archive_store.proofs.EndLemmas.{passes_same, rows_asked}
 use Rattle.archive_store.proofs.store.Store.count.Goals as goal
 
 pub returns-in_err-has_list-clause-answer : goal.returns-in_err-has_list-clause-answer
@@ -51,13 +51,18 @@ returns-clause-ends g c = record {
 
 -- ---- who is answered sees what was seen before
 
+pub returns-in_err-has_list-clause-same : goal.returns-in_err-has_list-clause-same
+returns-in_err-has_list-clause-same g c = λ clean. on_fault _ _ c.from_residual.result c.from_residual.ensures.1 (c.in_err-has_list.ensures.same clean)
+
+pub returns-then-not-branch-clause-same : goal.returns-then-not-branch-clause-same
+returns-then-not-branch-clause-same g c = λ clean kept up. ((c.in_ok-has_list.ensures.answer clean kept).0.0, c.in_ok-has_list.ensures.same clean)
+
 pub returns-clause-same : goal.returns-clause-same
 returns-clause-same g c = λ clean.
-    let old = state g.S.Store c.args.self.now.conn in
-    let mid = state g.S.Store c.has_list.new.self.conn in
-    let new = state g.S.Store c.count_messages-count.new.conn in
-    let before = c.in_ok-has_list.ensures.same (c.count_messages-count.ensures.ends.lasts.returned clean) in
-    passes_same (new.now ≡ old.now) c.count_messages-count.result c.pass.result c.pass.ensures.passed (same_since old mid new c.count_messages-count.result before (c.count_messages-count.ensures.same clean))
+    let was = c.count_messages-count.ensures.ends.lasts.returned clean in
+    passes_same _ _ c.count_messages-count.result c.pass.result c.pass.ensures.passed
+    (rows_asked (state g.S.Store c.args.self.now.conn) c.count_messages-count.result c.count_messages-count.ensures clean (c.in_ok-has_list.ensures.same was)
+    (λ kept. (c.in_ok-has_list.ensures.answer was kept).0.0))
 
 -- ---- a stop leaves nothing new
 

@@ -1,10 +1,9 @@
-use Rattle.std.proofs.Common.{rules}
+use Rattle.std.proofs.Common.{rules, refl}
 use Rattle.archive_tables.proofs.LastLemmas.{lasts_same}
 use Rattle.archive_store.proofs.PassLemmas.{open_last}
 use Rattle.archive_store.proofs.FindLemmas.{answers_passed, blames_disk, up_passed}
-use Rattle.std.specs.Prelude.{◌≡◌}
 use Rattle.sqlite.specs.Held.{state}
-use Rattle.archive_store.proofs.EndLemmas.{passes_same}
+use Rattle.archive_store.proofs.EndLemmas.{passes_same, rows_asked}
 use Rattle.archive_store.proofs.store.Store.has_list.Goals as goal
 
 pub returns-clause-answer : goal.returns-clause-answer
@@ -27,4 +26,5 @@ returns-clause-was_open g c =
 
 pub returns-clause-same : goal.returns-clause-same
 returns-clause-same g c = λ clean.
-    passes_same ((state g.S.Store c.has_list-listed.new.conn).now ≡ (state g.S.Store c.args.self.now.conn).now) c.has_list-listed.result c.pass.result c.pass.ensures.passed (c.has_list-listed.ensures.same clean)
+    passes_same _ _ c.has_list-listed.result c.pass.result c.pass.ensures.passed
+    (rows_asked (state g.S.Store c.args.self.now.conn) c.has_list-listed.result c.has_list-listed.ensures clean refl (λ kept. kept))

@@ -1,10 +1,11 @@
-use Rattle.std.proofs.Common.{◌≡◌, false, sym, ◌∙◌, rules, refl, inl, inr, ◌∷◌, []}
+use Rattle.std.proofs.Common.{◌≡◌, false, None, sym, ◌∙◌, rules, refl, inl, inr, ◌∷◌, []}
 use Rattle.std.specs.Prelude.{⊤}
 use Rattle.archive_machine.specs.Commands.{done}
 use Rattle.archive_machine.specs.Questions.{has_list}
 use Rattle.archive_machine.specs.Machine.{list_added}
 use Rattle.sqlite.specs.Held.{state}
 use Rattle.archive_tables.specs.Calls.{Rests}
+use Rattle.archive_tables.proofs.EndLemmas.{rests_behind}
 use Rattle.archive_database.specs.Lists.{with_list}
 use Rattle.archive_store.proofs.StepLemmas.{begins, asks, writes}
 use Rattle.archive_store.proofs.StepEquations.{list_done}
@@ -71,9 +72,10 @@ returns-then-branch-clause-step g c = λ clean kept.
 pub returns-in_err-pass_fault-clause-step : goal.returns-in_err-pass_fault-clause-step
 returns-in_err-pass_fault-clause-step g c = λ clean kept.
     let clean_1 = c.add_list-added.ensures.lasts.returned clean in
-    let it_1 = passed_answer c.has_list-listed.ensures c.in_ok-pass.ensures.passed clean_1 kept in
+    let it_1 = passed_over c.has_list-listed.ensures c.in_ok-pass.ensures.passed clean_1 kept in
     let rest : Rests (state g.S.Store c.has_list-listed.new.conn) (state g.S.Store c.add_list-added.new.conn) =
-    of_err c.add_list-added.result _ _ c.in_err-pass_fault.ensures.passed (c.add_list-added.ensures.added clean it_1.1) in
+    of_err c.add_list-added.result _ _ c.in_err-pass_fault.ensures.passed (c.add_list-added.ensures.added clean it_1.1.0) in
+    let whole = rests_behind None (state g.S.Store c.args.self.now.conn) (state g.S.Store c.has_list-listed.new.conn) (state g.S.Store c.add_list-added.new.conn) it_1.1.1 rest in
     search rules
 
 -- ---- how it ends

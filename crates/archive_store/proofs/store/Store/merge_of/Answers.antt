@@ -8,6 +8,7 @@ use Rattle.archive_store.proofs.StepLemmas.{begins, asks}
 use Rattle.archive_store.proofs.ReadingLemmas.{is_there, merge_is}
 use Rattle.archive_store.proofs.CauseLemmas.{by_error, by_later}
 use Rattle.archive_store.proofs.PassLemmas.{passed_answer, passed_over, passed_unanswered, blamed_on}
+use Rattle.archive_tables.proofs.EndLemmas.{archive_stays}
 use Rattle.archive_store.proofs.store.Store.merge_of.Goals as goal
 
 pub returns-clause-answer : goal.returns-clause-answer
@@ -23,7 +24,7 @@ returns-clause-answer g c =
     λ clean kept.
     let q = two clean kept in
     let a = archive_of (state g.S.Store c.args.self.now.conn) in
-    ((q.kept, q.same), is_there list a q.fact.0.1, c.or_merged.ensures ∙ merge_is found (find (is_option_of list) a.options) q.fact.1)
+    ((q.kept, archive_stays q.same), is_there list a q.fact.0.1, c.or_merged.ensures ∙ merge_is found (find (is_option_of list) a.options) q.fact.1)
 
 pub returns-in_err-pass-clause-ends : goal.returns-in_err-pass-clause-ends
 returns-in_err-pass-clause-ends g c = record {

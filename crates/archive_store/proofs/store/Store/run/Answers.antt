@@ -4,13 +4,19 @@ use Rattle.sqlite.specs.Held.{state}
 use Rattle.archive_machine.specs.Runs.{run}
 use Rattle.archive_tables.specs.Tables.{archive_of}
 use Rattle.archive_store.specs.Running.{command_of, answer_of, RanAll}
-use Rattle.archive_store.proofs.RunLemmas.{run_nothing, ran_none, ran_next, ran_stop, first_commands}
+use Rattle.archive_store.proofs.RunLemmas.{run_nothing, ran_none, ran_next, ran_stop, first_commands, stops_run}
 use Rattle.archive_store.proofs.CountLemmas.{count_after}
 use Rattle.archive_tables.proofs.LastLemmas.{lasts_then, lasts_same}
-use Rattle.std.proofs.Common.{inl, inr}
+use Rattle.std.proofs.Common.{◌⊎◌, inl, inr}
+use Rattle.sqlite_disk.specs.Disk.{MoreFaults}
+use Rattle.sqlite.specs.Effect.{Database}
+use Rattle.archive_store.specs.Refusals.{StopsRun}
+use Rattle.archive_store.proofs.CauseLemmas.{more_since}
+use Rattle.archive_store.proofs.StopLemmas.{left_or_failed}
 use Rattle.archive_machine.specs.Machine.{step}
 use Rattle.archive_store.proofs.RunLemmas.{next_archive}
 use Rattle.archive_store.proofs.CrashLemmas.{answered_safe}
+use Rattle.archive_store.specs.declared.faults.StoreFault.TheVariants as faults
 use Rattle.archive_store.proofs.store.Store.run.Goals as goal
 
 pub returns-in-Err-clause-step : goal.returns-in-Err-clause-step
@@ -91,6 +97,54 @@ pub returns-in-Err-push-clause-bound : goal.returns-in-Err-push-clause-bound
 returns-in-Err-push-clause-bound g c =
     let len : vec_len c.loop-command.outcomes ≡ length c.loop-command.outcomes.items = search rules in
     omega (arith, c.len-done.ensures, len, c.loop-command.invariant.0, c.loop-command-test.true)
+
+-- ---- how it ends
+
+pub returns-in-Err-clause-ends : goal.returns-in-Err-clause-ends
+returns-in-Err-clause-ends g c = record {
+  lasts = lasts_same _;
+  fault = search rules;
+  counted = search rules;
+  caused = λ clean kept free it. absurd (let bad : faults.Memory ≡ faults.Store = sym c.refuse-fault.ensures.fault ∙ it in cc);
+}
+
+pub returns-in-Err-push-clause-ends : goal.returns-in-Err-push-clause-ends
+returns-in-Err-push-clause-ends g c = record {
+  lasts = lasts_then _ _ _ c.loop-command.invariant.3 c.carry_out.ensures.ends.lasts;
+  fault = search rules;
+  counted = search rules;
+  caused = λ clean kept free it. absurd (let bad : faults.Memory ≡ faults.Store = sym c.refuse-fault-in-Err-push.ensures.fault ∙ it in cc);
+}
+
+pub returns-clause-ends : goal.returns-clause-ends
+returns-clause-ends g c = record {
+  lasts = c.loop-command.invariant.3;
+  fault = tt;
+  counted = (c.loop-command.invariant.4, tt);
+  caused = λ clean kept free. tt;
+}
+
+pub returns-in-Err-carry_out-clause-ends : goal.returns-in-Err-carry_out-clause-ends
+returns-in-Err-carry_out-clause-ends g c = record {
+  lasts = lasts_then _ _ _ c.loop-command.invariant.3 c.carry_out.ensures.ends.lasts;
+  fault = c.in-Err-carry_out.ensures.told;
+  counted = search rules;
+  caused = λ clean kept free it.
+      let first = state g.S.Store c.args.self.now.conn in
+      let mid = state g.S.Store c.loop-command.self.conn in
+      let new = state g.S.Store c.carry_out.new.self.conn in
+      let lasts = c.carry_out.ensures.ends.lasts in
+      let before = c.loop-command.invariant.2 (lasts.returned clean) kept in
+      let len : vec_len c.loop-command.outcomes ≡ length c.loop-command.outcomes.items = search rules in
+      let Stops : Database → Type 0 = StopsRun (map command_of c.args.commands.now) c.len.result in
+      let why : MoreFaults mid.faults new.faults ⊎ Stops new.now = elim (c.in-Err-carry_out.ensures.ends.caused before.1 clean before.0.0 (c.loop-command.invariant.3.limit ∙ free) it) [
+        | inl more ↦ inl more
+        | inr refused ↦ left_or_failed mid new Stops lasts clean before.0.0.is_open (λ up. (c.in-Err-carry_out.ensures.step clean before.0.0 before.1 up).1)
+            (stops_run c.args.commands.now c.len.result c.loop-command.command-index c.command-item.result mid.now (c.len.ensures ∙ len ∙ c.loop-command.invariant.0)
+            (omega (arith, c.loop-command-test.true)) c.command-item.is refused)
+      ] in
+      elim why [ inl more ↦ inl (more_since first mid new c.loop-command.invariant.3 more) | inr stop ↦ inr stop ];
+}
 
 -- ---- what a stop leaves
 
