@@ -83,7 +83,7 @@ module _ {S : Type 0} (g : Ghosts S) where
       (it.0, subst (λ n. HasAddedAtLeast list items n (archive_in g old) it.0) (sym same) (it.1.0, it.1.1, (it.1.2, it.1.3)), it.2)
 
   -- the list is there
-  abbrev IsThere : List ℕ → Archive → Archive → Type 0
+  abbrev pub IsThere : List ℕ → Archive → Archive → Type 0
   IsThere list a b = (b ≡ a) × (list_refusal a list ≡ None) × (has_list a list ≡ true)
 
   module _ (old mid new : Store S) (list text : List ℕ) (goes : GoesIn g (HoldsTables g) old mid (IsThere list)) (quiet : AddsNothing g (held_of old) (held_of mid))

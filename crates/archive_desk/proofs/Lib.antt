@@ -3,6 +3,7 @@ pub mod CrashLemmas
 pub mod WantLemmas
 pub mod CallLemmas
 pub mod ImportLemmas
+pub mod ImportEnds
 pub mod MarkLemmas
 pub mod AskLemmas
 pub mod EndLemmas

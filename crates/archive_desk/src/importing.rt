@@ -1,17 +1,19 @@
 //! Taking the messages of a file into a list.
-ghost use Rattle.std.specs.Prelude.{◌≡◌, ◌∷◌, [], true, IfOk, IfErr};
+ghost use Rattle.std.specs.Prelude.{◌≡◌, ◌∷◌, [], true, drop, IfOk, IfErr};
 ghost use Rattle.mbox_core.specs.Division.{Divides};
 ghost use Rattle.archive_machine.specs.Commands.{no_list};
 ghost use Rattle.archive_machine.specs.Questions.{has_list, list_refusal};
 ghost use Rattle.archive_tables.specs.Crashes.{AddsNothing};
 ghost use Rattle.archive_store.specs.Held.{held_of};
+ghost use Rattle.archive_store.specs.Refusals.{StopsAmong};
 ghost use Rattle.archive_store.specs.Replies.{refusal};
 ghost use Rattle.archive_store.specs.Batches.{tally_of as store_tally};
-ghost use Rattle.archive_store.specs.Told.{AsksIn, Counts as CountsWants, EndsAsk, HoldsTables, WasOpen};
+ghost use Rattle.archive_store.specs.Told.{AsksIn, EndsAsk, HoldsTables, WasOpen};
 ghost use Rattle.archive_desk.specs.Crashes.{CrashesHeld, HasAddedAtLeast, HasImportedAtLeast};
+ghost use Rattle.archive_desk.specs.Ending.{EndsImport};
 ghost use Rattle.archive_desk.specs.Holding.{CallsHeld};
 ghost use Rattle.archive_desk.specs.Importing.{HasAdded, IsBrokenAdd, IsBrokenImport, IsImportWant, IsUncut};
-ghost use Rattle.archive_desk.specs.Importing.{IsImported, IsRefusedAdd, IsRefusedImport, stop_reason, tally_of};
+ghost use Rattle.archive_desk.specs.Importing.{IsImported, IsRefusedAdd, IsRefusedImport, StopsImport, stop_reason, tally_of};
 ghost use Rattle.archive_desk.specs.declared.importing.ImportFault.TheVariants.{Store as Stored};
 
 use archive_store::{AddReport, AddStop, Store, StoreFault};
@@ -80,7 +82,8 @@ pub fn import<S: Alter>(
         (λ a b stop. IsBrokenImport list.now mbox.now a b stop.done stop.fault) }
     ensures crash { CrashesHeld S.Store store.old store.new result
         (λ a stop b. HasImportedAtLeast list.now mbox.now stop.done a b) }
-    ensures counted { CountsWants (λ stop. IsImportWant stop.fault) store.old store.new result }
+    ensures ends { EndsImport S.Store store.old store.new (HoldsTables S.Store) IsImportWant result
+        (λ _ done db. StopsImport list.now mbox.now done db) }
 {
     if let Err(fault) = find_list(store, list) {
         return Err(ImportStop {
@@ -154,7 +157,8 @@ fn add_items<S: Alter>(
         (λ a b stop. IsBrokenAdd list.now items.entry.now a b stop.done stop.fault) }
     ensures crash { CrashesHeld S.Store store.old store.new result
         (λ a stop b. HasAddedAtLeast list.now items.entry.now stop.done a b) }
-    ensures counted { CountsWants (λ stop. IsImportWant stop.fault) store.old store.new result }
+    ensures ends { EndsImport S.Store store.old store.new (HoldsTables S.Store) IsImportWant result
+        (λ _ done db. StopsAmong list.now (drop done items.entry.now) db) }
 {
     match store.add_all(alloc, list, items) {
         Ok(counts) => Ok(report_of(counts)),

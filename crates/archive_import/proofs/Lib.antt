@@ -3,4 +3,5 @@ pub mod StopLemmas
 pub mod ReadLemmas
 pub mod WantLemmas
 pub mod CrashLemmas
+pub mod EndLemmas
 pub mod RepeatLemmas

@@ -3,7 +3,6 @@ use Rattle.std.proofs.Common.{◌≡◌, ◌≤◌, ap, subst, inl, inr, ℕ, Er
 use Rattle.mbox_core.specs.declared.faults.MboxFault.{MboxFault}
 use Rattle.mbox_core.specs.declared.faults.MboxFault.TheVariants.{Memory as NoRoom, Read}
 use Rattle.archive_store.specs.Wanting.{IsWant, Raises}
-use Rattle.archive_store.specs.declared.batches.AddStop.{AddStop}
 use Rattle.archive_store.specs.declared.faults.StoreFault.{StoreFault}
 use Rattle.archive_desk.specs.declared.importing.ImportStop.{ImportStop}
 use Rattle.archive_desk.specs.declared.importing.ImportFault.TheVariants.{Mbox, Store as Stored}
@@ -30,8 +29,3 @@ unread_want it = absurd (let none : Read ≡ NoRoom = uncut_want Read it in cc)
 pub unread_unwanted : (A : Type 0) (a b done : ℕ) (stop : ImportStop) → a ≤ b → stop ≡ record { done = done; fault = Mbox Read }
     → Raises {A = A} IsStopWanting a b (Err stop)
 unread_unwanted A a b done stop grows is = (grows, (λ want. absurd (unread_want (subst IsWanting (ap (λ (s : ImportStop). s.fault) is) want))))
-
--- the store's own
-pub added_wants : (A B : Type 0) (a b done : ℕ) (told : AddStop) (stop : ImportStop) → stop ≡ record { done = done; fault = Stored told.fault }
-    → Raises {A = A} (λ (s : AddStop). IsWant s.fault) a b (Err told) → Raises {A = B} IsStopWanting a b (Err stop)
-added_wants A B a b done told stop is it = (it.0, (λ want. it.1 (store_want told.fault (subst IsWanting (ap (λ (s : ImportStop). s.fault) is) want))))

@@ -1,18 +1,20 @@
 //! Taking the messages of an mbox that is read piece by piece into a list.
-ghost use Rattle.std.specs.Prelude.{◌≡◌, ◌≢◌, ◌+◌, ◌++◌, ◌∷◌, [], ℕ, List, IfOk, IfErr, OnOk, Ok, Err};
+ghost use Rattle.std.specs.Prelude.{◌≡◌, ◌≢◌, ◌+◌, ◌++◌, ◌∷◌, [], ℕ, List, drop, IfOk, IfErr, OnOk, Ok, Err};
 ghost use Rattle.mbox_core.specs.Division.{Item as Message};
 ghost use Rattle.mbox_stream.specs.Cutter.{IsCutter};
+ghost use Rattle.archive_machine.specs.Commands.{list_full, no_list};
 ghost use Rattle.archive_machine.specs.Records.{Archive};
 ghost use Rattle.archive_store.specs.Batches.{AddsAll};
 ghost use Rattle.archive_store.specs.Crashes.{CrashAll};
 ghost use Rattle.archive_store.specs.Held.{held_of};
-ghost use Rattle.archive_store.specs.Told.{Calls, Counts, Lasts};
-ghost use Rattle.archive_store.specs.Wanting.{IsWant};
+ghost use Rattle.archive_store.specs.Refusals.{StopsAmong};
+ghost use Rattle.archive_store.specs.Replies.{done_in, with_fault};
+ghost use Rattle.archive_store.specs.Told.{Calls, EndsBehind};
 ghost use Rattle.archive_desk.specs.Crashes.{CrashesReady, HasAddedAtLeast};
 ghost use Rattle.archive_desk.specs.Importing.{IsBrokenAdd};
-ghost use Rattle.archive_import.specs.Streaming.{Imports, halt_reason, HasFailed, FailedBy, IsFresh, IsHalted, IsBroken, IsReadIn, HasReadAtLeast};
-ghost use Rattle.archive_import.specs.Streaming.{IsSettled, IsWanting, ReadsIn, TakesWaiting};
-ghost use Rattle.archive_import.specs.Intake.{IsUnderWay, IsHaltedAdd, IsUnread, IsOfStore, TellsWithin};
+ghost use Rattle.archive_import.specs.Streaming.{EndsReading, Imports, halt_reason, HasFailed, FailedBy, IsFresh, IsHalted, IsBroken, IsReadIn, HasReadAtLeast};
+ghost use Rattle.archive_import.specs.Streaming.{IsSettled, ReadsIn, StopsReading, TakesWaiting};
+ghost use Rattle.archive_import.specs.Intake.{IsUnderWay, IsHaltedAdd, IsUnread, IsOfStore, StopsAmid, StopsMore, StopsRead, TellsWithin};
 
 use crate::intake::Intake;
 use archive_desk::{ImportFault, ImportStop, Report, find_list};
@@ -47,7 +49,10 @@ pub fn import_from<S: Alter, R: Source>(
     ensures failures { (failed : ℕ) × (R.failures input.new ≡ R.failures input.old + failed)
         × HasFailed result failed }
     ensures end { OnOk result (R.ends input.new ≡ R.ends input.old + 1) }
-    ensures counted { Counts (λ stop. IsWanting stop.fault) store.old store.new result }
+    ensures ends { EndsReading S.Store store.old store.new result (λ _ done db.
+        (text : List ℕ) (ends : ℕ) → R.told input.new ≡ R.told input.old ++ text
+        → R.ends input.new ≡ R.ends input.old + ends
+        → StopsReading list.now text ends done db) }
 {
     if let Err(fault) = find_list(store, list) {
         return Err(ImportStop {
@@ -90,7 +95,8 @@ fn add_settled<S: Alter, R: Source>(
     ensures read { ReadsIn (R.told input.old) (R.told input.new) (R.ends input.old)
         (R.ends input.new)
         (R.failures input.old) (R.failures input.new) cutter.new result }
-    ensures counted { Counts (λ stop. IsWanting stop.fault) store.old store.new result }
+    ensures ends { EndsReading S.Store store.old store.new result
+        (StopsRead list.now cutter.new.stream 0 [] intake.old) }
 {
     for _ in 0..u64::MAX {
         match cutter.read_from(input) {
@@ -134,7 +140,8 @@ fn stop_unread<S: Alter>(
     ensures crash { CrashesReady S.Store store.old store.new result
         (λ b stop c. (a : Archive) (items : List Message) → IsUnderWay list.now a b items intake.old
         → HasAddedAtLeast list.now items stop.done a c) }
-    ensures counted { Counts (λ stop. IsWanting stop.fault) store.old store.new result }
+    ensures ends { EndsReading S.Store store.old store.new result
+        (StopsAmid list.now intake.old) }
 {
     match add_held(store, alloc, list, intake) {
         Ok(()) => Err(intake.stop(ImportFault::Mbox(MboxFault::Read))),
@@ -162,7 +169,8 @@ fn add_last<S: Alter>(
         (λ b stop c. (a : Archive) → IsUnderWay list.now a b cutter.old.taken intake.old
         → HasReadAtLeast list.now cutter.old.stream 1 stop.done a c) }
     ensures kind { IfErr result (λ stop. FailedBy stop.fault 0) }
-    ensures counted { Counts (λ stop. IsWanting stop.fault) store.old store.new result }
+    ensures ends { EndsReading S.Store store.old store.new result
+        (StopsRead list.now cutter.old.stream 1 cutter.old.taken intake.old) }
 {
     match cutter.finish() {
         Ok(()) => {}
@@ -194,7 +202,8 @@ fn add_waiting<S: Alter>(
         (λ b stop c. (a : Archive) (items : List Message) → IsUnderWay list.now a b items intake.old
         → HasAddedAtLeast list.now (items ++ cutter.old.waiting) stop.done a c) }
     ensures takes { TakesWaiting cutter.old cutter.new result }
-    ensures counted { Counts (λ stop. IsWanting stop.fault) store.old store.new result }
+    ensures ends { EndsReading S.Store store.old store.new result
+        (StopsMore list.now intake.old cutter.old.waiting) }
 {
     while let Some(item) = cutter.take() {
         match hold_one(store, alloc, list, item, intake) {
@@ -224,7 +233,8 @@ fn hold_one<S: Alter>(
         (λ b stop c. (a : Archive) (items : List Message) → IsUnderWay list.now a b items intake.old
         → HasAddedAtLeast list.now (items ++ item ∷ []) stop.done a c) }
     ensures kind { IfErr result (λ stop. FailedBy stop.fault 0) }
-    ensures counted { Counts (λ stop. IsWanting stop.fault) store.old store.new result }
+    ensures ends { EndsReading S.Store store.old store.new result
+        (StopsMore list.now intake.old (item ∷ [])) }
 {
     if intake.has_room(&item) {
         return intake.hold(&mut store.wants, item);
@@ -254,7 +264,8 @@ fn add_held<S: Alter>(
         → HasAddedAtLeast list.now items stop.done a c) }
     ensures kind { IfErr result (λ stop. IsOfStore stop.fault) }
     ensures none { OnOk result (intake.new.held ≡ []) }
-    ensures counted { Counts (λ stop. IsWanting stop.fault) store.old store.new result }
+    ensures ends { EndsReading S.Store store.old store.new result
+        (StopsAmid list.now intake.old) }
 {
     match intake.done_after() {
         Ok(_) => {}
@@ -284,8 +295,9 @@ fn add_owned<S: Alter>(
     ensures crash { CrashAll S.Store (held_of store.old) (held_of store.new)
         list.now items.now result }
     ensures tells { TellsWithin items.now result }
-    ensures lasts { Lasts S.Store store.old store.new }
-    ensures counted { Counts (λ stop. IsWant stop.fault) store.old store.new result }
+    ensures ends { EndsBehind S.Store store.old store.new (with_fault (λ stop. stop.fault) result)
+        (no_list ∷ list_full ∷ [])
+        (StopsAmong list.now (drop (done_in (λ stop. stop.done) result) items.now)) }
 {
     match lend_items(alloc, items) {
         Ok(lent) => store.add_all(alloc, list, &lent),

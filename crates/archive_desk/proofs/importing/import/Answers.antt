@@ -1,12 +1,14 @@
-use Rattle.std.proofs.Common.{◌≡◌, arith, refl, sym, subst}
-use Rattle.archive_store.specs.Held.{wants_of}
+use Rattle.std.proofs.Common.{[], ◌∷◌, arith, drop, inl, refl, sym, subst}
+use Rattle.archive_machine.specs.Commands.{no_list}
+use Rattle.archive_store.specs.Refusals.{StopsAmong}
+use Rattle.archive_store.specs.Told.{HasFailed, HoldsTables}
 use Rattle.archive_store.specs.declared.faults.StoreFault.TheVariants.{Memory}
-use Rattle.archive_store.proofs.WantLemmas.{raises_after}
-use Rattle.archive_desk.specs.Importing.{IsImportWant}
+use Rattle.archive_desk.specs.Importing.{IsImportWant, StopsImport}
 use Rattle.archive_desk.specs.declared.importing.ImportFault.TheVariants.{Mbox, Store as Stored}
-use Rattle.archive_desk.specs.declared.importing.ImportStop.{ImportStop}
+use Rattle.archive_desk.specs.declared.importing.Report.{Report}
 use Rattle.mbox_core.specs.Division.{Divides}
-use Rattle.archive_desk.proofs.CrashLemmas.{added_lasts, none_imported, some_imported}
+use Rattle.archive_desk.proofs.CrashLemmas.{IsThere, added_lasts, none_imported, some_imported}
+use Rattle.archive_desk.proofs.ImportEnds.{import_ends_after, import_stopped, import_unbroken, wanted_by}
 use Rattle.archive_desk.proofs.ImportLemmas.{import_after, list_not_found, no_room_to_cut, not_mbox}
 use Rattle.archive_desk.proofs.importing.import.Goals as goal
 
@@ -19,8 +21,11 @@ returns-in-Ok g c = record {
       c.deref.result.now (subst (λ items. Divides c.args.mbox.now items) (sym c.deref.ensures.value) c.in-Ok.ensures.divided)
       (added_lasts g.S.Store c.find_list.new.store c.add_items.new.store c.args.list.now c.deref.result.now c.add_items.result c.add_items.ensures.added)
       c.add_items.result c.add_items.ensures.crash;
-  counted = raises_after (λ (stop : ImportStop). IsImportWant stop.fault) (wants_of c.args.store.now) (wants_of c.find_list.new.store) (wants_of c.add_items.new.store) c.add_items.result
-      c.in_default.ensures.ends.counted.0 c.add_items.ensures.counted;
+  ends = import_ends_after g.S.Store (HoldsTables g.S.Store) IsImportWant c.args.store.now c.find_list.new.store c.add_items.new.store (IsThere g.S.Store c.args.list.now) c.in_default.ensures.found
+      (added_lasts g.S.Store c.find_list.new.store c.add_items.new.store c.args.list.now c.deref.result.now c.add_items.result c.add_items.ensures.added)
+      c.in_default.ensures.ends.counted.0 (λ a done db. StopsAmong c.args.list.now (drop done c.deref.result.now) db) (λ a done db. StopsImport c.args.list.now c.args.mbox.now done db)
+      (λ a b done db there stops. (c.deref.result.now, subst (λ items. Divides c.args.mbox.now items) (sym c.deref.ensures.value) c.in-Ok.ensures.divided, stops))
+      c.add_items.result c.add_items.ensures.ends;
 }
 
 pub returns-in-Err-Mbox-clause-imports : goal.returns-in-Err-Mbox-clause-imports
@@ -33,21 +38,27 @@ pub returns-in-Err-Mbox-clause-crash : goal.returns-in-Err-Mbox-clause-crash
 returns-in-Err-Mbox-clause-crash g c =
     none_imported g.S.Store c.args.store.now c.find_list.new.store c.args.list.now c.args.mbox.now (record { done = 0; fault = Mbox c.in-Err-Mbox.fault }) refl c.in_default.ensures.quiet
 
-pub returns-in-Err-Mbox-clause-counted : goal.returns-in-Err-Mbox-clause-counted
-returns-in-Err-Mbox-clause-counted g c = (c.in_default.ensures.ends.counted.0, (λ it. absurd (cc)))
+pub returns-in-Err-Mbox-clause-ends : goal.returns-in-Err-Mbox-clause-ends
+returns-in-Err-Mbox-clause-ends g c =
+    rw c.in-Err-Mbox.field-0-is
+    (import_unbroken g.S.Store (HoldsTables g.S.Store) IsImportWant c.args.store.now c.find_list.new.store Report Report (λ a done db. StopsImport c.args.list.now c.args.mbox.now done db) 0
+    (Mbox c.in-Err-Mbox.fault) (record { done = 0; fault = Mbox c.in-Err-Mbox.fault }) (λ bad. absurd (cc)) refl (c.in_default.ensures.ends.counted.0, (λ it. absurd (cc))))
 
 pub returns-in-Err-Refused : goal.returns-in-Err-Refused
 returns-in-Err-Refused g c = record {
   imports = no_room_to_cut g.S.Store c.args.store.now c.find_list.new.store c.args.list.now c.args.mbox.now c.in_default.ensures.found;
   crash = none_imported g.S.Store c.args.store.now c.find_list.new.store c.args.list.now c.args.mbox.now (record { done = 0; fault = Stored Memory }) refl c.in_default.ensures.quiet;
-  counted =
+  ends =
       let grows = c.in_default.ensures.ends.counted.0 in
-      (omega (arith, grows, c.raise.ensures), (λ it. omega (arith, grows, c.raise.ensures)));
+      import_unbroken g.S.Store (HoldsTables g.S.Store) IsImportWant c.args.store.now _ Report Report (λ a done db. StopsImport c.args.list.now c.args.mbox.now done db) 0 (Stored Memory)
+      (record { done = 0; fault = Stored Memory }) (λ bad. absurd (cc)) refl (omega (arith, grows, c.raise.ensures), (λ it. omega (arith, grows, c.raise.ensures)));
 }
 
 pub returns-in-Err : goal.returns-in-Err
 returns-in-Err g c = record {
   imports = list_not_found g.S.Store c.args.store.now c.find_list.new.store c.args.list.now c.args.mbox.now c.in-Err.fault c.in-Err.ensures.found;
   crash = none_imported g.S.Store c.args.store.now c.find_list.new.store c.args.list.now c.args.mbox.now (record { done = 0; fault = Stored c.in-Err.fault }) refl c.in-Err.ensures.quiet;
-  counted = (c.in-Err.ensures.ends.counted.0, (λ it. c.in-Err.ensures.ends.counted.1 (let none : c.in-Err.fault ≡ Memory = cc in none)));
+  ends = import_stopped g.S.Store (HoldsTables g.S.Store) IsImportWant c.args.store.now c.find_list.new.store (Unit {0}) Report
+      (λ a done db. StopsImport c.args.list.now c.args.mbox.now done db) (λ store held. held) wanted_by (HasFailed g.S.Store c.args.store.now c.find_list.new.store) c.in-Err.fault (no_list ∷ []) 0
+      (record { done = 0; fault = Stored c.in-Err.fault }) refl (λ more. inl more) c.in-Err.ensures.ends;
 }

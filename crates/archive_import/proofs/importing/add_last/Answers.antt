@@ -1,11 +1,10 @@
-use Rattle.std.proofs.Common.{[], ◌++◌, ◌∙◌, sym, ap, subst, refl, Err, append-nil, inr}
+use Rattle.std.proofs.Common.{[], ◌++◌, ◌∙◌, sym, ap, arith, subst, refl, Err, append-nil, inr}
 use Rattle.mbox_stream.specs.Cutter.{IsEndFault}
 use Rattle.archive_import.proofs.ReadLemmas.{begun_none, begun_more, settled_taken, ended_divides, end_stopped, waiting_stopped, last_says}
 use Rattle.archive_import.proofs.StopLemmas.{Keeps}
 use Rattle.archive_import.proofs.CrashLemmas.{amid_lasts, last_crash, more_lasts, read_crash, safe_still, waiting_crash}
-use Rattle.archive_store.specs.Held.{wants_of}
-use Rattle.archive_store.proofs.WantLemmas.{raises_after}
-use Rattle.archive_import.proofs.WantLemmas.{IsStopWanting}
+use Rattle.archive_import.specs.Intake.{StopsRead}
+use Rattle.archive_import.proofs.EndLemmas.{last_ends, uncut_ends, waiting_ends}
 use Rattle.archive_import.proofs.importing.add_last.Goals as goal
 
 pub returns-in-Err-clause-adds : goal.returns-in-Err-clause-adds
@@ -43,13 +42,40 @@ returns-in-Err-add_waiting-clause-adds g c =
     c.add_waiting.new.intake cutter.stream 1 ended.waiting c.in-Err-add_waiting.stop
     (inr (refl, ended_divides cutter ended c.finish.ensures.given c.in-Ok.ensures.finished c.finish.ensures.stream c.finish.ensures.taken)) c.in-Err-add_waiting.ensures.adds
 
-pub returns-in-Err-clause-counted : goal.returns-in-Err-clause-counted
-returns-in-Err-clause-counted g c = c.stop_uncut.ensures.counted
+-- ---- how it ends
 
-pub returns-in-Ok-add_waiting-clause-counted : goal.returns-in-Ok-add_waiting-clause-counted
-returns-in-Ok-add_waiting-clause-counted g c =
-    raises_after IsStopWanting (wants_of c.args.store.now) (wants_of c.add_waiting.new.store) (wants_of c.add_held.new.store) c.add_held.result
-    c.in-Ok-add_waiting.ensures.counted.0 c.add_held.ensures.counted
+pub returns-in-Err-clause-ends : goal.returns-in-Err-clause-ends
+returns-in-Err-clause-ends g c =
+    uncut_ends g.S.Store c.args.store.now _ (StopsRead c.args.list.now c.args.cutter.now.stream 1 c.args.cutter.now.taken c.args.intake.now) _ _ c.stop_uncut.result c.stop_uncut.ensures.stop
+    c.stop_uncut.ensures.counted
+
+pub returns-in-Ok-add_waiting-clause-ends : goal.returns-in-Ok-add_waiting-clause-ends
+returns-in-Ok-add_waiting-clause-ends g c =
+    let cutter = c.args.cutter.now in
+    let intake = c.args.intake.now in
+    let store = c.args.store.now in
+    let list = c.args.list.now in
+    let ended = c.finish.new.self in
+    let mid = c.add_waiting.new.store in
+    last_ends g.S.Store store mid list cutter.taken (cutter.taken ++ ended.waiting) intake c.add_waiting.new.intake
+    (begun_more g.S.Store store store mid list cutter.taken cutter.taken intake intake (begun_none g.S.Store store list cutter.taken cutter.taken intake refl)
+    c.add_waiting.new.intake ended.waiting (cutter.taken ++ ended.waiting) refl c.in-Ok-add_waiting.ensures.adds) c.in-Ok-add_waiting.ensures.ends.counted.0
+    c.add_held.new.store (amid_lasts g.S.Store mid c.add_held.new.store list c.add_waiting.new.intake (λ b d _. Keeps list c.add_waiting.new.intake c.add_held.new.intake b d)
+    c.add_held.result c.add_held.ensures.adds) cutter.stream 1 c.add_held.result
+    (inr (refl, ended_divides cutter ended c.finish.ensures.given c.in-Ok.ensures.finished c.finish.ensures.stream c.finish.ensures.taken)) c.add_held.ensures.ends
+
+pub returns-in-Err-add_waiting-clause-ends : goal.returns-in-Err-add_waiting-clause-ends
+returns-in-Err-add_waiting-clause-ends g c =
+    let cutter = c.args.cutter.now in
+    let intake = c.args.intake.now in
+    let store = c.args.store.now in
+    let list = c.args.list.now in
+    let ended = c.finish.new.self in
+    let new = c.add_waiting.new.store in
+    waiting_ends g.S.Store store store list cutter.taken cutter.taken intake intake (begun_none g.S.Store store list cutter.taken cutter.taken intake refl) (omega arith)
+    new (more_lasts g.S.Store store new list intake c.add_waiting.new.intake ended.waiting c.in-Err-add_waiting.stop c.in-Err-add_waiting.ensures.adds)
+    cutter.stream 1 ended.waiting (Err c.in-Err-add_waiting.stop)
+    (inr (refl, ended_divides cutter ended c.finish.ensures.given c.in-Ok.ensures.finished c.finish.ensures.stream c.finish.ensures.taken)) c.in-Err-add_waiting.ensures.ends
 
 -- ---- what a stop of the machine leaves
 

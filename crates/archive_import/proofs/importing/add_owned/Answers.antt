@@ -1,17 +1,33 @@
-use Rattle.std.proofs.Common.{arith}
+use Rattle.std.proofs.Common.{[], ◌∷◌, ◌∙◌, arith, drop, subst}
 use Rattle.sqlite.specs.Held.{state}
+use Rattle.archive_machine.specs.Commands.{list_full, no_list}
 use Rattle.archive_tables.specs.Tables.{archive_of}
 use Rattle.archive_tables.proofs.LastLemmas.{lasts_same}
+use Rattle.archive_store.specs.Refusals.{StopsAmong}
+use Rattle.archive_store.specs.Replies.{done_in, with_fault}
+use Rattle.archive_store.specs.Told.{EndsBehind}
+use Rattle.archive_store.specs.declared.batches.AddStop.{AddStop}
 use Rattle.archive_store.proofs.RunLemmas.{run_nothing}
 use Rattle.archive_import.proofs.importing.add_owned.Goals as goal
 
 pub returns-in-Err-clause-step : goal.returns-in-Err-clause-step
 returns-in-Err-clause-step g c = λ clean kept up. (kept, run_nothing _)
 
-pub returns-in-Err-clause-lasts : goal.returns-in-Err-clause-lasts
-returns-in-Err-clause-lasts g c = lasts_same _
+pub returns-in-Err-clause-ends : goal.returns-in-Err-clause-ends
+returns-in-Err-clause-ends g c = record {
+  lasts = lasts_same _;
+  was_open = λ returned. tt;
+  kind = tt;
+  counted = (omega (arith, c.raise.ensures), (λ want. omega (arith, c.raise.ensures)));
+  caused = λ returned held free bad. absurd (cc);
+}
 
 pub returns-in-Err-clause-crash : goal.returns-in-Err-clause-crash
 returns-in-Err-clause-crash g c = λ returned kept was db may.
     let before = archive_of (state g.S.Store c.args.store.now.conn) in
     (before, (0, omega arith, omega arith, run_nothing before), was db may)
+
+pub returns-in-Ok-clause-ends : goal.returns-in-Ok-clause-ends
+returns-in-Ok-clause-ends g c =
+    subst (λ is. EndsBehind g.S.Store c.args.store.now c.add_all.new.self (with_fault (λ (stop : AddStop). stop.fault) c.add_all.result) (no_list ∷ list_full ∷ [])
+    (StopsAmong c.args.list.now (drop (done_in (λ (stop : AddStop). stop.done) c.add_all.result) is))) (c.deref.ensures.value ∙ c.in-Ok.ensures) c.add_all.ensures.ends

@@ -1,7 +1,8 @@
 use Rattle.std.proofs.Common.{rules, arith, [], ◌++◌, ◌∙◌, sym, ap, Err, append-nil, append_assoc, inl, inr}
 use Rattle.mbox_stream.specs.Stream.{settled_items}
 use Rattle.archive_machine.specs.Records.{Archive}
-use Rattle.archive_import.specs.Intake.{IsUnderWay}
+use Rattle.archive_import.specs.Intake.{IsUnderWay, StopsRead}
+use Rattle.archive_import.proofs.EndLemmas.{last_ends, uncut_ends, waiting_ends}
 use Rattle.archive_import.proofs.ReadLemmas.{Begun, begun_more, settled_taken, settled_given, preamble_stopped, memory_stopped, waiting_stopped, unread_stopped_read}
 use Rattle.archive_import.proofs.CrashLemmas.{last_crash, more_lasts, read_crash, safe_then, unread_lasts, waiting_crash}
 use Rattle.archive_store.specs.Held.{wants_of}
@@ -25,7 +26,7 @@ loop-preserved g c =
       none_waits = takes.taken.1;
       goes_on = takes.phase ∙ c.in-Ok-true.ensures.open;
       given = takes.given;
-      grows = omega (arith, i.grows, c.in-Ok.ensures.counted.0);
+      grows = omega (arith, i.grows, c.in-Ok.ensures.ends.counted.0);
       safe = safe_then g.S.Store c.args.store.now c.loop.store c.add_waiting.new.store (Begun list [] c.loop.cutter.taken c.args.intake.now c.loop.intake) i.safe i.adds c.in-Ok.ensures.adds.0
           c.in-Ok.ensures.crash;
     }
@@ -76,34 +77,47 @@ returns-clause-adds g c =
     memory_stopped g.S.Store c.args.store.now c.loop.store c.args.list.now [] cutter.taken c.args.intake.now c.loop.intake i.adds
     cutter.stream cutter.stream [] 0 (settled_taken cutter i.given i.goes_on i.none_waits) (sym (append-nil _)) c.stop_uncut-2.result c.stop_uncut-2.ensures.stop
 
-pub returns-in-Err-Read-clause-counted : goal.returns-in-Err-Read-clause-counted
-returns-in-Err-Read-clause-counted g c =
-    raises_after IsStopWanting (wants_of c.args.store.now) (wants_of c.loop.store) (wants_of c.stop_unread.new.store) c.stop_unread.result c.loop.invariant.grows c.stop_unread.ensures.counted
+-- ---- how it ends
 
-pub returns-in-Err-clause-counted : goal.returns-in-Err-clause-counted
-returns-in-Err-clause-counted g c =
-    raises_after {A = Unit {0}} IsStopWanting (wants_of c.args.store.now) (wants_of c.loop.store) (wants_of c.add_waiting.new.store) (Err c.in-Err.stop) c.loop.invariant.grows
-    c.in-Err.ensures.counted
+pub returns-in-Err-Read-clause-ends : goal.returns-in-Err-Read-clause-ends
+returns-in-Err-Read-clause-ends g c =
+    let i = c.loop.invariant in
+    let cutter = c.loop.cutter in
+    last_ends g.S.Store c.args.store.now c.loop.store c.args.list.now [] cutter.taken c.args.intake.now c.loop.intake i.adds i.grows c.stop_unread.new.store
+    (unread_lasts g.S.Store c.loop.store c.stop_unread.new.store c.args.list.now c.loop.intake c.stop_unread.result c.stop_unread.ensures.adds) c.read_from.new.self.stream 0 c.stop_unread.result
+    (inl (settled_taken cutter i.given i.goes_on i.none_waits ∙ ap settled_items (sym (c.read_from.ensures.none (inr (c.in-Err-Read.is ∙ ap Err c.in-Err-Read.field-0-is))).0)))
+    c.stop_unread.ensures.ends
 
-pub returns-in-Err-Preamble-clause-counted : goal.returns-in-Err-Preamble-clause-counted
-returns-in-Err-Preamble-clause-counted g c =
-    raises_after {A = Unit {0}} IsStopWanting (wants_of c.args.store.now) (wants_of c.loop.store) c.stop_uncut.new.wants (Err c.stop_uncut.result)
-    c.loop.invariant.grows c.stop_uncut.ensures.counted
+pub returns-in-Err-Preamble-clause-ends : goal.returns-in-Err-Preamble-clause-ends
+returns-in-Err-Preamble-clause-ends g c =
+    uncut_ends g.S.Store c.args.store.now _ (StopsRead c.args.list.now c.read_from.new.self.stream 0 [] c.args.intake.now) _ _ c.stop_uncut.result c.stop_uncut.ensures.stop
+    (raises_after {A = Unit {0}} IsStopWanting (wants_of c.args.store.now) (wants_of c.loop.store) c.stop_uncut.new.wants (Err c.stop_uncut.result) c.loop.invariant.grows c.stop_uncut.ensures.counted)
 
-pub returns-in-Err-Memory-clause-counted : goal.returns-in-Err-Memory-clause-counted
-returns-in-Err-Memory-clause-counted g c =
-    raises_after {A = Unit {0}} IsStopWanting (wants_of c.args.store.now) (wants_of c.loop.store) c.stop_uncut-in-Err-Memory.new.wants (Err c.stop_uncut-in-Err-Memory.result)
-    c.loop.invariant.grows c.stop_uncut-in-Err-Memory.ensures.counted
+pub returns-in-Err-Memory-clause-ends : goal.returns-in-Err-Memory-clause-ends
+returns-in-Err-Memory-clause-ends g c =
+    uncut_ends g.S.Store c.args.store.now _ (StopsRead c.args.list.now c.read_from.new.self.stream 0 [] c.args.intake.now) _ _ c.stop_uncut-in-Err-Memory.result c.stop_uncut-in-Err-Memory.ensures.stop
+    (raises_after {A = Unit {0}} IsStopWanting (wants_of c.args.store.now) (wants_of c.loop.store) c.stop_uncut-in-Err-Memory.new.wants (Err c.stop_uncut-in-Err-Memory.result) c.loop.invariant.grows c.stop_uncut-in-Err-Memory.ensures.counted)
 
-pub returns-in-Err-Failed-clause-counted : goal.returns-in-Err-Failed-clause-counted
-returns-in-Err-Failed-clause-counted g c =
-    raises_after {A = Unit {0}} IsStopWanting (wants_of c.args.store.now) (wants_of c.loop.store) c.stop_uncut-in-Err-Failed.new.wants (Err c.stop_uncut-in-Err-Failed.result)
-    c.loop.invariant.grows c.stop_uncut-in-Err-Failed.ensures.counted
+pub returns-in-Err-Failed-clause-ends : goal.returns-in-Err-Failed-clause-ends
+returns-in-Err-Failed-clause-ends g c =
+    uncut_ends g.S.Store c.args.store.now _ (StopsRead c.args.list.now c.read_from.new.self.stream 0 [] c.args.intake.now) _ _ c.stop_uncut-in-Err-Failed.result c.stop_uncut-in-Err-Failed.ensures.stop
+    (raises_after {A = Unit {0}} IsStopWanting (wants_of c.args.store.now) (wants_of c.loop.store) c.stop_uncut-in-Err-Failed.new.wants (Err c.stop_uncut-in-Err-Failed.result) c.loop.invariant.grows c.stop_uncut-in-Err-Failed.ensures.counted)
 
-pub returns-clause-counted : goal.returns-clause-counted
-returns-clause-counted g c =
-    raises_after {A = Unit {0}} IsStopWanting (wants_of c.args.store.now) (wants_of c.loop.store) c.stop_uncut-2.new.wants (Err c.stop_uncut-2.result)
-    c.loop.invariant.grows c.stop_uncut-2.ensures.counted
+pub returns-clause-ends : goal.returns-clause-ends
+returns-clause-ends g c =
+    uncut_ends g.S.Store c.args.store.now _ (StopsRead c.args.list.now c.loop.cutter.stream 0 [] c.args.intake.now) _ _ c.stop_uncut-2.result c.stop_uncut-2.ensures.stop
+    (raises_after {A = Unit {0}} IsStopWanting (wants_of c.args.store.now) (wants_of c.loop.store) c.stop_uncut-2.new.wants (Err c.stop_uncut-2.result) c.loop.invariant.grows c.stop_uncut-2.ensures.counted)
+
+pub returns-in-Err-clause-ends : goal.returns-in-Err-clause-ends
+returns-in-Err-clause-ends g c =
+    let i = c.loop.invariant in
+    let cutter = c.loop.cutter in
+    let read = c.read_from.new.self in
+    waiting_ends g.S.Store c.args.store.now c.loop.store c.args.list.now [] cutter.taken c.args.intake.now c.loop.intake i.adds i.grows c.add_waiting.new.store
+    (more_lasts g.S.Store c.loop.store c.add_waiting.new.store c.args.list.now c.loop.intake c.add_waiting.new.intake read.waiting c.in-Err.stop c.in-Err.ensures.adds)
+    c.add_waiting.new.cutter.stream 0 read.waiting (Err c.in-Err.stop)
+    (inl (settled_given read cutter.taken c.read_from.ensures.given c.in-Ok-true.ensures.open c.read_from.ensures.taken ∙ ap settled_items (sym c.add_waiting.ensures.takes.stream)))
+    c.in-Err.ensures.ends
 
 -- ---- what a stop of the machine leaves
 

@@ -1,10 +1,8 @@
 use Rattle.std.proofs.Common.{[], ◌∷◌, ◌++◌, ◌∙◌, ap, arith, refl, Err}
-use Rattle.archive_store.specs.Held.{wants_of}
-use Rattle.archive_store.proofs.WantLemmas.{raises_after}
 use Rattle.mbox_core.specs.Division.{Item}
 use Rattle.archive_import.proofs.CrashLemmas.{grown_crash, more_lasts, safe_still, safe_then}
 use Rattle.archive_import.proofs.StopLemmas.{Grows, grows_none, grows_more, grows_stopped, moved_none, moved_one}
-use Rattle.archive_import.proofs.WantLemmas.{IsStopWanting}
+use Rattle.archive_import.proofs.EndLemmas.{grown_ends}
 use Rattle.archive_import.proofs.importing.add_waiting.Goals as goal
 
 pub loop-item-init : goal.loop-item-init
@@ -30,7 +28,7 @@ loop-item-preserved g c =
       stream = c.take.ensures.stream ∙ i.stream;
       phase = c.take.ensures.phase ∙ i.phase;
       given = c.take.ensures.given;
-      grows = omega (arith, i.grows, c.hold_one.ensures.counted.0);
+      grows = omega (arith, i.grows, c.hold_one.ensures.ends.counted.0);
       safe = safe_then g.S.Store c.args.store.now c.loop-item.store c.hold_one.new.store (Grows c.args.list.now c.args.intake.now c.loop-item.intake i.adds.0.done) i.safe i.adds.1
           c.in-Ok.ensures.adds.0 c.in-Ok.ensures.crash;
     }
@@ -42,10 +40,18 @@ returns-in-Err-clause-adds g c =
     grows_stopped g.S.Store c.args.list.now c.args.store.now c.loop-item.store c.hold_one.new.store c.args.intake.now c.loop-item.intake m.0.done (item ∷ []) m.1
     c.hold_one.new.intake c.take.new.self.waiting c.args.cutter.now.waiting c.in-Err.stop (m.0.was ∙ ap (λ is. m.0.done ++ is) c.in-Some.ensures.item) c.in-Err.ensures.adds
 
-pub returns-in-Err-clause-counted : goal.returns-in-Err-clause-counted
-returns-in-Err-clause-counted g c =
-    raises_after {A = Unit {0}} IsStopWanting (wants_of c.args.store.now) (wants_of c.loop-item.store) (wants_of c.hold_one.new.store) (Err c.in-Err.stop) c.loop-item.invariant.grows
-    c.in-Err.ensures.counted
+pub returns-in-Err-clause-ends : goal.returns-in-Err-clause-ends
+returns-in-Err-clause-ends g c =
+    let item : Item = c.in-Some.item in
+    let i = c.loop-item.invariant in
+    let m = i.adds in
+    grown_ends g.S.Store c.args.store.now c.loop-item.store c.hold_one.new.store c.args.list.now c.args.intake.now c.loop-item.intake m.0.done (item ∷ []) c.take.new.self.waiting
+    c.args.cutter.now.waiting m.1
+    (more_lasts g.S.Store c.loop-item.store c.hold_one.new.store c.args.list.now c.loop-item.intake c.hold_one.new.intake (item ∷ []) c.in-Err.stop c.in-Err.ensures.adds)
+    i.grows c.in-Err.stop (m.0.was ∙ ap (λ is. m.0.done ++ is) c.in-Some.ensures.item) c.in-Err.ensures.ends
+
+pub returns-clause-ends : goal.returns-clause-ends
+returns-clause-ends g c = record { caused = tt; counted = (c.loop-item.invariant.grows, tt) }
 
 pub returns-in-Err-clause-crash : goal.returns-in-Err-clause-crash
 returns-in-Err-clause-crash g c =

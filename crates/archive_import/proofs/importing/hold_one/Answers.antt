@@ -3,6 +3,8 @@ use Rattle.archive_store.specs.Held.{wants_of}
 use Rattle.archive_import.proofs.StopLemmas.{hold_says, held_not_added, keeps_all}
 use Rattle.archive_import.proofs.CrashLemmas.{amid_more, hold_crash, safe_still}
 use Rattle.archive_store.proofs.WantLemmas.{raises_after}
+use Rattle.archive_import.specs.Intake.{StopsMore}
+use Rattle.archive_import.proofs.EndLemmas.{amid_ends, hold_ends}
 use Rattle.archive_import.proofs.WantLemmas.{IsStopWanting}
 use Rattle.archive_import.proofs.importing.hold_one.Goals as goal
 
@@ -15,13 +17,21 @@ pub returns-in-Err-clause-adds : goal.returns-in-Err-clause-adds
 returns-in-Err-clause-adds g c =
     held_not_added g.S.Store c.args.store.now c.add_held.new.store c.args.list.now c.args.intake.now c.add_held.new.intake (c.args.item ∷ []) c.in-Err.stop c.in-Err.ensures.adds
 
-pub returns-then-has_room-clause-counted : goal.returns-then-has_room-clause-counted
-returns-then-has_room-clause-counted g c = c.hold.ensures.counted
+-- ---- how it ends
 
-pub returns-in-Ok-clause-counted : goal.returns-in-Ok-clause-counted
-returns-in-Ok-clause-counted g c =
-    raises_after IsStopWanting (wants_of c.args.store.now) (wants_of c.add_held.new.store) c.hold-in-Ok.new.wants c.hold-in-Ok.result c.in-Ok.ensures.counted.0
-    c.hold-in-Ok.ensures.counted
+pub returns-then-has_room-clause-ends : goal.returns-then-has_room-clause-ends
+returns-then-has_room-clause-ends g c =
+    hold_ends g.S.Store c.args.store.now _ (StopsMore c.args.list.now c.args.intake.now (c.args.item ∷ [])) c.args.intake.now.done c.hold.result c.hold.ensures.fault c.hold.ensures.counted
+
+pub returns-in-Ok-clause-ends : goal.returns-in-Ok-clause-ends
+returns-in-Ok-clause-ends g c =
+    hold_ends g.S.Store c.args.store.now _ (StopsMore c.args.list.now c.args.intake.now (c.args.item ∷ [])) c.add_held.new.intake.done c.hold-in-Ok.result c.hold-in-Ok.ensures.fault
+    (raises_after IsStopWanting (wants_of c.args.store.now) (wants_of c.add_held.new.store) c.hold-in-Ok.new.wants c.hold-in-Ok.result c.in-Ok.ensures.ends.counted.0
+    c.hold-in-Ok.ensures.counted)
+
+pub returns-in-Err-clause-ends : goal.returns-in-Err-clause-ends
+returns-in-Err-clause-ends g c =
+    amid_ends g.S.Store c.args.store.now c.add_held.new.store c.args.list.now c.args.intake.now (c.args.item ∷ []) c.in-Err.stop c.in-Err.ensures.ends
 
 -- ---- what a stop of the machine leaves
 

@@ -1,19 +1,22 @@
-use Rattle.std.proofs.Common.{◌≤◌, [], sym, subst, append-nil, arith, Err}
+use Rattle.std.proofs.Common.{[], ◌∷◌, inl, refl, sym, subst, append-nil, arith, Err}
+use Rattle.archive_machine.specs.Commands.{no_list}
 use Rattle.archive_machine.specs.Records.{Archive}
 use Rattle.archive_machine.specs.Questions.{list_refusal}
 use Rattle.archive_store.specs.Replies.{refusal}
-use Rattle.archive_store.specs.Told.{Goes}
+use Rattle.archive_store.specs.Told.{Goes, HasFailed, IsReady}
 use Rattle.archive_store.proofs.Joins.{sound_too}
 use Rattle.archive_desk.proofs.CallLemmas.{unanswered_too}
-use Rattle.archive_import.specs.Streaming.{IsReadIn}
+use Rattle.archive_import.specs.Streaming.{IsReadIn, IsWanting, StopsReading}
 use Rattle.archive_import.specs.Intake.{IsUnderWay}
 use Rattle.archive_import.proofs.ReadLemmas.{Begun, IsFound, not_found, found_begun, settled_stopped, last_stopped, read_in}
 use Rattle.archive_desk.specs.Crashes.{CrashesReady}
 use Rattle.archive_import.proofs.CrashLemmas.{LeavesRead, begun_crash, ended_crash, found_crash, found_safe, read_all, read_lasts, safe_then}
-use Rattle.archive_store.specs.Held.{wants_of}
-use Rattle.archive_store.proofs.WantLemmas.{raises_after}
 use Rattle.archive_desk.specs.declared.importing.Report.{Report}
-use Rattle.archive_import.proofs.WantLemmas.{IsStopWanting, store_want}
+use Rattle.archive_desk.specs.declared.importing.ImportFault.TheVariants.{Store as Stored}
+use Rattle.archive_desk.proofs.ImportEnds.{import_stopped}
+use Rattle.archive_import.proofs.EndLemmas.{read_ends}
+use Rattle.archive_import.proofs.IntakeLemmas.{under_way_first}
+use Rattle.archive_import.proofs.WantLemmas.{store_want}
 use Rattle.archive_import.proofs.importing.import_from.Goals as goal
 
 pub returns-in-Err-clause-imports : goal.returns-in-Err-clause-imports
@@ -72,24 +75,53 @@ returns-clause-imports g c =
           c.in-Err-add_last.stop c.in-Err-add_last.ensures.adds,
     )
 
-pub returns-in-Err-clause-counted : goal.returns-in-Err-clause-counted
-returns-in-Err-clause-counted g c =
-    (c.in-Err.ensures.ends.counted.0, (λ it. c.in-Err.ensures.ends.counted.1 (store_want c.in-Err.fault it)))
+-- ---- how it ends
 
-pub returns-in-Err-add_settled-clause-counted : goal.returns-in-Err-add_settled-clause-counted
-returns-in-Err-add_settled-clause-counted g c =
-    raises_after {A = Report} IsStopWanting (wants_of c.args.store.now) (wants_of c.find_list.new.store) (wants_of c.add_settled.new.store) (Err c.in-Err-add_settled.stop)
-    c.in_default.ensures.ends.counted.0 c.in-Err-add_settled.ensures.counted
+pub returns-in-Err-clause-ends : goal.returns-in-Err-clause-ends
+returns-in-Err-clause-ends g c =
+    import_stopped g.S.Store (IsReady g.S.Store) IsWanting c.args.store.now c.find_list.new.store (Unit {0}) Report _ (λ store ready. ready.held) store_want
+    (HasFailed g.S.Store c.args.store.now c.find_list.new.store) c.in-Err.fault (no_list ∷ []) 0 (record { done = 0; fault = Stored c.in-Err.fault }) refl (λ more. inl more) c.in-Err.ensures.ends
 
-pub returns-in-Ok-add_last-clause-counted : goal.returns-in-Ok-add_last-clause-counted
-returns-in-Ok-add_last-clause-counted g c =
-    (omega (arith, c.in_default.ensures.ends.counted.0, c.in-Ok.ensures.counted.0, c.in-Ok-add_last.ensures.counted.0), tt)
+pub returns-in-Err-add_settled-clause-ends : goal.returns-in-Err-add_settled-clause-ends
+returns-in-Err-add_settled-clause-ends g c =
+    let list = c.args.list.now in
+    let store = c.args.store.now in
+    let mid = c.find_list.new.store in
+    let new = c.add_settled.new.store in
+    let stop = c.in-Err-add_settled.stop in
+    let stream = c.add_settled.new.cutter.stream in
+    let begun = c.new-intake.result in
+    read_ends g.S.Store store mid new list stream 0 [] begun (IsFound list) (λ a b it. under_way_first list a b begun it.2 it.0 c.new-intake.ensures)
+    (sound_too g.S.Store store mid (IsFound list) (λ a b h. h.0) c.in_default.ensures.found)
+    (read_lasts g.S.Store mid new list stream 0 [] begun (λ b d _. Begun list [] c.add_settled.new.cutter.taken begun c.add_settled.new.intake b d) stop c.in-Err-add_settled.ensures.adds)
+    c.in_default.ensures.ends.counted.0 _ stop
+    (λ a db stops text ends told ended. subst (λ n. StopsReading list text n stop.done db) (omega (arith, ended, c.in-Err-add_settled.ensures.read.no_end))
+    (subst (λ t. StopsReading list t 0 stop.done db) (read_all _ stream text _ c.add_settled.ensures.read.told told) stops))
+    c.in-Err-add_settled.ensures.ends
 
-pub returns-clause-counted : goal.returns-clause-counted
-returns-clause-counted g c =
-    let grows : wants_of c.args.store.now ≤ wants_of c.add_settled.new.store = omega (arith, c.in_default.ensures.ends.counted.0, c.in-Ok.ensures.counted.0) in
-    raises_after {A = Report} IsStopWanting (wants_of c.args.store.now) (wants_of c.add_settled.new.store) (wants_of c.add_last.new.store) (Err c.in-Err-add_last.stop)
-    grows c.in-Err-add_last.ensures.counted
+pub returns-in-Ok-add_last-clause-ends : goal.returns-in-Ok-add_last-clause-ends
+returns-in-Ok-add_last-clause-ends g c =
+    record { caused = tt; counted = (omega (arith, c.in_default.ensures.ends.counted.0, c.in-Ok.ensures.ends.counted.0, c.in-Ok-add_last.ensures.ends.counted.0), tt) }
+
+pub returns-clause-ends : goal.returns-clause-ends
+returns-clause-ends g c =
+    let list = c.args.list.now in
+    let cutter = c.add_settled.new.cutter in
+    let intake = c.add_settled.new.intake in
+    let store = c.args.store.now in
+    let mid = c.find_list.new.store in
+    let later = c.add_settled.new.store in
+    let new = c.add_last.new.store in
+    let stop = c.in-Err-add_last.stop in
+    read_ends g.S.Store store later new list cutter.stream 1 cutter.taken intake (λ a c. IsUnderWay list a c cutter.taken intake) (λ a b it. it)
+    (found_begun g.S.Store store mid later list c.new-intake.result c.new-intake.ensures (sound_too g.S.Store store mid (IsFound list) (λ a b h. h.0) c.in_default.ensures.found)
+    cutter.taken intake c.in-Ok.ensures.adds)
+    (read_lasts g.S.Store later new list cutter.stream 1 cutter.taken intake (λ b d _. (a : Archive) → IsUnderWay list a b cutter.taken intake → IsReadIn list cutter.stream 1 a d c.add_last.new.intake.report)
+    stop c.in-Err-add_last.ensures.adds)
+    (omega (arith, c.in_default.ensures.ends.counted.0, c.in-Ok.ensures.ends.counted.0)) _ stop
+    (λ a db stops text ends told ended. subst (λ n. StopsReading list text n stop.done db) (omega (arith, ended, c.in-Ok.ensures.read.end))
+    (subst (λ t. StopsReading list t 1 stop.done db) (read_all _ cutter.stream text _ c.add_settled.ensures.read.told told) stops))
+    c.in-Err-add_last.ensures.ends
 
 -- ---- what a stop of the machine leaves
 

@@ -3,6 +3,8 @@ use Rattle.archive_desk.specs.declared.importing.ImportStop.{ImportStop}
 use Rattle.archive_import.proofs.CrashLemmas.{kept_crash}
 use Rattle.archive_import.proofs.ReadLemmas.{unread_added, unread_stopped}
 use Rattle.archive_store.specs.Held.{wants_of}
+use Rattle.archive_import.specs.Intake.{StopsAmid}
+use Rattle.archive_import.proofs.EndLemmas.{uncut_ends}
 use Rattle.archive_import.proofs.WantLemmas.{unread_unwanted}
 use Rattle.archive_import.proofs.importing.stop_unread.Goals as goal
 
@@ -15,9 +17,10 @@ pub returns-in-Err-clause-adds : goal.returns-in-Err-clause-adds
 returns-in-Err-clause-adds g c =
     unread_stopped g.S.Store c.args.store.now c.add_held.new.store c.args.list.now c.args.intake.now c.add_held.new.intake c.in-Err.stop c.in-Err.ensures.adds
 
-pub returns-in-Ok-clause-counted : goal.returns-in-Ok-clause-counted
-returns-in-Ok-clause-counted g c =
-    unread_unwanted (Unit {0}) (wants_of c.args.store.now) (wants_of c.add_held.new.store) _ c.stop.result c.in-Ok.ensures.counted.0 c.stop.ensures
+pub returns-in-Ok-clause-ends : goal.returns-in-Ok-clause-ends
+returns-in-Ok-clause-ends g c =
+    uncut_ends g.S.Store c.args.store.now c.add_held.new.store (StopsAmid c.args.list.now c.args.intake.now) _ _ c.stop.result c.stop.ensures
+    (unread_unwanted (Unit {0}) (wants_of c.args.store.now) (wants_of c.add_held.new.store) _ c.stop.result c.in-Ok.ensures.ends.counted.0 c.stop.ensures)
 
 pub returns-in-Ok-clause-crash : goal.returns-in-Ok-clause-crash
 returns-in-Ok-clause-crash g c =

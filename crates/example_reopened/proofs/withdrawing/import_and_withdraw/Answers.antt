@@ -16,14 +16,17 @@ returns-in-Err-withdraw-clause-stopped g c =
     c.in-Err-withdraw.ensures.ends.lasts c.in-Err-withdraw.fault c.in-Err-withdraw.ensures.step
 
 pub returns-in-Ok-withdraw-clause-counted : goal.returns-in-Ok-withdraw-clause-counted
-returns-in-Ok-withdraw-clause-counted g c = let first = c.in-Ok.ensures.counted.0 in let then = c.in-Ok-withdraw.ensures.ends.counted.0 in (omega (arith, first, then), tt)
+returns-in-Ok-withdraw-clause-counted g c = let first = c.in-Ok.ensures.ends.counted.0 in let then = c.in-Ok-withdraw.ensures.ends.counted.0 in (omega (arith, first, then), tt)
 
 pub returns-in-Err-withdraw-clause-counted : goal.returns-in-Err-withdraw-clause-counted
 returns-in-Err-withdraw-clause-counted g c =
-    let first = c.in-Ok.ensures.counted.0 in
+    let first = c.in-Ok.ensures.ends.counted.0 in
     let then = c.in-Err-withdraw.ensures.ends.counted in
     let grown = then.0 in (omega (arith, first, grown), (λ want. let more = then.1 want in omega (arith, first, more)))
 
 pub returns-in-Err-clause-stopped : goal.returns-in-Err-clause-stopped
 returns-in-Err-clause-stopped g c =
     import_right g.S.Store c.args.store.now c.import.new.store c.args.withdrawal.now.list.now c.args.withdrawal.now.mbox.now (Err c.in-Err.stop) c.in-Err.ensures.imports
+
+pub returns-in-Err-clause-counted : goal.returns-in-Err-clause-counted
+returns-in-Err-clause-counted g c = c.in-Err.ensures.ends.counted

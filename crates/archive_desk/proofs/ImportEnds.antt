@@ -1,0 +1,78 @@
+-- How an import ends, from how its calls end.
+use Rattle.std.proofs.Common.{◌≡◌, ◌≤◌, ◌⊎◌, ◌∙◌, inl, inr, ap, sym, subst, ℕ, List, Result, Err}
+use Rattle.sqlite.specs.Effect.{Database}
+use Rattle.sqlite.specs.Store.{Ghosts}
+use Rattle.sqlite.specs.Held.{state}
+use Rattle.archive_machine.specs.Records.{Archive}
+use Rattle.archive_machine.specs.Commands.{Refusal}
+use Rattle.archive_store.specs.Held.{held_of, wants_of}
+use Rattle.archive_store.specs.Told.{Counts, EndsBy, GoesIn, HasFailed, HoldsTables, Lasts}
+use Rattle.archive_store.specs.Wanting.{IsWant}
+use Rattle.archive_store.specs.declared.store.Store.{Store}
+use Rattle.archive_store.specs.declared.faults.StoreFault.{StoreFault}
+use Rattle.archive_store.specs.declared.faults.StoreFault.TheVariants as faults
+use Rattle.archive_store.proofs.CauseLemmas.{more_since}
+use Rattle.archive_store.proofs.WantLemmas.{raises_after}
+use Rattle.archive_desk.specs.Causes.{HasCauseBehind}
+use Rattle.archive_desk.specs.Ending.{EndsImport}
+use Rattle.archive_desk.specs.Importing.{IsImportBroken, IsImportWant}
+use Rattle.archive_desk.specs.declared.importing.ImportFault.{ImportFault}
+use Rattle.archive_desk.specs.declared.importing.ImportFault.TheVariants.{Store as Stored}
+use Rattle.archive_desk.specs.declared.importing.ImportStop.{ImportStop}
+use Rattle.archive_desk.proofs.CauseLemmas.{each_fault}
+
+-- of the faults of the store E14 alone
+pub wanted_by : (fault : StoreFault) → IsImportWant (Stored fault) → IsWant fault
+wanted_by fault it = cc
+
+module _ {S : Type 0} (g : Ghosts S) (Premise : Store S → Type 0) (IsStopWant : ImportFault → Type 0) where
+  -- ---- behind other calls: the faults of the disk never get fewer, and no limit was set
+
+  module _ (old mid new : Store S) (Before : Archive → Archive → Type 0) (before : GoesIn g Premise old mid Before) (last : Lasts g mid new)
+      (grows : wants_of old ≤ wants_of mid) (Stops Stops' : Archive → ℕ → Database → Type 0)
+      (implies : (a b : Archive) (done : ℕ) (db : Database) → Before a b → Stops b done db → Stops' a done db) where
+    cause_after : (done : ℕ) → HasCauseBehind g mid new Premise (λ a db. Stops a done db) → HasCauseBehind g old new Premise (λ a db. Stops' a done db)
+    cause_after done why = λ returned held free.
+        let there = before.1 (last.returned returned) held in
+        elim (why returned there.0 (before.0.limit ∙ free)) [
+          | inl more ↦ inl (more_since (state g (held_of old)) (state g (held_of mid)) (state g (held_of new)) before.0 more)
+          | inr stops ↦ inr (implies _ _ done _ there.1 stops)
+        ]
+
+    pub import_ends_after : {A : Type 0} (result : Result A ImportStop) → EndsImport g mid new Premise IsStopWant result Stops → EndsImport g old new Premise IsStopWant result Stops'
+    import_ends_after result it = record {
+      caused = each_fault (λ (stop : ImportStop). IsImportBroken stop.fault → HasCauseBehind g mid new Premise (λ a db. Stops a stop.done db))
+          (λ (stop : ImportStop). IsImportBroken stop.fault → HasCauseBehind g old new Premise (λ a db. Stops' a stop.done db))
+          (λ stop why bad. cause_after stop.done (why bad)) result it.caused;
+      counted = raises_after (λ (stop : ImportStop). IsStopWant stop.fault) (wants_of old) (wants_of mid) (wants_of new) result grows it.counted;
+    }
+
+  module _ (old new : Store S) (A B : Type 0) (Stops : Archive → ℕ → Database → Type 0) where
+    -- ---- a stop that is not E15
+
+    pub import_unbroken : (done : ℕ) (fault : ImportFault) (stop : ImportStop) → (IsImportBroken fault → ⊥) → stop ≡ record { done = done; fault = fault }
+        → Counts {A = A} (λ (s : ImportStop). IsStopWant s.fault) old new (Err stop) → EndsImport g old new Premise IsStopWant {A = A} (Err stop) Stops
+    import_unbroken done fault stop off is counted =
+        record { caused = λ bad. absurd (off (sym (ap (λ (s : ImportStop). s.fault) is) ∙ bad)); counted = counted }
+
+    -- ---- the same stop in other words
+
+    pub import_stops_as : (Stops' : Archive → ℕ → Database → Type 0) (stop : ImportStop) → ((a : Archive) (db : Database) → Stops a stop.done db → Stops' a stop.done db)
+        → EndsImport g old new Premise IsStopWant {A = A} (Err stop) Stops → EndsImport g old new Premise IsStopWant {A = B} (Err stop) Stops'
+    import_stops_as Stops' stop implies it = record {
+      caused = λ bad returned held free. elim (it.caused bad returned held free) [ inl more ↦ inl more | inr stops ↦ inr (implies _ _ stops) ];
+      counted = it.counted;
+    }
+
+    -- ---- a call of the store failed
+
+    module _ (holds : (store : Store S) → Premise store → HoldsTables g store) (wants : (fault : StoreFault) → IsStopWant (Stored fault) → IsWant fault) where
+      pub import_stopped : (Cause : Type 0) (fault : StoreFault) (reasons : List Refusal) (done : ℕ) (stop : ImportStop) → stop ≡ record { done = done; fault = Stored fault }
+          → (Cause → HasFailed g old new ⊎ ((a : Archive) → Stops a done (state g (held_of new)).now)) → EndsBy g old new Cause {A = A} (Err fault) reasons
+          → EndsImport g old new Premise IsStopWant {A = B} (Err stop) Stops
+      import_stopped Cause fault reasons done stop is why it = subst (λ s. EndsImport g old new Premise IsStopWant {A = B} (Err s) Stops) (sym is) (record {
+        caused = λ bad returned ready free.
+            let broken : fault ≡ faults.Store = cc in
+            elim (why (it.caused returned (holds old ready) free broken)) [ inl more ↦ inl more | inr stops ↦ inr (stops _) ];
+        counted = (it.counted.0, (λ want. it.counted.1 (wants fault want)));
+      })
