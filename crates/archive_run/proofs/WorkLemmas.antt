@@ -2,12 +2,10 @@
 use Rattle.std.proofs.Common.{◌⊎◌, inr, ℕ, List, Result, Ok, Err}
 use Rattle.std.specs.Prelude.{MatchResult}
 use Rattle.sqlite.specs.Store.{Ghosts as Pages}
-use Rattle.archive_store.specs.Told.{Counts}
-use Rattle.archive_store.specs.Wanting.{IsWant}
 use Rattle.archive_store.specs.declared.faults.StoreFault.{StoreFault}
 use Rattle.archive_store.specs.declared.store.Store.{Store}
 use Rattle.archive_words.specs.Values.{TableCommand}
-use Rattle.archive_work.specs.Working.{Carries}
+use Rattle.archive_work.specs.Working.{Carries, EndsCarry}
 use Rattle.archive_work.specs.declared.commands.Answer.{Answer}
 use Rattle.archive_run.specs.Databases.{Works}
 use Rattle.archive_run.specs.Working.{CarriesNot}
@@ -33,9 +31,9 @@ module _ {S D : Type 0} (keeps : Ghosts D (Store S)) (old device new : D) (file 
   worked_by (Ok a) Becomes Unopened it = works (Becomes (Ok a)) it
   worked_by (Err e) Becomes Unopened it = inr (works (Becomes (Err e)) it)
 
--- a command that was carried out, or refused, where want of memory is counted
+-- a command that was carried out, or refused
 pub carried : {S : Type 0} (pages : Pages S) (old new : Store S) (command : TableCommand) (result : Result Answer StoreFault)
-    → Carries pages old new command result → Counts IsWant old new result
+    → Carries pages old new command result → EndsCarry pages old new command result
     → MatchResult result (λ answer. Carries pages old new command (Ok answer)) (λ fault. CarriesNot pages old new command (refusal.Store fault))
-carried pages old new command (Ok answer) it counts = it
-carried pages old new command (Err fault) it counts = (it, counts.1)
+carried pages old new command (Ok answer) it ends = it
+carried pages old new command (Err fault) it ends = (it, (ends.counted.1, ends.caused))

@@ -1,10 +1,8 @@
 //! The commands over the tables.
 ghost use Rattle.std.specs.Prelude.{◌≡◌};
-ghost use Rattle.archive_store.specs.Told.{Counts};
-ghost use Rattle.archive_store.specs.Wanting.{IsWant};
 ghost use Rattle.archive_words.specs.Values.{command_of, embargo as embargo_words, lift as lift_words, restore as restore_words, withdraw as withdraw_words};
 ghost use Rattle.archive_work.specs.Commands.{done_by, whether_by};
-ghost use Rattle.archive_work.specs.Working.{Carries};
+ghost use Rattle.archive_work.specs.Working.{Carries, EndsCarry};
 
 use archive_store::{Key, Store, StoreFault};
 use archive_words::TableCommand;
@@ -65,7 +63,7 @@ pub fn carry_out<S: Alter>(
     command: &TableCommand<'_>,
 ) -> Result<Answer, StoreFault>
     ensures carried { Carries S.Store store.old store.new (command_of command.now) result }
-    ensures counted { Counts IsWant store.old store.new result }
+    ensures ends { EndsCarry S.Store store.old store.new (command_of command.now) result }
 {
     match command {
         TableCommand::ListAdd { name } => says(store.list_add(name), Answer::Added),
@@ -111,7 +109,7 @@ fn withdraw<S: Alter>(
 ) -> Result<Answer, StoreFault>
     ensures carried { Carries S.Store store.old store.new
         (withdraw_words list.now key.now by) result }
-    ensures counted { Counts IsWant store.old store.new result }
+    ensures ends { EndsCarry S.Store store.old store.new (withdraw_words list.now key.now by) result }
 {
     match Key::read(key) {
         Some(key) => says(store.withdraw(list, &key, by), Answer::Withdrawn),
@@ -121,7 +119,7 @@ fn withdraw<S: Alter>(
 
 fn restore<S: Alter>(store: &mut Store<S>, list: &str, key: &str) -> Result<Answer, StoreFault>
     ensures carried { Carries S.Store store.old store.new (restore_words list.now key.now) result }
-    ensures counted { Counts IsWant store.old store.new result }
+    ensures ends { EndsCarry S.Store store.old store.new (restore_words list.now key.now) result }
 {
     match Key::read(key) {
         Some(key) => says(store.restore(list, &key), Answer::Restored),
@@ -137,7 +135,7 @@ fn embargo<S: Alter>(
 ) -> Result<Answer, StoreFault>
     ensures carried { Carries S.Store store.old store.new
         (embargo_words list.now key.now until) result }
-    ensures counted { Counts IsWant store.old store.new result }
+    ensures ends { EndsCarry S.Store store.old store.new (embargo_words list.now key.now until) result }
 {
     match Key::read(key) {
         Some(key) => says(store.embargo(list, &key, until), Answer::Embargoed),
@@ -147,7 +145,7 @@ fn embargo<S: Alter>(
 
 fn lift<S: Alter>(store: &mut Store<S>, list: &str, key: &str) -> Result<Answer, StoreFault>
     ensures carried { Carries S.Store store.old store.new (lift_words list.now key.now) result }
-    ensures counted { Counts IsWant store.old store.new result }
+    ensures ends { EndsCarry S.Store store.old store.new (lift_words list.now key.now) result }
 {
     match Key::read(key) {
         Some(key) => whether(store.lift(list, &key), Answer::Lifted, Answer::NoEmbargo),

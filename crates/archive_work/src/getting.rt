@@ -1,7 +1,5 @@
 //! One message, asked for by its list and its key.
-ghost use Rattle.archive_store.specs.Told.{Counts};
-ghost use Rattle.archive_work.specs.Getting.{IsGetWant};
-ghost use Rattle.archive_work.specs.Working.{Gets};
+ghost use Rattle.archive_work.specs.Working.{EndsGet, Gets};
 
 use archive_desk::{DeskFault, message};
 use archive_results::{Ask, Asked};
@@ -29,7 +27,7 @@ pub fn get<'p, S: Alter>(
     key: &str,
 ) -> Result<Vec<u8>, GetStop<'p>>
     ensures got { Gets S.Store store.old store.new ask.entry.now key.now result }
-    ensures counted { Counts IsGetWant store.old store.new result }
+    ensures ends { EndsGet S.Store store.old store.new ask.entry.now key.now result }
 {
     let Some(key) = Key::read(key) else {
         return Err(GetStop::NoMessage);

@@ -15,5 +15,5 @@ returns g c =
           done.new.store c.in_ok-store.ensures.opened c.close.ensures done.result (λ answer o x. Carries g.S.Store o x command (Ok answer))
           (λ fault o x. CarriesNot g.S.Store o x command (Store fault))
           (λ fault. g.D.Databases.opens c.args.databases.now c.close.new.self c.order.inside.file.now (Err fault))
-          (carried g.S.Store c.in_ok-store.store done.new.store command done.result done.ensures.carried done.ensures.counted));
+          (carried g.S.Store c.in_ok-store.store done.new.store command done.result done.ensures.carried done.ensures.ends));
     }

@@ -1,34 +1,31 @@
 use Rattle.std.proofs.Common.{rules, ◌≡◌, refl, sym, subst, true}
-use Rattle.archive_machine.specs.Commands as machine
-use Rattle.archive_machine.specs.Keys.{is_key}
-use Rattle.archive_store.specs.Held.{held_of}
-use Rattle.archive_store.specs.Told.{Counts}
-use Rattle.archive_store.specs.Wanting.{IsWant}
-use Rattle.archive_store.specs.Replies.{Does, says_whether}
 use Rattle.archive_words.specs.Values.{lift}
-use Rattle.archive_work.specs.Commands.{stepped}
-use Rattle.archive_work.specs.Working.{Carries}
+use Rattle.archive_work.specs.Commands.{is_keyed}
+use Rattle.archive_work.specs.Working.{Carries, EndsCarry}
 use Rattle.archive_work.specs.declared.commands.Answer.TheVariants.{Lifted, NoEmbargo}
-use Rattle.archive_work.proofs.CarryLemmas.{carries_whether, counts_whether, carries_no_key, does_keyed}
+use Rattle.archive_work.proofs.CarryLemmas.{carries_whether, carries_no_key, ends_whether}
 use Rattle.archive_work.proofs.commands.lift.Goals as goal
 
 pub returns-in-Some-clause-carried : goal.returns-in-Some-clause-carried
 returns-in-Some-clause-carried g c =
     let old = c.args.store.now in
     let new = c.lift.new.self in
-    let key = c.args.key.now in
-    let is : is_key c.in-Some.key ≡ true = search rules in
-    let does = does_keyed g.S.Store old new c.in-Some.key (machine.lift c.args.list.now c.in-Some.key) (says_whether c.lift.result) is (c.lift.ensures.step) in
-    subst (λ r. Carries g.S.Store old new (lift c.args.list.now key) r) (sym c.whether.ensures)
-    (carries_whether g.S.Store old new (lift c.args.list.now key) c.lift.ensures.ends.lasts Lifted NoEmbargo c.lift.result refl refl
-    (subst (λ k. Does g.S.Store (held_of old) (held_of new) (λ a. stepped a (lift c.args.list.now k)) (says_whether c.lift.result)) c.in-Some.ensures.some does))
+    let words = lift c.args.list.now c.in-Some.key in
+    let is : is_keyed words ≡ true = search rules in
+    subst (λ k. Carries g.S.Store old new (lift c.args.list.now k) c.whether.result) c.in-Some.ensures.some
+    (subst (λ r. Carries g.S.Store old new words r) (sym c.whether.ensures)
+    (carries_whether g.S.Store old new words is c.lift.ensures.ends.lasts Lifted NoEmbargo c.lift.result refl refl c.lift.ensures.step))
 
 pub returns-in-None-clause-carried : goal.returns-in-None-clause-carried
-returns-in-None-clause-carried g c = carries_no_key g.S.Store c.args.store.now (lift c.args.list.now c.args.key.now) c.args.key.now
-    (machine.lift c.args.list.now c.args.key.now) c.in-None.ensures.none (λ a. refl)
+returns-in-None-clause-carried g c =
+    carries_no_key g.S.Store c.args.store.now (lift c.args.list.now c.args.key.now) c.in-None.ensures.none
 
-pub returns-in-Some-clause-counted : goal.returns-in-Some-clause-counted
-returns-in-Some-clause-counted g c =
+pub returns-in-Some-clause-ends : goal.returns-in-Some-clause-ends
+returns-in-Some-clause-ends g c =
     let old = c.args.store.now in
     let new = c.lift.new.self in
-    subst (λ r. Counts IsWant old new r) (sym c.whether.ensures) (counts_whether old new Lifted NoEmbargo c.lift.result c.lift.ensures.ends.counted)
+    let words = lift c.args.list.now c.in-Some.key in
+    let is : is_keyed words ≡ true = search rules in
+    subst (λ k. EndsCarry g.S.Store old new (lift c.args.list.now k) c.whether.result) c.in-Some.ensures.some
+    (subst (λ r. EndsCarry g.S.Store old new words r) (sym c.whether.ensures)
+    (ends_whether g.S.Store old new words is Lifted NoEmbargo c.lift.result _ c.lift.ensures.ends))

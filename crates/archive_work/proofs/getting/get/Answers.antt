@@ -2,7 +2,7 @@ use Rattle.std.proofs.Common.{rules, ◌≡◌, refl, ap, subst, true, false, Ok
 use Rattle.archive_machine.specs.Keys.{is_key}
 use Rattle.archive_results.specs.Access.{told}
 use Rattle.archive_work.specs.Getting.{no_message, denied, given_of}
-use Rattle.archive_work.specs.Working.{Gets}
+use Rattle.archive_work.specs.Working.{Gets, HasGetCause}
 use Rattle.archive_work.specs.declared.getting.GetStop.TheVariants.{Fault, NoMessage, Denied}
 use Rattle.archive_work.proofs.GetLemmas.{gets_text, gets_none, gets_fault, gets_no_key}
 use Rattle.archive_work.proofs.getting.get.Goals as goal
@@ -49,14 +49,23 @@ returns-in_default-clause-got g c =
     let store = c.args.store.now in
     gets_no_key g.S.Store store store c.args.ask.now c.args.key.now store is
 
-pub returns-in-Ok-Served-clause-counted : goal.returns-in-Ok-Served-clause-counted
-returns-in-Ok-Served-clause-counted g c = (c.in-Ok-Served.ensures.ends.counted.0, tt)
+pub returns-in-Ok-Served-clause-ends : goal.returns-in-Ok-Served-clause-ends
+returns-in-Ok-Served-clause-ends g c = record { caused = tt; counted = (c.in-Ok-Served.ensures.ends.counted.0, tt) }
 
-pub returns-in-Ok-Denied-clause-counted : goal.returns-in-Ok-Denied-clause-counted
-returns-in-Ok-Denied-clause-counted g c = (c.in-Ok-Denied.ensures.ends.counted.0, (λ bad. absurd bad))
+pub returns-in-Ok-Denied-clause-ends : goal.returns-in-Ok-Denied-clause-ends
+returns-in-Ok-Denied-clause-ends g c =
+    record { caused = λ bad. absurd bad; counted = (c.in-Ok-Denied.ensures.ends.counted.0, (λ bad. absurd bad)) }
 
-pub returns-in-Ok-Absent-clause-counted : goal.returns-in-Ok-Absent-clause-counted
-returns-in-Ok-Absent-clause-counted g c = (c.in-Ok-Absent.ensures.ends.counted.0, (λ bad. absurd bad))
+pub returns-in-Ok-Absent-clause-ends : goal.returns-in-Ok-Absent-clause-ends
+returns-in-Ok-Absent-clause-ends g c =
+    record { caused = λ bad. absurd bad; counted = (c.in-Ok-Absent.ensures.ends.counted.0, (λ bad. absurd bad)) }
 
-pub returns-in-Err-clause-counted : goal.returns-in-Err-clause-counted
-returns-in-Err-clause-counted g c = c.in-Err.ensures.ends.counted
+pub returns-in-Err-clause-ends : goal.returns-in-Err-clause-ends
+returns-in-Err-clause-ends g c =
+    let old = c.args.store.now in
+    let new = c.message.new.store in
+    let ask = c.args.ask.now in
+    record {
+      caused = λ broken. subst (λ k. HasGetCause g.S.Store old new ask k) c.in-Some.ensures.some (c.in-Err.ensures.ends.caused broken);
+      counted = c.in-Err.ensures.ends.counted;
+    }
