@@ -56,9 +56,9 @@ module _ {S : Type 0} (g : Ghosts S) (old new : Store S) where
 -- A walk over messages of the list, made by a reader of them whose fault carries one of the desk: what it does to the store, why G4
 -- with E15 comes, and that want of memory is counted.
 pub record EndsWalk {S : Type 0} (g : Ghosts S) (old new : Walk S) (ask : Ask) {A F : Type 0} (carried : F → DeskFault) (result : Result A F) : Type 0 where
-  pub lasts : Lasts g old.store.now new.store.now
+  pub lasts : Lasts g old.store new.store
   pub caused : IfErr result (λ fault. IsBroken (carried fault) → HasWalkCause g old new ask)
-  pub counted : Counts (λ fault. IsWanting (carried fault)) old.store.now new.store.now result
+  pub counted : Counts (λ fault. IsWanting (carried fault)) old.store new.store result
 
 -- What a writer tells: after Ok it did not fail, and else this says whether it did, and what was written.
 pub record TellsWriter (failed fails : ℕ) {A F : Type 0} (result : Result A F) (Stops : F → Type 0) : Type 0 where

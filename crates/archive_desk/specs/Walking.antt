@@ -57,23 +57,23 @@ IsUnlisted other = ⊥
 module _ {S : Type 0} (g : Ghosts S) where
   -- its store holds an archive's tables, and remembers this archive
   abbrev pub StandsOn : Archive → Walk S → Type 0
-  StandsOn a walk = HoldsTables g walk.store.now × (archive_in g walk.store.now ≡ a)
+  StandsOn a walk = HoldsTables g walk.store × (archive_in g walk.store ≡ a)
 
   -- after a fault that has a reason so; after one of memory or of the database if the connection is still open
   abbrev pub StandsIfOpen : Archive → Walk S → DeskFault → Type 0
-  StandsIfOpen a walk fault = MatchOption (reason fault) (IsOpen g walk.store.now → StandsOn a walk) (λ _. StandsOn a walk)
+  StandsIfOpen a walk fault = MatchOption (reason fault) (IsOpen g walk.store → StandsOn a walk) (λ _. StandsOn a walk)
 
   -- The cause of a walk that the database broke, over messages of the list, that gave none yet: where no limit is set on the steps of
   -- a query, the disk failed, or one of the messages cannot be read.
   abbrev pub HasWalkCause : Walk S → Walk S → Ask → Type 0
-  HasWalkCause old new ask = HasReturned g new.store.now → HasNoLimit g old.store.now → (all : List Remembered) (a : Archive)
-      → WalksOver g ask.list all a [] old → HasFailed g old.store.now new.store.now ⊎ AreUnreadable all
+  HasWalkCause old new ask = HasReturned g new.store → HasNoLimit g old.store → (all : List Remembered) (a : Archive)
+      → WalksOver g ask.list all a [] old → HasFailed g old.store new.store ⊎ AreUnreadable all
 
   -- the disk failed, or one of the messages cannot be read
   abbrev pub StopsPassing : {A : Type 0} → Walk S → Walk S → Ask → Result A StoreFault → Type 0
-  StopsPassing old new ask result = HasReturned g new.store.now → (all : List Remembered) (a : Archive) (given : List Remembered)
-      → WalksOver g ask.list all a given old → HasNoLimit g old.store.now
-      → IfErr result (λ fault. fault ≡ faults.Store → HasFailed g old.store.now new.store.now ⊎ AreUnreadable all)
+  StopsPassing old new ask result = HasReturned g new.store → (all : List Remembered) (a : Archive) (given : List Remembered)
+      → WalksOver g ask.list all a given old → HasNoLimit g old.store
+      → IfErr result (λ fault. fault ≡ faults.Store → HasFailed g old.store new.store ⊎ AreUnreadable all)
 
   module _ (old new : Walk S) (ask : Ask) (reader : ReaderMarks) where
     -- messages were passed by, as if they were given, that the policy does not show
@@ -82,26 +82,26 @@ module _ {S : Type 0} (g : Ghosts S) where
 
     -- A walk over messages of the list passed some by, and left the archive. After a fault so, if the connection is still open.
     pub record PassesWithheld {A : Type 0} (result : Result A StoreFault) : Type 0 where
-      pub passed : HasReturned g new.store.now → (all : List Remembered) (a : Archive) (given : List Remembered) → WalksOver g ask.list all a given old
-          → MatchResult result (λ _. HasPassed all a given) (λ _. IsOpen g new.store.now → HasPassed all a given)
-      pub left : left_of new ≤ left_of old
+      pub passed : HasReturned g new.store → (all : List Remembered) (a : Archive) (given : List Remembered) → WalksOver g ask.list all a given old
+          → MatchResult result (λ _. HasPassed all a given) (λ _. IsOpen g new.store → HasPassed all a given)
+      pub left : left_of new.walk ≤ left_of old.walk
       pub fault : IfErr result (λ fault. refusal fault ≡ None)
 
     -- One message at most was passed by: whether one was, and then fewer are left.
     pub record PassesOne (result : Result Bool StoreFault) : Type 0 where
       pub passes : PassesWithheld result
-      pub fewer : IfOk result (λ passed. passed ≡ true → left_of new < left_of old)
+      pub fewer : IfOk result (λ passed. passed ≡ true → left_of new.walk < left_of old.walk)
 
     -- A walk over messages of the list that gave none yet: this was made of them, as far as the policy shows them.
     abbrev pub ListsRows : {X : Type 0} → (made : List Remembered → List X) → Result (Vec X Global) DeskFault → Type 0
-    ListsRows made result = HasReturned g new.store.now → (all : List Remembered) (a : Archive) → WalksOver g ask.list all a [] old → MatchResult result
+    ListsRows made result = HasReturned g new.store → (all : List Remembered) (a : Archive) → WalksOver g ask.list all a [] old → MatchResult result
         (λ found. StandsOn a new × (found.items ≡ made (filter (is_shown ask reader) all)))
         (λ fault. StandsIfOpen a new fault)
 
     -- A walk over messages of the list that gave none yet: the text of them was written, as far as the policy shows them, and
     -- counted; or exactly the first bytes of it.
     abbrev pub WritesRows : (before after : List ℕ) → (counted counts : ℕ) → Result (Unit {0}) DeskFault → Type 0
-    WritesRows before after counted counts result = HasReturned g new.store.now → (all : List Remembered) (a : Archive) → WalksOver g ask.list all a [] old →
+    WritesRows before after counted counts result = HasReturned g new.store → (all : List Remembered) (a : Archive) → WalksOver g ask.list all a [] old →
         let text = shown_text ask reader all in
         MatchResult result
         (λ _. StandsOn a new × (after ≡ before ++ text) × (counts ≡ min (counted + length text) (2 ^ 64 - 1)))
@@ -110,7 +110,7 @@ module _ {S : Type 0} (g : Ghosts S) where
 
     -- the same behind a head
     abbrev pub WritesWalk : (head before after : List ℕ) → Result ℕ ExportStop → Type 0
-    WritesWalk head before after result = HasReturned g new.store.now → (all : List Remembered) (a : Archive) → WalksOver g ask.list all a [] old →
+    WritesWalk head before after result = HasReturned g new.store → (all : List Remembered) (a : Archive) → WalksOver g ask.list all a [] old →
         let text = head ++ shown_text ask reader all in
         MatchResult result
         (λ count. StandsOn a new × (after ≡ before ++ text) × (count ≡ min (length text) (2 ^ 64 - 1)))

@@ -14,7 +14,8 @@ use Rattle.archive_machine.specs.Runs.{taken}
 use Rattle.archive_store.specs.Batches.{IsFullAt}
 use Rattle.archive_store.specs.Refusals.{StopsAmong}
 use Rattle.archive_store.specs.Replies.{refusal}
-use Rattle.archive_store.specs.Told.{Calls, IsReady}
+use Rattle.archive_store.specs.Told.{HoldsTables}
+use Rattle.archive_desk.specs.Holding.{CallsHeld}
 use Rattle.archive_store.specs.declared.store.Store.{Store as Open}
 use Rattle.archive_desk.specs.Crashes.{HasAddedAtLeast}
 use Rattle.archive_desk.specs.Ending.{EndsImport}
@@ -144,11 +145,11 @@ pub record ReadsIn (before after : List ℕ) (ended ends failed fails : ℕ) (cu
 
 -- An import of this text, which was read of an input that met its end so often.
 abbrev pub Imports : {S : Type 0} → Ghosts S → (old new : Open S) → (list text : List ℕ) → (ends : ℕ) → Result Report ImportStop → Type 0
-Imports g old new list text ends result = Calls g old new halt_reason result
+Imports g old new list text ends result = CallsHeld g old new halt_reason result
     (λ a b report. IsReadIn list text ends a b report)
     (λ a b why. IsHalted list text ends a b why.0 why.1)
     (λ a b stop. IsBroken list text ends a b stop.done stop.fault)
 
--- How it ends, and each call of it: why E15 comes, where the store is ready, and that want of memory is counted.
+-- How it ends, and each call of it: why E15 comes, where the tables are an archive's, and that want of memory is counted.
 abbrev pub EndsReading : {S : Type 0} → Ghosts S → (old new : Open S) → {A : Type 0} → Result A ImportStop → (Archive → ℕ → Database → Type 0) → Type 0
-EndsReading g old new result Stops = EndsImport g old new (IsReady g) IsWanting result Stops
+EndsReading g old new result Stops = EndsImport g old new (HoldsTables g) IsWanting result Stops

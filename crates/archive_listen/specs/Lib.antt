@@ -1,4 +1,5 @@
 pub mod Connections
 pub mod Serving
 pub mod Gathering
+pub mod Waits
 pub mod Sockets

@@ -1,12 +1,11 @@
 -- Sockets of the loopback interface, and the times that a peer has.
-use Rattle.std.specs.Prelude.{◌≡◌, ◌<◌, ◌*◌, ◌⊎◌, ◌++◌, ℕ, Bool, true, false, List, [], ◌∷◌, Option}
+use Rattle.std.specs.Prelude.{◌≡◌, ◌<◌, ◌+◌, ◌*◌, ◌/◌, ◌⊎◌, ◌≤◌, ◌++◌, ℕ, length, Bool, true, false, List, [], ◌∷◌, Option}
 use Rattle.std.specs.Duration.{as_nanos}
 use Rattle.std.specs.Net.Addr.{ipv4_octets}
 use Rattle.std.specs.Net.Socket.{socket_ip, socket_port}
 use Rattle.std.specs.declared.net.ip_addr.IpAddr.{IpAddr}
 use Rattle.std.specs.declared.net.ip_addr.IpAddr.TheVariants.{V4, V6}
 use Rattle.std.specs.declared.net.socket_addr.SocketAddr.{SocketAddr}
-use Rattle.std.specs.declared.time.Instant.{Instant}
 use Rattle.std_io.specs.declared.io.kind.ErrorKind.{ErrorKind}
 use Rattle.std_io.specs.declared.io.kind.ErrorKind.TheVariants.{ConnectionAborted, ConnectionReset, HostUnreachable, Interrupted, NetworkDown, NetworkUnreachable, TimedOut}
 use Rattle.archive_listen.specs.Connections.{Exchange}
@@ -14,25 +13,28 @@ use Rattle.archive_listen.specs.declared.connections.Listening.{Listening}
 use Rattle.archive_listen.specs.declared.faults.AcceptFault.{AcceptFault}
 use Rattle.archive_listen.specs.declared.faults.AcceptFault.TheVariants.{Peer, Listener}
 use Rattle.archive_listen.specs.declared.waiting.Span.{Span}
+use Rattle.archive_listen.specs.declared.waiting.Waited.{Waited}
 
 -- ---- what is read of a socket, and what is written to it
 
--- the bytes that it told, and how often a read failed or met the end
+-- the bytes that it told, how often a read failed or met the end, and how long after the beginning the last wait could end, in nanoseconds
 pub record InputState : Type 0 where
   pub told : List ℕ
   pub failures : ℕ
   pub ends : ℕ
+  pub latest : ℕ
 
 abbrev pub nothing_read : InputState
-nothing_read = record { told = []; failures = 0; ends = 0 }
+nothing_read = record { told = []; failures = 0; ends = 0; latest = 0 }
 
--- the bytes that it took, and how often a write failed
+-- the bytes that it took, how often a write failed, and how long after the first one the last wait could end, in nanoseconds
 pub record OutputState : Type 0 where
   pub told : List ℕ
   pub failures : ℕ
+  pub latest : ℕ
 
 abbrev pub nothing_written : OutputState
-nothing_written = record { told = []; failures = 0 }
+nothing_written = record { told = []; failures = 0; latest = 0 }
 
 -- ---- where it is listened
 
@@ -47,10 +49,14 @@ pub record IsHad (asked had : SocketAddr) : Type 0 where
   pub port : (socket_port asked ≡ 0) ⊎ (socket_port had ≡ socket_port asked)
   pub some : 0 < socket_port had
 
--- what listens: its address, as the system tells it, and what went over the connections that it took back, in their order
+-- What listens: its address, as the system tells it, and what went over the connections that it took back, in their order. How often it asked
+-- the system for a connection, how many it ended in order, and how long it could wait for the peer of the last one.
 pub record LoopbackState : Type 0 where
   pub address : SocketAddr
   pub exchanges : List Exchange
+  pub asked : ℕ
+  pub ended : ℕ
+  pub waited : Waited
 
 -- It listens on 127.0.0.1 alone, on the port that was asked for, or on one that the system picked where port 0 was. It took no
 -- connection back yet.
@@ -65,13 +71,32 @@ pub record ListensOn (asked : ℕ) (listening : Listening LoopbackState) : Type 
   pub listens : Listens asked listening.listener
   pub told : listening.port ≡ socket_port listening.listener.address
 
--- It gives a connection, or none for this fault: nothing is written down yet.
+-- It asked once, and gives a connection, or none for this fault.
 abbrev pub Accepted : (before after : LoopbackState) → Option AcceptFault → Type 0
-Accepted before after fault = after ≡ before
+Accepted before after fault = after ≡ record before { asked = before.asked + 1 }
 
--- It takes a connection back: what went over it is written down, whether its reply broke off or not.
-abbrev pub Closed : (before after : LoopbackState) → Exchange → (broke_off : Bool) → Type 0
-Closed before after over broke_off = after ≡ record before { exchanges = before.exchanges ++ over ∷ [] }
+-- one more that is ended in order, unless its reply broke off
+abbrev pub ended_after : (broke_off : Bool) → ℕ → ℕ
+ended_after true ended = ended
+ended_after false ended = ended + 1
+
+-- how many seconds a whole reply may take, from its first write on, where so many bytes of it were written: thirty, and one more for each
+-- megabyte (profile)
+abbrev pub reply_seconds : (written : ℕ) → ℕ
+reply_seconds written = 30 + written / 1_000_000
+
+-- How long a peer is waited for at most that was sent so many bytes: ten seconds for its head, the time of its reply, and a second for what it
+-- sends past its head.
+pub record IsInTime (sent : ℕ) (waited : Waited) : Type 0 where
+  pub head : as_nanos waited.head ≤ 10 * 1_000_000_000
+  pub reply : as_nanos waited.reply ≤ reply_seconds sent * 1_000_000_000
+  pub rest : as_nanos waited.rest ≤ 1_000_000_000
+
+-- It takes a connection back: what went over it is written down, it is ended in order unless its reply broke off, and its peer was waited for
+-- within its times.
+pub record Closed (before after : LoopbackState) (over : Exchange) (broke_off : Bool) : Type 0 where
+  pub noted : after ≡ record before { exchanges = before.exchanges ++ over ∷ []; ended = ended_after broke_off before.ended; waited = after.waited }
+  pub waited : IsInTime (length over.sent) after.waited
 
 -- ---- who is at fault, and how long a peer is waited for
 
@@ -93,7 +118,11 @@ wait_seconds false = 2
 wait_seconds true = 5
 
 -- The time that the next bytes of a request may take, which is not past ten seconds of the whole head (profile).
-pub record IsHeadSpan (since : Instant) (begun : Bool) (span : Span) : Type 0 where
-  pub begins : span.since ≡ since
+pub record IsHeadSpan (begun : Bool) (span : Span) : Type 0 where
   pub most : as_nanos span.most ≡ wait_seconds begun * 1_000_000_000
   pub whole : as_nanos span.whole ≡ 10 * 1_000_000_000
+
+-- The time that the next write of a reply may take, thirty seconds, which is not past the time of the whole reply.
+pub record IsReplySpan (written : ℕ) (span : Span) : Type 0 where
+  pub most : as_nanos span.most ≡ 30 * 1_000_000_000
+  pub whole : as_nanos span.whole ≡ reply_seconds written * 1_000_000_000

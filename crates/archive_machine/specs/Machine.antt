@@ -1,6 +1,6 @@
 -- What each command does to the archive, and what it answers. Of several refusals the first counts, in the order of the
 -- cases; a refusal leaves the archive as it was.
-use Rattle.std.specs.Prelude.{ℕ, ℤ, pos, Bool, true, int_lt, nat_lt, nat_le, List, [], ◌∷◌, ◌++◌, length, map, filter, not, if◌then◌else◌, Option, Some, None}
+use Rattle.std.specs.Prelude.{ℕ, ℤ, pos, Bool, true, false, int_lt, nat_lt, nat_le, List, [], ◌∷◌, ◌++◌, length, map, filter, not, if◌then◌else◌, Option, Some, None}
 use Rattle.policy_core.specs.Names.{is_name}
 use Rattle.mbox_items.specs.Division.{Item, whole}
 use Rattle.archive_machine.specs.Records.{Grant, Message, ListOption, Address, Archive}
@@ -10,6 +10,7 @@ use Rattle.archive_machine.specs.Addresses.{is_address, kept_address}
 use Rattle.archive_machine.specs.Keys.{item_key}
 use Rattle.archive_machine.specs.Filing.{item_filing}
 use Rattle.archive_machine.specs.Questions.{has_list, has_person, has_token, is_grant, has_grant, is_option_of, is_address_of, has_address, messages_in, is_message, message_of, has_message, is_withdrawn, is_embargoed}
+use Rattle.archive_machine.specs.declared.found.Found.{Found}
 
 -- the archive afterwards, and the answer
 abbrev pub Outcome : Type 0
@@ -24,31 +25,9 @@ refuse archive refusal = (archive, refused refusal)
 abbrev pub merging : List ℕ → ListOption
 merging list = record { list = list; merge = true }
 
--- A new list is empty, and gathers its threads by subject (RFC 5256, THREAD=REFERENCES, step 5). Profile: a name is taken once.
-abbrev pub list_added : Archive → List ℕ → Outcome
-list_added archive name =
-    if not (is_name name) then refuse archive bad_name
-    else if has_list archive name then refuse archive list_exists
-    else (record archive { lists = archive.lists ++ name ∷ []; options = archive.options ++ merging name ∷ [] }, done)
-
--- A new person holds no grant and no address. Profile: no two persons share a name or a bearer token (RFC 6750).
-abbrev pub person_added : Archive → List ℕ → List ℕ → Outcome
-person_added archive name token =
-    if not (is_name name) then refuse archive bad_name
-    else if not (is_token token) then refuse archive bad_text
-    else if has_person archive name then refuse archive person_exists
-    else if has_token archive token then refuse archive token_taken
-    else (record archive { persons = archive.persons ++ record { name = name; token = token } ∷ [] }, done)
-
 -- the option of this list says this
 abbrev pub with_merge : List ℕ → Bool → ListOption → ListOption
 with_merge list merge o = if is_option_of list o then record o { merge = merge } else o
-
--- whether the threads of a list are gathered by subject (RFC 5256, THREAD=REFERENCES, step 5) from now on
-abbrev pub merge_chosen : Archive → List ℕ → Bool → Outcome
-merge_chosen archive list merge =
-    if not (has_list archive list) then refuse archive no_list
-    else (record archive { options = map (with_merge list merge) archive.options }, done)
 
 -- the person's address is this
 abbrev pub readdressed : Address → Address → Address
@@ -58,14 +37,6 @@ readdressed a old = if is_address_of a.person old then record old { address = a.
 abbrev pub with_address : Archive → Address → List Address
 with_address archive a =
     if has_address archive a.person then map (readdressed a) archive.addresses else archive.addresses ++ a ∷ []
-
--- Profile: a person has at most one address, in ASCII lower case as author keys are; a new one replaces it, and two persons may
--- have the same.
-abbrev pub address_given : Archive → List ℕ → List ℕ → Outcome
-address_given archive person address =
-    if not (has_person archive person) then refuse archive no_person
-    else if not (is_address address) then refuse archive bad_text
-    else (record archive { addresses = with_address archive (record { person = person; address = kept_address address }) }, done)
 
 -- ---- grants
 
@@ -78,25 +49,6 @@ with_days_of g old =
 abbrev pub with_grant : Archive → Grant → List Grant
 with_grant archive g =
     if has_grant archive g.person g.list g.rank then map (with_days_of g) archive.grants else archive.grants ++ g ∷ []
-
--- A grant holds from its first day to its last, both within, counted from 1970-01-01. Profile: on one list a person has one grant
--- of a rank, and a second takes its place.
-abbrev pub granted : Archive → Grant → Outcome
-granted archive g =
-    if not (has_person archive g.person) then refuse archive no_person
-    else if not (has_list archive g.list) then refuse archive no_list
-    else if int_lt g.until_day g.from_day then refuse archive bad_days
-    else (record archive { grants = with_grant archive g }, done)
-
--- ends the grant of this rank, whatever its days are, and answers whether there was one
-abbrev pub revoked : Archive → List ℕ → List ℕ → ℤ → Outcome
-revoked archive person list rank =
-    if not (has_person archive person) then refuse archive no_person
-    else if not (has_list archive list) then refuse archive no_list
-    else (
-      record archive { grants = filter (λ g. not (is_grant person list rank g)) archive.grants },
-      was_there (has_grant archive person list rank),
-    )
 
 -- ---- messages
 
@@ -157,50 +109,113 @@ withdrawn_by party m = record m { withdrawn = party }
 abbrev pub embargoed : Option ℤ → Message → Message
 embargoed until m = record m { embargo = until }
 
--- The author (1) or the board (2) withdraws a message, which the archive keeps. Profile: the first withdrawal stands, and a second
--- is refused.
-abbrev pub withdrawal : Archive → List ℕ → List ℕ → ℤ → Outcome
-withdrawal archive list key party =
-    if not (has_list archive list) then refuse archive no_list
-    else if not (has_message archive list key) then refuse archive no_message
-    else if is_withdrawn (message_of archive list key) then refuse archive already_withdrawn
-    else (with_change archive list key (withdrawn_by party), done)
+-- ---- what is found
 
--- ends a withdrawal, whoever made it; a message that is not withdrawn is refused
-abbrev pub restored : Archive → List ℕ → List ℕ → Outcome
-restored archive list key =
-    if not (has_list archive list) then refuse archive no_list
-    else if not (has_message archive list key) then refuse archive no_message
-    else if not (is_withdrawn (message_of archive list key)) then refuse archive not_withdrawn
-    else (with_change archive list key (withdrawn_by (pos 0)), done)
+-- nothing is there of the names in a command
+abbrev pub nothing : Found
+nothing = record {
+  list = false;
+  person = false;
+  token = false;
+  grant = false;
+  address = false;
+  message = false;
+  withdrawn = false;
+  embargo = false;
+  full = false;
+}
 
--- sets the day before which a message has its embargo on, counted from 1970-01-01, in place of any that it had
-abbrev pub held_back : Archive → List ℕ → List ℕ → ℤ → Outcome
-held_back archive list key until =
-    if not (has_list archive list) then refuse archive no_list
-    else if not (has_message archive list key) then refuse archive no_message
-    else (with_change archive list key (embargoed (Some until)), done)
+-- of a list and a key
+abbrev pub found_message : Archive → List ℕ → List ℕ → Found
+found_message a list key = record nothing {
+  list = has_list a list;
+  message = has_message a list key;
+  withdrawn = is_withdrawn (message_of a list key);
+  embargo = is_embargoed (message_of a list key);
+}
 
--- ends an embargo, whatever its day is, and answers whether there was one
-abbrev pub lifted : Archive → List ℕ → List ℕ → Outcome
-lifted archive list key =
-    if not (has_list archive list) then refuse archive no_list
-    else if not (has_message archive list key) then refuse archive no_message
-    else (with_change archive list key (embargoed None), was_there (is_embargoed (message_of archive list key)))
+-- of a person, a list and a rank
+abbrev pub found_grant : Archive → List ℕ → List ℕ → ℤ → Found
+found_grant a person list rank =
+    record nothing { person = has_person a person; list = has_list a list; grant = has_grant a person list rank }
+
+abbrev pub found_of : Archive → Command → Found
+found_of a (list_add name) = record nothing { list = has_list a name }
+found_of a (merge_set list merge) = record nothing { list = has_list a list }
+found_of a (person_add name token) = record nothing { person = has_person a name; token = has_token a token }
+found_of a (address_set person address) = record nothing { person = has_person a person; address = has_address a person }
+found_of a (grant person list rank from until) = found_grant a person list rank
+found_of a (revoke person list rank) = found_grant a person list rank
+found_of a (add list item) = record nothing {
+  list = has_list a list;
+  message = has_message a list (item_key item);
+  full = nat_le message_limit (length (messages_in a list));
+}
+found_of a (withdraw list key party) = found_message a list key
+found_of a (restore list key) = found_message a list key
+found_of a (embargo list key until) = found_message a list key
+found_of a (lift list key) = found_message a list key
+
+-- ---- the three tables: a row for each command
+
+-- an answer that leaves the archive as it was, where this is so
+abbrev pub Test : Type 0
+Test = Bool × Reply
+
+abbrev pub when : Bool → Refusal → Test
+when so why = (so, refused why)
+
+-- What is answered at once, by the first test that is so: why a command is refused, or that a message is known.
+-- Profile: a list's name is taken once, and no two persons share a name or a bearer token (RFC 6750). A grant holds from its first day to
+-- its last, both within, counted from 1970-01-01. The first withdrawal of a message stands, and a second is refused. A whole text that is
+-- longer is refused, then a message whose key the list holds is known, and a list that holds as many messages as the limit takes no more.
+abbrev pub tests_of : Command → Found → List Test
+tests_of (list_add name) it = when (not (is_name name)) bad_name ∷ when it.list list_exists ∷ []
+tests_of (merge_set list merge) it = when (not it.list) no_list ∷ []
+tests_of (person_add name token) it =
+    when (not (is_name name)) bad_name ∷ when (not (is_token token)) bad_text ∷ when it.person person_exists ∷ when it.token token_taken ∷ []
+tests_of (address_set person address) it = when (not it.person) no_person ∷ when (not (is_address address)) bad_text ∷ []
+tests_of (grant person list rank from until) it = when (not it.person) no_person ∷ when (not it.list) no_list ∷ when (int_lt until from) bad_days ∷ []
+tests_of (revoke person list rank) it = when (not it.person) no_person ∷ when (not it.list) no_list ∷ []
+tests_of (add list item) it =
+    when (not it.list) no_list ∷ when (nat_lt longest_text (length (whole item.text))) too_large ∷ (it.message, already_known) ∷ when it.full list_full ∷ []
+tests_of (withdraw list key party) it = when (not it.list) no_list ∷ when (not it.message) no_message ∷ when it.withdrawn already_withdrawn ∷ []
+tests_of (restore list key) it = when (not it.list) no_list ∷ when (not it.message) no_message ∷ when (not it.withdrawn) not_withdrawn ∷ []
+tests_of (embargo list key until) it = when (not it.list) no_list ∷ when (not it.message) no_message ∷ []
+tests_of (lift list key) it = when (not it.list) no_list ∷ when (not it.message) no_message ∷ []
+
+-- What a command makes of the archive, where none is so.
+-- A new list is empty, and gathers its threads by subject (RFC 5256, THREAD=REFERENCES, step 5); a new person holds no grant and no
+-- address. Profile: on one list a person has one grant of a rank, and a second takes its place; a person has at most one address, in ASCII
+-- lower case as author keys are, and a new one replaces it. The author (1) or the board (2) withdraws a message, which the archive keeps.
+abbrev pub changed_by : Command → Archive → Archive
+changed_by (list_add name) a = record a { lists = a.lists ++ name ∷ []; options = a.options ++ merging name ∷ [] }
+changed_by (merge_set list merge) a = record a { options = map (with_merge list merge) a.options }
+changed_by (person_add name token) a = record a { persons = a.persons ++ record { name = name; token = token } ∷ [] }
+changed_by (address_set person address) a = record a { addresses = with_address a (record { person = person; address = kept_address address }) }
+changed_by (grant person list rank from until) a =
+    record a { grants = with_grant a (record { person = person; list = list; rank = rank; from_day = from; until_day = until }) }
+changed_by (revoke person list rank) a = record a { grants = filter (λ g. not (is_grant person list rank g)) a.grants }
+changed_by (add list item) a = with_message a list item
+changed_by (withdraw list key party) a = with_change a list key (withdrawn_by party)
+changed_by (restore list key) a = with_change a list key (withdrawn_by (pos 0))
+changed_by (embargo list key until) a = with_change a list key (embargoed (Some until))
+changed_by (lift list key) a = with_change a list key (embargoed None)
+
+-- and what it answers then
+abbrev pub reply_to : Command → Found → Reply
+reply_to (revoke person list rank) it = was_there it.grant
+reply_to (lift list key) it = was_there it.embargo
+reply_to (add list item) it = taken_in
+reply_to _ it = done
 
 -- ---- the machine
 
+-- the answer of the first test that is so, and the archive as it was; or else this
+abbrev pub unless_so : Archive → List Test → Outcome → Outcome
+unless_so a [] made = made
+unless_so a (test ∷ tests) made = if test.0 then (a, test.1) else unless_so a tests made
+
 -- One command, carried out whole or refused: the archive afterwards, and the answer. (Profile)
 abbrev pub step : Archive → Command → Outcome
-step archive (list_add name) = list_added archive name
-step archive (person_add name token) = person_added archive name token
-step archive (grant person list rank from_day until_day) =
-    granted archive (record { person = person; list = list; rank = rank; from_day = from_day; until_day = until_day })
-step archive (revoke person list rank) = revoked archive person list rank
-step archive (add list item) = added_within message_limit archive list item
-step archive (withdraw list key party) = withdrawal archive list key party
-step archive (restore list key) = restored archive list key
-step archive (embargo list key until_day) = held_back archive list key until_day
-step archive (lift list key) = lifted archive list key
-step archive (merge_set list merge) = merge_chosen archive list merge
-step archive (address_set person address) = address_given archive person address
+step a command = unless_so a (tests_of command (found_of a command)) (changed_by command a, reply_to command (found_of a command))

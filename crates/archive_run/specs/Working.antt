@@ -7,7 +7,7 @@ use Rattle.archive_store.specs.declared.store.Store.{Store as Open}
 use Rattle.archive_store.specs.declared.faults.StoreFault.{StoreFault}
 use Rattle.archive_store.specs.declared.faults.StoreFault.TheVariants as store
 use Rattle.archive_store.specs.Checking.{Checks}
-use Rattle.archive_store.specs.Told.{IsReady, WasRefused}
+use Rattle.archive_store.specs.Told.{HoldsTables, WasRefused}
 use Rattle.archive_store.specs.Wanting.{IsWant}
 use Rattle.archive_store.specs.declared.checking.CheckStop.TheVariants as check
 use Rattle.archive_results.specs.Access.{Ask}
@@ -71,14 +71,14 @@ module _ {S : Type 0} (g : Ghosts S) (old new : Open S) where
     -- It gave no input (F1), or there was no memory for one (F5), and nothing was taken in. Or it was read as far as this, and
     -- the import stopped: no such list, and nothing was read (E4); no mbox (M1); a failed read, after all messages that were
     -- settled by then (M2); no memory (M3); a full list (E12); or the database, or its memory (E15, E14). Memory was refused in that
-    -- call where M3 or E14 says so; and of a store that was ready E15 means that the disk failed, or that some of the messages behind
-    -- those that are done make rows that refuse the next.
+    -- call where M3 or E14 says so; and of tables that were an archive's E15 means that the disk failed, or that some of the
+    -- messages behind those that are done make rows that refuse the next.
     abbrev pub ImportsNot : Refusal → Type 0
     ImportsNot (Run Read) = GivesNone opens reads files mbox file.Read × (new ≡ old)
     ImportsNot (Run Memory) = GivesNone opens reads files mbox file.Memory × (new ≡ old)
     ImportsNot (Import stop) = FileTells opens reads files mbox
         (λ text ended failed. FailedBy stop.fault failed × Imports g old new list text ended (Err stop)
-        × ImportMeans old new stop.fault (HasCauseBehind g old new (IsReady g) (λ _ db. StopsReading list text ended stop.done db)))
+        × ImportMeans old new stop.fault (HasCauseBehind g old new (HoldsTables g) (λ _ db. StopsReading list text ended stop.done db)))
     ImportsNot _ = ⊥
 
   -- A message that is asked for: E8, G1, G2, G4, G5, or the rule that denies it; or there was no memory for its name (F5), which was

@@ -12,3 +12,4 @@ pub mod Checking
 pub mod Uncounted
 pub mod Names
 pub mod Crashes
+pub mod Carrying

@@ -110,15 +110,8 @@ module _ {S : Type 0} (g : Ghosts S) where
 
     -- ---- how a call ends, whatever the tables hold and whatever it answers
 
-    -- A command: what it does to the store, that who was answered asked one whose connection was open, for which reasons it may be
-    -- refused, and that want of memory is counted.
-    pub record Ends {A : Type 0} (result : Result A StoreFault) (reasons : List Refusal) : Type 0 where
-      pub lasts : Lasts
-      pub was_open : HasReturned new → OnOk result (IsOpen old)
-      pub kind : RefusedFor result reasons
-      pub counted : Counts IsWant old new result
-
-    -- A question: the same, and what its E15 means, where the tables are an archive's and no limit is set.
+    -- A command or a question: what it does to the store, that who was answered asked one whose connection was open, for which reasons
+    -- it may be refused, that want of memory is counted, and what its E15 means, where the tables are an archive's and no limit is set.
     pub record EndsBy (Cause : Type 0) {A : Type 0} (result : Result A StoreFault) (reasons : List Refusal) : Type 0 where
       pub lasts : Lasts
       pub was_open : HasReturned new → OnOk result (IsOpen old)

@@ -1,5 +1,5 @@
 -- Walks over the messages of a list, one message at a time.
-use Rattle.std.specs.Prelude.{◌≡◌, ◌⊎◌, ◌-◌, ◌+◌, ◌≤◌, ℕ, ℤ, true, bytes_eq, List, [], ◌∷◌, ◌++◌, length, drop, map, pos, Option, Some, None, Result, IfOk, IfErr, MatchResult, MatchOption, Vec, ◌<◌, IfSome}
+use Rattle.std.specs.Prelude.{◌≡◌, ◌⊎◌, ◌-◌, ◌≤◌, ℕ, ℤ, true, bytes_eq, List, [], ◌∷◌, ◌++◌, length, drop, map, pos, Option, Some, None, Result, IfOk, IfErr, MatchResult, MatchOption, Vec, ◌<◌, IfSome}
 use Rattle.std.specs.declared.alloc.Global.{Global}
 use Rattle.std.specs.List.{All, AllByRecursion}
 use Rattle.std.specs.Option.{IsSomeAnd}
@@ -26,9 +26,13 @@ use Rattle.archive_store.specs.declared.walking.EachRow.{EachRow}
 use Rattle.archive_store.specs.declared.walking.Selection.{Selection}
 use Rattle.archive_store.specs.declared.walking.Selection.TheVariants.{Every, InMonth, ByAuthor}
 
--- a walk, with the numbers that it holds
-abbrev pub Walk : Type 0 → Type 0
-Walk S = EachRow S (Vec ℤ Global)
+-- a walk, and the store that it is told
+pub record Walk (S : Type 0) : Type 0 where
+  pub store : Store S
+  pub walk : EachRow
+
+abbrev pub over : {S : Type 0} → Store S → EachRow → Walk S
+over store walk = record { store = store; walk = walk }
 
 -- the numbers of these of a list's messages
 abbrev pub selected_places : Trees → List ℕ → Selection → List ℤ
@@ -36,15 +40,13 @@ selected_places trees list Every = places_in trees list
 selected_places trees list (InMonth month) = month_places trees list (pos month)
 selected_places trees list (ByAuthor key) = author_places trees list key.now
 
--- how many messages it has not given yet
-abbrev pub left_of : {S : Type 0} → Walk S → ℕ
-left_of walk = length walk.places.items - walk.at
+-- the numbers of the messages that it has not given yet
+abbrev pub ahead_of : EachRow → List ℤ
+ahead_of walk = drop walk.at walk.places.items
 
--- the walk is where it was, and its store counts one want of memory more
-pub record CountsOne {S : Type 0} (old new : Walk S) : Type 0 where
-  pub store : new.store.now ≡ record old.store.now { wants = wants_of old.store.now + 1 }
-  pub places : new.places ≡ old.places
-  pub at : new.at ≡ old.at
+-- how many these are
+abbrev pub left_of : EachRow → ℕ
+left_of walk = length walk.places.items - walk.at
 
 module _ {S : Type 0} (g : Ghosts S) where
   -- what a store's database holds now, and its rows
@@ -65,19 +67,15 @@ module _ {S : Type 0} (g : Ghosts S) where
     pub of_list : AllByRecursion (λ (m : Remembered). bytes_eq m.list list ≡ true) all
 
   abbrev pub WalksOver : (list : List ℕ) (all : List Remembered) (a : Archive) (given : List Remembered) (walk : Walk S) → Type 0
-  WalksOver list all a given walk = WalksOn list all a given (held_of walk.store.now) (drop walk.at walk.places.items)
-
-  -- over all messages of the list, in mailbox order
-  abbrev pub Walks : (list : List ℕ) (a : Archive) (given : List Remembered) (walk : Walk S) → Type 0
-  Walks list a given walk = WalksOver list (messages_in a list) a given walk
+  WalksOver list all a given w = WalksOn list all a given (held_of w.store) (ahead_of w.walk)
 
   -- A walk over these of a list's messages begins: what that did to the store, that its connection was open, that no want of memory is
   -- forgotten, and where it held an archive's tables, the list is there and the walk gave nothing yet.
   pub record BeginsOver (old : Store S) (list : List ℕ) (which : Archive → List Remembered) (walk : Walk S) : Type 0 where
-    pub lasts : Lasts g old walk.store.now
-    pub was_open : HasReturned g walk.store.now → IsOpen g old
-    pub counted : wants_of old ≤ wants_of walk.store.now
-    pub over : HasReturned g walk.store.now → HoldsTables g old
+    pub lasts : Lasts g old walk.store
+    pub was_open : HasReturned g walk.store → IsOpen g old
+    pub counted : wants_of old ≤ wants_of walk.store
+    pub over : HasReturned g walk.store → HoldsTables g old
         → (list_refusal (archive_in g old) list ≡ None) × WalksOver list (which (archive_in g old)) (archive_in g old) [] walk
 
   -- a walk over all messages of a list begins
@@ -108,34 +106,29 @@ module _ {S : Type 0} (g : Ghosts S) where
 
   -- One message more is given, or all were given. After a fault the walk is where it was, if the connection is still open.
   abbrev pub GivesNext : Walk S → Walk S → Result (Option Message) StoreFault → Type 0
-  GivesNext old new result = HasReturned g new.store.now → (list : List ℕ) (all : List Remembered) (a : Archive) (given : List Remembered)
+  GivesNext old new result = HasReturned g new.store → (list : List ℕ) (all : List Remembered) (a : Archive) (given : List Remembered)
       → WalksOver list all a given old → MatchResult result
       (λ found. MatchOption found (WalksOver list all a given new × (given ≡ all)) (λ m. WalksOver list all a (given ++ remembered list m ∷ []) new))
-      (λ _. IsOpen g new.store.now → WalksOver list all a given new)
+      (λ _. IsOpen g new.store → WalksOver list all a given new)
 
   -- The walk is where it was, and these are the arrival and the marks of the message that is next, or all were given. After a fault it
   -- is where it was, if the connection is still open.
   pub record ShowsNext (old new : Walk S) (result : Result (Option DatedMarks) StoreFault) : Type 0 where
-    pub given : HasReturned g new.store.now → (list : List ℕ) (all : List Remembered) (a : Archive) (given : List Remembered)
+    pub given : HasReturned g new.store → (list : List ℕ) (all : List Remembered) (a : Archive) (given : List Remembered)
         → WalksOver list all a given old → MatchResult result
         (λ found. WalksOver list all a given new × MatchOption found (given ≡ all)
         (λ marks. (next : Remembered) × (rest : List Remembered) × (given ++ next ∷ rest ≡ all) × AreMarksOf marks next))
-        (λ _. IsOpen g new.store.now → WalksOver list all a given new)
-    pub left : left_of new ≡ left_of old
-    pub ahead : IfOk result (λ found. IfSome found (λ _. 0 < left_of old))
+        (λ _. IsOpen g new.store → WalksOver list all a given new)
+    pub left : left_of new.walk ≡ left_of old.walk
+    pub ahead : IfOk result (λ found. IfSome found (λ _. 0 < left_of old.walk))
     pub fault : IfErr result (λ fault. refusal fault ≡ None)
-
-  -- the next message is passed by, as if it were given
-  abbrev pub PassesNext : Walk S → Walk S → Type 0
-  PassesNext old new = (list : List ℕ) (all : List Remembered) (a : Archive) (given : List Remembered) (next : Remembered) (rest : List Remembered)
-      → WalksOver list all a given old → given ++ next ∷ rest ≡ all → WalksOver list all a (given ++ next ∷ []) new
 
   -- All messages that were left are given. A fault leaves the archive, if the connection is still open.
   abbrev pub GivesAll : Walk S → Walk S → Result (Vec Message Global) StoreFault → Type 0
-  GivesAll old new result = HasReturned g new.store.now → (list : List ℕ) (all : List Remembered) (a : Archive) (given : List Remembered)
+  GivesAll old new result = HasReturned g new.store → (list : List ℕ) (all : List Remembered) (a : Archive) (given : List Remembered)
       → WalksOver list all a given old → MatchResult result
       (λ found. WalksOver list all a (given ++ map (remembered list) found.items) new × (given ++ map (remembered list) found.items ≡ all))
-      (λ _. IsOpen g new.store.now → HoldsTables g new.store.now × (archive_in g new.store.now ≡ a))
+      (λ _. IsOpen g new.store → HoldsTables g new.store × (archive_in g new.store ≡ a))
 
   -- ---- what E15 of a walk means, where no limit is set
 
@@ -150,13 +143,13 @@ module _ {S : Type 0} (g : Ghosts S) where
 
   -- the disk failed, or the next message cannot be read
   abbrev pub StopsNext : {A : Type 0} → Walk S → Walk S → Result A StoreFault → Type 0
-  StopsNext old new result = HasReturned g new.store.now → (list : List ℕ) (all : List Remembered) (a : Archive) (given : List Remembered)
-      → WalksOver list all a given old → HasNoLimit g old.store.now
-      → IfErr result (λ fault. fault ≡ faults.Store → HasFailed g old.store.now new.store.now
+  StopsNext old new result = HasReturned g new.store → (list : List ℕ) (all : List Remembered) (a : Archive) (given : List Remembered)
+      → WalksOver list all a given old → HasNoLimit g old.store
+      → IfErr result (λ fault. fault ≡ faults.Store → HasFailed g old.store new.store
       ⊎ ((next : Remembered) × (rest : List Remembered) × (given ++ next ∷ rest ≡ all) × (¬ IsReadable next)))
 
   -- the disk failed, or one of the messages cannot be read
   abbrev pub StopsAll : {A : Type 0} → Walk S → Walk S → Result A StoreFault → Type 0
-  StopsAll old new result = HasReturned g new.store.now → (list : List ℕ) (all : List Remembered) (a : Archive) (given : List Remembered)
-      → WalksOver list all a given old → HasNoLimit g old.store.now
-      → IfErr result (λ fault. fault ≡ faults.Store → HasFailed g old.store.now new.store.now ⊎ (¬ All IsReadable all))
+  StopsAll old new result = HasReturned g new.store → (list : List ℕ) (all : List Remembered) (a : Archive) (given : List Remembered)
+      → WalksOver list all a given old → HasNoLimit g old.store
+      → IfErr result (λ fault. fault ≡ faults.Store → HasFailed g old.store new.store ⊎ (¬ All IsReadable all))

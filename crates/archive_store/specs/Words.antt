@@ -1,5 +1,5 @@
 -- The numbers that stand for words.
-use Rattle.std.specs.Prelude.{ℤ, pos}
+use Rattle.std.specs.Prelude.{ℤ, pos, Bool, true, false}
 use Rattle.policy_core.specs.declared.access.Standing.{Standing}
 use Rattle.policy_core.specs.declared.access.Standing.TheVariants.{Public, Member, Subscriber, Moderator}
 use Rattle.archive_machine.specs.Commands.{Reply, taken_in, already_known}
@@ -16,3 +16,8 @@ standing_rank Moderator = pos 3
 abbrev pub added_reply : Added → Reply
 added_reply New = taken_in
 added_reply Known = already_known
+
+-- what became of it, by whether the list held it
+abbrev pub added_if : Bool → Added
+added_if true = Known
+added_if false = New

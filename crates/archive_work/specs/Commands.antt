@@ -1,5 +1,5 @@
 -- What the commands of the words do to the archive, and the word that answers each.
-use Rattle.std.specs.Prelude.{ℕ, Bool, true, false, List, codes, Option, Some, None, Result, Ok, Err, if◌then◌else◌}
+use Rattle.std.specs.Prelude.{◌≡◌, ℕ, Bool, true, false, List, codes, Option, Some, None, if◌then◌else◌}
 use Rattle.sqlite.specs.Effect.{Database}
 use Rattle.archive_machine.specs.Records.{Archive}
 use Rattle.archive_machine.specs.Commands as machine
@@ -33,6 +33,22 @@ is_keyed (restore list key) = is_key key
 is_keyed (embargo list key until) = is_key key
 is_keyed (lift list key) = is_key key
 is_keyed _ = true
+
+-- the key that it has, if that is valid
+abbrev pub if_key : List ℕ → Option (List ℕ)
+if_key key = if is_key key then Some key else None
+
+abbrev pub valid_key : TableCommand → Option (List ℕ)
+valid_key (withdraw list key by) = if_key key
+valid_key (restore list key) = if_key key
+valid_key (embargo list key until) = if_key key
+valid_key (lift list key) = if_key key
+valid_key _ = None
+
+-- the machine's command that it stands for, if the key that it has is valid
+abbrev pub StandsFor : TableCommand → Option machine.Command → Type 0
+StandsFor command None = is_keyed command ≡ false
+StandsFor command (Some it) = (is_keyed command ≡ true) × (it ≡ told command)
 
 -- What a command of the words does to the archive, and what it answers. No list holds a message of a key that is not valid: E8, before
 -- anything is looked up.
@@ -75,14 +91,3 @@ answer_line Restored = codes "restored\n"
 answer_line Embargoed = codes "embargoed\n"
 answer_line Lifted = codes "lifted\n"
 answer_line NoEmbargo = codes "no embargo\n"
-
--- ---- what the code makes of the store's answers
-
-abbrev pub done_by : {F : Type 0} → Answer → Result (Unit {0}) F → Result Answer F
-done_by answer (Ok done) = Ok answer
-done_by answer (Err fault) = Err fault
-
-abbrev pub whether_by : {F : Type 0} → (if_there if_not : Answer) → Result Bool F → Result Answer F
-whether_by if_there if_not (Ok true) = Ok if_there
-whether_by if_there if_not (Ok false) = Ok if_not
-whether_by if_there if_not (Err fault) = Err fault

@@ -7,7 +7,7 @@ use Rattle.luvazhimba_c.specs.declared.subjects.LuvBase.{LuvBase}
 pub record IsBaseOf (subject array : List ℕ) (found : LuvBase) : Type 0 where
   pub text : take (length (base_of subject)) array ≡ base_of subject
   pub len : found.len ≡ length (base_of subject)
-  pub reply : found.reply ≡ is_reply subject
+  pub is_reply : found.is_reply ≡ is_reply subject
 
 -- the array is too short for the base, whose length is said
 pub record WantsRoom (subject array : List ℕ) (found : LuvBase) : Type 0 where

@@ -1,5 +1,5 @@
 -- What a call answers: 0 where it did what its name says, and else why not.
-use Rattle.std.specs.Prelude.{ℕ, ◌^◌, ◌<◌, List, length}
+use Rattle.std.specs.Prelude.{◌≡◌, ℕ, ◌^◌, ◌<◌, ◌⊎◌, List, length}
 use Rattle.luvazhimba_c.specs.declared.refusals.Refusal.{Refusal}
 use Rattle.luvazhimba_c.specs.declared.refusals.Refusal.TheVariants.{NoRoom, Memory, Arrival, Place, Mbox, TooLong}
 
@@ -30,6 +30,10 @@ no_mbox = 5
 -- an array that is read is too long
 abbrev pub too_long : ℕ
 too_long = 6
+
+-- why a message is not read at its place
+abbrev pub IsOfMessages : ℕ → Type 0
+IsOfMessages number = (number ≡ no_memory) ⊎ (number ≡ outside) ⊎ (number ≡ no_instant)
 
 -- an array has more elements than 2^40
 abbrev pub IsTooLong : {X : Type 0} → List X → Type 0

@@ -11,13 +11,13 @@ use Rattle.luvazhimba_c.specs.declared.messages.LuvMessage.{LuvMessage}
 pub record StandsAt (bytes : List ℕ) (at : ℕ) (item : Item) (place : LuvMessage) (next : ℕ) : Type 0 where
   pub heading : List ℕ
   pub blank : List ℕ
-  pub is_line : lines (drop at bytes) ≡ heading ∷ lines (drop place.from bytes)
+  pub is_line : lines (drop at bytes) ≡ heading ∷ lines (drop place.start bytes)
   pub says : IsSeparator (content heading) item.envelope
   pub is_blank : IsBlank blank
   pub parts : drop at bytes ≡ heading ++ (item.text ++ (blank ++ drop next bytes))
-  pub begins : place.from ≡ at + length heading
-  pub ends : place.to ≡ place.from + length item.text
-  pub follows : next ≡ place.to + length blank
+  pub begins : place.start ≡ at + length heading
+  pub ends : place.end ≡ place.start + length item.text
+  pub follows : next ≡ place.end + length blank
   pub arrival : place.arrival ≡ item.envelope.arrival
 
 -- from `at` on the messages stand one behind the other, and behind the last one nothing stands
