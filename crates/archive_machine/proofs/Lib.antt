@@ -15,3 +15,4 @@ pub mod FirstLemmas
 pub mod RepeatLemmas
 pub mod LastingLemmas
 mod LastingExamples
+mod DecidingExamples

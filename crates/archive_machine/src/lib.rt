@@ -3,12 +3,14 @@
 #![tactic(auto)]
 
 mod addresses;
+mod found;
 mod keys;
 pub mod laws;
 mod messages;
 mod tokens;
 
 pub use addresses::{is_address, kept_address};
+pub use found::{Found, NOTHING};
 pub use keys::Key;
 pub use messages::Message;
 pub use tokens::is_token;

@@ -220,7 +220,7 @@ fn time_reading<S: Alter>(rt: &HostRuntime, store: &mut Store<S>) -> anyhow::Res
 fn walk<S: Alter>(alloc: Global, store: &mut Store<S>) -> anyhow::Result<()> {
     let mut walk = store.each_row(alloc, LIST)?;
     for _ in 0..walk.left() {
-        if walk.next()?.is_none() {
+        if walk.next(store)?.is_none() {
             bail!("a walk ended early");
         }
     }
