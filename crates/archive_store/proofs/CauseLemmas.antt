@@ -6,7 +6,6 @@ use Rattle.std.specs.Option.{IsSomeAnd}
 use Rattle.std.proofs.lemmas.List.Elements.{All-head, All-tail}
 use Rattle.sqlite_disk.specs.Disk.{MoreFaults}
 use Rattle.sqlite.specs.declared.error.Error.{Error}
-use Rattle.sqlite.specs.Effect.{Database}
 use Rattle.sqlite.specs.State.{State}
 use Rattle.archive_machine.specs.Records.{Message, Address}
 use Rattle.archive_machine.proofs.KeyLemmas.{IsUtf8-key}
@@ -48,11 +47,6 @@ by_error old new e (inr none) it = absurd none
 
 pub more_since : (old mid new : State) → Lasts old mid → MoreFaults mid.faults new.faults → MoreFaults old.faults new.faults
 more_since old mid new lasts more = omega (arith, more, lasts.shut.faults)
-
--- the cause of a call behind questions, which left the rows
-pub cause_since : (old mid new : State) (P : Database → Type 0) → Lasts old mid → mid.now ≡ old.now → MoreFaults mid.faults new.faults ⊎ P mid.now → MoreFaults old.faults new.faults ⊎ P old.now
-cause_since old mid new P lasts same (inl more) = inl (more_since old mid new lasts more)
-cause_since old mid new P lasts same (inr why) = inr (subst P same why)
 
 -- one behind others
 pub by_later : (old mid new : State) (e : Error) → Lasts old mid → IsCaused mid new e ⊎ ⊥ → fault_of e ≡ faults.Store → MoreFaults old.faults new.faults

@@ -1,5 +1,5 @@
 -- What a stop of the machine leaves in a command and behind it.
-use Rattle.std.proofs.Common.{◌≡◌, ◌⊎◌, inl, inr, refl, sym, ap, subst, ◌∙◌, ℕ, List, length, Option, Some, None, Result, Ok}
+use Rattle.std.proofs.Common.{◌≡◌, inl, inr, refl, sym, ap, subst, ◌∙◌, ℕ, List, length, Option, Some, None, Result, Ok}
 use Rattle.std.specs.Prelude.{⊤, IsTrue, Bool, true, false, is_some, ◌==◌, if◌then◌else◌}
 use Rattle.sqlite_trees.specs.Objects.{catalog_tree}
 use Rattle.sqlite_catalog.specs.Listing.{Lists}
@@ -18,7 +18,7 @@ use Rattle.archive_machine.specs.Questions.{has_list, messages_in}
 use Rattle.archive_tables.specs.Schema.{archive_schema, no_schema, schema_1, schema_2, schema_3}
 use Rattle.archive_tables.specs.Tables.{IsHeldAs, IsKept, AreTables, form_of, archive_in, archive_of}
 use Rattle.archive_tables.specs.Calls.{Asks}
-use Rattle.archive_tables.specs.Crashes.{IsStored, IsSafe, AddsNothing, AddsOnly, CrashesOver}
+use Rattle.archive_tables.specs.Crashes.{IsStored, IsSafe, AddsNothing, AddsOnly}
 use Rattle.archive_tables.proofs.EndLemmas.{archive_stays}
 use Rattle.archive_store.specs.Replies.{Does, Steps}
 use Rattle.archive_store.specs.Batches.{IsCounted}
@@ -45,28 +45,6 @@ module _ {S : Type 0} (g : Ghosts S) where
         (λ clean kept. let answer = passed_over it is clean kept in (so (archive_of (state g mid)) answer.0, answer.1));
     quiet = λ clean db may. before.quiet (it.ends.lasts.returned clean) db (it.quiet clean db may);
   }
-
-  -- what may be committed behind questions
-  pub steps_over : (old mid new : Held S) (P Needs : Archive → Type 0) (step : Archive → Outcome) (reply : Reply) (change : Archive → Archive)
-      → Looks g old mid P → (HasCleanDisk (state g new) → HasCleanDisk (state g mid))
-      → (IsKept (state g mid) → Needs (archive_of (state g mid)) → AddsOnly g mid new (IsStored (change (archive_of (state g mid)))))
-      → ((a : Archive) → P a → Needs a) → ((a : Archive) → P a → step a ≡ (change a, reply)) → CrashSteps g old new step
-  steps_over old mid new P Needs step reply change before was adds needs is = λ kept clean db may.
-      let k = before.learnt (was clean) kept in
-      let first = archive_of (state g old) in
-      let made = ap change (archive_stays k.same) ∙ ap (λ (o : Outcome). o.0) (sym (is first k.fact)) in
-      elim (adds k.kept (subst Needs (sym (archive_stays k.same)) (needs first k.fact)) clean db may) [
-        | inl earlier ↦ inl (before.quiet (was clean) db earlier)
-        | inr it ↦ inr (subst (λ a. IsStored a db) made it)
-      ]
-
-  -- a write by one statement, whether it succeeds or not
-  pub steps_by : (old mid new : Held S) (P Needs : Archive → Type 0) (step : Archive → Outcome) (reply : Reply) (change : Archive → Archive)
-      → Looks g old mid P → (HasCleanDisk (state g new) → HasCleanDisk (state g mid)) → CrashesOver g mid new Needs change
-      → ((a : Archive) → P a → Needs a) → ((a : Archive) → P a → step a ≡ (change a, reply)) → CrashSteps g old new step
-  steps_by old mid new P Needs step reply change before was crash needs is =
-      steps_over old mid new P Needs step reply change before was
-      (λ kept need clean db may. elim (crash None kept need clean db may) [ inl earlier ↦ inl earlier | inr made ↦ inr made.1 ]) needs is
 
   -- a message added to a list that is there and holds so many
   pub steps_if_counted : (old mid new : Held S) (list : List ℕ) (item : Item) (count : ℕ) → Looks g old mid (λ a. ⊤ × (true ≡ has_list a list))

@@ -1,35 +1,30 @@
 -- How a command ends, call by call: what the calls before did, and each exit behind them.
-use Rattle.std.proofs.Common.{◌≡◌, ◌≤◌, ◌<◌, ◌⊎◌, ◌∙◌, ◌+◌, ℕ, ℤ, true, false, inl, inr, List, None, Some, Option, Result, Ok, Err, IfErr, OnOk, refl, sym, ap, subst, arith}
-use Rattle.std.specs.Prelude.{IsTrue, IsErrAnd, IfSome, MatchResult, option_map, if◌then◌else◌}
-use Rattle.std.specs.List.{list_any}
+use Rattle.std.proofs.Common.{◌≡◌, ◌≤◌, ◌<◌, ◌⊎◌, ◌∙◌, ◌+◌, ℕ, inl, inr, List, None, Some, Option, Result, Ok, Err, IfErr, OnOk, refl, sym, ap, subst, arith}
+use Rattle.std.specs.Prelude.{IsTrue, IsErrAnd, IfSome, MatchResult}
 use Rattle.sqlite_disk.specs.Disk.{MoreFaults}
 use Rattle.sqlite.specs.declared.error.Error.{Error}
 use Rattle.sqlite.specs.Effect.{Database}
 use Rattle.sqlite.specs.Store.{Ghosts}
 use Rattle.sqlite.specs.Held.{Held, state}
 use Rattle.sqlite.specs.State.{State, HasCleanDisk}
-use Rattle.archive_machine.specs.Records.{Archive, Grant, Address}
-use Rattle.archive_machine.specs.Questions.{is_grant, is_address_of}
-use Rattle.archive_machine.specs.Commands.{Refusal, Reply, refused as refused_by}
-use Rattle.archive_machine.specs.Machine.{Outcome}
+use Rattle.archive_machine.specs.Records.{Archive}
+use Rattle.archive_machine.specs.Commands.{Refusal}
 use Rattle.archive_tables.specs.Tables.{IsKept, archive_in}
-use Rattle.archive_tables.specs.Calls.{Asks, Writes, Lasts, Ends, IsCaused, FailsByFaultOr, Rests}
-use Rattle.archive_tables.proofs.CauseLemmas.{each_error}
+use Rattle.archive_tables.specs.Calls.{Asks, Lasts, Ends, IsCaused, Rests}
 use Rattle.archive_tables.proofs.EndLemmas.{rests_behind}
-use Rattle.archive_tables.specs.Statements.{Statement, IsRefused, changing_grant, adding_grant, changing_address, adding_address}
+use Rattle.archive_tables.specs.Statements.{Statement, IsRefused}
 use Rattle.archive_tables.proofs.LastLemmas.{lasts_then, lasts_same}
 use Rattle.archive_database.specs.Faults.{FailsByDiskOr}
 use Rattle.archive_database.specs.declared.faults.Fault.{Fault}
 use Rattle.archive_store.specs.Held.{held_of, wants_of}
-use Rattle.archive_store.specs.Replies.{fault_of, fault_in, refusal, IsOneOf, RefusedFor, Steps, Does, reply_of}
-use Rattle.archive_store.specs.Refusals.{IsGrantRefused, IsAddressRefused}
+use Rattle.archive_store.specs.Replies.{fault_of, fault_in, refusal, IsOneOf}
 use Rattle.archive_store.specs.Wanting.{IsWant}
 use Rattle.archive_store.specs.Told.{EndsBy, HasFailed}
 use Rattle.archive_store.specs.declared.store.Store.{Store}
 use Rattle.archive_store.specs.declared.faults.StoreFault.{StoreFault}
 use Rattle.archive_store.specs.declared.faults.StoreFault.TheVariants as faults
 use Rattle.archive_store.proofs.CauseLemmas.{by_cause, is_database}
-use Rattle.archive_store.proofs.PassLemmas.{Passes, passed_over, passed_resting, passed_unwritten, saw_same}
+use Rattle.archive_store.proofs.PassLemmas.{Passes, passed_over, saw_same}
 
 -- ---- the count of refused memory
 
@@ -70,45 +65,10 @@ pub blame_fault : {A : Type 0} (old new : State) (X : Type 0) (told : Result A F
 blame_fault old new X (Ok a) fault is why it = absurd is
 blame_fault old new X (Err e) fault is why it = why (is_database e (sym is ∙ it))
 
-caused_since : (a b c : State) (e : Error) → Lasts a b → IsCaused b c e → IsCaused a c e
-caused_since a b c e before (inl none) = inl none
-caused_since a b c e before (inr more) = inr (omega (arith, more, before.shut.faults))
-
 -- ---- the statement that is refused
 
 pub same_statement : (db : Database) {a b : Statement} → a ≡ b → IsRefused a db → IsRefused b db
 same_statement db is refused = subst (λ st. IsRefused st db) is refused
-
-abbrev grant_is : (person list : List ℕ) (rank from until : ℤ) → Grant
-grant_is person list rank from until = record { person = person; list = list; rank = rank; from_day = from; until_day = until }
-
-module _ (db : Database) (person list : List ℕ) (rank from until rank' from' until' : ℤ) (r : rank' ≡ rank) (f : from' ≡ from) (u : until' ≡ until) where
-  grant_refused : IsGrantRefused (grant_is person list rank' from' until') db → IsGrantRefused (grant_is person list rank from until) db
-  grant_refused refused = subst (λ x. IsGrantRefused x db) (λ i. grant_is person list (r i) (f i) (u i)) refused
-
-  pub change_refused : true ≡ list_any (is_grant person list rank') (archive_in db.trees).grants → IsRefused (changing_grant (grant_is person list rank' from' until')) db
-      → IsGrantRefused (grant_is person list rank from until) db
-  change_refused had refused =
-      let x : Grant = grant_is person list rank' from' until' in
-      grant_refused (subst (λ b. IsRefused (if b then changing_grant x else adding_grant x) db) had refused)
-
-  pub add_refused : false ≡ list_any (is_grant person list rank') (archive_in db.trees).grants → IsRefused (adding_grant (grant_is person list rank' from' until')) db
-      → IsGrantRefused (grant_is person list rank from until) db
-  add_refused had refused =
-      let x : Grant = grant_is person list rank' from' until' in
-      grant_refused (subst (λ b. IsRefused (if b then changing_grant x else adding_grant x) db) had refused)
-
-module _ (db : Database) (x : Address) where
-  pub change_address_refused : true ≡ list_any (is_address_of x.person) (archive_in db.trees).addresses → IsRefused (changing_address x) db → IsAddressRefused x db
-  change_address_refused had refused = subst (λ b. IsRefused (if b then changing_address x else adding_address x) db) had refused
-
-  pub add_address_refused : false ≡ list_any (is_address_of x.person) (archive_in db.trees).addresses → IsRefused (adding_address x) db → IsAddressRefused x db
-  add_address_refused had refused = subst (λ b. IsRefused (if b then changing_address x else adding_address x) db) had refused
-
--- the address as it is kept
-pub address_refused : (db : Database) (person address kept : List ℕ) → kept ≡ address → IsAddressRefused (record { person = person; address = kept }) db
-    → IsAddressRefused (record { person = person; address = address }) db
-address_refused db person address kept is refused = subst (λ a. IsAddressRefused (record { person = person; address = a }) db) is refused
 
 module _ {S : Type 0} (g : Ghosts S) where
   -- ---- calls that changed nothing
@@ -141,19 +101,6 @@ module _ {S : Type 0} (g : Ghosts S) where
   learnt old mid new {a = a} {Says = Says} before asks is clean kept =
       let was = asks.ends.lasts.returned clean in
       subst (λ (db : Database). Says (archive_in db.trees) a) (before.same was) (passed_over asks is clean (before.kept was kept)).0
-
-  -- why a write on the connection failed that stands behind questions
-  pub write_caused : (old mid new : Held S) {A : Type 0} {Needs : Archive → Type 0} {change : Archive → Archive} {statement : Statement} (r : Result A Error) (Refused : Type 0)
-      → Stood old mid → Writes g mid new r Needs change statement
-      → (HasCleanDisk (state g new) → IsKept (state g old) → IsRefused statement (state g old).now → Refused) → FailsByFaultOr g old new r Refused
-  write_caused old mid new {statement = statement} r Refused before writes turn = λ clean kept free.
-      let was = writes.ends.lasts.returned clean in
-      each_error r (λ e. IsCaused (state g mid) (state g new) e ⊎ IsRefused statement (state g mid).now) (λ e. IsCaused (state g old) (state g new) e ⊎ Refused)
-      (λ e why. elim why [
-        | inl cause ↦ inl (caused_since (state g old) (state g mid) (state g new) e before.lasts cause)
-        | inr refused ↦ inr (turn clean kept (subst (IsRefused statement) (before.same was) refused))
-      ])
-      (writes.caused clean None (before.kept was kept) (before.lasts.limit ∙ free))
 
   module _ (old new : Store S) (mid : Held S) (wants : ℕ) (reasons : List Refusal) where
     -- ---- an exit behind a call that failed
@@ -200,30 +147,7 @@ module _ {S : Type 0} (g : Ghosts S) where
         (λ clean kept free. blame_error (state g mid) (state g (held_of new)) ⊥ told fault told_is (asks.caused clean kept free))
         (λ clean kept bad. absurd bad)
 
-    -- a write that failed
-    pub stops_writing : {A B : Type 0} (Refused : Database → Type 0) (result : Result B StoreFault) (fault : StoreFault) {told : Result A Error} {Needs : Archive → Type 0}
-        {change : Archive → Archive} {statement : Statement}
-        → Stood (held_of old) mid → wants_of old ≤ wants → Writes g mid (held_of new) told Needs change statement → IsErrAnd told (λ e. fault ≡ fault_of e)
-        → refusal fault ≡ None → CountsFault fault wants (wants_of new) → IsErrAnd result (λ f. f ≡ fault)
-        → (HasCleanDisk (state g mid) → IsKept (state g (held_of old)) → IsRefused statement (state g (held_of old)).now → Refused (state g (held_of old)).now)
-        → EndsBy g old new (HasFailed g old new ⊎ Refused (state g (held_of old)).now) result reasons
-    stops_writing Refused result fault {told = told} {statement = statement} before first writes told_is none counts is turn =
-        stops (IsRefused statement) Refused result fault before first writes.ends.lasts none counts is
-        (λ clean kept free. blame_error (state g mid) (state g (held_of new)) (IsRefused statement (state g mid).now) told fault told_is (writes.caused clean None kept free))
-        turn
-
     -- ---- an exit behind a call that was answered
-
-    pub ends_done : {A B E : Type 0} (Cause : Type 0) (b : B) {told : Result A E} {a : A}
-        → Stood (held_of old) mid → wants_of old ≤ wants → Ends g mid (held_of new) told → told ≡ Ok a
-        → wants ≤ wants_of new → EndsBy g old new Cause (Ok b) reasons
-    ends_done Cause b before first last is counts = record {
-      lasts = lasts_then (state g (held_of old)) (state g mid) (state g (held_of new)) before.lasts last.lasts;
-      was_open = λ clean. before.lasts.stays_shut (last.lasts.returned clean) (subst (λ r. OnOk r (IsTrue (state g mid).is_open)) is (last.was_open clean));
-      kind = tt;
-      counted = (omega (arith, counts, first), tt);
-      caused = λ clean kept free. tt;
-    }
 
     -- behind a call that says nothing of whether the connection was open
     pub ends_later : {B : Type 0} (Cause : Type 0) (b : B) → Stood (held_of old) mid → (HasCleanDisk (state g mid) → IsTrue (state g (held_of old)).is_open)
@@ -258,32 +182,3 @@ module _ {S : Type 0} (g : Ghosts S) where
     counted = (omega (arith, first, more), (λ want. omega (arith, first, more)));
     caused = λ clean kept free it. absurd (let bad : faults.Memory ≡ faults.Store = sym is ∙ it in cc);
   }
-
-  -- ---- what a command does that stops for memory or the database
-
-  fails : {B : Type 0} (old new : Held S) (step : Archive → Outcome) (says : B → Reply) (result : Result B StoreFault) (fault : StoreFault)
-      → IsErrAnd result (λ f. f ≡ fault) → refusal fault ≡ None → (HasCleanDisk (state g new) → IsKept (state g old) → Rests (state g old) (state g new))
-      → Does g old new step (reply_of says result)
-  fails old new step says (Ok b) fault is none rests = absurd is
-  fails old new step says (Err f) fault is none rests = λ clean kept.
-      subst (λ o. Steps (state g old) (state g new) step (option_map refused_by o)) (sym (ap refusal is ∙ none)) (rests clean kept)
-
-  pub fails_asking : {A B : Type 0} (old mid new : Held S) (step : Archive → Outcome) (says : B → Reply) (result : Result B StoreFault) (fault : StoreFault)
-      {told : Result A Error} {Says : Archive → A → Type 0} {Unread : Type 0}
-      → Stood old mid → Asks g mid new told Says Unread → IsErrAnd told (λ e. fault ≡ fault_of e) → refusal fault ≡ None → IsErrAnd result (λ f. f ≡ fault)
-      → Does g old new step (reply_of says result)
-  fails_asking old mid new step says result fault {told = told} before asks told_is none is =
-      fails old new step says result fault is none
-      (λ clean kept.
-      let was = asks.ends.lasts.returned clean in
-      rests_behind None (state g old) (state g mid) (state g new) (before.same was) (passed_resting told (λ e. fault ≡ fault_of e) asks told_is clean (before.kept was kept)))
-
-  pub fails_writing : {A B : Type 0} (old mid new : Held S) (step : Archive → Outcome) (says : B → Reply) (result : Result B StoreFault) (fault : StoreFault)
-      {told : Result A Error} {Needs : Archive → Type 0} {change : Archive → Archive} {statement : Statement}
-      → Stood old mid → Writes g mid new told Needs change statement → IsErrAnd told (λ e. fault ≡ fault_of e) → refusal fault ≡ None → IsErrAnd result (λ f. f ≡ fault)
-      → Does g old new step (reply_of says result)
-  fails_writing old mid new step says result fault {told = told} before writes told_is none is =
-      fails old new step says result fault is none
-      (λ clean kept.
-      let was = writes.ends.lasts.returned clean in
-      rests_behind None (state g old) (state g mid) (state g new) (before.same was) (passed_unwritten told (λ e. fault ≡ fault_of e) writes told_is clean (before.kept was kept)))

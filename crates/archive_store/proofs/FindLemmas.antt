@@ -159,12 +159,6 @@ ends_first {B = B} g old new r fault is ends because whys = record {
   caused = λ returned held free. passed_on r fault _ is (λ it. because (ends.caused returned held free it));
 }
 
--- whatever its reason
-pub fails_as : {A : Type 0} (r : Result A StoreFault) (fault : StoreFault) → IsErrAnd r (λ told. told ≡ fault) → (P : A → Type 0) (R : Refusal → Type 0) (X : Type 0)
-    → MatchOption (refusal fault) X R → MatchResult r P (λ told. MatchOption (refusal told) X R)
-fails_as (Ok a) fault is P R X it = absurd is
-fails_as (Err told) fault is P R X it = subst (λ f. MatchOption (refusal f) X R) (sym is) it
-
 -- ---- one question behind another
 
 -- what has no reason says what it leaves

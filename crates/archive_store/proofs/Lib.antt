@@ -4,7 +4,6 @@ pub mod StepLemmas
 mod EndLemmas
 pub mod ReadingLemmas
 pub mod RunLemmas
-mod CountLemmas
 pub mod BatchLemmas
 pub mod Joins
 pub mod RightLemmas
@@ -22,3 +21,4 @@ mod PassLemmas
 mod FindLemmas
 pub mod StopLemmas
 mod AdoptLemmas
+pub mod CarryLemmas

@@ -1,29 +1,21 @@
 -- What a call of the tables told and a store handed on: the same value, or its error as a fault.
 use Rattle.std.proofs.Common.{◌≡◌, None, Ok, Err, Result, IfErr, OnOk, List, sym, subst, ◌∙◌}
-use Rattle.std.specs.Prelude.{⊤, IsTrue, IsErrAnd, Option, Some, MatchResult, MatchOption}
+use Rattle.std.specs.Prelude.{IsTrue, IsErrAnd, Option, Some, MatchResult, MatchOption}
 use Rattle.sqlite.specs.declared.error.Error.{Error}
 use Rattle.sqlite.specs.Store.{Ghosts}
 use Rattle.sqlite.specs.Held.{Held, state}
 use Rattle.sqlite.specs.State.{State, HasCleanDisk}
 use Rattle.archive_machine.specs.Records.{Archive}
 use Rattle.archive_tables.specs.Tables.{IsKept, archive_of}
-use Rattle.archive_tables.specs.Statements.{Statement}
-use Rattle.archive_tables.specs.Calls.{Asks, Writes, Changes, Rests, StaysOver, Lasts, AnswersOpen}
+use Rattle.archive_tables.specs.Calls.{Asks, Rests, StaysOver, Lasts, AnswersOpen}
 use Rattle.archive_tables.proofs.EndLemmas.{archive_stays}
 use Rattle.archive_machine.specs.Commands.{Refusal}
 use Rattle.archive_store.specs.Replies.{fault_of, refusal, Stays, RefusedFor}
 use Rattle.archive_store.specs.declared.faults.StoreFault.{StoreFault}
 use Rattle.archive_store.specs.declared.faults.StoreFault.TheVariants as faults
-use Rattle.archive_store.proofs.AskLemmas.{answered, unanswered, written, unwritten}
+use Rattle.archive_store.proofs.AskLemmas.{answered, unanswered}
 
 -- ---- what was told of a value, or of an error
-
-pub of_ok : {A E X : Type 0} (Y : Type 0) {told : Result A E} {a : A} → told ≡ Ok a → MatchResult told (λ _. X) (λ _. Y) → X
-of_ok {X = X} Y is it = subst (λ r. MatchResult r (λ _. X) (λ _. Y)) is it
-
-pub of_err : {A E Y : Type 0} (told : Result A E) (Is : E → Type 0) (X : Type 0) → IsErrAnd told Is → MatchResult told (λ _. X) (λ _. Y) → Y
-of_err (Ok a) Is X is it = absurd is
-of_err (Err e) Is X is it = it
 
 -- ---- a question, and a write
 
@@ -49,21 +41,6 @@ module _ {S A : Type 0} {g : Ghosts S} {old new : Held S} where
       → HasCleanDisk (state g new) → IsKept (state g old) → Rests (state g old) (state g new)
   passed_resting (Ok a) Is asks is = absurd is
   passed_resting (Err e) Is asks is = unanswered asks
-
-  -- a write that is done, or not
-  pub passed_written : {told : Result A Error} {a : A} {change : Archive → Archive} {statement : Statement} → Writes g old new told (λ _. ⊤) change statement → told ≡ Ok a
-      → HasCleanDisk (state g new) → IsKept (state g old) → Changes (state g old) (state g new) change
-  passed_written {change = change} {statement = statement} writes is = written (subst (λ r. Writes g old new r (λ _. ⊤) change statement) is writes)
-
-  -- one that needs something of the archive
-  pub passed_needing : {told : Result A Error} {a : A} {Needs : Archive → Type 0} {change : Archive → Archive} {statement : Statement} → Writes g old new told Needs change statement → told ≡ Ok a
-      → HasCleanDisk (state g new) → IsKept (state g old) → Needs (archive_of (state g old)) → Changes (state g old) (state g new) change
-  passed_needing {Needs = Needs} {change = change} {statement = statement} writes is clean kept = (subst (λ r. Writes g old new r Needs change statement) is writes).over clean None kept
-
-  pub passed_unwritten : (told : Result A Error) (Is : Error → Type 0) {Needs : Archive → Type 0} {change : Archive → Archive} {statement : Statement} → Writes g old new told Needs change statement → IsErrAnd told Is
-      → HasCleanDisk (state g new) → IsKept (state g old) → Rests (state g old) (state g new)
-  passed_unwritten (Ok a) Is writes is = absurd is
-  passed_unwritten (Err e) Is writes is = unwritten writes
 
 -- ---- what E15 means
 

@@ -16,14 +16,15 @@ use Rattle.archive_tables.proofs.EndLemmas.{archive_stays}
 use Rattle.archive_store.specs.Held.{held_of, wants_of}
 use Rattle.archive_store.specs.Replies.{Steps}
 use Rattle.archive_store.specs.Refusals.{IsCommandRefused, StopsRun}
-use Rattle.archive_store.specs.Running.{command_of, answer_of, CausedCounted, RanAll}
-use Rattle.archive_store.specs.Told.{EndsOr, EndsPart, HasFailed}
+use Rattle.archive_store.specs.Carrying.{command_of}
+use Rattle.archive_machine.specs.declared.found.Found.{Found}
+use Rattle.archive_store.specs.Running.{answer_of, EndsCommand, RanAll}
+use Rattle.archive_store.specs.Told.{EndsOr, HasFailed}
 use Rattle.archive_store.specs.declared.store.Store.{Store}
 use Rattle.archive_store.specs.declared.faults.StoreFault.{StoreFault}
 use Rattle.archive_store.specs.declared.faults.StoreFault.TheVariants as faults
-use Rattle.archive_store.specs.declared.running.Counted.{Counted}
 use Rattle.archive_store.proofs.WantLemmas.{raises_carried}
-use Rattle.archive_store.specs.declared.running.Command.{Command as Given}
+use Rattle.archive_store.specs.declared.commands.Command.{Command as Given}
 use Rattle.archive_store.specs.declared.running.Outcome.{Outcome}
 
 -- one command more
@@ -94,19 +95,14 @@ told_on : {A B : Type 0} (X : Type 0) (answer : Result A StoreFault) (result : R
 told_on X answer (Ok b) is why = tt
 told_on {A = A} X answer (Err fault) is why = subst (λ (r : Result A StoreFault). IfErr r (λ f. f ≡ faults.Store → X)) is why
 
-module _ {S A : Type 0} (g : Ghosts S) (old new : Store S) (counted : Option Counted) (given : Given) (command : Command) (answer : Result A StoreFault) (result : Result Outcome StoreFault)
-    (is : command_of given ≡ command) (told : IfErr result (λ fault. answer ≡ Err fault)) where
-  -- a part of a call, carried out as a command
-  pub ends_told : EndsPart g old new (CausedCounted g old new counted command answer) answer → EndsPart g old new (CausedCounted g old new counted (command_of given) result) result
-  ends_told ends = record {
-    lasts = ends.lasts;
-    counted = raises_carried (wants_of old) (wants_of new) result answer told ends.counted;
-    caused = subst (λ x. CausedCounted g old new counted x result) (sym is) (λ right clean kept free. told_on (HasFailed g old new ⊎ IsCommandRefused command (state g (held_of old)).now) answer result told (ends.caused right clean kept free));
-  }
-
-  -- a call
-  pub ends_called : (reasons : List Refusal) → EndsOr g old new answer reasons (IsCommandRefused command) → EndsPart g old new (CausedCounted g old new counted (command_of given) result) result
-  ends_called reasons ends = ends_told (record { lasts = ends.lasts; counted = ends.counted; caused = λ right. ends.caused })
+-- a command that was carried out
+pub ends_told : {S : Type 0} (g : Ghosts S) (old new : Store S) (command : Command) (answer : Result Found StoreFault) (result : Result Outcome StoreFault)
+    → IfErr result (λ fault. answer ≡ Err fault) → (reasons : List Refusal) → EndsOr g old new answer reasons (IsCommandRefused command) → EndsCommand g old new command result
+ends_told g old new command answer result told reasons ends = record {
+  lasts = ends.lasts;
+  counted = raises_carried (wants_of old) (wants_of new) result answer told ends.counted;
+  caused = λ clean kept free. told_on (HasFailed g old new ⊎ IsCommandRefused command (state g (held_of old)).now) answer result told (ends.caused clean kept free);
+}
 
 -- the next of the commands is refused
 pub stops_run : (commands : List Given) (done i : ℕ) (given : Given) (db : Database) → done ≡ i → i < length commands → given ≡ get_or commands i given

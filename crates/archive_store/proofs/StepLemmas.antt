@@ -56,14 +56,3 @@ module _ {S : Type 0} (g : Ghosts S) where
       let k = learnt (was clean) kept in
       let w = does clean k.kept in
       (w.0, ap (λ a. (a, reply)) (w.1 ∙ ap change (archive_stays k.same)) ∙ sym (is (archive_of (state g old)) k.fact))
-
-  -- the same, where the write needs something of the archive
-  pub writes_when : (old mid new : Held S) (P Needs : Archive → Type 0) (step : Archive → Outcome) (reply : Reply) (change : Archive → Archive)
-      → Learns old mid P → WasClean mid new
-      → (HasCleanDisk (state g new) → IsKept (state g mid) → Needs (archive_of (state g mid)) → Changes (state g mid) (state g new) change)
-      → ((a : Archive) → P a → Needs a)
-      → ((a : Archive) → P a → step a ≡ (change a, reply)) → Does g old new step (Some reply)
-  writes_when old mid new P Needs step reply change learnt was does needs is = λ clean kept.
-      let k = learnt (was clean) kept in
-      let w = does clean k.kept (subst Needs (sym (archive_stays k.same)) (needs (archive_of (state g old)) k.fact)) in
-      (w.0, ap (λ a. (a, reply)) (w.1 ∙ ap change (archive_stays k.same)) ∙ sym (is (archive_of (state g old)) k.fact))

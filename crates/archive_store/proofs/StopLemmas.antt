@@ -11,14 +11,13 @@ use Rattle.mbox_items.specs.Division.{Item}
 use Rattle.archive_machine.specs.Records.{Archive}
 use Rattle.archive_machine.specs.Commands.{Reply, add}
 use Rattle.archive_machine.specs.Machine.{Outcome, added_within, message_limit}
-use Rattle.archive_tables.specs.Tables.{IsKept, archive_in, archive_of}
+use Rattle.archive_tables.specs.Tables.{archive_in}
 use Rattle.archive_tables.specs.Calls.{Asks, AsksAnywhere, IsCaused, Lasts}
 use Rattle.archive_store.specs.Replies.{fault_of}
 use Rattle.archive_store.specs.Refusals.{IsCarried, IsCommandRefused, MakeRows, StopsAmong, WritesFor}
 use Rattle.archive_store.specs.declared.faults.StoreFault.{StoreFault}
 use Rattle.archive_store.specs.declared.faults.StoreFault.TheVariants as faults
 use Rattle.archive_store.proofs.CauseLemmas.{by_cause}
-use Rattle.archive_store.proofs.CrashLemmas.{Looks}
 
 -- ---- a question
 
@@ -50,12 +49,6 @@ stopped_by Y (Err h) f X is why = λ it. why (sym is ∙ it)
 -- what the machine answers is known
 pub carried_as : (o p : Outcome) → o ≡ p → IsCarried p.1 → IsCarried o.1
 carried_as o p is so = subst (λ (r : Reply). IsCarried r) (sym (ap (λ (x : Outcome). x.1) is)) so
-
--- what the machine answers is known of what was found of the tables
-pub carried_by : {S : Type 0} (g : Ghosts S) (old mid : Held S) (P : Archive → Type 0) (step : Archive → Outcome) (reply : Reply) (change : Archive → Archive) → Looks g old mid P
-    → ((a : Archive) → P a → step a ≡ (change a, reply)) → IsCarried reply → HasCleanDisk (state g mid) → IsKept (state g old) → IsCarried (step (archive_in (state g old).now.trees)).1
-carried_by g old mid P step reply change looks is so clean kept =
-    carried_as (step (archive_of (state g old))) (change (archive_of (state g old)), reply) (is (archive_of (state g old)) (looks.learnt clean kept).fact) so
 
 -- who is answered behind a question sees what was seen before it
 pub same_since : {A E : Type 0} (old mid new : State) (r : Result A E) → mid.now ≡ old.now → OnOk r (new.now ≡ mid.now) → OnOk r (new.now ≡ old.now)

@@ -1,6 +1,6 @@
 -- Walks over the messages of a list.
-use Rattle.std.proofs.Common.{◌≡◌, ℕ, ℤ, pos, ◌+◌, ◌<◌, ◌≤◌, true, List, [], ◌∷◌, ◌++◌, length, get_or, drop, map, bytes_eq, refl, ap, sym, subst, append_assoc, ◌∙◌, Option, Some, None, Result, Ok, Err, IfErr, ◌⊎◌, inl, inr}
-use Rattle.std.specs.Prelude.{IsErrAnd, MatchOption, MatchResult, option_map, slice_get, Vec, ◌&&◌, Bool, false, filter}
+use Rattle.std.proofs.Common.{arith, zero, suc, ◌≡◌, ℕ, ℤ, ◌+◌, ◌<◌, ◌≤◌, true, List, [], ◌∷◌, ◌++◌, length, get_or, drop, map, bytes_eq, refl, ap, sym, subst, append_assoc, ◌∙◌, Option, Some, None, Result, Ok, Err, IfErr, ◌⊎◌, inl, inr}
+use Rattle.std.specs.Prelude.{option_map, slice_get, Vec, ◌&&◌, Bool, false, filter}
 use Rattle.std.specs.declared.alloc.Global.{Global}
 use Rattle.std.proofs.lemmas.Option.{slice_get_cases, slice_get_within, get_or_from_slice_get}
 use Rattle.std.specs.List.{All, AllByRecursion}
@@ -26,14 +26,15 @@ use Rattle.archive_tables.specs.declared.rows.DatedMarksRow.{DatedMarksRow}
 use Rattle.archive_tables.specs.Tables.{AreTables, archive_in}
 use Rattle.archive_tables.proofs.LastLemmas.{lasts_then}
 use Rattle.archive_store.specs.Replies.{refusal, Answers}
-use Rattle.archive_store.specs.Held.{held_of, wants_of}
-use Rattle.archive_store.specs.Told.{HoldsTables, IsOpen, HasReturned, HadReturned, HasFailed, Lasts, CausedOr, EndsAsk, EndsAskOr, EndsUnrefused, archive_in as now_holds}
-use Rattle.archive_store.specs.Wanting.{IsWant, Raises}
+use Rattle.archive_store.specs.Held.{held_of}
+use Rattle.archive_store.specs.Told.{HoldsTables, HasReturned, HadReturned, CausedOr, EndsAsk, EndsAskOr, EndsUnrefused, archive_in as now_holds}
+use Rattle.archive_store.specs.Wanting.{IsWant}
 use Rattle.archive_store.proofs.CauseLemmas.{more_since}
 use Rattle.archive_store.proofs.FollowLemmas.{when_ok}
 use Rattle.archive_store.proofs.PassLemmas.{kind_last}
 use Rattle.archive_store.proofs.WantLemmas.{raises_after}
-use Rattle.archive_store.specs.Walking.{Walk, WalksOn, WalksOver, BeginsOver, GivesAll, StopsAll, now_in, rows_of}
+use Rattle.archive_store.specs.Walking.{Walk, WalksOn, WalksOver, BeginsOver, GivesAll, StopsAll, ahead_of, now_in, over, rows_of}
+use Rattle.archive_store.specs.declared.walking.EachRow.{EachRow}
 use Rattle.archive_store.specs.declared.store.Store.{Store}
 use Rattle.archive_store.specs.declared.faults.StoreFault.{StoreFault}
 
@@ -60,6 +61,25 @@ nothing_ahead f places at left ahead past = go left (sym (ap (map f) (drop_all a
 pub nothing_more : {A : Type 0} (xs : List A) → xs ++ [] ≡ xs
 nothing_more [] = refl
 nothing_more (x ∷ xs) = ap (λ ys. x ∷ ys) (nothing_more xs)
+
+-- those behind the next
+behind_first : (f : ℤ → Option Message) (places : List ℤ) (next : Message) (rest : List Message) → map f places ≡ map Some (next ∷ rest) → map f (drop 1 places) ≡ map Some rest
+behind_first f [] next rest is = absurd cc
+behind_first f (p ∷ places) next rest is = cc
+
+-- the numbers behind one that is passed by
+drop_suc : (places : List ℤ) (at : ℕ) → drop (suc at) places ≡ drop 1 (drop at places)
+drop_suc places zero = refl
+drop_suc [] (suc at) = refl
+drop_suc (p ∷ places) (suc at) = drop_suc places at
+
+pub drop_next : (places : List ℤ) (at : ℕ) → drop (at + 1) places ≡ drop 1 (drop at places)
+drop_next places at =
+    let is : at + 1 ≡ suc at = omega (arith) in
+    ap (λ n. drop n places) is ∙ drop_suc places at
+
+pub drop_none : (places : List ℤ) (at : ℕ) → length places ≤ at → drop at places ≡ drop 1 (drop at places)
+drop_none places at past = drop_all at places past ∙ sym (ap (drop 1) (drop_all at places past))
 
 -- past the last number all were given
 pub all_given : (f : ℤ → Option Message) (places : List ℤ) (at : ℕ) (given left all : List Message) → map f (drop at places) ≡ map Some left → given ++ left ≡ all
@@ -149,40 +169,27 @@ author_of_list list key a =
     messages_of_list list (by_filed_date (filter (is_filed_by_author list key) (filed a)))
     (sorted_of_list list (filter (is_filed_by_author list key) (filed a)) (wanted_of_list list (λ (f : Filed). bytes_eq f.1.author key) (filed a)))
 
--- a fault that has no reason
-pub without_reason : {A : Type 0} (r : Result A StoreFault) (Q : StoreFault → Type 0) (P : A → Type 0) (R : Refusal → Type 0) {X : Type 0} → IsErrAnd r (λ fault. Q fault × (refusal fault ≡ None)) → X
-    → MatchResult r P (λ fault. MatchOption (refusal fault) X R)
-without_reason (Ok x) Q P R none it = absurd none
-without_reason (Err fault) Q P R why it = rw why.1 it
-
 pub past_end : {A : Type 0} (xs : List A) (i : ℕ) → slice_get xs i ≡ None → length xs ≤ i
 past_end xs i none = elim ((slice_get_cases xs i).1) [ inl found ↦ absurd (let bad = sym none ∙ found.2 in cc) | inr past ↦ past.0 ]
 
 module _ {S : Type 0} (g : Ghosts S) where
-  -- the numbers that were found are those that the walk holds
-  pub at_start : (mid old : Store S) (list : List ℕ) (which : Trees → List ℤ) (walk : Walk S) (places : Vec ℤ Global) → walk.places ≡ places
-      → (list_refusal (now_holds g old) list ≡ None) × HoldsTables g mid × (now_holds g mid ≡ now_holds g old) × (places.items ≡ which (rows_of g mid))
-      → (list_refusal (now_holds g old) list ≡ None) × HoldsTables g mid × (now_holds g mid ≡ now_holds g old) × (walk.places.items ≡ which (rows_of g mid))
-  at_start mid old list which walk places same it = (it.0, it.1, it.2, ap (λ (v : Vec ℤ Global). v.items) same ∙ it.3)
-
   pub begins_walk : (old mid : Store S) (list : List ℕ) (which : Trees → List ℤ) (all : Archive → List Message)
       → ((trees : Trees) → AreTables trees → map (message_at trees) (which trees) ≡ map Some (all (archive_in trees))) → ((a : Archive) → AreOfList list (all a))
-      → (walk : Walk S) → walk.store.now ≡ mid → walk.at ≡ 0 → {A : Type 0} {found : A} {reasons : List Refusal} → EndsAsk g old mid (Ok found) reasons
+      → (walk : EachRow) → walk.at ≡ 0 → {A : Type 0} {found : A} {reasons : List Refusal} → EndsAsk g old mid (Ok found) reasons
       → (HasReturned g mid → HoldsTables g old → (list_refusal (now_holds g old) list ≡ None) × HoldsTables g mid × (now_holds g mid ≡ now_holds g old) × (walk.places.items ≡ which (rows_of g mid)))
-      → BeginsOver g old list all walk
-  begins_walk old mid list which all shown of_list walk store at ends found = record {
-    lasts = subst (λ s. Lasts g old s) (sym store) ends.lasts;
-    was_open = λ returned. ends.was_open (subst (HasReturned g) store returned);
-    counted = subst (λ s. wants_of old ≤ wants_of s) (sym store) ends.counted.0;
+      → BeginsOver g old list all (over mid walk)
+  begins_walk old mid list which all shown of_list walk at ends found = record {
+    lasts = ends.lasts;
+    was_open = ends.was_open;
+    counted = ends.counted.0;
     over = λ returned held.
-        let it = found (subst (HasReturned g) store returned) held in (
+        let it = found returned held in (
           it.0,
           record {
-            held = subst (HoldsTables g) (sym store) it.1;
-            archive_is = ap (now_holds g) store ∙ it.2;
+            held = it.1;
+            archive_is = it.2;
             left = all (now_holds g old);
-            ahead = ap (λ s. map (message_at (rows_of g s)) (drop walk.at walk.places.items)) store
-                ∙ ap (λ n. map (message_at (rows_of g mid)) (drop n walk.places.items)) at
+            ahead = ap (λ n. map (message_at (rows_of g mid)) (drop n walk.places.items)) at
                 ∙ ap (map (message_at (rows_of g mid))) it.3 ∙ shown (rows_of g mid) it.1.tables ∙ ap (λ a. map Some (all a)) it.2;
             joined = refl;
             of_list = of_list (now_holds g old);
@@ -191,27 +198,13 @@ module _ {S : Type 0} (g : Ghosts S) where
   }
 
 module _ {S : Type 0} (g : Ghosts S) (list : List ℕ) (all : List Message) (a : Archive) (given : List Message) where
-  -- the same walk over a store that shows the same
-  pub same_walk : (old new : Walk S) → WalksOver g list all a given old → new.places.items ≡ old.places.items → new.at ≡ old.at → now_in g new.store.now ≡ now_in g old.store.now
-      → HoldsTables g new.store.now → WalksOver g list all a given new
-  same_walk old new w places at now held = record {
-    held = held;
-    archive_is = ap (λ (d : Database). archive_in d.trees) now ∙ w.archive_is;
-    left = w.left;
-    ahead = ap (λ (d : Database). map (message_at d.trees) (drop new.at new.places.items)) now
-        ∙ ap (λ n. map (message_at (rows_of g old.store.now)) (drop n new.places.items)) at
-        ∙ ap (λ l. map (message_at (rows_of g old.store.now)) (drop old.at l)) places ∙ w.ahead;
-    joined = w.joined;
-    of_list = w.of_list;
-  }
-
   -- one message further
-  pub further : (old : Walk S) (new : Store S) (where_at : ℕ) (left : List ℤ) (d : ℤ) (m : Given) → WalksOver g list all a given old → old.at < length old.places.items → left ≡ old.places.items → where_at ≡ old.at + 1
-      → now_in g new ≡ now_in g old.store.now → HoldsTables g new
-      → (it : Message) × (message_at (rows_of g old.store.now) (get_or old.places.items old.at d) ≡ Some it) × (remembered it.list m ≡ it)
+  pub further : (old : Walk S) (new : Store S) (where_at : ℕ) (left : List ℤ) (d : ℤ) (m : Given) → WalksOver g list all a given old → old.walk.at < length old.walk.places.items → left ≡ old.walk.places.items → where_at ≡ old.walk.at + 1
+      → now_in g new ≡ now_in g old.store → HoldsTables g new
+      → (it : Message) × (message_at (rows_of g old.store) (get_or old.walk.places.items old.walk.at d) ≡ Some it) × (remembered it.list m ≡ it)
       → WalksOn g list all a (given ++ remembered list m ∷ []) (held_of new) (drop where_at left)
   further old new where_at left d m w within places at now held shown =
-      let n = next_is (message_at (rows_of g old.store.now)) old.places.items old.at d w.left w.ahead within in
+      let n = next_is (message_at (rows_of g old.store)) old.walk.places.items old.walk.at d w.left w.ahead within in
       let same : shown.0 ≡ n.0 = some_is (sym shown.1 ∙ n.3) in
       let joined : given ++ n.0 ∷ n.1 ≡ all = ap (λ l. given ++ l) (sym n.2) ∙ w.joined in
       let of_list : shown.0.list ≡ list = ap (λ (x : Message). x.list) same ∙ is_of_list list given n.1 all n.0 w.of_list joined in
@@ -221,27 +214,27 @@ module _ {S : Type 0} (g : Ghosts S) (list : List ℕ) (all : List Message) (a :
         archive_is = ap (λ (d : Database). archive_in d.trees) now ∙ w.archive_is;
         left = n.1;
         ahead = ap (λ (d : Database). map (message_at d.trees) (drop where_at left)) now
-            ∙ ap (λ k. map (message_at (rows_of g old.store.now)) (drop k left)) at
-            ∙ ap (λ l. map (message_at (rows_of g old.store.now)) (drop (old.at + 1) l)) places ∙ n.4;
+            ∙ ap (λ k. map (message_at (rows_of g old.store)) (drop k left)) at
+            ∙ ap (λ l. map (message_at (rows_of g old.store)) (drop (old.walk.at + 1) l)) places ∙ n.4;
         joined = one_more given (remembered list m) n.1 ∙ ap (λ x. given ++ x ∷ n.1) read ∙ joined;
         of_list = w.of_list;
       }
 
   -- the walk is where it was, and these are the marks of the message that is next
-  pub seen_next : (old : Walk S) (new : Store S) (where_at : ℕ) (left : List ℤ) (d : ℤ) (marks : DatedMarks) → WalksOver g list all a given old → old.at < length old.places.items → left ≡ old.places.items
-      → where_at ≡ old.at → now_in g new ≡ now_in g old.store.now → HoldsTables g new
-      → (it : Message) × (message_at (rows_of g old.store.now) (get_or old.places.items old.at d) ≡ Some it) × AreMarksOf marks it
+  pub seen_next : (old : Walk S) (new : Store S) (where_at : ℕ) (left : List ℤ) (d : ℤ) (marks : DatedMarks) → WalksOver g list all a given old → old.walk.at < length old.walk.places.items → left ≡ old.walk.places.items
+      → where_at ≡ old.walk.at → now_in g new ≡ now_in g old.store → HoldsTables g new
+      → (it : Message) × (message_at (rows_of g old.store) (get_or old.walk.places.items old.walk.at d) ≡ Some it) × AreMarksOf marks it
       → WalksOn g list all a given (held_of new) (drop where_at left) × ((next : Message) × (rest : List Message) × (given ++ next ∷ rest ≡ all) × AreMarksOf marks next)
   seen_next old new where_at left d marks w within places at now held shown =
-      let n = next_is (message_at (rows_of g old.store.now)) old.places.items old.at d w.left w.ahead within in
+      let n = next_is (message_at (rows_of g old.store)) old.walk.places.items old.walk.at d w.left w.ahead within in
       let same : shown.0 ≡ n.0 = some_is (sym shown.1 ∙ n.3) in (
         record {
           held = held;
           archive_is = ap (λ (d : Database). archive_in d.trees) now ∙ w.archive_is;
           left = w.left;
           ahead = ap (λ (d : Database). map (message_at d.trees) (drop where_at left)) now
-              ∙ ap (λ k. map (message_at (rows_of g old.store.now)) (drop k left)) at
-              ∙ ap (λ l. map (message_at (rows_of g old.store.now)) (drop old.at l)) places ∙ w.ahead;
+              ∙ ap (λ k. map (message_at (rows_of g old.store)) (drop k left)) at
+              ∙ ap (λ l. map (message_at (rows_of g old.store)) (drop old.walk.at l)) places ∙ w.ahead;
           joined = w.joined;
           of_list = w.of_list;
         },
@@ -249,82 +242,67 @@ module _ {S : Type 0} (g : Ghosts S) (list : List ℕ) (all : List Message) (a :
       )
 
   -- the next message is passed by
-  pub passed_next : (old : Walk S) (where_at : ℕ) (left : List ℤ) (next : Message) (rest : List Message) → WalksOver g list all a given old → given ++ next ∷ rest ≡ all → old.at < length old.places.items
-      → left ≡ old.places.items → where_at ≡ old.at + 1 → WalksOn g list all a (given ++ next ∷ []) (held_of old.store.now) (drop where_at left)
-  passed_next old where_at left next rest w is within places at =
-      let n = next_is (message_at (rows_of g old.store.now)) old.places.items old.at (pos 0) w.left w.ahead within in
-      let joined : given ++ n.0 ∷ n.1 ≡ all = ap (λ l. given ++ l) (sym n.2) ∙ w.joined in
-      let same = same_behind given (n.0 ∷ n.1) (next ∷ rest) (joined ∙ sym is) in
-      let first : n.0 ≡ next = cc in
+  pub passed_next : (store : Store S) (old new : EachRow) (next : Message) (rest : List Message) → WalksOver g list all a given (over store old) → given ++ next ∷ rest ≡ all
+      → ahead_of new ≡ drop 1 (ahead_of old) → WalksOver g list all a (given ++ next ∷ []) (over store new)
+  passed_next store old new next rest w is passed =
+      let left : w.left ≡ next ∷ rest = same_behind given w.left (next ∷ rest) (w.joined ∙ sym is) in
       record {
         held = w.held;
         archive_is = w.archive_is;
-        left = n.1;
-        ahead = ap (λ k. map (message_at (rows_of g old.store.now)) (drop k left)) at
-            ∙ ap (λ l. map (message_at (rows_of g old.store.now)) (drop (old.at + 1) l)) places ∙ n.4;
-        joined = one_more given next n.1 ∙ ap (λ x. given ++ x ∷ n.1) (sym first) ∙ joined;
+        left = rest;
+        ahead = ap (map (message_at (rows_of g store))) passed ∙ behind_first (message_at (rows_of g store)) (ahead_of old) next rest (w.ahead ∙ ap (map Some) left);
+        joined = one_more given next rest ∙ is;
         of_list = w.of_list;
       }
-
-  -- none is left to be passed by
-  pub none_to_pass : {X : Type 0} (old : Walk S) (next : Message) (rest : List Message) → WalksOver g list all a given old → given ++ next ∷ rest ≡ all → length old.places.items ≤ old.at → X
-  none_to_pass old next rest w is past =
-      let none = nothing_ahead (message_at (rows_of g old.store.now)) old.places.items old.at w.left w.ahead past in
-      let bad = same_behind given w.left (next ∷ rest) (w.joined ∙ sym is) in
-      absurd (let worse : [] ≡ next ∷ rest = sym none ∙ bad in cc)
 
 -- one message more was read
 pub given_more : {A B : Type 0} (f : A → B) (given : List B) (found found' : List A) (x : A) → found' ≡ found ++ x ∷ [] → (given ++ map f found) ++ f x ∷ [] ≡ given ++ map f found'
 given_more f given found found' x is =
     append_assoc given (map f found) (f x ∷ []) ∙ ap (λ l. given ++ l) (sym (map-append f found (x ∷ [])) ∙ ap (map f) (sym is))
 
--- a walk that is read to its end, and dropped
-pub rows_answer : {S : Type 0} (g : Ghosts S) (old last : Store S) (walk new : Walk S) (list : List ℕ) (all : Archive → List Message) (r : Result (Vec Given Global) StoreFault) → last ≡ new.store.now
-    → BeginsOver g old list all walk → HadReturned g walk.store.now new.store.now → GivesAll g walk new r → IfErr r (λ fault. refusal fault ≡ None)
-    → Answers g (held_of old) (held_of last) r (λ a. list_refusal a list) (λ a found. map (remembered list) found.items ≡ all a)
-rows_answer g old last walk new list all (Ok found) is begun was gives none = λ returned held.
-    let returned' = subst (HasReturned g) is returned in
-    let b = begun.over (was returned') held in
-    let w = gives returned' list (all (now_holds g old)) (now_holds g old) [] b.1 in
-    ((subst (HoldsTables g) (sym is) w.0.held, ap (now_holds g) is ∙ w.0.archive_is), b.0, w.1)
-rows_answer g old last walk new list all (Err fault) is begun was gives none = λ returned held.
-    let returned' = subst (HasReturned g) is returned in
-    let b = begun.over (was returned') held in
-    let rest = gives returned' list (all (now_holds g old)) (now_holds g old) [] b.1 in
-    rw none (λ up. let w = rest (subst (IsOpen g) is up) in (subst (HoldsTables g) (sym is) w.0, ap (now_holds g) is ∙ w.1))
+-- a walk that is read to its end
+pub rows_answer : {S : Type 0} (g : Ghosts S) (old : Store S) (walk new : Walk S) (list : List ℕ) (all : Archive → List Message) (r : Result (Vec Given Global) StoreFault)
+    → BeginsOver g old list all walk → HadReturned g walk.store new.store → GivesAll g walk new r → IfErr r (λ fault. refusal fault ≡ None)
+    → Answers g (held_of old) (held_of new.store) r (λ a. list_refusal a list) (λ a found. map (remembered list) found.items ≡ all a)
+rows_answer g old walk new list all (Ok found) begun was gives none = λ returned held.
+    let b = begun.over (was returned) held in
+    let w = gives returned list (all (now_holds g old)) (now_holds g old) [] b.1 in
+    ((w.0.held, w.0.archive_is), b.0, w.1)
+rows_answer g old walk new list all (Err fault) begun was gives none = λ returned held.
+    let b = begun.over (was returned) held in
+    let rest = gives returned list (all (now_holds g old)) (now_holds g old) [] b.1 in
+    rw none (λ up. rest up)
 
 -- ---- what E15 means
 
 -- the number that a walk comes to is that of a message
 pub unread_next : {S : Type 0} (g : Ghosts S) (list : List ℕ) (all : List Message) (a : Archive) (given : List Message) (walk : Walk S) (place : ℤ) → WalksOver g list all a given walk
-    → slice_get walk.places.items walk.at ≡ Some place → (X : Type 0) → X ⊎ (¬ IsSomeAnd (message_at (rows_of g walk.store.now) place) IsReadable)
+    → slice_get walk.walk.places.items walk.walk.at ≡ Some place → (X : Type 0) → X ⊎ (¬ IsSomeAnd (message_at (rows_of g walk.store) place) IsReadable)
     → X ⊎ ((next : Message) × (rest : List Message) × (given ++ next ∷ rest ≡ all) × (¬ IsReadable next))
 unread_next g list all a given walk place w some X (inl failed) = inl failed
 unread_next g list all a given walk place w some X (inr bad) =
-    let n = next_is (message_at (rows_of g walk.store.now)) walk.places.items walk.at place w.left w.ahead (slice_get_within walk.places.items walk.at place some) in
-    let here : message_at (rows_of g walk.store.now) place ≡ Some n.0 =
-    ap (message_at (rows_of g walk.store.now)) (sym (get_or_from_slice_get walk.places.items walk.at place place some)) ∙ n.3 in
+    let n = next_is (message_at (rows_of g walk.store)) walk.walk.places.items walk.walk.at place w.left w.ahead (slice_get_within walk.walk.places.items walk.walk.at place some) in
+    let here : message_at (rows_of g walk.store) place ≡ Some n.0 =
+    ap (message_at (rows_of g walk.store)) (sym (get_or_from_slice_get walk.walk.places.items walk.walk.at place place some)) ∙ n.3 in
     inr (n.0, n.1, ap (λ l. given ++ l) (sym n.2) ∙ w.joined, λ good. bad (subst (λ o. IsSomeAnd o IsReadable) (sym here) good))
 
-pub rows_caused : {S : Type 0} (g : Ghosts S) (old last : Store S) (walk new : Walk S) (list : List ℕ) (all : Archive → List Message) (r : Result (Vec Given Global) StoreFault) → last ≡ new.store.now
-    → BeginsOver g old list all walk → HadReturned g walk.store.now new.store.now → StopsAll g walk new r → CausedOr g old last r (λ a. ¬ All IsReadable (all a))
-rows_caused g old last walk new list all (Ok found) is begun was stops = λ returned held free. tt
-rows_caused g old last walk new list all (Err fault) is begun was stops = λ returned held free it.
-    let returned' = subst (HasReturned g) is returned in
-    let b = begun.over (was returned') held in
-    let why = stops returned' list (all (now_holds g old)) (now_holds g old) [] b.1 (begun.lasts.limit ∙ free) it in
-    elim why [
-      | inl more ↦ inl (subst (HasFailed g old) (sym is) (more_since (state g (held_of old)) (state g (held_of walk.store.now)) (state g (held_of new.store.now)) begun.lasts more))
+pub rows_caused : {S : Type 0} (g : Ghosts S) (old : Store S) (walk new : Walk S) (list : List ℕ) (all : Archive → List Message) (r : Result (Vec Given Global) StoreFault)
+    → BeginsOver g old list all walk → HadReturned g walk.store new.store → StopsAll g walk new r → CausedOr g old new.store r (λ a. ¬ All IsReadable (all a))
+rows_caused g old walk new list all (Ok found) begun was stops = λ returned held free. tt
+rows_caused g old walk new list all (Err fault) begun was stops = λ returned held free it.
+    let b = begun.over (was returned) held in
+    elim (stops returned list (all (now_holds g old)) (now_holds g old) [] b.1 (begun.lasts.limit ∙ free) it) [
+      | inl more ↦ inl (more_since (state g (held_of old)) (state g (held_of walk.store)) (state g (held_of new.store)) begun.lasts more)
       | inr bad ↦ inr bad
     ]
 
-pub rows_ends : {S : Type 0} (g : Ghosts S) (old last : Store S) (walk new : Walk S) (list : List ℕ) (all : Archive → List Message) (r : Result (Vec Given Global) StoreFault) → last ≡ new.store.now
-    → BeginsOver g old list all walk → EndsUnrefused g walk.store.now new.store.now r → StopsAll g walk new r → (reasons : List Refusal)
-    → EndsAskOr g old last r reasons (λ a. ¬ All IsReadable (all a))
-rows_ends g old last walk new list all r is begun ends stops reasons = record {
-  lasts = subst (λ s. Lasts g old s) (sym is) (lasts_then _ _ _ begun.lasts ends.lasts);
-  was_open = λ returned. when_ok r _ (begun.was_open (ends.lasts.returned (subst (HasReturned g) is returned)));
+pub rows_ends : {S : Type 0} (g : Ghosts S) (old : Store S) (walk new : Walk S) (list : List ℕ) (all : Archive → List Message) (r : Result (Vec Given Global) StoreFault)
+    → BeginsOver g old list all walk → EndsUnrefused g walk.store new.store r → StopsAll g walk new r → (reasons : List Refusal)
+    → EndsAskOr g old new.store r reasons (λ a. ¬ All IsReadable (all a))
+rows_ends g old walk new list all r begun ends stops reasons = record {
+  lasts = lasts_then _ _ _ begun.lasts ends.lasts;
+  was_open = λ returned. when_ok r _ (begun.was_open (ends.lasts.returned returned));
   kind = kind_last r reasons ends.fault;
-  counted = subst (λ s. Raises IsWant (wants_of old) (wants_of s) r) (sym is) (raises_after IsWant _ _ _ r begun.counted ends.counted);
-  caused = rows_caused g old last walk new list all r is begun ends.lasts.returned stops;
+  counted = raises_after IsWant _ _ _ r begun.counted ends.counted;
+  caused = rows_caused g old walk new list all r begun ends.lasts.returned stops;
 }

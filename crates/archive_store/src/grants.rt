@@ -1,14 +1,13 @@
 //! Commands on grants.
+use crate::commands::{Command, done, had_grant};
 use crate::faults::StoreFault;
 use crate::store::Store;
-use crate::words::day_number;
-use archive_tables::texts;
 use civil_time::Day;
 use policy_core::Kind;
 use sqlite::Alter;
 
 impl<S: Alter> Store<S> {
-    ghost use Rattle.archive_machine.specs.Machine.{granted, revoked};
+    ghost use Rattle.archive_machine.specs.Machine.{step};
     ghost use Rattle.archive_store.specs.Held.{held_of};
     ghost use Rattle.archive_store.specs.Refusals.{IsCommandRefused};
     ghost use Rattle.archive_store.specs.Told.{EndsOr};
@@ -29,66 +28,31 @@ impl<S: Alter> Store<S> {
         until: Day,
     ) -> Result<(), StoreFault>
         ensures step { Does S.Store (held_of self.old) (held_of self.new)
-            (λ a. granted a (record { person = person.now; list = list.now; rank = kind_rank kind; from_day = from; until_day = until })) (says_done result) }
+            (λ a. step a (grant person.now list.now (kind_rank kind) from until)) (says_done result) }
         ensures crash { CrashSteps S.Store (held_of self.old) (held_of self.new)
-            (λ a. granted a (record {
-              person = person.now;
-              list = list.now;
-              rank = kind_rank kind;
-              from_day = from;
-              until_day = until;
-            })) }
+            (λ a. step a (grant person.now list.now (kind_rank kind) from until)) }
         ensures ends { EndsOr S.Store self.old self.new result (no_person ∷ no_list ∷ bad_days ∷ [])
             (IsCommandRefused (grant person.now list.now (kind_rank kind) from until)) }
     {
-        let known = texts::persons::has_person(&mut self.conn, person);
-        if !self.wants.pass(known)? {
-            return Err(StoreFault::NoPerson);
-        }
-        let listed = texts::lists::has_list(&mut self.conn, list);
-        if !self.wants.pass(listed)? {
-            return Err(StoreFault::NoList);
-        }
-        if until < from {
-            return Err(StoreFault::BadDays);
-        }
-        let rank = kind.rank();
-        let first = day_number(from);
-        let last = day_number(until);
-        let had = texts::grants::has_grant(&mut self.conn, person, list, rank);
-        if self.wants.pass(had)? {
-            let put = texts::grants::change_grant(&mut self.conn, person, list, rank, first, last);
-            self.wants.pass(put)?;
-        } else {
-            let put = texts::grants::add_grant(&mut self.conn, person, list, rank, first, last);
-            self.wants.pass(put)?;
-        }
-        Ok(())
+        done(self.carry(&Command::Grant {
+            person,
+            list,
+            kind,
+            from,
+            until,
+        }))
     }
 
     /// Takes a grant away, and says whether it was there. E6 where there is no such person, E4 where there is no such
     /// list.
     pub fn revoke(&mut self, person: &str, list: &str, kind: Kind) -> Result<bool, StoreFault>
         ensures step { Does S.Store (held_of self.old) (held_of self.new)
-            (λ a. revoked a person.now list.now (kind_rank kind)) (says_whether result) }
+            (λ a. step a (revoke person.now list.now (kind_rank kind))) (says_whether result) }
         ensures crash { CrashSteps S.Store (held_of self.old) (held_of self.new)
-            (λ a. revoked a person.now list.now (kind_rank kind)) }
+            (λ a. step a (revoke person.now list.now (kind_rank kind))) }
         ensures ends { EndsOr S.Store self.old self.new result (no_person ∷ no_list ∷ [])
             (IsCommandRefused (revoke person.now list.now (kind_rank kind))) }
     {
-        let known = texts::persons::has_person(&mut self.conn, person);
-        if !self.wants.pass(known)? {
-            return Err(StoreFault::NoPerson);
-        }
-        let listed = texts::lists::has_list(&mut self.conn, list);
-        if !self.wants.pass(listed)? {
-            return Err(StoreFault::NoList);
-        }
-        let rank = kind.rank();
-        let had = texts::grants::has_grant(&mut self.conn, person, list, rank);
-        let was_there = self.wants.pass(had)?;
-        let removed = texts::grants::remove_grant(&mut self.conn, person, list, rank);
-        self.wants.pass(removed)?;
-        Ok(was_there)
+        had_grant(self.carry(&Command::Revoke { person, list, kind }))
     }
 }

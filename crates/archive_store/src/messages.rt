@@ -1,14 +1,10 @@
 //! Commands on messages.
-ghost use Rattle.std.specs.Prelude.{◌≡◌, not, pos};
-ghost use Rattle.std.specs.Ordering.{int_eq};
-
 use crate::batches::{Taken, add_counted};
+use crate::commands::{Command, added, done, had_embargo};
 use crate::faults::StoreFault;
-use crate::limits::{MESSAGES, add_limited};
 use crate::store::Store;
-use crate::words::{Added, day_number};
+use crate::words::Added;
 use archive_machine::Key;
-use archive_tables::rows::MarksRow;
 use archive_tables::texts;
 use civil_time::Day;
 use mbox_items::Item;
@@ -18,7 +14,7 @@ use std::alloc::Global;
 
 impl<S: Alter> Store<S> {
     ghost use Rattle.std.specs.Prelude.{◌≡◌, [], ◌∷◌, length, Some, None};
-    ghost use Rattle.archive_machine.specs.Machine.{message_limit, added_within, withdrawal, restored, held_back, lifted};
+    ghost use Rattle.archive_machine.specs.Machine.{message_limit, added_within, step};
     ghost use Rattle.archive_store.specs.Held.{held_of};
     ghost use Rattle.archive_store.specs.Told.{EndsOr};
     ghost use Rattle.archive_store.specs.Refusals.{IsCommandRefused, IsCountedStopped};
@@ -35,14 +31,14 @@ impl<S: Alter> Store<S> {
     /// of its list, which takes some 30 ms where there are 50,000; `add_counted`, `add_all` and `run` count a list once.
     pub fn add(&mut self, alloc: Global, list: &str, item: &Item<'_>) -> Result<Added, StoreFault>
         ensures step { Does S.Store (held_of self.old) (held_of self.new)
-            (λ a. added_within message_limit a list.now item.now) (says_added result) }
+            (λ a. step a (add list.now item.now)) (says_added result) }
         ensures crash { CrashSteps S.Store (held_of self.old) (held_of self.new)
-            (λ a. added_within message_limit a list.now item.now) }
+            (λ a. step a (add list.now item.now)) }
         ensures ends { EndsOr S.Store self.old self.new result
             (no_list ∷ too_large ∷ list_full ∷ [])
             (IsCommandRefused (add list.now item.now)) }
     {
-        add_limited(self, alloc, list, item, MESSAGES)
+        added(self.carry(&Command::Add { alloc, list, item }))
     }
 
     /// The same to a list that holds so many messages, as `count` says before the first of such calls and each call says for
@@ -80,109 +76,53 @@ impl<S: Alter> Store<S> {
     /// withdrawn.
     pub fn withdraw(&mut self, list: &str, key: &Key, by: Party) -> Result<(), StoreFault>
         ensures step { Does S.Store (held_of self.old) (held_of self.new)
-            (λ a. withdrawal a list.now key.now (party_number by)) (says_done result) }
+            (λ a. step a (withdraw list.now key.now (party_number by))) (says_done result) }
         ensures crash { CrashSteps S.Store (held_of self.old) (held_of self.new)
-            (λ a. withdrawal a list.now key.now (party_number by)) }
+            (λ a. step a (withdraw list.now key.now (party_number by))) }
         ensures ends { EndsOr S.Store self.old self.new result
             (no_list ∷ no_message ∷ already_withdrawn ∷ [])
             (IsCommandRefused (withdraw list.now key.now (party_number by))) }
     {
-        let listed = texts::lists::has_list(&mut self.conn, list);
-        if !self.wants.pass(listed)? {
-            return Err(StoreFault::NoList);
-        }
-        let found = texts::messages::marks(&mut self.conn, list, key.as_str());
-        let marks = match self.wants.pass(found)? {
-            Some(marks) => marks,
-            None => return Err(StoreFault::NoMessage),
-        };
-        if is_withdrawn(marks) {
-            return Err(StoreFault::AlreadyWithdrawn);
-        }
-        let set = texts::messages::set_withdrawn(&mut self.conn, list, key.as_str(), by.number());
-        self.wants.pass(set)?;
-        Ok(())
+        done(self.carry(&Command::Withdraw { list, key, by }))
     }
 
     /// Takes the withdrawal of a message back. E4 where there is no such list, E8 where it holds no such message, E10
     /// where the message is not withdrawn.
     pub fn restore(&mut self, list: &str, key: &Key) -> Result<(), StoreFault>
         ensures step { Does S.Store (held_of self.old) (held_of self.new)
-            (λ a. restored a list.now key.now) (says_done result) }
+            (λ a. step a (restore list.now key.now)) (says_done result) }
         ensures crash { CrashSteps S.Store (held_of self.old) (held_of self.new)
-            (λ a. restored a list.now key.now) }
+            (λ a. step a (restore list.now key.now)) }
         ensures ends { EndsOr S.Store self.old self.new result
             (no_list ∷ no_message ∷ not_withdrawn ∷ [])
             (IsCommandRefused (restore list.now key.now)) }
     {
-        let listed = texts::lists::has_list(&mut self.conn, list);
-        if !self.wants.pass(listed)? {
-            return Err(StoreFault::NoList);
-        }
-        let found = texts::messages::marks(&mut self.conn, list, key.as_str());
-        let marks = match self.wants.pass(found)? {
-            Some(marks) => marks,
-            None => return Err(StoreFault::NoMessage),
-        };
-        if !is_withdrawn(marks) {
-            return Err(StoreFault::NotWithdrawn);
-        }
-        let set = texts::messages::set_withdrawn(&mut self.conn, list, key.as_str(), 0);
-        self.wants.pass(set)?;
-        Ok(())
+        done(self.carry(&Command::Restore { list, key }))
     }
 
     /// Holds a message back on the days before this one; an earlier embargo is replaced. E4 where there is no such list,
     /// E8 where it holds no such message.
     pub fn embargo(&mut self, list: &str, key: &Key, until: Day) -> Result<(), StoreFault>
         ensures step { Does S.Store (held_of self.old) (held_of self.new)
-            (λ a. held_back a list.now key.now until) (says_done result) }
+            (λ a. step a (embargo list.now key.now until)) (says_done result) }
         ensures crash { CrashSteps S.Store (held_of self.old) (held_of self.new)
-            (λ a. held_back a list.now key.now until) }
+            (λ a. step a (embargo list.now key.now until)) }
         ensures ends { EndsOr S.Store self.old self.new result (no_list ∷ no_message ∷ [])
             (IsCommandRefused (embargo list.now key.now until)) }
     {
-        let listed = texts::lists::has_list(&mut self.conn, list);
-        if !self.wants.pass(listed)? {
-            return Err(StoreFault::NoList);
-        }
-        let known = texts::messages::has_message(&mut self.conn, list, key.as_str());
-        if !self.wants.pass(known)? {
-            return Err(StoreFault::NoMessage);
-        }
-        let day = day_number(until);
-        let set = texts::messages::set_embargo(&mut self.conn, list, key.as_str(), day);
-        self.wants.pass(set)?;
-        Ok(())
+        done(self.carry(&Command::Embargo { list, key, until }))
     }
 
     /// Takes the embargo of a message away, and says whether it had one. E4 where there is no such list, E8 where it
     /// holds no such message.
     pub fn lift(&mut self, list: &str, key: &Key) -> Result<bool, StoreFault>
         ensures step { Does S.Store (held_of self.old) (held_of self.new)
-            (λ a. lifted a list.now key.now) (says_whether result) }
+            (λ a. step a (lift list.now key.now)) (says_whether result) }
         ensures crash { CrashSteps S.Store (held_of self.old) (held_of self.new)
-            (λ a. lifted a list.now key.now) }
+            (λ a. step a (lift list.now key.now)) }
         ensures ends { EndsOr S.Store self.old self.new result (no_list ∷ no_message ∷ [])
             (IsCommandRefused (lift list.now key.now)) }
     {
-        let listed = texts::lists::has_list(&mut self.conn, list);
-        if !self.wants.pass(listed)? {
-            return Err(StoreFault::NoList);
-        }
-        let found = texts::messages::marks(&mut self.conn, list, key.as_str());
-        let had_one = match self.wants.pass(found)? {
-            Some(marks) => marks.embargo.is_some(),
-            None => return Err(StoreFault::NoMessage),
-        };
-        let cleared = texts::messages::clear_embargo(&mut self.conn, list, key.as_str());
-        self.wants.pass(cleared)?;
-        Ok(had_one)
+        had_embargo(self.carry(&Command::Lift { list, key }))
     }
-}
-
-fn is_withdrawn(marks: MarksRow) -> bool
-    ensures { result ≡ not (int_eq marks.withdrawn (pos 0)) }
-{
-    marks.withdrawn != 0
 }

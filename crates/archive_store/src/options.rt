@@ -1,26 +1,18 @@
 //! What is told of lists and of persons: how threads are made, and addresses.
-ghost use Rattle.std.specs.Prelude.{◌≡◌, true, MatchResult};
+ghost use Rattle.std.specs.Prelude.{◌≡◌, true};
 ghost use Rattle.std.specs.Option.{option_map_or};
-ghost use Rattle.sqlite.specs.Held.{state};
-ghost use Rattle.sqlite.specs.State.{HasCleanDisk};
-ghost use Rattle.archive_machine.specs.Machine.{with_address};
-ghost use Rattle.archive_tables.specs.Tables.{IsKept, archive_of};
-ghost use Rattle.archive_tables.specs.Calls.{Changes, Rests, Lasts, AnswersOpen, FailsByFaultOr};
-ghost use Rattle.archive_tables.specs.Crashes.{AddsOnly, IsStored};
-ghost use Rattle.archive_machine.specs.Addresses.{is_address, kept_address};
-ghost use Rattle.archive_store.specs.Refusals.{IsAddressRefused};
 
+use crate::commands::{Command, done};
 use crate::faults::StoreFault;
 use crate::store::Store;
-use archive_machine::kept_address;
 use archive_tables::texts;
-use sqlite::{Alter, Connection, Error};
+use sqlite::Alter;
 use std::alloc::Global;
 
 impl<S: Alter> Store<S> {
     ghost use Rattle.std.specs.Prelude.{◌≡◌, ◌∷◌, [], option_map, string_bytes, IsUtf8};
     ghost use Rattle.std.specs.Option.{IsSomeAnd};
-    ghost use Rattle.archive_machine.specs.Machine.{merge_chosen, address_given};
+    ghost use Rattle.archive_machine.specs.Machine.{step};
     ghost use Rattle.archive_machine.specs.Questions.{merge_of, address_of, list_refusal, person_refusal};
     ghost use Rattle.archive_store.specs.Held.{held_of};
     ghost use Rattle.archive_store.specs.Told.{EndsAsk, EndsAskOr, EndsOr};
@@ -32,19 +24,13 @@ impl<S: Alter> Store<S> {
     /// Says whether the threads of a list are gathered by subject. E4 where there is no such list.
     pub fn merge_set(&mut self, list: &str, merge: bool) -> Result<(), StoreFault>
         ensures step { Does S.Store (held_of self.old) (held_of self.new)
-            (λ a. merge_chosen a list.now merge) (says_done result) }
+            (λ a. step a (merge_set list.now merge)) (says_done result) }
         ensures crash { CrashSteps S.Store (held_of self.old) (held_of self.new)
-            (λ a. merge_chosen a list.now merge) }
+            (λ a. step a (merge_set list.now merge)) }
         ensures ends { EndsOr S.Store self.old self.new result (no_list ∷ [])
             (IsCommandRefused (merge_set list.now merge)) }
     {
-        let listed = texts::lists::has_list(&mut self.conn, list);
-        if !self.wants.pass(listed)? {
-            return Err(StoreFault::NoList);
-        }
-        let set = texts::options::set_option(&mut self.conn, list, merge);
-        self.wants.pass(set)?;
-        Ok(())
+        done(self.carry(&Command::MergeSet { list, merge }))
     }
 
     /// Whether the threads of a list are gathered by subject. E4 where there is no such list.
@@ -70,26 +56,17 @@ impl<S: Alter> Store<S> {
         address: &str,
     ) -> Result<(), StoreFault>
         ensures step { Does S.Store (held_of self.old) (held_of self.new)
-            (λ a. address_given a person.now address.now) (says_done result) }
+            (λ a. step a (address_set person.now address.now)) (says_done result) }
         ensures crash { CrashSteps S.Store (held_of self.old) (held_of self.new)
-            (λ a. address_given a person.now address.now) }
+            (λ a. step a (address_set person.now address.now)) }
         ensures ends { EndsOr S.Store self.old self.new result (no_person ∷ bad_text ∷ [])
             (IsCommandRefused (address_set person.now address.now)) }
     {
-        let known = texts::persons::has_person(&mut self.conn, person);
-        if !self.wants.pass(known)? {
-            return Err(StoreFault::NoPerson);
-        }
-        if !is_address(address) {
-            return Err(StoreFault::BadText);
-        }
-        let kept = match kept_address(alloc, address) {
-            Ok(kept) => kept,
-            Err(refused) => return Err(self.wants.refuse(refused.into())),
-        };
-        let put = put_address(&mut self.conn, person, &kept);
-        self.wants.pass(put)?;
-        Ok(())
+        done(self.carry(&Command::AddressSet {
+            alloc,
+            person,
+            address,
+        }))
     }
 
     /// The address of a person, who may have none. E6 where there is no such person.
@@ -109,38 +86,6 @@ impl<S: Alter> Store<S> {
     }
 }
 
-/// Writes the address of a person down, in the place of the one before.
-fn put_address<S: Alter>(
-    conn: &mut Connection<S>,
-    person: &str,
-    address: &str,
-) -> Result<usize, Error>
-    ensures put { HasCleanDisk (state S.Store conn.new) → IsKept (state S.Store conn.old)
-        → MatchResult result
-        (λ _. Changes (state S.Store conn.old) (state S.Store conn.new)
-        (λ a. record a {
-          addresses = with_address a
-              (record { person = person.now; address = address.now });
-        }))
-        (λ _. Rests (state S.Store conn.old) (state S.Store conn.new)) }
-    ensures crash { IsKept (state S.Store conn.old)
-        → AddsOnly S.Store conn.old conn.new (IsStored (record (archive_of (state S.Store conn.old)) {
-          addresses = with_address (archive_of (state S.Store conn.old))
-              (record { person = person.now; address = address.now });
-        })) }
-    ensures caused { FailsByFaultOr S.Store conn.old conn.new result
-        (IsAddressRefused (record { person = person.now; address = address.now })
-        (state S.Store conn.old).now) }
-    ensures lasts { Lasts (state S.Store conn.old) (state S.Store conn.new) }
-    ensures was_open { AnswersOpen S.Store conn.old conn.new result }
-{
-    let had = texts::addresses::has_address(conn, person)?;
-    if had {
-        return texts::addresses::change_address(conn, person, address);
-    }
-    texts::addresses::add_address(conn, person, address)
-}
-
 /// What is said of a list, or that its threads are gathered, where nothing is.
 fn or_merged(found: Option<bool>) -> bool
     ensures { result ≡ option_map_or (λ merge. merge) found true }
@@ -149,10 +94,4 @@ fn or_merged(found: Option<bool>) -> bool
         Some(merge) => merge,
         None => true,
     }
-}
-
-fn is_address(text: &str) -> bool
-    ensures { result ≡ is_address text.now }
-{
-    archive_machine::is_address(text.as_bytes())
 }

@@ -1,5 +1,5 @@
 //! Walks over the messages of a list.
-ghost use Rattle.std.specs.Prelude.{◌≡◌, ◌+◌, ◌∷◌, [], map, slice_get, pos, IfOk, MatchResult, MatchOption, ◌-◌};
+ghost use Rattle.std.specs.Prelude.{◌≡◌, ◌+◌, ◌∷◌, [], drop, map, slice_get, pos, IfOk, MatchResult, MatchOption, ◌-◌};
 ghost use Rattle.archive_machine.specs.Messages.{remembered};
 ghost use Rattle.archive_machine.specs.Questions.{list_refusal, messages_in};
 ghost use Rattle.archive_tables.specs.Calls.{AsksRows};
@@ -9,11 +9,10 @@ ghost use Rattle.archive_machine.specs.Commands.{no_list};
 ghost use Rattle.archive_store.specs.Replies.{RefusedFor};
 ghost use Rattle.archive_store.specs.Told.{EndsAsk, EndsAskOr, EndsUnrefused};
 ghost use Rattle.archive_database.specs.Messages.{IsReadable};
-ghost use Rattle.archive_store.specs.Walking.{CountsOne, GivesNext, GivesAll, StopsNext, StopsAll, ShowsMessage, ShowsMarks, ShowsNext, PassesNext, StopsShowing, FindsPlaces, IsNotBegun, left_of, selected_places};
+ghost use Rattle.archive_store.specs.Walking.{GivesNext, GivesAll, StopsNext, StopsAll, ShowsMessage, ShowsMarks, ShowsNext, StopsShowing, FindsPlaces, IsNotBegun, ahead_of, left_of, over, selected_places};
 
 use crate::faults::StoreFault;
 use crate::store::Store;
-use crate::wants::Refused;
 use crate::words::month_number;
 use archive_database::reading::{DatedMarks, marks_or_fail, read_or_fail, read_places};
 use archive_machine::Message;
@@ -22,12 +21,11 @@ use civil_time::Month;
 use sqlite::{Alter, Connection, Error, Row};
 use std::alloc::Global;
 
-/// Messages of a list, one at a time: all in mailbox order, or those of a month or an author. It holds the numbers of the
-/// messages, and no message. It may be dropped at any message, and leaves the store as it stands then: `P` is a parameter so
-/// that this is known of a walk that owns memory.
-pub struct EachRow<'a, S: Alter, P = Vec<i64>> {
-    store: &'a mut Store<S>,
-    places: P,
+/// Messages of a list, one at a time: all in mailbox order, or those of a month or an author. It holds the numbers of the messages,
+/// and no message, and each call is told the store. It may be dropped at any message.
+#[derive(Drop)]
+pub struct EachRow {
+    places: Vec<i64>,
     at: usize,
 }
 
@@ -39,28 +37,14 @@ enum Selection<'a> {
     ByAuthor(&'a [u8]),
 }
 
-impl<S: Alter, P: Drop> Drop for EachRow<'_, S, P> {
-    fn drop(self)
-        ensures { self.exit.0.now ≡ self.entry.store.now }
-    {
-        let EachRow {
-            store: _,
-            places: _places,
-            at: _,
-        } = self;
-    }
-}
-
 impl<S: Alter> Store<S> {
-    ghost use Rattle.std.specs.Borrow.{sem, RestsIfErr};
-    ghost use Rattle.archive_store.specs.contracts.store.Store.{the_row};
     ghost use Rattle.archive_store.specs.Replies.{Answers};
     ghost use Rattle.std.specs.Prelude.{pos};
     ghost use Rattle.std.specs.List.{All};
     ghost use Rattle.archive_database.specs.Messages.{IsReadable};
     ghost use Rattle.archive_store.specs.Told.{CausedOr};
     ghost use Rattle.archive_machine.specs.Filing.{in_month, by_author};
-    ghost use Rattle.archive_store.specs.Walking.{Begins, BeginsOver, DoesNotBegin};
+    ghost use Rattle.archive_store.specs.Walking.{Begins, BeginsOver, DoesNotBegin, over};
 
     /// The messages of a list in mailbox order. E4 where there is no such list.
     pub fn rows(&mut self, alloc: Global, list: &str) -> Result<Vec<Message>, StoreFault>
@@ -71,20 +55,17 @@ impl<S: Alter> Store<S> {
             (λ a. ¬ All IsReadable (messages_in a list.now)) }
     {
         let mut walk = self.each_row(alloc, list)?;
-        read_rows(alloc, &mut walk)
+        read_rows(self, alloc, &mut walk)
     }
 
     /// Begins a walk over the messages of a list, in mailbox order. E4 where there is no such list.
-    pub fn each_row(&mut self, alloc: Global, list: &str) -> Result<EachRow<'_, S>, StoreFault>
-        ensures* refused { sem 𝓛 (RestsIfErr (the_row S.row S.Store) self.entry
-            (λ walk. walk.store.ghost_name) result
-            (DoesNotBegin S.Store self.old list.now result)) }
-        ensures same_reference { IfOk result (λ walk. walk.store.ghost_name ≡ self.entry.ghost_name) }
-        ensures begun { IfOk result (λ walk. Begins S.Store self.old list.now walk) }
+    pub fn each_row(&mut self, alloc: Global, list: &str) -> Result<EachRow, StoreFault>
+        ensures refused { DoesNotBegin S.Store self.old list.now result self.new }
+        ensures begun { IfOk result (λ walk. Begins S.Store self.old list.now (over self.new walk)) }
         ensures kind { RefusedFor result (no_list ∷ []) }
     {
         let places = find_places(self, alloc, list, &Selection::Every)?;
-        Ok(EachRow::new(self, places))
+        Ok(EachRow { places, at: 0 })
     }
 
     /// The messages of a list that are filed under a month, by the sent date that is filed and then in mailbox order. E4 where
@@ -102,7 +83,7 @@ impl<S: Alter> Store<S> {
             (λ a. ¬ All IsReadable (in_month a list.now (pos month))) }
     {
         let mut walk = self.each_in_month(alloc, list, month)?;
-        read_rows(alloc, &mut walk)
+        read_rows(self, alloc, &mut walk)
     }
 
     /// The messages of a list that are filed under an author key, in the same order. E4 where there is no such list.
@@ -119,7 +100,7 @@ impl<S: Alter> Store<S> {
             (λ a. ¬ All IsReadable (by_author a list.now key.now)) }
     {
         let mut walk = self.each_by_author(alloc, list, key)?;
-        read_rows(alloc, &mut walk)
+        read_rows(self, alloc, &mut walk)
     }
 
     /// Begins a walk over the messages of `in_month`. E4 where there is no such list.
@@ -128,17 +109,14 @@ impl<S: Alter> Store<S> {
         alloc: Global,
         list: &str,
         month: Month,
-    ) -> Result<EachRow<'_, S>, StoreFault>
-        ensures* refused { sem 𝓛 (RestsIfErr (the_row S.row S.Store) self.entry
-            (λ walk. walk.store.ghost_name) result
-            (DoesNotBegin S.Store self.old list.now result)) }
-        ensures same_reference { IfOk result (λ walk. walk.store.ghost_name ≡ self.entry.ghost_name) }
+    ) -> Result<EachRow, StoreFault>
+        ensures refused { DoesNotBegin S.Store self.old list.now result self.new }
         ensures begun { IfOk result (λ walk. BeginsOver S.Store self.old list.now
-            (λ a. in_month a list.now (pos month)) walk) }
+            (λ a. in_month a list.now (pos month)) (over self.new walk)) }
         ensures kind { RefusedFor result (no_list ∷ []) }
     {
         let places = find_places(self, alloc, list, &Selection::InMonth(month))?;
-        Ok(EachRow::new(self, places))
+        Ok(EachRow { places, at: 0 })
     }
 
     /// Begins a walk over the messages of `by_author`. E4 where there is no such list.
@@ -147,34 +125,18 @@ impl<S: Alter> Store<S> {
         alloc: Global,
         list: &str,
         key: &[u8],
-    ) -> Result<EachRow<'_, S>, StoreFault>
-        ensures* refused { sem 𝓛 (RestsIfErr (the_row S.row S.Store) self.entry
-            (λ walk. walk.store.ghost_name) result
-            (DoesNotBegin S.Store self.old list.now result)) }
-        ensures same_reference { IfOk result (λ walk. walk.store.ghost_name ≡ self.entry.ghost_name) }
+    ) -> Result<EachRow, StoreFault>
+        ensures refused { DoesNotBegin S.Store self.old list.now result self.new }
         ensures begun { IfOk result (λ walk. BeginsOver S.Store self.old list.now
-            (λ a. by_author a list.now key.now) walk) }
+            (λ a. by_author a list.now key.now) (over self.new walk)) }
         ensures kind { RefusedFor result (no_list ∷ []) }
     {
         let places = find_places(self, alloc, list, &Selection::ByAuthor(key))?;
-        Ok(EachRow::new(self, places))
+        Ok(EachRow { places, at: 0 })
     }
 }
 
-impl<'a, S: Alter> EachRow<'a, S> {
-    fn new(store: &'a mut Store<S>, places: Vec<i64>) -> EachRow<'a, S>
-        ensures same_reference { result.store.ghost_name ≡ store.entry.ghost_name }
-        ensures store { result.store.now ≡ store.old }
-        ensures places { result.places ≡ places }
-        ensures at { result.at ≡ 0 }
-    {
-        EachRow {
-            store,
-            places,
-            at: 0,
-        }
-    }
-
+impl EachRow {
     /// How many messages it has not given yet.
     pub fn left(&self) -> usize
         ensures { result ≡ left_of self.now }
@@ -183,50 +145,41 @@ impl<'a, S: Alter> EachRow<'a, S> {
     }
 
     /// The next message. `None` where all were given.
-    pub fn next(&mut self) -> Result<Option<Message>, StoreFault>
-        ensures same_reference { self.new.store.ghost_name ≡ self.old.store.ghost_name }
-        ensures given { GivesNext S.Store self.old self.new result }
+    pub fn next<S: Alter>(&mut self, store: &mut Store<S>) -> Result<Option<Message>, StoreFault>
+        ensures given { GivesNext S.Store (over store.old self.old) (over store.new self.new) result }
         ensures left { MatchResult result (λ found. MatchOption found
             ((left_of self.old ≡ 0) × (left_of self.new ≡ 0))
             (λ _. left_of self.old ≡ left_of self.new + 1))
             (λ _. left_of self.new ≡ left_of self.old) }
-        ensures caused { StopsNext S.Store self.old self.new result }
-        ensures ends { EndsUnrefused S.Store self.old.store.now self.new.store.now result }
+        ensures caused { StopsNext S.Store (over store.old self.old) (over store.new self.new) result }
+        ensures ends { EndsUnrefused S.Store store.old store.new result }
     {
         let Some(place) = place_at(&self.places, self.at) else {
             return Ok(None);
         };
-        let message = message_at(self.store, place)?;
+        let message = message_at(store, place)?;
         self.at += 1;
         Ok(Some(message))
     }
 
     /// The arrival and the marks of the next message, which stays the next: its text is not read. `None` where all were given.
-    pub fn next_marks(&mut self) -> Result<Option<DatedMarks>, StoreFault>
-        ensures same_reference { self.new.store.ghost_name ≡ self.old.store.ghost_name }
-        ensures shown { ShowsNext S.Store self.old self.new result }
-        ensures caused { StopsNext S.Store self.old self.new result }
-        ensures ends { EndsUnrefused S.Store self.old.store.now self.new.store.now result }
+    pub fn next_marks<S: Alter>(
+        &self,
+        store: &mut Store<S>,
+    ) -> Result<Option<DatedMarks>, StoreFault>
+        ensures shown { ShowsNext S.Store (over store.old self.now) (over store.new self.now) result }
+        ensures caused { StopsNext S.Store (over store.old self.now) (over store.new self.now) result }
+        ensures ends { EndsUnrefused S.Store store.old store.new result }
     {
         let Some(place) = place_at(&self.places, self.at) else {
             return Ok(None);
         };
-        Ok(Some(marks_at(self.store, place)?))
-    }
-
-    /// Counts a want of memory in the store that is walked over. Who walks and was refused memory calls it.
-    pub fn raise(&mut self, why: Refused)
-        ensures same_reference { self.new.store.ghost_name ≡ self.old.store.ghost_name }
-        ensures counted { CountsOne self.old self.new }
-    {
-        self.store.wants.raise(why);
+        Ok(Some(marks_at(store, place)?))
     }
 
     /// Passes the next message by, as if it were given. It does nothing where all were given.
     pub fn pass(&mut self)
-        ensures same_reference { self.new.store.ghost_name ≡ self.old.store.ghost_name }
-        ensures store { self.new.store.now ≡ self.old.store.now }
-        ensures passed { PassesNext S.Store self.old self.new }
+        ensures passed { ahead_of self.new ≡ drop 1 (ahead_of self.old) }
         ensures left { left_of self.new ≡ left_of self.old - 1 }
     {
         if self.at < self.places.len() {
@@ -236,20 +189,23 @@ impl<'a, S: Alter> EachRow<'a, S> {
 }
 
 /// The messages that a walk has not given yet.
-fn read_rows<S: Alter>(alloc: Global, walk: &mut EachRow<'_, S>) -> Result<Vec<Message>, StoreFault>
-    ensures same_reference { walk.new.store.ghost_name ≡ walk.old.store.ghost_name }
-    ensures given { GivesAll S.Store walk.old walk.new result }
-    ensures caused { StopsAll S.Store walk.old walk.new result }
-    ensures ends { EndsUnrefused S.Store walk.old.store.now walk.new.store.now result }
+fn read_rows<S: Alter>(
+    store: &mut Store<S>,
+    alloc: Global,
+    walk: &mut EachRow,
+) -> Result<Vec<Message>, StoreFault>
+    ensures given { GivesAll S.Store (over store.old walk.old) (over store.new walk.new) result }
+    ensures caused { StopsAll S.Store (over store.old walk.old) (over store.new walk.new) result }
+    ensures ends { EndsUnrefused S.Store store.old store.new result }
 {
     let mut found = match Vec::with_capacity(alloc, walk.left()) {
         Ok(found) => found,
-        Err(refused) => return Err(walk.store.wants.refuse(refused.into())),
+        Err(refused) => return Err(store.wants.refuse(refused.into())),
     };
-    while let Some(message) = walk.next()? {
+    while let Some(message) = walk.next(store)? {
         match found.push(message) {
             Ok(()) => {}
-            Err(refused) => return Err(walk.store.wants.refuse(refused.into())),
+            Err(refused) => return Err(store.wants.refuse(refused.into())),
         }
     }
     Ok(found)

@@ -34,5 +34,5 @@ fn walk_to_first<S: Alter>(
     ensures clean { HadReturned S.Store store.old store.new }
 {
     let mut walk = store.each_row(alloc, list)?;
-    walk.next()
+    walk.next(store)
 }

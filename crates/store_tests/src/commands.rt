@@ -1,6 +1,5 @@
 //! What each command answers.
 use crate::questions::{are_names, day, item};
-use archive_store::limits::add_limited;
 use archive_store::{Added, Command, Key, Outcome, Store, StoreFault};
 use civil_time::Day;
 use mbox_core::Item;
@@ -181,11 +180,11 @@ fn withdrawals<'a, S: Alter>(
         withdraw("xyz", key, Party::Author),
         withdraw("soc", key, Party::Author),
         restore("soc", key),
-        add("xyz", item),
-        add("soc", item),
+        add(alloc, "xyz", item),
+        add(alloc, "soc", item),
         restore("soc", key),
         withdraw("soc", key, Party::Author),
-        add("soc", item),
+        add(alloc, "soc", item),
         withdraw("soc", key, Party::Author),
         withdraw("soc", key, Party::Board),
         restore("xyz", key),
@@ -213,8 +212,8 @@ fn withdrawals<'a, S: Alter>(
 }
 
 /// The command that adds a message.
-pub fn add<'a>(list: &'a str, item: &'a Item<'a>) -> Command<'a> {
-    Command::Add { list, item }
+pub fn add<'a>(alloc: Global, list: &'a str, item: &'a Item<'a>) -> Command<'a> {
+    Command::Add { alloc, list, item }
 }
 
 /// The command that withdraws a message.
@@ -273,12 +272,12 @@ fn merge(list: &str, merge: bool) -> Command<'_> {
 /// An address that is given, and one that replaces it; what is refused of others.
 fn addresses<S: Alter>(rt: &impl Abort, alloc: Global, store: &mut Store<S>) -> Result<(), Fail> {
     let told = [
-        address("eve", ""),
-        address("anna", ""),
-        address("anna", "a b"),
-        address("anna", "a@b"),
-        address("anna", "Anna@Example.org"),
-        address("bob", "anna@example.org"),
+        address(alloc, "eve", ""),
+        address(alloc, "anna", ""),
+        address(alloc, "anna", "a b"),
+        address(alloc, "anna", "a@b"),
+        address(alloc, "anna", "Anna@Example.org"),
+        address(alloc, "bob", "anna@example.org"),
     ];
     let wanted = [
         Outcome::Refused(StoreFault::NoPerson),
@@ -297,8 +296,12 @@ fn addresses<S: Alter>(rt: &impl Abort, alloc: Global, store: &mut Store<S>) -> 
     Ok(())
 }
 
-fn address<'a>(person: &'a str, address: &'a str) -> Command<'a> {
-    Command::AddressSet { person, address }
+fn address<'a>(alloc: Global, person: &'a str, address: &'a str) -> Command<'a> {
+    Command::AddressSet {
+        alloc,
+        person,
+        address,
+    }
 }
 
 /// A message that is held back and let go, and what is refused of another.
@@ -362,31 +365,19 @@ pub fn calls<S: Alter>(rt: &impl Abort, alloc: Global, store: &mut Store<S>) -> 
     Ok(())
 }
 
-/// A limit of two messages: a third is refused, one of the two is known from any sender, and those of another list do
-/// not count.
+/// A message that no list takes, and a list that is not there.
 pub fn limits<S: Alter>(rt: &impl Abort, alloc: Global, store: &mut Store<S>) -> Result<(), Fail> {
     store.list_add("soc")?;
-    store.list_add("other")?;
     has_no_message(rt, alloc, store)?;
-    for (list, answer) in [("xyz", Err(StoreFault::NoList)), ("other", Ok(Added::New))] {
-        assert_eq!(rt; store.add(alloc, list, &item("a@b", b"one")?), answer);
-    }
     let long = vec![in alloc; b'x'; 16_777_216]?;
-    for (sender, text, answer) in [
-        ("a@b", b"one".as_slice(), Ok(Added::New)),
-        ("a@b", b"two\n".as_slice(), Ok(Added::New)),
-        ("a@b", b"three\n".as_slice(), Err(StoreFault::ListFull)),
-        ("a@b", b"one\n".as_slice(), Ok(Added::Known)),
-        ("c@d", b"one\n".as_slice(), Ok(Added::Known)),
-        ("a@b", long.as_slice(), Err(StoreFault::TooLarge)),
+    for (list, text, answer) in [
+        ("xyz", b"one".as_slice(), Err(StoreFault::NoList)),
+        ("xyz", long.as_slice(), Err(StoreFault::NoList)),
+        ("soc", long.as_slice(), Err(StoreFault::TooLarge)),
+        ("soc", b"one".as_slice(), Ok(Added::New)),
     ] {
-        let added = add_limited(store, alloc, "soc", &item(sender, text)?, 2);
-        assert_eq!(rt; added, answer);
+        assert_eq!(rt; store.add(alloc, list, &item("a@b", text)?), answer);
     }
-    assert_eq!(rt;
-        store.add(alloc, "soc", &item("a@b", b"three\n")?),
-        Ok(Added::New)
-    );
     Ok(())
 }
 

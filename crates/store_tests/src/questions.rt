@@ -96,9 +96,9 @@ fn fill_with<'a, S: Alter>(
             name: "anna",
             token: TOKEN,
         },
-        add("soc", items.0),
-        add("other", items.1),
-        add("soc", items.1),
+        add(alloc, "soc", items.0),
+        add(alloc, "other", items.1),
+        add(alloc, "soc", items.1),
         withdraw("soc", keys.0, Party::Author),
         embargo("soc", keys.1, until),
     ];
@@ -148,7 +148,7 @@ fn a_walk_that_is_dropped<S: Alter>(
 ) -> Result<(), Fail> {
     assert!(rt; matches!(store.each_row(alloc, "xyz"), Err(StoreFault::NoList)));
     let mut walk = store.each_row(alloc, "soc")?;
-    let first = walk.next()?.ok_or("a message")?;
+    let first = walk.next(store)?.ok_or("a message")?;
     is_first(rt, &first)?;
     assert_eq!(rt; walk.left(), 1);
     Ok(())
@@ -164,12 +164,12 @@ fn a_walk_to_the_end<S: Alter>(
     let mut walk = store.each_row(alloc, "soc")?;
     assert_eq!(rt; walk.left(), rows.len());
     for row in rows.iter() {
-        let message = walk.next()?.ok_or("a message")?;
+        let message = walk.next(store)?.ok_or("a message")?;
         assert!(rt; message.key == row.key);
         assert_eq!(rt; message.item.as_item().text, row.item.as_item().text);
     }
     for _ in 0..2 {
-        assert!(rt; walk.next()?.is_none());
+        assert!(rt; walk.next(store)?.is_none());
     }
     Ok(())
 }
@@ -184,7 +184,7 @@ fn a_walk_that_passes_by<S: Alter>(
     let mut walk = store.each_row(alloc, "soc")?;
     for row in rows.iter() {
         for _ in 0..2 {
-            let marks = walk.next_marks()?.ok_or("marks")?;
+            let marks = walk.next_marks(store)?.ok_or("marks")?;
             assert_eq!(rt; marks.arrival, row.item.arrival());
             assert_eq!(rt;
                 (marks.withdrawn, marks.embargo_until),
@@ -195,11 +195,10 @@ fn a_walk_that_passes_by<S: Alter>(
     }
     walk.pass();
     assert_eq!(rt; walk.left(), 0);
-    assert!(rt; walk.next_marks()?.is_none() && walk.next()?.is_none());
-    drop(walk);
+    assert!(rt; walk.next_marks(store)?.is_none() && walk.next(store)?.is_none());
     let mut walk = store.each_row(alloc, "soc")?;
     walk.pass();
-    let second = walk.next()?.ok_or("a message")?;
+    let second = walk.next(store)?.ok_or("a message")?;
     assert!(rt; rows.get(1).is_some_and(|row| second.key == row.key));
     Ok(())
 }

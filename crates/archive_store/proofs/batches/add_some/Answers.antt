@@ -1,4 +1,4 @@
-use Rattle.std.proofs.Common.{rules, ◌≡◌, ◌<◌, ◌+◌, ◌-◌, ◌∙◌, ap, get_or, length, take, drop, length-drop, arith, refl, subst, Some, inl, inr}
+use Rattle.std.proofs.Common.{◌≡◌, ◌<◌, ◌+◌, ◌-◌, ◌∙◌, ap, get_or, length, take, drop, length-drop, arith, refl, subst, Some, inl, inr}
 use Rattle.sqlite.specs.Held.{state}
 use Rattle.archive_machine.specs.Commands.{taken_in, already_known, refused, too_large}
 use Rattle.archive_machine.specs.Runs.{taken}

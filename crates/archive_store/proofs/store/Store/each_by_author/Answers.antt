@@ -1,17 +1,13 @@
-use Rattle.std.proofs.Common.{ap, sym, refl}
-use mathlib.Core.Option.{some}
+use Rattle.std.proofs.Common.{refl}
 use Rattle.archive_machine.specs.Filing.{by_author}
 use Rattle.archive_tables.specs.Rows.{author_places}
 use Rattle.archive_tables.proofs.FiledLemmas.{walked_author}
-use Rattle.archive_store.proofs.WalkingLemmas.{begins_walk, at_start, author_of_list}
+use Rattle.archive_store.proofs.WalkingLemmas.{begins_walk, author_of_list}
 use Rattle.archive_store.proofs.store.Store.each_by_author.Goals as goal
 
-pub returns : goal.returns
-returns g c =
-    let begun = begins_walk g.S.Store c.args.self.now c.find_places.new.store c.args.list.now
-    (λ trees. author_places trees c.args.list.now c.args.key.now) (λ a. by_author a c.args.list.now c.args.key.now)
-    (λ trees k. walked_author trees c.args.list.now c.args.key.now k)
-    (author_of_list c.args.list.now c.args.key.now) c.new.result c.new.ensures.store c.new.ensures.at c.in_ok-places.ensures.ends
-    (λ returned kept. at_start g.S.Store c.find_places.new.store c.args.self.now c.args.list.now
-    (λ trees. author_places trees c.args.list.now c.args.key.now) c.new.result c.in_ok-places.places c.new.ensures.places (c.in_ok-places.ensures.found returned kept)) in
-    ((ap some (sym c.new.ensures.same_reference), (λ w. refl), tt), (c.new.ensures.same_reference, (begun, tt)))
+pub returns-clause-begun : goal.returns-clause-begun
+returns-clause-begun g c =
+    let list = c.args.list.now in
+    let key = c.args.key.now in
+    begins_walk g.S.Store c.args.self.now c.find_places.new.store list (λ trees. author_places trees list key) (λ a. by_author a list key) (λ trees k. walked_author trees list key k) (author_of_list list key)
+    (record { places = c.in_ok-places.places; at = 0 }) refl c.in_ok-places.ensures.ends c.in_ok-places.ensures.found

@@ -3,9 +3,9 @@ use Rattle.std.proofs.lemmas.List.{take_all}
 use Rattle.sqlite.specs.Held.{state}
 use Rattle.archive_machine.specs.Runs.{run}
 use Rattle.archive_tables.specs.Tables.{archive_of}
-use Rattle.archive_store.specs.Running.{command_of, answer_of, RanAll}
+use Rattle.archive_store.specs.Carrying.{command_of}
+use Rattle.archive_store.specs.Running.{answer_of, RanAll}
 use Rattle.archive_store.proofs.RunLemmas.{run_nothing, ran_none, ran_next, ran_stop, first_commands, stops_run}
-use Rattle.archive_store.proofs.CountLemmas.{count_after}
 use Rattle.archive_tables.proofs.LastLemmas.{lasts_then, lasts_same}
 use Rattle.std.proofs.Common.{◌⊎◌, inl, inr}
 use Rattle.sqlite_disk.specs.Disk.{MoreFaults}
@@ -27,7 +27,7 @@ loop-command-init g c =
     let first = state g.S.Store c.args.self.now.conn in (
       ap length c.in-Ok.ensures.items,
       (λ clean. clean),
-      (λ clean kept. (subst (λ outcomes. RanAll first (run (archive_of first) []) first outcomes) (sym c.in-Ok.ensures.items) (ran_none first kept), tt)),
+      (λ clean kept. subst (λ outcomes. RanAll first (run (archive_of first) []) first outcomes) (sym c.in-Ok.ensures.items) (ran_none first kept)),
       lasts_same _,
       omega arith,
       (λ clean kept safe. safe),
@@ -37,7 +37,7 @@ pub returns-clause-step : goal.returns-clause-step
 returns-clause-step g c = λ clean kept.
     let first = state g.S.Store c.args.self.now.conn in
     subst (λ commands. RanAll first (run (archive_of first) (map command_of commands)) (state g.S.Store c.loop-command.self.conn) c.loop-command.outcomes.items)
-    (take_all c.loop-command.command-index c.args.commands.now c.loop-command-test.false) (c.loop-command.invariant.2 clean kept).0
+    (take_all c.loop-command.command-index c.args.commands.now c.loop-command-test.false) (c.loop-command.invariant.2 clean kept)
 
 pub returns-in-Err-carry_out-clause-step : goal.returns-in-Err-carry_out-clause-step
 returns-in-Err-carry_out-clause-step g c = λ clean kept up.
@@ -45,7 +45,7 @@ returns-in-Err-carry_out-clause-step g c = λ clean kept up.
     let before = c.loop-command.invariant.2 (c.carry_out.ensures.ends.lasts.returned clean) kept in
     let at = c.loop-command.command-index in
     let stopped = ran_stop first (state g.S.Store c.loop-command.self.conn) (state g.S.Store c.carry_out.new.self.conn) (map command_of (take at c.args.commands.now))
-    c.loop-command.outcomes.items before.0 (c.in-Err-carry_out.ensures.step clean before.0.0 before.1) up in
+    c.loop-command.outcomes.items before (c.in-Err-carry_out.ensures.step clean before.0) up in
     let len : vec_len c.loop-command.outcomes ≡ length c.loop-command.outcomes.items = search rules in
     (stopped.0, stopped.1 ∙ ap (λ commands. (run (archive_of first) commands).archive) (sym (first_commands c.args.commands.now c.len.result at (c.len.ensures ∙ len ∙ c.loop-command.invariant.0))))
 
@@ -60,20 +60,17 @@ loop-command-preserved g c =
       (λ clean. c.loop-command.invariant.1 (c.carry_out.ensures.ends.lasts.returned clean)),
       (λ clean kept.
           let ran = c.loop-command.invariant.2 (c.carry_out.ensures.ends.lasts.returned clean) kept in
-          let steps = c.in-Ok-carry_out.ensures.step clean ran.0.0 ran.1 in (
-            ran_next first mid new c.args.commands.now c.loop-command.command-index c.command-item.result outcomes c.push.new.self.items o ran.0
-                c.in-Ok-carry_out.ensures.told steps (omega (arith, c.loop-command-test.true)) c.command-item.is c.in-Ok-push.ensures.items,
-            count_after g.S.Store c.loop-command.self.conn c.carry_out.new.self.conn c.command-item.result c.loop-command.counted c.carry_out.new.counted
-                (answer_of o) clean ran.0.0 c.in-Ok-carry_out.ensures.told steps c.in-Ok-carry_out.ensures.counted ran.1,
-          )),
+          let steps = c.in-Ok-carry_out.ensures.step clean ran.0 in
+          ran_next first mid new c.args.commands.now c.loop-command.command-index c.command-item.result outcomes c.push.new.self.items o ran
+          c.in-Ok-carry_out.ensures.told steps (omega (arith, c.loop-command-test.true)) c.command-item.is c.in-Ok-push.ensures.items),
       lasts_then _ _ _ c.loop-command.invariant.3 c.carry_out.ensures.ends.lasts,
       omega (arith, c.loop-command.invariant.4, c.in-Ok-carry_out.ensures.ends.counted.0),
       (λ clean kept safe.
           let was = c.carry_out.ensures.ends.lasts.returned clean in
           let ran = c.loop-command.invariant.2 was kept in
           answered_safe g.S.Store c.loop-command.self.conn c.carry_out.new.self.conn (λ db up may. g.met.S.Store.settled c.carry_out.new.self.conn.store db up may)
-          (λ a. step a (command_of c.command-item.result)) (answer_of o) c.in-Ok-carry_out.ensures.told (c.in-Ok-carry_out.ensures.step clean ran.0.0 ran.1)
-          (c.carry_out.ensures.crash ran.0.0 ran.1) clean (c.loop-command.invariant.5 was kept safe)),
+          (λ a. step a (command_of c.command-item.result)) (answer_of o) c.in-Ok-carry_out.ensures.told (c.in-Ok-carry_out.ensures.step clean ran.0)
+          (c.carry_out.ensures.crash ran.0) clean (c.loop-command.invariant.5 was kept safe)),
     )
 
 pub returns-in-Err-push-clause-step : goal.returns-in-Err-push-clause-step
@@ -83,8 +80,8 @@ returns-in-Err-push-clause-step g c = λ clean kept up.
     let o = c.in-Ok-carry_out.outcome in
     let outcomes = c.loop-command.outcomes.items in
     let before = c.loop-command.invariant.2 (c.carry_out.ensures.ends.lasts.returned clean) kept in
-    let ran = ran_next first (state g.S.Store c.loop-command.self.conn) (state g.S.Store c.carry_out.new.self.conn) c.args.commands.now at c.command-item.result outcomes (outcomes ++ o ∷ []) o before.0
-    c.in-Ok-carry_out.ensures.told (c.in-Ok-carry_out.ensures.step clean before.0.0 before.1) (omega (arith, c.loop-command-test.true)) c.command-item.is refl in
+    let ran = ran_next first (state g.S.Store c.loop-command.self.conn) (state g.S.Store c.carry_out.new.self.conn) c.args.commands.now at c.command-item.result outcomes (outcomes ++ o ∷ []) o before
+    c.in-Ok-carry_out.ensures.told (c.in-Ok-carry_out.ensures.step clean before.0) (omega (arith, c.loop-command-test.true)) c.command-item.is refl in
     let len : vec_len c.loop-command.outcomes ≡ length outcomes = search rules in
     (ran.0, ran.1 ∙ ap (λ commands. (run (archive_of first) commands).archive) (sym (first_commands c.args.commands.now (c.len-done.result + 1) (at + 1) (ap (λ n. n + 1) (c.len-done.ensures ∙ len ∙ c.loop-command.invariant.0)))))
 
@@ -137,9 +134,9 @@ returns-in-Err-carry_out-clause-ends g c = record {
       let before = c.loop-command.invariant.2 (lasts.returned clean) kept in
       let len : vec_len c.loop-command.outcomes ≡ length c.loop-command.outcomes.items = search rules in
       let Stops : Database → Type 0 = StopsRun (map command_of c.args.commands.now) c.len.result in
-      let why : MoreFaults mid.faults new.faults ⊎ Stops new.now = elim (c.in-Err-carry_out.ensures.ends.caused before.1 clean before.0.0 (c.loop-command.invariant.3.limit ∙ free) it) [
+      let why : MoreFaults mid.faults new.faults ⊎ Stops new.now = elim (c.in-Err-carry_out.ensures.ends.caused clean before.0 (c.loop-command.invariant.3.limit ∙ free) it) [
         | inl more ↦ inl more
-        | inr refused ↦ left_or_failed mid new Stops lasts clean before.0.0.is_open (λ up. (c.in-Err-carry_out.ensures.step clean before.0.0 before.1 up).1)
+        | inr refused ↦ left_or_failed mid new Stops lasts clean before.0.is_open (λ up. (c.in-Err-carry_out.ensures.step clean before.0 up).1)
             (stops_run c.args.commands.now c.len.result c.loop-command.command-index c.command-item.result mid.now (c.len.ensures ∙ len ∙ c.loop-command.invariant.0)
             (omega (arith, c.loop-command-test.true)) c.command-item.is refused)
       ] in
@@ -166,15 +163,15 @@ returns-in-Err-carry_out-clause-crash g c = λ clean kept safe db may.
     let d = c.command-item.result in
     let len : vec_len c.loop-command.outcomes ≡ length c.loop-command.outcomes.items = search rules in
     let done_is : c.len.result ≡ at = c.len.ensures ∙ len ∙ c.loop-command.invariant.0 in
-    elim (c.carry_out.ensures.crash before.0.0 before.1 clean db may) [
+    elim (c.carry_out.ensures.crash before.0 clean db may) [
       | inl earlier ↦ (
         archive_of mid,
-        inl (before.0.1 ∙ ap (λ commands. (run (archive_of first) commands).archive) (sym (first_commands c.args.commands.now c.len.result at done_is))),
+        inl (before.1 ∙ ap (λ commands. (run (archive_of first) commands).archive) (sym (first_commands c.args.commands.now c.len.result at done_is))),
         c.loop-command.invariant.5 was kept safe db earlier,
       )
       | inr next ↦ (
         (step (archive_of mid) (command_of d)).0,
-        inr (next_archive (archive_of first) (archive_of mid) c.args.commands.now at d before.0.1 (omega (arith, c.loop-command-test.true)) c.command-item.is
+        inr (next_archive (archive_of first) (archive_of mid) c.args.commands.now at d before.1 (omega (arith, c.loop-command-test.true)) c.command-item.is
             ∙ ap (λ commands. (run (archive_of first) commands).archive) (sym (first_commands c.args.commands.now (c.len.result + 1) (at + 1) (ap (λ n. n + 1) done_is)))),
         next,
       )
@@ -190,13 +187,13 @@ returns-in-Err-push-clause-crash g c = λ clean kept safe db may.
     let outcomes = c.loop-command.outcomes.items in
     let was = c.carry_out.ensures.ends.lasts.returned clean in
     let before = c.loop-command.invariant.2 was kept in
-    let steps = c.in-Ok-carry_out.ensures.step clean before.0.0 before.1 in
-    let ran = ran_next first mid new c.args.commands.now at c.command-item.result outcomes (outcomes ++ o ∷ []) o before.0
+    let steps = c.in-Ok-carry_out.ensures.step clean before.0 in
+    let ran = ran_next first mid new c.args.commands.now at c.command-item.result outcomes (outcomes ++ o ∷ []) o before
     c.in-Ok-carry_out.ensures.told steps (omega (arith, c.loop-command-test.true)) c.command-item.is refl in
     let len : vec_len c.loop-command.outcomes ≡ length outcomes = search rules in
     let last = answered_safe g.S.Store c.loop-command.self.conn c.carry_out.new.self.conn (λ db up may. g.met.S.Store.settled c.carry_out.new.self.conn.store db up may)
     (λ a. step a (command_of c.command-item.result)) (answer_of o) c.in-Ok-carry_out.ensures.told steps
-    (c.carry_out.ensures.crash before.0.0 before.1) clean (c.loop-command.invariant.5 was kept safe) in (
+    (c.carry_out.ensures.crash before.0) clean (c.loop-command.invariant.5 was kept safe) in (
       archive_of new,
       inl (ran.1 ∙ ap (λ commands. (run (archive_of first) commands).archive) (sym (first_commands c.args.commands.now (c.len-done.result + 1) (at + 1) (ap (λ n. n + 1) (c.len-done.ensures ∙ len ∙ c.loop-command.invariant.0))))),
       last db may,

@@ -3,7 +3,8 @@ use Rattle.sqlite.specs.Held.{state}
 use Rattle.sqlite.specs.State.{HasCleanDisk}
 use Rattle.archive_machine.specs.Runs.{run}
 use Rattle.archive_tables.specs.Tables.{IsKept, archive_of}
-use Rattle.archive_store.specs.Running.{command_of, IsRightCount, RanAll}
+use Rattle.archive_store.specs.Carrying.{command_of}
+use Rattle.archive_store.specs.Running.{RanAll}
 use Rattle.archive_tables.specs.Calls.{Lasts}
 use Rattle.archive_tables.specs.Crashes.{IsSafe}
 use Rattle.archive_store.specs.Held.{wants_of}
@@ -15,6 +16,6 @@ invariant-loop-command g l =
     let now = state g.S.Store l.self.conn in
     (length l.outcomes.items ≡ l.command-index) × (HasCleanDisk now → HasCleanDisk first)
     × (HasCleanDisk now → IsKept first
-    → RanAll first (run (archive_of first) (map command_of (take l.command-index l.commands))) now l.outcomes.items × IsRightCount l.counted (archive_of now))
+    → RanAll first (run (archive_of first) (map command_of (take l.command-index l.commands))) now l.outcomes.items)
     × Lasts first now × (wants_of l.fn.self ≤ wants_of l.self)
     × (HasCleanDisk now → IsKept first → IsSafe first → IsSafe now)

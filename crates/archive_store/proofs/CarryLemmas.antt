@@ -1,0 +1,575 @@
+-- A command that is looked up, decided and written: what each part says, and each exit of the whole.
+use Rattle.std.proofs.Common.{◌≡◌, ◌∙◌, ℕ, inl, inr, true, false, List, [], ◌∷◌, None, Some, Option, Result, Ok, Err, IfErr, OnOk, refl, sym, ap, subst, if◌then◌else◌}
+use Rattle.std.specs.Prelude.{IsErrAnd, IfSome, Bool, is_some, MatchResult, ⊤, ◌≤◌, find, length, map, nat_lt, not, int_lt, option_map}
+use Rattle.std.proofs.Common.{arith}
+use Rattle.std.specs.Option.{option_map_or}
+use Rattle.sqlite.specs.declared.error.Error.{Error}
+use Rattle.sqlite.specs.Effect.{Database}
+use Rattle.sqlite.specs.Store.{Ghosts}
+use Rattle.sqlite.specs.Held.{state}
+use Rattle.archive_machine.specs.Records.{Archive, Message}
+use Rattle.archive_machine.specs.Commands.{Command, list_add, person_add, grant, revoke, add, withdraw, restore, embargo, lift, merge_set, address_set, Refusal, bad_name, bad_text, list_exists, no_list, person_exists, no_person, token_taken, no_message, already_withdrawn, not_withdrawn, bad_days, list_full, too_large, Reply, refused, taken_in, already_known}
+use Rattle.archive_machine.specs.Machine.{Outcome, Test, when, nothing, found_of, tests_of, changed_by, reply_to, unless_so, longest_text, step}
+use Rattle.archive_machine.specs.declared.found.Found.{Found}
+use Rattle.archive_machine.specs.Addresses.{is_address}
+use Rattle.archive_machine.specs.Tokens.{is_token}
+use Rattle.policy_core.specs.Names.{is_name}
+use Rattle.archive_machine.specs.Questions.{is_message, is_withdrawn, is_embargoed}
+use Rattle.archive_machine.specs.Keys.{item_key}
+use Rattle.mbox_items.specs.Division.{Item, whole}
+use Rattle.std.specs.List.{list_any}
+use Rattle.archive_store.proofs.StepEquations.{is_some-find}
+use Rattle.archive_tables.specs.Statements.{Statement, IsRefused}
+use Rattle.archive_tables.specs.Rows.{marks_of}
+use Rattle.archive_tables.specs.Tables.{archive_in as archive_of_trees}
+use Rattle.archive_tables.specs.Calls.{Asks, Writes, StaysOver}
+use Rattle.archive_tables.specs.Crashes.{IsStored}
+use Rattle.archive_tables.proofs.EndLemmas.{archive_stays, stays_then, rests_behind}
+use Rattle.archive_tables.proofs.LastLemmas.{lasts_then}
+use Rattle.archive_store.specs.Held.{held_of, wants_of}
+use Rattle.archive_store.specs.Words.{added_if, added_reply}
+use Rattle.archive_store.specs.Wanting.{IsWant, Raises}
+use Rattle.archive_store.specs.Replies.{refusal, Does, Steps, IsOneOf, reply_of}
+use Rattle.archive_store.specs.Refusals.{IsCarried, IsWriteRefused}
+use Rattle.archive_store.specs.Told.{Lasts, HasReturned, HoldsTables, archive_in}
+use Rattle.archive_store.specs.Crashes.{CrashSteps}
+use Rattle.archive_store.specs.Carrying.{Looks, Puts, PutsDown, Commands, Carries, found_marks, first_so, reply_settled, with_reason, reasons_among, reasons_of, answer_by, said}
+use Rattle.archive_store.specs.declared.store.Store.{Store}
+use Rattle.archive_store.specs.declared.faults.StoreFault.{StoreFault}
+use Rattle.archive_store.specs.declared.deciding.Settled.{Settled}
+use Rattle.archive_store.specs.declared.deciding.Settled.TheVariants as settled_as
+use Rattle.archive_store.specs.declared.commands.Command.{Command as Given}
+use Rattle.archive_store.proofs.CauseLemmas.{more_since, is_database}
+use Rattle.archive_store.proofs.PassLemmas.{Passes}
+use Rattle.archive_store.proofs.FindLemmas.{PassesFault, blames, blames_disk, blames_passed}
+use Rattle.archive_store.proofs.WantLemmas.{raises_after}
+use Rattle.archive_store.proofs.EndLemmas.{refuses}
+use Rattle.archive_tables.specs.Crashes.{AddsNothing}
+use Rattle.archive_tables.proofs.LastLemmas.{lasts_same}
+use Rattle.archive_database.specs.declared.faults.Fault.{Fault}
+use Rattle.archive_database.specs.Taking.{TakesIn, FailsToTake, TakesWhole}
+use Rattle.archive_tables.specs.Calls.{Ends}
+
+-- ---- the tables of the machine
+
+-- an answer that leaves the archive
+abbrev pub told_at : Archive → Reply → Outcome
+told_at a reply = (a, reply)
+
+-- by whether this test is so
+module _ (a : Archive) (reply : Reply) (made : Outcome) (other : Option Reply) (rest : Outcome) where
+  not_first : (b : Bool) → (if b then Some reply else other) ≡ None → (other ≡ None → rest ≡ made) → (if b then told_at a reply else rest) ≡ made
+  not_first true none later = absurd cc
+  not_first false none later = later none
+
+  is_first : (b : Bool) (told : Reply) → (if b then Some reply else other) ≡ Some told → (other ≡ Some told → rest ≡ told_at a told)
+      → (if b then told_at a reply else rest) ≡ told_at a told
+  is_first true told is later = ap (λ o. told_at a (option_map_or (λ (r : Reply). r) o reply)) is
+  is_first false told is later = later is
+
+none_so : (a : Archive) (tests : List Test) (made : Outcome) → first_so tests ≡ None → unless_so a tests made ≡ made
+none_so a [] made none = refl
+none_so a (test ∷ tests) made none = not_first a test.1 made (first_so tests) (unless_so a tests made) test.0 none (none_so a tests made)
+
+one_so : (a : Archive) (tests : List Test) (made : Outcome) (told : Reply) → first_so tests ≡ Some told → unless_so a tests made ≡ told_at a told
+one_so a [] made told is = absurd cc
+one_so a (test ∷ tests) made told is = is_first a test.1 made (first_so tests) (unless_so a tests made) test.0 told is (one_so a tests made told)
+
+-- the step, by what was found
+told_step : (a : Archive) (command : Command) (told : Reply) → first_so (tests_of command (found_of a command)) ≡ Some told → step a command ≡ told_at a told
+told_step a command told first = one_so a (tests_of command (found_of a command)) (changed_by command a, reply_to command (found_of a command)) told first
+
+made_step : (a : Archive) (command : Command) (found : Found) → found ≡ found_of a command → first_so (tests_of command found) ≡ None
+    → step a command ≡ told_at (changed_by command a) (reply_to command found)
+made_step a command found is none =
+    none_so a (tests_of command (found_of a command)) (changed_by command a, reply_to command (found_of a command)) (ap (λ f. first_so (tests_of command f)) (sym is) ∙ none)
+    ∙ ap (λ f. told_at (changed_by command a) (reply_to command f)) (sym is)
+
+-- ---- its refusals
+
+among : (why : Refusal) (reply : Reply) (reasons : List Refusal) → IsOneOf why reasons → IsOneOf why (with_reason reply reasons)
+among why (refused other) reasons it = inr it
+among why _ reasons it = it
+
+one_behind : (b : Bool) (reply : Reply) (why : Refusal) (other : Option Reply) (reasons : List Refusal) → (if b then Some reply else other) ≡ Some (refused why)
+    → (other ≡ Some (refused why) → IsOneOf why reasons) → IsOneOf why (with_reason reply reasons)
+one_behind true reply why other reasons is later =
+    let same : reply ≡ refused why = cc in subst (λ r. IsOneOf why (with_reason r reasons)) (sym same) (inl refl)
+one_behind false reply why other reasons is later = among why reply reasons (later is)
+
+first_is_one : (tests : List Test) (why : Refusal) → first_so tests ≡ Some (refused why) → IsOneOf why (reasons_among tests)
+first_is_one [] why is = absurd cc
+first_is_one (test ∷ tests) why is = one_behind test.0 test.1 why (first_so tests) (reasons_among tests) is (first_is_one tests why)
+
+same_reasons : (command : Command) (found : Found) → reasons_among (tests_of command found) ≡ reasons_of command
+same_reasons (list_add name) found = refl
+same_reasons command found = refl
+
+-- one of the reasons of the command
+is_reason : (command : Command) (found : Found) (why : Refusal) → first_so (tests_of command found) ≡ Some (refused why) → IsOneOf why (reasons_of command)
+is_reason command found why is = subst (IsOneOf why) (same_reasons command found) (first_is_one (tests_of command found) why is)
+
+-- the reason that a fault tells
+reason_told : (fault : StoreFault) (o : Option Reply) → Some (option_map refused (refusal fault)) ≡ option_map Some o → (why : Refusal) × (refusal fault ≡ Some why) × (o ≡ Some (refused why))
+reason_told fault o is = go (refusal fault) o refl is
+  where
+    go : (r : Option Refusal) (o : Option Reply) → refusal fault ≡ r → Some (option_map refused r) ≡ option_map Some o → (why : Refusal) × (refusal fault ≡ Some why) × (o ≡ Some (refused why))
+    go None None e is = absurd cc
+    go None (Some reply) e is = absurd cc
+    go (Some why) None e is = absurd cc
+    go (Some why) (Some reply) e is = (let same : reply ≡ refused why = cc in (why, e, ap Some same))
+
+-- ---- its answer
+
+pub none_of : (o : Option Reply) → (let n : Option (Option Reply) = None in n) ≡ option_map Some o → o ≡ None
+none_of None is = refl
+none_of (Some reply) is = absurd cc
+
+one_of : (o : Option Reply) (reply : Reply) → Some (Some reply) ≡ option_map Some o → o ≡ Some reply
+one_of None reply is = absurd cc
+one_of (Some other) reply is = cc
+
+same_of : (o p : Option Reply) → option_map Some o ≡ option_map Some p → o ≡ p
+same_of None None is = refl
+same_of None (Some q) is = absurd cc
+same_of (Some r) None is = absurd cc
+same_of (Some r) (Some q) is = cc
+
+-- a message that no test answers was not found
+unknown : (unlisted large known full : Bool)
+    → (if unlisted then Some (refused no_list) else if large then Some (refused too_large) else if known then Some already_known else if full then Some (refused list_full) else None) ≡ None
+    → known ≡ false
+unknown true large known full is = absurd cc
+unknown false true known full is = absurd cc
+unknown false false true full is = absurd cc
+unknown false false false full is = refl
+
+-- and one of which it is told that it is known was found
+is_known : (unlisted large known full : Bool)
+    → (if unlisted then Some (refused no_list) else if large then Some (refused too_large) else if known then Some already_known else if full then Some (refused list_full) else None) ≡ Some already_known
+    → (if known then already_known else taken_in) ≡ already_known
+is_known true large known full is = absurd cc
+is_known false true known full is = absurd cc
+is_known false false true full is = refl
+is_known false false false true is = absurd cc
+is_known false false false false is = absurd cc
+
+answer_made : (command : Command) (found : Found) → first_so (tests_of command found) ≡ None → answer_by command found ≡ reply_to command found
+answer_made (add list item) found none =
+    ap (λ b. if b then already_known else taken_in) (unknown (not found.list) (nat_lt longest_text (length (whole item.text))) found.message found.full none)
+answer_made command found none = refl
+
+-- tests that refuse, and nothing else
+never_known : (tests : List (Bool × Refusal)) → first_so (map (λ t. when t.0 t.1) tests) ≡ Some already_known → ⊥
+never_known [] is = absurd cc
+never_known (test ∷ tests) is = go test.0 (never_known tests) is
+  where
+    go : (b : Bool) → (first_so (map (λ t. when t.0 t.1) tests) ≡ Some already_known → ⊥)
+        → (if b then Some (refused test.1) else first_so (map (λ t. when t.0 t.1) tests)) ≡ Some already_known → ⊥
+    go true later is = absurd cc
+    go false later is = later is
+
+answer_known : (command : Command) (found : Found) → first_so (tests_of command found) ≡ Some already_known → answer_by command found ≡ already_known
+answer_known (add list item) it is = is_known (not it.list) (nat_lt longest_text (length (whole item.text))) it.message it.full is
+answer_known (list_add name) it is = absurd (never_known ((not (is_name name), bad_name) ∷ (it.list, list_exists) ∷ []) is)
+answer_known (merge_set list merge) it is = absurd (never_known ((not it.list, no_list) ∷ []) is)
+answer_known (person_add name token) it is =
+    absurd (never_known ((not (is_name name), bad_name) ∷ (not (is_token token), bad_text) ∷ (it.person, person_exists) ∷ (it.token, token_taken) ∷ []) is)
+answer_known (address_set person address) it is = absurd (never_known ((not it.person, no_person) ∷ (not (is_address address), bad_text) ∷ []) is)
+answer_known (grant person list rank from until) it is = absurd (never_known ((not it.person, no_person) ∷ (not it.list, no_list) ∷ (int_lt until from, bad_days) ∷ []) is)
+answer_known (revoke person list rank) it is = absurd (never_known ((not it.person, no_person) ∷ (not it.list, no_list) ∷ []) is)
+answer_known (withdraw list key party) it is = absurd (never_known ((not it.list, no_list) ∷ (not it.message, no_message) ∷ (it.withdrawn, already_withdrawn) ∷ []) is)
+answer_known (restore list key) it is = absurd (never_known ((not it.list, no_list) ∷ (not it.message, no_message) ∷ (not it.withdrawn, not_withdrawn) ∷ []) is)
+answer_known (embargo list key until) it is = absurd (never_known ((not it.list, no_list) ∷ (not it.message, no_message) ∷ []) is)
+answer_known (lift list key) it is = absurd (never_known ((not it.list, no_list) ∷ (not it.message, no_message) ∷ []) is)
+
+-- a command that no test answers is carried out
+pub is_carried : (command : Command) (found : Found) → IsCarried (reply_to command found)
+is_carried (revoke person list rank) found = tt
+is_carried command found = tt
+
+-- ---- the tests of the code
+
+-- tests of the code and of the machine, one by one
+abbrev pub Alike : List (Bool × Settled) → List Test → Type 0
+Alike [] [] = ⊤
+Alike (row ∷ rows) (test ∷ tests) = (row.0 ≡ test.0) × (reply_settled row.1 ≡ Some test.1) × Alike rows tests
+Alike _ _ = ⊥
+
+pub rows_alike : (rows : List (Bool × Settled)) (tests : List Test) → Alike rows tests
+    → option_map reply_settled (option_map (λ row. row.1) (find (λ row. row.0) rows)) ≡ option_map Some (first_so tests)
+rows_alike [] [] alike = refl
+rows_alike [] (test ∷ tests) alike = absurd alike
+rows_alike (row ∷ rows) [] alike = absurd alike
+rows_alike (row ∷ rows) (test ∷ tests) alike =
+    go row.0 (rows_alike rows tests alike.2) ∙ ap (λ b. option_map Some (if b then Some test.1 else first_so tests)) alike.0
+  where
+    go : (b : Bool) → option_map reply_settled (option_map (λ row. row.1) (find (λ row. row.0) rows)) ≡ option_map Some (first_so tests)
+        → option_map reply_settled (option_map (λ row. row.1) (if b then Some row else find (λ row. row.0) rows)) ≡ option_map Some (if b then Some test.1 else first_so tests)
+    go true later = ap Some alike.1
+    go false later = later
+
+-- ---- what was told, handed on
+
+passes_to : {A : Type 0} (X : A → Type 0) (Y : Type 0) (told : Result A Error) (result : Result A StoreFault) → Passes told result → MatchResult told X (λ _. Y) → MatchResult result X (λ _. Y)
+passes_to X Y told (Ok a) is it = subst (λ t. MatchResult t X (λ _. Y)) is it
+passes_to X Y (Ok a) (Err f) is it = absurd is
+passes_to X Y (Err e) (Err f) is it = it
+
+passes_ok : {A : Type 0} (X : Type 0) (told : Result A Error) (result : Result A StoreFault) → Passes told result → OnOk told X → OnOk result X
+passes_ok X told (Ok a) is it = subst (λ t. OnOk t X) is it
+passes_ok X told (Err f) is it = tt
+
+on_ok : {A : Type 0} {X : Type 0} (result : Result A StoreFault) → X → OnOk result X
+on_ok (Ok a) x = x
+on_ok (Err fault) x = tt
+
+map_match : {A : Type 0} (X Y : A → Type 0) (R T : Type 0) (result : Result A StoreFault) → ((a : A) → X a → Y a) → (R → T) → MatchResult result X (λ _. R) → MatchResult result Y (λ _. T)
+map_match X Y R T (Ok a) f h it = f a it
+map_match X Y R T (Err e) f h it = h it
+
+module _ {S : Type 0} (g : Ghosts S) where
+  -- ---- questions
+
+  -- one on the tables
+  pub looks_passed : {A : Type 0} {old new : Store S} {told : Result A Error} {result : Result A StoreFault} {Says : Archive → A → Type 0}
+      → Passes told result → IfErr result (λ fault. refusal fault ≡ None) → Raises IsWant (wants_of old) (wants_of new) result
+      → Asks g (held_of old) (held_of new) told Says ⊥ → Looks g old new result Says
+  looks_passed {old = old} {new = new} {told = told} {result = result} {Says = Says} is fault counted asks = record {
+    lasts = asks.ends.lasts;
+    was_open = λ clean. passes_ok _ told result is (asks.ends.was_open clean);
+    quiet = asks.quiet;
+    fault = fault;
+    counted = counted;
+    over = λ clean kept. passes_to (λ a. Says (archive_in g old) a × StaysOver None (state g (held_of old)) (state g (held_of new))) _ told result is (asks.over clean None kept);
+    caused = blames_disk g (held_of old) (held_of new) told result is asks.caused;
+  }
+
+  -- one behind another
+  pub looks_then : {A B : Type 0} {old mid new : Store S} {a : A} {result : Result B StoreFault} {P : Archive → A → Type 0} {Q : Archive → B → Type 0}
+      → Looks g old mid (Ok a) P → Looks g mid new result Q → Looks g old new result (λ x b. P x a × Q x b)
+  looks_then {old = old} {mid = mid} {new = new} {a = a} {result = result} {P = P} {Q = Q} first next =
+      let o = state g (held_of old) in
+      let m = state g (held_of mid) in
+      let n = state g (held_of new) in
+      record {
+        lasts = lasts_then o m n first.lasts next.lasts;
+        was_open = λ clean. on_ok result (first.was_open (next.lasts.returned clean));
+        quiet = λ clean db may. first.quiet (next.lasts.returned clean) db (next.quiet clean db may);
+        fault = next.fault;
+        counted = raises_after IsWant (wants_of old) (wants_of mid) (wants_of new) result first.counted.0 next.counted;
+        over = λ clean kept.
+            let one = first.over (next.lasts.returned clean) kept in
+            map_match (λ b. Q (archive_in g mid) b × StaysOver None m n) (λ b. (P (archive_in g old) a × Q (archive_in g old) b) × StaysOver None o n) _ _ result
+            (λ b it. ((one.0, subst (λ x. Q x b) (archive_stays one.1.1) it.0), stays_then None o m n one.1 it.1))
+            (rests_behind None o m n one.1.1) (next.over clean one.1.0);
+        caused = λ clean kept free.
+            let one = first.over (next.lasts.returned clean) kept in
+            blames result (more_since o m n first.lasts) (next.caused clean one.1.0 (first.lasts.limit ∙ free));
+      }
+
+  -- what follows from it
+  pub looks_say : {A B : Type 0} {old new : Store S} {a : A} {b : B} {P : Archive → A → Type 0} {Q : Archive → B → Type 0}
+      → Looks g old new (Ok a) P → ((x : Archive) → P x a → Q x b) → Looks g old new (Ok b) Q
+  looks_say {old = old} looks so = record {
+    lasts = looks.lasts;
+    was_open = looks.was_open;
+    quiet = looks.quiet;
+    fault = tt;
+    counted = looks.counted;
+    over = λ clean kept. let it = looks.over clean kept in (so (archive_in g old) it.0, it.1);
+    caused = λ clean kept free. tt;
+  }
+
+  -- whatever is answered
+  pub looks_as : {A : Type 0} {old new : Store S} {result : Result A StoreFault} {P Q : Archive → A → Type 0}
+      → Looks g old new result P → ((x : Archive) (a : A) → P x a → Q x a) → Looks g old new result Q
+  looks_as {old = old} {result = result} looks so = record {
+    lasts = looks.lasts;
+    was_open = looks.was_open;
+    quiet = looks.quiet;
+    fault = looks.fault;
+    counted = looks.counted;
+    over = λ clean kept. map_match _ _ _ _ result (λ a it. (so (archive_in g old) a it.0, it.1)) (λ rests. rests) (looks.over clean kept);
+    caused = looks.caused;
+  }
+
+  -- the exit of a `?`
+  pub looks_stop : {A B : Type 0} {old new : Store S} {fault : StoreFault} (result : Result B StoreFault) {P : Archive → A → Type 0} {Q : Archive → B → Type 0}
+      → Looks g old new {A = A} (Err fault) P → IsErrAnd result (λ f. f ≡ fault) → Looks g old new result Q
+  looks_stop (Ok b) looks is = absurd is
+  looks_stop {B = B} {old = old} {new = new} (Err f) {Q = Q} looks is = subst (λ f. Looks g old new {A = B} (Err f) Q) (sym is) (record {
+    lasts = looks.lasts;
+    was_open = λ clean. tt;
+    quiet = looks.quiet;
+    fault = looks.fault;
+    counted = looks.counted;
+    over = looks.over;
+    caused = looks.caused;
+  })
+
+  -- ---- a write
+
+  pub puts_passed : {A : Type 0} {old new : Store S} {told : Result A Error} {result : Result A StoreFault} {Needs_0 : Archive → Type 0} {change_0 : Archive → Archive} {statement : Statement}
+      {Needs : Archive → Type 0} {change : Archive → Archive} {Refused : Database → Type 0}
+      → Writes g (held_of old) (held_of new) told Needs_0 change_0 statement
+      → Passes told result → IfErr result (λ fault. refusal fault ≡ None) → Raises IsWant (wants_of old) (wants_of new) result
+      → ((a : Archive) → Needs a → Needs_0 a × (change_0 a ≡ change a))
+      → ((db : Database) → Needs (archive_of_trees db.trees) → IsRefused statement db → Refused db)
+      → Puts g old new result Needs change Refused
+  puts_passed {old = old} {new = new} {told = told} {result = result} {statement = statement} writes is fault counted turn bad =
+      let o = state g (held_of old) in
+      record {
+        lasts = writes.ends.lasts;
+        was_open = λ clean. passes_ok _ told result is (writes.ends.was_open clean);
+        fault = fault;
+        counted = counted;
+        over = λ clean kept need.
+            let it = turn (archive_in g old) need in
+            map_match _ _ _ _ result (λ a made. let m = made it.0 in (m.0, m.1 ∙ it.1)) (λ rests. rests)
+            (passes_to _ _ told result is (writes.over clean None kept));
+        crash = λ kept need clean db may.
+            let it = turn (archive_in g old) need in
+            elim (writes.crash None kept it.0 clean db may) [
+              | inl before ↦ inl before
+              | inr made ↦ inr (subst (λ a. IsStored a db) it.1 made.1)
+            ];
+        caused = λ clean kept free need.
+            blames result (λ why. elim why [ inl more ↦ inl more | inr it ↦ inr (bad o.now need it) ])
+            (blames_passed g (held_of old) (held_of new) told result (IsRefused statement o.now) is (λ clean kept free. writes.caused clean None kept free) clean kept free);
+      }
+
+  -- it wrote one row
+  abbrev one_row : Result (Unit {0}) StoreFault → Result ℕ StoreFault
+  one_row passed = said (λ _. (let n : ℕ = 1 in n)) passed
+
+  -- a message that the list does not hold
+  fresh : (a : Archive) (list : List ℕ) (item : Item) (found : Found) → (found ≡ found_of a (add list item)) × (first_so (tests_of (add list item) found) ≡ None)
+      → list_any (is_message list (item_key item)) a.messages ≡ false
+  fresh a list item found need =
+      sym (is_some-find (is_message list (item_key item)) a.messages) ∙ sym (ap (λ f. f.message) need.0)
+      ∙ unknown (not found.list) (nat_lt longest_text (length (whole item.text))) found.message found.full need.1
+
+  -- it is written down
+  pub puts_taken : {old new : Store S} {result : Result ℕ StoreFault} (told : Result (Unit {0}) Fault) (passed : Result (Unit {0}) StoreFault) (list : List ℕ) (item : Item) (found : Found)
+      → result ≡ one_row passed → TakesIn g (held_of old) (held_of new) told list (item_key item) item → FailsToTake g (held_of old) (held_of new) told list (item_key item) item
+      → TakesWhole g (held_of old) (held_of new) list (item_key item) item → Ends g (held_of old) (held_of new) told
+      → PassesFault told passed → IfErr passed (λ fault. refusal fault ≡ None) → Raises IsWant (wants_of old) (wants_of new) passed
+      → Puts g old new result (λ a. (found ≡ found_of a (add list item)) × (first_so (tests_of (add list item) found) ≡ None)) (changed_by (add list item)) (IsWriteRefused (add list item))
+  puts_taken {old = old} {new = new} told passed list item found is takes fails crash ends handed kind counted =
+      subst (λ (r : Result ℕ StoreFault). Puts g old new r (λ a. (found ≡ found_of a (add list item)) × (first_so (tests_of (add list item) found) ≡ None)) (changed_by (add list item)) (IsWriteRefused (add list item)))
+      (sym is) (go told passed takes fails ends handed kind counted)
+    where
+      go : (told : Result (Unit {0}) Fault) (passed : Result (Unit {0}) StoreFault) → TakesIn g (held_of old) (held_of new) told list (item_key item) item
+          → FailsToTake g (held_of old) (held_of new) told list (item_key item) item → Ends g (held_of old) (held_of new) told → PassesFault told passed
+          → IfErr passed (λ fault. refusal fault ≡ None) → Raises IsWant (wants_of old) (wants_of new) passed
+          → Puts g old new (one_row passed) (λ a. (found ≡ found_of a (add list item)) × (first_so (tests_of (add list item) found) ≡ None)) (changed_by (add list item)) (IsWriteRefused (add list item))
+      go (Ok _) (Ok _) takes fails ends handed kind counted = record {
+        lasts = ends.lasts;
+        was_open = λ clean. ends.was_open clean;
+        fault = tt;
+        counted = (counted.0, tt);
+        over = λ clean kept need. takes clean None kept (fresh (archive_in g old) list item found need);
+        crash = λ kept need clean db may. elim (crash None kept (fresh (archive_in g old) list item found need) clean db may) [ inl before ↦ inl before | inr made ↦ inr made.1 ];
+        caused = λ clean kept free need. tt;
+      }
+      go (Err e) (Err fault) takes fails ends handed kind counted = record {
+        lasts = ends.lasts;
+        was_open = λ clean. tt;
+        fault = kind;
+        counted = counted;
+        over = λ clean kept need. takes clean None kept;
+        crash = λ kept need clean db may. elim (crash None kept (fresh (archive_in g old) list item found need) clean db may) [ inl before ↦ inl before | inr made ↦ inr made.1 ];
+        caused = λ clean kept free need it. fails clean None kept free (is_database e (sym handed ∙ it));
+      }
+      go (Ok _) (Err fault) takes fails ends handed kind counted = absurd handed
+      go (Err e) (Ok _) takes fails ends handed kind counted = absurd cc
+
+  -- of a command that is this one
+  pub puts_as : {A : Type 0} {old new : Store S} {result : Result A StoreFault} {given other : Given} (found : Found) → given ≡ other
+      → PutsDown g old new other found result → PutsDown g old new given found result
+  puts_as {old = old} {new = new} {result = result} found is = subst (λ given. PutsDown g old new given found result) (sym is)
+
+  -- ---- the exits of a command
+
+  -- Calls that left the archive, of which this is so.
+  pub record Leaves (old new : Store S) (P : Archive → Type 0) : Type 0 where
+    pub lasts : Lasts g old new
+    pub quiet : AddsNothing g (held_of old) (held_of new)
+    pub wants : wants_of old ≤ wants_of new
+    pub over : HasReturned g new → HoldsTables g old → P (archive_in g old) × StaysOver None (state g (held_of old)) (state g (held_of new))
+
+  leaves_looked : {A : Type 0} {old new : Store S} {a : A} {P : Archive → A → Type 0} → Looks g old new (Ok a) P → Leaves old new (λ x. P x a)
+  leaves_looked looks = record { lasts = looks.lasts; quiet = looks.quiet; wants = looks.counted.0; over = looks.over }
+
+  leaves_nothing : (old : Store S) → Leaves old old (λ _. ⊤)
+  leaves_nothing old = record {
+    lasts = lasts_same (state g (held_of old));
+    quiet = λ clean db may. may;
+    wants = omega arith;
+    over = λ clean kept. (tt, (kept, refl));
+  }
+
+  module _ (old new : Store S) (command : Command) where
+    -- a question failed
+    pub unlooked : {A : Type 0} {fault : StoreFault} (result : Result Found StoreFault) {P : Archive → A → Type 0}
+        → Looks g old new {A = A} (Err fault) P → IsErrAnd result (λ f. f ≡ fault) → Carries g old new command result
+    unlooked (Ok found) looks is = absurd is
+    unlooked (Err f) looks is = subst (λ f. Carries g old new command (Err f)) (sym is) (record {
+      step = λ clean kept.
+          subst (λ o. Steps (state g (held_of old)) (state g (held_of new)) (λ a. step a command) (option_map refused o)) (sym looks.fault) (looks.over clean kept);
+      crash = λ kept clean db may. inl (looks.quiet clean db may);
+      ends = record {
+        lasts = looks.lasts;
+        was_open = λ clean. tt;
+        kind = subst (λ o. IfSome o (λ why. IsOneOf why (reasons_of command))) (sym looks.fault) tt;
+        counted = looks.counted;
+        caused = λ clean kept free it. inl (looks.caused clean kept free it);
+      };
+    })
+
+    -- it is refused behind calls that left the archive, by what they found
+    pub turned_down : {P : Archive → Type 0} (found : Found) (fault : StoreFault) → Leaves old new P → Some (option_map refused (refusal fault)) ≡ option_map Some (first_so (tests_of command found))
+        → ((a : Archive) → P a → first_so (tests_of command (found_of a command)) ≡ first_so (tests_of command found)) → Carries g old new command (Err fault)
+    turned_down found fault leaves is at =
+        let told = reason_told fault (first_so (tests_of command found)) is in
+        record {
+          step = λ clean kept.
+              let it = leaves.over clean kept in
+              subst (λ o. Steps (state g (held_of old)) (state g (held_of new)) (λ a. step a command) (option_map refused o)) (sym told.1)
+              (it.1.0, ap (λ a. told_at a (refused told.0)) (archive_stays it.1.1) ∙ sym (told_step (archive_in g old) command (refused told.0) (at (archive_in g old) it.0 ∙ told.2)));
+          crash = λ kept clean db may. inl (leaves.quiet clean db may);
+          ends = refuses g old new (reasons_of command) _ fault told.0 leaves.lasts leaves.wants told.1 (is_reason command found told.0 told.2);
+        }
+
+    -- by what was found of it
+    pub refused_by : (found : Found) (fault : StoreFault) (settled : Option Settled) → Looks g old new (Ok found) (λ a f. f ≡ found_of a command)
+        → settled ≡ Some (settled_as.Refused fault) → option_map reply_settled settled ≡ option_map Some (first_so (tests_of command found)) → Carries g old new command (Err fault)
+    refused_by found fault settled looks told is =
+        turned_down found fault (leaves_looked looks) (sym (ap (option_map reply_settled) told) ∙ is) (λ a it. ap (λ f. first_so (tests_of command f)) (sym it))
+
+    -- it is known
+    pub already_there : (found : Found) (settled : Option Settled) → Looks g old new (Ok found) (λ a f. f ≡ found_of a command)
+        → settled ≡ Some (settled_as.Known) → option_map reply_settled settled ≡ option_map Some (first_so (tests_of command found)) → Carries g old new command (Ok found)
+    already_there found settled looks told is =
+        let known = one_of (first_so (tests_of command found)) already_known (sym (ap (option_map reply_settled) told) ∙ is) in
+        record {
+          step = λ clean kept.
+              let it = looks.over clean kept in (
+                it.1.0,
+                ap (λ a. told_at a (answer_by command found)) (archive_stays it.1.1) ∙ ap (told_at (archive_in g old)) (answer_known command found known)
+                    ∙ sym (told_step (archive_in g old) command already_known (ap (λ f. first_so (tests_of command f)) (sym it.0) ∙ known)),
+              );
+          crash = λ kept clean db may. inl (looks.quiet clean db may);
+          ends = record {
+            lasts = looks.lasts;
+            was_open = looks.was_open;
+            kind = tt;
+            counted = looks.counted;
+            caused = λ clean kept free. tt;
+          };
+        }
+
+  -- it is refused by its words, whatever is found
+  pub refused_at_once : (old : Store S) (command : Command) (fault : StoreFault)
+      → ((found : Found) → option_map Some (first_so (tests_of command found)) ≡ Some (option_map refused (refusal fault))) → Carries g old old command (Err fault)
+  refused_at_once old command fault is =
+      turned_down old old command nothing fault (leaves_nothing old) (sym (is nothing))
+      (λ a it. same_of (first_so (tests_of command (found_of a command))) (first_so (tests_of command nothing)) (is (found_of a command) ∙ sym (is nothing)))
+
+  -- it is written, or not
+  module _ (old mid new : Store S) (command : Command) (found : Found) (looks : Looks g old mid (Ok found) (λ a f. f ≡ found_of a command))
+      (none : first_so (tests_of command found) ≡ None) where
+    abbrev PutsIt : Result ℕ StoreFault → Type 0
+    PutsIt result = Puts g mid new result (λ a. (found ≡ found_of a command) × (first_so (tests_of command found) ≡ None)) (changed_by command) (IsWriteRefused command)
+
+    still : found ≡ found_of (archive_in g old) command → archive_in g mid ≡ archive_in g old → (found ≡ found_of (archive_in g mid) command) × (first_so (tests_of command found) ≡ None)
+    still is same = (is ∙ ap (λ a. found_of a command) (sym same), none)
+
+    crashes : (result : Result ℕ StoreFault) → PutsIt result → CrashSteps g (held_of old) (held_of new) (λ a. step a command)
+    crashes result puts = λ kept clean db may.
+        let was = puts.lasts.returned clean in
+        let it = looks.over was kept in
+        let same = archive_stays it.1.1 in
+        elim (puts.crash it.1.0 (still it.0 same) clean db may) [
+          | inl before ↦ inl (looks.quiet was db before)
+          | inr made ↦ inr (subst (λ a. IsStored a db) (ap (changed_by command) same ∙ ap (λ (o : Outcome). o.0) (sym (made_step (archive_in g old) command found it.0 none))) made)
+        ]
+
+    pub carried_out : (n : ℕ) → PutsIt (Ok n) → Carries g old new command (Ok found)
+    carried_out n puts = record {
+      step = λ clean kept.
+          let it = looks.over (puts.lasts.returned clean) kept in
+          let same = archive_stays it.1.1 in
+          let made = puts.over clean it.1.0 (still it.0 same) in (
+            made.0,
+            ap (λ a. told_at a (answer_by command found)) (made.1 ∙ ap (changed_by command) same)
+                ∙ ap (told_at (changed_by command (archive_in g old))) (answer_made command found none) ∙ sym (made_step (archive_in g old) command found it.0 none),
+          );
+      crash = crashes (Ok n) puts;
+      ends = record {
+        lasts = lasts_then (state g (held_of old)) (state g (held_of mid)) (state g (held_of new)) looks.lasts puts.lasts;
+        was_open = λ clean. looks.lasts.stays_shut (puts.lasts.returned clean) (puts.was_open clean);
+        kind = tt;
+        counted = raises_after IsWant (wants_of old) (wants_of mid) (wants_of new) (Ok found) looks.counted.0 puts.counted;
+        caused = λ clean kept free. tt;
+      };
+    }
+
+    pub unwritten : (fault : StoreFault) (result : Result Found StoreFault) → PutsIt (Err fault) → IsErrAnd result (λ f. f ≡ fault)
+        → Carries g old new command result
+    unwritten fault (Ok f) puts is = absurd is
+    unwritten fault (Err f) puts is = subst (λ f. Carries g old new command (Err f)) (sym is) (record {
+      step = λ clean kept.
+          let it = looks.over (puts.lasts.returned clean) kept in
+          subst (λ o. Steps (state g (held_of old)) (state g (held_of new)) (λ a. step a command) (option_map refused o)) (sym puts.fault)
+          (rests_behind None (state g (held_of old)) (state g (held_of mid)) (state g (held_of new)) it.1.1 (puts.over clean it.1.0 (still it.0 (archive_stays it.1.1))));
+      crash = crashes (Err fault) puts;
+      ends = record {
+        lasts = lasts_then (state g (held_of old)) (state g (held_of mid)) (state g (held_of new)) looks.lasts puts.lasts;
+        was_open = λ clean. tt;
+        kind = subst (λ o. IfSome o (λ why. IsOneOf why (reasons_of command))) (sym puts.fault) tt;
+        counted = raises_after IsWant (wants_of old) (wants_of mid) (wants_of new) (let r : Result Found StoreFault = Err fault in r) looks.counted.0 puts.counted;
+        caused = λ clean kept free why.
+            let it = looks.over (puts.lasts.returned clean) kept in
+            elim (puts.caused clean it.1.0 (looks.lasts.limit ∙ free) (still it.0 (archive_stays it.1.1)) why) [
+              | inl more ↦ inl (more_since (state g (held_of old)) (state g (held_of mid)) (state g (held_of new)) looks.lasts more)
+              | inr bad ↦ inr (record {
+                carried = subst (λ (o : Outcome). IsCarried o.1) (sym (made_step (archive_in g old) command found it.0 none)) (is_carried command found);
+                refused = subst (IsWriteRefused command) it.1.1 bad;
+              })
+            ];
+      };
+    })
+
+  -- ---- a call of its own for each command
+
+  module _ {B : Type 0} (old new : Store S) (command : Command) (f : Found → B) (says : B → Reply) (told : Result Found StoreFault) (result : Result B StoreFault) where
+    -- what it says is the machine's answer
+    pub called : result ≡ said f told → ((found : Found) → says (f found) ≡ answer_by command found) → Carries g old new command told
+        → Commands g old new command (reply_of says) result
+    called is same it = subst (Commands g old new command (reply_of says)) (sym is) (go told it)
+      where
+        go : (told : Result Found StoreFault) → Carries g old new command told → Commands g old new command (reply_of says) (said f told)
+        go (Ok found) it = record {
+          step = subst (λ (r : Reply). Does g (held_of old) (held_of new) (λ a. step a command) (Some r)) (sym (same found)) it.step;
+          crash = it.crash;
+          ends = record { lasts = it.ends.lasts; was_open = it.ends.was_open; kind = tt; counted = it.ends.counted; caused = λ clean kept free. tt };
+        }
+        go (Err fault) it = record {
+          step = it.step;
+          crash = it.crash;
+          ends = record { lasts = it.ends.lasts; was_open = it.ends.was_open; kind = it.ends.kind; counted = it.ends.counted; caused = it.ends.caused };
+        }
+
+-- ---- what is found
+
+-- of a message
+pub message_found : (list : Bool) (o : Option Message) → found_marks list (option_map marks_of o) ≡ record nothing { list = list; message = is_some o; withdrawn = is_withdrawn o; embargo = is_embargoed o }
+message_found list None = refl
+message_found list (Some m) = refl
+
+-- and of a message that is added
+pub added_is : (held : Bool) → added_reply (added_if held) ≡ (if held then already_known else taken_in)
+added_is true = refl
+added_is false = refl

@@ -1,0 +1,13 @@
+use Rattle.archive_machine.specs.Machine.{nothing}
+use Rattle.archive_store.proofs.CarryLemmas.{looks_then, looks_say, looks_stop}
+use Rattle.archive_store.proofs.store.Store.look_address.Goals as goal
+
+pub returns-in_err-is_known : goal.returns-in_err-is_known
+returns-in_err-is_known g c = looks_stop g.S.Store c.from_residual.result c.in_err-is_known.ensures c.from_residual.ensures.1
+
+pub returns-in_err-address : goal.returns-in_err-address
+returns-in_err-address g c = looks_stop g.S.Store c.from_residual-in_err-address.result
+    (looks_then g.S.Store c.in_ok-is_known.ensures c.in_err-address.ensures) c.from_residual-in_err-address.ensures.1
+
+pub returns : goal.returns
+returns g c = looks_say g.S.Store (looks_then g.S.Store c.in_ok-is_known.ensures c.in_ok-address.ensures) (λ a it. λ i. record nothing { person = it.0 i; address = it.1 i })

@@ -1,0 +1,133 @@
+//! Commands: what the tables hold of their names is looked up, that decides, and one text is written.
+ghost use Rattle.std.specs.Prelude.{◌≡◌};
+ghost use Rattle.archive_store.specs.Carrying.{Carries, command_of, said};
+ghost use Rattle.archive_store.specs.Words.{added_if};
+
+use crate::deciding::{Settled, refused_unseen, settle};
+use crate::faults::StoreFault;
+use crate::store::Store;
+use crate::words::Added;
+use archive_machine::{Found, Key};
+use civil_time::Day;
+use mbox_items::Item;
+use policy_core::{Kind, Party};
+use sqlite::Alter;
+use std::alloc::Global;
+
+/// A command with its arguments: each is the call of `Store` of that name.
+#[derive(Clone, Copy)]
+pub enum Command<'a> {
+    ListAdd {
+        name: &'a str,
+    },
+    MergeSet {
+        list: &'a str,
+        merge: bool,
+    },
+    PersonAdd {
+        name: &'a str,
+        token: &'a str,
+    },
+    AddressSet {
+        alloc: Global,
+        person: &'a str,
+        address: &'a str,
+    },
+    Grant {
+        person: &'a str,
+        list: &'a str,
+        kind: Kind,
+        from: Day,
+        until: Day,
+    },
+    Revoke {
+        person: &'a str,
+        list: &'a str,
+        kind: Kind,
+    },
+    Add {
+        alloc: Global,
+        list: &'a str,
+        item: &'a Item<'a>,
+    },
+    Withdraw {
+        list: &'a str,
+        key: &'a Key,
+        by: Party,
+    },
+    Restore {
+        list: &'a str,
+        key: &'a Key,
+    },
+    Embargo {
+        list: &'a str,
+        key: &'a Key,
+        until: Day,
+    },
+    Lift {
+        list: &'a str,
+        key: &'a Key,
+    },
+}
+
+impl<S: Alter> Store<S> {
+    /// Carries a command out: one step of the archive's machine. What was found of its names before says what it answers: whether
+    /// there was a grant to revoke or an embargo to lift, and whether the list held a message that is added. It is refused as the
+    /// call of its name is.
+    pub fn carry(&mut self, command: &Command<'_>) -> Result<Found, StoreFault>
+        ensures { Carries S.Store self.old self.new (command_of command.now) result }
+    {
+        if let Some(fault) = refused_unseen(command) {
+            return Err(fault);
+        }
+        let found = self.look(command)?;
+        match settle(command, &found) {
+            Some(Settled::Refused(fault)) => Err(fault),
+            Some(Settled::Known) => Ok(found),
+            None => {
+                self.write(command, &found)?;
+                Ok(found)
+            }
+        }
+    }
+}
+
+/// It is done.
+pub(crate) fn done(told: Result<Found, StoreFault>) -> Result<(), StoreFault>
+    ensures { result ≡ said (λ _. tt) told }
+{
+    match told {
+        Ok(_) => Ok(()),
+        Err(fault) => Err(fault),
+    }
+}
+
+/// Whether the grant was there.
+pub(crate) fn had_grant(told: Result<Found, StoreFault>) -> Result<bool, StoreFault>
+    ensures { result ≡ said (λ found. found.grant) told }
+{
+    match told {
+        Ok(found) => Ok(found.grant),
+        Err(fault) => Err(fault),
+    }
+}
+
+/// Whether the message had an embargo.
+pub(crate) fn had_embargo(told: Result<Found, StoreFault>) -> Result<bool, StoreFault>
+    ensures { result ≡ said (λ found. found.embargo) told }
+{
+    match told {
+        Ok(found) => Ok(found.embargo),
+        Err(fault) => Err(fault),
+    }
+}
+
+/// What became of a message that is added.
+pub(crate) fn added(told: Result<Found, StoreFault>) -> Result<Added, StoreFault>
+    ensures { result ≡ said (λ found. added_if found.message) told }
+{
+    match told {
+        Ok(found) => Ok(Added::of(found.message)),
+        Err(fault) => Err(fault),
+    }
+}

@@ -1,0 +1,112 @@
+//! What answers a command before it is carried out: why it is refused, by what was found of its names, or that a message is known. No
+//! call here asks a database or takes memory.
+ghost use Rattle.std.specs.Prelude.{◌≡◌, Some, IfSome, option_map};
+ghost use Rattle.std.specs.List.{find};
+ghost use Rattle.archive_machine.specs.Addresses.{is_address};
+ghost use Rattle.archive_machine.specs.Commands.{refused};
+ghost use Rattle.archive_machine.specs.Machine.{tests_of};
+ghost use Rattle.archive_machine.specs.Tokens.{is_token};
+ghost use Rattle.archive_store.specs.Carrying.{command_of, first_so, reply_settled};
+ghost use Rattle.archive_store.specs.Replies.{refusal};
+
+use crate::commands::Command;
+use crate::deciding::Settled::{Known, Refused};
+use crate::faults::StoreFault::{
+    self, AlreadyWithdrawn, BadDays, BadName, BadText, ListExists, ListFull, NoList, NoMessage,
+    NoPerson, NotWithdrawn, PersonExists, TokenTaken, TooLarge,
+};
+use archive_database::taking::is_too_large;
+use archive_machine::Found;
+use policy_core::is_name;
+
+/// What answers a command that changes nothing.
+#[derive(Clone, Copy)]
+pub(crate) enum Settled {
+    Refused(StoreFault),
+    /// The list holds the message.
+    Known,
+}
+
+/// The answer of the first test of its row that is so. `None`: it is carried out.
+pub(crate) fn settle(command: &Command<'_>, found: &Found) -> Option<Settled>
+    ensures { option_map reply_settled result
+        ≡ option_map Some (first_so (tests_of (command_of command.now) found.now)) }
+{
+    match command {
+        Command::ListAdd { name } => first_so(&[
+            (!is_name(name), Refused(BadName)),
+            (found.list, Refused(ListExists)),
+        ]),
+        Command::MergeSet { .. } => first_so(&[(!found.list, Refused(NoList))]),
+        Command::PersonAdd { name, token } => first_so(&[
+            (!is_name(name), Refused(BadName)),
+            (!is_token(token), Refused(BadText)),
+            (found.person, Refused(PersonExists)),
+            (found.token, Refused(TokenTaken)),
+        ]),
+        Command::AddressSet { address, .. } => first_so(&[
+            (!found.person, Refused(NoPerson)),
+            (!is_address(address), Refused(BadText)),
+        ]),
+        Command::Grant { from, until, .. } => first_so(&[
+            (!found.person, Refused(NoPerson)),
+            (!found.list, Refused(NoList)),
+            (until < from, Refused(BadDays)),
+        ]),
+        Command::Revoke { .. } => first_so(&[
+            (!found.person, Refused(NoPerson)),
+            (!found.list, Refused(NoList)),
+        ]),
+        Command::Add { item, .. } => first_so(&[
+            (!found.list, Refused(NoList)),
+            (is_too_large(item), Refused(TooLarge)),
+            (found.message, Known),
+            (found.full, Refused(ListFull)),
+        ]),
+        Command::Withdraw { .. } => first_so(&[
+            (!found.list, Refused(NoList)),
+            (!found.message, Refused(NoMessage)),
+            (found.withdrawn, Refused(AlreadyWithdrawn)),
+        ]),
+        Command::Restore { .. } => first_so(&[
+            (!found.list, Refused(NoList)),
+            (!found.message, Refused(NoMessage)),
+            (!found.withdrawn, Refused(NotWithdrawn)),
+        ]),
+        Command::Embargo { .. } | Command::Lift { .. } => first_so(&[
+            (!found.list, Refused(NoList)),
+            (!found.message, Refused(NoMessage)),
+        ]),
+    }
+}
+
+/// Why a command is refused whatever is found: a name or a token in it is none.
+pub(crate) fn refused_unseen(command: &Command<'_>) -> Option<StoreFault>
+    ensures { IfSome result (λ fault. (found : Found)
+        → option_map Some (first_so (tests_of (command_of command.now) found)) ≡ Some (option_map refused (refusal fault))) }
+{
+    match command {
+        Command::ListAdd { name } if !is_name(name) => Some(BadName),
+        Command::PersonAdd { name, .. } if !is_name(name) => Some(BadName),
+        Command::PersonAdd { token, .. } if !is_token(token) => Some(BadText),
+        _ => None,
+    }
+}
+
+fn first_so(tests: &[(bool, Settled)]) -> Option<Settled>
+    ensures { result ≡ option_map (λ test. test.1) (find (λ test. test.0) tests.now) }
+{
+    tests.iter().find(|test| test.0).map(|test| test.1)
+}
+
+fn is_token(text: &str) -> bool
+    ensures { result ≡ is_token text.now }
+{
+    archive_machine::is_token(text.as_bytes())
+}
+
+fn is_address(text: &str) -> bool
+    ensures { result ≡ is_address text.now }
+{
+    archive_machine::is_address(text.as_bytes())
+}

@@ -1,0 +1,211 @@
+//! What the tables hold of the names in a command.
+ghost use Rattle.std.specs.Prelude.{◌≡◌, option_map, nat_le, length};
+ghost use Rattle.archive_machine.specs.Questions.{has_list, has_person, has_token, has_grant, has_address, has_message, message_of, messages_in};
+ghost use Rattle.archive_machine.specs.Commands.{add};
+ghost use Rattle.archive_tables.specs.Rows.{marks_of};
+ghost use Rattle.archive_machine.specs.Machine.{found_of, found_grant, found_message, message_limit, nothing};
+ghost use Rattle.archive_store.specs.Carrying.{Looks, command_of, found_marks};
+ghost use Rattle.policy_core.specs.Numbers.{kind_rank};
+
+use crate::commands::Command;
+use crate::faults::StoreFault;
+use crate::store::Store;
+use crate::words::MESSAGES;
+use archive_database::taking::is_full;
+use archive_machine::{Found, Key, NOTHING};
+use archive_tables::rows::MarksRow;
+use archive_tables::texts;
+use mbox_items::Item;
+use policy_core::Kind;
+use sqlite::Alter;
+
+/// A message that is found, by its marks.
+fn found_by(list: bool, marks: Option<MarksRow>) -> Found
+    ensures { result ≡ found_marks list marks }
+{
+    let (message, withdrawn, embargo) = match marks {
+        Some(marks) => (true, marks.withdrawn != 0, marks.embargo.is_some()),
+        None => (false, false, false),
+    };
+    Found {
+        list,
+        message,
+        withdrawn,
+        embargo,
+        ..NOTHING
+    }
+}
+
+impl<S: Alter> Store<S> {
+    fn knows_list(&mut self, name: &str) -> Result<bool, StoreFault>
+        ensures { Looks S.Store self.old self.new result (λ a is. is ≡ has_list a name.now) }
+    {
+        let listed = texts::lists::has_list(&mut self.conn, name);
+        self.wants.pass(listed)
+    }
+
+    fn knows_person(&mut self, name: &str) -> Result<bool, StoreFault>
+        ensures { Looks S.Store self.old self.new result (λ a is. is ≡ has_person a name.now) }
+    {
+        let known = texts::persons::has_person(&mut self.conn, name);
+        self.wants.pass(known)
+    }
+
+    fn knows_token(&mut self, token: &str) -> Result<bool, StoreFault>
+        ensures { Looks S.Store self.old self.new result (λ a is. is ≡ has_token a token.now) }
+    {
+        let taken = texts::persons::has_token(&mut self.conn, token);
+        self.wants.pass(taken)
+    }
+
+    fn knows_address(&mut self, person: &str) -> Result<bool, StoreFault>
+        ensures { Looks S.Store self.old self.new result (λ a is. is ≡ has_address a person.now) }
+    {
+        let had = texts::addresses::has_address(&mut self.conn, person);
+        self.wants.pass(had)
+    }
+
+    fn knows_grant(&mut self, person: &str, list: &str, kind: Kind) -> Result<bool, StoreFault>
+        ensures { Looks S.Store self.old self.new result
+            (λ a is. is ≡ has_grant a person.now list.now (kind_rank kind)) }
+    {
+        let had = texts::grants::has_grant(&mut self.conn, person, list, kind.rank());
+        self.wants.pass(had)
+    }
+
+    fn find_marks(&mut self, list: &str, key: &Key) -> Result<Option<MarksRow>, StoreFault>
+        ensures { Looks S.Store self.old self.new result
+            (λ a marks. marks ≡ option_map marks_of (message_of a list.now key.now)) }
+    {
+        let found = texts::messages::marks(&mut self.conn, list, key.as_str());
+        self.wants.pass(found)
+    }
+
+    fn knows_message(&mut self, list: &str, key: &Key) -> Result<bool, StoreFault>
+        ensures { Looks S.Store self.old self.new result
+            (λ a is. is ≡ has_message a list.now key.now) }
+    {
+        let known = texts::messages::has_message(&mut self.conn, list, key.as_str());
+        self.wants.pass(known)
+    }
+
+    fn knows_full(&mut self, list: &str) -> Result<bool, StoreFault>
+        ensures { Looks S.Store self.old self.new result
+            (λ a is. is ≡ nat_le message_limit (length (messages_in a list.now))) }
+    {
+        let full = is_full(&mut self.conn, list, MESSAGES);
+        self.wants.pass(full)
+    }
+
+    fn look_list(&mut self, name: &str) -> Result<Found, StoreFault>
+        ensures { Looks S.Store self.old self.new result
+            (λ a found. found ≡ record nothing { list = has_list a name.now }) }
+    {
+        let is_there = self.knows_list(name)?;
+        Ok(Found {
+            list: is_there,
+            ..NOTHING
+        })
+    }
+
+    /// A person, and whose a token is.
+    fn look_person(&mut self, name: &str, token: &str) -> Result<Found, StoreFault>
+        ensures { Looks S.Store self.old self.new result
+            (λ a found. found ≡ record nothing {
+              person = has_person a name.now;
+              token = has_token a token.now;
+            }) }
+    {
+        let is_known = self.knows_person(name)?;
+        let is_taken = self.knows_token(token)?;
+        Ok(Found {
+            person: is_known,
+            token: is_taken,
+            ..NOTHING
+        })
+    }
+
+    /// A person, and an address of theirs.
+    fn look_address(&mut self, person: &str) -> Result<Found, StoreFault>
+        ensures { Looks S.Store self.old self.new result
+            (λ a found. found ≡ record nothing {
+              person = has_person a person.now;
+              address = has_address a person.now;
+            }) }
+    {
+        let is_known = self.knows_person(person)?;
+        let address = self.knows_address(person)?;
+        Ok(Found {
+            person: is_known,
+            address,
+            ..NOTHING
+        })
+    }
+
+    /// A list, and a message of it.
+    fn look_message(&mut self, list: &str, key: &Key) -> Result<Found, StoreFault>
+        ensures { Looks S.Store self.old self.new result
+            (λ a found. found ≡ found_message a list.now key.now) }
+    {
+        let is_there = self.knows_list(list)?;
+        let marks = self.find_marks(list, key)?;
+        Ok(found_by(is_there, marks))
+    }
+
+    /// A list, whether it holds a message, and whether it is full.
+    fn look_item(&mut self, list: &str, item: &Item<'_>) -> Result<Found, StoreFault>
+        ensures { Looks S.Store self.old self.new result
+            (λ a found. found ≡ found_of a (add list.now item.now)) }
+    {
+        let is_there = self.knows_list(list)?;
+        let message = self.knows_message(list, &Key::of(item))?;
+        let full = self.knows_full(list)?;
+        Ok(Found {
+            list: is_there,
+            message,
+            full,
+            ..NOTHING
+        })
+    }
+
+    /// A person, a list, and a grant of the one on the other.
+    fn look_grant(&mut self, person: &str, list: &str, kind: Kind) -> Result<Found, StoreFault>
+        ensures { Looks S.Store self.old self.new result
+            (λ a found. found ≡ found_grant a person.now list.now (kind_rank kind)) }
+    {
+        let is_known = self.knows_person(person)?;
+        let is_there = self.knows_list(list)?;
+        let grant = self.knows_grant(person, list, kind)?;
+        Ok(Found {
+            list: is_there,
+            person: is_known,
+            grant,
+            ..NOTHING
+        })
+    }
+
+    /// What a command names, and nothing else. None of the questions changes anything.
+    pub(crate) fn look(&mut self, command: &Command<'_>) -> Result<Found, StoreFault>
+        ensures { Looks S.Store self.old self.new result
+            (λ a found. found ≡ found_of a (command_of command.now)) }
+    {
+        match command {
+            Command::ListAdd { name } => self.look_list(name),
+            Command::MergeSet { list, .. } => self.look_list(list),
+            Command::PersonAdd { name, token } => self.look_person(name, token),
+            Command::AddressSet { person, .. } => self.look_address(person),
+            Command::Grant {
+                person,
+                list,
+                kind,
+                ..
+            }
+            | Command::Revoke { person, list, kind } => self.look_grant(person, list, *kind),
+            Command::Add { list, item, .. } => self.look_item(list, item),
+            Command::Withdraw { list, key, .. }
+            | Command::Restore { list, key }
+            | Command::Embargo { list, key, .. }
+            | Command::Lift { list, key } => self.look_message(list, key),
+        }
+    }
+}
