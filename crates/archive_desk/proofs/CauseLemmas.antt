@@ -1,5 +1,5 @@
 -- Why the database does not answer: causes, carried from call to call.
-use Rattle.std.proofs.Common.{◌≡◌, inl, inr, refl, sym, ◌∙◌, subst, ℕ, List, [], Result, Ok, Err, IfErr}
+use Rattle.std.proofs.Common.{◌≡◌, inl, inr, refl, sym, ◌∙◌, subst, List, [], Result, Ok, Err, IfErr}
 use Rattle.sqlite.specs.Store.{Ghosts}
 use Rattle.sqlite.specs.Held.{state}
 use Rattle.archive_machine.specs.Records.{Archive, Message as Remembered}
@@ -15,7 +15,6 @@ use Rattle.archive_results.specs.Access.{Ask}
 use Rattle.archive_desk.specs.Causes.{AreUnreadable, HasCause, HasDiskCause, IsBroken}
 use Rattle.archive_desk.specs.Faults.{desk_fault}
 use Rattle.archive_desk.specs.Walking.{HasWalkCause, StopsPassing}
-use Rattle.archive_desk.specs.declared.faults.DeskFault.{DeskFault}
 
 -- ---- which faults are the database's
 
@@ -74,29 +73,29 @@ module _ {S : Type 0} (g : Ghosts S) (old mid new : Store S) (first : GoesIn g (
 
 module _ {S : Type 0} (g : Ghosts S) (ask : Ask) (old mid new : Walk S) where
   -- the next message cannot be read, or the disk failed
-  pub next_cause : (HasReturned g mid.store.now → (all : List Remembered) (a : Archive) → WalksOver g ask.list all a [] old
+  pub next_cause : (HasReturned g mid.store → (all : List Remembered) (a : Archive) → WalksOver g ask.list all a [] old
       → (given : List Remembered) × WalksOver g ask.list all a given mid)
-      → Lasts g old.store.now mid.store.now → Lasts g mid.store.now new.store.now → (fault : StoreFault) → StopsNext g {A = Unit {0}} mid new (Err fault)
+      → Lasts g old.store mid.store → Lasts g mid.store new.store → (fault : StoreFault) → StopsNext g {A = Unit {0}} mid new (Err fault)
       → IsBroken (desk_fault fault) → HasWalkCause g old new ask
   next_cause so_far before last fault stops it = λ returned free all a w.
       let here = so_far (last.returned returned) all a w in
-      stops_later (state g (held_of old.store.now)) (state g (held_of mid.store.now)) (state g (held_of new.store.now)) here.0 all before
+      stops_later (state g (held_of old.store)) (state g (held_of mid.store)) (state g (held_of new.store)) here.0 all before
       (stops returned ask.list all a here.0 here.1 (before.limit ∙ free) (broken_by fault it))
 
   -- the same behind the marks of messages that are passed by
-  pub pass_cause : (HasReturned g mid.store.now → (all : List Remembered) (a : Archive) → WalksOver g ask.list all a [] old
+  pub pass_cause : (HasReturned g mid.store → (all : List Remembered) (a : Archive) → WalksOver g ask.list all a [] old
       → (given : List Remembered) × WalksOver g ask.list all a given mid)
-      → Lasts g old.store.now mid.store.now → Lasts g mid.store.now new.store.now → (fault : StoreFault) → StopsPassing g {A = Unit {0}} mid new ask (Err fault)
+      → Lasts g old.store mid.store → Lasts g mid.store new.store → (fault : StoreFault) → StopsPassing g {A = Unit {0}} mid new ask (Err fault)
       → IsBroken (desk_fault fault) → HasWalkCause g old new ask
   pass_cause so_far before last fault stops it = λ returned free all a w.
       let here = so_far (last.returned returned) all a w in
       elim (stops returned all a here.0 here.1 (before.limit ∙ free) (broken_by fault it)) [
-        | inl more ↦ inl (more_since (state g (held_of old.store.now)) (state g (held_of mid.store.now)) (state g (held_of new.store.now)) before more)
+        | inl more ↦ inl (more_since (state g (held_of old.store)) (state g (held_of mid.store)) (state g (held_of new.store)) before more)
         | inr bad ↦ inr bad
       ]
 
-module _ {S : Type 0} (g : Ghosts S) (ask : Ask) (which : Archive → List Remembered) (old mid last : Store S) (walk new : Walk S) (is : last ≡ new.store.now)
-    (first : GoesIn g (HoldsTables g) old mid (λ a b. b ≡ a)) (begun : BeginsOver g mid ask.list which walk) (lasts : Lasts g walk.store.now new.store.now) where
+module _ {S : Type 0} (g : Ghosts S) (ask : Ask) (which : Archive → List Remembered) (old mid last : Store S) (walk new : Walk S) (is : last ≡ new.store)
+    (first : GoesIn g (HoldsTables g) old mid (λ a b. b ≡ a)) (begun : BeginsOver g mid ask.list which walk) (lasts : Lasts g walk.store new.store) where
   -- behind calls that left the archive
   pub walk_cause : HasWalkCause g walk new ask → HasCause g old last (λ a. AreUnreadable (which a))
   walk_cause why = λ returned held free.
@@ -105,7 +104,7 @@ module _ {S : Type 0} (g : Ghosts S) (ask : Ask) (which : Archive → List Remem
       let walks = begun.over (lasts.returned returned') there.0 in
       elim (why returned' (begun.lasts.limit ∙ first.0.limit ∙ free) (which (archive_in g mid)) (archive_in g mid) walks.1) [
         | inl more ↦
-            inl (subst (HasFailed g old) (sym is) (more_since (state g (held_of old)) (state g (held_of walk.store.now)) (state g (held_of new.store.now))
+            inl (subst (HasFailed g old) (sym is) (more_since (state g (held_of old)) (state g (held_of walk.store)) (state g (held_of new.store))
             (lasts_then _ _ _ first.0 begun.lasts) more))
         | inr bad ↦ inr (subst (λ a. AreUnreadable (which a)) there.1 bad)
       ]

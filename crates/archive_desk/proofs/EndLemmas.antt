@@ -1,5 +1,5 @@
 -- How calls of the desk end that follow one another.
-use Rattle.std.proofs.Common.{◌≡◌, ◌≤◌, ◌+◌, arith, ap, inl, refl, sym, subst, List, [], ◌∷◌, ℕ, Some, Result, Ok, Err, IfErr}
+use Rattle.std.proofs.Common.{◌≡◌, ◌≤◌, ◌+◌, arith, ap, inl, refl, sym, subst, List, [], ◌∷◌, ℕ, Some, Result, Err, IfErr}
 use Rattle.sqlite.specs.Store.{Ghosts}
 use Rattle.archive_machine.specs.Records.{Archive, Message as Remembered}
 use Rattle.archive_machine.specs.Commands.{no_list}
@@ -8,7 +8,8 @@ use Rattle.archive_tables.proofs.LastLemmas.{lasts_then}
 use Rattle.archive_store.specs.Held.{wants_of}
 use Rattle.archive_store.specs.Replies.{RefusedFor, refusal}
 use Rattle.archive_store.specs.Told.{Counts, EndsAsk as StoreEndsAsk, GoesIn, HasReturned, HoldsTables, IsOpen, Lasts, WasOpen}
-use Rattle.archive_store.specs.Walking.{BeginsOver, CountsOne, DoesNotBegin, Walk}
+use Rattle.archive_store.specs.Walking.{BeginsOver, DoesNotBegin, Walk}
+use Rattle.archive_desk.proofs.Counted.{CountsOne}
 use Rattle.archive_store.specs.Wanting.{IsWant, Raises}
 use Rattle.archive_store.specs.declared.store.Store.{Store}
 use Rattle.archive_store.specs.declared.faults.StoreFault.{StoreFault}
@@ -109,7 +110,7 @@ unlisted_asked (Stored fault) it = it
 unlisted_asked Memory it = it
 unlisted_asked Write it = absurd it
 
-module _ {S : Type 0} (g : Ghosts S) (ask : Ask) (which : Archive → List Remembered) (old mid last : Store S) (walk new : Walk S) (is : last ≡ new.store.now)
+module _ {S : Type 0} (g : Ghosts S) (ask : Ask) (which : Archive → List Remembered) (old mid last : Store S) (walk new : Walk S) (is : last ≡ new.store)
     (first : GoesIn g (HoldsTables g) old mid (λ a b. b ≡ a)) (begun : BeginsOver g mid ask.list which walk) (grows : wants_of old ≤ wants_of mid)
     (up : HasReturned g mid → IsOpen g old) {A F : Type 0} (carried : F → DeskFault) (result : Result A F) (it : EndsWalk g walk new ask carried result) where
   was_up : HasReturned g last → IsOpen g old
@@ -123,9 +124,9 @@ module _ {S : Type 0} (g : Ghosts S) (ask : Ask) (which : Archive → List Remem
 
   pub walk_counted : Counts (λ fault. IsWanting (carried fault)) old last result
   walk_counted = subst (λ s. Counts (λ fault. IsWanting (carried fault)) old s result) (sym is)
-      (raises_after (λ fault. IsWanting (carried fault)) (wants_of old) (wants_of walk.store.now) (wants_of new.store.now) result (omega (arith, grows, begun.counted)) it.counted)
+      (raises_after (λ fault. IsWanting (carried fault)) (wants_of old) (wants_of walk.store) (wants_of new.store) result (omega (arith, grows, begun.counted)) it.counted)
 
-module _ {S : Type 0} (g : Ghosts S) (ask : Ask) (which : Archive → List Remembered) (old mid last : Store S) (walk new : Walk S) (is : last ≡ new.store.now)
+module _ {S : Type 0} (g : Ghosts S) (ask : Ask) (which : Archive → List Remembered) (old mid last : Store S) (walk new : Walk S) (is : last ≡ new.store)
     (first : GoesIn g (HoldsTables g) old mid (λ a b. b ≡ a)) (begun : BeginsOver g mid ask.list which walk) (grows : wants_of old ≤ wants_of mid)
     (up : HasReturned g mid → IsOpen g old) where
   -- of a question
@@ -140,7 +141,7 @@ module _ {S : Type 0} (g : Ghosts S) (ask : Ask) (which : Archive → List Remem
 
 -- of an export
 module _ {S : Type 0} (g : Ghosts S) (ask : Ask) (old mid last : Store S) where
-  pub export_ends : (walk new : Walk S) → last ≡ new.store.now → GoesIn g (HoldsTables g) old mid (λ a b. b ≡ a)
+  pub export_ends : (walk new : Walk S) → last ≡ new.store → GoesIn g (HoldsTables g) old mid (λ a b. b ≡ a)
       → BeginsOver g mid ask.list (λ a. messages_in a ask.list) walk → wants_of old ≤ wants_of mid → (HasReturned g mid → IsOpen g old)
       → (result : Result ℕ ExportStop) → EndsWalk g walk new ask (λ stop. stop.fault) result → EndsExport g old last ask result
   export_ends walk new is first begun grows up result it =
@@ -163,25 +164,25 @@ module _ {S : Type 0} (g : Ghosts S) (ask : Ask) (old mid last : Store S) where
 
 -- ---- a walk that stops
 
-module _ {S : Type 0} (g : Ghosts S) (ask : Ask) (A : Type 0) (old mid new : Walk S) (before : Lasts g old.store.now mid.store.now) (last : Lasts g mid.store.now new.store.now)
-    (grows : wants_of old.store.now ≤ wants_of mid.store.now) where
+module _ {S : Type 0} (g : Ghosts S) (ask : Ask) (A : Type 0) (old mid new : Walk S) (before : Lasts g old.store mid.store) (last : Lasts g mid.store new.store)
+    (grows : wants_of old.store ≤ wants_of mid.store) where
   -- by a fault of the store
   pub walk_stops : (fault : StoreFault) → (IsBroken (desk_fault fault) → HasWalkCause g old new ask)
-      → Raises {A = Unit {0}} IsWant (wants_of mid.store.now) (wants_of new.store.now) (Err fault) → EndsWalk g old new ask {A = A} (λ fault. fault) (Err (desk_fault fault))
+      → Raises {A = Unit {0}} IsWant (wants_of mid.store) (wants_of new.store) (Err fault) → EndsWalk g old new ask {A = A} (λ fault. fault) (Err (desk_fault fault))
   walk_stops fault why counted = record {
     lasts = lasts_then _ _ _ before last;
     caused = why;
-    counted = raises_after {A = A} IsWanting (wants_of old.store.now) (wants_of mid.store.now) (wants_of new.store.now) (Err (desk_fault fault)) grows
-        (wants_of_store (Unit {0}) A (wants_of mid.store.now) (wants_of new.store.now) fault counted);
+    counted = raises_after {A = A} IsWanting (wants_of old.store) (wants_of mid.store) (wants_of new.store) (Err (desk_fault fault)) grows
+        (wants_of_store (Unit {0}) A (wants_of mid.store) (wants_of new.store) fault counted);
   }
 
   -- for want of memory, which is counted
-  pub walk_unheld : (counted : Walk S) → CountsOne new counted → wants_of mid.store.now ≤ wants_of new.store.now
+  pub walk_unheld : (counted : Walk S) → CountsOne new counted → wants_of mid.store ≤ wants_of new.store
       → EndsWalk g old counted ask {A = A} (λ fault. fault) (Err Memory)
   walk_unheld counted one more = record {
-    lasts = subst (Lasts g old.store.now) (sym one.store) (lasts_then _ _ _ before last);
+    lasts = subst (Lasts g old.store) (sym one.store) (lasts_then _ _ _ before last);
     caused = λ bad. absurd (cc);
     counted =
-        let raised : wants_of counted.store.now ≡ wants_of new.store.now + 1 = ap (λ (s : Store S). wants_of s) one.store in
+        let raised : wants_of counted.store ≡ wants_of new.store + 1 = ap (λ (s : Store S). wants_of s) one.store in
         (omega (arith, raised, grows, more), (λ it. omega (arith, raised, grows, more)));
   }

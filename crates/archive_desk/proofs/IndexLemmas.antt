@@ -12,7 +12,8 @@ use Rattle.archive_machine.specs.Questions.{list_refusal}
 use Rattle.archive_machine.specs.declared.messages.Message.{Message}
 use Rattle.archive_store.specs.Replies.{refusal}
 use Rattle.archive_store.specs.Told.{AsksIn, GoesIn, GoesInIfOpen, Lasts, HasReturned, HoldsTables, IsOpen, archive_in}
-use Rattle.archive_store.specs.Walking.{BeginsOver, CountsOne, Walk, WalksOver}
+use Rattle.archive_store.specs.Walking.{BeginsOver, Walk, WalksOver}
+use Rattle.archive_desk.proofs.Counted.{CountsOne}
 use Rattle.archive_store.specs.declared.store.Store.{Store}
 use Rattle.archive_results.specs.Access.{Ask, ReaderMarks, is_shown, reader_marks}
 use Rattle.archive_results.specs.Shown.{line_of, shown_of}
@@ -66,14 +67,14 @@ module _ {X : Type 0} (made : List Remembered → List X) (apart : IsMadeApart m
   module _ {S : Type 0} (g : Ghosts S) where
     -- this was made of the messages that a walk gave, as far as the policy shows them
     abbrev pub ListedSoFar : (old now : Walk S) → List X → Type 0
-    ListedSoFar old now found = HasReturned g now.store.now → (all : List Remembered) (a : Archive) → WalksOver g ask.list all a [] old
+    ListedSoFar old now found = HasReturned g now.store → (all : List Remembered) (a : Archive) → WalksOver g ask.list all a [] old
         → (given : List Remembered) × WalksOver g ask.list all a given now × (found ≡ made_of_shown given)
 
     module _ (old mid new : Walk S) (so_many : List X) (so_far : ListedSoFar old mid so_many)
-        (was : HasReturned g new.store.now → HasReturned g mid.store.now) where
+        (was : HasReturned g new.store → HasReturned g mid.store) where
       -- one message more
       pub listed_more : (m : Message) (more : List X)
-          → (HasReturned g new.store.now → (all : List Remembered) (a : Archive) (given : List Remembered) → WalksOver g ask.list all a given mid
+          → (HasReturned g new.store → (all : List Remembered) (a : Archive) (given : List Remembered) → WalksOver g ask.list all a given mid
           → WalksOver g ask.list all a (given ++ remembered ask.list m ∷ []) new)
           → more ≡ so_many ++ made_of_shown (remembered ask.list m ∷ []) → ListedSoFar old new more
       listed_more m more gives is = λ returned all a w.
@@ -101,7 +102,7 @@ module _ {X : Type 0} (made : List Remembered → List X) (apart : IsMadeApart m
 
       -- none is left
       pub listed_all : (found : Vec X Global) → found.items ≡ so_many
-          → (HasReturned g new.store.now → (all : List Remembered) (a : Archive) (given : List Remembered) → WalksOver g ask.list all a given mid
+          → (HasReturned g new.store → (all : List Remembered) (a : Archive) (given : List Remembered) → WalksOver g ask.list all a given mid
           → WalksOver g ask.list all a given new × (given ≡ all)) → ListsRows g old new ask reader made (Ok found)
       listed_all found is ends = λ returned all a w.
           let it = so_far (was returned) all a w in
@@ -110,7 +111,7 @@ module _ {X : Type 0} (made : List Remembered → List X) (apart : IsMadeApart m
 
       -- memory is wanting at a message
       pub listed_no_more : (m : Message) (fault : DeskFault) → reason fault ≡ None
-          → (HasReturned g new.store.now → (all : List Remembered) (a : Archive) (given : List Remembered) → WalksOver g ask.list all a given mid
+          → (HasReturned g new.store → (all : List Remembered) (a : Archive) (given : List Remembered) → WalksOver g ask.list all a given mid
           → WalksOver g ask.list all a (given ++ remembered ask.list m ∷ []) new) → ListsRows g old new ask reader made (Err fault)
       listed_no_more m fault none gives = λ returned all a w.
           let it = so_far (was returned) all a w in
@@ -119,7 +120,7 @@ module _ {X : Type 0} (made : List Remembered → List X) (apart : IsMadeApart m
 
       -- the store fails at the next
       pub listed_unread : (fault : DeskFault) → reason fault ≡ None
-          → (HasReturned g new.store.now → (all : List Remembered) (a : Archive) (given : List Remembered) → WalksOver g ask.list all a given mid → IsOpen g new.store.now → WalksOver g ask.list all a given new)
+          → (HasReturned g new.store → (all : List Remembered) (a : Archive) (given : List Remembered) → WalksOver g ask.list all a given mid → IsOpen g new.store → WalksOver g ask.list all a given new)
           → ListsRows g old new ask reader made (Err fault)
       listed_unread fault none rests = λ returned all a w.
           let it = so_far (was returned) all a w in
@@ -153,13 +154,13 @@ module _ {X : Type 0} (made : List Remembered → List X) {S : Type 0} (g : Ghos
       (λ a b c why first h. (h.0 ∙ first.0, subst (λ x. ask_reason x ask ≡ Some why) first.0 h.1))
       (λ a b c f first h. h ∙ first.0) (Err (desk_fault fault)) found (list_declined g ask mid last fault Nothing Held it)
 
-  module _ (last : Store S) (walk new : Walk S) (reader : ReaderMarks) (is : last ≡ new.store.now)
+  module _ (last : Store S) (walk new : Walk S) (reader : ReaderMarks) (is : last ≡ new.store)
       (found : GoesIn g (HoldsTables g) old mid (λ a b. (b ≡ a) × (ask_reason a ask ≡ None) × IsEnough a ask reader))
-      (begun : BeginsOver g mid ask.list which walk) (lasts : Lasts g walk.store.now new.store.now) where
+      (begun : BeginsOver g mid ask.list which walk) (lasts : Lasts g walk.store new.store) where
     through : Lasts g old last
     through = subst (Lasts g old) (sym is) (lasts_then _ _ _ (lasts_then _ _ _ found.0 begun.lasts) lasts)
 
-    at_walk : HasReturned g last → HasReturned g walk.store.now
+    at_walk : HasReturned g last → HasReturned g walk.store
     at_walk returned = lasts.returned (subst (HasReturned g) is returned)
 
     at_start : HasReturned g last → HasReturned g mid

@@ -1,3 +1,4 @@
+mod Counted
 pub mod CauseLemmas
 pub mod CrashLemmas
 pub mod WantLemmas

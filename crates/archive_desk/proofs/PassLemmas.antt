@@ -1,5 +1,5 @@
 -- Messages that a walk passes by.
-use Rattle.std.proofs.Common.{◌≡◌, ◌⊎◌, ◌≤◌, arith, inl, inr, refl, sym, ap, subst, ◌∙◌, append_assoc, cond, Bool, true, false, List, [], ◌∷◌, ◌++◌, filter, Some, None, Result, Ok, Err}
+use Rattle.std.proofs.Common.{◌≡◌, ◌⊎◌, ◌≤◌, arith, inl, inr, refl, sym, ap, subst, ◌∙◌, append_assoc, cond, Bool, true, false, List, [], ◌∷◌, ◌++◌, drop, filter, Some, None, Result, Ok, Err}
 use Rattle.std.specs.Prelude.{not, ◌&&◌, ◌-◌, IsErrAnd}
 use Rattle.std.proofs.lemmas.List.{append-nil}
 use Rattle.std.proofs.lemmas.List.Elements.{filter-append}
@@ -16,7 +16,9 @@ use Rattle.archive_database.specs.Messages.{AreMarksOf, IsReadable}
 use Rattle.archive_database.specs.declared.reading.DatedMarks.{DatedMarks}
 use Rattle.archive_store.specs.Told.{HasReturned}
 use Rattle.archive_store.specs.Replies.{refusal}
-use Rattle.archive_store.specs.Walking.{PassesNext, ShowsNext, Walk, WalksOver, left_of}
+use Rattle.archive_store.specs.Walking.{ShowsNext, Walk, WalksOver, ahead_of, left_of, over}
+use Rattle.archive_store.specs.declared.walking.EachRow.{EachRow}
+use Rattle.archive_store.proofs.WalkingLemmas.{passed_next}
 use Rattle.archive_store.specs.declared.faults.StoreFault.{StoreFault}
 use Rattle.archive_store.proofs.CauseLemmas.{more_since, not_all}
 use Rattle.archive_results.specs.Access.{Ask, ReaderMarks, Marks, asks_author, is_shown, is_withheld, marks_of, withdrawal_numbered}
@@ -49,7 +51,7 @@ not_shown ask reader m is = denied_by (asks_author ask reader) (is_shown ask rea
 module _ {S : Type 0} (g : Ghosts S) (ask : Ask) (reader : ReaderMarks) where
   -- so far messages were passed by that the policy does not show
   abbrev pub PassedSoFar : Walk S → Walk S → Type 0
-  PassedSoFar old now = HasReturned g now.store.now → (all : List Remembered) (a : Archive) (given : List Remembered) → WalksOver g ask.list all a given old
+  PassedSoFar old now = HasReturned g now.store → (all : List Remembered) (a : Archive) (given : List Remembered) → WalksOver g ask.list all a given old
       → HasPassed g old now ask reader all a given
 
   module _ (all : List Remembered) (a : Archive) (given : List Remembered) where
@@ -69,23 +71,23 @@ module _ {S : Type 0} (g : Ghosts S) (ask : Ask) (reader : ReaderMarks) where
   -- ---- one message
 
   -- none was passed by
-  pub none_passed : (old new : Walk S) → (HasReturned g new.store.now → (all : List Remembered) (a : Archive) (given : List Remembered) → WalksOver g ask.list all a given old → WalksOver g ask.list all a given new)
-      → left_of new ≤ left_of old → PassesOne g old new ask reader (Ok false)
+  pub none_passed : (old new : Walk S) → (HasReturned g new.store → (all : List Remembered) (a : Archive) (given : List Remembered) → WalksOver g ask.list all a given old → WalksOver g ask.list all a given new)
+      → left_of new.walk ≤ left_of old.walk → PassesOne g old new ask reader (Ok false)
   none_passed old new stays left = record {
     passes = record { passed = λ returned all a given w. passed_none all a given old new (stays returned all a given w); left = left; fault = tt };
     fewer = λ e. absurd (cc);
   }
 
   -- one was, since the policy withholds it
-  pub one_passed : (old mid new : Walk S) (marks : DatedMarks) (weighs : Marks) → new.store.now ≡ mid.store.now → ShowsNext g old mid (Ok (Some marks)) → PassesNext g mid new
-      → left_of new ≡ left_of mid - 1 → ((m : Remembered) → AreMarksOf marks m → weighs ≡ record (marks_of None m) { own = false })
-      → ((m : Remembered) → weighs ≡ record (marks_of None m) { own = false } → true ≡ is_withheld ask reader m) → PassesOne g old new ask reader (Ok true)
-  one_passed old mid new marks weighs store shown passes left weigh withheld = record {
+  pub one_passed : (old mid : Walk S) (new : EachRow) (marks : DatedMarks) (weighs : Marks) → ShowsNext g old mid (Ok (Some marks)) → ahead_of new ≡ drop 1 (ahead_of mid.walk)
+      → left_of new ≡ left_of mid.walk - 1 → ((m : Remembered) → AreMarksOf marks m → weighs ≡ record (marks_of None m) { own = false })
+      → ((m : Remembered) → weighs ≡ record (marks_of None m) { own = false } → true ≡ is_withheld ask reader m) → PassesOne g old (over mid.store new) ask reader (Ok true)
+  one_passed old mid new marks weighs shown passes left weigh withheld = record {
     passes = record {
       passed = λ returned all a given w.
-          let seen = shown.given (subst (HasReturned g) store returned) ask.list all a given w in
+          let seen = shown.given returned ask.list all a given w in
           let next = seen.1 in
-          passed_one all a given old new next.0 (passes ask.list all a given next.0 next.1 seen.0 next.2)
+          passed_one all a given old (over mid.store new) next.0 (passed_next g ask.list all a given mid.store mid.walk new next.0 next.1 seen.0 next.2 passes)
           (not_shown ask reader next.0 (sym (withheld next.0 (weigh next.0 next.3))));
       left = omega (arith, left, shown.left);
       fault = tt;
@@ -107,14 +109,14 @@ module _ {S : Type 0} (g : Ghosts S) (ask : Ask) (reader : ReaderMarks) where
 
   -- ---- one after the other
 
-  pub passed_further : {A : Type 0} (old mid new : Walk S) (x : A) → PassedSoFar old mid → (HasReturned g new.store.now → HasReturned g mid.store.now) → PassesWithheld g mid new ask reader (Ok x)
+  pub passed_further : {A : Type 0} (old mid new : Walk S) (x : A) → PassedSoFar old mid → (HasReturned g new.store → HasReturned g mid.store) → PassesWithheld g mid new ask reader (Ok x)
       → PassedSoFar old new
   passed_further old mid new x so_far was passes = λ returned all a given w.
       let it = so_far (was returned) all a given w in
       passed_then all a given old mid new it (passes.passed returned all a (given ++ it.0) it.1)
 
   pub stopped_further : {A B : Type 0} (old mid new : Walk S) (told : StoreFault) (r : Result A StoreFault) → IsErrAnd r (λ f. f ≡ told) → PassedSoFar old mid
-      → (HasReturned g new.store.now → HasReturned g mid.store.now) → left_of mid ≤ left_of old → PassesWithheld g mid new ask reader {A = B} (Err told) → PassesWithheld g old new ask reader r
+      → (HasReturned g new.store → HasReturned g mid.store) → left_of mid.walk ≤ left_of old.walk → PassesWithheld g mid new ask reader {A = B} (Err told) → PassesWithheld g old new ask reader r
   stopped_further old mid new told (Ok x) is so_far was left passes = absurd is
   stopped_further old mid new told (Err f) is so_far was left passes = record {
     passed = λ returned all a given w up.

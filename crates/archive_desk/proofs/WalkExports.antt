@@ -53,9 +53,9 @@ module _ {S : Type 0} (g : Ghosts S) (old mid : Store S) (ask : Ask) (First : Ar
       (λ a b c f first h. h ∙ first.0) (Err (desk_fault fault)) found (list_declined g ask mid last fault Nothing Nothing it))
 
 module _ {S : Type 0} (g : Ghosts S) (old mid last : Store S) (walk new : Walk S) (ask : Ask) (reader : ReaderMarks) (head before after : List ℕ)
-    (is : last ≡ new.store.now)
+    (is : last ≡ new.store)
     (found : GoesIn g (HoldsTables g) old mid (λ a b. (b ≡ a) × (ask_reason a ask ≡ None) × IsEnough a ask reader))
-    (begun : Begins g mid ask.list walk) (lasts : Lasts g walk.store.now new.store.now) where
+    (begun : Begins g mid ask.list walk) (lasts : Lasts g walk.store new.store) where
   abbrev text : Archive → List ℕ
   text a = head ++ exported a ask
 
@@ -69,7 +69,7 @@ module _ {S : Type 0} (g : Ghosts S) (old mid last : Store S) (walk new : Walk S
   through : Lasts g old last
   through = subst (Lasts g old) (sym is) (lasts_then _ _ _ (lasts_then _ _ _ found.0 begun.lasts) lasts)
 
-  at_walk : HasReturned g last → HasReturned g walk.store.now
+  at_walk : HasReturned g last → HasReturned g walk.store
   at_walk returned = lasts.returned (subst (HasReturned g) is returned)
 
   at_start : HasReturned g last → HasReturned g mid

@@ -10,7 +10,8 @@ use Rattle.archive_machine.specs.Records.{Archive, Message as Remembered}
 use Rattle.archive_machine.specs.Messages.{remembered}
 use Rattle.archive_machine.specs.declared.messages.Message.{Message}
 use Rattle.archive_store.specs.Told.{HasReturned, HoldsTables, IsOpen, archive_in}
-use Rattle.archive_store.specs.Walking.{CountsOne, Walk, WalksOver}
+use Rattle.archive_store.specs.Walking.{Walk, WalksOver}
+use Rattle.archive_desk.proofs.Counted.{CountsOne}
 use Rattle.archive_results.specs.Access.{Ask, ReaderMarks, is_shown}
 use Rattle.archive_results.specs.Shown.{shown_of}
 use Rattle.archive_desk.specs.Exporting.{shown_text}
@@ -80,11 +81,11 @@ module _ {S : Type 0} (g : Ghosts S) (ask : Ask) (reader : ReaderMarks) where
     pub part : List ℕ
     pub out : after ≡ before ++ part
     pub counts_is : counts ≡ min (counted + length part) 18446744073709551615
-    pub walked : HasReturned g now.store.now → (all : List Remembered) (a : Archive) → WalksOver g ask.list all a [] old
+    pub walked : HasReturned g now.store → (all : List Remembered) (a : Archive) → WalksOver g ask.list all a [] old
         → (given : List Remembered) × WalksOver g ask.list all a given now × (part ≡ shown_text ask reader given)
 
   -- whatever the fault
-  stands_still : (walk : Walk S) (a : Archive) (why : Option Reason) → StandsOn g a walk → MatchOption why (IsOpen g walk.store.now → StandsOn g a walk) (λ _. StandsOn g a walk)
+  stands_still : (walk : Walk S) (a : Archive) (why : Option Reason) → StandsOn g a walk → MatchOption why (IsOpen g walk.store → StandsOn g a walk) (λ _. StandsOn g a walk)
   stands_still walk a None it = λ up. it
   stands_still walk a (Some why) it = it
 
@@ -98,13 +99,13 @@ module _ {S : Type 0} (g : Ghosts S) (ask : Ask) (reader : ReaderMarks) where
   }
 
   module _ (old mid new : Walk S) (before middle : List ℕ) (counted count : ℕ) (s : RowsSoFar old mid before middle counted count)
-      (was : HasReturned g new.store.now → HasReturned g mid.store.now) where
+      (was : HasReturned g new.store → HasReturned g mid.store) where
     -- why it stopped after a message, where memory was wanting
     pub rows_wanting : (after : List ℕ) (failed fails : ℕ) → after ≡ middle → fails ≡ failed → IsRowsStop before after failed fails counted count Memory
     rows_wanting after failed fails same quiet = (quiet, (s.part, same ∙ s.out, s.counts_is))
 
     module _ (m : Message)
-        (gives : HasReturned g new.store.now → (all : List Remembered) (a : Archive) (given : List Remembered) → WalksOver g ask.list all a given mid
+        (gives : HasReturned g new.store → (all : List Remembered) (a : Archive) (given : List Remembered) → WalksOver g ask.list all a given mid
         → WalksOver g ask.list all a (given ++ remembered ask.list m ∷ []) new) where
       abbrev text : List ℕ
       text = shown_text ask reader (remembered ask.list m ∷ [])
@@ -167,7 +168,7 @@ module _ {S : Type 0} (g : Ghosts S) (ask : Ask) (reader : ReaderMarks) where
 
     -- the store fails
     rows_left : (fault : DeskFault) → reason fault ≡ None
-        → (HasReturned g new.store.now → (all : List Remembered) (a : Archive) (given : List Remembered) → WalksOver g ask.list all a given mid → IsOpen g new.store.now → StandsOn g a new)
+        → (HasReturned g new.store → (all : List Remembered) (a : Archive) (given : List Remembered) → WalksOver g ask.list all a given mid → IsOpen g new.store → StandsOn g a new)
         → WritesRows g old new ask reader before middle counted count (Err fault)
     rows_left fault none stands = λ returned all a w.
         let so_far = s.walked (was returned) all a w in
@@ -185,7 +186,7 @@ module _ {S : Type 0} (g : Ghosts S) (ask : Ask) (reader : ReaderMarks) where
 
     -- at the next message
     pub rows_unread : (fault : DeskFault) → reason fault ≡ None
-        → (HasReturned g new.store.now → (all : List Remembered) (a : Archive) (given : List Remembered) → WalksOver g ask.list all a given mid → IsOpen g new.store.now → WalksOver g ask.list all a given new)
+        → (HasReturned g new.store → (all : List Remembered) (a : Archive) (given : List Remembered) → WalksOver g ask.list all a given mid → IsOpen g new.store → WalksOver g ask.list all a given new)
         → WritesRows g old new ask reader before middle counted count (Err fault)
     rows_unread fault none rests = rows_left fault none (λ returned all a given w up. let last = rests returned all a given w up in (last.held, last.archive_is))
 
@@ -195,7 +196,7 @@ module _ {S : Type 0} (g : Ghosts S) (ask : Ask) (reader : ReaderMarks) where
     rows_unpassed fault none told passes = rows_left fault none (λ returned all a given w up. let last = passes.passed returned all a given w up in (last.1.held, last.1.archive_is))
 
     -- none is left
-    pub rows_all : (HasReturned g new.store.now → (all : List Remembered) (a : Archive) (given : List Remembered) → WalksOver g ask.list all a given mid
+    pub rows_all : (HasReturned g new.store → (all : List Remembered) (a : Archive) (given : List Remembered) → WalksOver g ask.list all a given mid
         → WalksOver g ask.list all a given new × (given ≡ all)) → WritesRows g old new ask reader before middle counted count (Ok tt)
     rows_all ends = λ returned all a w.
         let so_far = s.walked (was returned) all a w in

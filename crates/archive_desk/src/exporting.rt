@@ -2,6 +2,7 @@
 ghost use Rattle.std.specs.Prelude.{◌≡◌, ◌∷◌, [], ◌<◌, ◌^◌, ◌-◌, ◌++◌, min, length, OnOk, IfOk, IfErr};
 ghost use Rattle.mbox_core.specs.Written.{IsCutShort};
 ghost use Rattle.archive_machine.specs.Messages.{remembered};
+ghost use Rattle.archive_store.specs.Walking.{over};
 ghost use Rattle.archive_desk.specs.Ending.{EndsExport, EndsWalk, StopsExport, TellsWriter};
 ghost use Rattle.archive_desk.specs.Exporting.{Exports, IsExportStop, exported, shown_text};
 ghost use Rattle.archive_desk.specs.Walking.{IsRowsStop, IsShownStop, IsWalkStop, WritesRows, WritesWalk, unshown_bytes};
@@ -74,7 +75,7 @@ pub fn export_after<S: Alter, W: Sink>(
         Err(fault) => return Err(ExportStop { written: 0, fault }),
     };
     match store.each_row(alloc, ask.list) {
-        Ok(mut walk) => write_walk(alloc, ask, &reader, head, &mut walk, out),
+        Ok(mut walk) => write_walk(store, alloc, ask, &reader, head, &mut walk, out),
         Err(fault) => Err(ExportStop {
             written: 0,
             fault: DeskFault::from(fault),
@@ -84,20 +85,20 @@ pub fn export_after<S: Alter, W: Sink>(
 
 /// Writes these bytes, and then the messages of a walk, as far as the policy shows them: how many bytes that is in all.
 fn write_walk<S: Alter, W: Sink>(
+    store: &mut Store<S>,
     alloc: Global,
     ask: &Ask<'_>,
     reader: &ReaderMarks,
     head: &[u8],
-    walk: &mut EachRow<'_, S>,
+    walk: &mut EachRow,
     out: &mut W,
 ) -> Result<u64, ExportStop>
-    ensures same_reference { walk.new.store.ghost_name ≡ walk.old.store.ghost_name }
-    ensures written { WritesWalk S.Store walk.old walk.new ask.now reader.now head.now
+    ensures written { WritesWalk S.Store (over store.old walk.old) (over store.new walk.new) ask.now reader.now head.now
         (W.told out.old) (W.told out.new) result }
     ensures writer { TellsWriter (W.failures out.old) (W.failures out.new) result
         (λ stop. IsWalkStop (W.told out.old) (W.told out.new) (W.failures out.old)
         (W.failures out.new) stop.written stop.fault) }
-    ensures ends { EndsWalk S.Store walk.old walk.new ask.now (λ stop. stop.fault) result }
+    ensures ends { EndsWalk S.Store (over store.old walk.old) (over store.new walk.new) ask.now (λ stop. stop.fault) result }
 {
     if let Err(fault) = write_bytes(out, head) {
         return Err(ExportStop {
@@ -106,7 +107,7 @@ fn write_walk<S: Alter, W: Sink>(
         });
     }
     let mut count = head.len() as u64;
-    match write_rows(alloc, ask, reader, walk, out, &mut count) {
+    match write_rows(store, alloc, ask, reader, walk, out, &mut count) {
         Ok(()) => Ok(count),
         Err(fault) => Err(ExportStop {
             written: count,
@@ -117,26 +118,26 @@ fn write_walk<S: Alter, W: Sink>(
 
 /// Writes the messages that a walk has not given yet, as far as the policy shows them, and counts their bytes.
 fn write_rows<S: Alter, W: Sink>(
+    store: &mut Store<S>,
     alloc: Global,
     ask: &Ask<'_>,
     reader: &ReaderMarks,
-    walk: &mut EachRow<'_, S>,
+    walk: &mut EachRow,
     out: &mut W,
     count: &mut u64,
 ) -> Result<(), DeskFault>
     requires { count.old < 2 ^ 64 }
-    ensures same_reference { walk.new.store.ghost_name ≡ walk.old.store.ghost_name }
-    ensures written { WritesRows S.Store walk.old walk.new ask.now reader.now (W.told out.old)
+    ensures written { WritesRows S.Store (over store.old walk.old) (over store.new walk.new) ask.now reader.now (W.told out.old)
         (W.told out.new)
         count.old count.new result }
     ensures writer { TellsWriter (W.failures out.old) (W.failures out.new) result
         (λ fault. IsRowsStop (W.told out.old) (W.told out.new) (W.failures out.old)
         (W.failures out.new) count.old count.new fault) }
-    ensures ends { EndsWalk S.Store walk.old walk.new ask.now (λ fault. fault) result }
+    ensures ends { EndsWalk S.Store (over store.old walk.old) (over store.new walk.new) ask.now (λ fault. fault) result }
 {
     loop {
-        pass_withheld(ask, reader, walk)?;
-        let Some(message) = walk.next()? else {
+        pass_withheld(store, ask, reader, walk)?;
+        let Some(message) = walk.next(store)? else {
             return Ok(());
         };
         match write_shown(alloc, ask, reader, &message, out) {
@@ -146,7 +147,7 @@ fn write_rows<S: Alter, W: Sink>(
                 return Err(DeskFault::Write);
             }
             Err(Unshown::Refused(refused)) => {
-                walk.raise(refused.into());
+                store.wants.raise(refused.into());
                 return Err(DeskFault::Memory);
             }
         }

@@ -5,6 +5,7 @@ ghost use Rattle.archive_machine.specs.Questions.{messages_in};
 ghost use Rattle.archive_results.specs.Access.{is_shown, view_of};
 ghost use Rattle.archive_results.specs.Index.{IsIndexOf, header_of};
 ghost use Rattle.archive_store.specs.Told.{AsksIn, HoldsTables};
+ghost use Rattle.archive_store.specs.Walking.{over};
 ghost use Rattle.archive_desk.specs.Causes.{IsUnreadable};
 ghost use Rattle.archive_desk.specs.Ending.{EndsAsk, EndsWalk};
 ghost use Rattle.archive_desk.specs.Faults.{IsAskFault, ask_reason, reason};
@@ -38,33 +39,33 @@ pub(crate) fn read_headers<S: Alter>(
         Err(fault) => return Err(fault),
     };
     match store.each_row(alloc, ask.list) {
-        Ok(mut walk) => walk_headers(alloc, ask, &reader, &mut walk),
+        Ok(mut walk) => walk_headers(store, alloc, ask, &reader, &mut walk),
         Err(fault) => Err(DeskFault::from(fault)),
     }
 }
 
 /// The headers of the messages that a walk has not given yet, as far as the policy shows them.
 fn walk_headers<S: Alter>(
+    store: &mut Store<S>,
     alloc: Global,
     ask: &Ask<'_>,
     reader: &ReaderMarks,
-    walk: &mut EachRow<'_, S>,
+    walk: &mut EachRow,
 ) -> Result<Vec<Header>, DeskFault>
-    ensures same_reference { walk.new.store.ghost_name ≡ walk.old.store.ghost_name }
-    ensures listed { ListsRows S.Store walk.old walk.new ask.now reader.now (map header_of) result }
+    ensures listed { ListsRows S.Store (over store.old walk.old) (over store.new walk.new) ask.now reader.now (map header_of) result }
     ensures fault { IfErr result (λ fault. IsUnlisted fault) }
-    ensures ends { EndsWalk S.Store walk.old walk.new ask.now (λ fault. fault) result }
+    ensures ends { EndsWalk S.Store (over store.old walk.old) (over store.new walk.new) ask.now (λ fault. fault) result }
 {
     let mut headers = Vec::new(alloc);
     loop {
-        pass_withheld(ask, reader, walk)?;
-        let Some(message) = walk.next()? else {
+        pass_withheld(store, ask, reader, walk)?;
+        let Some(message) = walk.next(store)? else {
             return Ok(headers);
         };
         match push_header(alloc, ask, reader, &message, &mut headers) {
             Ok(()) => {}
             Err(refused) => {
-                walk.raise(refused.into());
+                store.wants.raise(refused.into());
                 return Err(DeskFault::Memory);
             }
         }
@@ -73,26 +74,26 @@ fn walk_headers<S: Alter>(
 
 /// The lines of the messages that a walk has not given yet, as far as the policy shows them.
 pub(crate) fn walk_lines<S: Alter>(
+    store: &mut Store<S>,
     alloc: Global,
     ask: &Ask<'_>,
     reader: &ReaderMarks,
-    walk: &mut EachRow<'_, S>,
+    walk: &mut EachRow,
 ) -> Result<Vec<Line>, DeskFault>
-    ensures same_reference { walk.new.store.ghost_name ≡ walk.old.store.ghost_name }
-    ensures listed { ListsRows S.Store walk.old walk.new ask.now reader.now lines_shown result }
+    ensures listed { ListsRows S.Store (over store.old walk.old) (over store.new walk.new) ask.now reader.now lines_shown result }
     ensures fault { IfErr result (λ fault. IsUnlisted fault) }
-    ensures ends { EndsWalk S.Store walk.old walk.new ask.now (λ fault. fault) result }
+    ensures ends { EndsWalk S.Store (over store.old walk.old) (over store.new walk.new) ask.now (λ fault. fault) result }
 {
     let mut lines = Vec::new(alloc);
     loop {
-        pass_withheld(ask, reader, walk)?;
-        let Some(message) = walk.next()? else {
+        pass_withheld(store, ask, reader, walk)?;
+        let Some(message) = walk.next(store)? else {
             return Ok(lines);
         };
         match push_line(alloc, ask, reader, &message, &mut lines) {
             Ok(()) => {}
             Err(refused) => {
-                walk.raise(refused.into());
+                store.wants.raise(refused.into());
                 return Err(DeskFault::Memory);
             }
         }

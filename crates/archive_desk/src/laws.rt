@@ -10,7 +10,7 @@ ghost use Rattle.archive_machine.specs.Commands.{Command as Told};
 ghost use Rattle.archive_machine.specs.Machine.{step};
 ghost use Rattle.archive_machine.specs.Runs.{run, taken};
 ghost use Rattle.archive_tables.specs.Making.{empty_archive};
-ghost use Rattle.archive_store.specs.Running.{command_of};
+ghost use Rattle.archive_store.specs.Carrying.{command_of};
 ghost use Rattle.archive_store.specs.declared.faults.StoreFault.{StoreFault};
 ghost use Rattle.archive_store.specs.declared.store.Store.{Store};
 ghost use Rattle.archive_results.specs.Access.{Ask};

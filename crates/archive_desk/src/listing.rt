@@ -47,7 +47,7 @@ pub fn month<S: Alter>(
         Err(fault) => return Err(fault),
     };
     match store.each_in_month(alloc, ask.list, month) {
-        Ok(mut walk) => walk_lines(alloc, ask, &reader, &mut walk),
+        Ok(mut walk) => walk_lines(store, alloc, ask, &reader, &mut walk),
         Err(fault) => Err(DeskFault::from(fault)),
     }
 }
@@ -74,7 +74,7 @@ pub fn author<S: Alter>(
         Err(fault) => return Err(fault),
     };
     match store.each_by_author(alloc, ask.list, key) {
-        Ok(mut walk) => walk_lines(alloc, ask, &reader, &mut walk),
+        Ok(mut walk) => walk_lines(store, alloc, ask, &reader, &mut walk),
         Err(fault) => Err(DeskFault::from(fault)),
     }
 }

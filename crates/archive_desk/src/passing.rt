@@ -4,46 +4,47 @@ ghost use Rattle.archive_machine.specs.Records.{Message as Remembered};
 ghost use Rattle.archive_database.specs.Messages.{AreMarksOf};
 ghost use Rattle.archive_results.specs.Access.{marks_of};
 ghost use Rattle.archive_store.specs.Told.{Counts, Lasts};
+ghost use Rattle.archive_store.specs.Walking.{over};
 ghost use Rattle.archive_store.specs.Wanting.{IsWant};
 ghost use Rattle.archive_desk.specs.Walking.{PassesOne, PassesWithheld, StopsPassing};
 
 use archive_results::{Ask, Marks, ReaderMarks, asks_author, is_withheld};
-use archive_store::{DatedMarks, EachRow, StoreFault};
+use archive_store::{DatedMarks, EachRow, Store, StoreFault};
 use sqlite::Alter;
 
 /// Passes by the messages in front of a walk that the policy withholds whatever their texts are, so that the next is one that it
 /// may show. Where who wrote a message matters to the reader, it passes none by.
 pub(crate) fn pass_withheld<S: Alter>(
+    store: &mut Store<S>,
     ask: &Ask<'_>,
     reader: &ReaderMarks,
-    walk: &mut EachRow<'_, S>,
+    walk: &mut EachRow,
 ) -> Result<(), StoreFault>
-    ensures same_reference { walk.new.store.ghost_name ≡ walk.old.store.ghost_name }
-    ensures passed { PassesWithheld S.Store walk.old walk.new ask.now reader.now result }
-    ensures lasts { Lasts S.Store walk.old.store.now walk.new.store.now }
-    ensures caused { StopsPassing S.Store walk.old walk.new ask.now result }
-    ensures counted { Counts IsWant walk.old.store.now walk.new.store.now result }
+    ensures passed { PassesWithheld S.Store (over store.old walk.old) (over store.new walk.new) ask.now reader.now result }
+    ensures lasts { Lasts S.Store store.old store.new }
+    ensures caused { StopsPassing S.Store (over store.old walk.old) (over store.new walk.new) ask.now result }
+    ensures counted { Counts IsWant store.old store.new result }
 {
-    while pass_next(ask, reader, walk)? {}
+    while pass_next(store, ask, reader, walk)? {}
     Ok(())
 }
 
 /// Passes the next message by, if the policy withholds it whatever its text is: whether it did.
 fn pass_next<S: Alter>(
+    store: &mut Store<S>,
     ask: &Ask<'_>,
     reader: &ReaderMarks,
-    walk: &mut EachRow<'_, S>,
+    walk: &mut EachRow,
 ) -> Result<bool, StoreFault>
-    ensures same_reference { walk.new.store.ghost_name ≡ walk.old.store.ghost_name }
-    ensures passed { PassesOne S.Store walk.old walk.new ask.now reader.now result }
-    ensures lasts { Lasts S.Store walk.old.store.now walk.new.store.now }
-    ensures caused { StopsPassing S.Store walk.old walk.new ask.now result }
-    ensures counted { Counts IsWant walk.old.store.now walk.new.store.now result }
+    ensures passed { PassesOne S.Store (over store.old walk.old) (over store.new walk.new) ask.now reader.now result }
+    ensures lasts { Lasts S.Store store.old store.new }
+    ensures caused { StopsPassing S.Store (over store.old walk.old) (over store.new walk.new) ask.now result }
+    ensures counted { Counts IsWant store.old store.new result }
 {
     if asks_author(ask, reader) {
         return Ok(false);
     }
-    let Some(marks) = walk.next_marks()? else {
+    let Some(marks) = walk.next_marks(store)? else {
         return Ok(false);
     };
     if !is_withheld(ask, reader, weighed(marks)) {

@@ -10,13 +10,14 @@ use Rattle.archive_machine.specs.Records.{Archive}
 use Rattle.archive_tables.specs.Crashes.{AddsNothing}
 use Rattle.archive_store.specs.Crashes.{CrashAll}
 use Rattle.archive_store.specs.Held.{held_of}
-use Rattle.archive_store.specs.Told.{Calls, Goes, GoesIn, HoldsTables, IsReady, Lasts, archive_in}
+use Rattle.archive_store.specs.Told.{GoesIn, HoldsTables, Lasts, archive_in}
+use Rattle.archive_desk.specs.Holding.{CallsHeld, GoesHeld}
 use Rattle.archive_store.specs.declared.batches.AddReport.{AddReport}
 use Rattle.archive_store.specs.declared.batches.AddStop.{AddStop}
 use Rattle.archive_store.specs.declared.faults.StoreFault.{StoreFault}
 use Rattle.archive_store.specs.declared.store.Store.{Store}
 use Rattle.archive_store.proofs.RunLemmas.{run_nothing}
-use Rattle.archive_desk.specs.Crashes.{CrashesReady, HasAddedAtLeast}
+use Rattle.archive_desk.specs.Crashes.{CrashesHeld, HasAddedAtLeast}
 use Rattle.archive_desk.specs.Importing.{HasAddedFirst}
 use Rattle.archive_desk.specs.declared.importing.Report.{Report}
 use Rattle.archive_desk.specs.declared.importing.ImportStop.{ImportStop}
@@ -58,47 +59,47 @@ abbrev pub LeavesFile : (list text : List ℕ) → (ends : ℕ) → Archive → 
 LeavesFile list text ends a stop b = HasReadAtLeast list text ends stop.done a b
 
 module _ {S : Type 0} (g : Ghosts S) where
-  -- where a stop left what was remembered, of a store that is ready, it does so behind these calls
+  -- where a stop left what was remembered, of a store whose tables are an archive's, it does so behind these calls
   abbrev pub KeepsSafe : Store S → Store S → Type 0
-  KeepsSafe old new = StaysSafe g (IsReady g) old new
+  KeepsSafe old new = StaysSafe g (HoldsTables g) old new
 
   pub safe_still : (store : Store S) → KeepsSafe store store
-  safe_still store = λ returned ready was. was
+  safe_still store = λ returned held was. was
 
-  pub safe_then : (old mid new : Store S) (Before : Archive → Archive → Type 0) → KeepsSafe old mid → Goes g old mid Before → Lasts g mid new → KeepsSafe mid new
+  pub safe_then : (old mid new : Store S) (Before : Archive → Archive → Type 0) → KeepsSafe old mid → GoesHeld g old mid Before → Lasts g mid new → KeepsSafe mid new
       → KeepsSafe old new
-  safe_then old mid new Before safe before lasts after = stays_safe_then g (IsReady g) old mid new Before safe before lasts after
+  safe_then old mid new Before safe before lasts after = stays_safe_then g (HoldsTables g) old mid new Before safe before lasts after
 
   -- ---- whatever a call answers, the store lasts
 
   pub amid_lasts : (old new : Store S) (list : List ℕ) (i : IntakeState) (Says : Archive → Archive → Unit {0} → Type 0) (result : Result (Unit {0}) ImportStop)
-      → Calls g old new halt_reason result Says (HaltsAmid list i) (BreaksAmid list i) → Lasts g old new
-  amid_lasts old new list i Says result call = calls_last g (IsReady g) old new halt_reason Says (HaltsAmid list i) (BreaksAmid list i) result call
+      → CallsHeld g old new halt_reason result Says (HaltsAmid list i) (BreaksAmid list i) → Lasts g old new
+  amid_lasts old new list i Says result call = calls_last g (HoldsTables g) old new halt_reason Says (HaltsAmid list i) (BreaksAmid list i) result call
 
   pub unread_lasts : (old new : Store S) (list : List ℕ) (i : IntakeState) (result : Result (Unit {0}) ImportStop)
-      → Calls g old new halt_reason result (Never list i) (Unreads list i) (BreaksAmid list i) → Lasts g old new
-  unread_lasts old new list i result call = calls_last g (IsReady g) old new halt_reason (Never list i) (Unreads list i) (BreaksAmid list i) result call
+      → CallsHeld g old new halt_reason result (Never list i) (Unreads list i) (BreaksAmid list i) → Lasts g old new
+  unread_lasts old new list i result call = calls_last g (HoldsTables g) old new halt_reason (Never list i) (Unreads list i) (BreaksAmid list i) result call
 
   pub more_lasts : (old new : Store S) (list : List ℕ) (i j : IntakeState) (more : List Item) (stop : ImportStop)
-      → Calls g old new {A = Unit {0}} halt_reason (Err stop) (λ b c _. Grows list i j more b c) (Halts list i more) (Breaks list i more) → Lasts g old new
+      → CallsHeld g old new {A = Unit {0}} halt_reason (Err stop) (λ b c _. Grows list i j more b c) (Halts list i more) (Breaks list i more) → Lasts g old new
   more_lasts old new list i j more stop call =
-      calls_last g (IsReady g) old new {A = Unit {0}} halt_reason (λ b c _. Grows list i j more b c) (Halts list i more) (Breaks list i more) (Err stop) call
+      calls_last g (HoldsTables g) old new {A = Unit {0}} halt_reason (λ b c _. Grows list i j more b c) (Halts list i more) (Breaks list i more) (Err stop) call
 
   pub read_lasts : (old new : Store S) (list text : List ℕ) (ends : ℕ) (items : List Item) (i : IntakeState) (Says : Archive → Archive → Unit {0} → Type 0) (stop : ImportStop)
-      → Calls g old new {A = Unit {0}} halt_reason (Err stop) Says (HaltsRead list text ends items i) (BreaksRead list text ends items i) → Lasts g old new
+      → CallsHeld g old new {A = Unit {0}} halt_reason (Err stop) Says (HaltsRead list text ends items i) (BreaksRead list text ends items i) → Lasts g old new
   read_lasts old new list text ends items i Says stop call =
-      calls_last g (IsReady g) old new {A = Unit {0}} halt_reason Says (HaltsRead list text ends items i) (BreaksRead list text ends items i) (Err stop) call
+      calls_last g (HoldsTables g) old new {A = Unit {0}} halt_reason Says (HaltsRead list text ends items i) (BreaksRead list text ends items i) (Err stop) call
 
   -- ---- what is held is added
 
   module _ (old new : Store S) (list : List ℕ) (i : IntakeState) where
     pub safe_added : (counts : AddReport) → CrashAll g (held_of old) (held_of new) list i.held (Ok counts) → KeepsSafe old new
-    safe_added counts crash = λ returned ready was. crash returned ready.held was
+    safe_added counts crash = λ returned held was. crash returned held was
 
     pub held_crash : (stop : AddStop) (at : ImportStop) → at ≡ record { done = i.done + stop.done; fault = Stored stop.fault }
-        → CrashAll g (held_of old) (held_of new) list i.held (Err stop) → CrashesReady g old new {A = Unit {0}} (Err at) (LeavesAmid list i)
-    held_crash stop at is crash = λ returned ready was db may.
-        let it = crash returned ready.held was db may in (
+        → CrashAll g (held_of old) (held_of new) list i.held (Err stop) → CrashesHeld g old new {A = Unit {0}} (Err at) (LeavesAmid list i)
+    held_crash stop at is crash = λ returned held was db may.
+        let it = crash returned held was db may in (
           it.0,
           λ a items w. (
             i.done + it.1.0,
@@ -109,31 +110,31 @@ module _ {S : Type 0} (g : Ghosts S) where
         )
 
   -- nothing more was added
-  pub kept_crash : (old mid : Store S) (list : List ℕ) (i j : IntakeState) → KeepsSafe old mid → Goes g old mid (Keeps list i j) → (stop : ImportStop) → stop.done ≡ j.done
-      → CrashesReady g old mid {A = Unit {0}} (Err stop) (LeavesAmid list i)
-  kept_crash old mid list i j safe before stop is = crash_between g (IsReady g) old mid (Keeps list i j) safe before (Unit {0}) stop (LeavesAmid list i)
+  pub kept_crash : (old mid : Store S) (list : List ℕ) (i j : IntakeState) → KeepsSafe old mid → GoesHeld g old mid (Keeps list i j) → (stop : ImportStop) → stop.done ≡ j.done
+      → CrashesHeld g old mid {A = Unit {0}} (Err stop) (LeavesAmid list i)
+  kept_crash old mid list i j safe before stop is = crash_between g (HoldsTables g) old mid (Keeps list i j) safe before (Unit {0}) stop (LeavesAmid list i)
       (λ b c keeps a items w. subst (λ n. HasAddedAtLeast list items n a c) (sym is) (at_least list items j.done a c (first_done list a c items j (keeps a items w))))
 
   -- ---- a message more is held
 
-  pub amid_more : (old new : Store S) (list : List ℕ) (i : IntakeState) (more : List Item) (stop : ImportStop) → CrashesReady g old new {A = Unit {0}} (Err stop) (LeavesAmid list i)
-      → CrashesReady g old new {A = Unit {0}} (Err stop) (LeavesMore list i more)
-  amid_more old new list i more stop crash = crash_as g (IsReady g) old new (Unit {0}) (Unit {0}) stop stop (LeavesAmid list i) (LeavesMore list i more)
+  pub amid_more : (old new : Store S) (list : List ℕ) (i : IntakeState) (more : List Item) (stop : ImportStop) → CrashesHeld g old new {A = Unit {0}} (Err stop) (LeavesAmid list i)
+      → CrashesHeld g old new {A = Unit {0}} (Err stop) (LeavesMore list i more)
+  amid_more old new list i more stop crash = crash_as g (HoldsTables g) old new (Unit {0}) (Unit {0}) stop stop (LeavesAmid list i) (LeavesMore list i more)
       (λ b c leaves a items w. at_least_longer list items more stop.done a c (leaves a items w)) crash
 
-  pub hold_crash : (old mid : Store S) (list : List ℕ) (i j : IntakeState) (item : Item) → KeepsSafe old mid → Goes g old mid (Keeps list i j) → (result : Result (Unit {0}) ImportStop)
-      → IfErr result (λ stop. stop ≡ record { done = j.done; fault = Mbox NoRoom }) → CrashesReady g old mid result (LeavesMore list i (item ∷ []))
+  pub hold_crash : (old mid : Store S) (list : List ℕ) (i j : IntakeState) (item : Item) → KeepsSafe old mid → GoesHeld g old mid (Keeps list i j) → (result : Result (Unit {0}) ImportStop)
+      → IfErr result (λ stop. stop ≡ record { done = j.done; fault = Mbox NoRoom }) → CrashesHeld g old mid result (LeavesMore list i (item ∷ []))
   hold_crash old mid list i j item safe before (Ok u) told = safe
   hold_crash old mid list i j item safe before (Err stop) told =
       amid_more old mid list i (item ∷ []) stop (kept_crash old mid list i j safe before stop (ap (λ (s : ImportStop). s.done) told))
 
   -- ---- one message after the other
 
-  pub grown_crash : (old mid new : Store S) (list : List ℕ) (i j : IntakeState) (more next rest all : List Item) → KeepsSafe old mid → Goes g old mid (Grows list i j more) → Lasts g mid new
-      → (stop : ImportStop) → all ≡ more ++ (next ++ rest) → CrashesReady g mid new {A = Unit {0}} (Err stop) (LeavesMore list j next)
-      → CrashesReady g old new {A = Unit {0}} (Err stop) (LeavesMore list i all)
+  pub grown_crash : (old mid new : Store S) (list : List ℕ) (i j : IntakeState) (more next rest all : List Item) → KeepsSafe old mid → GoesHeld g old mid (Grows list i j more) → Lasts g mid new
+      → (stop : ImportStop) → all ≡ more ++ (next ++ rest) → CrashesHeld g mid new {A = Unit {0}} (Err stop) (LeavesMore list j next)
+      → CrashesHeld g old new {A = Unit {0}} (Err stop) (LeavesMore list i all)
   grown_crash old mid new list i j more next rest all safe before lasts stop e crash =
-      crash_after g (IsReady g) old mid new (Grows list i j more) safe before (Unit {0}) (Unit {0}) stop stop (LeavesMore list j next) (LeavesMore list i all)
+      crash_after g (HoldsTables g) old mid new (Grows list i j more) safe before (Unit {0}) (Unit {0}) stop stop (LeavesMore list j next) (LeavesMore list i all)
       (λ b c d grown leaves a items w. subst (λ is. HasAddedAtLeast list is stop.done a d) (joined items)
       (at_least_longer list ((items ++ more) ++ next) rest stop.done a d (leaves a (items ++ more) (grown a items w)))) lasts crash
     where
@@ -142,12 +143,12 @@ module _ {S : Type 0} (g : Ghosts S) where
 
   -- ---- what was read
 
-  module _ (old mid : Store S) (list : List ℕ) (from items : List Item) (i j : IntakeState) (safe : KeepsSafe old mid) (begun : Goes g old mid (Begun list from items i j)) where
+  module _ (old mid : Store S) (list : List ℕ) (from items : List Item) (i j : IntakeState) (safe : KeepsSafe old mid) (begun : GoesHeld g old mid (Begun list from items i j)) where
     -- nothing more was added: a fault of reading, or of the end
     pub read_crash : (stream text piece : List ℕ) (ends : ℕ) → items ≡ settled_items stream → text ≡ stream ++ piece → (stop : ImportStop) (fault : ImportFault)
-        → stop ≡ record { done = j.done; fault = fault } → CrashesReady g old mid {A = Unit {0}} (Err stop) (LeavesRead list text ends from i)
+        → stop ≡ record { done = j.done; fault = fault } → CrashesHeld g old mid {A = Unit {0}} (Err stop) (LeavesRead list text ends from i)
     read_crash stream text piece ends are e stop fault is =
-        crash_between g (IsReady g) old mid (Begun list from items i j) safe begun (Unit {0}) stop (LeavesRead list text ends from i)
+        crash_between g (HoldsTables g) old mid (Begun list from items i j) safe begun (Unit {0}) stop (LeavesRead list text ends from i)
         (λ b c begun a w. (
           settled_items text,
           inl refl,
@@ -159,45 +160,45 @@ module _ {S : Type 0} (g : Ghosts S) where
 
     module _ (new : Store S) (lasts : Lasts g mid new) (text : List ℕ) (ends : ℕ) where
       -- as the messages are added that wait
-      pub waiting_crash : (waiting : List Item) (stop : ImportStop) → AreRead text ends (items ++ waiting) → CrashesReady g mid new {A = Unit {0}} (Err stop) (LeavesMore list j waiting)
-          → CrashesReady g old new {A = Unit {0}} (Err stop) (LeavesRead list text ends from i)
+      pub waiting_crash : (waiting : List Item) (stop : ImportStop) → AreRead text ends (items ++ waiting) → CrashesHeld g mid new {A = Unit {0}} (Err stop) (LeavesMore list j waiting)
+          → CrashesHeld g old new {A = Unit {0}} (Err stop) (LeavesRead list text ends from i)
       waiting_crash waiting stop are crash =
-          crash_after g (IsReady g) old mid new (Begun list from items i j) safe begun (Unit {0}) (Unit {0}) stop stop (LeavesMore list j waiting) (LeavesRead list text ends from i)
+          crash_after g (HoldsTables g) old mid new (Begun list from items i j) safe begun (Unit {0}) (Unit {0}) stop stop (LeavesMore list j waiting) (LeavesRead list text ends from i)
           (λ b c d begun leaves a w. (items ++ waiting, are, leaves a items (begun a w))) lasts crash
 
       -- as the last ones are
-      pub last_crash : (result : Result (Unit {0}) ImportStop) → AreRead text ends items → CrashesReady g mid new result (LeavesAmid list j)
-          → CrashesReady g old new result (LeavesRead list text ends from i)
+      pub last_crash : (result : Result (Unit {0}) ImportStop) → AreRead text ends items → CrashesHeld g mid new result (LeavesAmid list j)
+          → CrashesHeld g old new result (LeavesRead list text ends from i)
       last_crash (Ok u) are crash = safe_then old mid new (Begun list from items i j) safe begun lasts crash
       last_crash (Err stop) are crash =
-          crash_after g (IsReady g) old mid new (Begun list from items i j) safe begun (Unit {0}) (Unit {0}) stop stop (LeavesAmid list j) (LeavesRead list text ends from i)
+          crash_after g (HoldsTables g) old mid new (Begun list from items i j) safe begun (Unit {0}) (Unit {0}) stop stop (LeavesAmid list j) (LeavesRead list text ends from i)
           (λ b c d begun leaves a w. (items, are, leaves a items (begun a w))) lasts crash
 
   -- ---- the whole call
 
   -- the list is there
   pub found_safe : (old new : Store S) (list : List ℕ) → GoesIn g (HoldsTables g) old new (IsFound list) → AddsNothing g (held_of old) (held_of new) → KeepsSafe old new
-  found_safe old new list goes quiet = λ returned ready was. question_safe g old new (IsFound list) (λ a b it. it.0) goes quiet returned ready.held was
+  found_safe old new list goes quiet = λ returned held was. question_safe g old new (IsFound list) (λ a b it. it.0) goes quiet returned held was
 
   -- there is no such list, or it was not found out
   pub found_crash : (old new : Store S) (list text : List ℕ) (ends : ℕ) (fault : StoreFault) → AddsNothing g (held_of old) (held_of new)
-      → CrashesReady g old new {A = Report} (Err (record { done = 0; fault = Stored fault })) (LeavesFile list text ends)
-  found_crash old new list text ends fault quiet = λ returned ready was db may. (
+      → CrashesHeld g old new {A = Report} (Err (record { done = 0; fault = Stored fault })) (LeavesFile list text ends)
+  found_crash old new list text ends fault quiet = λ returned held was db may. (
     archive_in g old,
     (settled_items text, inl refl, at_least list (settled_items text) 0 (archive_in g old) (archive_in g old) (omega arith, run_nothing (archive_in g old))),
     was db (quiet returned db may),
   )
 
-  module _ (old mid new : Store S) (list : List ℕ) (i : IntakeState) (is : i ≡ no_intake) (safe : KeepsSafe old mid) (found : Goes g old mid (IsFound list)) (lasts : Lasts g mid new)
+  module _ (old mid new : Store S) (list : List ℕ) (i : IntakeState) (is : i ≡ no_intake) (safe : KeepsSafe old mid) (found : GoesHeld g old mid (IsFound list)) (lasts : Lasts g mid new)
       (text : List ℕ) (ends : ℕ) where
-    pub begun_crash : (stop : ImportStop) → CrashesReady g mid new {A = Unit {0}} (Err stop) (LeavesRead list text ends [] i)
-        → CrashesReady g old new {A = Report} (Err stop) (LeavesFile list text ends)
-    begun_crash stop crash = crash_after g (IsReady g) old mid new (IsFound list) safe found (Unit {0}) Report stop stop (LeavesRead list text ends [] i) (LeavesFile list text ends)
+    pub begun_crash : (stop : ImportStop) → CrashesHeld g mid new {A = Unit {0}} (Err stop) (LeavesRead list text ends [] i)
+        → CrashesHeld g old new {A = Report} (Err stop) (LeavesFile list text ends)
+    begun_crash stop crash = crash_after g (HoldsTables g) old mid new (IsFound list) safe found (Unit {0}) Report stop stop (LeavesRead list text ends [] i) (LeavesFile list text ends)
         (λ a b c it leaves. leaves a (under_way_first list a b i it.2 it.0 is)) lasts crash
 
-  pub ended_crash : (old mid new : Store S) (list : List ℕ) (items : List Item) (j : IntakeState) → KeepsSafe old mid → Goes g old mid (λ a c. IsUnderWay list a c items j) → Lasts g mid new
-      → (text : List ℕ) (ends : ℕ) (stop : ImportStop) → CrashesReady g mid new {A = Unit {0}} (Err stop) (LeavesRead list text ends items j)
-      → CrashesReady g old new {A = Report} (Err stop) (LeavesFile list text ends)
+  pub ended_crash : (old mid new : Store S) (list : List ℕ) (items : List Item) (j : IntakeState) → KeepsSafe old mid → GoesHeld g old mid (λ a c. IsUnderWay list a c items j) → Lasts g mid new
+      → (text : List ℕ) (ends : ℕ) (stop : ImportStop) → CrashesHeld g mid new {A = Unit {0}} (Err stop) (LeavesRead list text ends items j)
+      → CrashesHeld g old new {A = Report} (Err stop) (LeavesFile list text ends)
   ended_crash old mid new list items j safe before lasts text ends stop crash =
-      crash_after g (IsReady g) old mid new (λ a c. IsUnderWay list a c items j) safe before (Unit {0}) Report stop stop (LeavesRead list text ends items j) (LeavesFile list text ends)
+      crash_after g (HoldsTables g) old mid new (λ a c. IsUnderWay list a c items j) safe before (Unit {0}) Report stop stop (LeavesRead list text ends items j) (LeavesFile list text ends)
       (λ a b c it leaves. leaves a it) lasts crash

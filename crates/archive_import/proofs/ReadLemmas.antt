@@ -16,10 +16,11 @@ use Rattle.archive_machine.specs.Commands.{Refusal}
 use Rattle.archive_machine.specs.Questions.{has_list, list_refusal}
 use Rattle.archive_machine.specs.Runs.{taken}
 use Rattle.archive_store.specs.Replies.{refusal}
-use Rattle.archive_store.specs.Told.{Goes, GoesIfOpen, Calls}
+use Rattle.archive_store.specs.Told.{HoldsTables}
+use Rattle.archive_desk.specs.Holding.{CallsHeld, GoesHeld, GoesHeldIfOpen}
 use Rattle.archive_store.specs.declared.store.Store.{Store}
 use Rattle.archive_store.specs.declared.faults.StoreFault.{StoreFault}
-use Rattle.archive_store.proofs.Joins.{goes_on, goes_as, goes_as_if_open, stays_there}
+use Rattle.archive_store.proofs.Joins.{goes_on_in, goes_in_as, goes_in_as_if_open, stays_there_in}
 use Rattle.archive_store.proofs.RunLemmas.{run_nothing}
 use Rattle.archive_desk.specs.Importing.{IsBrokenAdd, HasAddedFirst}
 use Rattle.archive_desk.specs.declared.importing.Report.{Report}
@@ -53,15 +54,15 @@ unread_halt list items a b done full it = it
 unread_halt list items a b done (declined why) it = it
 
 module _ {S : Type 0} (g : Ghosts S) (old new : Store S) (list : List ℕ) (i : IntakeState) where
-  pub unread_added : (j : IntakeState) (at : ImportStop) → at ≡ record { done = j.done; fault = Mbox Read } → Goes g old new (Keeps list i j) → j.held ≡ []
-      → Calls g old new {A = Unit {0}} halt_reason (Err at) Nothing (Unreads list i) (BreaksAmid list i)
-  unread_added j at is keeps none = subst (λ s. Calls g old new {A = Unit {0}} halt_reason (Err s) Nothing (Unreads list i) (BreaksAmid list i)) (sym is)
-      (goes_as g old new (Keeps list i j) (λ b c. Unreads list i b c (j.done, not_read))
+  pub unread_added : (j : IntakeState) (at : ImportStop) → at ≡ record { done = j.done; fault = Mbox Read } → GoesHeld g old new (Keeps list i j) → j.held ≡ []
+      → CallsHeld g old new {A = Unit {0}} halt_reason (Err at) Nothing (Unreads list i) (BreaksAmid list i)
+  unread_added j at is keeps none = subst (λ s. CallsHeld g old new {A = Unit {0}} halt_reason (Err s) Nothing (Unreads list i) (BreaksAmid list i)) (sym is)
+      (goes_in_as g (HoldsTables g) old new (Keeps list i j) (λ b c. Unreads list i b c (j.done, not_read))
       (λ b c keeps a items w. let it = none_held list a c items j (keeps a items w) none in (it.0, it.1)) keeps)
 
   pub unread_stopped : (j : IntakeState) (stop : ImportStop)
-      → Calls g old new {A = Unit {0}} halt_reason (Err stop) (λ b c _. Keeps list i j b c) (HaltsAmid list i) (BreaksAmid list i)
-      → Calls g old new {A = Unit {0}} halt_reason (Err stop) Nothing (Unreads list i) (BreaksAmid list i)
+      → CallsHeld g old new {A = Unit {0}} halt_reason (Err stop) (λ b c _. Keeps list i j b c) (HaltsAmid list i) (BreaksAmid list i)
+      → CallsHeld g old new {A = Unit {0}} halt_reason (Err stop) Nothing (Unreads list i) (BreaksAmid list i)
   unread_stopped j stop call =
       stopped_as g old new {A = Unit {0}} {B = Unit {0}} halt_reason (λ b c _. Keeps list i j b c) Nothing (HaltsAmid list i) (Unreads list i) (BreaksAmid list i) (BreaksAmid list i)
       (λ b c why halts a items w. unread_halt list items a c why.0 why.1 (halts a items w)) (λ b c stop breaks. breaks) stop call
@@ -125,20 +126,20 @@ settled_whole text offset p = let P : List ℕ → Type 0 = λ x. IsPreamble x o
 
 -- ---- a fault of reading, or of the end
 
-module _ {S : Type 0} (g : Ghosts S) (old new : Store S) (list : List ℕ) (from items : List Item) (i j : IntakeState) (begun : Goes g old new (Begun list from items i j))
+module _ {S : Type 0} (g : Ghosts S) (old new : Store S) (list : List ℕ) (from items : List Item) (i j : IntakeState) (begun : GoesHeld g old new (Begun list from items i j))
     (stream text piece : List ℕ) (ends : ℕ) (are : items ≡ settled_items stream) (e : text ≡ stream ++ piece) where
   abbrev StopsAt : ImportStop → Type 0
-  StopsAt at = Calls g old new {A = Unit {0}} halt_reason (Err at) Nothing (HaltsRead list text ends from i) (BreaksRead list text ends from i)
+  StopsAt at = CallsHeld g old new {A = Unit {0}} halt_reason (Err at) Nothing (HaltsRead list text ends from i) (BreaksRead list text ends from i)
 
   stopped_preamble : (n offset : ℕ) → IsPreamble text offset → IsCounted text n offset → StopsAt (record { done = j.done; fault = Mbox (Preamble n) })
   stopped_preamble n offset p counted =
       let P : List ℕ → Type 0 = λ x. IsPreamble x offset in
       let none : items ≡ [] = are ∙ settled_none stream piece offset (subst P e p) in
-      goes_as g old new (Begun list from items i j) (λ b c. HaltsRead list text ends from i b c (j.done, no_mbox n))
+      goes_in_as g (HoldsTables g) old new (Begun list from items i j) (λ b c. HaltsRead list text ends from i b c (j.done, no_mbox n))
       (λ b c begun a w. let it = none_there list a c items j (begun a w) none in (it.0, it.1, w.is_there, offset, p, counted)) begun
 
   stopped_memory : StopsAt (record { done = j.done; fault = Mbox Memory })
-  stopped_memory = goes_as g old new (Begun list from items i j) (λ b c. HaltsRead list text ends from i b c (j.done, no_room))
+  stopped_memory = goes_in_as g (HoldsTables g) old new (Begun list from items i j) (λ b c. HaltsRead list text ends from i b c (j.done, no_room))
       (λ b c begun a w. (
         settled_items text,
         inl refl,
@@ -164,11 +165,11 @@ module _ {S : Type 0} (g : Ghosts S) (old new : Store S) (list : List ℕ) (from
 
 -- ---- a stop while what was read is added
 
-module _ {S : Type 0} (g : Ghosts S) (old mid new : Store S) (list : List ℕ) (from items : List Item) (i j : IntakeState) (begun : Goes g old mid (Begun list from items i j)) where
+module _ {S : Type 0} (g : Ghosts S) (old mid new : Store S) (list : List ℕ) (from items : List Item) (i j : IntakeState) (begun : GoesHeld g old mid (Begun list from items i j)) where
   -- as the messages are added that wait
   pub waiting_stopped : (k : IntakeState) (text : List ℕ) (ends : ℕ) (waiting : List Item) (stop : ImportStop)
-      → AreRead text ends (items ++ waiting) → Calls g mid new {A = Unit {0}} halt_reason (Err stop) (λ b c _. Grows list j k waiting b c) (Halts list j waiting) (Breaks list j waiting)
-      → Calls g old new {A = Unit {0}} halt_reason (Err stop) Nothing (HaltsRead list text ends from i) (BreaksRead list text ends from i)
+      → AreRead text ends (items ++ waiting) → CallsHeld g mid new {A = Unit {0}} halt_reason (Err stop) (λ b c _. Grows list j k waiting b c) (Halts list j waiting) (Breaks list j waiting)
+      → CallsHeld g old new {A = Unit {0}} halt_reason (Err stop) Nothing (HaltsRead list text ends from i) (BreaksRead list text ends from i)
   waiting_stopped k text ends waiting stop are call = stopped_after g old mid new {A = Unit {0}} {B = Unit {0}} halt_reason (Begun list from items i j) (λ b c _. Grows list j k waiting b c) Nothing
       (Halts list j waiting) (HaltsRead list text ends from i) (Breaks list j waiting) (BreaksRead list text ends from i)
       (λ b c d why begun halts a w. halted_read list text ends (items ++ waiting) a d why.0 are why.1 w.is_there (halts a items (begun a w)))
@@ -177,8 +178,8 @@ module _ {S : Type 0} (g : Ghosts S) (old mid new : Store S) (list : List ℕ) (
 
   -- after a read failed
   pub unread_stopped_read : (Says' : Archive → Archive → Unit {0} → Type 0) (text : List ℕ) (result : Result (Unit {0}) ImportStop) → OnOk result ⊥ → items ≡ settled_items text
-      → Calls g mid new halt_reason result (Never list j) (Unreads list j) (BreaksAmid list j)
-      → Calls g old new halt_reason result Says' (HaltsRead list text 0 from i) (BreaksRead list text 0 from i)
+      → CallsHeld g mid new halt_reason result (Never list j) (Unreads list j) (BreaksAmid list j)
+      → CallsHeld g old new halt_reason result Says' (HaltsRead list text 0 from i) (BreaksRead list text 0 from i)
   unread_stopped_read Says' text (Ok done) never are call = absurd never
   unread_stopped_read Says' text (Err stop) never are call = stopped_after g old mid new {A = Unit {0}} {B = Unit {0}} halt_reason (Begun list from items i j) (Never list j) Says'
       (Unreads list j) (HaltsRead list text 0 from i) (BreaksAmid list j) (BreaksRead list text 0 from i)
@@ -187,21 +188,21 @@ module _ {S : Type 0} (g : Ghosts S) (old mid new : Store S) (list : List ℕ) (
       stop begun call
 
   -- those that wait are added too
-  pub begun_more : (k : IntakeState) (waiting all : List Item) → all ≡ items ++ waiting → Goes g mid new (Grows list j k waiting) → Goes g old new (Begun list from all i k)
-  begun_more k waiting all e grows = goes_as g old new (λ a c. (b : Archive) × Begun list from items i j a b × Grows list j k waiting b c) (Begun list from all i k)
+  pub begun_more : (k : IntakeState) (waiting all : List Item) → all ≡ items ++ waiting → GoesHeld g mid new (Grows list j k waiting) → GoesHeld g old new (Begun list from all i k)
+  begun_more k waiting all e grows = goes_in_as g (HoldsTables g) old new (λ a c. (b : Archive) × Begun list from items i j a b × Grows list j k waiting b c) (Begun list from all i k)
       (λ b c h a w. subst (λ is. IsUnderWay list a c is k) (sym e) (h.2 a items (h.1 a w)))
-      (goes_on g old mid new (Begun list from items i j) (Grows list j k waiting) begun grows)
+      (goes_on_in g (HoldsTables g) old mid new (Begun list from items i j) (Grows list j k waiting) begun grows)
 
   -- the last of them are added, and the input was read to its end
   pub last_says : (text : List ℕ) (k : IntakeState) (result : Result (Unit {0}) ImportStop) → Divides text items → OnOk result (k.held ≡ [])
-      → Calls g mid new halt_reason result (λ b c _. Keeps list j k b c) (HaltsAmid list j) (BreaksAmid list j)
-      → Calls g old new halt_reason result (λ b c _. (a : Archive) → IsUnderWay list a b from i → IsReadIn list text 1 a c k.report) (HaltsRead list text 1 from i) (BreaksRead list text 1 from i)
-  last_says text k (Ok done) divides none keeps = goes_as g old new (λ a c. (b : Archive) × Begun list from items i j a b × Keeps list j k b c)
+      → CallsHeld g mid new halt_reason result (λ b c _. Keeps list j k b c) (HaltsAmid list j) (BreaksAmid list j)
+      → CallsHeld g old new halt_reason result (λ b c _. (a : Archive) → IsUnderWay list a b from i → IsReadIn list text 1 a c k.report) (HaltsRead list text 1 from i) (BreaksRead list text 1 from i)
+  last_says text k (Ok done) divides none keeps = goes_in_as g (HoldsTables g) old new (λ a c. (b : Archive) × Begun list from items i j a b × Keeps list j k b c)
       (λ b c. (a : Archive) → IsUnderWay list a b from i → IsReadIn list text 1 a c k.report)
       (λ b c h a w.
       let it = none_held list a c items k (h.2 a items (h.1 a w)) none in
       (refl, record { is_there = w.is_there; items = items; divided = divides; added = record { archive_is = it.1; told = it.2 } }))
-      (goes_on g old mid new (Begun list from items i j) (Keeps list j k) begun keeps)
+      (goes_on_in g (HoldsTables g) old mid new (Begun list from items i j) (Keeps list j k) begun keeps)
   last_says text k (Err stop) divides none call = stopped_after g old mid new {A = Unit {0}} {B = Unit {0}} halt_reason (Begun list from items i j) (λ b c _. Keeps list j k b c)
       (λ b c _. (a : Archive) → IsUnderWay list a b from i → IsReadIn list text 1 a c k.report)
       (HaltsAmid list j) (HaltsRead list text 1 from i) (BreaksAmid list j) (BreaksRead list text 1 from i)
@@ -209,14 +210,9 @@ module _ {S : Type 0} (g : Ghosts S) (old mid new : Store S) (list : List ℕ) (
       (λ b c d stop begun breaks a w. broken_read list text 1 items a d stop.done (inr (refl, divides)) stop.fault (breaks a items (begun a w)))
       stop begun call
 
-pub begun_none : {S : Type 0} (g : Ghosts S) (store : Store S) (list : List ℕ) (from items : List Item) (i : IntakeState) → items ≡ from → Goes g store store (Begun list from items i i)
-begun_none g store list from items i e = goes_as g store store (λ a b. b ≡ a) (Begun list from items i i)
-    (λ b c same a w. subst (λ is. IsUnderWay list a c is i) (sym e) (subst (λ x. IsUnderWay list a x from i) (sym same) w)) (stays_there g store)
-
-pub begun_at : {S : Type 0} (g : Ghosts S) (old new : Store S) (list : List ℕ) (from items all : List Item) (i j : IntakeState) → all ≡ items
-    → Goes g old new (Begun list from items i j) → Goes g old new (Begun list from all i j)
-begun_at g old new list from items all i j e begun = goes_as g old new (Begun list from items i j) (Begun list from all i j)
-    (λ b c begun a w. subst (λ is. IsUnderWay list a c is j) (sym e) (begun a w)) begun
+pub begun_none : {S : Type 0} (g : Ghosts S) (store : Store S) (list : List ℕ) (from items : List Item) (i : IntakeState) → items ≡ from → GoesHeld g store store (Begun list from items i i)
+begun_none g store list from items i e = goes_in_as g (HoldsTables g) store store (λ a b. b ≡ a) (Begun list from items i i)
+    (λ b c same a w. subst (λ is. IsUnderWay list a c is i) (sym e) (subst (λ x. IsUnderWay list a x from i) (sym same) w)) (stays_there_in g (HoldsTables g) store)
 
 -- those that were taken and those that wait
 pub settled_given : (d : CutterState) (taken : List Item) → IsCutter d → d.phase ≡ Open → d.taken ≡ taken → taken ++ d.waiting ≡ settled_items d.stream
@@ -241,48 +237,48 @@ module _ {S : Type 0} (g : Ghosts S) (old new : Store S) (list : List ℕ) where
   nothing_broken a b same = (omega arith, same ∙ run_nothing a)
 
   pub not_found : (fault : StoreFault)
-      → MatchOption (refusal fault) (GoesIfOpen g old new (λ a b. b ≡ a)) (λ why. Goes g old new (λ a b. (b ≡ a) × (list_refusal a list ≡ Some why)))
-      → Calls g old new {A = Report} halt_reason (Err (record { done = 0; fault = Stored fault })) (λ a b report. IsReadIn list [] 0 a b report)
+      → MatchOption (refusal fault) (GoesHeldIfOpen g old new (λ a b. b ≡ a)) (λ why. GoesHeld g old new (λ a b. (b ≡ a) × (list_refusal a list ≡ Some why)))
+      → CallsHeld g old new {A = Report} halt_reason (Err (record { done = 0; fault = Stored fault })) (λ a b report. IsReadIn list [] 0 a b report)
       (λ a b why. IsHalted list [] 0 a b why.0 why.1) (λ a b stop. IsBroken list [] 0 a b stop.done stop.fault)
   not_found fault asked = by_reason (refusal fault) asked
     where
       by_reason : (r : Option Refusal)
-          → MatchOption r (GoesIfOpen g old new (λ a b. b ≡ a)) (λ why. Goes g old new (λ a b. (b ≡ a) × (list_refusal a list ≡ Some why)))
-          → MatchOption {T = ℕ × Halt} (option_map (λ (halt : Halt). (0, halt)) (option_map halt_by r)) (GoesIfOpen g old new (λ a b. IsBroken list [] 0 a b 0 (Stored fault)))
-          (λ why. Goes g old new (λ a b. IsHalted list [] 0 a b why.0 why.1))
-      by_reason None it = goes_as_if_open g old new (λ a b. b ≡ a) (λ a b. IsBroken list [] 0 a b 0 (Stored fault))
+          → MatchOption r (GoesHeldIfOpen g old new (λ a b. b ≡ a)) (λ why. GoesHeld g old new (λ a b. (b ≡ a) × (list_refusal a list ≡ Some why)))
+          → MatchOption {T = ℕ × Halt} (option_map (λ (halt : Halt). (0, halt)) (option_map halt_by r)) (GoesHeldIfOpen g old new (λ a b. IsBroken list [] 0 a b 0 (Stored fault)))
+          (λ why. GoesHeld g old new (λ a b. IsHalted list [] 0 a b why.0 why.1))
+      by_reason None it = goes_in_as_if_open g (HoldsTables g) old new (λ a b. b ≡ a) (λ a b. IsBroken list [] 0 a b 0 (Stored fault))
           (λ a b same. (settled_items [], inl refl, nothing_broken a b same)) it
-      by_reason (Some why) it = goes_as g old new (λ a b. (b ≡ a) × (list_refusal a list ≡ Some why)) (λ a b. IsHalted list [] 0 a b 0 (halt_by why))
+      by_reason (Some why) it = goes_in_as g (HoldsTables g) old new (λ a b. (b ≡ a) × (list_refusal a list ≡ Some why)) (λ a b. IsHalted list [] 0 a b 0 (halt_by why))
           (λ a b h.
           let it = missing a list why h.1 in
           subst (λ r. IsHalted list [] 0 a b 0 (halt_by r)) it.0 (refl, h.0, it.1, refl, refl)) it
 
-module _ {S : Type 0} (g : Ghosts S) (old mid new : Store S) (list : List ℕ) (i : IntakeState) (is : i ≡ no_intake) (found : Goes g old mid (IsFound list)) where
+module _ {S : Type 0} (g : Ghosts S) (old mid new : Store S) (list : List ℕ) (i : IntakeState) (is : i ≡ no_intake) (found : GoesHeld g old mid (IsFound list)) where
   started : (a b : Archive) → IsFound list a b → IsUnderWay list a b [] i
   started a b it = under_way_first list a b i it.2 it.0 is
 
-  pub found_begun : (items : List Item) (j : IntakeState) → Goes g mid new (Begun list [] items i j) → Goes g old new (λ a c. IsUnderWay list a c items j)
-  found_begun items j begun = goes_as g old new (λ a c. (b : Archive) × IsFound list a b × Begun list [] items i j b c) (λ a c. IsUnderWay list a c items j)
-      (λ a c h. h.2 a (started a h.0 h.1)) (goes_on g old mid new (IsFound list) (Begun list [] items i j) found begun)
+  pub found_begun : (items : List Item) (j : IntakeState) → GoesHeld g mid new (Begun list [] items i j) → GoesHeld g old new (λ a c. IsUnderWay list a c items j)
+  found_begun items j begun = goes_in_as g (HoldsTables g) old new (λ a c. (b : Archive) × IsFound list a b × Begun list [] items i j b c) (λ a c. IsUnderWay list a c items j)
+      (λ a c h. h.2 a (started a h.0 h.1)) (goes_on_in g (HoldsTables g) old mid new (IsFound list) (Begun list [] items i j) found begun)
 
   pub settled_stopped : (text : List ℕ) (stop : ImportStop)
-      → Calls g mid new {A = Unit {0}} halt_reason (Err stop) Nothing (HaltsRead list text 0 [] i) (BreaksRead list text 0 [] i)
-      → Calls g old new {A = Report} halt_reason (Err stop) (λ a b report. IsReadIn list text 0 a b report) (λ a b why. IsHalted list text 0 a b why.0 why.1)
+      → CallsHeld g mid new {A = Unit {0}} halt_reason (Err stop) Nothing (HaltsRead list text 0 [] i) (BreaksRead list text 0 [] i)
+      → CallsHeld g old new {A = Report} halt_reason (Err stop) (λ a b report. IsReadIn list text 0 a b report) (λ a b why. IsHalted list text 0 a b why.0 why.1)
       (λ a b stop. IsBroken list text 0 a b stop.done stop.fault)
   settled_stopped text stop call = stopped_after g old mid new {A = Unit {0}} {B = Report} halt_reason (IsFound list) Nothing (λ a b report. IsReadIn list text 0 a b report)
       (HaltsRead list text 0 [] i) (λ a b why. IsHalted list text 0 a b why.0 why.1) (BreaksRead list text 0 [] i) (λ a b stop. IsBroken list text 0 a b stop.done stop.fault)
       (λ a b c why it halts. halts a (started a b it)) (λ a b c stop it breaks. breaks a (started a b it)) stop found call
 
-module _ {S : Type 0} (g : Ghosts S) (old mid new : Store S) (list text : List ℕ) (items : List Item) (j : IntakeState) (before : Goes g old mid (λ a c. IsUnderWay list a c items j)) where
+module _ {S : Type 0} (g : Ghosts S) (old mid new : Store S) (list text : List ℕ) (items : List Item) (j : IntakeState) (before : GoesHeld g old mid (λ a c. IsUnderWay list a c items j)) where
   pub last_stopped : (stop : ImportStop)
-      → Calls g mid new {A = Unit {0}} halt_reason (Err stop) Nothing (HaltsRead list text 1 items j) (BreaksRead list text 1 items j)
-      → Calls g old new {A = Report} halt_reason (Err stop) (λ a b report. IsReadIn list text 1 a b report) (λ a b why. IsHalted list text 1 a b why.0 why.1)
+      → CallsHeld g mid new {A = Unit {0}} halt_reason (Err stop) Nothing (HaltsRead list text 1 items j) (BreaksRead list text 1 items j)
+      → CallsHeld g old new {A = Report} halt_reason (Err stop) (λ a b report. IsReadIn list text 1 a b report) (λ a b why. IsHalted list text 1 a b why.0 why.1)
       (λ a b stop. IsBroken list text 1 a b stop.done stop.fault)
   last_stopped stop call = stopped_after g old mid new {A = Unit {0}} {B = Report} halt_reason (λ a c. IsUnderWay list a c items j) Nothing (λ a b report. IsReadIn list text 1 a b report)
       (HaltsRead list text 1 items j) (λ a b why. IsHalted list text 1 a b why.0 why.1) (BreaksRead list text 1 items j) (λ a b stop. IsBroken list text 1 a b stop.done stop.fault)
       (λ a b c why it halts. halts a it) (λ a b c stop it breaks. breaks a it) stop before call
 
-  pub read_in : (report : Report) → Goes g mid new (λ b c. (a : Archive) → IsUnderWay list a b items j → IsReadIn list text 1 a c report) → Goes g old new (λ a c. IsReadIn list text 1 a c report)
-  read_in report last = goes_as g old new (λ a c. (b : Archive) × IsUnderWay list a b items j × ((a' : Archive) → IsUnderWay list a' b items j → IsReadIn list text 1 a' c report))
+  pub read_in : (report : Report) → GoesHeld g mid new (λ b c. (a : Archive) → IsUnderWay list a b items j → IsReadIn list text 1 a c report) → GoesHeld g old new (λ a c. IsReadIn list text 1 a c report)
+  read_in report last = goes_in_as g (HoldsTables g) old new (λ a c. (b : Archive) × IsUnderWay list a b items j × ((a' : Archive) → IsUnderWay list a' b items j → IsReadIn list text 1 a' c report))
       (λ a c. IsReadIn list text 1 a c report) (λ a c h. h.2 a h.1)
-      (goes_on g old mid new (λ a c. IsUnderWay list a c items j) (λ b c. (a : Archive) → IsUnderWay list a b items j → IsReadIn list text 1 a c report) before last)
+      (goes_on_in g (HoldsTables g) old mid new (λ a c. IsUnderWay list a c items j) (λ b c. (a : Archive) → IsUnderWay list a b items j → IsReadIn list text 1 a c report) before last)

@@ -10,19 +10,18 @@ use Rattle.archive_machine.specs.Records.{Archive}
 use Rattle.archive_machine.specs.Commands.{Refusal, no_list, bad_name, bad_text, list_exists, person_exists, no_person, token_taken}
 use Rattle.archive_machine.specs.Commands.{no_message, already_withdrawn, not_withdrawn, bad_days, list_full, too_large}
 use Rattle.archive_machine.specs.Runs.{taken}
-use Rattle.archive_machine.specs.Sound.{IsFiledRight}
 use Rattle.archive_tables.specs.Tables.{IsKept, archive_of}
 use Rattle.archive_store.specs.Batches.{AddsAll, IsAfter, IsRefusedAt, tally_of}
 use Rattle.archive_tables.proofs.LastLemmas.{lasts_same}
 use Rattle.archive_store.specs.Held.{held_of}
 use Rattle.archive_store.specs.Replies.{refusal}
-use Rattle.archive_store.specs.Told.{Lasts, HoldsTables, IsReady, archive_in, Goes, GoesIfOpen, Calls}
+use Rattle.archive_store.specs.Told.{Lasts, HoldsTables}
 use Rattle.archive_store.specs.declared.store.Store.{Store}
 use Rattle.archive_store.specs.declared.faults.StoreFault.TheVariants.{Memory as NoMemory}
 use Rattle.archive_store.specs.declared.batches.AddStop.{AddStop}
 use Rattle.archive_store.specs.declared.batches.AddReport.{AddReport}
-use Rattle.archive_store.proofs.Joins.{goes_on, goes_on_if_open, goes_as, goes_as_if_open, ready_with, stays_there}
-use Rattle.archive_store.proofs.RightLemmas.{taken_right}
+use Rattle.archive_store.proofs.Joins.{goes_on_in, goes_on_in_if_open, goes_in_as, goes_in_as_if_open, stays_there_in}
+use Rattle.archive_desk.specs.Holding.{CallsHeld, GoesHeld, GoesHeldIfOpen}
 use Rattle.archive_desk.specs.Importing.{IsBrokenAdd}
 use Rattle.archive_desk.specs.declared.importing.ImportStop.{ImportStop}
 use Rattle.archive_desk.specs.declared.importing.ImportFault.{ImportFault}
@@ -37,30 +36,30 @@ module _ {S : Type 0} (g : Ghosts S) (old mid new : Store S) {A B F R : Type 0} 
     (Says : Archive → Archive → A → Type 0) (Says' : Archive → Archive → B → Type 0) (Refuses Refuses' : Archive → Archive → R → Type 0)
     (Stops Stops' : Archive → Archive → F → Type 0) (refuses : (a b c : Archive) (why : R) → Before a b → Refuses b c why → Refuses' a c why)
     (stops : (a b c : Archive) (fault : F) → Before a b → Stops b c fault → Stops' a c fault) where
-  pub stopped_after : (fault : F) → Goes g old mid Before → Calls g mid new {A = A} reason (Err fault) Says Refuses Stops
-      → Calls g old new {A = B} reason (Err fault) Says' Refuses' Stops'
+  pub stopped_after : (fault : F) → GoesHeld g old mid Before → CallsHeld g mid new {A = A} reason (Err fault) Says Refuses Stops
+      → CallsHeld g old new {A = B} reason (Err fault) Says' Refuses' Stops'
   stopped_after fault before call = by_reason (reason fault) call
     where
-      by_reason : (r : Option R) → MatchOption r (GoesIfOpen g mid new (λ b c. Stops b c fault)) (λ why. Goes g mid new (λ b c. Refuses b c why))
-          → MatchOption r (GoesIfOpen g old new (λ a c. Stops' a c fault)) (λ why. Goes g old new (λ a c. Refuses' a c why))
+      by_reason : (r : Option R) → MatchOption r (GoesHeldIfOpen g mid new (λ b c. Stops b c fault)) (λ why. GoesHeld g mid new (λ b c. Refuses b c why))
+          → MatchOption r (GoesHeldIfOpen g old new (λ a c. Stops' a c fault)) (λ why. GoesHeld g old new (λ a c. Refuses' a c why))
       by_reason None last =
-          goes_as_if_open g old new (λ a c. (b : Archive) × Before a b × Stops b c fault) (λ a c. Stops' a c fault) (λ a c h. stops a h.0 c fault h.1 h.2)
-          (goes_on_if_open g old mid new Before (λ b c. Stops b c fault) before last)
+          goes_in_as_if_open g (HoldsTables g) old new (λ a c. (b : Archive) × Before a b × Stops b c fault) (λ a c. Stops' a c fault) (λ a c h. stops a h.0 c fault h.1 h.2)
+          (goes_on_in_if_open g (HoldsTables g) old mid new Before (λ b c. Stops b c fault) before last)
       by_reason (Some why) last =
-          goes_as g old new (λ a c. (b : Archive) × Before a b × Refuses b c why) (λ a c. Refuses' a c why) (λ a c h. refuses a h.0 c why h.1 h.2)
-          (goes_on g old mid new Before (λ b c. Refuses b c why) before last)
+          goes_in_as g (HoldsTables g) old new (λ a c. (b : Archive) × Before a b × Refuses b c why) (λ a c. Refuses' a c why) (λ a c h. refuses a h.0 c why h.1 h.2)
+          (goes_on_in g (HoldsTables g) old mid new Before (λ b c. Refuses b c why) before last)
 
 module _ {S : Type 0} (g : Ghosts S) (old new : Store S) {A B F R : Type 0} (reason : F → Option R)
     (Says : Archive → Archive → A → Type 0) (Says' : Archive → Archive → B → Type 0) (Refuses Refuses' : Archive → Archive → R → Type 0)
     (Stops Stops' : Archive → Archive → F → Type 0) (refuses : (a b : Archive) (why : R) → Refuses a b why → Refuses' a b why)
     (stops : (a b : Archive) (fault : F) → Stops a b fault → Stops' a b fault) where
-  pub stopped_as : (fault : F) → Calls g old new {A = A} reason (Err fault) Says Refuses Stops → Calls g old new {A = B} reason (Err fault) Says' Refuses' Stops'
+  pub stopped_as : (fault : F) → CallsHeld g old new {A = A} reason (Err fault) Says Refuses Stops → CallsHeld g old new {A = B} reason (Err fault) Says' Refuses' Stops'
   stopped_as fault call = by_reason (reason fault) call
     where
-      by_reason : (r : Option R) → MatchOption r (GoesIfOpen g old new (λ b c. Stops b c fault)) (λ why. Goes g old new (λ b c. Refuses b c why))
-          → MatchOption r (GoesIfOpen g old new (λ a c. Stops' a c fault)) (λ why. Goes g old new (λ a c. Refuses' a c why))
-      by_reason None last = goes_as_if_open g old new (λ b c. Stops b c fault) (λ b c. Stops' b c fault) (λ b c h. stops b c fault h) last
-      by_reason (Some why) last = goes_as g old new (λ b c. Refuses b c why) (λ b c. Refuses' b c why) (λ b c h. refuses b c why h) last
+      by_reason : (r : Option R) → MatchOption r (GoesHeldIfOpen g old new (λ b c. Stops b c fault)) (λ why. GoesHeld g old new (λ b c. Refuses b c why))
+          → MatchOption r (GoesHeldIfOpen g old new (λ a c. Stops' a c fault)) (λ why. GoesHeld g old new (λ a c. Refuses' a c why))
+      by_reason None last = goes_in_as_if_open g (HoldsTables g) old new (λ b c. Stops b c fault) (λ b c. Stops' b c fault) (λ b c h. stops b c fault h) last
+      by_reason (Some why) last = goes_in_as g (HoldsTables g) old new (λ b c. Refuses b c why) (λ b c. Refuses' b c why) (λ b c h. refuses b c why h) last
 
 -- ---- more messages, of which those were the first
 
@@ -122,89 +121,79 @@ BreaksAmid list i b c stop = (a : Archive) (items : List Item) → IsUnderWay li
 
 module _ {S : Type 0} (g : Ghosts S) (old new : Store S) (list : List ℕ) (i : IntakeState) where
   pub held_added : (j : IntakeState) (counts : AddReport) → Lasts g old new → AddsAll g (held_of old) (held_of new) (Ok counts) list i.held
-      → j.held ≡ [] → j.done ≡ i.done + length i.held → is_more i.report (tally_of counts) j.report → Goes g old new (Keeps list i j)
+      → j.held ≡ [] → j.done ≡ i.done + length i.held → is_more i.report (tally_of counts) j.report → GoesHeld g old new (Keeps list i j)
   held_added j counts lasts adds none done more = (
     lasts,
-    λ returned ready.
-        let it = adds returned ready.held in (
-          ready_with g new (taken (archive_in g old) list i.held).archive it.0 it.1 (taken_right (archive_in g old) list i.held ready.filed_right),
+    λ returned held.
+        let it = adds returned held in (
+          it.0,
           (λ a items w. all_added list a _ items i w _ j (tally_of counts) it.1 it.2 none done more),
         ),
   )
 
   pub add_stopped : (stop : AddStop) (at : ImportStop) → at ≡ record { done = i.done + stop.done; fault = Stored stop.fault } → Lasts g old new
       → AddsAll g (held_of old) (held_of new) (Err stop) list i.held → stop.done ≤ length i.held
-      → Calls g old new {A = Unit {0}} halt_reason (Err at) Nothing (HaltsAmid list i) (BreaksAmid list i)
-  add_stopped stop at is lasts adds low = subst (λ s. Calls g old new {A = Unit {0}} halt_reason (Err s) Nothing (HaltsAmid list i) (BreaksAmid list i)) (sym is) (by_reason (refusal stop.fault) adds)
+      → CallsHeld g old new {A = Unit {0}} halt_reason (Err at) Nothing (HaltsAmid list i) (BreaksAmid list i)
+  add_stopped stop at is lasts adds low = subst (λ s. CallsHeld g old new {A = Unit {0}} halt_reason (Err s) Nothing (HaltsAmid list i) (BreaksAmid list i)) (sym is) (by_reason (refusal stop.fault) adds)
     where
-      some_right : HoldsTables g new → archive_in g new ≡ (taken (archive_in g old) list (take stop.done i.held)).archive → IsFiledRight (archive_in g old) → IsReady g new
-      some_right held same right =
-          ready_with g new (taken (archive_in g old) list (take stop.done i.held)).archive held same (taken_right (archive_in g old) list (take stop.done i.held) right)
-
       by_reason : (r : Option Refusal)
           → (HasCleanDisk (state g (held_of new)) → IsKept (state g (held_of old)) → MatchOption r (IsAfter (state g (held_of new)) (archive_of (state g (held_of old))) list (take stop.done i.held))
           (λ why. IsKept (state g (held_of new))
           × (archive_of (state g (held_of new)) ≡ (taken (archive_of (state g (held_of old))) list (take stop.done i.held)).archive)
           × IsRefusedAt (archive_of (state g (held_of old))) list i.held stop.done why))
           → MatchOption (option_map (λ (halt : Halt). (i.done + stop.done, halt)) (option_map halt_by r))
-          (GoesIfOpen g old new (λ b c. BreaksAmid list i b c (record { done = i.done + stop.done; fault = Stored stop.fault }))) (λ why. Goes g old new (λ b c. HaltsAmid list i b c why))
+          (GoesHeldIfOpen g old new (λ b c. BreaksAmid list i b c (record { done = i.done + stop.done; fault = Stored stop.fault }))) (λ why. GoesHeld g old new (λ b c. HaltsAmid list i b c why))
       by_reason None it = (
         lasts,
-        λ returned ready up.
-            let after = it returned ready.held up in
-            (some_right after.0 after.1 ready.filed_right, (λ a items w. some_added list a _ items i w _ stop.done low after.1)),
+        λ returned held up.
+            let after = it returned held up in
+            (after.0, (λ a items w. some_added list a _ items i w _ stop.done low after.1)),
       )
       by_reason (Some why) it = (
         lasts,
-        λ returned ready.
-            let after = it returned ready.held in
-            (some_right after.0 after.1 ready.filed_right, (λ a items w. halted_by list a _ _ items i stop.done why w low after.1 after.2)),
+        λ returned held.
+            let after = it returned held in
+            (after.0, (λ a items w. halted_by list a _ _ items i stop.done why w low after.1 after.2)),
       )
-
--- there are too many messages to count: nothing more is added
-pub held_stopped : {S : Type 0} (g : Ghosts S) (store : Store S) (list : List ℕ) (i : IntakeState) (at : ImportStop) → at ≡ record { done = i.done; fault = Stored NoMemory }
-    → Calls g store store {A = Unit {0}} halt_reason (Err at) Nothing (HaltsAmid list i) (BreaksAmid list i)
-held_stopped g store list i at is = subst (λ s. Calls g store store {A = Unit {0}} halt_reason (Err s) Nothing (HaltsAmid list i) (BreaksAmid list i)) (sym is)
-    (lasts_same _, (λ returned ready up. (ready, (λ a items w. first_done list a _ items i w))))
 
 -- ---- a message more is held
 
-module _ {S : Type 0} (g : Ghosts S) (old mid : Store S) (list : List ℕ) (i j : IntakeState) (item : Item) (before : Goes g old mid (Keeps list i j)) where
-  pub held_more : (k : IntakeState) → k ≡ record j { held = j.held ++ item ∷ [] } → Goes g old mid (Grows list i k (item ∷ []))
-  held_more k is = goes_as g old mid (Keeps list i j) (Grows list i k (item ∷ []))
+module _ {S : Type 0} (g : Ghosts S) (old mid : Store S) (list : List ℕ) (i j : IntakeState) (item : Item) (before : GoesHeld g old mid (Keeps list i j)) where
+  pub held_more : (k : IntakeState) → k ≡ record j { held = j.held ++ item ∷ [] } → GoesHeld g old mid (Grows list i k (item ∷ []))
+  held_more k is = goes_in_as g (HoldsTables g) old mid (Keeps list i j) (Grows list i k (item ∷ []))
       (λ b c keeps a items w. one_held list a c items j (keeps a items w) k item is) before
 
-  pub not_held : (stop : ImportStop) → stop ≡ record { done = j.done; fault = Mbox NoRoom } → Calls g old mid {A = Unit {0}} halt_reason (Err stop) (λ b c _. Grows list i j (item ∷ []) b c)
+  pub not_held : (stop : ImportStop) → stop ≡ record { done = j.done; fault = Mbox NoRoom } → CallsHeld g old mid {A = Unit {0}} halt_reason (Err stop) (λ b c _. Grows list i j (item ∷ []) b c)
       (Halts list i (item ∷ [])) (Breaks list i (item ∷ []))
-  not_held stop is = subst (λ s. Calls g old mid {A = Unit {0}} halt_reason (Err s) (λ b c _. Grows list i j (item ∷ []) b c) (Halts list i (item ∷ [])) (Breaks list i (item ∷ []))) (sym is)
-      (goes_as g old mid (Keeps list i j) (λ b c. Halts list i (item ∷ []) b c (j.done, no_room))
+  not_held stop is = subst (λ s. CallsHeld g old mid {A = Unit {0}} halt_reason (Err s) (λ b c _. Grows list i j (item ∷ []) b c) (Halts list i (item ∷ [])) (Breaks list i (item ∷ []))) (sym is)
+      (goes_in_as g (HoldsTables g) old mid (Keeps list i j) (λ b c. Halts list i (item ∷ []) b c (j.done, no_room))
       (λ b c keeps a items w. first_longer list items (item ∷ []) j.done a c (first_done list a c items j (keeps a items w))) before)
 
   pub hold_says : (k : IntakeState) (result : Result (Unit {0}) ImportStop) → OnOk result (k ≡ record j { held = j.held ++ item ∷ [] })
       → IfErr result (λ stop. stop ≡ record { done = j.done; fault = Mbox NoRoom })
-      → Calls g old mid halt_reason result (λ b c _. Grows list i k (item ∷ []) b c) (Halts list i (item ∷ [])) (Breaks list i (item ∷ []))
+      → CallsHeld g old mid halt_reason result (λ b c _. Grows list i k (item ∷ []) b c) (Halts list i (item ∷ [])) (Breaks list i (item ∷ []))
   hold_says k (Ok done) ok err = held_more k ok
   hold_says k (Err stop) ok err = not_held stop err
 
-pub keeps_all : {S : Type 0} (g : Ghosts S) (store : Store S) (list : List ℕ) (i : IntakeState) → Goes g store store (Keeps list i i)
-keeps_all g store list i = goes_as g store store (λ a b. b ≡ a) (Keeps list i i) (λ b c same a items w. subst (λ x. IsUnderWay list a x items i) (sym same) w) (stays_there g store)
+pub keeps_all : {S : Type 0} (g : Ghosts S) (store : Store S) (list : List ℕ) (i : IntakeState) → GoesHeld g store store (Keeps list i i)
+keeps_all g store list i = goes_in_as g (HoldsTables g) store store (λ a b. b ≡ a) (Keeps list i i) (λ b c same a items w. subst (λ x. IsUnderWay list a x items i) (sym same) w) (stays_there_in g (HoldsTables g) store)
 
 -- ---- one message after the other
 
 module _ {S : Type 0} (g : Ghosts S) (list : List ℕ) where
-  pub grows_none : (store : Store S) (i : IntakeState) → Goes g store store (Grows list i i [])
-  grows_none store i = goes_as g store store (Keeps list i i) (Grows list i i [])
+  pub grows_none : (store : Store S) (i : IntakeState) → GoesHeld g store store (Grows list i i [])
+  grows_none store i = goes_in_as g (HoldsTables g) store store (Keeps list i i) (Grows list i i [])
       (λ b c keeps a items w. subst (λ is. IsUnderWay list a c is i) (sym (append-nil items)) (keeps a items w)) (keeps_all g store list i)
 
-  module _ (old mid new : Store S) (i j : IntakeState) (more next : List Item) (before : Goes g old mid (Grows list i j more)) where
-    pub grows_more : (k : IntakeState) → Goes g mid new (Grows list j k next) → Goes g old new (Grows list i k (more ++ next))
-    grows_more k then = goes_as g old new (λ a c. (b : Archive) × Grows list i j more a b × Grows list j k next b c) (Grows list i k (more ++ next))
+  module _ (old mid new : Store S) (i j : IntakeState) (more next : List Item) (before : GoesHeld g old mid (Grows list i j more)) where
+    pub grows_more : (k : IntakeState) → GoesHeld g mid new (Grows list j k next) → GoesHeld g old new (Grows list i k (more ++ next))
+    grows_more k then = goes_in_as g (HoldsTables g) old new (λ a c. (b : Archive) × Grows list i j more a b × Grows list j k next b c) (Grows list i k (more ++ next))
         (λ b c h a items w. subst (λ is. IsUnderWay list a c is k) (append_assoc items more next) (h.2 a (items ++ more) (h.1 a items w)))
-        (goes_on g old mid new (Grows list i j more) (Grows list j k next) before then)
+        (goes_on_in g (HoldsTables g) old mid new (Grows list i j more) (Grows list j k next) before then)
 
     pub grows_stopped : (k : IntakeState) (rest all : List Item) (stop : ImportStop) → all ≡ more ++ (next ++ rest)
-        → Calls g mid new {A = Unit {0}} halt_reason (Err stop) (λ b c _. Grows list j k next b c) (Halts list j next) (Breaks list j next)
-        → Calls g old new {A = Unit {0}} halt_reason (Err stop) Nothing (Halts list i all) (Breaks list i all)
+        → CallsHeld g mid new {A = Unit {0}} halt_reason (Err stop) (λ b c _. Grows list j k next b c) (Halts list j next) (Breaks list j next)
+        → CallsHeld g old new {A = Unit {0}} halt_reason (Err stop) Nothing (Halts list i all) (Breaks list i all)
     grows_stopped k rest all stop e call = stopped_after g old mid new {A = Unit {0}} {B = Unit {0}} halt_reason (Grows list i j more) (λ b c _. Grows list j k next b c)
         Nothing (Halts list j next) (Halts list i all) (Breaks list j next) (Breaks list i all)
         (λ b c d why grown halts a items w. subst (λ is. IsHaltedAdd list is a d why.0 why.1) (joined items)
@@ -218,8 +207,8 @@ module _ {S : Type 0} (g : Ghosts S) (list : List ℕ) where
 
 -- those that were held are not added, and so no further message is
 pub held_not_added : {S : Type 0} (g : Ghosts S) (old new : Store S) (list : List ℕ) (i j : IntakeState) (more : List Item) (stop : ImportStop)
-    → Calls g old new {A = Unit {0}} halt_reason (Err stop) (λ b c _. Keeps list i j b c) (HaltsAmid list i) (BreaksAmid list i)
-    → Calls g old new {A = Unit {0}} halt_reason (Err stop) Nothing (Halts list i more) (Breaks list i more)
+    → CallsHeld g old new {A = Unit {0}} halt_reason (Err stop) (λ b c _. Keeps list i j b c) (HaltsAmid list i) (BreaksAmid list i)
+    → CallsHeld g old new {A = Unit {0}} halt_reason (Err stop) Nothing (Halts list i more) (Breaks list i more)
 held_not_added g old new list i j more stop call = stopped_as g old new {A = Unit {0}} {B = Unit {0}} halt_reason (λ b c _. Keeps list i j b c) Nothing
     (HaltsAmid list i) (Halts list i more) (BreaksAmid list i) (Breaks list i more)
     (λ b c why halts a items w. halted_longer list items more a c why.0 why.1 (halts a items w))

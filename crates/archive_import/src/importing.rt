@@ -9,8 +9,9 @@ ghost use Rattle.archive_store.specs.Crashes.{CrashAll};
 ghost use Rattle.archive_store.specs.Held.{held_of};
 ghost use Rattle.archive_store.specs.Refusals.{StopsAmong};
 ghost use Rattle.archive_store.specs.Replies.{done_in, with_fault};
-ghost use Rattle.archive_store.specs.Told.{Calls, EndsBehind};
-ghost use Rattle.archive_desk.specs.Crashes.{CrashesReady, HasAddedAtLeast};
+ghost use Rattle.archive_store.specs.Told.{EndsBehind};
+ghost use Rattle.archive_desk.specs.Crashes.{CrashesHeld, HasAddedAtLeast};
+ghost use Rattle.archive_desk.specs.Holding.{CallsHeld};
 ghost use Rattle.archive_desk.specs.Importing.{IsBrokenAdd};
 ghost use Rattle.archive_import.specs.Streaming.{EndsReading, Imports, halt_reason, HasFailed, FailedBy, IsFresh, IsHalted, IsBroken, IsReadIn, HasReadAtLeast};
 ghost use Rattle.archive_import.specs.Streaming.{IsSettled, ReadsIn, StopsReading, TakesWaiting};
@@ -44,7 +45,7 @@ pub fn import_from<S: Alter, R: Source>(
         × Imports S.Store store.old store.new list.now text ends result }
     ensures crash { (text : List ℕ) (ends : ℕ) → R.told input.new ≡ R.told input.old ++ text
         → R.ends input.new ≡ R.ends input.old + ends
-        → CrashesReady S.Store store.old store.new result
+        → CrashesHeld S.Store store.old store.new result
         (λ a stop b. HasReadAtLeast list.now text ends stop.done a b) }
     ensures failures { (failed : ℕ) × (R.failures input.new ≡ R.failures input.old + failed)
         × HasFailed result failed }
@@ -82,14 +83,14 @@ fn add_settled<S: Alter, R: Source>(
     intake: &mut Intake,
 ) -> Result<(), ImportStop>
     requires { IsFresh cutter.old }
-    ensures adds { Calls S.Store store.old store.new halt_reason result
+    ensures adds { CallsHeld S.Store store.old store.new halt_reason result
         (λ b c _. (a : Archive) → IsUnderWay list.now a b [] intake.old
         → IsUnderWay list.now a c cutter.new.taken intake.new)
         (λ b c why. (a : Archive) → IsUnderWay list.now a b [] intake.old
         → IsHalted list.now cutter.new.stream 0 a c why.0 why.1)
         (λ b c stop. (a : Archive) → IsUnderWay list.now a b [] intake.old
         → IsBroken list.now cutter.new.stream 0 a c stop.done stop.fault) }
-    ensures crash { CrashesReady S.Store store.old store.new result
+    ensures crash { CrashesHeld S.Store store.old store.new result
         (λ b stop c. (a : Archive) → IsUnderWay list.now a b [] intake.old
         → HasReadAtLeast list.now cutter.new.stream 0 stop.done a c) }
     ensures read { ReadsIn (R.told input.old) (R.told input.new) (R.ends input.old)
@@ -130,14 +131,14 @@ fn stop_unread<S: Alter>(
 ) -> Result<(), ImportStop>
     ensures stopped { OnOk result ⊥ }
     ensures kind { IfErr result (λ stop. FailedBy stop.fault 1) }
-    ensures adds { Calls S.Store store.old store.new halt_reason result
+    ensures adds { CallsHeld S.Store store.old store.new halt_reason result
         (λ b c _. (a : Archive) (items : List Message) → IsUnderWay list.now a b items intake.old
         → ⊥)
         (λ b c why. (a : Archive) (items : List Message) → IsUnderWay list.now a b items intake.old
         → IsUnread list.now items a c why.0 why.1)
         (λ b c stop. (a : Archive) (items : List Message) → IsUnderWay list.now a b items intake.old
         → IsBrokenAdd list.now items a c stop.done stop.fault) }
-    ensures crash { CrashesReady S.Store store.old store.new result
+    ensures crash { CrashesHeld S.Store store.old store.new result
         (λ b stop c. (a : Archive) (items : List Message) → IsUnderWay list.now a b items intake.old
         → HasAddedAtLeast list.now items stop.done a c) }
     ensures ends { EndsReading S.Store store.old store.new result
@@ -158,14 +159,14 @@ fn add_last<S: Alter>(
     intake: &mut Intake,
 ) -> Result<(), ImportStop>
     requires { IsSettled cutter.old }
-    ensures adds { Calls S.Store store.old store.new halt_reason result
+    ensures adds { CallsHeld S.Store store.old store.new halt_reason result
         (λ b c _. (a : Archive) → IsUnderWay list.now a b cutter.old.taken intake.old
         → IsReadIn list.now cutter.old.stream 1 a c intake.new.report)
         (λ b c why. (a : Archive) → IsUnderWay list.now a b cutter.old.taken intake.old
         → IsHalted list.now cutter.old.stream 1 a c why.0 why.1)
         (λ b c stop. (a : Archive) → IsUnderWay list.now a b cutter.old.taken intake.old
         → IsBroken list.now cutter.old.stream 1 a c stop.done stop.fault) }
-    ensures crash { CrashesReady S.Store store.old store.new result
+    ensures crash { CrashesHeld S.Store store.old store.new result
         (λ b stop c. (a : Archive) → IsUnderWay list.now a b cutter.old.taken intake.old
         → HasReadAtLeast list.now cutter.old.stream 1 stop.done a c) }
     ensures kind { IfErr result (λ stop. FailedBy stop.fault 0) }
@@ -191,14 +192,14 @@ fn add_waiting<S: Alter>(
     intake: &mut Intake,
 ) -> Result<(), ImportStop>
     requires { IsCutter cutter.old }
-    ensures adds { Calls S.Store store.old store.new halt_reason result
+    ensures adds { CallsHeld S.Store store.old store.new halt_reason result
         (λ b c _. (a : Archive) (items : List Message) → IsUnderWay list.now a b items intake.old
         → IsUnderWay list.now a c (items ++ cutter.old.waiting) intake.new)
         (λ b c why. (a : Archive) (items : List Message) → IsUnderWay list.now a b items intake.old
         → IsHaltedAdd list.now (items ++ cutter.old.waiting) a c why.0 why.1)
         (λ b c stop. (a : Archive) (items : List Message) → IsUnderWay list.now a b items intake.old
         → IsBrokenAdd list.now (items ++ cutter.old.waiting) a c stop.done stop.fault) }
-    ensures crash { CrashesReady S.Store store.old store.new result
+    ensures crash { CrashesHeld S.Store store.old store.new result
         (λ b stop c. (a : Archive) (items : List Message) → IsUnderWay list.now a b items intake.old
         → HasAddedAtLeast list.now (items ++ cutter.old.waiting) stop.done a c) }
     ensures takes { TakesWaiting cutter.old cutter.new result }
@@ -222,14 +223,14 @@ fn hold_one<S: Alter>(
     item: OwnedItem,
     intake: &mut Intake,
 ) -> Result<(), ImportStop>
-    ensures adds { Calls S.Store store.old store.new halt_reason result
+    ensures adds { CallsHeld S.Store store.old store.new halt_reason result
         (λ b c _. (a : Archive) (items : List Message) → IsUnderWay list.now a b items intake.old
         → IsUnderWay list.now a c (items ++ item ∷ []) intake.new)
         (λ b c why. (a : Archive) (items : List Message) → IsUnderWay list.now a b items intake.old
         → IsHaltedAdd list.now (items ++ item ∷ []) a c why.0 why.1)
         (λ b c stop. (a : Archive) (items : List Message) → IsUnderWay list.now a b items intake.old
         → IsBrokenAdd list.now (items ++ item ∷ []) a c stop.done stop.fault) }
-    ensures crash { CrashesReady S.Store store.old store.new result
+    ensures crash { CrashesHeld S.Store store.old store.new result
         (λ b stop c. (a : Archive) (items : List Message) → IsUnderWay list.now a b items intake.old
         → HasAddedAtLeast list.now (items ++ item ∷ []) stop.done a c) }
     ensures kind { IfErr result (λ stop. FailedBy stop.fault 0) }
@@ -252,14 +253,14 @@ fn add_held<S: Alter>(
     list: &str,
     intake: &mut Intake,
 ) -> Result<(), ImportStop>
-    ensures adds { Calls S.Store store.old store.new halt_reason result
+    ensures adds { CallsHeld S.Store store.old store.new halt_reason result
         (λ b c _. (a : Archive) (items : List Message) → IsUnderWay list.now a b items intake.old
         → IsUnderWay list.now a c items intake.new)
         (λ b c why. (a : Archive) (items : List Message) → IsUnderWay list.now a b items intake.old
         → IsHaltedAdd list.now items a c why.0 why.1)
         (λ b c stop. (a : Archive) (items : List Message) → IsUnderWay list.now a b items intake.old
         → IsBrokenAdd list.now items a c stop.done stop.fault) }
-    ensures crash { CrashesReady S.Store store.old store.new result
+    ensures crash { CrashesHeld S.Store store.old store.new result
         (λ b stop c. (a : Archive) (items : List Message) → IsUnderWay list.now a b items intake.old
         → HasAddedAtLeast list.now items stop.done a c) }
     ensures kind { IfErr result (λ stop. IsOfStore stop.fault) }

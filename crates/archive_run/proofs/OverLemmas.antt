@@ -1,6 +1,9 @@
 -- From an order that was carried out to what becomes of the archive that its database holds.
 use Rattle.std.proofs.Common.{◌≡◌, ◌++◌, inl, inr, Some, Ok}
-use Rattle.archive_store.proofs.Joins.{sound_too}
+use Rattle.archive_machine.specs.Runs.{taken}
+use Rattle.archive_store.proofs.Joins.{ready_with, sound_too}
+use Rattle.archive_store.proofs.RightLemmas.{taken_right}
+use Rattle.archive_store.specs.Told.{archive_in}
 use Rattle.archive_store.specs.Checking.{Checks, IsFoundWhole}
 use Rattle.archive_desk.specs.Exporting.{exported}
 use Rattle.archive_desk.specs.Importing.{IsImported}
@@ -42,8 +45,10 @@ module _ {Y S F D C P T R O E I L K A B M : Type 0} (dev : Devices S F I D C P L
         (λ o c it. (
           it.becomes.2.0,
           λ returned ready.
-              let there = it.becomes.2.1 returned ready in (
-                there.0,
+              let there = it.becomes.2.1 returned ready.held in
+              let a = archive_in dev.pages o in
+              let items = there.1.1.items in (
+                ready_with dev.pages c (taken a order.list items).archive there.0 there.1.1.added.archive_is (taken_right a order.list items ready.filed_right),
                 record {
                   before = it.before;
                   after = it.after;

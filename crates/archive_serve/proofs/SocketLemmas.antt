@@ -27,7 +27,7 @@ module _ {S : Type 0} (g : Ghosts S) (If : Type 0) (archive : Archive) (rules : 
 
     written_down : between.listener.exchanges ≡ before.listener.exchanges ++ over ∷ []
     written_down =
-        ap (λ (l : LoopbackState). l.exchanges) takes.closed ∙ ap (λ (l : LoopbackState). l.exchanges ++ over ∷ []) takes.accepted
+        ap (λ (l : LoopbackState). l.exchanges) takes.closed.noted ∙ ap (λ (l : LoopbackState). l.exchanges ++ over ∷ []) takes.accepted
 
     replied : If → IsReplied archive rules day outcome over
     replied i =

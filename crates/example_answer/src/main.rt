@@ -21,6 +21,7 @@ fn main(rt: HostRuntime) -> anyhow::Result<()> {
     let commands = [
         Command::ListAdd { name: "soc" },
         Command::Add {
+            alloc: rt.alloc(),
             list: "soc",
             item: &item,
         },

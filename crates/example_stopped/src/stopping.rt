@@ -1,6 +1,7 @@
 //! A machine that stops, and files that are opened again behind it.
 ghost use Rattle.std.specs.Prelude.{◌≡◌, None, IfOk, IfErr, IsTrue};
-ghost use Rattle.archive_machine.specs.Machine.{withdrawal};
+ghost use Rattle.archive_machine.specs.Commands.{withdraw};
+ghost use Rattle.archive_machine.specs.Machine.{step};
 ghost use Rattle.archive_store.specs.Replies.{refusal, says_done};
 ghost use Rattle.policy_core.specs.Numbers.{party_number};
 ghost use Rattle.example_stopped.specs.Stopping.{IsFoundBehind, IsLeftOf, IsOpenedFrom, IsStoppedIn};
@@ -77,7 +78,7 @@ pub fn withdraw_stop_and_reopen<D: Crash + Drop>(
     requires log { IsTrue (D.Disk.is_usable files.log) }
     requires db { IsTrue (D.Disk.is_usable files.db) }
     ensures stopped { IfOk result (λ told. IsStoppedIn files told.0
-        (λ a. withdrawal a list.now key.now (party_number by)) (says_done told.1)) }
+        (λ a. step a (withdraw list.now key.now (party_number by))) (says_done told.1)) }
     ensures fault { IfErr result (λ fault. refusal fault ≡ None) }
 {
     let mut store = match open(alloc, files, options) {

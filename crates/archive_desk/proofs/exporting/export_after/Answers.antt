@@ -1,11 +1,10 @@
-use Rattle.std.proofs.Common.{◌≡◌, ◌++◌, ℕ, Some, Err, rules, sym, subst, List, inr}
+use Rattle.std.proofs.Common.{◌≡◌, ◌++◌, ℕ, Some, Err, rules, sym, subst, inr, refl}
 use Rattle.std.specs.Prelude.{MatchOption}
-use Rattle.archive_machine.specs.Records.{Archive, Message as Remembered}
 use Rattle.archive_machine.specs.Questions.{list_refusal, messages_in}
 use Rattle.archive_results.specs.Access.{ReaderMarks}
 use Rattle.archive_store.specs.Replies.{refusal}
 use Rattle.archive_store.specs.Told.{HoldsTables, GoesIn, GoesInIfOpen}
-use Rattle.archive_store.specs.Walking.{Begins}
+use Rattle.archive_store.specs.Walking.{Begins, over}
 use Rattle.archive_desk.specs.Asking.{IsEnough}
 use Rattle.archive_desk.specs.Causes.{IsReaderUnreadable, IsUnreadable}
 use Rattle.archive_desk.specs.Ending.{EndsExport, TellsWriter}
@@ -41,21 +40,21 @@ returns-clause-exported g c =
     let ask = c.args.ask.now in
     let old = c.args.store.now in
     let mid = c.find_reader.new.store in
-    let last = c.each_row.follows.lender-at-none in
+    let last = c.each_row.new.self in
     let fault = c.in-Err-each_row.fault in
     let told = g.W.Sink.told c.args.out.now in
     let is : c.ask.inside.list.now ≡ ask.list = search rules in
     let refused =
     subst (λ l. MatchOption (refusal fault) (GoesInIfOpen g.S.Store (HoldsTables g.S.Store) mid last (λ a b. b ≡ a))
     (λ why. GoesIn g.S.Store (HoldsTables g.S.Store) mid last (λ a b. (b ≡ a) × (list_refusal a l ≡ Some why)))) is
-    (rw c.in-Err-each_row.is at c.each_row.follows.holds-at-none).0 in
+    c.in-Err-each_row.ensures.refused.0 in
     subst (λ f. Exports g.S.Store old last (Err (record { written = 0; fault = f })) ask told told (λ a. c.args.head.now ++ exported a ask)) (sym c.from.ensures)
     (not_begun g.S.Store old mid ask (λ a. IsEnough a ask c.in-Ok.reader) c.in-Ok.ensures.found last told told (λ a. c.args.head.now ++ exported a ask) fault refused)
 
 pub returns-clause-stopped : goal.returns-clause-stopped
 returns-clause-stopped g c =
     let ask = c.args.ask.now in
-    leaves_none g.S.Store c.args.store.now c.each_row.follows.lender-at-none ask (g.W.Sink.told c.args.out.now) (λ a. c.args.head.now ++ exported a ask) c.from.result
+    leaves_none g.S.Store c.args.store.now c.each_row.new.self ask (g.W.Sink.told c.args.out.now) (λ a. c.args.head.now ++ exported a ask) c.from.result
 
 pub returns-clause-writer : goal.returns-clause-writer
 returns-clause-writer g c =
@@ -70,27 +69,26 @@ returns-clause-ends g c =
     let ask = c.args.ask.now in
     let old = c.args.store.now in
     let mid = c.find_reader.new.store in
-    let last = c.each_row.follows.lender-at-none in
+    let last = c.each_row.new.self in
     let fault = c.in-Err-each_row.fault in
     let found = c.in-Ok.ensures.found in
     let Unread : _ = λ a. IsUnreadable a ask (messages_in a ask.list) in
     subst (λ f. EndsExport g.S.Store old last ask (Err (record { written = 0; fault = f }))) (sym c.from.ensures)
     (export_stops g.S.Store ask old mid last ReaderMarks _ Unread (λ a bad. bad)
     (unbegun_ends g.S.Store old mid last (found.0, λ returned held. let there = found.1 returned held in (there.0, there.1.0)) c.in-Ok.ensures.ends.counted.0
-    c.in-Ok.ensures.ends.was_open ReaderMarks c.ask.inside.list.now fault Unread (rw c.in-Err-each_row.is at c.each_row.follows.holds-at-none) c.in-Err-each_row.ensures.kind))
+    c.in-Ok.ensures.ends.was_open ReaderMarks c.ask.inside.list.now fault Unread c.in-Err-each_row.ensures.refused c.in-Err-each_row.ensures.kind))
 
 pub returns-in-Ok-each_row-clause-exported : goal.returns-in-Ok-each_row-clause-exported
 returns-in-Ok-each_row-clause-exported g c =
     let ask = c.args.ask.now in
     let old = c.args.store.now in
     let mid = c.find_reader.new.store in
-    let last = c.store-1.given.0 in
-    let walk = c.in-Ok-each_row.walk in
-    let new = c.write_walk.new.walk in
+    let last = c.write_walk.new.store in
+    let walk = over c.each_row.new.self c.in-Ok-each_row.walk in
+    let new = over c.write_walk.new.store c.write_walk.new.walk in
     let list : c.ask.inside.list.now ≡ ask.list = search rules in
-    let is : last ≡ new.store.now = search rules in
     let begun = subst (λ l. Begins g.S.Store mid l walk) list c.in-Ok-each_row.ensures.begun in
-    walk_ended g.S.Store old mid last walk new ask c.in-Ok.reader c.args.head.now (g.W.Sink.told c.args.out.now) (g.W.Sink.told c.write_walk.new.out) is
+    walk_ended g.S.Store old mid last walk new ask c.in-Ok.reader c.args.head.now (g.W.Sink.told c.args.out.now) (g.W.Sink.told c.write_walk.new.out) refl
     c.in-Ok.ensures.found begun c.write_walk.ensures.ends.lasts (g.W.Sink.failures c.args.out.now) (g.W.Sink.failures c.write_walk.new.out) c.write_walk.result
     c.write_walk.ensures.writer.cause c.write_walk.ensures.written
 
@@ -99,13 +97,12 @@ returns-in-Ok-each_row-clause-stopped g c =
     let ask = c.args.ask.now in
     let old = c.args.store.now in
     let mid = c.find_reader.new.store in
-    let last = c.store-1.given.0 in
-    let walk = c.in-Ok-each_row.walk in
-    let new = c.write_walk.new.walk in
+    let last = c.write_walk.new.store in
+    let walk = over c.each_row.new.self c.in-Ok-each_row.walk in
+    let new = over c.write_walk.new.store c.write_walk.new.walk in
     let list : c.ask.inside.list.now ≡ ask.list = search rules in
-    let is : last ≡ new.store.now = search rules in
     let begun = subst (λ l. Begins g.S.Store mid l walk) list c.in-Ok-each_row.ensures.begun in
-    walk_leaves g.S.Store old mid last walk new ask c.in-Ok.reader c.args.head.now (g.W.Sink.told c.args.out.now) (g.W.Sink.told c.write_walk.new.out) is
+    walk_leaves g.S.Store old mid last walk new ask c.in-Ok.reader c.args.head.now (g.W.Sink.told c.args.out.now) (g.W.Sink.told c.write_walk.new.out) refl
     c.in-Ok.ensures.found begun c.write_walk.ensures.ends.lasts (g.W.Sink.failures c.args.out.now) (g.W.Sink.failures c.write_walk.new.out) c.write_walk.result
     c.in-Ok.ensures.ends.was_open c.write_walk.ensures.written
 
@@ -114,13 +111,12 @@ returns-in-Ok-each_row-clause-writer g c =
     let ask = c.args.ask.now in
     let old = c.args.store.now in
     let mid = c.find_reader.new.store in
-    let last = c.store-1.given.0 in
-    let walk = c.in-Ok-each_row.walk in
-    let new = c.write_walk.new.walk in
+    let last = c.write_walk.new.store in
+    let walk = over c.each_row.new.self c.in-Ok-each_row.walk in
+    let new = over c.write_walk.new.store c.write_walk.new.walk in
     let list : c.ask.inside.list.now ≡ ask.list = search rules in
-    let is : last ≡ new.store.now = search rules in
     let begun = subst (λ l. Begins g.S.Store mid l walk) list c.in-Ok-each_row.ensures.begun in
-    walk_tells g.S.Store old mid last walk new ask c.in-Ok.reader c.args.head.now (g.W.Sink.told c.args.out.now) (g.W.Sink.told c.write_walk.new.out) is
+    walk_tells g.S.Store old mid last walk new ask c.in-Ok.reader c.args.head.now (g.W.Sink.told c.args.out.now) (g.W.Sink.told c.write_walk.new.out) refl
     c.in-Ok.ensures.found begun c.write_walk.ensures.ends.lasts (g.W.Sink.failures c.args.out.now) (g.W.Sink.failures c.write_walk.new.out) c.write_walk.result
     c.write_walk.ensures.writer
 
@@ -129,12 +125,11 @@ returns-in-Ok-each_row-clause-ends g c =
     let ask = c.args.ask.now in
     let old = c.args.store.now in
     let mid = c.find_reader.new.store in
-    let last = c.store-1.given.0 in
-    let walk = c.in-Ok-each_row.walk in
-    let new = c.write_walk.new.walk in
+    let last = c.write_walk.new.store in
+    let walk = over c.each_row.new.self c.in-Ok-each_row.walk in
+    let new = over c.write_walk.new.store c.write_walk.new.walk in
     let list : c.ask.inside.list.now ≡ ask.list = search rules in
-    let is : last ≡ new.store.now = search rules in
     let begun = subst (λ l. Begins g.S.Store mid l walk) list c.in-Ok-each_row.ensures.begun in
     let found = c.in-Ok.ensures.found in
-    export_ends g.S.Store ask old mid last walk new is (found.0, λ returned held. let there = found.1 returned held in (there.0, there.1.0)) begun
+    export_ends g.S.Store ask old mid last walk new refl (found.0, λ returned held. let there = found.1 returned held in (there.0, there.1.0)) begun
     c.in-Ok.ensures.ends.counted.0 c.in-Ok.ensures.ends.was_open c.write_walk.result c.write_walk.ensures.ends

@@ -1,4 +1,4 @@
-use Rattle.std.proofs.Common.{◌≡◌, List, filter, map, Some, Err, rules, sym, subst, inr}
+use Rattle.std.proofs.Common.{◌≡◌, List, filter, map, Some, Err, rules, sym, subst, inr, refl}
 use Rattle.std.specs.Prelude.{MatchOption, Vec}
 use Rattle.std.specs.declared.alloc.Global.{Global}
 use Rattle.archive_machine.specs.Records.{Archive, Message as Remembered}
@@ -7,7 +7,7 @@ use Rattle.archive_results.specs.Access.{ReaderMarks, is_shown, reader_marks}
 use Rattle.archive_results.specs.Index.{Header, IsIndexOf, header_of}
 use Rattle.archive_store.specs.Replies.{refusal}
 use Rattle.archive_store.specs.Told.{HoldsTables, GoesIn, GoesInIfOpen, AsksIn}
-use Rattle.archive_store.specs.Walking.{BeginsOver}
+use Rattle.archive_store.specs.Walking.{BeginsOver, over}
 use Rattle.archive_desk.specs.Asking.{IsEnough}
 use Rattle.archive_desk.specs.Causes.{IsReaderUnreadable, IsUnreadable}
 use Rattle.archive_desk.specs.Ending.{EndsAsk}
@@ -21,14 +21,14 @@ returns-clause-held g c =
     let ask = c.args.ask.now in
     let old = c.args.store.now in
     let mid = c.find_reader.new.store in
-    let last = c.each_row.follows.lender-at-none in
+    let last = c.each_row.new.self in
     let fault = c.in-Err-each_row.fault in
     let which : Archive → List Remembered = λ a. messages_in a ask.list in
     let is : c.ask.inside.list.now ≡ ask.list = search rules in
     let refused =
     subst (λ l. MatchOption (refusal fault) (GoesInIfOpen g.S.Store (HoldsTables g.S.Store) mid last (λ a b. b ≡ a))
     (λ why. GoesIn g.S.Store (HoldsTables g.S.Store) mid last (λ a b. (b ≡ a) × (list_refusal a l ≡ Some why)))) is
-    (rw c.in-Err-each_row.is at c.each_row.follows.holds-at-none).0 in
+    c.in-Err-each_row.ensures.refused.0 in
     subst (λ f. AsksIn g.S.Store (HoldsTables g.S.Store) old last reason (Err f) (λ a. ask_reason a ask) (λ a (headers : Vec Header Global). IsIndexOf (filter (is_shown ask (reader_marks a ask)) (which a)) headers.items)) (sym c.from.ensures)
     (not_listed (map header_of) g.S.Store old mid ask which (λ a. IsEnough a ask c.in-Ok.reader) c.in-Ok.ensures.found last fault refused)
 
@@ -37,14 +37,13 @@ returns-in-Ok-each_row-clause-held g c =
     let ask = c.args.ask.now in
     let old = c.args.store.now in
     let mid = c.find_reader.new.store in
-    let last = c.store-1.given.0 in
-    let walk = c.in-Ok-each_row.walk in
-    let new = c.walk_headers.new.walk in
+    let last = c.walk_headers.new.store in
+    let walk = over c.each_row.new.self c.in-Ok-each_row.walk in
+    let new = over c.walk_headers.new.store c.walk_headers.new.walk in
     let which : Archive → List Remembered = λ a. messages_in a ask.list in
     let list : c.ask.inside.list.now ≡ ask.list = search rules in
-    let is : last ≡ new.store.now = search rules in
     let begun = subst (λ l. BeginsOver g.S.Store mid l (λ a. messages_in a l) walk) list c.in-Ok-each_row.ensures.begun in
-    walk_ended (map header_of) g.S.Store old mid ask which last walk new c.in-Ok.reader is c.in-Ok.ensures.found begun c.walk_headers.ensures.ends.lasts
+    walk_ended (map header_of) g.S.Store old mid ask which last walk new c.in-Ok.reader refl c.in-Ok.ensures.found begun c.walk_headers.ensures.ends.lasts
     c.walk_headers.result c.walk_headers.ensures.fault c.walk_headers.ensures.listed
 
 pub returns-in-Err-clause-ends : goal.returns-in-Err-clause-ends
@@ -58,26 +57,25 @@ returns-clause-ends g c =
     let ask = c.args.ask.now in
     let old = c.args.store.now in
     let mid = c.find_reader.new.store in
-    let last = c.each_row.follows.lender-at-none in
+    let last = c.each_row.new.self in
     let fault = c.in-Err-each_row.fault in
     let found = c.in-Ok.ensures.found in
     let Unread : _ = λ a. IsUnreadable a ask (messages_in a ask.list) in
     subst (λ f. EndsAsk g.S.Store old last IsAskFault {A = Vec Header Global} (Err f) Unread) (sym c.from.ensures)
     (unbegun_ends g.S.Store old mid last (found.0, λ returned held. let there = found.1 returned held in (there.0, there.1.0)) c.in-Ok.ensures.ends.counted.0
-    c.in-Ok.ensures.ends.was_open (Vec Header Global) c.ask.inside.list.now fault Unread (rw c.in-Err-each_row.is at c.each_row.follows.holds-at-none) c.in-Err-each_row.ensures.kind)
+    c.in-Ok.ensures.ends.was_open (Vec Header Global) c.ask.inside.list.now fault Unread c.in-Err-each_row.ensures.refused c.in-Err-each_row.ensures.kind)
 
 pub returns-in-Ok-each_row-clause-ends : goal.returns-in-Ok-each_row-clause-ends
 returns-in-Ok-each_row-clause-ends g c =
     let ask = c.args.ask.now in
     let old = c.args.store.now in
     let mid = c.find_reader.new.store in
-    let last = c.store-1.given.0 in
-    let walk = c.in-Ok-each_row.walk in
-    let new = c.walk_headers.new.walk in
+    let last = c.walk_headers.new.store in
+    let walk = over c.each_row.new.self c.in-Ok-each_row.walk in
+    let new = over c.walk_headers.new.store c.walk_headers.new.walk in
     let which : Archive → List Remembered = λ a. messages_in a ask.list in
     let list : c.ask.inside.list.now ≡ ask.list = search rules in
-    let is : last ≡ new.store.now = search rules in
     let begun = subst (λ l. BeginsOver g.S.Store mid l (λ a. messages_in a l) walk) list c.in-Ok-each_row.ensures.begun in
     let found = c.in-Ok.ensures.found in
-    walk_ends g.S.Store ask which old mid last walk new is (found.0, λ returned held. let there = found.1 returned held in (there.0, there.1.0)) begun
+    walk_ends g.S.Store ask which old mid last walk new refl (found.0, λ returned held. let there = found.1 returned held in (there.0, there.1.0)) begun
     c.in-Ok.ensures.ends.counted.0 c.in-Ok.ensures.ends.was_open c.walk_headers.result c.walk_headers.ensures.fault c.walk_headers.ensures.ends

@@ -1,4 +1,4 @@
-use Rattle.std.proofs.Common.{◌≡◌, ◌∙◌, pos, List, map, Some, Err, rules, sym, subst, inr}
+use Rattle.std.proofs.Common.{◌≡◌, ◌∙◌, pos, List, map, Some, Err, rules, sym, subst, inr, refl}
 use Rattle.std.specs.Prelude.{MatchOption, Vec}
 use Rattle.std.specs.declared.alloc.Global.{Global}
 use Rattle.archive_machine.specs.Records.{Archive, Message as Remembered}
@@ -11,7 +11,7 @@ use Rattle.archive_results.specs.Shown.{Line, shown_of}
 use Rattle.archive_results.proofs.FiledLemmas.{month_is_filed}
 use Rattle.archive_store.specs.Replies.{refusal}
 use Rattle.archive_store.specs.Told.{HoldsTables, GoesIn, GoesInIfOpen, AsksIn}
-use Rattle.archive_store.specs.Walking.{BeginsOver}
+use Rattle.archive_store.specs.Walking.{BeginsOver, over}
 use Rattle.archive_desk.specs.Asking.{IsEnough}
 use Rattle.archive_desk.specs.Causes.{IsReaderUnreadable, IsUnreadable}
 use Rattle.archive_desk.specs.Ending.{EndsAsk}
@@ -27,14 +27,14 @@ returns-clause-filed g c =
     let ask = c.args.ask.now in
     let old = c.args.store.now in
     let mid = c.find_reader.new.store in
-    let last = c.each_in_month.follows.lender-at-none in
+    let last = c.each_in_month.new.self in
     let fault = c.in-Err-each_in_month.fault in
     let which : Archive → List Remembered = λ a. in_month a ask.list (pos c.args.month) in
     let is : c.ask.inside.list.now ≡ ask.list = search rules in
     let refused =
     subst (λ l. MatchOption (refusal fault) (GoesInIfOpen g.S.Store (HoldsTables g.S.Store) mid last (λ a b. b ≡ a))
     (λ why. GoesIn g.S.Store (HoldsTables g.S.Store) mid last (λ a b. (b ≡ a) × (list_refusal a l ≡ Some why)))) is
-    (rw c.in-Err-each_in_month.is at c.each_in_month.follows.holds-at-none).0 in
+    c.in-Err-each_in_month.ensures.refused.0 in
     subst (λ f. AsksIn g.S.Store (HoldsTables g.S.Store) old last reason (Err f) (λ a. ask_reason a ask) (λ a (lines : Vec Line Global). lines.items ≡ filed_month_lines a ask (pos c.args.month))) (sym c.from.ensures)
     (not_listed lines_shown g.S.Store old mid ask which (λ a. IsEnough a ask c.in-Ok.reader) c.in-Ok.ensures.found last fault refused)
 
@@ -43,14 +43,13 @@ returns-in-Ok-each_in_month-clause-filed g c =
     let ask = c.args.ask.now in
     let old = c.args.store.now in
     let mid = c.find_reader.new.store in
-    let last = c.store-1.given.0 in
-    let walk = c.in-Ok-each_in_month.walk in
-    let new = c.walk_lines.new.walk in
+    let last = c.walk_lines.new.store in
+    let walk = over c.each_in_month.new.self c.in-Ok-each_in_month.walk in
+    let new = over c.walk_lines.new.store c.walk_lines.new.walk in
     let which : Archive → List Remembered = λ a. in_month a ask.list (pos c.args.month) in
     let list : c.ask.inside.list.now ≡ ask.list = search rules in
-    let is : last ≡ new.store.now = search rules in
     let begun = subst (λ l. BeginsOver g.S.Store mid l (λ a. in_month a l (pos c.args.month)) walk) list c.in-Ok-each_in_month.ensures.begun in
-    walk_ended lines_shown g.S.Store old mid ask which last walk new c.in-Ok.reader is c.in-Ok.ensures.found begun c.walk_lines.ensures.ends.lasts
+    walk_ended lines_shown g.S.Store old mid ask which last walk new c.in-Ok.reader refl c.in-Ok.ensures.found begun c.walk_lines.ensures.ends.lasts
     c.walk_lines.result c.walk_lines.ensures.fault c.walk_lines.ensures.listed
 
 pub returns-in-Err-clause-listed : goal.returns-in-Err-clause-listed
@@ -60,14 +59,14 @@ returns-in-Err-clause-listed g c =
 pub returns-clause-listed : goal.returns-clause-listed
 returns-clause-listed g c =
     let ask = c.args.ask.now in
-    asks_right g.S.Store c.args.store.now c.each_in_month.follows.lender-at-none reason (λ a. ask_reason a ask) (λ a (lines : Vec Line Global). lines.items ≡ filed_month_lines a ask (pos c.args.month))
+    asks_right g.S.Store c.args.store.now c.each_in_month.new.self reason (λ a. ask_reason a ask) (λ a (lines : Vec Line Global). lines.items ≡ filed_month_lines a ask (pos c.args.month))
     (λ a (lines : Vec Line Global). lines.items ≡ month_lines c.args.month (map shown_of (view_of a ask))) (λ a (lines : Vec Line Global) right is. is ∙ month_is_filed a ask c.args.month right) (Err c.from.result)
     (returns-clause-filed g c)
 
 pub returns-in-Ok-each_in_month-clause-listed : goal.returns-in-Ok-each_in_month-clause-listed
 returns-in-Ok-each_in_month-clause-listed g c =
     let ask = c.args.ask.now in
-    asks_right g.S.Store c.args.store.now c.store-1.given.0 reason (λ a. ask_reason a ask) (λ a (lines : Vec Line Global). lines.items ≡ filed_month_lines a ask (pos c.args.month))
+    asks_right g.S.Store c.args.store.now c.walk_lines.new.store reason (λ a. ask_reason a ask) (λ a (lines : Vec Line Global). lines.items ≡ filed_month_lines a ask (pos c.args.month))
     (λ a (lines : Vec Line Global). lines.items ≡ month_lines c.args.month (map shown_of (view_of a ask))) (λ a (lines : Vec Line Global) right is. is ∙ month_is_filed a ask c.args.month right) c.walk_lines.result
     (returns-in-Ok-each_in_month-clause-filed g c)
 
@@ -82,26 +81,25 @@ returns-clause-ends g c =
     let ask = c.args.ask.now in
     let old = c.args.store.now in
     let mid = c.find_reader.new.store in
-    let last = c.each_in_month.follows.lender-at-none in
+    let last = c.each_in_month.new.self in
     let fault = c.in-Err-each_in_month.fault in
     let found = c.in-Ok.ensures.found in
     let Unread : _ = λ a. IsUnreadable a ask (in_month a ask.list (pos c.args.month)) in
     subst (λ f. EndsAsk g.S.Store old last IsAskFault {A = Vec Line Global} (Err f) Unread) (sym c.from.ensures)
     (unbegun_ends g.S.Store old mid last (found.0, λ returned held. let there = found.1 returned held in (there.0, there.1.0)) c.in-Ok.ensures.ends.counted.0
-    c.in-Ok.ensures.ends.was_open (Vec Line Global) c.ask.inside.list.now fault Unread (rw c.in-Err-each_in_month.is at c.each_in_month.follows.holds-at-none) c.in-Err-each_in_month.ensures.kind)
+    c.in-Ok.ensures.ends.was_open (Vec Line Global) c.ask.inside.list.now fault Unread c.in-Err-each_in_month.ensures.refused c.in-Err-each_in_month.ensures.kind)
 
 pub returns-in-Ok-each_in_month-clause-ends : goal.returns-in-Ok-each_in_month-clause-ends
 returns-in-Ok-each_in_month-clause-ends g c =
     let ask = c.args.ask.now in
     let old = c.args.store.now in
     let mid = c.find_reader.new.store in
-    let last = c.store-1.given.0 in
-    let walk = c.in-Ok-each_in_month.walk in
-    let new = c.walk_lines.new.walk in
+    let last = c.walk_lines.new.store in
+    let walk = over c.each_in_month.new.self c.in-Ok-each_in_month.walk in
+    let new = over c.walk_lines.new.store c.walk_lines.new.walk in
     let which : Archive → List Remembered = λ a. in_month a ask.list (pos c.args.month) in
     let list : c.ask.inside.list.now ≡ ask.list = search rules in
-    let is : last ≡ new.store.now = search rules in
     let begun = subst (λ l. BeginsOver g.S.Store mid l (λ a. in_month a l (pos c.args.month)) walk) list c.in-Ok-each_in_month.ensures.begun in
     let found = c.in-Ok.ensures.found in
-    walk_ends g.S.Store ask which old mid last walk new is (found.0, λ returned held. let there = found.1 returned held in (there.0, there.1.0)) begun
+    walk_ends g.S.Store ask which old mid last walk new refl (found.0, λ returned held. let there = found.1 returned held in (there.0, there.1.0)) begun
     c.in-Ok.ensures.ends.counted.0 c.in-Ok.ensures.ends.was_open c.walk_lines.result c.walk_lines.ensures.fault c.walk_lines.ensures.ends

@@ -1,4 +1,4 @@
-use Rattle.std.proofs.Common.{◌≡◌, None, Ok, Err, map, inl, inr}
+use Rattle.std.proofs.Common.{◌≡◌, Ok, Err, map, inl, inr}
 use Rattle.std.specs.Prelude.{Vec}
 use Rattle.std.specs.declared.alloc.Global.{Global}
 use Rattle.archive_machine.specs.Messages.{remembered}

@@ -4,7 +4,7 @@ use Rattle.archive_store.specs.Batches.{AddsAll}
 use Rattle.archive_store.specs.Crashes.{CrashAll}
 use Rattle.archive_store.specs.Held.{held_of}
 use Rattle.archive_store.specs.Refusals.{StopsAmong}
-use Rattle.archive_store.specs.Told.{EndsBehind, IsReady}
+use Rattle.archive_store.specs.Told.{EndsBehind, HoldsTables}
 use Rattle.archive_store.specs.declared.batches.AddReport.{AddReport}
 use Rattle.archive_store.specs.declared.faults.StoreFault.TheVariants.{Memory}
 use Rattle.archive_desk.specs.declared.importing.ImportStop.{ImportStop}
@@ -33,7 +33,7 @@ returns-in-Err-add_owned-clause-adds g c =
 
 pub returns-in-Err-clause-ends : goal.returns-in-Err-clause-ends
 returns-in-Err-clause-ends g c =
-    import_unbroken g.S.Store (IsReady g.S.Store) IsWanting c.args.store.now _ (Unit {0}) (Unit {0}) (StopsAmid c.args.list.now c.args.intake.now) _ (Stored Memory) c.stop.result (λ bad. absurd (cc)) c.stop.ensures
+    import_unbroken g.S.Store (HoldsTables g.S.Store) IsWanting c.args.store.now _ (Unit {0}) (Unit {0}) (StopsAmid c.args.list.now c.args.intake.now) _ (Stored Memory) c.stop.result (λ bad. absurd (cc)) c.stop.ensures
     (omega (arith, c.raise.ensures), (λ want. omega (arith, c.raise.ensures)))
 
 pub returns-in-Ok-add_owned-clause-ends : goal.returns-in-Ok-add_owned-clause-ends

@@ -1,4 +1,4 @@
-use Rattle.std.proofs.Common.{[], ◌∷◌, ◌++◌, ◌∙◌, ap, arith, refl, Err}
+use Rattle.std.proofs.Common.{[], ◌∷◌, ◌++◌, ◌∙◌, ap, arith, refl}
 use Rattle.mbox_core.specs.Division.{Item}
 use Rattle.archive_import.proofs.CrashLemmas.{grown_crash, more_lasts, safe_still, safe_then}
 use Rattle.archive_import.proofs.StopLemmas.{Grows, grows_none, grows_more, grows_stopped, moved_none, moved_one}

@@ -1,15 +1,12 @@
 use Rattle.std.proofs.Common.{[], ◌∷◌, inl, refl, sym, subst, append-nil, arith, Err}
 use Rattle.archive_machine.specs.Commands.{no_list}
 use Rattle.archive_machine.specs.Records.{Archive}
-use Rattle.archive_machine.specs.Questions.{list_refusal}
-use Rattle.archive_store.specs.Replies.{refusal}
-use Rattle.archive_store.specs.Told.{Goes, HasFailed, IsReady}
-use Rattle.archive_store.proofs.Joins.{sound_too}
-use Rattle.archive_desk.proofs.CallLemmas.{unanswered_too}
+use Rattle.archive_store.specs.Told.{HasFailed, HoldsTables}
+use Rattle.archive_desk.specs.Holding.{GoesHeld}
 use Rattle.archive_import.specs.Streaming.{IsReadIn, IsWanting, StopsReading}
 use Rattle.archive_import.specs.Intake.{IsUnderWay}
 use Rattle.archive_import.proofs.ReadLemmas.{Begun, IsFound, not_found, found_begun, settled_stopped, last_stopped, read_in}
-use Rattle.archive_desk.specs.Crashes.{CrashesReady}
+use Rattle.archive_desk.specs.Crashes.{CrashesHeld}
 use Rattle.archive_import.proofs.CrashLemmas.{LeavesRead, begun_crash, ended_crash, found_crash, found_safe, read_all, read_lasts, safe_then}
 use Rattle.archive_desk.specs.declared.importing.Report.{Report}
 use Rattle.archive_desk.specs.declared.importing.ImportFault.TheVariants.{Store as Stored}
@@ -26,7 +23,7 @@ returns-in-Err-clause-imports g c = (
   sym (append-nil _),
   omega arith,
   not_found g.S.Store c.args.store.now c.find_list.new.store c.args.list.now c.in-Err.fault
-      (unanswered_too g.S.Store c.args.store.now c.find_list.new.store refusal (λ a. list_refusal a c.args.list.now) c.in-Err.fault c.in-Err.ensures.found),
+      c.in-Err.ensures.found,
 )
 
 pub returns-in-Err-add_settled-clause-imports : goal.returns-in-Err-add_settled-clause-imports
@@ -36,7 +33,7 @@ returns-in-Err-add_settled-clause-imports g c = (
   c.add_settled.ensures.read.told,
   omega (arith, c.in-Err-add_settled.ensures.read.no_end),
   settled_stopped g.S.Store c.args.store.now c.find_list.new.store c.add_settled.new.store c.args.list.now c.new-intake.result c.new-intake.ensures
-      (sound_too g.S.Store c.args.store.now c.find_list.new.store (IsFound c.args.list.now) (λ a b h. h.0) c.in_default.ensures.found)
+      c.in_default.ensures.found
       c.add_settled.new.cutter.stream c.in-Err-add_settled.stop c.in-Err-add_settled.ensures.adds,
 )
 
@@ -52,9 +49,9 @@ returns-in-Ok-add_last-clause-imports g c =
       c.in-Ok.ensures.read.end,
       read_in g.S.Store store c.add_settled.new.store c.add_last.new.store list cutter.stream cutter.taken intake
           (found_begun g.S.Store store c.find_list.new.store c.add_settled.new.store list c.new-intake.result c.new-intake.ensures
-          (sound_too g.S.Store store c.find_list.new.store (IsFound list) (λ a b h. h.0) c.in_default.ensures.found) cutter.taken intake c.in-Ok.ensures.adds)
+          c.in_default.ensures.found cutter.taken intake c.in-Ok.ensures.adds)
           c.report.result
-          (subst (λ r. Goes g.S.Store c.add_settled.new.store c.add_last.new.store
+          (subst (λ r. GoesHeld g.S.Store c.add_settled.new.store c.add_last.new.store
           (λ b c. (a : Archive) → IsUnderWay list a b cutter.taken intake → IsReadIn list cutter.stream 1 a c r)) (sym c.report.ensures)
           c.in-Ok-add_last.ensures.adds),
     )
@@ -71,7 +68,7 @@ returns-clause-imports g c =
       c.in-Ok.ensures.read.end,
       last_stopped g.S.Store store c.add_settled.new.store c.add_last.new.store list cutter.stream cutter.taken intake
           (found_begun g.S.Store store c.find_list.new.store c.add_settled.new.store list c.new-intake.result c.new-intake.ensures
-          (sound_too g.S.Store store c.find_list.new.store (IsFound list) (λ a b h. h.0) c.in_default.ensures.found) cutter.taken intake c.in-Ok.ensures.adds)
+          c.in_default.ensures.found cutter.taken intake c.in-Ok.ensures.adds)
           c.in-Err-add_last.stop c.in-Err-add_last.ensures.adds,
     )
 
@@ -79,7 +76,7 @@ returns-clause-imports g c =
 
 pub returns-in-Err-clause-ends : goal.returns-in-Err-clause-ends
 returns-in-Err-clause-ends g c =
-    import_stopped g.S.Store (IsReady g.S.Store) IsWanting c.args.store.now c.find_list.new.store (Unit {0}) Report _ (λ store ready. ready.held) store_want
+    import_stopped g.S.Store (HoldsTables g.S.Store) IsWanting c.args.store.now c.find_list.new.store (Unit {0}) Report _ (λ store held. held) store_want
     (HasFailed g.S.Store c.args.store.now c.find_list.new.store) c.in-Err.fault (no_list ∷ []) 0 (record { done = 0; fault = Stored c.in-Err.fault }) refl (λ more. inl more) c.in-Err.ensures.ends
 
 pub returns-in-Err-add_settled-clause-ends : goal.returns-in-Err-add_settled-clause-ends
@@ -92,7 +89,7 @@ returns-in-Err-add_settled-clause-ends g c =
     let stream = c.add_settled.new.cutter.stream in
     let begun = c.new-intake.result in
     read_ends g.S.Store store mid new list stream 0 [] begun (IsFound list) (λ a b it. under_way_first list a b begun it.2 it.0 c.new-intake.ensures)
-    (sound_too g.S.Store store mid (IsFound list) (λ a b h. h.0) c.in_default.ensures.found)
+    c.in_default.ensures.found
     (read_lasts g.S.Store mid new list stream 0 [] begun (λ b d _. Begun list [] c.add_settled.new.cutter.taken begun c.add_settled.new.intake b d) stop c.in-Err-add_settled.ensures.adds)
     c.in_default.ensures.ends.counted.0 _ stop
     (λ a db stops text ends told ended. subst (λ n. StopsReading list text n stop.done db) (omega (arith, ended, c.in-Err-add_settled.ensures.read.no_end))
@@ -114,7 +111,7 @@ returns-clause-ends g c =
     let new = c.add_last.new.store in
     let stop = c.in-Err-add_last.stop in
     read_ends g.S.Store store later new list cutter.stream 1 cutter.taken intake (λ a c. IsUnderWay list a c cutter.taken intake) (λ a b it. it)
-    (found_begun g.S.Store store mid later list c.new-intake.result c.new-intake.ensures (sound_too g.S.Store store mid (IsFound list) (λ a b h. h.0) c.in_default.ensures.found)
+    (found_begun g.S.Store store mid later list c.new-intake.result c.new-intake.ensures c.in_default.ensures.found
     cutter.taken intake c.in-Ok.ensures.adds)
     (read_lasts g.S.Store later new list cutter.stream 1 cutter.taken intake (λ b d _. (a : Archive) → IsUnderWay list a b cutter.taken intake → IsReadIn list cutter.stream 1 a d c.add_last.new.intake.report)
     stop c.in-Err-add_last.ensures.adds)
@@ -136,13 +133,13 @@ returns-in-Err-add_settled-clause-crash g c = λ text ends told ended.
     let new = c.add_settled.new.store in
     let stop = c.in-Err-add_settled.stop in
     let stream = c.add_settled.new.cutter.stream in
-    let found = sound_too g.S.Store store mid (IsFound list) (λ a b h. h.0) c.in_default.ensures.found in
+    let found = c.in_default.ensures.found in
     begun_crash g.S.Store store mid new list c.new-intake.result c.new-intake.ensures (found_safe g.S.Store store mid list c.in_default.ensures.found c.in_default.ensures.quiet) found
     (read_lasts g.S.Store mid new list stream 0 [] c.new-intake.result (λ b d _. Begun list [] c.add_settled.new.cutter.taken c.new-intake.result c.add_settled.new.intake b d) stop
     c.in-Err-add_settled.ensures.adds)
     text ends stop
-    (subst (λ n. CrashesReady g.S.Store mid new {A = Unit {0}} (Err stop) (LeavesRead list text n [] c.new-intake.result)) (omega (arith, ended, c.in-Err-add_settled.ensures.read.no_end))
-    (subst (λ t. CrashesReady g.S.Store mid new {A = Unit {0}} (Err stop) (LeavesRead list t 0 [] c.new-intake.result)) (read_all _ stream text _ c.add_settled.ensures.read.told told)
+    (subst (λ n. CrashesHeld g.S.Store mid new {A = Unit {0}} (Err stop) (LeavesRead list text n [] c.new-intake.result)) (omega (arith, ended, c.in-Err-add_settled.ensures.read.no_end))
+    (subst (λ t. CrashesHeld g.S.Store mid new {A = Unit {0}} (Err stop) (LeavesRead list t 0 [] c.new-intake.result)) (read_all _ stream text _ c.add_settled.ensures.read.told told)
     c.in-Err-add_settled.ensures.crash))
 
 pub returns-in-Ok-add_last-clause-crash : goal.returns-in-Ok-add_last-clause-crash
@@ -153,7 +150,7 @@ returns-in-Ok-add_last-clause-crash g c = λ text ends told ended.
     let store = c.args.store.now in
     let mid = c.find_list.new.store in
     let later = c.add_settled.new.store in
-    let found = sound_too g.S.Store store mid (IsFound list) (λ a b h. h.0) c.in_default.ensures.found in
+    let found = c.in_default.ensures.found in
     let safe = safe_then g.S.Store store mid later (IsFound list) (found_safe g.S.Store store mid list c.in_default.ensures.found c.in_default.ensures.quiet) found c.in-Ok.ensures.adds.0
     c.in-Ok.ensures.crash in
     safe_then g.S.Store store later c.add_last.new.store (λ a c. IsUnderWay list a c cutter.taken intake) safe
@@ -170,13 +167,13 @@ returns-clause-crash g c = λ text ends told ended.
     let later = c.add_settled.new.store in
     let new = c.add_last.new.store in
     let stop = c.in-Err-add_last.stop in
-    let found = sound_too g.S.Store store mid (IsFound list) (λ a b h. h.0) c.in_default.ensures.found in
+    let found = c.in_default.ensures.found in
     let safe = safe_then g.S.Store store mid later (IsFound list) (found_safe g.S.Store store mid list c.in_default.ensures.found c.in_default.ensures.quiet) found c.in-Ok.ensures.adds.0
     c.in-Ok.ensures.crash in
     ended_crash g.S.Store store later new list cutter.taken intake safe
     (found_begun g.S.Store store mid later list c.new-intake.result c.new-intake.ensures found cutter.taken intake c.in-Ok.ensures.adds)
     (read_lasts g.S.Store later new list cutter.stream 1 cutter.taken intake (λ b d _. (a : Archive) → IsUnderWay list a b cutter.taken intake → IsReadIn list cutter.stream 1 a d c.add_last.new.intake.report)
     stop c.in-Err-add_last.ensures.adds) text ends stop
-    (subst (λ n. CrashesReady g.S.Store later new {A = Unit {0}} (Err stop) (LeavesRead list text n cutter.taken intake)) (omega (arith, ended, c.in-Ok.ensures.read.end))
-    (subst (λ t. CrashesReady g.S.Store later new {A = Unit {0}} (Err stop) (LeavesRead list t 1 cutter.taken intake)) (read_all _ cutter.stream text _ c.add_settled.ensures.read.told told)
+    (subst (λ n. CrashesHeld g.S.Store later new {A = Unit {0}} (Err stop) (LeavesRead list text n cutter.taken intake)) (omega (arith, ended, c.in-Ok.ensures.read.end))
+    (subst (λ t. CrashesHeld g.S.Store later new {A = Unit {0}} (Err stop) (LeavesRead list t 1 cutter.taken intake)) (read_all _ cutter.stream text _ c.add_settled.ensures.read.told told)
     c.in-Err-add_last.ensures.crash))
