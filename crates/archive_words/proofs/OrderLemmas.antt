@@ -1,10 +1,11 @@
 -- How the words' matches become an order.
-use Rattle.std.proofs.Common.{◌≡◌, ◌≢◌, ℕ, ◌<◌, ◌≤◌, nat_le, List, [], ◌∷◌, length, true, false, Option, Some, None, Result, Ok, Err, option_map, refl, ◌∙◌, ap, arith, inl, inr}
+use Rattle.std.proofs.Common.{◌≡◌, ◌≢◌, ℕ, ◌<◌, ◌≤◌, nat_le, List, [], ◌∷◌, length, true, false, Option, Some, None, Result, Ok, Err, option_map, refl, sym, subst, ◌∙◌, ap, arith, inl, inr}
 use Rattle.std.proofs.lemmas.Option.{same_Some}
 use Rattle.std.proofs.lemmas.Bool.{and_parts, false_from_ne_true, le-leb, leb-true}
 use Rattle.std.proofs.lemmas.Result.{OkIff-at_ok, OkIff-at_err}
 use Rattle.std.proofs.lemmas.Str.{digit_value_digit}
 use Rattle.std.proofs.lemmas.Str.Parse.{without_leading_plus_none}
+use Rattle.std.specs.Prelude.{MatchResult}
 use Rattle.std.specs.List.{list_all}
 use Rattle.std.specs.Char.{is_ascii_digit}
 use Rattle.std.specs.Int.{IsInRange}
@@ -110,3 +111,9 @@ stop_of_fault words e (Help text) (inr among) (inl help) = inl (rw (← help) am
 stop_of_fault words e (Help text) (inr among) (inr version) = inr (rw (← version) among)
 stop_of_fault words e (Words text) (inl none) by = absurd (by.0 none)
 stop_of_fault words e (Words text) (inr among) by = inl (kind_of e, among, by.1, by.2)
+
+-- the same, by the text of a value that its reader refuses
+pub stop_of_bad : {A E : Type 0} (words : List Text) (tell : A → OrderStop) (text : Result A E) (stop : OrderStop)
+    → MatchResult text (λ made. stop ≡ tell made) (λ _. stop ≡ Memory) → ((made : A) → IsStopOf words (tell made)) → IsStopOf words stop
+stop_of_bad words tell (Ok made) stop is told = let S : OrderStop → Type 0 = λ s. IsStopOf words s in subst S (sym is) (told made)
+stop_of_bad words tell (Err e) stop is told = let S : OrderStop → Type 0 = λ s. IsStopOf words s in subst S (sym is) tt

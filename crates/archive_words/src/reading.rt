@@ -7,7 +7,7 @@ ghost use Rattle.archive_words.specs.Orders.{sift_of, import_of, ask_of, get_of,
 use crate::orders::{
     AskOrder, CheckOrder, GetOrder, ImportOrder, Order, OrderStop, ServeOrder, SiftOrder,
 };
-use crate::stops::{BadValue, bad_value_text, stop_of};
+use crate::stops::{BadValue, bad_value_text, stop_of, stop_with};
 use crate::table_reading::table_order;
 use crate::values::{
     DEFAULT_LIST, count_of, given_age, given_day, given_list, given_standing, needed, port_of,
@@ -184,9 +184,9 @@ pub fn order<'a>(alloc: Global, words: &'a [&'a str]) -> Result<Order<'a>, Order
     };
     match read_order(&matches) {
         Ok(order) => Ok(order),
-        Err(bad) => match bad_value_text(alloc, matches.subcommand_name().unwrap_or(""), &bad) {
-            Ok(text) => Err(OrderStop::Words(text)),
-            Err(_) => Err(OrderStop::Memory),
-        },
+        Err(bad) => {
+            let name = matches.subcommand_name().unwrap_or("");
+            Err(stop_with(bad_value_text(alloc, name, &bad), true))
+        }
     }
 }

@@ -1,5 +1,5 @@
 //! What is told of words that order nothing.
-ghost use Rattle.std.specs.Prelude.{◌≢◌, ◌⊎◌};
+ghost use Rattle.std.specs.Prelude.{◌≡◌, ◌≢◌, ◌⊎◌, if◌then◌else◌, MatchResult};
 ghost use Rattle.clap.specs.Values.{kind_of};
 ghost use Rattle.archive_words.specs.Orders.{IsMemory, IsStopBy};
 
@@ -28,9 +28,18 @@ pub(crate) fn stop_of(alloc: Global, error: &Error) -> OrderStop
     if error.kind() == ErrorKind::OutOfMemory {
         return OrderStop::Memory;
     }
-    match error.to_string(alloc) {
+    stop_with(error.to_string(alloc), error.use_stderr())
+}
+
+/// The stop with a text, of a fault or of help. Memory: there was none for the text.
+pub(crate) fn stop_with(text: Result<String, AllocError>, is_fault: bool) -> OrderStop
+    ensures { MatchResult text
+        (λ made. result ≡ (if is_fault then OrderStop.Words made else OrderStop.Help made))
+        (λ _. result ≡ OrderStop.Memory) }
+{
+    match text {
         Ok(text) => {
-            if error.use_stderr() {
+            if is_fault {
                 OrderStop::Words(text)
             } else {
                 OrderStop::Help(text)

@@ -30,7 +30,7 @@ pub(crate) fn needed<'a>(inner: &ArgMatches<'a>, name: &'a str) -> Result<&'a st
     text_of(inner, name).ok_or(BadValue {
         option: name,
         text: "",
-        wanted: "a value has to be given",
+        wanted: "a value is required",
     })
 }
 
@@ -73,7 +73,7 @@ fn read_day<'a>(text: &'a str, option: &'a str) -> Result<Day, BadValue<'a>>
     Day::read(text.as_bytes()).ok_or(BadValue {
         option,
         text,
-        wanted: "a day of the calendar is yyyy-mm-dd, from 1900-01-01 to 9998-12-31",
+        wanted: "expected a date yyyy-mm-dd from 1900-01-01 to 9998-12-31",
     })
 }
 
@@ -102,7 +102,7 @@ pub(crate) fn given_age<'a>(text: Option<&'a str>) -> Result<Option<u32>, BadVal
     let age = read_number(text, MOST_DAYS as u32).ok_or(BadValue {
         option: "--min-age <DAYS>",
         text,
-        wanted: "an age is a number of days, 0 to 36500",
+        wanted: "expected a number of days from 0 to 36500",
     })?;
     Ok(Some(age))
 }
@@ -118,7 +118,7 @@ pub(crate) fn given_standing<'a>(word: Option<&'a str>) -> Result<Standing, BadV
     Standing::read(text).ok_or(BadValue {
         option: "--standing <STANDING>",
         text,
-        wanted: "a standing is public, member, subscriber or moderator",
+        wanted: "expected public, member, subscriber or moderator",
     })
 }
 
@@ -165,7 +165,7 @@ pub(crate) fn kind_of_grant<'a>(inner: &ArgMatches<'a>) -> Result<Kind, BadValue
     read_kind(text).ok_or(BadValue {
         option: "<KIND>",
         text,
-        wanted: "a kind is member, subscriber or moderator",
+        wanted: "expected member, subscriber or moderator",
     })
 }
 
@@ -190,7 +190,7 @@ pub(crate) fn party_of_withdrawal<'a>(inner: &ArgMatches<'a>) -> Result<Party, B
     read_party(text).ok_or(BadValue {
         option: "<BY>",
         text,
-        wanted: "a message is withdrawn by author or board",
+        wanted: "expected author or board",
     })
 }
 
@@ -215,7 +215,7 @@ pub(crate) fn is_merged<'a>(inner: &ArgMatches<'a>) -> Result<bool, BadValue<'a>
     read_yes_or_no(text).ok_or(BadValue {
         option: "<MERGE>",
         text,
-        wanted: "merge is yes or no",
+        wanted: "expected yes or no",
     })
 }
 
@@ -231,7 +231,7 @@ pub(crate) fn port_of<'a>(inner: &ArgMatches<'a>) -> Result<u16, BadValue<'a>>
         None => Err(BadValue {
             option: "--port <PORT>",
             text,
-            wanted: "a port is a number, 0 to 65535",
+            wanted: "expected a port number from 0 to 65535",
         }),
     }
 }
@@ -246,6 +246,6 @@ pub(crate) fn count_of<'a>(inner: &ArgMatches<'a>) -> Result<u32, BadValue<'a>>
     read_number(text, MOST_CONNECTIONS).ok_or(BadValue {
         option: "--count <COUNT>",
         text,
-        wanted: "a count is a number, 0 to 1000000",
+        wanted: "expected a number from 0 to 1000000",
     })
 }

@@ -1,13 +1,12 @@
 //! The commands over the tables.
-ghost use Rattle.std.specs.Prelude.{◌≡◌};
-ghost use Rattle.archive_words.specs.Values.{command_of, embargo as embargo_words, lift as lift_words, restore as restore_words, withdraw as withdraw_words};
-ghost use Rattle.archive_work.specs.Commands.{done_by, whether_by};
+ghost use Rattle.std.specs.Prelude.{◌≡◌, Some, option_map};
+ghost use Rattle.archive_store.specs.Carrying.{answer_by, command_of as stored};
+ghost use Rattle.archive_words.specs.Values.{command_of};
+ghost use Rattle.archive_work.specs.Commands.{StandsFor, answer_to, told, valid_key};
 ghost use Rattle.archive_work.specs.Working.{Carries, EndsCarry};
 
-use archive_store::{Key, Store, StoreFault};
+use archive_store::{Command, Found, Key, Store, StoreFault};
 use archive_words::TableCommand;
-use civil_time::Day;
-use policy_core::Party;
 use sqlite::Alter;
 use std::alloc::Global;
 
@@ -60,120 +59,107 @@ impl Answer {
 pub fn carry_out<S: Alter>(
     store: &mut Store<S>,
     alloc: Global,
-    command: &TableCommand<'_>,
+    words: &TableCommand<'_>,
 ) -> Result<Answer, StoreFault>
-    ensures carried { Carries S.Store store.old store.new (command_of command.now) result }
-    ensures ends { EndsCarry S.Store store.old store.new (command_of command.now) result }
+    ensures carried { Carries S.Store store.old store.new (command_of words.now) result }
+    ensures ends { EndsCarry S.Store store.old store.new (command_of words.now) result }
 {
-    match command {
-        TableCommand::ListAdd { name } => says(store.list_add(name), Answer::Added),
-        TableCommand::Merge { list, merged } => {
-            says(store.merge_set(list, *merged), Answer::Merging(*merged))
-        }
-        TableCommand::PersonAdd { name, token } => {
-            says(store.person_add(name, token), Answer::Added)
-        }
-        TableCommand::PersonAddress { person, address } => {
-            says(
-                store.address_set(alloc, person, address),
-                Answer::AddressSet,
-            )
-        }
-        TableCommand::Grant {
+    let key = read_key(words);
+    let Some(command) = told(alloc, words, &key) else {
+        return Err(StoreFault::NoMessage);
+    };
+    match store.carry(&command) {
+        Ok(found) => Ok(answer_to(words, &found)),
+        Err(fault) => Err(fault),
+    }
+}
+
+/// The key in the words of a command. `None`: they have none, or it is not valid.
+fn read_key(words: &TableCommand<'_>) -> Option<Key>
+    ensures { result ≡ valid_key (command_of words.now) }
+{
+    match words {
+        TableCommand::Withdraw { key, .. } => Key::read(key),
+        TableCommand::Restore { key, .. } => Key::read(key),
+        TableCommand::Embargo { key, .. } => Key::read(key),
+        TableCommand::Lift { key, .. } => Key::read(key),
+        _ => None,
+    }
+}
+
+/// The command of the store that words stand for, with their key. `None`: they lack a valid one.
+fn told<'k, 'w: 'k>(
+    alloc: Global,
+    words: &TableCommand<'w>,
+    key: &'k Option<Key>,
+) -> Option<Command<'k>>
+    ensures { key.now ≡ valid_key (command_of words.now)
+        → StandsFor (command_of words.now) (option_map stored result) }
+{
+    Some(match (words, key) {
+        (TableCommand::ListAdd { name }, _) => Command::ListAdd { name },
+        (TableCommand::Merge { list, merged }, _) => Command::MergeSet {
+            list,
+            merge: *merged,
+        },
+        (TableCommand::PersonAdd { name, token }, _) => Command::PersonAdd { name, token },
+        (TableCommand::PersonAddress { person, address }, _) => Command::AddressSet {
+            alloc,
+            person,
+            address,
+        },
+        (
+            TableCommand::Grant {
+                person,
+                list,
+                kind,
+                from,
+                until,
+            },
+            _,
+        ) => Command::Grant {
             person,
             list,
-            kind,
-            from,
-            until,
-        } => says(
-            store.grant(person, list, *kind, *from, *until),
-            Answer::Granted,
-        ),
-        TableCommand::Revoke { person, list, kind } => whether(
-            store.revoke(person, list, *kind),
-            Answer::Revoked,
-            Answer::NoGrant,
-        ),
-        TableCommand::Withdraw { list, key, by } => withdraw(store, list, key, *by),
-        TableCommand::Restore { list, key } => restore(store, list, key),
-        TableCommand::Embargo { list, key, until } => embargo(store, list, key, *until),
-        TableCommand::Lift { list, key } => lift(store, list, key),
-    }
+            kind: *kind,
+            from: *from,
+            until: *until,
+        },
+        (TableCommand::Revoke { person, list, kind }, _) => Command::Revoke {
+            person,
+            list,
+            kind: *kind,
+        },
+        (TableCommand::Withdraw { list, by, .. }, Some(key)) => Command::Withdraw {
+            list,
+            key,
+            by: *by,
+        },
+        (TableCommand::Restore { list, .. }, Some(key)) => Command::Restore { list, key },
+        (TableCommand::Embargo { list, until, .. }, Some(key)) => Command::Embargo {
+            list,
+            key,
+            until: *until,
+        },
+        (TableCommand::Lift { list, .. }, Some(key)) => Command::Lift { list, key },
+        (_, None) => return None,
+    })
 }
 
-fn withdraw<S: Alter>(
-    store: &mut Store<S>,
-    list: &str,
-    key: &str,
-    by: Party,
-) -> Result<Answer, StoreFault>
-    ensures carried { Carries S.Store store.old store.new
-        (withdraw_words list.now key.now by) result }
-    ensures ends { EndsCarry S.Store store.old store.new (withdraw_words list.now key.now by) result }
+/// The word for a command that was carried out, by what was found of its names.
+fn answer_to(words: &TableCommand<'_>, found: &Found) -> Answer
+    ensures { answer_to (command_of words.now) (answer_by (told (command_of words.now)) found.now) ≡ Some result }
 {
-    match Key::read(key) {
-        Some(key) => says(store.withdraw(list, &key, by), Answer::Withdrawn),
-        None => Err(StoreFault::NoMessage),
-    }
-}
-
-fn restore<S: Alter>(store: &mut Store<S>, list: &str, key: &str) -> Result<Answer, StoreFault>
-    ensures carried { Carries S.Store store.old store.new (restore_words list.now key.now) result }
-    ensures ends { EndsCarry S.Store store.old store.new (restore_words list.now key.now) result }
-{
-    match Key::read(key) {
-        Some(key) => says(store.restore(list, &key), Answer::Restored),
-        None => Err(StoreFault::NoMessage),
-    }
-}
-
-fn embargo<S: Alter>(
-    store: &mut Store<S>,
-    list: &str,
-    key: &str,
-    until: Day,
-) -> Result<Answer, StoreFault>
-    ensures carried { Carries S.Store store.old store.new
-        (embargo_words list.now key.now until) result }
-    ensures ends { EndsCarry S.Store store.old store.new (embargo_words list.now key.now until) result }
-{
-    match Key::read(key) {
-        Some(key) => says(store.embargo(list, &key, until), Answer::Embargoed),
-        None => Err(StoreFault::NoMessage),
-    }
-}
-
-fn lift<S: Alter>(store: &mut Store<S>, list: &str, key: &str) -> Result<Answer, StoreFault>
-    ensures carried { Carries S.Store store.old store.new (lift_words list.now key.now) result }
-    ensures ends { EndsCarry S.Store store.old store.new (lift_words list.now key.now) result }
-{
-    match Key::read(key) {
-        Some(key) => whether(store.lift(list, &key), Answer::Lifted, Answer::NoEmbargo),
-        None => Err(StoreFault::NoMessage),
-    }
-}
-
-/// The answer of a command that says nothing more than that it is done.
-fn says(done: Result<(), StoreFault>, answer: Answer) -> Result<Answer, StoreFault>
-    ensures { result ≡ done_by answer done }
-{
-    match done {
-        Ok(()) => Ok(answer),
-        Err(fault) => Err(fault),
-    }
-}
-
-/// The answer of a command that says whether what it took away was there.
-fn whether(
-    was_there: Result<bool, StoreFault>,
-    if_there: Answer,
-    if_not: Answer,
-) -> Result<Answer, StoreFault>
-    ensures { result ≡ whether_by if_there if_not was_there }
-{
-    match was_there {
-        Ok(true) => Ok(if_there),
-        Ok(false) => Ok(if_not),
-        Err(fault) => Err(fault),
+    match words {
+        TableCommand::ListAdd { .. } | TableCommand::PersonAdd { .. } => Answer::Added,
+        TableCommand::Merge { merged, .. } => Answer::Merging(*merged),
+        TableCommand::PersonAddress { .. } => Answer::AddressSet,
+        TableCommand::Grant { .. } => Answer::Granted,
+        TableCommand::Revoke { .. } if found.grant => Answer::Revoked,
+        TableCommand::Revoke { .. } => Answer::NoGrant,
+        TableCommand::Withdraw { .. } => Answer::Withdrawn,
+        TableCommand::Restore { .. } => Answer::Restored,
+        TableCommand::Embargo { .. } => Answer::Embargoed,
+        TableCommand::Lift { .. } if found.embargo => Answer::Lifted,
+        TableCommand::Lift { .. } => Answer::NoEmbargo,
     }
 }

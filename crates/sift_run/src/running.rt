@@ -128,10 +128,7 @@ pub fn run<F: ReadFiles, C: DayClock, R: Source, O: Outgoing, E: Sink>(
             finish(faults, &done)
         }
         Ok(_) => {
-            let _ = write_bytes(
-                faults,
-                b"error: this program sifts, and does nothing else\n",
-            );
+            let _ = write_bytes(faults, b"error: this program has only the command 'sift'\n");
             BAD_WORDS
         }
         Err(stop) => say_stop(output, faults, &stop),

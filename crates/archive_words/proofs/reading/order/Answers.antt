@@ -3,7 +3,8 @@ use Rattle.std.proofs.lemmas.Bool.{false_from_ne_true}
 use Rattle.clap.specs.Words.{fault_of, is_simple, is_simple_and_free, subcommand_of, takes}
 use Rattle.archive_usage.proofs.UsageLaws.{simple, free}
 use Rattle.archive_words.specs.Orders.{order_of}
-use Rattle.archive_words.proofs.OrderLemmas.{same_kinds, stop_of_fault}
+use Rattle.archive_words.specs.declared.orders.OrderStop.TheVariants.{Words}
+use Rattle.archive_words.proofs.OrderLemmas.{same_kinds, stop_of_bad, stop_of_fault}
 use Rattle.archive_words.proofs.reading.order.Goals as goal
 
 pub returns-in-Err-clause-refused : goal.returns-in-Err-clause-refused
@@ -23,8 +24,8 @@ returns-in-Ok-read_order-clause-ok c =
     let m = c.in-Ok-try_get_matches_from_mut.ensures.ok.2 (ap is_simple c.in-Ok.ensures.reads ∙ simple) in
     ap order_of (sym (m.1 ∙ ap₂ subcommand_of c.in-Ok.ensures.reads refl)) ∙ c.in-Ok-read_order.ensures
 
-pub returns-in-Ok-bad_value_text-clause-refused : goal.returns-in-Ok-bad_value_text-clause-refused
-returns-in-Ok-bad_value_text-clause-refused c =
+pub returns-clause-refused : goal.returns-clause-refused
+returns-clause-refused c =
     let m = c.in-Ok-try_get_matches_from_mut.ensures.ok.2 (ap is_simple c.in-Ok.ensures.reads ∙ simple) in
     inr (inr (ap order_of (sym (m.1 ∙ ap₂ subcommand_of c.in-Ok.ensures.reads refl)) ∙ c.in-Err-read_order.ensures))
 
@@ -33,11 +34,11 @@ returns-in-Ok-read_order-clause-taken c =
     sym (ap₂ fault_of c.in-Ok.ensures.reads refl)
     ∙ c.in-Ok-try_get_matches_from_mut.ensures.kinds (ap is_simple_and_free c.in-Ok.ensures.reads ∙ free)
 
-pub returns-in-Ok-bad_value_text-clause-stopped : goal.returns-in-Ok-bad_value_text-clause-stopped
-returns-in-Ok-bad_value_text-clause-stopped c =
+pub returns-clause-stopped : goal.returns-clause-stopped
+returns-clause-stopped c =
     let m = c.in-Ok-try_get_matches_from_mut.ensures.ok.2 (ap is_simple c.in-Ok.ensures.reads ∙ simple) in
     let taken = c.in-Ok-try_get_matches_from_mut.ensures.kinds (ap is_simple_and_free c.in-Ok.ensures.reads ∙ free) in
-    inr (
+    stop_of_bad _ Words c.bad_value_text.result _ c.stop_with.ensures (λ made. inr (
       sym (ap₂ fault_of c.in-Ok.ensures.reads refl) ∙ taken,
       ap order_of (sym (m.1 ∙ ap₂ subcommand_of c.in-Ok.ensures.reads refl)) ∙ c.in-Err-read_order.ensures,
-    )
+    ))
