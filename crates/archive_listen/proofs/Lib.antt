@@ -1,3 +1,4 @@
 pub mod ServingLemmas
 pub mod ThroughLemmas
 pub mod GatheringLemmas
+pub mod WaitLemmas

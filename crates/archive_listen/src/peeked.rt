@@ -1,50 +1,65 @@
 //! A socket in which the bytes that were read last stay until they are taken.
-ghost use Rattle.std.specs.Prelude.{◌≤◌, length, IfOk};
+ghost use Rattle.std.specs.Prelude.{◌≡◌, ◌≤◌, ◌+◌, length, IfOk, OnOk};
+ghost use Rattle.std.specs.Duration.{as_nanos};
+ghost use Rattle.archive_listen.specs.Waits.{WaitsWithin};
 
-use crate::waiting::{Reading, Span, read_within};
-use byte_device::DeviceFailure;
+use crate::waiting::{Reading, Span, Timed};
+use byte_device::{DeviceFailure, Told};
 use std::io::Read;
-use std::net::{OpenStream, Shutdown};
+use std::net::OpenStream;
 use std::rt::Clock;
+use std::time::Duration;
 
 /// How many bytes are taken at once.
 const TAKEN: usize = 8192;
 
 /// A socket whose last read only looked: what it gave is unread, and the system resets a connection that is closed so.
 #[derive(Drop)]
-pub(crate) struct Peeked<S> {
-    stream: S,
+pub(crate) struct Peeked<'a, R, S> {
+    stream: Timed<'a, R, S>,
     unread: usize,
+    taken: Told,
 }
 
-impl<S: Read + OpenStream> Peeked<S> {
+impl<'a, R: Clock, S: Read + OpenStream> Peeked<'a, R, S> {
     /// Nothing was read yet.
-    pub(crate) fn new(stream: S) -> Peeked<S> {
-        Peeked { stream, unread: 0 }
+    pub(crate) fn new(stream: Timed<'a, R, S>) -> Peeked<'a, R, S>
+        ensures { result.stream ≡ stream.entry }
+    {
+        Peeked {
+            stream,
+            unread: 0,
+            taken: Told::new(),
+        }
     }
 
     /// The next bytes, within a span. They stay in the socket; those that the look before gave are taken first.
-    pub(crate) fn look_on<R: Clock>(
-        &mut self,
-        clock: &R,
-        span: Span,
-        buffer: &mut [u8],
-    ) -> Result<usize, DeviceFailure>
+    #[tactic(auto, using(crate::proofs::WaitLemmas::waits_none))]
+    pub(crate) fn look_on(&mut self, span: Span, buffer: &mut [u8]) -> Result<usize, DeviceFailure>
         ensures count { IfOk result (λ n. n ≤ length buffer.old) }
+        ensures waits { WaitsWithin (as_nanos span.whole) self.old.stream self.new.stream }
+        ensures taken { OnOk result (length self.new.taken.bytes ≡ length self.old.taken.bytes + self.old.unread) }
+        ensures unread { IfOk result (λ n. self.new.unread ≡ n) }
     {
         self.take_seen()?;
-        let count = read_within(clock, &mut self.stream, span, Reading::Looks, buffer)?;
+        let count = self.stream.read_within(span, Reading::Looks, buffer)?;
         self.unread = count;
         Ok(count)
     }
 
     /// Takes what was seen, and nothing behind it. No wait: it has come.
-    fn take_seen(&mut self) -> Result<(), DeviceFailure> {
+    fn take_seen(&mut self) -> Result<(), DeviceFailure>
+        ensures same { self.new.stream ≡ self.old.stream }
+        ensures taken { OnOk result (length self.new.taken.bytes ≡ length self.old.taken.bytes + self.old.unread) }
+    {
         let mut taken = [0; TAKEN];
         while self.unread > 0 {
             let most = self.unread.min(TAKEN);
-            match self.stream.read(&mut taken[..most]) {
-                Ok(count) if count > 0 => self.unread -= count.min(self.unread),
+            match self.stream.take(&mut taken[..most]) {
+                Ok(count) if count > 0 => {
+                    self.taken.note(&taken[..count]);
+                    self.unread -= count;
+                }
                 _ => return Err(DeviceFailure),
             }
         }
@@ -54,10 +69,10 @@ impl<S: Read + OpenStream> Peeked<S> {
     /// Ends what is written, and takes what was seen. Whether more came behind it, of which some is taken too. None: the
     /// socket failed. No wait.
     pub(crate) fn end(&mut self) -> Option<bool> {
-        self.stream.shutdown(Shutdown::Write).ok()?;
+        self.stream.end()?;
         let mut taken = [0; TAKEN];
         while self.unread > 0 {
-            match self.stream.read(&mut taken) {
+            match self.stream.take(&mut taken) {
                 Ok(count) if count > self.unread => return Some(true),
                 Ok(count) if count > 0 => self.unread -= count,
                 _ => return None,
@@ -66,13 +81,15 @@ impl<S: Read + OpenStream> Peeked<S> {
         Some(false)
     }
 
-    /// The socket.
-    pub(crate) fn stream(&mut self) -> &mut S {
-        &mut self.stream
+    /// How long after its beginning the last wait could end.
+    pub(crate) fn latest(&self) -> Duration
+        ensures { as_nanos result ≡ self.now.stream.latest }
+    {
+        self.stream.latest()
     }
 
     /// The socket.
     pub(crate) fn into_stream(self) -> S {
-        self.stream
+        self.stream.into_stream()
     }
 }

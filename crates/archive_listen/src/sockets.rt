@@ -2,8 +2,9 @@
 ghost use Rattle.std.specs.Prelude.{◌≡◌, ◌≤◌, ◌+◌, ◌++◌, [], ◌∷◌, length, take, true, IfOk, MatchResult};
 ghost use Rattle.std.specs.Net.Socket.{socket_port};
 ghost use Rattle.byte_device.specs.Device.{read_ends, read_faults, written_faults};
+ghost use Rattle.std.specs.Duration.{as_nanos};
 ghost use Rattle.archive_listen.specs.Connections.{exchange};
-ghost use Rattle.archive_listen.specs.Sockets.{IsHad, IsHeadSpan, Listens, accept_fault, nothing_read, nothing_written};
+ghost use Rattle.archive_listen.specs.Sockets.{IsHad, IsHeadSpan, IsReplySpan, Listens, accept_fault, ended_after, nothing_read, nothing_written};
 
 use crate::connections::{Connection, Listener, Listening, Ports};
 use crate::exchanges::Exchanges;
@@ -11,8 +12,8 @@ use crate::faults::{AcceptFault, ListenFault};
 use crate::gathered::{Gathered, ROOM};
 use crate::open::StillOpen;
 use crate::peeked::Peeked;
-use crate::waiting::{Reading, Span, read_within};
-use byte_device::{Counted, DeviceFailure, Sink, Source, Told};
+use crate::waiting::{Reading, Span, Timed, Waited};
+use byte_device::{DeviceFailure, Sink, Source, Told};
 use std::alloc::Global;
 use std::io::{ErrorKind, Read, Write};
 use std::marker::Model;
@@ -32,6 +33,12 @@ const HEAD_SECONDS: u64 = 10;
 /// How long one write may take, in seconds.
 const WRITE_SECONDS: u64 = 30;
 
+/// How long a whole reply may take from its first write on, in seconds, before any of it was written.
+const REPLY_SECONDS: u64 = 30;
+
+/// How many bytes of a reply, once written, give the whole of it one second more.
+const BYTES_A_SECOND: u64 = 1_000_000;
+
 /// How long a peer that sends more than its head is read on, in seconds.
 const LINGER_SECONDS: u64 = 1;
 
@@ -42,9 +49,7 @@ const LINGER_BYTES: usize = 1_048_576;
 /// socket, so that the system resets the connection if it is closed before its end.
 #[derive(Drop)]
 pub struct SocketInput<'a, R, S> {
-    clock: &'a R,
-    stream: Peeked<S>,
-    since: Instant,
+    stream: Peeked<'a, R, S>,
     begun: bool,
     told: Told,
     ends: Told,
@@ -52,7 +57,7 @@ pub struct SocketInput<'a, R, S> {
 }
 
 impl<'a, R, S> Model for SocketInput<'a, R, S> {
-    ghost use Rattle.std.specs.Prelude.{length};
+    ghost use Rattle.std.specs.Prelude.{◌≤◌, ◌*◌, length};
     ghost use Rattle.archive_listen.specs.Sockets.{InputState};
 
     ghost Value = { InputState };
@@ -61,7 +66,10 @@ impl<'a, R, S> Model for SocketInput<'a, R, S> {
       told = i.told.bytes;
       failures = length i.faults.bytes;
       ends = length i.ends.bytes;
+      latest = i.stream.stream.latest;
     } };
+
+    ghost invariant = { λ i. i.stream.stream.latest ≤ 10 * 1_000_000_000 };
 }
 
 impl<'a, R: Clock, S: Read + OpenStream> SocketInput<'a, R, S> {
@@ -70,9 +78,7 @@ impl<'a, R: Clock, S: Read + OpenStream> SocketInput<'a, R, S> {
         ensures { result ≡ nothing_read }
     {
         SocketInput {
-            clock,
-            stream: Peeked::new(stream),
-            since,
+            stream: Peeked::new(Timed::new(clock, stream, Some(since))),
             begun: false,
             told: Told::new(),
             ends: Told::new(),
@@ -82,12 +88,11 @@ impl<'a, R: Clock, S: Read + OpenStream> SocketInput<'a, R, S> {
 }
 
 /// The time that the next bytes of a request may take.
-fn head_span(since: Instant, begun: bool) -> Span
-    ensures { IsHeadSpan since begun result }
+fn head_span(begun: bool) -> Span
+    ensures { IsHeadSpan begun result }
 {
     let most = if begun { NEXT_SECONDS } else { FIRST_SECONDS };
     Span {
-        since,
         whole: Duration::from_secs(HEAD_SECONDS),
         most: Duration::from_secs(most),
     }
@@ -101,8 +106,7 @@ impl<'a, R: Clock, S: Read + OpenStream> Source for SocketInput<'a, R, S> {
     ghost ends = { λ i. i.ends };
 
     fn read(&mut self, buffer: &mut [u8]) -> Result<usize, DeviceFailure> {
-        let span = head_span(self.since, self.begun);
-        match self.stream.look_on(self.clock, span, buffer) {
+        match self.stream.look_on(head_span(self.begun), buffer) {
             Ok(count) => {
                 self.begun = true;
                 if count == 0 && !buffer.is_empty() {
@@ -119,64 +123,95 @@ impl<'a, R: Clock, S: Read + OpenStream> Source for SocketInput<'a, R, S> {
     }
 }
 
-/// What is written to a peer, within the time that a write may take.
-#[derive(Drop)]
-pub struct SocketOutput<S> {
-    stream: Counted<S>,
-    told: Told,
+/// The time that the next write of a reply may take, of which so many bytes were written.
+fn reply_span(written: u64) -> Span
+    ensures { IsReplySpan written result }
+{
+    let whole = REPLY_SECONDS + written / BYTES_A_SECOND;
+    Span {
+        whole: Duration::from_secs(whole),
+        most: Duration::from_secs(WRITE_SECONDS),
+    }
 }
 
-impl<S> Model for SocketOutput<S> {
-    ghost use Rattle.archive_listen.specs.Sockets.{OutputState};
+/// What is written to a peer, within the times that a reply may take. A write past them fails.
+#[derive(Drop)]
+pub struct SocketOutput<'a, R, S> {
+    stream: Timed<'a, R, S>,
+    written: u64,
+    told: Told,
+    faults: Told,
+}
+
+impl<'a, R, S> Model for SocketOutput<'a, R, S> {
+    ghost use Rattle.std.specs.Prelude.{◌≤◌, ◌*◌, length};
+    ghost use Rattle.archive_listen.specs.Sockets.{OutputState, reply_seconds};
 
     ghost Value = { OutputState };
 
-    ghost view = { λ o. record { told = o.told.bytes; failures = o.stream.failures } };
+    ghost view = { λ o. record {
+      told = o.told.bytes;
+      failures = length o.faults.bytes;
+      latest = o.stream.latest;
+    } };
+
+    ghost invariant = { λ o. (o.written ≤ length o.told.bytes)
+        × (o.stream.latest ≤ reply_seconds o.written * 1_000_000_000) };
 }
 
-impl<S> SocketOutput<S> {
+impl<'a, R: Clock, S: Write + OpenStream> SocketOutput<'a, R, S> {
     /// Nothing was written yet.
-    fn new(stream: S) -> SocketOutput<S>
+    fn new(clock: &'a R, stream: S) -> SocketOutput<'a, R, S>
         ensures { result ≡ nothing_written }
     {
         SocketOutput {
-            stream: Counted::new(stream),
+            stream: Timed::new(clock, stream, None),
+            written: 0,
             told: Told::new(),
+            faults: Told::new(),
         }
     }
 }
 
-impl<S: Write> Sink for SocketOutput<S> {
+impl<'a, R: Clock, S: Write + OpenStream> Sink for SocketOutput<'a, R, S> {
     ghost told = { λ o. o.told };
 
     ghost failures = { λ o. o.failures };
 
     fn write(&mut self, bytes: &[u8]) -> Result<usize, DeviceFailure> {
-        let count = self.stream.write(bytes)?;
-        self.told.note(&bytes[..count]);
-        Ok(count)
+        match self.stream.write_within(reply_span(self.written), bytes) {
+            Ok(count) => {
+                if count == 0 && !bytes.is_empty() {
+                    self.faults.note(&[0]);
+                }
+                self.told.note(&bytes[..count]);
+                self.written = self.written.saturating_add(count as u64);
+                Ok(count)
+            }
+            Err(failure) => {
+                self.faults.note(&[0]);
+                Err(failure)
+            }
+        }
     }
 }
 
-/// Reads and drops what comes of a peer that sends more than its head, for a while.
-fn read_on<R: Clock, S: Read + OpenStream>(clock: &R, stream: &mut S) {
-    let Ok(since) = Instant::now(clock) else {
-        return;
-    };
+/// Reads and drops what comes of a peer that sends more than its head, for a while. How long its waits could take.
+fn read_on<R: Clock, S: Read + OpenStream + Drop>(clock: &R, stream: S) -> Duration
+    ensures { as_nanos result ≤ 1_000_000_000 }
+{
     let whole = Duration::from_secs(LINGER_SECONDS);
-    let span = Span {
-        since,
-        whole,
-        most: whole,
-    };
+    let span = Span { whole, most: whole };
+    let mut stream = Timed::new(clock, stream, None);
     let mut dropped = [0; 8192];
     let mut total = 0;
     while total < LINGER_BYTES {
-        match read_within(clock, stream, span, Reading::Takes, &mut dropped) {
-            Ok(0) | Err(_) => return,
-            Ok(count) => total += count,
+        match stream.read_within(span, Reading::Takes, &mut dropped) {
+            Ok(count) if count > 0 => total += count,
+            _ => return stream.latest(),
         }
     }
+    stream.latest()
 }
 
 /// What an `accept` that failed stands for.
@@ -224,14 +259,24 @@ pub struct Loopback<'a, R: Net> {
     address: SocketAddr,
     still_open: StillOpen<R::Stream>,
     exchanges: Exchanges,
+    asked: Told,
+    ended: Told,
+    waited: Waited,
 }
 
 impl<'a, R: Net> Model for Loopback<'a, R> {
+    ghost use Rattle.std.specs.Prelude.{length};
     ghost use Rattle.archive_listen.specs.Sockets.{LoopbackState};
 
     ghost Value = { LoopbackState };
 
-    ghost view = { λ l. record { address = l.address; exchanges = l.exchanges.all } };
+    ghost view = { λ l. record {
+      address = l.address;
+      exchanges = l.exchanges.all;
+      asked = length l.asked.bytes;
+      ended = length l.ended.bytes;
+      waited = l.waited;
+    } };
 }
 
 impl<'a, R: Net> Loopback<'a, R> {
@@ -247,6 +292,13 @@ impl<'a, R: Net> Loopback<'a, R> {
             address,
             still_open: StillOpen::new(alloc),
             exchanges: Exchanges::new(),
+            asked: Told::new(),
+            ended: Told::new(),
+            waited: Waited {
+                head: Duration::ZERO,
+                reply: Duration::ZERO,
+                rest: Duration::ZERO,
+            },
         })
     }
 
@@ -286,7 +338,7 @@ impl<'a, R: Net + Clock> Ports for LoopbackPorts<'a, R> {
 fn connection_of<'a, R: Clock, S: Read + Write + OpenStream + Drop>(
     clock: &'a R,
     stream: S,
-) -> Result<Connection<SocketInput<'a, R, S>, Gathered<SocketOutput<S>, ROOM>>, AcceptFault>
+) -> Result<Connection<SocketInput<'a, R, S>, Gathered<SocketOutput<'a, R, S>, ROOM>>, AcceptFault>
     ensures input { IfOk result (λ c. c.input ≡ nothing_read) }
     ensures output { IfOk result (λ c. c.output ≡ record
         { inner = nothing_written; held = []; free = 16_384; failures = 0 }) }
@@ -297,29 +349,47 @@ fn connection_of<'a, R: Clock, S: Read + Write + OpenStream + Drop>(
     let Ok(written) = stream.try_clone() else {
         return Err(AcceptFault::Listener);
     };
-    if stream
-        .set_write_timeout(Some(Duration::from_secs(WRITE_SECONDS)))
-        .is_err()
-    {
-        return Err(AcceptFault::Peer);
-    }
     Ok(Connection {
         input: SocketInput::new(clock, stream, since),
-        output: Gathered::new(SocketOutput::new(written)),
+        output: Gathered::new(SocketOutput::new(clock, written)),
     })
 }
 
-/// Ends a connection in order: what came of its peer is taken, and one that sends more is read on for a while.
+/// Ends a connection, and counts it where that is in order: what came of its peer is taken, and one that sends more is read on for a
+/// while. Where its reply broke off, what came stays unread. How long the waits for what its peer sends could take.
 fn end<R: Clock, S: Read + OpenStream + Drop>(
     clock: &R,
     still_open: &mut StillOpen<S>,
-    peeked: Peeked<S>,
-) {
+    ended: &mut Told,
+    peeked: Peeked<'_, R, S>,
+    breaks_off: bool,
+) -> Duration
+    ensures counted { length ended.new.bytes ≡ ended_after breaks_off (length ended.old.bytes) }
+    ensures rest { as_nanos result ≤ 1_000_000_000 }
+{
+    if breaks_off {
+        return Duration::ZERO;
+    }
+    ended.note(&[0]);
     let mut peeked = peeked;
     match peeked.end() {
-        Some(true) => read_on(clock, peeked.stream()),
-        Some(false) => still_open.keep(clock, peeked.into_stream()),
-        None => {}
+        Some(true) => read_on(clock, peeked.into_stream()),
+        Some(false) => {
+            still_open.keep(clock, peeked.into_stream());
+            Duration::ZERO
+        }
+        None => Duration::ZERO,
+    }
+}
+
+/// Asks the system for a connection, and counts it.
+fn ask<L: OpenListener>(listener: &L, asked: &mut Told) -> Result<L::Stream, AcceptFault>
+    ensures { length asked.new.bytes ≡ length asked.old.bytes + 1 }
+{
+    asked.note(&[0]);
+    match listener.accept() {
+        Ok((stream, _)) => Ok(stream),
+        Err(error) => Err(accept_fault(error.kind())),
     }
 }
 
@@ -328,7 +398,7 @@ impl<'a, R: Net + Clock> Listener for Loopback<'a, R> {
 
     type Input = SocketInput<'a, R, R::Stream>;
 
-    type Output = Gathered<SocketOutput<R::Stream>, ROOM>;
+    type Output = Gathered<SocketOutput<'a, R, R::Stream>, ROOM>;
 
     ghost accepts = { Accepted };
 
@@ -337,31 +407,38 @@ impl<'a, R: Net + Clock> Listener for Loopback<'a, R> {
     fn accept(
         &mut self,
     ) -> Result<
-        Connection<SocketInput<'a, R, R::Stream>, Gathered<SocketOutput<R::Stream>, ROOM>>,
+        Connection<SocketInput<'a, R, R::Stream>, Gathered<SocketOutput<'a, R, R::Stream>, ROOM>>,
         AcceptFault,
     > {
-        match self.listener.accept() {
-            Ok((stream, _)) => connection_of(self.rt, stream),
-            Err(error) => Err(accept_fault(error.kind())),
-        }
+        let stream = ask(&self.listener, &mut self.asked)?;
+        connection_of(self.rt, stream)
     }
 
     fn close(
         &mut self,
         connection: Connection<
             SocketInput<'a, R, R::Stream>,
-            Gathered<SocketOutput<R::Stream>, ROOM>,
+            Gathered<SocketOutput<'a, R, R::Stream>, ROOM>,
         >,
         breaks_off: bool,
     )
         ensures closes { Closed self.old self.new
             (exchange connection.entry.input.told connection.entry.output.inner.told) breaks_off }
+        ensures head { as_nanos self.new.waited.head ≡ connection.entry.input.latest }
+        ensures reply { as_nanos self.new.waited.reply ≡ connection.entry.output.inner.latest }
     {
         let Connection { input, output } = connection;
         let output = output.into_inner();
         self.exchanges = Exchanges::with(&self.exchanges, &input.told, &output.told);
-        if !breaks_off {
-            end(self.rt, &mut self.still_open, input.stream);
-        }
+        let head = input.stream.latest();
+        let reply = output.stream.latest();
+        let rest = end(
+            self.rt,
+            &mut self.still_open,
+            &mut self.ended,
+            input.stream,
+            breaks_off,
+        );
+        self.waited = Waited { head, reply, rest };
     }
 }

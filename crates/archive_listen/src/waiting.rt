@@ -1,22 +1,33 @@
 //! How long reads may wait.
-ghost use Rattle.std.specs.Prelude.{◌≡◌, ◌≤◌, ◌<◌, ◌-◌, min, length, IfOk, IfSome, IsNone, ◌↔◌};
+ghost use Rattle.std.specs.Prelude.{◌≡◌, ◌≤◌, ◌+◌, ◌-◌, max, min, length, Some, IfOk, IfSome, IsNone, ◌↔◌};
+ghost use Rattle.archive_listen.specs.Waits.{WaitsWithin};
 ghost use Rattle.std.specs.Duration.{as_nanos};
 
 use byte_device::DeviceFailure;
-use std::io::{self, ErrorKind, Read};
-use std::net::OpenStream;
+use std::io::{self, ErrorKind, Read, Write};
+use std::marker::Model;
+use std::net::{OpenStream, Shutdown};
 use std::rt::Clock;
 use std::time::{Duration, Instant};
 
-/// A span of time that began, and the longest wait in it.
+/// The longest wait for some bytes, and the whole span of time that it lies in.
 #[derive(Clone, Copy, Drop)]
 pub(crate) struct Span {
-    /// When it began.
-    pub since: Instant,
-    /// How long it is.
-    pub whole: Duration,
-    /// The longest wait in it.
+    /// The longest wait.
     pub most: Duration,
+    /// The whole span.
+    pub whole: Duration,
+}
+
+/// How long the waits for one peer could take, each counted from its first one.
+#[derive(Clone, Copy, Drop)]
+pub(crate) struct Waited {
+    /// Those for its request.
+    pub head: Duration,
+    /// Those for what it takes of its reply.
+    pub reply: Duration,
+    /// Those for what it sends past its head.
+    pub rest: Duration,
 }
 
 /// How long a read may wait where so much of a whole span passed: at most `most`, and not past the span's end. None: it passed.
@@ -24,6 +35,7 @@ fn wait_after(most: Duration, whole: Duration, passed: Duration) -> Option<Durat
     ensures over { IsNone result ↔ (as_nanos whole ≤ as_nanos passed) }
     ensures wait { IfSome result (λ d. as_nanos d ≡ min (as_nanos most)
         (as_nanos whole - as_nanos passed)) }
+    ensures end { IfSome result (λ d. as_nanos passed + as_nanos d ≤ as_nanos whole) }
 {
     let left = whole.checked_sub(passed)?;
     if left.is_zero() {
@@ -33,24 +45,6 @@ fn wait_after(most: Duration, whole: Duration, passed: Duration) -> Option<Durat
         Some(most)
     } else {
         Some(left)
-    }
-}
-
-/// Lets the next read wait as long as it may. An error: the span has passed, or the clock or the socket failed.
-fn set_wait<R: Clock, S: OpenStream>(
-    clock: &R,
-    stream: &S,
-    span: Span,
-) -> Result<(), DeviceFailure> {
-    let Ok(passed) = span.since.elapsed(clock) else {
-        return Err(DeviceFailure);
-    };
-    let Some(wait) = wait_after(span.most, span.whole, passed) else {
-        return Err(DeviceFailure);
-    };
-    match stream.set_read_timeout(Some(wait)) {
-        Ok(()) => Ok(()),
-        Err(_) => Err(DeviceFailure),
     }
 }
 
@@ -77,23 +71,153 @@ fn read_by<S: Read + OpenStream>(
     }
 }
 
-/// One read within a span, made again where a signal interrupted it.
-pub(crate) fn read_within<R: Clock, S: Read + OpenStream>(
-    clock: &R,
-    stream: &mut S,
-    span: Span,
-    reading: Reading,
-    buffer: &mut [u8],
-) -> Result<usize, DeviceFailure>
-    ensures count { IfOk result (λ n. n ≤ length buffer.old) }
-{
-    for _ in 0..u64::MAX {
-        set_wait(clock, stream, span)?;
-        match read_by(stream, reading, buffer) {
-            Ok(count) => return Ok(count),
-            Err(error) if error.kind() == ErrorKind::Interrupted => {}
-            Err(_) => return Err(DeviceFailure),
+/// A stream whose waits lie in spans of time, which begin when it is made or at its first wait. Contracts see when that is, and
+/// how long after it the last wait could end that the system was asked for, in nanoseconds.
+#[derive(Drop)]
+pub(crate) struct Timed<'a, R, S> {
+    clock: &'a R,
+    stream: S,
+    since: Option<Instant>,
+    latest: Duration,
+}
+
+impl<'a, R, S> Model for Timed<'a, R, S> {
+    ghost use Rattle.std.specs.Duration.{as_nanos};
+    ghost use Rattle.archive_listen.specs.Waits.{TimedState};
+
+    ghost Value = { TimedState };
+
+    ghost view = { λ t. record { since = t.since; latest = as_nanos t.latest } };
+}
+
+impl<'a, R: Clock, S> Timed<'a, R, S> {
+    /// Nothing was waited for yet.
+    pub(crate) fn new(clock: &'a R, stream: S, since: Option<Instant>) -> Timed<'a, R, S>
+        ensures { result ≡ record { since = since; latest = 0 } }
+    {
+        Timed {
+            clock,
+            stream,
+            since,
+            latest: Duration::ZERO,
         }
     }
-    Err(DeviceFailure)
+
+    /// How long after its beginning the last wait could end.
+    pub(crate) fn latest(&self) -> Duration
+        ensures { as_nanos result ≡ self.now.latest }
+    {
+        self.latest
+    }
+
+    /// The stream.
+    pub(crate) fn into_stream(self) -> S {
+        self.stream
+    }
+
+    /// How long the next call may wait, which is written down. An error: the span has passed, or the clock failed.
+    #[tactic(auto, using(crate::proofs::WaitLemmas::waits_none))]
+    fn next_wait(&mut self, span: Span) -> Result<Duration, DeviceFailure>
+        ensures waits { WaitsWithin (as_nanos span.whole) self.old self.new }
+        ensures most { IfOk result (λ d. as_nanos d ≤ as_nanos span.most) }
+        ensures noted { IfOk result (λ d. as_nanos d ≤ self.new.latest) }
+    {
+        let Ok(now) = Instant::now(self.clock) else {
+            return Err(DeviceFailure);
+        };
+        let since = first_of(self.since, now);
+        self.since = Some(since);
+        let passed = now.duration_since(since);
+        let Some(wait) = wait_after(span.most, span.whole, passed) else {
+            return Err(DeviceFailure);
+        };
+        let Some(end) = passed.checked_add(wait) else {
+            return Err(DeviceFailure);
+        };
+        self.latest = later_of(self.latest, end);
+        Ok(wait)
+    }
+}
+
+/// The time that is there, or now.
+fn first_of(since: Option<Instant>, now: Instant) -> Instant
+    ensures { IfSome since (λ at. Some result ≡ Some at) }
+{
+    match since {
+        Some(at) => at,
+        None => now,
+    }
+}
+
+/// The longer one of two.
+fn later_of(first: Duration, second: Duration) -> Duration
+    ensures { as_nanos result ≡ max (as_nanos first) (as_nanos second) }
+{
+    if first.as_nanos() < second.as_nanos() {
+        second
+    } else {
+        first
+    }
+}
+
+impl<'a, R: Clock, S: Read + OpenStream> Timed<'a, R, S> {
+    /// One read within a span, made again where a signal interrupted it.
+    #[tactic(auto, using(crate::proofs::WaitLemmas::waits_none, crate::proofs::WaitLemmas::waits_more))]
+    pub(crate) fn read_within(
+        &mut self,
+        span: Span,
+        reading: Reading,
+        buffer: &mut [u8],
+    ) -> Result<usize, DeviceFailure>
+        ensures count { IfOk result (λ n. n ≤ length buffer.old) }
+        ensures waits { WaitsWithin (as_nanos span.whole) self.old self.new }
+    {
+        for _ in 0..u64::MAX {
+            let wait = self.next_wait(span)?;
+            if self.stream.set_read_timeout(Some(wait)).is_err() {
+                return Err(DeviceFailure);
+            }
+            match read_by(&mut self.stream, reading, buffer) {
+                Ok(count) => return Ok(count),
+                Err(error) if error.kind() == ErrorKind::Interrupted => {}
+                Err(_) => return Err(DeviceFailure),
+            }
+        }
+        Err(DeviceFailure)
+    }
+
+    /// Takes what has come. No wait.
+    pub(crate) fn take(&mut self, buffer: &mut [u8]) -> io::Result<usize>
+        ensures count { IfOk result (λ n. n ≤ length buffer.old) }
+        ensures same { self.new ≡ self.old }
+    {
+        read_by(&mut self.stream, Reading::Takes, buffer)
+    }
+
+    /// Ends what is written. None: the stream failed.
+    pub(crate) fn end(&self) -> Option<()> {
+        self.stream.shutdown(Shutdown::Write).ok()
+    }
+}
+
+impl<'a, R: Clock, S: Write + OpenStream> Timed<'a, R, S> {
+    /// One write within a span, made again where a signal interrupted it.
+    #[tactic(auto, using(crate::proofs::WaitLemmas::waits_none, crate::proofs::WaitLemmas::waits_more))]
+    pub(crate) fn write_within(&mut self, span: Span, bytes: &[u8]) -> Result<usize, DeviceFailure>
+        ensures count { IfOk result (λ n. n ≤ length bytes.now) }
+        ensures waits { WaitsWithin (as_nanos span.whole) self.old self.new }
+    {
+        for _ in 0..u64::MAX {
+            let wait = self.next_wait(span)?;
+            if self.stream.set_write_timeout(Some(wait)).is_err() {
+                return Err(DeviceFailure);
+            }
+            match self.stream.write(bytes) {
+                Ok(count) => return Ok(count),
+                Err(error) if error.kind() == ErrorKind::Interrupted => {}
+                Err(_) => return Err(DeviceFailure),
+            }
+        }
+        Err(DeviceFailure)
+    }
 }

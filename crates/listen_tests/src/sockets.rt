@@ -1,5 +1,5 @@
 //! Peers of this process, on the loopback interface.
-use crate::words::{FOUND, MISSED, Words};
+use crate::words::{BEGUN, FOUND, LONG, MISSED, Words};
 use archive_listen::{Listener, Loopback, serve_each};
 use mbox_core::device::Tap;
 use std::alloc::Global;
@@ -16,7 +16,7 @@ struct Case {
     told: &'static [u8],
 }
 
-const CASES: [Case; 5] = [
+const CASES: [Case; 6] = [
     Case {
         says: b"GET",
         ends: false,
@@ -27,6 +27,13 @@ const CASES: [Case; 5] = [
         says: b"PUT",
         ends: false,
         gets: MISSED,
+        told: b"",
+    },
+    // Its reply goes out in pieces, each within the time that is left for the whole.
+    Case {
+        says: b"LONG",
+        ends: false,
+        gets: LONG,
         told: b"",
     },
     Case {
@@ -109,5 +116,22 @@ fn each_peer_gets_its_reply(rt: HostRuntime) -> Result<(), Fail> {
     for case in &CASES {
         is_answered(&rt, rt.alloc(), &mut listener, port, case)?;
     }
+    Ok(())
+}
+
+#[test]
+fn a_reply_that_breaks_off_ends_in_no_order(rt: HostRuntime) -> Result<(), Fail> {
+    let mut listener = Loopback::bind(&rt, rt.alloc(), 0).map_err(|_| "no port")?;
+    let port = listener.port();
+    let mut first = says(&rt, port, b"BREAK", false)?;
+    let mut second = says(&rt, port, b"GET", false)?;
+    let faults = answers_two(rt.alloc(), &mut listener)?;
+    let mut text = Vec::new(rt.alloc());
+    let ended = first.read_to_end(&mut text);
+    let next = heard(rt.alloc(), &mut second)?;
+    assert!(rt; ended.is_err());
+    assert!(rt; BEGUN.starts_with(&text));
+    assert!(rt; is_text(&next, FOUND));
+    assert!(rt; is_text(faults.bytes(), b"archive: S3 Broken\n"));
     Ok(())
 }

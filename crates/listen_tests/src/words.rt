@@ -13,10 +13,15 @@ pub const BEGUN: &[u8] = b"200 ye";
 /// Replies to any other.
 pub const MISSED: &[u8] = b"404 no\n";
 
+/// Replies to a request that begins with `LONG`: more than what is held back at once, and than one piece of it.
+pub const LONG: &[u8] = &[b'l'; 40_000];
+
 /// What is told of a request, and what it gets.
 fn reply_to(request: &[u8]) -> (Result<u16, ConnectionFault>, &'static [u8]) {
     if request.starts_with(b"GET") {
         (Ok(200), FOUND)
+    } else if request.starts_with(b"LONG") {
+        (Ok(200), LONG)
     } else if request.starts_with(b"BREAK") {
         (Err(ConnectionFault::Broken), BEGUN)
     } else {
