@@ -1,16 +1,16 @@
 #!/usr/bin/env python3
 """bindings.py: the library of bindings/ from Python, beside Python's own mailbox and email; its leaks, and growths refused in turn.
 
-  bench/bindings.py [--messages 50000] [--rounds 3] [--library FOLDER]
+  bench/bindings.py [--messages 50000] [--rounds 3] [--library FOLDER] [--beside FOLDER]
 
 FOLDER (bindings/out) is what bindings/build.sh made. An mbox of --messages ordinary messages (bench/gen_mbox.py) is cut by `cut`
 and by `mailbox.mbox`, which have to find as many; of each message the ids, the sent date and the base of its subject are asked
 of the library, and the same fields of `email`, by its parser of whole messages and by its parser of headers alone, which give
 texts that nobody has read yet. Cutting is asked to be 20 times as fast, the fields 10 times. Then the mbox is threaded. Times are
 a processor's, and the least of so many rounds, for all of them. bindings/c/calls.c is run under valgrind, and with each growth of
-memory refused in turn.
+memory refused in turn. With --beside the same calls are first made of another build of the library, in turn with the first.
 """
-import argparse, email, email.parser, email.policy, email.utils, mailbox, os, pathlib, subprocess, sys, tempfile, time
+import argparse, email, email.parser, email.policy, email.utils, importlib, mailbox, os, pathlib, subprocess, sys, tempfile, time
 
 ROOT = pathlib.Path(__file__).resolve().parent.parent
 sys.path[:0] = [str(ROOT / "tools"), str(ROOT / "bindings" / "python")]
@@ -24,6 +24,13 @@ def least(rounds, call):
         found = call()
         best = min(best, time.process_time() - begun)
     return best, found
+
+
+def loaded(folder):
+    """Returns the module with the library of this folder."""
+    os.environ["LUVAZHIMBA_LIB"] = str(folder.resolve() / "libluvazhimba.so")
+    sys.modules.pop("luvazhimba", None)
+    return importlib.import_module("luvazhimba")
 
 
 def cut_by_mailbox(path):
@@ -59,7 +66,7 @@ def compare(luv, path, rounds):
     print(f"cut: {ours:.3f} s, mailbox {theirs:.2f} s: {theirs / ours:.0f} times")
     texts = [data[it.start:it.end] for it in messages]
     headers = email.parser.BytesHeaderParser(policy=email.policy.compat32).parsebytes
-    subjects = [str(headers(it)["subject"] or "").replace("\n", "").encode("utf-8", "surrogateescape") for it in texts]
+    subjects = subjects_of(texts)
     ours, _ = least(rounds, lambda: fields_by_library(luv, texts, messages, subjects))
     for name, parse in (("email.message_from_bytes", email.message_from_bytes), ("BytesHeaderParser", headers)):
         theirs, _ = least(rounds, lambda: fields_by_email(parse, texts))
@@ -67,6 +74,24 @@ def compare(luv, path, rounds):
     for what, call in (("threads_of_mbox", lambda: luv.threads_of_mbox(data)), ("threads", lambda: luv.threads(data, messages))):
         seconds, rows = least(rounds, call)
         print(f"{what}: {seconds:.2f} s, {len(rows)} rows")
+
+
+def subjects_of(texts):
+    headers = email.parser.BytesHeaderParser(policy=email.policy.compat32).parsebytes
+    return [str(headers(it)["subject"] or "").replace("\n", "").encode("utf-8", "surrogateescape") for it in texts]
+
+
+def beside(one, other, path, rounds):
+    """Says how long the calls of two builds take, made in turn."""
+    data = path.read_bytes()
+    messages = one.cut(data)
+    texts = [data[it.start:it.end] for it in messages]
+    subjects = subjects_of(texts)
+    calls = {"cut": lambda luv: luv.cut(data), "ids, dates and subjects": lambda luv: fields_by_library(luv, texts, messages, subjects), "threads_of_mbox": lambda luv: luv.threads_of_mbox(data)}
+    for what, call in calls.items():
+        times = [[least(1, lambda: call(luv))[0] for luv in (one, other)] for _ in range(rounds)]
+        ours, theirs = map(min, zip(*times))
+        print(f"{what}: {ours:.3f} s, the other build {theirs:.3f} s: {ours / theirs:.2f}")
 
 
 def leaks(program):
@@ -103,15 +128,17 @@ def main():
     words.add_argument("--messages", type=int, default=50_000)
     words.add_argument("--rounds", type=int, default=3)
     words.add_argument("--library", type=pathlib.Path, default=ROOT / "bindings" / "out")
+    words.add_argument("--beside", type=pathlib.Path)
     words = words.parse_args()
     folder = words.library.resolve()
-    os.environ["LUVAZHIMBA_LIB"] = str(folder / "libluvazhimba.so")
-    import luvazhimba
     with tempfile.TemporaryDirectory() as room:
         path, program = pathlib.Path(room) / "mbox", pathlib.Path(room) / "calls"
         with open(path, "wb") as mbox:
             subprocess.run([sys.executable, ROOT / "bench" / "gen_mbox.py", "--n", str(words.messages)], stdout=mbox, stderr=subprocess.DEVNULL, check=True)
-        compare(luvazhimba, path, words.rounds)
+        if words.beside:
+            other = loaded(words.beside)
+            beside(loaded(folder), other, path, words.rounds)
+        compare(loaded(folder), path, words.rounds)
         subprocess.run(["cc", "-std=gnu11", "-g", f"-I{folder}", ROOT / "bindings" / "c" / "calls.c", folder / "libluvazhimba.a", "-o", program], check=True)
         is_right = leaks(program) & refusals(program, room)
     sys.exit(0 if is_right else 1)

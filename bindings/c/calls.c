@@ -31,11 +31,11 @@ static void try_subjects(void) {
     uint8_t text[64];
     struct luv_base found = {0, false};
     check(CALL(luv_base_subject(BYTES("Re: [soc] Hello (fwd)"), ROOM(text), &found)) == LUV_DONE, "a base");
-    check(found.len == 5 && found.reply && !memcmp(text, "hello", 5), "of a reply");
+    check(found.len == 5 && found.is_reply && !memcmp(text, "hello", 5), "of a reply");
     check(CALL(luv_base_subject(BYTES("a\tB"), ROOM(text), &found)) == LUV_DONE, "another base");
-    check(found.len == 3 && !found.reply && !memcmp(text, "a b", 3), "of no reply");
+    check(found.len == 3 && !found.is_reply && !memcmp(text, "a b", 3), "of no reply");
     check(CALL(luv_base_subject(BYTES("Re: Hello"), text, 4, &found)) == LUV_NO_ROOM && found.len == 5, "a base that has no room");
-    check(CALL(luv_base_subject(NULL, 0, NULL, 0, &found)) == LUV_DONE && found.len == 0 && !found.reply, "the base of nothing");
+    check(CALL(luv_base_subject(NULL, 0, NULL, 0, &found)) == LUV_DONE && found.len == 0 && !found.is_reply, "the base of nothing");
     check(luv_base_subject(text, SIZE_MAX, ROOM(text), &found) == LUV_TOO_LONG, "a subject that is too long");
 }
 
@@ -69,13 +69,13 @@ static void try_cutting(void) {
     struct luv_message messages[4];
     size_t count = 9;
     check(luv_cut(BYTES(MBOX), ROOM(messages), &count) == LUV_DONE && count == 2, "an mbox");
-    check(messages[0].from == 35 && messages[0].to == 56 && messages[0].arrival == 1046772000, "its first message");
-    check(messages[1].from == 91 && messages[1].to == 109 && messages[1].arrival == 1046775600, "its second message");
+    check(messages[0].start == 35 && messages[0].end == 56 && messages[0].arrival == 1046772000, "its first message");
+    check(messages[1].start == 91 && messages[1].end == 109 && messages[1].arrival == 1046775600, "its second message");
     check(luv_cut(BYTES(MBOX), messages, 1, &count) == LUV_NO_ROOM && count == 2, "an mbox that has no room");
     check(luv_cut(BYTES("\n\nno\n"), ROOM(messages), &count) == LUV_NO_MBOX && count == 2, "no mbox");
     check(luv_cut(NULL, 0, NULL, 0, &count) == LUV_DONE && count == 0, "an mbox without messages");
     check(luv_cut(BYTES("From a@b Tue Mar  4 10:00:00 2003"), ROOM(messages), &count) == LUV_DONE && count == 1, "a separator line alone");
-    check(messages[0].from == 33 && messages[0].to == 33, "stands before the end");
+    check(messages[0].start == 33 && messages[0].end == 33, "stands before the end");
     check(luv_cut(NULL, SIZE_MAX, ROOM(messages), &count) == LUV_TOO_LONG, "an mbox that is too long");
 }
 
@@ -90,13 +90,16 @@ static void try_threads(void) {
     check(CALL(luv_threads(BYTES(bytes), ROOM(messages), true, 1, 2, rows, 1, &count)) == LUV_NO_ROOM && count == 2, "threads that have no room");
     check(CALL(luv_threads(NULL, 0, NULL, 0, true, 1, 2, NULL, 0, &count)) == LUV_DONE && count == 0, "the threads of nothing");
     check(CALL(luv_threads((const uint8_t *)bytes, 37, ROOM(messages), true, 1, 2, ROOM(rows), &count)) == LUV_OUTSIDE, "a message past the end");
-    messages[1].from = 39;
+    messages[1].start = 39;
     check(CALL(luv_threads(BYTES(bytes), ROOM(messages), true, 1, 2, ROOM(rows), &count)) == LUV_OUTSIDE, "a message that ends before it begins");
-    messages[1].from = 19, messages[1].arrival = INT64_MAX;
+    messages[1].start = 19, messages[1].arrival = INT64_MAX;
     check(CALL(luv_threads(BYTES(bytes), ROOM(messages), true, 1, 2, ROOM(rows), &count)) == LUV_NO_INSTANT, "a message without an instant");
     check(luv_threads(BYTES(bytes), messages, SIZE_MAX, true, 1, 2, ROOM(rows), &count) == LUV_TOO_LONG, "messages that are too many");
+    check(luv_threads(NULL, SIZE_MAX, messages, 0, true, 1, 2, ROOM(rows), &count) == LUV_TOO_LONG, "bytes that are too many");
+    check(luv_threads_of_mbox(NULL, SIZE_MAX, true, 1, 2, ROOM(rows), &count) == LUV_TOO_LONG, "the threads of an mbox that is too long");
     check(CALL(luv_threads_of_mbox(BYTES(MBOX), true, 1, 2, ROOM(rows), &count)) == LUV_DONE && count == 2 && rows[1].depth == 1, "an mbox's threads");
     check(CALL(luv_threads_of_mbox(BYTES(MBOX), true, 1, 2, NULL, 0, &count)) == LUV_NO_ROOM && count == 2, "those that have no room");
+    check(CALL(luv_threads_of_mbox(BYTES(MBOX), true, 1, 2, rows, count, &count)) == LUV_DONE && count == 2, "those that have just the room that was wanted");
     check(CALL(luv_threads_of_mbox(BYTES("\nno\n"), true, 1, 2, ROOM(rows), &count)) == LUV_NO_MBOX && count == 1, "the threads of no mbox");
     check(CALL(luv_threads_of_mbox(NULL, 0, false, 1, 2, NULL, 0, &count)) == LUV_DONE && count == 0, "of an mbox without messages");
 }

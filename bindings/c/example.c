@@ -20,7 +20,7 @@ int main(void) {
     for (size_t at = 0; at < count; at++) {
         int64_t sent;
         const struct luv_message *it = &messages[at];
-        if (luv_sent_date(mbox + it->from, it->to - it->from, it->arrival, &sent) != LUV_DONE) return 1;
+        if (luv_sent_date(mbox + it->start, it->end - it->start, it->arrival, &sent) != LUV_DONE) return 1;
         printf("%zu sent %" PRId64 "\n", at, sent);
     }
     if (luv_threads(mbox, len, messages, count, true, keys[0], keys[1], rows, 2 * count, &count) != LUV_DONE) return 1;

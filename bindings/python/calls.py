@@ -1,4 +1,6 @@
 """Each function with what it has to return, and with what it has to refuse. The last line is 'N passed, M failed'."""
+import copy
+import pickle
 import sys
 
 import luvazhimba as luv
@@ -10,11 +12,19 @@ MANY = b"References: " + b" ".join(b"<%d@x>" % it for it in range(5_000)) + b"\n
 
 
 def refusal(call, *words):
-    """Returns the number and the offset of a refusal, or what the call returned."""
+    """Returns the number and the offset of a refusal, the name of another error, or what the call returned."""
     try:
         return call(*words)
     except luv.Refused as refused:
         return refused.number, refused.offset
+    except Exception as error:
+        return type(error).__name__
+
+
+def carried(how):
+    """Returns what a refusal says that was copied, or sent to another process."""
+    it = how(luv.Refused(5, 3))
+    return it.number, it.offset, str(it)
 
 
 CASES = [
@@ -43,6 +53,25 @@ CASES = [
     (refusal(luv.threads, MBOX, [luv.Message(0, len(MBOX) + 1, 5)]), (luv.OUTSIDE, None)),
     (refusal(luv.threads, MBOX, [luv.Message(0, 1, 1 << 62)]), (luv.NO_INSTANT, None)),
     (refusal(luv.threads_of_mbox, b"\nno\n"), (luv.NO_MBOX, 1)),
+    # numbers that a call cannot hand over, and bytes that are no `bytes`
+    (refusal(luv.sent_date, b"", (1 << 64) + 5), (luv.NO_INSTANT, None)),
+    (refusal(luv.threads, MBOX, [luv.Message(0, 1, 1 << 63)]), (luv.NO_INSTANT, None)),
+    (refusal(luv.threads, MBOX, [luv.Message(-1, 1, 5)]), (luv.OUTSIDE, None)),
+    (refusal(luv.threads, MBOX, [luv.Message(0, 1 << 64, 5)]), (luv.OUTSIDE, None)),
+    (refusal(luv.threads, MBOX, [luv.Message(0, 1 << 64, 1.5)]), (luv.OUTSIDE, None)),
+    (refusal(luv.threads, MBOX, [luv.Message(0, 1.5, 5)]), "TypeError"),
+    (refusal(luv.sent_date, b"", 1.5), "TypeError"),
+    (refusal(luv.cut, "From a@b"), "TypeError"),
+    (refusal(luv.base_subject, 5), "TypeError"),
+    (refusal(luv.base_subject, bytearray(b"Re: a")), luv.Base(b"a", True)),
+    (refusal(luv.message_ids, memoryview(b"Message-ID: <a@b>\n")), luv.Ids(b"a@b", [])),
+    (refusal(luv.cut, bytearray(MBOX)), MESSAGES),
+    (refusal(luv.threads_of_mbox, memoryview(MBOX)), [luv.Row(0, 0), luv.Row(1, 1)]),
+    # a refusal goes from one process to another
+    *[(refusal(carried, how), (5, 3, "the first line that is not empty is no separator line (it begins at 3)"))
+      for how in (lambda it: it, copy.copy, lambda it: pickle.loads(pickle.dumps(it)))],
+    # numbers that no call of this version answers
+    *[(refusal(lambda: str(luv.Refused(it))), f"the library answers {it}, which this call does not have") for it in (1, 7, 255)],
 ]
 
 if __name__ == "__main__":

@@ -14,9 +14,12 @@ import pathlib
 import secrets
 import struct
 from ctypes import POINTER, byref, c_bool, c_char, c_char_p, c_int64, c_size_t, c_uint8, c_uint64
-from typing import Callable, Iterable, List, NamedTuple, Optional
+from operator import index
+from typing import Any, Callable, Iterable, List, NamedTuple, Optional
 
-__all__ = ["Base", "Ids", "Message", "Refused", "Row", "base_subject", "cut", "message_ids", "sent_date", "threads", "threads_of_mbox"]
+__all__ = ["Base", "Ids", "Message", "Refused", "Row", "base_subject", "cut", "message_ids", "sent_date", "threads", "threads_of_mbox",
+           "NO_ROOM", "NO_MEMORY", "NO_INSTANT", "OUTSIDE", "NO_MBOX", "TOO_LONG"]
+__version__ = "0.3.0"
 
 
 class Base(NamedTuple):
@@ -32,7 +35,7 @@ class Ids(NamedTuple):
 
 
 class Message(NamedTuple):
-    """Where a message stands, as in `mbox[start:end]`, and when it arrived, in seconds since 1970."""
+    """Where a message is, as in `mbox[start:end]`, and when it arrived, in seconds since 1970."""
     start: int
     end: int
     arrival: int
@@ -48,30 +51,47 @@ class Refused(ValueError):
     """The library refuses. `number` is the number of the refusal, `offset` where the line begins that makes the bytes no mbox."""
 
     def __init__(self, number: int, offset: Optional[int] = None) -> None:
-        super().__init__(_REFUSALS[number] + (f" (it begins at {offset})" if offset is not None else ""))
+        # (an exception is copied, and sent to another process, as the words that it was made with)
+        super().__init__(number, offset)
         self.number, self.offset = number, offset
+
+    def __str__(self) -> str:
+        said = _REFUSALS.get(self.number, f"the library answers {self.number}, which this call does not have")
+        return said + (f" (it begins at {self.offset})" if self.offset is not None else "")
 
 
 NO_ROOM, NO_MEMORY, NO_INSTANT, OUTSIDE, NO_MBOX, TOO_LONG = range(1, 7)
 _REFUSALS = {
     NO_INSTANT: "an arrival lies outside the years 1900 to 9998",
-    OUTSIDE: "a message stands outside the bytes",
+    OUTSIDE: "a message lies outside the bytes",
     NO_MBOX: "the first line that is not empty is no separator line",
     TOO_LONG: "there are more than 2^40 elements",
 }
 
 
 class _Base(ctypes.Structure):
-    _fields_ = [("len", c_size_t), ("reply", c_bool)]
+    _fields_ = [("len", c_size_t), ("is_reply", c_bool)]
 
 
 class _Ids(ctypes.Structure):
     _fields_ = [("own", c_size_t), ("count", c_size_t), ("len", c_size_t)]
 
 
+# What an `int64_t` holds. Which of these are instants says the library.
+_INT64 = range(-(1 << 63), 1 << 63)
+
 # (as luv_message and luv_row have them)
 _MESSAGE, _ROW = struct.Struct("@NNq"), struct.Struct("@NN?7x")
-_LIBRARY = ctypes.CDLL(os.environ.get("LUVAZHIMBA_LIB") or str(pathlib.Path(__file__).with_name("libluvazhimba.so")))
+
+
+def _library() -> str:
+    """Return where the library lies: where LUVAZHIMBA_LIB says, in this package, or where bindings/build.sh makes it."""
+    here = pathlib.Path(__file__).resolve().parent
+    packaged, built = here / "libluvazhimba.so", here.parents[1] / "out" / "libluvazhimba.so"
+    return os.environ.get("LUVAZHIMBA_LIB") or str(built if built.is_file() and not packaged.is_file() else packaged)
+
+
+_LIBRARY = ctypes.CDLL(_library())
 
 
 def _export(name: str, *words: type) -> Callable[..., int]:
@@ -94,8 +114,13 @@ _TEXTS_ROOM, _LENS_ROOM = 1_000, 20
 _Texts, _Lens = c_char * _TEXTS_ROOM, c_size_t * _LENS_ROOM
 
 
+def _bytes(data: Any) -> bytes:
+    """Return bytes as they are, and any other bytes-like object as a copy; anything else is a TypeError."""
+    return data if isinstance(data, bytes) else bytes(memoryview(data))
+
+
 def _refuse(status: int, offset: Optional[int] = None) -> None:
-    """Raises what a status that is not 0 means."""
+    """Raise what a status other than 0 means."""
     if status == NO_MEMORY:
         raise MemoryError
     if status:
@@ -104,15 +129,17 @@ def _refuse(status: int, offset: Optional[int] = None) -> None:
 
 def base_subject(subject: bytes) -> Base:
     """Return the base of an unfolded subject (RFC 5256, section 2.1), in ASCII lower case."""
+    subject = _bytes(subject)
     room, found = max(len(subject), _TEXTS_ROOM), _Base()
     text = _Texts() if room == _TEXTS_ROOM else (c_char * room)()
     if status := _base_subject(subject, len(subject), text, room, byref(found)):
         _refuse(status)
-    return Base(text[:found.len], found.reply)
+    return Base(text[:found.len], found.is_reply)
 
 
 def message_ids(message: bytes) -> Ids:
     """Return the ids that a message names (RFC 5322, section 3.6.4), each as `left@right`."""
+    message = _bytes(message)
     texts, lens, found = _Texts(), _Lens(), _Ids()
     while status := _message_ids(message, len(message), texts, len(texts), lens, len(lens), byref(found)):
         if status != NO_ROOM:
@@ -127,14 +154,16 @@ def message_ids(message: bytes) -> Ids:
 
 def sent_date(message: bytes, arrival: int) -> int:
     """Return when a message was sent that arrived then, in seconds since 1970: by its Date field, else the arrival."""
-    sent = c_int64()
+    message, sent = _bytes(message), c_int64()
+    if index(arrival) not in _INT64:
+        raise Refused(NO_INSTANT)
     if status := _sent_date(message, len(message), arrival, byref(sent)):
         _refuse(status)
     return sent.value
 
 
 def _filled(call: Callable[..., int], layout: struct.Struct, room: int) -> memoryview:
-    """Calls with an array of so many elements, and again where that has no room; returns the elements that were written."""
+    """Call with an array of this many elements, and again if that has no room; return the elements that were written."""
     count = c_size_t()
     while True:
         array = ctypes.create_string_buffer(room * layout.size)
@@ -148,6 +177,7 @@ def _filled(call: Callable[..., int], layout: struct.Struct, room: int) -> memor
 
 def cut(mbox: bytes) -> List[Message]:
     """Return the messages of an mbox (RFC 4155), in order."""
+    mbox = _bytes(mbox)
     found = _filled(lambda *out: _cut(mbox, len(mbox), *out), _MESSAGE, 64 + len(mbox) // 1_000)
     return list(map(Message._make, _MESSAGE.iter_unpack(found)))
 
@@ -158,15 +188,28 @@ def _rows(call: Callable[..., int], room: int) -> List[Row]:
     return [Row(depth, place if is_message else None) for depth, place, is_message in _ROW.iter_unpack(found)]
 
 
+def _packed(start: int, end: int, arrival: int) -> bytes:
+    """Return a message as the library has it. A number that is too large for that is refused as the library refuses large ones."""
+    try:
+        return _MESSAGE.pack(start, end, arrival)
+    except struct.error:
+        if not 0 <= index(start) <= index(end) < 1 << 64:
+            raise Refused(OUTSIDE) from None
+        if index(arrival) not in _INT64:
+            raise Refused(NO_INSTANT) from None
+        raise
+
+
 def threads(data: bytes, messages: Iterable[Message], merge: bool = True) -> List[Row]:
     """Return the threads of messages in some bytes (RFC 5256, section 3, REFERENCES), in preorder.
 
     Those of one base subject are gathered where `merge` is true."""
-    places = [_MESSAGE.pack(*it) for it in messages]
+    data, places = _bytes(data), [_packed(*it) for it in messages]
     array, count = b"".join(places), len(places)
     return _rows(lambda *rest: _threads(data, len(data), array, count, merge, *rest), 2 * count)
 
 
 def threads_of_mbox(mbox: bytes, merge: bool = True) -> List[Row]:
     """Return the threads of the messages of an mbox; a row's place is that of its message in the order of `cut`."""
+    mbox = _bytes(mbox)
     return _rows(lambda *rest: _threads_of_mbox(mbox, len(mbox), merge, *rest), 64 + len(mbox) // 500)

@@ -10,7 +10,7 @@ fn main() -> Result<(), Box<dyn Error>> {
     stdin().read_to_end(&mut mbox)?;
     let messages = cut(&mbox)?;
     for (place, it) in messages.iter().enumerate() {
-        println!("{place} sent {}", sent_date(&mbox[it.from..it.to], it.arrival)?);
+        println!("{place} sent {}", sent_date(&mbox[it.start..it.end], it.arrival)?);
     }
     for row in threads(&mbox, &messages, true)? {
         let place = row.place.map_or("-".to_string(), |it| it.to_string());

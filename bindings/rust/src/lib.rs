@@ -9,12 +9,15 @@ use std::hash::{BuildHasher, Hasher};
 
 pub mod sys;
 
-/// Where a message stands, as in `&mbox[from..to]`, and when it arrived, in seconds since 1970-01-01 00:00:00 UTC.
+/// The version of this crate, and of the library that it was written for.
+pub const VERSION: &str = env!("CARGO_PKG_VERSION");
+
+/// Where a message is, as in `&mbox[start..end]`, and when it arrived, in seconds since 1970-01-01 00:00:00 UTC.
 #[repr(C)]
 #[derive(Clone, Copy, Debug, Default, PartialEq, Eq)]
 pub struct Message {
-    pub from: usize,
-    pub to: usize,
+    pub start: usize,
+    pub end: usize,
     pub arrival: i64,
 }
 
@@ -41,52 +44,65 @@ pub struct Row {
 
 /// Why a call refuses.
 #[derive(Clone, Copy, Debug, PartialEq, Eq)]
+#[non_exhaustive]
 pub enum Refusal {
     /// No memory is left.
-    Memory,
+    NoMemory,
     /// An arrival lies outside the years 1900 to 9998.
-    Instant,
-    /// A message stands outside the bytes.
+    NoInstant,
+    /// A message lies outside the bytes.
     Outside,
     /// The first line that is not empty begins there and is no separator line.
-    Mbox(usize),
+    NoMbox(usize),
     /// An array has more than 2^40 elements.
     TooLong,
+    /// The library answers a number that this call does not have.
+    Unknown(u8),
 }
 
 impl fmt::Display for Refusal {
     fn fmt(&self, f: &mut fmt::Formatter<'_>) -> fmt::Result {
         match self {
-            Refusal::Memory => f.write_str("no memory is left"),
-            Refusal::Instant => f.write_str("an arrival lies outside the years 1900 to 9998"),
-            Refusal::Outside => f.write_str("a message stands outside the bytes"),
-            Refusal::Mbox(offset) => write!(f, "the first line that is not empty, at {offset}, is no separator line"),
+            Refusal::NoMemory => f.write_str("no memory is left"),
+            Refusal::NoInstant => f.write_str("an arrival lies outside the years 1900 to 9998"),
+            Refusal::Outside => f.write_str("a message lies outside the bytes"),
+            Refusal::NoMbox(offset) => write!(f, "the first line that is not empty, at {offset}, is no separator line"),
             Refusal::TooLong => f.write_str("there are more than 2^40 elements"),
+            Refusal::Unknown(status) => write!(f, "the library answers {status}, which this call does not have"),
         }
     }
 }
 
 impl std::error::Error for Refusal {}
 
-/// What a status other than 0 means; `offset` is what a count says beside it.
+/// What a status other than 0 means, with the count that came with it.
 fn refusal(status: u8, offset: usize) -> Refusal {
     match status {
-        sys::NO_INSTANT => Refusal::Instant,
+        sys::NO_MEMORY => Refusal::NoMemory,
+        sys::NO_INSTANT => Refusal::NoInstant,
         sys::OUTSIDE => Refusal::Outside,
-        sys::NO_MBOX => Refusal::Mbox(offset),
+        sys::NO_MBOX => Refusal::NoMbox(offset),
         sys::TOO_LONG => Refusal::TooLong,
-        _ => Refusal::Memory,
+        _ => Refusal::Unknown(status),
     }
+}
+
+/// An array for an answer.
+fn room<T: Clone + Default>(len: usize) -> Result<Vec<T>, Refusal> {
+    let mut array = Vec::new();
+    array.try_reserve_exact(len).map_err(|_| Refusal::NoMemory)?;
+    array.resize(len, T::default());
+    Ok(array)
 }
 
 /// The base of an unfolded subject (RFC 5256, section 2.1), in ASCII lower case.
 pub fn base_subject(subject: &[u8]) -> Result<Base, Refusal> {
-    let (mut text, mut found) = (vec![0; subject.len()], sys::Base::default());
+    let (mut text, mut found) = (room(subject.len())?, sys::Base::default());
     // SAFETY: each pointer and length are those of one slice or value, borrowed for the call, and none of them overlap. So below.
     match unsafe { sys::luv_base_subject(subject.as_ptr(), subject.len(), text.as_mut_ptr(), text.len(), &mut found) } {
         sys::DONE => {
             text.truncate(found.len);
-            Ok(Base { text, is_reply: found.reply })
+            Ok(Base { text, is_reply: found.is_reply })
         }
         status => Err(refusal(status, 0)),
     }
@@ -94,13 +110,13 @@ pub fn base_subject(subject: &[u8]) -> Result<Base, Refusal> {
 
 /// The ids that a message names (RFC 5322, section 3.6.4).
 pub fn message_ids(message: &[u8]) -> Result<Ids, Refusal> {
-    let (mut texts, mut lens, mut found) = (vec![0; 1_000], vec![0; 20], sys::Ids::default());
+    let (mut texts, mut lens, mut found) = (room(1_000)?, room(20)?, sys::Ids::default());
     loop {
         let (text, len) = (texts.as_mut_ptr(), lens.as_mut_ptr());
         // SAFETY: as above.
         match unsafe { sys::luv_message_ids(message.as_ptr(), message.len(), text, texts.len(), len, lens.len(), &mut found) } {
             sys::DONE => break,
-            sys::NO_ROOM => (texts, lens) = (vec![0; found.len], vec![0; found.count]),
+            sys::NO_ROOM => (texts, lens) = (room(found.len)?, room(found.count)?),
             status => return Err(refusal(status, 0)),
         }
     }
@@ -124,12 +140,12 @@ pub fn sent_date(message: &[u8], arrival: i64) -> Result<i64, Refusal> {
 }
 
 /// Calls with an array of so many elements, and again where that has no room.
-fn filled<T: Clone + Default>(room: usize, call: impl Fn(&mut [T], &mut usize) -> u8) -> Result<Vec<T>, Refusal> {
-    let (mut array, mut count) = (vec![T::default(); room], 0);
+fn filled<T: Clone + Default>(len: usize, call: impl Fn(&mut [T], &mut usize) -> u8) -> Result<Vec<T>, Refusal> {
+    let (mut array, mut count) = (room(len)?, 0);
     loop {
         match call(&mut array, &mut count) {
             sys::DONE => break,
-            sys::NO_ROOM => array = vec![T::default(); count],
+            sys::NO_ROOM => array = room(count)?,
             status => return Err(refusal(status, count)),
         }
     }
@@ -145,10 +161,10 @@ pub fn cut(mbox: &[u8]) -> Result<Vec<Message>, Refusal> {
     })
 }
 
-fn rows(room: usize, call: impl Fn(u64, u64, &mut [sys::Row], &mut usize) -> u8) -> Result<Vec<Row>, Refusal> {
+fn rows(len: usize, call: impl Fn(u64, u64, &mut [sys::Row], &mut usize) -> u8) -> Result<Vec<Row>, Refusal> {
     let key = || RandomState::new().build_hasher().finish();
     let (key0, key1) = (key(), key());
-    let found = filled(room, |to: &mut [sys::Row], count| call(key0, key1, to, count))?;
+    let found = filled(len, |to: &mut [sys::Row], count| call(key0, key1, to, count))?;
     Ok(found.iter().map(|it| Row { depth: it.depth, place: it.is_message.then_some(it.place) }).collect())
 }
 
@@ -168,4 +184,22 @@ pub fn threads_of_mbox(mbox: &[u8], merge: bool) -> Result<Vec<Row>, Refusal> {
         // SAFETY: as above.
         unsafe { sys::luv_threads_of_mbox(mbox.as_ptr(), mbox.len(), merge, key0, key1, to.as_mut_ptr(), to.len(), count) }
     })
+}
+
+#[cfg(test)]
+mod tests {
+    use super::*;
+
+    #[test]
+    fn each_number_has_its_refusal() {
+        let known = [Refusal::NoMemory, Refusal::NoInstant, Refusal::Outside, Refusal::NoMbox(9), Refusal::TooLong];
+        assert_eq!([2, 3, 4, 5, 6].map(|it| refusal(it, 9)), known);
+        assert_eq!([1, 7, 255].map(|it| refusal(it, 9)), [Refusal::Unknown(1), Refusal::Unknown(7), Refusal::Unknown(255)]);
+        assert_eq!(Refusal::Unknown(7).to_string(), "the library answers 7, which this call does not have");
+    }
+
+    #[test]
+    fn an_array_that_cannot_be_made_is_a_refusal() {
+        assert_eq!(room::<u8>(usize::MAX), Err(Refusal::NoMemory));
+    }
 }

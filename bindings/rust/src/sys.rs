@@ -4,7 +4,7 @@
 #[derive(Default)]
 pub struct Base {
     pub len: usize,
-    pub reply: bool,
+    pub is_reply: bool,
 }
 
 #[repr(C)]

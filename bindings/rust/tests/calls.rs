@@ -1,9 +1,9 @@
 //! Each function with what it has to return, and with what it has to refuse.
-use luvazhimba::{base_subject, cut, message_ids, sent_date, threads, threads_of_mbox, Base, Ids, Message, Refusal, Row};
+use luvazhimba::{base_subject, cut, message_ids, sent_date, threads, threads_of_mbox, Base, Ids, Message, Refusal, Row, VERSION};
 
 const MBOX: &[u8] = b"\nFrom a@b Tue Mar  4 10:00:00 2003\nMessage-ID: <a@b>\n\nx\n\n\
     From c@d Tue Mar  4 11:00:00 2003\nReferences: <a@b>\n\n";
-const MESSAGES: [Message; 2] = [Message { from: 35, to: 56, arrival: 1046772000 }, Message { from: 91, to: 109, arrival: 1046775600 }];
+const MESSAGES: [Message; 2] = [Message { start: 35, end: 56, arrival: 1046772000 }, Message { start: 91, end: 109, arrival: 1046775600 }];
 
 fn base(text: &str, is_reply: bool) -> Result<Base, Refusal> {
     Ok(Base { text: text.into(), is_reply })
@@ -34,14 +34,14 @@ fn ids() {
 fn sent_dates() {
     assert_eq!(sent_date(b"Date: Tue, 4 Mar 2003 10:00:00 +0100\n\n", 5), Ok(1046768400));
     assert_eq!(sent_date(b"", -1), Ok(-1));
-    assert_eq!(sent_date(b"", i64::MAX), Err(Refusal::Instant));
+    assert_eq!(sent_date(b"", i64::MAX), Err(Refusal::NoInstant));
 }
 
 #[test]
 fn messages() {
     assert_eq!(cut(MBOX), Ok(MESSAGES.to_vec()));
     assert_eq!(cut(b""), Ok(vec![]));
-    assert_eq!(cut(b"\n\nno\n"), Err(Refusal::Mbox(2)));
+    assert_eq!(cut(b"\n\nno\n"), Err(Refusal::NoMbox(2)));
     assert_eq!(cut(&b"From a@b Tue Mar  4 10:00:00 2003\n\n".repeat(1_000)).map(|it| it.len()), Ok(1_000));
 }
 
@@ -49,7 +49,12 @@ fn messages() {
 fn rows() {
     assert_eq!(threads(MBOX, &MESSAGES, true), Ok(vec![row(0, 0), row(1, 1)]));
     assert_eq!(threads(MBOX, &[], true), Ok(vec![]));
-    assert_eq!(threads(MBOX, &[Message { from: 0, to: MBOX.len() + 1, arrival: 5 }], true), Err(Refusal::Outside));
+    assert_eq!(threads(MBOX, &[Message { start: 0, end: MBOX.len() + 1, arrival: 5 }], true), Err(Refusal::Outside));
     assert_eq!(threads_of_mbox(MBOX, false), Ok(vec![row(0, 0), row(1, 1)]));
-    assert!(matches!(threads_of_mbox(b"no\n", true), Err(Refusal::Mbox(_))));
+    assert!(matches!(threads_of_mbox(b"no\n", true), Err(Refusal::NoMbox(_))));
+}
+
+#[test]
+fn the_version_is_that_of_the_library() {
+    assert!(include_str!("../../luvazhimba.h").contains(&format!("#define LUV_VERSION \"{VERSION}\"")));
 }

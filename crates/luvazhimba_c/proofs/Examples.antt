@@ -25,7 +25,7 @@ heading_says = refl
 abbrev mbox : List ℕ
 mbox = codes "From a@b Tue Mar  4 10:00:00 2003\nx\n\nFrom a@b Tue Mar  4 10:00:00 2003\n"
 
-first_stands : StandsAt mbox 0 (record { envelope = said; text = codes "x\n" }) (record { from = 34; to = 36; arrival = pos 1046772000 }) 37
+first_stands : StandsAt mbox 0 (record { envelope = said; text = codes "x\n" }) (record { start = 34; end = 36; arrival = pos 1046772000 }) 37
 unfolding lines content
 first_stands = record {
   heading = codes "From a@b Tue Mar  4 10:00:00 2003\n";
@@ -40,7 +40,7 @@ first_stands = record {
   arrival = refl;
 }
 
-second_stands : StandsAt mbox 37 (record { envelope = said; text = [] }) (record { from = 71; to = 71; arrival = pos 1046772000 }) 71
+second_stands : StandsAt mbox 37 (record { envelope = said; text = [] }) (record { start = 71; end = 71; arrival = pos 1046772000 }) 71
 unfolding lines content
 second_stands = record {
   heading = codes "From a@b Tue Mar  4 10:00:00 2003\n";
@@ -56,7 +56,7 @@ second_stands = record {
 }
 
 both_stand : Stand mbox 0 (record { envelope = said; text = codes "x\n" } ∷ record { envelope = said; text = [] } ∷ [])
-    (record { from = 34; to = 36; arrival = pos 1046772000 } ∷ record { from = 71; to = 71; arrival = pos 1046772000 } ∷ [])
+    (record { start = 34; end = 36; arrival = pos 1046772000 } ∷ record { start = 71; end = 71; arrival = pos 1046772000 } ∷ [])
 both_stand = (37, first_stands, (71, second_stands, refl))
 
 an_id : id_text (record { left = codes "a"; right = codes "b" }) ≡ codes "a@b"

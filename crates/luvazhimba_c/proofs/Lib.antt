@@ -1,4 +1,7 @@
 mod Examples
+pub mod BaseBounds
+pub mod IdBounds
 pub mod IdLemmas
 pub mod PlaceLemmas
+pub mod RowBounds
 pub mod ThreadLemmas

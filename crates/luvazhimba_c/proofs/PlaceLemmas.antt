@@ -113,7 +113,7 @@ behind_blank bytes from m item rest blank more len is are blocks =
 -- where a message stands whose block begins there, and the blocks behind it
 pub record Placed (bytes : List ℕ) (at n m : ℕ) (item : Item) (rest : List Item) : Type 0 where
   pub stands : (arrival : ℤ) → arrival ≡ item.envelope.arrival
-      → StandsAt bytes at item (record { from = at + n; to = at + n + length item.text; arrival = arrival }) (at + n + length item.text + m)
+      → StandsAt bytes at item (record { start = at + n; end = at + n + length item.text; arrival = arrival }) (at + n + length item.text + m)
   pub later : AreBlocks rest (lines (drop (at + n + length item.text + m) bytes))
 
 -- a block, whose separator line has this length

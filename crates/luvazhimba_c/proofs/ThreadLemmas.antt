@@ -11,14 +11,14 @@ use Rattle.luvazhimba_c.specs.declared.messages.LuvMessage.{LuvMessage}
 
 -- where a message stands is its text
 text_there : (bytes : List ℕ) (at : ℕ) (item : Item) (place : LuvMessage) (next : ℕ) → StandsAt bytes at item place next
-    → between bytes place.from place.to ≡ item.text
+    → between bytes place.start place.end ≡ item.text
 text_there bytes at item place next s =
     let tail = s.blank ++ drop next bytes in
-    let begins : drop place.from bytes ≡ item.text ++ tail =
+    let begins : drop place.start bytes ≡ item.text ++ tail =
     ap (λ n. drop n bytes) s.begins ∙ sym (drop-drop (length s.heading) at bytes) ∙ ap (drop (length s.heading)) s.parts ∙ drop-append_seam s.heading (item.text ++ tail) in
-    let to : place.to ≡ place.from + length item.text = s.ends in
-    let long : place.to - place.from ≡ length item.text = omega (arith, to) in
-    ap (λ n. take n (drop place.from bytes)) long ∙ ap (take (length item.text)) begins ∙ take-append_seam item.text tail
+    let to : place.end ≡ place.start + length item.text = s.ends in
+    let long : place.end - place.start ≡ length item.text = omega (arith, to) in
+    ap (λ n. take n (drop place.start bytes)) long ∙ ap (take (length item.text)) begins ∙ take-append_seam item.text tail
 
 entries_there : (bytes : List ℕ) (at : ℕ) (items : List Item) (places : List LuvMessage) → Stand bytes at items places
     → map (entry_at bytes) places ≡ map entry_of_item items

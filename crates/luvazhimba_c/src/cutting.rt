@@ -66,11 +66,18 @@ fn place_of(bytes: &[u8], at: usize, item: &Item<'_>) -> (LuvMessage, usize)
     ensures on { (at < result.1) × (result.1 ≤ length bytes.now) }
 {
     let heading = line_len(bytes, at);
-    let from = at + heading;
+    let start = at + heading;
     let (text, arrival) = len_and_arrival(item);
-    let to = from + text;
-    let blank = line_len(bytes, to);
-    (LuvMessage { from, to, arrival }, to + blank)
+    let end = start + text;
+    let blank = line_len(bytes, end);
+    (
+        LuvMessage {
+            start,
+            end,
+            arrival,
+        },
+        end + blank,
+    )
 }
 
 /// Writes a place to an array, where that has room for it.

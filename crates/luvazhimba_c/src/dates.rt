@@ -14,7 +14,7 @@ use mail_core::Header;
 #[unsafe(no_mangle)]
 pub extern "C" fn luv_sent_date(message: &[u8], arrival: i64, sent: &mut i64) -> u8
     ensures sent { result ≡ done → sent.new ≡ sent_date_of message.now arrival }
-    ensures no_instant { result ≡ no_instant → is_instant arrival ≡ false }
+    ensures no_instant { (result ≡ no_instant) ↔ (is_instant arrival ≡ false) × ¬ IsTooLong message.now }
     ensures too_long { (result ≡ too_long) ↔ IsTooLong message.now }
     ensures refused { result ≢ done → (result ≡ no_instant) ⊎ (result ≡ too_long) }
 {

@@ -1,8 +1,8 @@
 //! What messages say about threads.
-ghost use Rattle.std.specs.Prelude.{◌≡◌, ◌<◌, map, Contains, IfOk, IfErr};
-ghost use Rattle.luvazhimba_c.specs.Entries.{entry_of, entry_at, entry_of_item, IsOutside, HasNoInstant};
+ghost use Rattle.std.specs.Prelude.{◌≡◌, map, All, Contains, OnOk, IfOk, IfErr};
+ghost use Rattle.luvazhimba_c.specs.Entries.{entry_of, entry_at, entry_of_item, IsReadable, IsOutside, HasNoInstant};
 ghost use Rattle.luvazhimba_c.specs.declared.messages.LuvMessage.{LuvMessage};
-ghost use Rattle.luvazhimba_c.specs.Numbers.{no_room, no_memory, outside, no_instant, too_long, number_of};
+ghost use Rattle.luvazhimba_c.specs.Numbers.{no_memory, outside, no_instant, number_of, IsOfMessages};
 
 use crate::messages::LuvMessage;
 use crate::refusals::Refusal;
@@ -34,18 +34,18 @@ fn entry_of(alloc: Global, text: &[u8], arrival: Instant) -> Result<Entry, Memor
 
 fn entry_at(alloc: Global, bytes: &[u8], message: &LuvMessage) -> Result<Entry, Refusal>
     ensures entry { IfOk result (λ entry. entry ≡ entry_at bytes.now message.now) }
-    ensures high { IfErr result (λ e. no_room < number_of e) }
-    ensures low { IfErr result (λ e. number_of e < too_long) }
+    ensures readable { OnOk result (IsReadable bytes.now message.now) }
+    ensures refused { IfErr result (λ e. IsOfMessages (number_of e)) }
     ensures outside { IfErr result (λ e. number_of e ≡ outside → IsOutside bytes.now message.now) }
     ensures no_instant { IfErr result (λ e. number_of e ≡ no_instant → HasNoInstant message.now) }
 {
-    if message.from > message.to || message.to > bytes.len() {
+    if message.start > message.end || message.end > bytes.len() {
         return Err(Refusal::Place);
     }
     let Some(arrival) = Instant::new(message.arrival) else {
         return Err(Refusal::Arrival);
     };
-    match entry_of(alloc, &bytes[message.from..message.to], arrival) {
+    match entry_of(alloc, &bytes[message.start..message.end], arrival) {
         Ok(entry) => Ok(entry),
         Err(_) => Err(Refusal::Memory),
     }
@@ -58,8 +58,8 @@ pub(crate) fn entries_at(
     messages: &[LuvMessage],
 ) -> Result<Vec<Entry>, Refusal>
     ensures entries { IfOk result (λ entries. entries.items ≡ map (entry_at bytes.now) messages.now) }
-    ensures high { IfErr result (λ e. no_room < number_of e) }
-    ensures low { IfErr result (λ e. number_of e < too_long) }
+    ensures readable { OnOk result (All (IsReadable bytes.now) messages.now) }
+    ensures refused { IfErr result (λ e. IsOfMessages (number_of e)) }
     ensures outside { IfErr result (λ e. number_of e ≡ outside
         → (m : LuvMessage) × Contains messages.now m × IsOutside bytes.now m) }
     ensures no_instant { IfErr result (λ e. number_of e ≡ no_instant

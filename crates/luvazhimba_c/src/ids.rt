@@ -1,9 +1,9 @@
 //! Message ids.
-ghost use Rattle.std.specs.Prelude.{◌≡◌, ◌↔◌, ◌++◌, ◌∷◌, [], length, map, OnOk, IfOk, IfErr};
+ghost use Rattle.std.specs.Prelude.{◌≡◌, ◌≢◌, ◌⊎◌, ◌↔◌, ◌++◌, ◌∷◌, [], length, map, OnOk, IfOk, IfErr};
 ghost use Rattle.std.specs.List.{flat_map};
 ghost use Rattle.mail_core.specs.Headers.{own_id_in, own_id_of, alone};
 ghost use Rattle.luvazhimba_c.specs.Ids.{id_text, text_len, id_texts, id_lens, AreIdsOf, WantRoom};
-ghost use Rattle.luvazhimba_c.specs.Numbers.{done, no_room, too_long, number_of, IsTooLong};
+ghost use Rattle.luvazhimba_c.specs.Numbers.{done, no_room, no_memory, too_long, number_of, IsTooLong};
 
 use crate::outputs::put;
 use crate::refusals::{DONE, Refusal, is_too_long};
@@ -98,6 +98,7 @@ pub extern "C" fn luv_message_ids(
     ensures ids { result ≡ done → AreIdsOf message.now texts.new lens.new found.new }
     ensures no_room { result ≡ no_room → WantRoom message.now texts.old lens.old found.new }
     ensures too_long { (result ≡ too_long) ↔ IsTooLong message.now }
+    ensures refused { result ≢ done → (result ≡ no_room) ⊎ (result ≡ no_memory) ⊎ (result ≡ too_long) }
 {
     match write_ids(alloc, message, texts, lens, found) {
         Ok(()) => DONE,
@@ -116,6 +117,7 @@ fn write_ids(
     ensures fits { OnOk result (¬ IsTooLong message.now) }
     ensures no_room { IfErr result (λ e. number_of e ≡ no_room → WantRoom message.now texts.old lens.old found.new) }
     ensures too_long { IfErr result (λ e. (number_of e ≡ too_long) ↔ IsTooLong message.now) }
+    ensures refused { IfErr result (λ e. (number_of e ≡ no_room) ⊎ (number_of e ≡ no_memory) ⊎ (number_of e ≡ too_long)) }
 {
     if is_too_long(message) {
         return Err(Refusal::TooLong);

@@ -5,9 +5,9 @@
 #[derive(Clone, Copy)]
 pub struct LuvMessage {
     /// Where its text begins.
-    pub from: usize,
+    pub start: usize,
     /// Where its text ends.
-    pub to: usize,
+    pub end: usize,
     /// When it arrived.
     pub arrival: i64,
 }

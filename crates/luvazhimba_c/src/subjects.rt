@@ -1,7 +1,7 @@
 //! Base subjects.
-ghost use Rattle.std.specs.Prelude.{◌≡◌, ◌↔◌, OnOk, IfErr};
+ghost use Rattle.std.specs.Prelude.{◌≡◌, ◌≢◌, ◌⊎◌, ◌↔◌, OnOk, IfErr};
 ghost use Rattle.luvazhimba_c.specs.Bases.{IsBaseOf, WantsRoom};
-ghost use Rattle.luvazhimba_c.specs.Numbers.{done, no_room, too_long, number_of, IsTooLong};
+ghost use Rattle.luvazhimba_c.specs.Numbers.{done, no_room, no_memory, too_long, number_of, IsTooLong};
 
 use crate::outputs::put;
 use crate::refusals::{DONE, Refusal, is_too_long};
@@ -15,7 +15,7 @@ pub struct LuvBase {
     /// In bytes.
     pub len: usize,
     /// Whether the subject marks a reply or a forward.
-    pub reply: bool,
+    pub is_reply: bool,
 }
 
 /// The base of an unfolded subject (RFC 5256, section 2.1), written to the front of `text`: as many bytes as `found` says, at
@@ -31,6 +31,7 @@ pub extern "C" fn luv_base_subject(
     ensures base { result ≡ done → IsBaseOf subject.now text.new found.new }
     ensures no_room { result ≡ no_room → WantsRoom subject.now text.old found.new }
     ensures too_long { (result ≡ too_long) ↔ IsTooLong subject.now }
+    ensures refused { result ≢ done → (result ≡ no_room) ⊎ (result ≡ no_memory) ⊎ (result ≡ too_long) }
 {
     match write_base(alloc, subject, text, found) {
         Ok(()) => DONE,
@@ -48,6 +49,7 @@ fn write_base(
     ensures fits { OnOk result (¬ IsTooLong subject.now) }
     ensures no_room { IfErr result (λ e. number_of e ≡ no_room → WantsRoom subject.now text.old found.new) }
     ensures too_long { IfErr result (λ e. (number_of e ≡ too_long) ↔ IsTooLong subject.now) }
+    ensures refused { IfErr result (λ e. (number_of e ≡ no_room) ⊎ (number_of e ≡ no_memory) ⊎ (number_of e ≡ too_long)) }
 {
     if is_too_long(subject) {
         return Err(Refusal::TooLong);
@@ -57,7 +59,7 @@ fn write_base(
     };
     *found = LuvBase {
         len: base.text.as_slice().len(),
-        reply: base.reply,
+        is_reply: base.reply,
     };
     put(text, base.text.as_slice())
 }

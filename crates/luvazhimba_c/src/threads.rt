@@ -1,10 +1,10 @@
 //! Threads.
-ghost use Rattle.std.specs.Prelude.{◌≡◌, ◌<◌, ◌≤◌, ◌⊎◌, ◌↔◌, length, map, Contains, IfOk, IfErr};
+ghost use Rattle.std.specs.Prelude.{◌≡◌, ◌≢◌, ◌<◌, ◌≤◌, ◌⊎◌, ◌↔◌, length, map, All, Contains, OnOk, IfOk, IfErr};
 ghost use Rattle.mbox_core.specs.Division.{IsPreamble};
 ghost use Rattle.thread_core.specs.Threads.{threads_of};
 ghost use Rattle.luvazhimba_c.specs.declared.messages.LuvMessage.{LuvMessage};
-ghost use Rattle.luvazhimba_c.specs.Entries.{entry_at, entry_of_item, AreThreadsOfMbox, IsOutside, HasNoInstant};
-ghost use Rattle.luvazhimba_c.specs.Numbers.{done, no_room, no_memory, no_instant, outside, no_mbox, too_long, number_of, IsTooLong};
+ghost use Rattle.luvazhimba_c.specs.Entries.{entry_at, entry_of_item, AreThreadsOfMbox, WantsRows, IsReadable, IsOutside, HasNoInstant, AreRead};
+ghost use Rattle.luvazhimba_c.specs.Numbers.{done, no_room, no_memory, no_instant, outside, no_mbox, too_long, number_of, IsTooLong, IsOfMessages};
 ghost use Rattle.luvazhimba_c.specs.Rows.{rows_in};
 
 use crate::cutting::answer_fault;
@@ -72,9 +72,9 @@ pub extern "C" fn luv_threads(
         → (rows_in count.new rows.new ≡ threads_of (map (entry_at bytes.now) messages.now) merge) × (count.new ≤ length rows.old) }
     ensures no_room { result ≡ no_room
         → (count.new ≡ length (threads_of (map (entry_at bytes.now) messages.now) merge)) × (length rows.old < count.new) }
-    ensures outside { result ≡ outside → (m : LuvMessage) × Contains messages.now m × IsOutside bytes.now m }
-    ensures no_instant { result ≡ no_instant → (m : LuvMessage) × Contains messages.now m × HasNoInstant m }
-    ensures too_long { result ≡ too_long → IsTooLong bytes.now ⊎ IsTooLong messages.now }
+    ensures messages { AreRead bytes.now messages.now result }
+    ensures too_long { (result ≡ too_long) ↔ IsTooLong bytes.now ⊎ IsTooLong messages.now }
+    ensures refused { result ≢ done → (result ≡ no_room) ⊎ IsOfMessages result ⊎ (result ≡ too_long) }
 {
     if is_too_long(bytes) || is_too_long(messages) {
         return Refusal::TooLong.number();
@@ -94,8 +94,8 @@ fn rows_of_messages(
     key1: u64,
 ) -> Result<Vec<Row>, Refusal>
     ensures rows { IfOk result (λ rows. rows.items ≡ threads_of (map (entry_at bytes.now) messages.now) merge) }
-    ensures high { IfErr result (λ e. no_room < number_of e) }
-    ensures low { IfErr result (λ e. number_of e < too_long) }
+    ensures readable { OnOk result (All (IsReadable bytes.now) messages.now) }
+    ensures refused { IfErr result (λ e. IsOfMessages (number_of e)) }
     ensures outside { IfErr result (λ e. number_of e ≡ outside
         → (m : LuvMessage) × Contains messages.now m × IsOutside bytes.now m) }
     ensures no_instant { IfErr result (λ e. number_of e ≡ no_instant
@@ -119,11 +119,11 @@ pub extern "C" fn luv_threads_of_mbox(
     rows: &mut [LuvRow],
     count: &mut usize,
 ) -> u8
-    ensures rows { result ≡ done → AreThreadsOfMbox mbox.now merge (rows_in count.new rows.new) }
-    ensures within { result ≡ done → count.new ≤ length rows.old }
-    ensures no_room { result ≡ no_room → length rows.old < count.new }
+    ensures rows { result ≡ done → AreThreadsOfMbox mbox.now merge (rows_in count.new rows.new) × (count.new ≤ length rows.old) }
+    ensures no_room { result ≡ no_room → WantsRows mbox.now merge (length rows.old) count.new }
     ensures no_mbox { result ≡ no_mbox → IsPreamble mbox.now count.new }
     ensures too_long { (result ≡ too_long) ↔ IsTooLong mbox.now }
+    ensures refused { result ≢ done → (result ≡ no_room) ⊎ (result ≡ no_memory) ⊎ (result ≡ no_mbox) ⊎ (result ≡ too_long) }
 {
     if is_too_long(mbox) {
         return Refusal::TooLong.number();

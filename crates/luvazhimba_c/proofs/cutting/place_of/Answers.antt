@@ -30,7 +30,7 @@ returns-clause-stands c =
     let fits : FitsSigned w64 c.len_and_arrival-text.result.1 = search rules in
     let kept : to_z w64 (of_z w64 c.len_and_arrival-text.result.1) ≡ c.len_and_arrival-text.result.1 = to_z-of_z w64 c.len_and_arrival-text.result.1 fits in
     let arrival = to_z w64 (of_z w64 c.len_and_arrival-text.result.1) in
-    subst (λ (t : ℕ). StandsAt bytes at item (record { from = at + n; to = at + n + t; arrival = arrival }) (at + n + t + m)) e
+    subst (λ (t : ℕ). StandsAt bytes at item (record { start = at + n; end = at + n + t; arrival = arrival }) (at + n + t + m)) e
     (p.stands arrival (kept ∙ c.len_and_arrival-text.ensures.arrival))
 
 pub returns-clause-later : goal.returns-clause-later

@@ -1,6 +1,16 @@
 use Rattle.std.proofs.Common.{◌<◌, length, arith}
-use Rattle.std.proofs.lemmas.List.Elements.{Contains-get_or}
+use Rattle.std.proofs.lemmas.Grind.{common_steps}
+use Rattle.std.proofs.lemmas.List.Elements.{Contains-get_or, All-more}
+use Rattle.luvazhimba_c.specs.Entries.{IsReadable}
 use Rattle.luvazhimba_c.proofs.entries.entries_at.Goals as goal
+
+pub loop-at-preserved : goal.loop-at-preserved
+loop-at-preserved c =
+    let within : c.loop-at.at < length c.args.messages.now = omega arith in
+    record {
+      entries = grind (arith, common_steps);
+      readable = All-more (IsReadable c.args.bytes.now) c.args.messages.now c.loop-at.at _ within c.loop-at.invariant.readable c.in-Ok.ensures.readable;
+    }
 
 pub returns-in-Err-clause-outside : goal.returns-in-Err-clause-outside
 returns-in-Err-clause-outside c = λ is.
