@@ -50,10 +50,10 @@ MEASURE = """(() => {
 
 
 class Proxy:
-    """nginx by the sample, before a port of an archive."""
+    """nginx by the sample, before a port of an archive; without a limit, where one is named by its line."""
 
-    def __init__(self, folder):
-        self.folder, (self.http, self.tls, self.behind) = pathlib.Path(folder), free_ports(3)
+    def __init__(self, folder, without=""):
+        self.without, self.folder, (self.http, self.tls, self.behind) = without, pathlib.Path(folder), free_ports(3)
         output("openssl", "req", "-x509", "-newkey", "rsa:2048", "-nodes", "-days", "2", "-subj", f"/CN={NAME}",
                "-addext", f"subjectAltName=IP:{NAME}", "-keyout", self.folder / "key.pem", "-out", self.folder / "cert.pem")
         (self.folder / "archive.conf").write_text(self.changed())
@@ -72,7 +72,9 @@ class Proxy:
             if old not in text:
                 sys.exit(f"archive.conf has no {old!r}")
             text = text.replace(old, new)
-        return text
+        if self.without not in text:
+            sys.exit(f"archive.conf has no {self.without!r}")
+        return text.replace(self.without, "") if self.without else text
 
     def __enter__(self):
         self.process = begun(subprocess.Popen(self.words, stdout=subprocess.DEVNULL, stderr=subprocess.DEVNULL))
@@ -136,8 +138,9 @@ def pages(trial, proxy):
     trial.check("curl: HEAD", (head.status, head.body), ("200", b""))
     robots = Asked(proxy, "/robots.txt")
     trial.check("curl: what search engines are told", (robots.status, robots.one("content-type"), robots.body.splitlines()),
-                ("200", "text/plain", [b"User-agent: *", b"Disallow: /enter", b"Disallow: /leave", b"Disallow: /l/*/mbox"]))
+                ("200", "text/plain", [b"User-agent: *", b"Disallow: /enter", b"Disallow: /leave", b"Disallow: /l/*/mbox", b"Disallow: /l/*/search"]))
     trial.holds("curl: how one signs in and out", b'<a href="/enter">Sign in</a> <a href="/leave">Sign out</a>' in page.body)
+    trial.check("curl: without a search there is none, and no link to one", [Asked(proxy, f"/l/seeds/{it}").status for it in ("search?q=x", "id/x@y", "feed")] + [b"/l/seeds/search" in page.body], ["404"] * 3 + [False])
     trial.check("curl: POST", Asked(proxy, "/", "-d", "x=1").status, "405")
     trial.check("curl: what is the proxy's own is not to be had", [Asked(proxy, it).status for it in ("/.entered", "/.none")], ["404", "404"])
 
@@ -246,7 +249,9 @@ def limits(trial, proxy, server):
 
 
 def log(trial, proxy):
+    Asked(proxy, "/l/seeds/threads?q=thylacine")
     said = (proxy.folder / "access.log").read_text()
+    trial.holds("the log has no query, also of a request over http", "?x=1" not in said and "thylacine" not in said and said.count("/l/seeds/threads?") >= 2)
     trial.holds("the log has the requests, and no token", said.count("/l/seeds/threads") > 5 and TOKEN not in said, f"{said.count(chr(10))} lines")
 
 

@@ -4,7 +4,7 @@
   trials/reading.py [--archive PROGRAM] [--browsers NAMES] [--only WORD] [--rows COUNT] [--times] [--pictures FOLDER]
 
 NAMES are chromium, firefox, or both with a comma between. It wants nginx, openssl and curl, and skips what a browser that is not there
-would try. With --only it reads the letters with that word in their name, and does no more; with --times it tells how long Chromium takes
+would try. With --only it reads the letters whose name has that word, a regular expression, and does no more; with --times it tells how long Chromium takes
 for the page of COUNT rows, and does no more. With --pictures, what Chromium draws at 1200 and 400 pixels, light and dark, with the script
 and without, goes to that folder. Times and memory are told with the machine's load, and are judged only against limits that a busy
 machine keeps too. The last line is 'N passed, N failed, N skipped'.
@@ -17,24 +17,27 @@ from proxy import Asked
 from letters import BIG_FILE, HARMFUL, LETTERS, ORDINARY
 from readers import Chromium, Firefox
 from reading_site import Site, keys_of
-import reading_access, reading_cost, reading_parsed
+import reading_access, reading_agree, reading_cost, reading_parsed
 
 # What a page tells of itself.
 PAGE = """(() => {
   const main = document.querySelector('main'), all = (selector, tell) => [...main.querySelectorAll(selector)].map(tell);
   const deep = it => 1 + Math.max(0, ...[...it.children].filter(it => it.localName == 'blockquote').map(deep));
+  const quotes = all('section.text > blockquote, section.text > details > blockquote', deep);
   const origin = new URL(location.href).origin;
   return { frame: Boolean(main.querySelector('iframe')), heading: main.querySelector('h1')?.textContent, title: document.title, ran: window.ran ?? null,
+    named: all('section.text, p.soft, .event', it => it).flatMap(it => [...it.querySelectorAll('button')]).map(it => it.textContent).filter(it => it.startsWith('Save ')),
+    open: all('details.quote', it => it.open), dates: all(':scope > dl time', it => it.dateTime),
     names: all('dl bdi', it => it.textContent), says: main.textContent.slice(0, 600000), files: all('.files button', it => it.textContent),
     text: all(':scope > article > section.text pre', it => it.textContent).join('').slice(0, 600000), wide: document.documentElement.scrollWidth,
-    quotes: Math.max(0, ...all('section.text > blockquote', deep)), elements: document.querySelectorAll('*').length,
+    quotes: Math.max(0, ...quotes), elements: document.querySelectorAll('*').length,
     bad: [...document.querySelectorAll('script, img, svg, object, embed, base, meta[http-equiv], form, link, style, iframe, [onclick], [onerror], [onmouseover], [style]')]
       .map(it => it.localName + ' ' + (it.getAttribute('src') ?? it.getAttribute('href') ?? '')),
     links: all('a', it => [it.textContent.slice(0, 60), it.getAttribute('href').slice(0, 300), it.rel]),
     asked: performance.getEntriesByType('resource').map(it => it.name).filter(it => !it.startsWith(origin + '/')) };
 })()"""
 # The newest date of each thread of a page, in the order of the threads.
-NEWEST_OF_THREADS = """[...document.querySelectorAll('main div[role=list] > div')].reduce((dates, row) => {
+NEWEST_OF_THREADS = """[...document.querySelectorAll('main div[role=list] div[class]')].reduce((dates, row) => {
   const date = row.querySelector('a')?.textContent ?? '';
   if (row.className === 'd0') dates.push(date);
   else if (date > dates.at(-1)) dates[dates.length - 1] = date;
@@ -66,6 +69,8 @@ def leaves(part, depth=0):
     for it in inner[:1] if part.get_content_type() == "multipart/signed" else inner:
         if it.is_multipart() or it.get_content_type() == "text/plain":
             yield from leaves(it, depth + 1)
+        elif it.get_content_maintype() == "text" and it.get_content_subtype() not in ("html", "calendar") and not it.get_filename():
+            raise LookupError("another kind of text is shown as plain text")
 
 
 def plain_text(letter):
@@ -107,6 +112,10 @@ def faults_of_view(letter, said):
         yield f"text {flat(said['text'])[:200]!r}, by Python {flat(wanted)[:200]!r}"
     if letter.files and sorted(said["files"]) != sorted(f"Save {it}" for it in letter.files):
         yield f"files {said['files']}, not {letter.files}"
+    if said["named"] != [f"Save {it}" for it in letter.named]:
+        yield f"named texts {said['named']}, not {letter.named}"
+    if said["open"] != letter.open:
+        yield f"quotes that fold are open: {said['open']}, not {letter.open}"
     if said["quotes"] != letter.quotes:
         yield f"quotes {said['quotes']} deep, not {letter.quotes}"
     yield from (f"link {it}" for it in said["links"] if not MAY_LEAD.match(it[1]))
@@ -217,7 +226,11 @@ def without(trial, site, reader):
     trial.holds("no script: as it came", "=?koi8-r?" in (reader.in_frame("document.body.innerText") or ""))
     reader.open(site.url("/l/letters/threads"))
     trial.holds("no script: rows as the archive writes them", "=?koi8-r?" in reader.value("document.body.innerText"))
+    rows_come(trial, site, reader, "no script", 0)
     reader.without_script(False)
+    for blocked, what in (("*/archive.js", "the script cannot be had"), ("*/archive/words.js", "a module cannot be had")):
+        reader.blocked(blocked)
+        rows_come(trial, site, reader, what, 5)
     reader.blocked("*/archive/words.js")
     reader.open(url)
     time.sleep(4)
@@ -228,6 +241,15 @@ def without(trial, site, reader):
         reader.read(path)
         time.sleep(1)
         trial.holds(f"a message that is {what}: the frame says so", wanted in (reader.in_frame("document.body.innerText") or ""))
+
+
+def rows_come(trial, site, reader, what, seconds):
+    """All rows of a long page are there after so many seconds, also those that wait for the script."""
+    reader.open(site.url("/l/long/threads"))
+    time.sleep(seconds)
+    shown = "[...document.querySelectorAll('main div[class]')].map(it => getComputedStyle(it).display === 'flex')"
+    found = reader.value(shown)
+    trial.check(f"{what}: rows of a long page that are not shown", (len(found) > 100, found.count(False)), (True, 0))
 
 
 def saved(trial, site, reader):
@@ -283,7 +305,8 @@ def in_both(trial, site, reader, only):
         ways(trial, site, reader)
         reading_access.by_keys(trial, site, reader)
         reading_access.directions(trial, site, reader)
-    read_all(trial, site, reader, [it for it in LETTERS if only in it.name])
+        reading_agree.all_of_it(trial, site, reader)
+    read_all(trial, site, reader, [it for it in LETTERS if re.search(only, it.name)])
 
 
 def in_chromium(trial, site, reader, asked):
@@ -304,7 +327,7 @@ def in_chromium(trial, site, reader, asked):
 
 
 def main():
-    asked = words_of(__doc__, pictures={"help": "the folder for what the browser draws"}, only={"default": "", "help": "the letters with this in their name"},
+    asked = words_of(__doc__, pictures={"help": "the folder for what the browser draws"}, only={"default": "", "help": "the letters whose name has this regular expression"},
                      browsers={"default": "chromium,firefox"}, rows={"type": int, "default": 2000, "help": "how many rows a page has whose time is told"},
                      times={"action": "store_true", "help": "that time alone"})
     with Trial() as trial, tempfile.TemporaryDirectory() as folder:

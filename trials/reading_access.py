@@ -73,7 +73,7 @@ def axe_of(reader):
 
 
 def by_axe(trial, site, reader):
-    """axe-core on pages of each kind, by two widths, light and dark."""
+    """axe-core on pages of each kind, by two widths, light and dark; the thread with its messages below their rows."""
     axe = axe_of(reader)
     if axe is None:
         return trial.skip("axe-core", "this browser's DevTools have none")
@@ -81,7 +81,8 @@ def by_axe(trial, site, reader):
     pages = {"lists": "/", "threads": "/l/letters/threads", "thread": f"/l/talk/t/{key}",
              "month": "/l/letters/month/2024-03", "author": "/l/talk/by/a1@example.org"}
     letters = ("quotes of all kinds", "parts in parts in parts", "a mail in a mail", "HTML alone", "many readers", "right to left", "a text of 5 MB", "a text of 16 MB",
-               "signed by PGP/MIME", "encrypted", "a patch", "names of files that harm", "no head")
+               "signed by PGP/MIME", "encrypted", "a patch", "names of files that harm", "no head", "an invitation", "two patches in the text",
+               "a long quote above its answer", "a long quote below its answer")
     urls = {name: site.url(path) for name, path in pages.items()} | {it: site.letter(it) for it in letters} | {"answer": site.message("talk", site.keys["talk"][2])}
     for width, height in ((1200, 900), (400, 800)):
         for dark in (False, True):
@@ -94,5 +95,8 @@ def by_axe(trial, site, reader):
 def violations(reader, axe, url, width, height):
     (reader.read if "/m/" in url else reader.open_rows)(url, width, height)
     time.sleep(0.5)
+    if "/l/talk/t/" in url:
+        reader.click("document.querySelector('section[aria-label=Reading] button')")
+        reader.wait("document.querySelectorAll('article.below').length === 12")
     reader.value(axe)
     return reader.later("axe.run(document, { resultTypes: ['violations'] }).then(it => it.violations.map(one => one.id + ' ' + one.nodes[0].html.slice(0, 80)))")

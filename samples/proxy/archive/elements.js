@@ -2,7 +2,7 @@
 
 import { blocksOf, endOfShown, webAddressesIn } from "./text.js";
 
-const MOST_LINKS = 2000;
+const MOST_LINKS = 2000, LONG_QUOTE = 12;
 
 /** Returns an element with attributes and children; a child that is a string becomes text, and an empty one or null is left out. */
 export function element(tag, attributes = {}, ...children) {
@@ -80,7 +80,25 @@ function textElements(text, form) {
     const attributes = block.isSignature ? { class: "signature", dir: "auto" } : { dir: "auto" };
     open.at(-1).append(element("pre", attributes, ...linked(block.text, left)));
   }
+  foldQuotes([...root.children]);
   return root.childNodes;
+}
+
+/** Makes long quotes fold. One that only a signature follows is folded at first, as there the mail quotes all that it answers. */
+function foldQuotes(blocks) {
+  const said = blocks.filter(block => block.className !== "signature" && block.textContent.trim() !== "");
+  const last = said.length > 1 ? said.at(-1) : null;
+  for (const quote of said.filter(block => block.localName === "blockquote")) {
+    const lines = quote.textContent.split("\n").length - 1;
+    if (lines > LONG_QUOTE) fold(quote, lines, quote !== last);
+  }
+}
+
+function fold(quote, lines, isOpen) {
+  const details = element("details", { class: "quote" }, element("summary", {}, `${lines} quoted lines`));
+  details.open = isOpen;
+  quote.replaceWith(details);
+  details.append(quote);
 }
 
 /** A text with its web addresses as links, as many as are left. */

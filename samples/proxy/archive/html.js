@@ -1,24 +1,37 @@
 /** HTML as plain text. Tags are read here and dropped; no browser ever parses the HTML of a mail. */
 
-const NAMED = new Map(Object.entries({
-  amp: "&", lt: "<", gt: ">", quot: '"', apos: "'", euro: "€", hellip: "…", ndash: "–", mdash: "—", lsquo: "‘", rsquo: "’", sbquo: "‚",
-  ldquo: "“", rdquo: "”", bdquo: "„", bull: "•", trade: "™", zwnj: "", zwj: "", lsaquo: "‹", rsaquo: "›", rarr: "→", larr: "←", minus: "−",
-}));
-/** The names of U+00A0 to U+00FF, in their order. */
-const LATIN_1 = "nbsp iexcl cent pound curren yen brvbar sect uml copy ordf laquo not shy reg macr deg plusmn sup2 sup3 acute micro para " +
-  "middot cedil sup1 ordm raquo frac14 frac12 frac34 iquest Agrave Aacute Acirc Atilde Auml Aring AElig Ccedil Egrave Eacute Ecirc Euml " +
-  "Igrave Iacute Icirc Iuml ETH Ntilde Ograve Oacute Ocirc Otilde Ouml times Oslash Ugrave Uacute Ucirc Uuml Yacute THORN szlig agrave " +
-  "aacute acirc atilde auml aring aelig ccedil egrave eacute ecirc euml igrave iacute icirc iuml eth ntilde ograve oacute ocirc otilde " +
-  "ouml divide oslash ugrave uacute ucirc uuml yacute thorn yuml";
-LATIN_1.split(" ").forEach((name, at) => NAMED.set(name, String.fromCharCode(160 + at)));
+import { BARE, REFERENCES } from "./entities.js";
 
-/** A text with its character references replaced; a name that is not known here stays. */
-function withoutReferences(text) {
-  return text.replace(/&(?:#(\d{1,7})|#x([0-9a-f]{1,6})|([a-z][a-z0-9]{1,7}));?/gi, (all, decimal, hex, name) => {
-    if (name) return NAMED.get(name) ?? all;
-    const code = decimal ? Number(decimal) : parseInt(hex, 16);
-    return code > 0 && code <= 0x10ffff && (code < 0xd800 || code > 0xdfff) ? String.fromCodePoint(code) : "\ufffd";
+const REFERENCE = /&(?:#(\d+);?|#x([0-9a-f]+);?|([a-z][a-z0-9]{0,31})(;?))/gi;
+
+/** The longest name that HTML reads also without a `;`. */
+const LONGEST_BARE = Math.max(...[...BARE].map(name => name.length));
+
+/** A text with its character references replaced (HTML standard, 13.2.5.72 to 80); other names stay. `isValue`: of an attribute. */
+function withoutReferences(text, isValue = false) {
+  return text.replace(REFERENCE, (all, decimal, hex, name, end, at) => {
+    if (!name) return characterOf(decimal ? Number(decimal) : parseInt(hex, 16));
+    if (end && REFERENCES.has(name)) return REFERENCES.get(name);
+    return withoutBareName(name, isValue, text[at + name.length + 1]) + end;
   });
+}
+
+/** A name without a `;` that is one of HTML's, with what follows it there; else it stays, with its `&`. */
+function withoutBareName(name, isValue, next = "") {
+  for (let length = Math.min(name.length, LONGEST_BARE); length > 1; length--) {
+    const bare = name.slice(0, length), rest = name.slice(length);
+    if (!BARE.has(bare)) continue;
+    return isValue && (rest || next === "=") ? `&${name}` : REFERENCES.get(bare) + rest;
+  }
+  return `&${name}`;
+}
+
+const WINDOWS_1252 = new TextDecoder("windows-1252");
+
+/** The character of a number; 128 to 159 are those of Windows-1252. */
+function characterOf(code) {
+  if (code >= 128 && code < 160) return WINDOWS_1252.decode(new Uint8Array([code]));
+  return code > 0 && code <= 0x10ffff && (code < 0xd800 || code > 0xdfff) ? String.fromCodePoint(code) : "\ufffd";
 }
 
 /** Gives the text and the tags of HTML, in their order: { text } and { name, isEnd, source }. Comments, scripts and styles are left out. */
@@ -71,6 +84,8 @@ function startOfEndTag(html, name, from) {
 
 const BLOCK = /^(?:p|div|br|tr|li|h[1-6]|blockquote|table|ul|ol|dl|dt|dd|pre|hr|section|article|header|footer|center|address)$/;
 const SPACED = /^(?:p|h[1-6]|ul|ol|table|pre)$/;
+/** A line of which nothing is seen: many mails begin with one, so that previews show no more of them. */
+const UNSEEN = /^[\s\u00ad\u034f\u200b-\u200f\u2060\ufeff]*$/;
 
 /** Lines as they are written, quotes with `> ` in front. */
 class Writer {
@@ -97,7 +112,7 @@ class Writer {
 
   /** Ends the line. An empty one is written where it is wanted, but not two of them. */
   newLine(isWanted) {
-    const line = this.line.join(""), text = this.preformatted > 0 ? line.trimEnd() : line.trim();
+    const line = this.line.join(""), shown = UNSEEN.test(line) ? "" : line, text = this.preformatted > 0 ? shown.trimEnd() : shown.trim();
     if (text || isWanted && this.lines.length > 0 && this.lines.at(-1) !== "") {
       this.lines.push(text && "> ".repeat(Math.min(this.quotes, 8)) + text);
     }
@@ -115,7 +130,7 @@ class Writer {
   }
 
   beginLink(source) {
-    const address = withoutReferences(/\shref\s*=\s*["']?(https?:\/\/[^\s"'<>]+)/i.exec(source)?.[1] ?? "");
+    const address = withoutReferences(/\shref\s*=\s*["']?(https?:\/\/[^\s"'<>]+)/i.exec(source)?.[1] ?? "", true);
     this.link = address ? { address, name: [] } : null;
   }
 

@@ -1,5 +1,6 @@
 /** A thread as one mbox (RFC 4155), made in the browser of its messages one after the other. */
 
+import { sentDate } from "./dates.js";
 import { button, element, saveFile, sizeText } from "./elements.js";
 import { headOf } from "./parts.js";
 import { bytesAt } from "./requests.js";
@@ -57,8 +58,7 @@ function separatorOf(text) {
 
 /** `Tue Mar  4 10:00:00 2003`, in UTC. */
 function separatorDate(written) {
-  const parsed = new Date(written.replace(/\([^)]*\)/g, "")), year = parsed.getUTCFullYear();
-  const date = year >= 1900 && year <= 9998 ? parsed : new Date(0);
+  const date = new Date(sentDate(written) ?? 0);
   const [weekday, day, month, , time] = date.toUTCString().replace(",", "").split(" ");
   return `${weekday} ${month} ${String(Number(day)).padStart(2)} ${time} ${date.getUTCFullYear()}`;
 }

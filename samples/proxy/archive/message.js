@@ -1,12 +1,14 @@
 /** The page of a message: its head, its text, its attachments, and what a reader can do with it. */
 
 import { base64Size, binaryOf, bytesOf } from "./bytes.js";
+import { eventOf } from "./calendar.js";
+import { readersLanguage, readersTime, rowDate, sentDate } from "./dates.js";
 import { button, element, folded, saveFile, sizeText, textSection } from "./elements.js";
 import { textOfHtml } from "./html.js";
-import { contentOf, fieldText, partOf, partText, shownOf } from "./parts.js";
+import { charsetOf, contentOf, fieldText, partOf, partText, shownOf } from "./parts.js";
 import { messageIdOf, personsOf, replyTo } from "./persons.js";
 import { bytesAt, TooLarge } from "./requests.js";
-import { threadLinks } from "./thread.js";
+import { rowsOf, threadLinks } from "./thread.js";
 import { decodeWords, isUnknownCharset, oneLine, textOf } from "./words.js";
 
 const LARGE_MAIL = 8_000_000, LARGE_THREAD_PAGE = 4_000_000, LARGE_HTML = 2_000_000;
@@ -28,7 +30,7 @@ export async function showMessage(main, frame, list, key) {
     status.replaceWith(frame);
     return;
   }
-  await addThreadLinks(main.querySelector("nav"), list, key);
+  await addOfThread(main, list, key);
 }
 
 /** The mail at a path; a large one once the reader has asked for it. */
@@ -64,11 +66,13 @@ function rawLinks() {
   return [element("a", { href: "?text" }, "Raw message"), element("a", { href: "?text", download: "message.eml" }, "Download")];
 }
 
-/** Adds the ways to other messages of the thread, where its page can be had. */
-async function addThreadLinks(navigation, list, key) {
+/** Adds what the page of the thread tells, where it can be had: the ways to other messages, and when a message without a date arrived. */
+async function addOfThread(main, list, key) {
   try {
-    const page = await bytesAt(`/l/${list}/t/${key}`, { most: LARGE_THREAD_PAGE });
-    navigation.prepend(...threadLinks(binaryOf(page), key));
+    const rows = rowsOf(binaryOf(await bytesAt(`/l/${list}/t/${key}`, { most: LARGE_THREAD_PAGE })));
+    main.querySelector("nav").prepend(...threadLinks(rows, key));
+    const head = main.querySelector("dl"), arrival = rowDate(rows.find(row => row.key === key)?.date ?? "");
+    if (!head.querySelector("time") && arrival !== null) addField(head, "Arrived", [timeElement(arrival)]);
   } catch (error) {
     console.info(String(error));
   }
@@ -77,10 +81,22 @@ async function addThreadLinks(navigation, list, key) {
 /** Returns the view of a mail. */
 export function messageElements(mail, list, key) {
   const [subject, head] = headElements(mail, "h1"), id = messageIdOf(mail);
-  if (id) head.append(element("dt", {}, "Message-ID"), element("dd", { class: "address" }, id));
-  const thread = element("nav", { "aria-label": "Thread" }, element("a", { href: `/l/${list}/t/${key}` }, "Whole thread"));
+  if (id) head.append(element("dt", {}, "Message-ID"), element("dd", { class: "address" }, idLink(list, id)));
+  const thread = element("nav", { "aria-label": "Thread" }, element("a", { href: `/l/${list}/t/${key}`, accesskey: "t" }, "Whole thread"));
   const article = element("article", languageOf(mail), ...mailElements(mail, 1));
   return [subject, head, thread, toolElements(mail, `${location.origin}/l/${list}/m/${key}`), article];
+}
+
+/** A Message-ID, which is a link where the proxy leads to a search (samples/search). */
+function idLink(list, id) {
+  if (!document.querySelector(`nav a[href="/l/${list}/search"]`)) return id;
+  return element("a", { href: `/l/${list}/id/${encodeURIComponent(id.slice(1, -1))}` }, id);
+}
+
+/** Returns the head and the text of a mail, to be read below its row, which has the subject. */
+export function articleBelow(mail) {
+  const [, head] = headElements(mail, "h2");
+  return element("article", { class: "below", ...languageOf(mail) }, head, ...mailElements(mail, 2));
 }
 
 function languageOf(mail) {
@@ -91,7 +107,7 @@ function languageOf(mail) {
 function toolElements(mail, permanentLink) {
   const status = element("span", { role: "status" }), reply = replyTo(mail), id = messageIdOf(mail);
   return element("section", { class: "tools", "aria-label": "Actions" },
-    reply && element("a", { href: reply.href }, reply.isToList ? "Reply to list" : "Reply"),
+    reply && element("a", { href: reply.href, accesskey: "r" }, reply.isToList ? "Reply to list" : "Reply"),
     ...rawLinks(),
     copyButton("Copy permanent link", permanentLink, status),
     id && copyButton("Copy Message-ID", id, status),
@@ -133,14 +149,15 @@ function personElements(value, hint) {
   return [...listed(persons.slice(0, 6)), element("details", {}, element("summary", {}, `and ${persons.length - 6} more`), ...listed(persons.slice(6)))];
 }
 
-const READERS_TIME = new Intl.DateTimeFormat(undefined, { dateStyle: "full", timeStyle: "long" });
-
-/** A date in the reader's own time and language, with the date as it was written behind it. */
+/** A date in the reader's own time and language, followed by the date as it was written; another text stays as it was written. */
 function dateElements(value) {
-  const written = oneLine(value).slice(0, 100), at = /\d{4}/.test(written) ? Date.parse(written.replace(/\([^)]*\)/g, "")) : NaN;
-  if (Number.isNaN(at)) return [written];
-  const attributes = { datetime: new Date(at).toISOString(), lang: READERS_TIME.resolvedOptions().locale };
-  return [element("time", attributes, READERS_TIME.format(at)), " ", element("span", { class: "soft" }, `(${written})`)];
+  const written = oneLine(value).slice(0, 100), instant = sentDate(value);
+  return instant === null ? [written] : [timeElement(instant), " ", element("span", { class: "soft" }, `(${written})`)];
+}
+
+function timeElement(instant) {
+  const text = readersTime(instant);
+  return element("time", { datetime: new Date(instant).toISOString(), lang: readersLanguage() }, text);
 }
 
 /** The texts, notes and attachments of a mail; `level` is that of the heading above. */
@@ -152,12 +169,33 @@ function mailElements(mail, level) {
 
 function shownElements(how, part, level) {
   switch (how) {
-    case "text": return [textSection(partText(part), formOf(part))];
+    case "text": return [...nameElements(part), textSection(partText(part), formOf(part))];
     case "html": return [element("p", { class: "soft" }, "This text was written as HTML; it is shown without its layout."), htmlSection(part)];
     case "alternative": return [folded(["The same text, as it was written in HTML"], () => htmlSection(part))];
+    case "calendar": return calendarElements(part);
     case "mail": return [element("article", { class: "mail" }, ...headElements(part.mail, headingAt(level + 1)), ...mailElements(part.mail, level + 1))];
     default: return [];
   }
+}
+
+/** Above a text that has a name, a button that saves it. */
+function nameElements(part) {
+  return part.file ? [element("p", { class: "soft" }, saveButton(part), ` ${part.type}, ${sizeText(sizeOf(part))}`)] : [];
+}
+
+const METHODS = new Map([
+  ["request", "An invitation."], ["cancel", "An event that is cancelled."], ["reply", "An answer to an invitation."], ["counter", "A proposal to change an event."],
+]);
+
+/** The event of a calendar, or, where it has none, its text. Either can be saved. */
+function calendarElements(part) {
+  const event = eventOf(partText(part));
+  if (event === null) return [...nameElements(part), textSection(partText(part), formOf(part))];
+  const list = element("dl");
+  const fields = { What: event.summary, Begins: event.start, Ends: event.end, Takes: event.duration, Repeats: event.rule, Where: event.location, "Invited by": event.organizer };
+  for (const [name, value] of Object.entries(fields)) addField(list, name, value ? [element("bdi", {}, oneLine(value))] : []);
+  const method = METHODS.get(event.method.toLowerCase()) ?? "An event.";
+  return [element("section", { class: "event", "aria-label": "Event" }, element("p", { class: "soft" }, method), list, element("ul", {}, fileElement(part)))];
 }
 
 function headingAt(level) {
@@ -173,13 +211,26 @@ function htmlSection(part) {
   return textSection(textOfHtml(partText(part).slice(0, LARGE_HTML)));
 }
 
+const ENCRYPTED = "This message is encrypted.";
+
+/** What S/MIME says of a message by `smime-type` (RFC 8551, 3.2.2). */
+const NOTES_ON_SMIME = new Map([
+  ["enveloped-data", ENCRYPTED], ["authenveloped-data", ENCRYPTED],
+  ["signed-data", "This message is signed (S/MIME). The signature was not checked, and the text inside it is not shown."],
+  ["compressed-data", "This message is compressed (S/MIME). The text inside it is not shown."],
+  ["certs-only", "This message holds certificates (S/MIME) and no text."],
+]);
+const NOTE_ON_SMIME = "This message is signed or encrypted (S/MIME). What is inside is not shown.";
+
 /** What a reader has to know of how a mail is shown. */
 function notesOn(mail, shown) {
   const notes = [];
   const isSigned = mail.type === "multipart/signed" || shown.some(([, part]) => part.type === "application/pgp-signature");
   if (isSigned) notes.push("This message is signed. The signature was not checked.");
-  if (mail.type === "multipart/encrypted") notes.push("This message is encrypted.");
-  const charsets = shown.filter(([how, part]) => (how === "text" || how === "html") && isUnknownCharset(part.charset)).map(([, part]) => part.charset);
+  if (mail.type === "multipart/encrypted") notes.push(ENCRYPTED);
+  const sealed = shown.find(([, part]) => /^application\/(?:x-)?pkcs7-mime$/.test(part.type))?.[1];
+  if (sealed) notes.push(NOTES_ON_SMIME.get(sealed.content.parameters.get("smime-type")?.toLowerCase()) ?? NOTE_ON_SMIME);
+  const charsets = shown.filter(([how]) => how === "text" || how === "html").map(([, part]) => charsetOf(part)).filter(isUnknownCharset);
   for (const charset of new Set(charsets)) {
     notes.push(`This browser does not know the charset ${oneLine(charset)}: letters beyond plain English may be wrong.`);
   }
@@ -194,9 +245,7 @@ function fileSection(files, level) {
 
 /** A part to be saved; one that is text can be opened here too, and a patch is open. */
 function fileElement(part) {
-  const name = fileName(part), size = part.encoding === "base64" ? base64Size(part.body) : part.body.length;
-  const save = button(["Save ", element("bdi", {}, name)], () => saveFile([contentOf(part)], name));
-  const item = element("li", {}, save, ` ${part.type}, ${sizeText(size)}`);
+  const name = fileName(part), item = element("li", {}, saveButton(part), ` ${part.type}, ${sizeText(sizeOf(part))}`);
   if (/^text\/|^message\/|^application\/(?:json|xml|x-patch|x-sh)$/.test(part.type)) {
     const makeText = () => part.type === "text/html" ? htmlSection(part) : textSection(partText(part), formOf(part));
     item.append(folded(["Show ", element("bdi", {}, name)], makeText, /^text\/x-(?:patch|diff)$/.test(part.type)));
@@ -204,10 +253,20 @@ function fileElement(part) {
   return item;
 }
 
+function saveButton(part) {
+  const name = fileName(part);
+  return button(["Save ", element("bdi", {}, name)], () => saveFile([contentOf(part)], name));
+}
+
+function sizeOf(part) {
+  return part.encoding === "base64" ? base64Size(part.body) : part.body.length;
+}
+
 /** The name of a part, or one made of its number; without what separates folders or means something to a system. */
 function fileName(part) {
   const name = part.file.replace(/[/\\:*?"<>|\u0000-\u001f]+/g, "_").replace(/^[.\s]+/, "").replace(/^(.{1,100}).*?(\.[^.]{1,16})?$/u, "$1$2").trim();
   if (name) return name;
   if (part.type === "message/rfc822") return `part-${part.number}.eml`;
+  if (part.type === "text/calendar") return `part-${part.number}.ics`;
   return `part-${part.number}${part.type.startsWith("text/") ? ".txt" : ".bin"}`;
 }

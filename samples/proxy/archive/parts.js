@@ -1,7 +1,7 @@
 /** A mail as a tree of parts (RFC 2045, 2046, 2231). Strings here are binary (bytes.js), but for those that are called text. */
 
 import { base64Bytes, binaryOf, bytesOf, quotedPrintableBytes, standsAt, trimmed } from "./bytes.js";
-import { charsetName, decodeWords, oneLine, textOf } from "./words.js";
+import { charsetName, decodeWords, isUndescribed, oneLine, textOf } from "./words.js";
 
 const MOST_DEPTH = 20, MOST_PARTS = 500, MOST_PARAMETERS = 8000, MOST_FIELD = 2000;
 
@@ -47,7 +47,7 @@ function withoutReturn(line) {
 /** Returns the text of a header field, decoded and on one line; empty where it is not there. */
 export function fieldText(part, name) {
   const value = (part.fields.get(name) ?? "").slice(0, 4 * MOST_FIELD);
-  const text = oneLine(decodeWords(textOf(bytesOf(value), "", part.charset)));
+  const text = oneLine(decodeWords(textOf(bytesOf(value), "", part.charset), part.charset));
   return text.length > MOST_FIELD ? `${text.slice(0, MOST_FIELD)}…` : text;
 }
 
@@ -157,7 +157,15 @@ export function contentOf(part) {
 
 /** Returns the text of a part. */
 export function partText(part) {
-  return textOf(contentOf(part), part.charset);
+  return textOf(contentOf(part), charsetOf(part));
+}
+
+/** Returns the charset of a part: the one that its header names, or, of HTML without one, the one that its own beginning names. */
+export function charsetOf(part) {
+  if (part.type !== "text/html" || !isUndescribed(part.charset)) return part.charset;
+  const start = binaryOf(contentOf({ ...part, body: part.body.subarray(0, 4096) }).subarray(0, 1024)).replace(/<!--[^]*?(?:-->|$)/g, "");
+  const name = charsetName(/<meta\s[^>]*?charset\s*=\s*["']?\s*([^\s"'>;/]+)/i.exec(start)?.[1] ?? "");
+  return name.startsWith("utf-16") ? "utf-8" : name || part.charset; // (it was read as ASCII, so it is no UTF-16)
 }
 
 function isAttached(part) {
@@ -165,18 +173,29 @@ function isAttached(part) {
 }
 
 function hasPlainText(part) {
-  return part.parts ? part.parts.some(hasPlainText) : part.type === "text/plain" && !isAttached(part);
+  return part.parts ? part.parts.some(hasPlainText) : part.type === "text/plain" && !isAttached(part) && !isBlank(part);
+}
+
+function hasHtml(part) {
+  return part.parts ? part.parts.some(hasHtml) : part.type === "text/html" && !isAttached(part);
+}
+
+/** Whether the text of a part has nothing that is seen. */
+function isBlank(part) {
+  return part.isBlank ??= !/[^\s\u00ad\u200b-\u200f\u2060\ufeff]/.test(partText(part));
 }
 
 /**
  * Returns what of a mail is shown, in its order: [how, part], where `how` is "text", "html", "alternative" (HTML beside a plain text that
- * says the same), "mail" or "file".
+ * says the same), "calendar", "mail" or "file". Of alternatives the plain text is shown, or the HTML where the plain text is blank.
  */
 export function shownOf(part, hasBetter = false) {
   if (!part.parts) return [[howShown(part, hasBetter), part]];
-  const best = part.type === "multipart/alternative" ? part.parts.findLast(hasPlainText) : undefined;
+  const isAlternative = part.type === "multipart/alternative";
+  const best = isAlternative ? part.parts.findLast(hasPlainText) ?? part.parts.findLast(hasHtml) : undefined;
   return part.parts.flatMap((inner, at) => {
     if (part.type === "multipart/signed" && at > 0) return [["file", inner]];
+    if (best !== undefined && inner !== best && inner.type === "text/plain" && isBlank(inner)) return [];
     return shownOf(inner, hasBetter || best !== undefined && inner !== best);
   });
 }
@@ -185,6 +204,9 @@ function howShown(part, hasBetter) {
   if (part.mail) return "mail";
   if (part.type.startsWith("multipart/")) return "text";
   if (isAttached(part)) return "file";
+  if (part.type === "text/calendar") return "calendar";
   if (part.type === "text/html") return hasBetter ? "alternative" : "html";
-  return part.type === "text/plain" && !hasBetter ? "text" : "file";
+  if (hasBetter) return "file";
+  // (a kind of text that is not known is read as plain text: RFC 2046, 4.1.4)
+  return part.type === "text/plain" || part.type.startsWith("text/") && !part.file ? "text" : "file";
 }

@@ -1,33 +1,49 @@
 /** Pages of rows: decoded subjects and names, and ways that the archive has no pages for. */
 
+import { readersTime, rowDate } from "./dates.js";
 import { element } from "./elements.js";
+import { threadReader } from "./flat.js";
 import { threadSaver } from "./mbox.js";
 import { decodeWords, oneLine } from "./words.js";
 
-const ROWS_AT_FIRST = 2000, ROWS_AT_ONCE = 10_000;
+const ROWS_AT_FIRST = 2000, ROWS_AT_ONCE = 10_000, ROWS_IN_PIECE = 200;
 
 /** Makes a page of rows readable; `main` holds its heading, and its rows in a div. */
 export function showRows(main) {
   const list = main.querySelector("h1 + div"), rows = [...list.children];
   decodeText(main.querySelector("h1"));
   document.title = decoded(document.title);
+  putInto(list, rows);
   list.setAttribute("role", "list");
   const [, name, page, rest] = /^\/l\/([^/]+)\/(threads|month|t)(?:\/([^/]+))?$/.exec(location.pathname) ?? [];
   if (page === "threads" && rows.length > 0) list.before(threadsNavigation(list, rows));
   if (page === "month") list.before(monthNavigation(name, rest));
-  if (page === "t") list.before(threadSaver(name, messagePathsIn(list), `thread-${rest.slice(0, 16)}.mbox`));
+  if (page === "t") {
+    const links = messageLinksIn(list);
+    list.before(threadSaver(name, links.map(link => link.pathname), `thread-${rest.slice(0, 16)}.mbox`), threadReader(links));
+  }
   for (const event of ["pointerover", "focusin"]) list.addEventListener(event, addReadersTime);
   decodeRows(rows);
 }
 
-function messagePathsIn(list) {
-  return [...list.querySelectorAll('a[href*="/m/"]')].map(link => link.getAttribute("href"));
+function messageLinksIn(list) {
+  return [...list.querySelectorAll('a[href*="/m/"]')].filter(link => /^\/l\/[^/]+\/m\/[0-9a-f]{64}$/.test(link.pathname));
 }
 
 /**
- * Decodes the rows, first the topmost and then the others in pieces, so that a page of 50,000 can be used meanwhile. The pieces are large:
- * with each picture that it draws the browser looks at all rows, which takes longer than to decode some thousands.
+ * Puts rows into a list. Many go into pieces, of which the browser lays out those in sight alone (archive.css). The list is out of the page
+ * meanwhile, because for each row that leaves a page the browser looks at all rows that follow.
  */
+function putInto(list, rows) {
+  if (rows.length <= ROWS_IN_PIECE) return list.replaceChildren(...rows);
+  const place = document.createComment(""), pieces = [];
+  list.replaceWith(place);
+  for (let at = 0; at < rows.length; at += ROWS_IN_PIECE) pieces.push(element("div", {}, ...rows.slice(at, at + ROWS_IN_PIECE)));
+  list.replaceChildren(...pieces);
+  place.replaceWith(list);
+}
+
+/** Decodes the rows, first the topmost and then the others, some thousands at a time, so that a page of 50,000 can be used meanwhile. */
 async function decodeRows(rows) {
   rows.slice(0, ROWS_AT_FIRST).forEach(decodeRow);
   for (let at = ROWS_AT_FIRST; at < rows.length; at += ROWS_AT_ONCE) {
@@ -61,15 +77,10 @@ function decoded(text) {
   return known.get(text);
 }
 
-let readersTime = null; // (made when it is first asked for, as that takes as long as a thousand rows)
-
 /** Gives the date that the pointer or the keyboard is on a title with the reader's own time. It is made then, as a page may have many. */
 function addReadersTime({ target }) {
-  const found = target.localName === "a" && !target.title && /^(\d{4})-(\d\d)-(\d\d) (\d\d):(\d\d)$/.exec(target.textContent);
-  if (!found) return;
-  const [, year, month, day, hour, minute] = found.map(Number);
-  readersTime ??= new Intl.DateTimeFormat(undefined, { dateStyle: "full", timeStyle: "long" });
-  target.title = readersTime.format(Date.UTC(year, month - 1, day, hour, minute));
+  const instant = target.localName === "a" && !target.title ? rowDate(target.textContent) : null;
+  if (instant !== null) target.title = readersTime(instant);
 }
 
 /** The months of a list, and a link that puts the threads with the newest messages first. */
@@ -77,8 +88,8 @@ function threadsNavigation(list, rows) {
   const order = element("a");
   const sort = () => {
     const isNewestFirst = location.hash === "#newest";
-    if (isNewestFirst) list.append(...threadsOf(rows).sort(byNewest).flatMap(thread => thread.rows));
-    else if (order.hash) list.append(...rows);
+    if (isNewestFirst) putInto(list, threadsOf(rows).sort(byNewest).flatMap(thread => thread.rows));
+    else if (order.hash) putInto(list, rows);
     order.setAttribute("href", isNewestFirst ? "#oldest" : "#newest");
     order.textContent = isNewestFirst ? "Oldest first" : "Newest first";
   };

@@ -17,9 +17,14 @@ export function charsetName(label) {
   return label.slice(0, 80).split("*")[0].trim().toLowerCase();
 }
 
+/** Returns whether a name says nothing of how a text is to be decoded. */
+export function isUndescribed(label) {
+  return UNDESCRIBED.test(charsetName(label));
+}
+
 /** Returns whether a charset is named that this browser cannot decode. */
 export function isUnknownCharset(label) {
-  return !UNDESCRIBED.test(charsetName(label)) && !decoderOf(label);
+  return !isUndescribed(label) && !decoderOf(label);
 }
 
 const decoders = new Map();
@@ -61,13 +66,13 @@ function withoutIdleEscapes(bytes) {
  * UTF-8 if they can be, and otherwise what `hint` names, or Windows-1252.
  */
 export function textOf(bytes, label, hint = "") {
-  const named = UNDESCRIBED.test(charsetName(label)) ? null : decoderOf(label);
+  const named = isUndescribed(label) ? null : decoderOf(label);
   if (named) return named.decode(bytes);
   if (hasJapaneseEscape(bytes.subarray(0, 4000))) return decoderOf("iso-2022-jp").decode(bytes);
   try {
     return new TextDecoder("utf-8", { fatal: true }).decode(bytes);
   } catch {
-    const hinted = UNDESCRIBED.test(charsetName(hint)) ? null : decoderOf(hint);
+    const hinted = isUndescribed(hint) ? null : decoderOf(hint);
     return (hinted ?? decoderOf("windows-1252")).decode(bytes);
   }
 }
@@ -93,9 +98,10 @@ const ENCODED_WORD = /=\?([^?\s]{1,80})\?([bq])\?([^?\r\n]*)\?=/gi;
 
 /**
  * Returns a text with its encoded words decoded. Neighbours of one charset are decoded as one, because many programs cut a character in
- * two. What only looks like an encoded word, or has a charset that the browser does not know, stays as it is.
+ * two. What only looks like an encoded word, or has a charset that the browser does not know, stays as it is. `hint` is as in `textOf`,
+ * for words of a charset that is said to be unknown.
  */
-export function decodeWords(text) {
+export function decodeWords(text, hint = "") {
   if (!text.includes("=?")) return text;
   let decoded = "", end = 0, run = null;
   const endRun = () => {
@@ -103,7 +109,7 @@ export function decodeWords(text) {
     run = null;
   };
   for (const [word, label, encoding, content, at] of wordsIn(text)) {
-    const bytes = wordBytes(encoding, content), decoder = bytes && decoderOf(label);
+    const bytes = wordBytes(encoding, content), decoder = bytes && (decoderOf(label) ?? guesserOf(label, hint));
     if (!decoder) continue;
     const between = text.slice(end, at), isNeighbour = run !== null && !/[^ \t\r\n]/.test(between);
     if (!isNeighbour || run.charset !== charsetName(label)) {
@@ -116,6 +122,11 @@ export function decodeWords(text) {
   }
   endRun();
   return decoded + text.slice(end);
+}
+
+/** What decodes words whose charset says no more than that it is not known, as `unknown-8bit` does (RFC 1428); else null. */
+function guesserOf(label, hint) {
+  return isUndescribed(label) ? { decode: bytes => textOf(bytes, "", hint) } : null;
 }
 
 /** What looks like an encoded word: [all of it, charset, encoding, content, where it stands]. */
