@@ -3,35 +3,85 @@
 #
 #   samples/backup.sh FOLDER TO [COUNT]
 #
-# FOLDER is the archive's. TO gets archive-DAY.db, of which the last COUNT stay (14), tried by stock sqlite3 before they take
-# their names, and what an archive can be made anew from: policy.toml, commands.done, and mail.done, which only grow. Where one
-# of these is a link, what it leads to is taken.
-# Status 1, and a line on standard error, where something is missing; then nothing older is taken away.
+# FOLDER is the archive's. TO gets archive-DAY.db, and what an archive can be rebuilt from: policy.toml, commands.done, and mail.done,
+# which only grow. If one of these is a link, it takes what the link leads to. Only its owner can read what it makes.
+#
+# The copy takes its name once stock sqlite3 and the archive's own `check` found it whole, with as many messages as were copied, and not
+# fewer than the newest backup holds. TO/backups.made then has its name and how many messages it holds. Of the files that it
+# lists and that still hold as many, the last COUNT stay (14). No other file is counted or removed, whatever its name.
+#
+# Status 1, and a line on standard error, if something is missing; then nothing older is removed. If the archive was rebuilt without
+# some of its messages, move the older backups away first. ARCHIVE is the program.
 set -eu
 case ${1-} in -h | --help) sed -n '2,/^[^#]/s/^# \{0,1\}//p' -- "$0"; exit ;; esac
 umask 077 # the database and the commands hold tokens
+export LC_ALL=C
+export ARCHIVE_PROVED=1 # no answer comes from a trial (docs/COMMANDS.md)
 folder=${1:?the folder of the archive is to be given}
 to=${2:?the folder of the backups is to be given}
 count=${3:-14}
-command -v sqlite3 > /dev/null || { echo "backup.sh: sqlite3 is not on the PATH" >&2; exit 1; }
-mkdir -p -- "$to"
+here=$(dirname -- "$(readlink -f -- "$0")")
+archive=${ARCHIVE:-$here/../archive}
 
-name=$to/archive-$(date -u +%F).db
-"$(dirname -- "$(readlink -f -- "$0")")/copy.sh" "$folder/archive.db" "$name.new"
-# (it takes in what stands in the file with -wal)
-said=$(sqlite3 -batch -init /dev/null "$name.new" "PRAGMA integrity_check; PRAGMA foreign_key_check" 2>&1) || true
-[ "$said" = ok ] || { echo "backup.sh: $folder/archive.db: $said" >&2; exit 1; }
-rm -f -- "$name.new-wal" "$name.new-shm"
-mv -- "$name.new" "$name"
+die() { echo "backup.sh: $*" >&2; exit 1; }
+
+[[ $count =~ ^[1-9][0-9]*$ ]] || die "$count: one backup at least has to stay"
+command -v sqlite3 > /dev/null || die 'sqlite3 is not on the PATH'
+mkdir -p -- "$to"
+made=$to/backups.made
+name=archive-$(date -u +%F).db
+new=$to/$name.new
+tried=$new.tried
+
+# asks stock sqlite3 about a file
+ask() {
+  sqlite3 -batch -init /dev/null "$1" "$2" 2>&1 || true
+}
+
+# how many messages a file holds; something else where it is no archive
+messages() {
+  ask "$1" 'SELECT count(*) FROM message'
+}
+
+# the backups that count, newest first: those that are written down and hold as many messages as they did, each with that number
+counted() {
+  local file number
+  [ -e "$made" ] || return 0
+  sort -ru -- "$made" | while read -r file number; do
+    [ ! -f "$to/$file" ] || [ "$(messages "$to/$file")" != "$number" ] || echo "$file $number"
+  done
+}
+
+# Tries the copy: sqlite3 takes in what stands in the file with -wal, and `check` has a copy of its own, because a newer program would
+# bring the tables over.
+try_copy() {
+  local said
+  had=$(messages "$new")
+  said=$(ask "$new" 'PRAGMA integrity_check; PRAGMA foreign_key_check')
+  [ "$said" = ok ] || die "$folder/archive.db: $said"
+  cp -- "$new" "$tried"
+  said=$("$archive" check --db "$tried" 2>&1) || die "$folder/archive.db: $said"
+  said=$(messages "$tried")
+  [ "$said" = "$had" ] || die "$folder/archive.db: of $had messages \`check\` had $said"
+}
+
+trap 'rm -f -- "$tried" "$tried-wal" "$tried-shm"' EXIT
+"$here/copy.sh" "$folder/archive.db" "$new"
+try_copy
+read -r newest most <<< "$(counted | head -n 1)"
+[ "$had" -ge "${most:-0}" ] || die "$folder/archive.db holds $had messages, and $to/$newest holds $most: nothing was taken"
+rm -f -- "$new-wal" "$new-shm"
+mv -- "$new" "$to/$name"
+{ grep -v "^$name " -- "$made" 2> /dev/null || true; echo "$name $had"; } > "$made.new"
+mv -- "$made.new" "$made"
 
 for it in policy.toml commands.done mail.done; do
   [ -e "$folder/$it" ] || [ -L "$folder/$it" ] || continue
   # (a backup that holds a link holds nothing)
   [ ! -L "$to/$it" ] || rm -- "$to/$it"
-  cp -auL -- "$folder/$it" "$to/"
+  cp -ruL --preserve=timestamps -- "$folder/$it" "$to/"
+  chmod -R go= -- "$to/$it"
 done
-sync -- "$name"
+sync -- "$to/$name" "$made"
 
-# the names are days, so their order is that of time
-(cd -- "$to" && find . -maxdepth 1 -name 'archive-????-??-??.db') | LC_ALL=C sort -r | tail -n "+$((count + 1))" |
-  while IFS= read -r old; do rm -- "$to/$old"; done
+counted | tail -n "+$((count + 1))" | while read -r old _; do rm -- "$to/$old"; done

@@ -3,6 +3,7 @@
 #
 #   samples/keep.sh FOLDER [PORT]      serves on PORT (8080), until it is stopped
 #   samples/keep.sh --once FOLDER      does what waits, and serves nothing
+#   samples/keep.sh --look FOLDER      prints all that its owner has to deal with, a line each, and changes nothing
 #
 # FOLDER holds, with policy.toml there from the beginning (--once asks for none):
 #   policy.toml        the policy; a change of it is taken at once, if it is a policy
@@ -12,10 +13,14 @@
 #   mail/LIST/*.mbox   mboxes that are to be taken into LIST
 #   continue           where there is such a file, a list that is full goes on as LIST-2, LIST-3 .. ("A full list", below)
 #   commands.done, mail.done/LIST, mail.refused/LIST, log
-#                      what became of them, and what each command said
+#                      what became of them, and what each command said, in one line; tokens stand in commands.done and in log
+#   commands.refused   the lines of commands that did nothing, each below the reason: no command, a usage error, or a refusal, but not
+#                      one that says that it was done before (E3, E5, E9, E10). Correct the file, and submit it again as it is
 #   full               what full lists refused: when, which list, how many mails of the mbox went in before, and where it lies
-#   archive.next, commands.now, commands.put, mail.now, mail.rest, mail.held, policy.served, policy.refused, keep.lock
-#                      its own: the work under way, the policy that is served by, the last one that was none
+#   archive.next, commands.now, commands.put, done.now, refused.now, mail.now, mail.rest, mail.held, policy.served, policy.refused,
+#   keep.lock          its own: the work under way, the policy that is served by, the last one that was none
+#
+# Only its owner can read what it makes.
 #
 # A file comes whole and takes nobody's place: write it beside, under a name that begins with a dot, and rename it to a name of its
 # own (`mv` in commands.d and mail), or `ln` it to the name `commands`, which refuses where one waits. A file that is taken is moved
@@ -40,6 +45,11 @@
 # Behind a proxy DRAIN names a program, as samples/keep/haproxy.sh: `DRAIN drain PORT` has the proxy let go of the server, which is
 # then ended at once, and `DRAIN ready PORT` says that the next one answers. Then COUNT is 1000000, the most that `serve` takes.
 #
+# With DRAIN and SECOND=PORT, another port, nobody waits after commands and mail. The next server opens the copy on the port that is
+# free while the last one answers on the other, and is asked for the first page of each list, for 10 seconds at most. `DRAIN ready`
+# then turns the proxy to it, and the last server ends once it has answered what it was asked, or after 4 seconds. Both files are in
+# memory meanwhile. If the next server cannot begin, the work goes on as without SECOND.
+#
 # A full list. One of 50,000 messages refuses what is left of an mbox (E12): the mbox goes to mail.refused, and `full` has a line.
 # Where the file `continue` is there, LIST-2 is added with the threading and the grants of LIST, and takes what is left, but for what
 # LIST holds. A policy that names LIST has to name LIST-2 too, else it is refused all the same. It wants python3.
@@ -49,9 +59,13 @@
 # cannot be put away, the rest stays where it lies, the archive is served as it is, and the work is tried again after a minute,
 # then two, up to an hour; commands that come meanwhile are not held up by mail.
 #
-# Statuses: 0 stopped, or with --once all is settled; 1 `serve` is refused (the port is taken, the database is locked by another
-# program or damaged, the program is not there), policy.toml is no policy at the beginning, another keep.sh has the folder, or with
-# --once something is left to be tried again; 2 bad words. The reason is on standard error. Backups: samples/backup.sh.
+# --look prints what `log` has of refusals, of mails that were too large and of servers that answered 503, which files hold commands or
+# mail that were refused, and what has waited for two hours. It shows no token. Remove or move away what you have dealt with: `log`
+# too, of which the next command starts a new one. archive-look.service has systemd look each day, and fails if there is anything.
+#
+# Statuses: 0 stopped, or with --once all is settled, or with --look there is nothing; 1 `serve` is refused (the port is taken, the database is locked by another
+# program or damaged, the program is not there), policy.toml is no policy at the beginning, another keep.sh has the folder, with
+# --once a command was refused or something is left to be tried again, or with --look there is something; 2 bad words. The reason is on standard error. Backups: samples/backup.sh.
 set -u
 shopt -s nullglob
 case ${1-} in -h | --help) sed -n '2,/^[^#]/s/^# \{0,1\}//p' -- "$0"; exit ;; esac
@@ -68,12 +82,14 @@ minute=${MINUTE:-60}                                       # seconds between two
 again=${AGAIN:-60}                                         # seconds until work that failed is tried again, at first
 
 mode=keep
-[ "${1-}" != --once ] || { mode=once; shift; }
+case ${1-} in --once | --look) mode=${1#--}; shift ;; esac
 case "$mode $#" in
-  'keep 1' | 'keep 2' | 'once 1') ;;
-  *) echo 'keep.sh: the words are FOLDER [PORT], or --once FOLDER' >&2; exit 2 ;;
+  'keep 1' | 'keep 2' | 'once 1' | 'look 1') ;;
+  *) echo 'keep.sh: the words are FOLDER [PORT], --once FOLDER, or --look FOLDER' >&2; exit 2 ;;
 esac
 port=${2:-8080}
+second=${SECOND-} # the other port, on which the next server begins
+[ -z "$second" ] || [ -n "$drain" ] || { echo 'keep.sh: SECOND wants DRAIN' >&2; exit 2; }
 cd -- "$1" || exit 1
 
 say() {
@@ -81,7 +97,7 @@ say() {
 }
 
 note() {
-  printf '%(%Y-%m-%dT%H:%M:%SZ)T %s\n' -1 "$*" >> log
+  printf '%(%Y-%m-%dT%H:%M:%SZ)T %s\n' -1 "${*//$'\n'/ }" >> log
 }
 
 is_there() {
@@ -96,6 +112,10 @@ is_there() {
 . "$here/keep/work.sh"
 # shellcheck source=samples/keep/server.sh
 . "$here/keep/server.sh"
+# shellcheck source=samples/keep/look.sh
+. "$here/keep/look.sh"
+# shellcheck source=samples/keep/next.sh
+. "$here/keep/next.sh"
 
 # whether another server is wanted
 has_to_end() {
@@ -114,7 +134,7 @@ rest() {
 
 # Serves, until something is to be done that wants another server, and does it.
 serve() {
-  begin_serving
+  [ -n "$server" ] || begin_serving
   while is_there "$server"; do
     if [ -n "$worker" ] && ! is_there "$worker"; then end_work; return; fi
     if [ -z "$worker" ] && has_work; then begin_work; fi
@@ -128,14 +148,14 @@ serve() {
 stop() {
   [ -z "$worker" ] || stop_work
   [ -z "$looker" ] || kill "$looker" 2> /dev/null
-  [ -z "$server" ] || { kill "$server" 2> /dev/null; wait "$server" 2> /dev/null; }
+  for process in "$server" "$leaving"; do [ -z "$process" ] || { kill "$process"; wait "$process"; } 2> /dev/null; done
   exit 0
 }
 
 # does what waits, and says by its status whether all is settled
 once() {
   while has_work; do work_in_file || exit 1; done
-  case ${untaken[*]} in *yes*) exit 1 ;; esac
+  case "$are_refused ${untaken[*]}" in *yes*) exit 1 ;; esac
   exit 0
 }
 
@@ -147,13 +167,16 @@ keep() {
 }
 
 server=
+leaving= # the last server, while the next one takes its place
 worker=
 looker=
 count=$least
 later=0
 delay=$again
 are_stuck=
+are_refused=
 declare -A untaken=()
+[ "$mode" != look ] || look
 trap stop INT TERM HUP
 exec {never}<> <(:) # nothing is ever written to it: to wait without a program
 exec {lock}> keep.lock || exit 1

@@ -7,8 +7,11 @@
 
 MBOX may be /dev/stdin. A message stands from the first byte of its separator line, counted from 0; its size is that of its
 whole text, and its key the SHA-256 of that. An mbox that begins with something else than a separator line is refused.
+
+Status 1, with a line on standard error, if MBOX cannot be read or is refused, or if no message has KEY: then all of it was
+written. Status 2 for bad words.
 """
-import calendar, hashlib, re, sys
+import calendar, hashlib, re, signal, sys
 
 LARGEST = 16_777_216  # bytes of a whole text
 MONTHS = {it.lower(): at for at, it in enumerate(calendar.month_abbr) if it}
@@ -95,9 +98,15 @@ def show(lines, above):
 
 
 def without(key, lines):
+    left_out = 0
     for _, separator, text in messages(lines):
-        if key_of(text) != key:
+        if key_of(text) == key:
+            left_out += 1
+        else:
             sys.stdout.buffer.write(content(separator) + b"\n" + text + b"\n")
+    if not left_out:
+        sys.stdout.buffer.flush()
+        sys.exit(f"mbox.py: no message has the key {key}")
 
 
 def main(words):
@@ -105,7 +114,8 @@ def main(words):
     if what in ("-h", "--help"):
         return print(__doc__)
     if {"list": 2, "large": 2, "without": 3}.get(what) != len(words):
-        sys.exit(__doc__)
+        print(__doc__, end="", file=sys.stderr)
+        sys.exit(2)
     with open(words[-1], "rb") as lines:
         if what == "without":
             without(words[1], lines)
@@ -114,6 +124,8 @@ def main(words):
 
 
 if __name__ == "__main__":
+    # (a reader may stop before the end: that ends the script, and is no error)
+    signal.signal(signal.SIGPIPE, signal.SIG_DFL)
     try:
         main(sys.argv[1:])
     except OSError as error:

@@ -124,6 +124,13 @@ put_units() {
   for it in "$root"/samples/scale/archive*; do unit "$it" | put_text "$owners/examples/scale/luvazhimba${it##*/archive}"; done
 }
 
+# the search: its unit's own folder and page, and its settings
+put_search() {
+  sed -i -E -e 's#(StateDirectory=|/var/lib/)archive-search#\1luvazhimba-search#' \
+    -e 's#/usr/libexec/luvazhimba/search/README#/usr/share/doc/luvazhimba/examples/search/README#' -- "$top/usr/lib/systemd/system/luvazhimba-search.service"
+  put "$tools/package/default-search" etc/default/luvazhimba-search
+}
+
 put_pages() {
   python3 "$tools/owner_page.py" --list > "$work/list"
   while read -r page place; do python3 "$tools/owner_page.py" "$page" | put_text "$owners/$place"; done < "$work/list"
@@ -158,8 +165,7 @@ Version: $version-1
 Architecture: amd64
 Maintainer: $maintainer
 Installed-Size: $(du -k -s --apparent-size --exclude=DEBIAN -- "$top" | cut -f 1)
-Depends: libc6 (>= $glibc), passwd, init-system-helpers (>= 1.54)
-Recommends: sqlite3
+Depends: libc6 (>= $glibc), passwd, init-system-helpers (>= 1.54), sqlite3
 Suggests: nginx-light | nginx, curl, python3
 Section: mail
 Priority: optional
@@ -236,6 +242,7 @@ main() {
   put_scripts
   put_units
   put_pages
+  put_search
   put_settings
   make_debian
   make_files

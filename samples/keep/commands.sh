@@ -11,42 +11,60 @@ is_settled() {
   esac
 }
 
-# Runs a command, and writes it down with what it said; `answer` is the last line of that. Where it settles nothing, the work ends,
-# and standard error says why, without the words that may hold a token, as others read a journal.
+# whether a command with this status and last line has done what it says, now or before
+is_done() {
+  case "$1 $2" in
+    '0 '* | '1 archive: E3 '* | '1 archive: E5 '* | '1 archive: E9 '* | '1 archive: E10 '*) return 0 ;;
+    *) return 1 ;;
+  esac
+}
+
+# Runs a command, and writes it down in one line; `answer` is the last line of what it said, `reason` the first paragraph. If it settles
+# nothing, the work ends, and standard error says why, without the words that may hold a token, because others read a journal.
 run() {
   local said status told="$*"
   said=$("$archive" "$@" 2>&1 < /dev/null)
   status=$?
   answer=${said##*$'\n'}
-  note "$*: $said"
+  reason=${said%%$'\n\n'*}
+  note "$*: $reason"
   [ "$1" != person-add ] || told="$1 $2 $3 .."
   is_settled "$status" "$answer" || { say "$told: $said"; exit 1; }
   return "$status"
 }
 
-# one line of a file of commands, on this database; names, tokens, keys and days hold no spaces
+# notes a line of commands that did nothing, with the reason above it; status 1
+refuse() {
+  printf '# %(%Y-%m-%dT%H:%M:%SZ)T %s\n%s\n' -1 "${2//$'\n'/ }" "$1" >> refused.now || exit 1
+  return 1
+}
+
+# carries out one line of a file of commands on this database; status 1 if it did nothing (names, tokens, keys and days hold no spaces)
 carry_out_line() {
-  local db=$1
-  case ${2-} in
+  local db=$1 line=$2 words
+  read -ra words <<< "$line"
+  case ${words[0]-} in
     '' | '#'*) ;;
-    list-add | merge | person-add | person-address | grant | revoke | withdraw | restore | embargo | lift) run "$2" --db "$db" "${@:3}" ;;
-    *) note "$2: no such command" ;;
+    list-add | merge | person-add | person-address | grant | revoke | withdraw | restore | embargo | lift)
+      run "${words[0]}" --db "$db" "${words[@]:1}"
+      is_done "$?" "$answer" || refuse "$line" "$reason"
+      ;;
+    *)
+      note "$line: no such command"
+      refuse "$line" 'no such command'
+      ;;
   esac
 }
 
-# the lines of a text, on this database; one that is refused is done too
-carry_out_lines() {
-  local words
-  while read -ra words; do carry_out_line "$1" "${words[@]}"; done <<< "$2"
-  return 0
-}
-
-# all commands that were taken, on this database
+# all commands that were taken, on this database: done.now gets the lines that did what they say, refused.now the others
 carry_out() {
-  local file text
+  local file text line
+  { : > done.now && : > refused.now; } || exit 1
   for file in commands.now/*; do
     text=$(cat -- "$file") || exit 1
-    carry_out_lines "$1" "$text"
+    while IFS= read -r line; do
+      ! carry_out_line "$1" "$line" || printf '%s\n' "$line" >> done.now || exit 1
+    done <<< "$text"
   done
 }
 
@@ -86,11 +104,22 @@ take_commands() {
   done
 }
 
+# commands.refused gets the lines that did nothing; a crash on the way may leave some twice
+put_away_refused() {
+  if [ -s refused.now ]; then
+    cat -- refused.now >> commands.refused || return
+    are_refused=yes
+    say 'commands were refused: commands.refused has them, each below the reason'
+  fi
+  rm -f -- refused.now
+}
+
 # puts away what was carried out; commands.done gets all of it or nothing
 put_away_commands() {
   local files=(commands.now/*)
-  [ "${#files[@]}" -gt 0 ] || return 0
+  put_away_refused || return
+  [ "${#files[@]}" -gt 0 ] || { rm -f -- done.now; return 0; }
   [ -e commands.done ] || : >> commands.done
   # (a last line that has no end gets one)
-  sed -s '$a\' -- commands.done "${files[@]}" > commands.put && mv -T -- commands.put commands.done && rm -r -- commands.now
+  sed -s '$a\' -- commands.done done.now > commands.put && mv -T -- commands.put commands.done && rm -r -- commands.now done.now
 }

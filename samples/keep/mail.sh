@@ -8,14 +8,15 @@ went_in() {
 
 # makes mail.rest of what a list refused of an mbox, and adds the list that continues it, if it is not there
 begin_next_list() {
-  local db=$1 list=$2 next=$3 mbox=$4 after=$5 lines
+  local db=$1 list=$2 next=$3 mbox=$4 after=$5 lines line
   "$here/copy.sh" "$db" mail.held || exit 1
   if ! lines=$(python3 "$here/keep/rest.py" mail.held "$list" "$next" policy.toml "$mbox" "$after" mail.rest.new); then
     note "$list is full, and is not continued: ${lines:-python3 found a fault}"
     return 1
   fi
   mv -T -- mail.rest.new mail.rest || exit 1
-  carry_out_lines "$db" "$lines"
+  while IFS= read -r line; do carry_out_line "$db" "$line"; done <<< "$lines"
+  return 0
 }
 
 # Has lists that continue this one take what it refused of an mbox, if they may.
@@ -55,6 +56,7 @@ take_in() {
 # puts away what was taken in or refused
 put_away_mail() {
   local file to after name status=0
+  put_away_refused || return
   while IFS= read -rd '' file && IFS= read -rd '' to && IFS= read -rd '' after; do
     name=$to/$(date +%Y%m%d%H%M%S)-${file##*/}
     { mkdir -p -- "$to" && mv -- "$file" "$name"; } || { status=1; continue; }

@@ -16,7 +16,7 @@ has_another_policy() {
 # takes policy.toml to serve by, if it is one: what is served by is a copy, so that it is the text that was tried
 take_policy() {
   local said
-  cp -p -- policy.toml policy.new || return 1
+  cp --preserve=timestamps -- policy.toml policy.new || return 1
   if said=$("$archive" sift --policy policy.new 2>&1 < /dev/null); then
     mv -- policy.new policy.served && rm -f -- policy.refused
   else
@@ -41,18 +41,22 @@ has_another_day() {
 # ---- the beginning
 
 begin_serving() {
+  begin_on archive.db "$port"
+  [ -z "$drain" ] || tell_proxy ready
+}
+
+# begins a server of a file on a port; with DRAIN it waits until the server answers or has ended
+begin_on() {
   ask_today
   day=$today
   begun=$SECONDS
-  "$archive" serve --db archive.db --policy policy.served --day "$day" --port "$port" --count "$count" &
+  "$archive" serve --db "$1" --policy policy.served --day "$day" --port "$2" --count "$count" &
   server=$!
   looker=
   looked=$SECONDS
   times_ill=0
-  if [ -n "$drain" ]; then
-    until [ -n "$(ask_status)" ] || ! is_there "$server"; do read -rt 0.02 -u "$never"; done
-    tell_proxy ready
-  fi
+  [ -n "$drain" ] || return 0
+  until [ -n "$(port=$2 ask_status)" ] || ! is_there "$server"; do read -rt 0.02 -u "$never"; done
 }
 
 # has the proxy let go of the server (`drain`), or come back to it (`ready`)

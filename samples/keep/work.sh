@@ -76,7 +76,7 @@ stop_work() {
   kill -- "-$worker" && wait "$worker"
 } 2> /dev/null
 
-# the copy takes the place of the file, once nobody has that open
+# the copy takes the place of the file, once nobody has that open (the next server may have the copy open: it goes by its name of then)
 take_copy() {
   is_bare archive.db && rm -f -- archive.db-wal archive.next-wal && mv -- archive.next archive.db && sync -- .
 }
@@ -86,7 +86,7 @@ end_work() {
   wait "$worker"
   local status=$?
   worker=
-  end_serving
+  if [ "$status" -ne 0 ] || ! change_over; then end_serving; fi
   if [ "$status" -eq 0 ] && take_copy; then
     if put_away; then settled; else put_off; fi
   else

@@ -3,7 +3,8 @@
 # it done on another one.
 #
 #   copy-here.sh bring COPY COLOUR ADDRESS:PORT FROM     the file and the policy of this folder, whole
-#   copy-here.sh begin COPY COLOUR ADDRESS:PORT DAY      a server, and waits until it answers on 127.0.0.1:PORT
+#   copy-here.sh begin COPY COLOUR ADDRESS:PORT DAY      a server, and waits until it answers on 127.0.0.1:PORT, and has been asked for
+#                                                        the first page of each list, for 10 seconds at most
 #   copy-here.sh stop COPY COLOUR                        its server, and waits until it is gone
 #
 #   COPIES=/srv/copies     the folder of the copies: each colour of a shard is COPIES/COPY/COLOUR; with UNITS, COPIES/COLOUR
@@ -78,12 +79,23 @@ goes_on() {
   if [ "$units" = yes ]; then is_there; else kill -0 "$pid" 2> /dev/null; fi
 }
 
+# asks the server for a path, and prints what it says; the seconds that it may take
+page() {
+  curl -fs --noproxy '*' --max-time "${2:-20}" "http://127.0.0.1:$port$1"
+}
+
+# asks for the first page of each list, as the public, before readers do: the first request of a list reads all of it
+warm() {
+  local last=$((SECONDS + 10)) path
+  while read -r path && ((SECONDS < last)); do page "$path" 10 > /dev/null || true; done < <(page / | grep -o '/l/[a-z0-9-]*/threads')
+}
+
 begin() {
   # (another server on the port would answer in its place)
   ! is_taken || die 1 "somebody else answers on port $port"
   begin_server "$1"
   while goes_on; do
-    ! curl -fs -o /dev/null --noproxy '*' --max-time 20 "http://127.0.0.1:$port/" || return 0
+    if page / > /dev/null; then warm; return 0; fi
     sleep 0.1
   done
   die 1 "the server of $folder ended: $(tail -n 1 "$folder/errors" 2> /dev/null)"

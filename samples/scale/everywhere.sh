@@ -89,12 +89,13 @@ refused_of() {
     begun || before == "at-000000000000" {
       at = index($0, ": "); words = substr($0, 1, at - 1); told = substr($0, at + 2)
       sub(/^[^ ]+ /, "", words); sub(/ --db [^ ]+/, "", words)
-      if (words in said && said[words] != "") said[words] = told ~ /^archive: / ? told : ""
+      if (words in said && said[words] != "") said[words] = told ~ /^(archive|error): |^no such command$/ ? told : ""
     }
     END {
       for (words in said) if (said[words] != "") {
         shown = words
-        if (shown ~ /^person-add /) sub(/ [^ ]+$/, " ..", shown)
+        if (shown ~ /^person-add /) { sub(/ [^ ]+$/, " ..", shown); sub(/^error: .*/, "usage error", said[words]) }
+        if (said[words] == "no such command") sub(/ .*/, " ..", shown)
         print shard ": " shown ": " said[words]
       }
     }' - "$root/$shard/log" | sort

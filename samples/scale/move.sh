@@ -9,7 +9,7 @@
 #   after          lines, once the mail is in: what is withdrawn or held back
 #   withdrawn      LIST/KEY of each message that is withdrawn, for publish.sh
 # and tries them: an archive is made of before, LIST.mbox and after, and its rows have to be those of FILE. before and after hold tokens.
-# What FILE takes in meanwhile is not in them, so have its mail wait from here until the move is done (README.md, "A list moves").
+# What FILE takes in meanwhile is not in them, so have its mail wait from here until the move is done (docs/SCALE.md, "Move a list").
 #
 # Status 0 where the rows are the same; 1 where one is not, or LIST or FILE is not there; 2 for bad words. ARCHIVE is the program.
 set -eu

@@ -4,7 +4,8 @@
 #   sh install.sh [FOLDER]            into FOLDER, / where none is given: files alone, no user and no unit where it is not /
 #   sh install.sh --remove [FOLDER]   takes them away again; the settings in etc, the archive and its backups stay
 #
-# It says what the system lacks before it changes anything, begins nothing, and has a server that runs go on with the new program.
+# It says what the system lacks before it changes anything, begins nothing, and has a server that runs go on with the new program. It
+# removes what an older one installed and this one lacks.
 set -eu
 case ${1-} in -h | --help) sed -n '2,/^[^#]/s/^# \{0,1\}//p' -- "$0"; exit ;; esac
 remove=
@@ -28,8 +29,23 @@ lacking() {
     echo "the C library glibc $glibc or later (here it is ${has:-another one})"
   for it in bash install stat sha256sum; do command -v "$it" > /dev/null || echo "the program $it"; done
   [ -z "$to" ] || return 0
-  for it in getent useradd; do command -v "$it" > /dev/null || echo "the program $it"; done
+  for it in getent useradd sqlite3; do command -v "$it" > /dev/null || echo "the program $it"; done
   [ "$(id -u)" = 0 ] || echo "the rights of root"
+}
+
+# the files in the package's own folders that SUMS does not name
+left_over() {
+  (cd -- "${to:-/}" && find usr/libexec/luvazhimba usr/share/doc/luvazhimba usr/lib/systemd/system/luvazhimba* ! -type d 2> /dev/null) |
+    while IFS= read -r it; do cut -c 67- SUMS | grep -qxF -- "$it" || printf '%s\n' "$it"; done
+}
+
+# removes them; a unit is stopped first
+remove_left_over() {
+  left_over | while IFS= read -r it; do
+    case $to$it in usr/lib/systemd/system/*) [ ! -d /run/systemd/system ] || systemctl disable --now "${it##*/}" || true ;; esac
+    rm -f -- "$to/$it"
+  done
+  find "$to/usr/libexec/luvazhimba" "$to/usr/share/doc/luvazhimba" -depth -type d -empty -delete
 }
 
 install_all() {
@@ -43,6 +59,7 @@ install_all() {
     install -D -m "$(stat -c %a -- "$it")" -- "$it" "$to/$it.new"
     mv -- "$to/$it.new" "$to/$it"
   done
+  remove_left_over
   [ -n "$to" ] || sh ./setup/postinst configure
   echo "installed: $("$to/usr/bin/luvazhimba" --version), from $PWD"
   command -v sqlite3 > /dev/null || echo "install.sh: backups want sqlite3, which is not here" >&2
