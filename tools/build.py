@@ -13,8 +13,8 @@ import math, os, pathlib, re, shutil, subprocess, sys, threading, time
 import part, why
 
 PROVED = re.compile(r"rt: (\w+) (proved|is kept: .*)")
-# What each crate took in one build on four processors, in minutes; what it took in the last build here, a file beside the log; and what a
-# crate takes of which neither knows.
+# What each crate took in minutes, as the gate wrote it down (minutes.py); what it took in the last build here, a file beside the log; and
+# what a crate takes of which neither knows.
 MEASURED, SEEN, UNKNOWN = part.ROOT / "tools" / "minutes.txt", "minutes.txt", 2.0
 # The first crate of a chain that has little beside it. It and what stands on it are proved in a second run, in which the toolchain gives
 # each all processors: in one run with the rest it would begin with one, as others wait for theirs, and keep to it.
@@ -24,7 +24,7 @@ CHAIN = "archive_store"
 def took(*files):
     """Returns the minutes that each crate took, by these files, of which the later ones count more."""
     lines = [line.split() for it in files if it.exists() for line in it.read_text(encoding="utf-8").splitlines() if not line.startswith("#")]
-    return {name: float(minutes) for name, minutes in lines}
+    return {name: float(minutes) for name, minutes, *_ in lines}
 
 
 def span(below, takes, lanes):
@@ -88,10 +88,13 @@ class Work:
         self.said = max(1, min(self.said, still * pace))
         return self.said
 
+    def proved(self):
+        """Returns the minutes that each crate took that was proved."""
+        return {it: max(0.1, self.ends[it] - self.begun(it)) for it in self.ends if it not in self.kept}
+
     def write(self, file):
         """Writes down what each crate took that was proved, beside what is known of the others."""
-        own = {it: max(0.1, self.ends[it] - self.begun(it)) for it in self.ends if it not in self.kept}
-        file.write_text("".join(f"{it} {minutes:.1f}\n" for it, minutes in {**took(file), **own}.items()), encoding="utf-8")
+        file.write_text("".join(f"{it} {minutes:.1f}\n" for it, minutes in {**took(file), **self.proved()}.items()), encoding="utf-8")
 
 
 class Told:

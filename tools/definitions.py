@@ -1,22 +1,25 @@
 #!/usr/bin/env python3
-"""Compares docs/DEFINITIONS.md and docs/BELIEVE.md with the sources, and says what does not agree. Status 1 where something does not.
+"""Compares docs/BELIEVE.md with the sources, and says what does not agree. Status 1 if something does not.
 
   definitions.py             compares
-  definitions.py --write     makes DEFINITIONS.md anew, and the numbers of BELIEVE.md
+  definitions.py --write     puts the numbers of BELIEVE.md and the definitions that it shows right
+  definitions.py --list      prints the definitions that contracts of public functions cite, each with the comment above it
   definitions.py --headline  prints all that the headline is made of: its clause, each definition by file and line, what it is made of that
                              is declared in the code or by the toolchain, and then what its laws add
 
-  - DEFINITIONS.md lists the definitions that contracts of public functions cite, each with the comment above it, and is made here. It
-    goes by names: a definition is cited where a clause of a `pub fn` has a name that the file imports from a crate's specs.
+  - A definition is cited if a clause of a `pub fn` has a name that the file imports from a crate's specs.
   - BELIEVE.md leads through what the headline is made of, by crate and module, and in its last row through what its laws add. A module
     stands in no row, in two, or in a wrong one; a number of lines, or the sum in the text, is another; or the page does not name
     something that is declared in the code, or by a crate of the toolchain but its std.
+  - BELIEVE.md shows definitions: a line that begins with **`crate::Module::name`**, an empty line, and the text of the source, indented. The
+    text is another, or the definition is not one of the headline's.
 """
 import re, sys
 
 import part, specs
 
-PAGE, BELIEVE = specs.ROOT / "docs" / "DEFINITIONS.md", specs.ROOT / "docs" / "BELIEVE.md"
+BELIEVE = specs.ROOT / "docs" / "BELIEVE.md"
+SHOWN = re.compile(r"^\*\*`(\w+)::([\w.]+)::([^`]+)`\*\*[^\n]*\n\n((?: {4}[^\n]*\n)*)", re.M)
 HEADER = re.compile(r'^\s*pub (?:extern "C" )?fn (\w+).*?^\s*\{', re.M | re.S)
 CLAUSE = re.compile(r"\b(?:requires|ensures)\b.*?(?=\b(?:requires|ensures)\b|\Z)", re.S)
 # What the page is about: a clause of one call, and laws, by file, function and clause.
@@ -29,9 +32,7 @@ MODELS = (("policy_core/src/rules.rt", "Policy"), ("policy_core/src/rules.rt", "
     ("archive_machine/src/keys.rt", "Key"), ("mbox_items/src/items.rt", "Item"), ("mbox_items/src/separators.rt", "Envelope"))
 HEAD = """# Definitions
 
-The definitions that contracts of public functions cite, each with the comment above it; what these are made of stands beside them in the same modules. A module is `crates/CRATE/specs/MODULE.antt`. The headline is made of those with a star and of more that no contract cites; its laws add those with a plus. [BELIEVE.md](BELIEVE.md) leads through all of them, and `tools/definitions.py --headline` lists them. *Profile* in a comment means that the rule is this project's, where a standard leaves room or is silent.
-
-This page is made by `tools/definitions.py --write`; `./check` compares it with the sources.
+The definitions that contracts of public functions cite, each with the comment above it. A module is crates/CRATE/specs/MODULE.antt. The headline is made of those with a star, its laws add those with a plus. *Profile* in a comment means that the rule is this project's.
 """
 QUOTED, BRACKETS = re.compile(r"`([^`]+)`"), re.compile(r"\([^)]*\)")
 
@@ -130,6 +131,28 @@ def sum_of(sizes):
             f"in {len(sizes)} modules")
 
 
+def source_of(crate, module, name):
+    """Returns the text of a definition as its file has it, with the comment above it, up to an empty line. None where there is no such definition."""
+    made = specs.modules().get((crate, module))
+    if not made or name not in made.definitions:
+        return None
+    lines = (specs.CRATES / crate / "specs" / f"{module.replace('.', '/')}.antt").read_text(encoding="utf-8").splitlines()
+    first = last = made.definitions[name].line - 1
+    while first and lines[first - 1].lstrip().startswith("--"):
+        first -= 1
+    while last < len(lines) and lines[last].strip():
+        last += 1
+    return lines[first:last]
+
+
+def with_shown(page):
+    """Returns BELIEVE.md with the definitions that it shows as the sources have them; one that is not there is left as it is."""
+    def put(found):
+        text = source_of(*found.groups()[:3])
+        return found[0] if text is None else found[0][:found.start(4) - found.start()] + "".join(f"    {it}\n" for it in text)
+    return SHOWN.sub(put, page)
+
+
 def numbered(page, headline, laws):
     """Returns BELIEVE.md with its numbers as the sources have them: each row's of the headline, and the last row's of what the laws add."""
     page = re.sub(r"[\d,]+ definitions, [\d,]+ lines, in \d+ modules", sum_of(headline), page, count=1)
@@ -165,6 +188,14 @@ def believe_faults(page, headline, laws, beyond):
     return found
 
 
+def shown_faults(page, found):
+    """Returns what BELIEVE.md shows that is none of some definitions, or has another text."""
+    shown = [it.groups()[:3] for it in SHOWN.finditer(page)]
+    wrong = [f"BELIEVE.md shows {crate}::{module}::{name}, of which the headline is not made" for crate, module, name in shown
+             if ((crate, module), name) not in found]
+    return wrong + ([] if with_shown(page) == page else ["BELIEVE.md shows another text than the sources (tools/definitions.py --write)"])
+
+
 def place(crate, module, name):
     """Returns where something that no file of specs here makes is to be found."""
     if crate not in specs.own_crates():
@@ -198,23 +229,22 @@ def told(headline, laws):
 
 
 def main(words):
-    if words not in ([], ["--write"], ["--headline"]):
+    if words not in ([], ["--write"], ["--list"], ["--headline"]):
         sys.exit(__doc__)
     headline = headline_definitions()
     laws = specs.with_parts(roots(LAWS)) - headline
     if words == ["--headline"]:
         print(*told(headline, laws), sep="\n")
         return 0
-    marks = {**dict.fromkeys(headline, "*"), **dict.fromkeys(laws, "+")}
-    sizes, added = by_module(headline), by_module(laws)
-    wanted, believe = made_page(public_definitions(), marks), BELIEVE.read_text(encoding="utf-8")
-    if words:
-        PAGE.write_text(wanted, encoding="utf-8")
-        BELIEVE.write_text(numbered(believe, sizes, added), encoding="utf-8")
+    if words == ["--list"]:
+        print(made_page(public_definitions(), {**dict.fromkeys(headline, "*"), **dict.fromkeys(laws, "+")}), end="")
         return 0
-    found = believe_faults(believe, sizes, added, specs.beyond(headline | laws))
-    if PAGE.read_text(encoding="utf-8") != wanted:
-        found.append("DEFINITIONS.md is not what the sources say (tools/definitions.py --write)")
+    sizes, added = by_module(headline), by_module(laws)
+    believe = BELIEVE.read_text(encoding="utf-8")
+    if words:
+        BELIEVE.write_text(with_shown(numbered(believe, sizes, added)), encoding="utf-8")
+        return 0
+    found = believe_faults(believe, sizes, added, specs.beyond(headline | laws)) + shown_faults(believe, headline)
     for it in found:
         print(f"definitions: {it}")
     return 1 if found else 0

@@ -5,15 +5,16 @@
 
   --all      every wrong body is due
   --anew     nothing counts that an earlier run on this machine passed
-  --record   writes tools/refused.txt: of which crates all wrong bodies were refused, over which text
+  --record   writes tools/refused.txt: of which crates all wrong bodies were refused, over which text; and tools/minutes.txt: how long each
+             crate took that was proved from nothing, with the tables of docs/GATE.md that are made of it
 
 The last line is 'N passed, M failed', as `rt ci` counts, but that a wrong body that cannot be applied has failed; and the
 worked calls under refused growths of memory (refused.py) are one more that passed or failed, and so are the callers of the
 library (callers.py). Where something failed, the lines that say why stand together before it.
 """
-import filecmp, re, resource, subprocess, sys, tempfile
+import filecmp, re, resource, subprocess, sys, tempfile, time
 
-import callers, due, part, refused, why
+import build, callers, due, minutes, part, refused, why
 
 COUNT = re.compile(r"(\d+) passed, (\d+) failed")
 EDIT = re.compile(r"rt: must-fail (\w+)/(\S+\.edit): (refused, as it must be.*|[A-Z]+.*)")
@@ -22,12 +23,15 @@ SHOWS_LITTLE = re.compile(r"borrow checker does not cover|says (little|less) of 
 
 
 class Heard:
-    """What `rt ci` said: its count, what came of each wrong body, and why something failed."""
+    """What `rt ci` said: its count, what came of each wrong body, how long each crate took, and why something failed."""
 
-    def __init__(self):
+    def __init__(self, names):
         self.passed, self.failed, self.edits, self.last, self.why = 0, 1, {}, None, why.Why()
+        self.work, self.begun = build.Work(names, {}, 1), time.monotonic()
 
     def hear(self, line):
+        if found := build.PROVED.fullmatch(line):
+            self.work.take(found[1], found[2] != "proved", (time.monotonic() - self.begun) / 60)
         # (the last line is its count, which comes with what is said here)
         if self.last is not None:
             print(self.last, flush=True)
@@ -83,7 +87,7 @@ def rows_hold(top):
 def callers_answered(top):
     """Returns whether callers in C, Python and Rust get from the library what they have to, which is proved once more."""
     crate = top / "crates" / callers.CRATE
-    if subprocess.run(["rt", "lib"], cwd=crate, stdin=subprocess.DEVNULL, stdout=subprocess.DEVNULL, check=False).returncode:
+    if subprocess.run(["rt", "lib", callers.CPU], cwd=crate, stdin=subprocess.DEVNULL, stdout=subprocess.DEVNULL, check=False).returncode:
         return False
     passed, failed = callers.called(crate / "out" / callers.LIBRARY)
     return bool(passed) and not failed
@@ -111,7 +115,8 @@ def tell(heard, left, due_count):
 def main(words):
     if unknown := {*words} - {"--all", "--anew", "--record"}:
         sys.exit(f"check: unknown: {' '.join(sorted(unknown))}\n{__doc__}")
-    record, names, heard = due.Record(), [*part.lines()], Heard()
+    record, names = due.Record(), [*part.lines()]
+    heard = Heard(names)
     counts = {it: len(edits_of(it)) for it in names if edits_of(it)}
     left = {} if "--all" in words else {it: count for it, count in counts.items() if not record.is_due(it)}
     with part.copied(names, {*counts} - {*left}) as top:
@@ -126,6 +131,8 @@ def main(words):
         for name in {*counts} - {*left}:
             record.note(name, heard.refused_of(name) == counts[name])
         record.write()
+        minutes.write(heard.work.proved())
+        minutes.main(["--write"])
     return tell(heard, left, sum(counts.values()) - sum(left.values()))
 
 

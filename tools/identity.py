@@ -1,18 +1,20 @@
 #!/usr/bin/env python3
 """Prints the identity of a proof: which text of which commit was proved, and by what.
 
-  identity.py [TOOLCHAIN]     TOOLCHAIN is the line of `rt version`; where it is not given, rt is asked
+  identity.py [--library] [TOOLCHAIN]     of the program, or of the library of bindings/; TOOLCHAIN is the line of `rt version`; where it
+                                          is not given, rt is asked
 
-The digest is of the names and texts of all .rt and .antt files of the program's crates, of their lines in crates.txt, and of HANDLES:
+The digest is of the names and texts of all .rt and .antt files of its crates, of their lines in crates.txt, and of HANDLES:
 two trees for which it is the same have the same text to prove. Wrong bodies and tests are no part of it.
 """
 import hashlib, re, subprocess, sys
 
 import due, pages, part
 
-PROGRAM = "archive"
-# What the package is made of, beside the text that was proved.
-MADE_OF = ("crates", "crates.txt", "HANDLES", "samples", "docs", "tools", "CHANGELOG.md")
+PROGRAM, LIBRARY = "archive", "luvazhimba_c"
+# What the package and the library are made of, beside the text that was proved.
+MADE_OF = {PROGRAM: ("crates", "crates.txt", "HANDLES", "samples", "docs", "tools", "CHANGELOG.md"), LIBRARY: ("crates", "crates.txt", "HANDLES", "bindings")}
+HEADER = ("bindings/luvazhimba.h", r'#define LUV_VERSION "([^"]+)"')
 FUNCTION = re.compile(rb"^\s*(?:pub(?:\([a-z ]+\))? )?(?:const )?fn \w+", re.M)
 
 
@@ -40,19 +42,24 @@ def functions(names):
     return sum(len(FUNCTION.findall(file.read_bytes())) for name in names for file in sources(name) if file.suffix == ".rt")
 
 
-def changed():
+def changed(name):
     """Returns the files that are not as the commit has them."""
-    said = git("status", "--porcelain", "--untracked-files=all", "--no-renames", "-z", "--", *MADE_OF)
+    said = git("status", "--porcelain", "--untracked-files=all", "--no-renames", "-z", "--", *MADE_OF[name])
     return [it[3:] for it in said.split("\0") if it]
 
 
 def main(words):
-    if len(words) > 1:
+    is_library = words[:1] == ["--library"]
+    name, words = (LIBRARY, words[1:]) if is_library else (PROGRAM, words)
+    if len(words) > 1 or words[:1] == ["--library"]:
         sys.exit(__doc__)
-    names = part.with_those_below(PROGRAM)
-    print(f"program: {PROGRAM} {pages.number(pages.PROGRAM)}, tables {pages.number(pages.TABLES)}")
+    names = part.with_those_below(name)
+    if is_library:
+        print(f"library: {LIBRARY} {pages.number(HEADER)}")
+    else:
+        print(f"program: {PROGRAM} {pages.number(pages.PROGRAM)}, tables {pages.number(pages.TABLES)}")
     print(f"commit: {git('rev-parse', 'HEAD').strip()}")
-    print(*(f"changed: {it}" for it in changed() or ["nothing"]), sep="\n")
+    print(*(f"changed: {it}" for it in changed(name) or ["nothing"]), sep="\n")
     print(f"toolchain: {words[0] if words else due.version()}")
     print(f"text: sha256 {digest(names)}, of {len(names)} crates")
     print(f"functions: {functions(names)}")

@@ -4,12 +4,13 @@
   - A link of a page leads to no file of the repository.
   - The README has no link to a page of docs.
   - The README has more than 110 lines, more than 1,500 words, or a point of more than 40.
-  - PROVED.md, the pages of layers and DECISIONS.md have more than 17,000 words together.
+  - PROVED.md, the pages of layers and DECISIONS.md have more than 15,500 words together.
   - A page of what is there names in backticks a word of two parts, as `read_row` or `ReadRow`, that stands in no source.
   - A table of a page of docs/layers names a function that its crate has not, or a clause that the function has not; or no page of
     them has a crate of the program.
-  - README.md or docs/ARCHITECTURE.md does not name a crate of the program.
+  - README.md does not name a crate of the program, or docs/ARCHITECTURE.md a crate.
   - The text of a sample policy is not the one of which example_policies proves what it hides.
+  - README.md shows lines of a function that are not in the source as shown, or shows none.
   - README.md, docs/archive.1, docs/INSTALL.md or CHANGELOG.md has another number of the program, or README.md or CHANGELOG.md another
     number of the tables, than the sources; or in a section of CHANGELOG.md the number of the tables is not the second part of the program's.
 """
@@ -18,7 +19,7 @@ import json, pathlib, re, sys
 import contracts, part
 
 ROOT = pathlib.Path(__file__).resolve().parent.parent
-MOST_LINES, MOST_WORDS, MOST_OF_A_POINT, MOST_OF_PROOFS = 110, 1500, 40, 17_000
+MOST_LINES, MOST_WORDS, MOST_OF_A_POINT, MOST_OF_PROOFS = 110, 1500, 40, 15_500
 LINK = re.compile(r"\]\(([^)\s]+)\)")
 QUOTED = re.compile(r"`([^`\n]+)`")
 TWO_PARTS = re.compile(r"\b(?:[A-Za-z][A-Za-z0-9]*_\w*[A-Za-z0-9]|[A-Z][a-z0-9]+[A-Z]\w*)\b")
@@ -82,10 +83,10 @@ def without_source():
 
 
 def without_room():
-    """Returns the crates of the program that a page which shows the whole does not name."""
-    wanted = part.with_those_below("archive")
-    shown = {it: (ROOT / it).read_text(encoding="utf-8") for it in ("README.md", "docs/ARCHITECTURE.md")}
-    return [f"{page} does not name {name}" for page, text in shown.items() for name in wanted if not re.search(rf"\b{name}\b", text)]
+    """Returns the crates of the program that the README does not name, and the crates that the page of all crates does not name."""
+    wanted = {"README.md": part.with_those_below("archive"), "docs/ARCHITECTURE.md": part.lines()}
+    shown = {it: (ROOT / it).read_text(encoding="utf-8") for it in wanted}
+    return [f"{page} does not name {name}" for page, names in wanted.items() for name in names if not re.search(rf"\b{name}\b", shown[page])]
 
 
 def without_contract():
@@ -136,9 +137,18 @@ def other_policies():
     return found
 
 
+def other_code():
+    """Returns the functions that the README shows otherwise than the sources of archive_pages have them."""
+    blocks = re.findall(r"^    pub fn .*\n(?:    .*\n)*", (ROOT / "README.md").read_text(encoding="utf-8"), re.M)
+    shown = [re.sub("^    ", "", it, flags=re.M) for it in blocks]
+    sources = [it.read_text(encoding="utf-8") for it in (ROOT / "crates" / "archive_pages" / "src").glob("*.rt")]
+    wrong = [it.split("(")[0].split("<")[0] for it in shown if not any(it in text for text in sources)]
+    return [f"README.md shows '{it}' otherwise than archive_pages has it" for it in wrong] + ([] if shown else ["README.md shows no function"])
+
+
 def main():
     found = (dead_links() + without_link() + too_long() + too_wordy() + without_source() + without_contract() + without_room() + other_policies()
-        + other_numbers() + without_rule())
+        + other_numbers() + without_rule() + other_code())
     for it in found:
         print(f"pages: {it}")
     return 1 if found else 0

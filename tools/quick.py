@@ -19,6 +19,7 @@ LARGE, SMALL, TEST, PROGRAM = 3500, 1500, "240", "120"
 BY_FILE = ("thread_tests",)
 # Why tests take long under checks, by the beginning of their names, and a program.
 LONG = {
+    "store_tests::batches": "it fills a list of 50,000 messages",
     "store_tests::files": "it makes the tables anew for each case, each time in a file of memory that is copied",
     "store_tests::migrating": "a file is brought over once for each call at which it can stop, some hundred times",
     "store_tests::stops": "a file is opened anew for each call at which it can stop, some hundred times",

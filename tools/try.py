@@ -67,7 +67,7 @@ def repository(files, /, **told):
     """Gives a small repository with the scripts in it, and the place of the stand-in's texts."""
     with tempfile.TemporaryDirectory(prefix="archive-try-") as room:
         top, stand_in = pathlib.Path(room, "top"), pathlib.Path(room, "stand-in")
-        shutil.copytree(TOOLS, top / "tools", ignore=shutil.ignore_patterns("__pycache__", "refused.txt", "clauses.txt", "wants.txt", "try.py"))
+        shutil.copytree(TOOLS, top / "tools", ignore=shutil.ignore_patterns("__pycache__", "refused.txt", "clauses.txt", "wants.txt", "reached.txt", "try.py"))
         for name, text in files.items():
             (top / name).parent.mkdir(parents=True, exist_ok=True)
             (top / name).write_text(text, encoding="utf-8")
@@ -286,6 +286,19 @@ def records_what_was_refused(says_of, wanted, files=WITH_EDITS):
     return holds
 
 
+def records_minutes():
+    """A run with --record writes down how long each crate took that was proved, leaves the lines of the others, and makes the tables of GATE."""
+    says_of = "rt: low proved\nrt: middle is kept: an earlier run\nrt: top proved\nrt: top: its tests are proved\n1 passed, 0 failed\n"
+    page = "text\n\n<!-- by tools/minutes.py -->\n<!-- end of what tools/minutes.py wrote -->\n"
+    with repository({**CHAIN, "docs/GATE.md": page, "tools/minutes.txt": "# text\nmiddle 2.0\nlow 7.5 2026-01-01\ngone 1.0\n"}, says=says_of) as (top, stand_in):
+        run(top, stand_in, "gate.py", ["--record"])
+        written = [it.split() for it in (top / "tools" / "minutes.txt").read_text(encoding="utf-8").splitlines() if not it.startswith("#")]
+        checked, said, _ = run(top, stand_in, "minutes.py", [])
+        made = (top / "docs" / "GATE.md").read_text(encoding="utf-8")
+    return equal(([it[:2] for it in written], [len(it) for it in written], checked, "| Processors | 1 | 2 | 4 | 8 |" in made),
+        ([["low", "0.1"], ["middle", "2.0"], ["top", "0.1"]], [3, 2, 3], 0, True))
+
+
 def record_is_believed():
     """What was recorded over the same text is left the next time, but for what is picked; the digest is the same here and there."""
     with repository(WITH_EDITS, says=f"{ALL_REFUSED}9 passed, 0 failed\n") as (top, stand_in):
@@ -371,6 +384,7 @@ GATE = {
         ALL_REFUSED.replace("low/g.drops_it.edit: refused, as it must be", "low/g.drops_it.edit: NOT REFUSED"), ["middle"],
         recorded(["low"], **{"crates/low/src/lib.rt": "fn f() {}\n"})),
     "the record's digest": record_is_believed,
+    "the minutes": records_minutes,
 }
 
 
@@ -537,21 +551,18 @@ ROWS_CASES = {
 
 # ---- cases.py
 
-NAMED = {
-    "docs/CASES.md": "| a case | `mail_tests::fields::folds`, `run_cases`: Nothing, Two mails |\n| a file | `mail_tests::fields` |\n",
-    "crates/mail_tests/src/fields.rt": "#[test]\nfn folds() {}\n",
-    "crates/run_cases/stdin": "# Nothing\n# Two mails\n",
+TESTED = {
+    "crates/mail_tests/src/fields.rt": "//! Fields of\n//! known texts.\n#[test]\nfn a_line_ends(rt: HostRuntime) {}\n\nfn no_test() {}\n",
+    "crates/mail_tests/src/other.rt": "fn none() {}\n",
+    "crates/run_cases/stdin": "# Two mails: in order.\nrun\n# Nothing\n",
 }
+FIELDS, RUNS = "## mail_tests::fields: Fields of known texts.\n- a_line_ends\n", "## run_cases: the program, by a script\n- Two mails: in order.\n- Nothing\n"
 CASES = {
-    "all are there": is_silent("cases.py", NAMED),
-    "a test that is gone": says("cases.py", [], {**NAMED, "crates/mail_tests/src/fields.rt": "#[test]\nfn unfolds() {}\n"}, 1,
-        "cases: docs/CASES.md names mail_tests::fields::folds, which is not there"),
-    "a function that is no test": says("cases.py", [], {**NAMED, "crates/mail_tests/src/fields.rt": "fn folds() {}\n"}, 1,
-        "cases: docs/CASES.md names mail_tests::fields::folds, which is not there"),
-    "a file that is gone": says("cases.py", [], {**NAMED, "docs/CASES.md": "`mail_tests::dates`"}, 1,
-        "cases: docs/CASES.md names mail_tests::dates, which is not there"),
-    "a title that is gone": says("cases.py", [], {**NAMED, "crates/run_cases/stdin": "# Nothing\n"}, 1,
-        "cases: docs/CASES.md names run_cases: Two mails, which is not there"),
+    "all tests and runs": lambda: equal(output_of("cases.py", [], TESTED), FIELDS + RUNS),
+    "those of a word, in whatever case": lambda: equal(output_of("cases.py", ["Line ends"], TESTED), FIELDS),
+    "those of a crate": lambda: equal(output_of("cases.py", ["run_cases"], TESTED), RUNS),
+    "no tests": is_silent("cases.py", {}),
+    "two words": says("cases.py", ["a", "b"], TESTED, 1, faults="cases.py WORD"),
 }
 
 
@@ -579,8 +590,7 @@ DEFINED = {
                                            "pub fn run_and_answer_in_memory()\n    ensures quiet { is_day }\n    ensures answered { Fits result }\n{\n}\n",
     "crates/archive_pages/src/laws.rt": "ghost use Rattle.archive_pages.specs.Laws.{Goes};\n\npub fn what_is_allowed_is_served()\n    ensures { Goes }\n{}\n",
     "docs/BELIEVE.md": "Of 5 definitions, 11 lines, in 3 modules, `Moon` and `digest`.\n| | Read | Lines | With |\n|---|---|---|---|\n| 1 | `low`: `Rules` (`Fits`), `Days`, `Views` | 11 | a; b |\n"
-                       "| 2 | `archive_pages`: `Laws` | 2 | c |\n",
-    "docs/DEFINITIONS.md": "",
+                       "| 2 | `archive_pages`: `Laws` | 2 | c |\n\n**`low::Days::is_day`**: a day.\n\n    -- a day\n    abbrev pub is_day : Type 0\n    is_day = T\n\nThat is all.\n",
 }
 LISTED = """## low
 
@@ -624,52 +634,58 @@ crates/archive_pages/specs/Laws.antt:2: Goes
 """
 
 
-def pages_made(files):
-    """Returns the two pages as definitions.py makes them in a small repository."""
+def page_made(files):
+    """Returns BELIEVE.md as definitions.py makes it in a small repository."""
     with repository(files) as (top, stand_in):
         run(top, stand_in, "definitions.py", ["--write"])
-        return [(top / it).read_text(encoding="utf-8") for it in ("docs/DEFINITIONS.md", "docs/BELIEVE.md")]
+        return (top / "docs" / "BELIEVE.md").read_text(encoding="utf-8")
 
 
-def once_made(changed, *lines):
-    """A case of definitions.py where its pages were made, and then something changed: it says these lines, or nothing."""
-    def holds():
-        listed, believe = pages_made(DEFINED)
-        files = {**DEFINED, "docs/DEFINITIONS.md": listed, "docs/BELIEVE.md": believe}
-        files.update({name: files[name].replace(*change) for name, change in changed.items()})
-        return (says("definitions.py", [], files, 1, *lines) if lines else is_silent("definitions.py", files))()
-    return holds
+def rewritten(old, new):
+    """A case of definitions.py that puts right a page in which something is other than the sources have it."""
+    return lambda: equal(page_made({**DEFINED, "docs/BELIEVE.md": DEFINED["docs/BELIEVE.md"].replace(old, new)}), DEFINED["docs/BELIEVE.md"])
 
 
-DIFFERS = "definitions: DEFINITIONS.md is not what the sources say (tools/definitions.py --write)"
+def changed(edits, *lines):
+    """A case of definitions.py where sources or page were changed: it says these lines, or nothing."""
+    files = {**DEFINED, **{name: DEFINED[name].replace(*edit) for name, edit in edits.items()}}
+    return says("definitions.py", [], files, 1, *lines) if lines else is_silent("definitions.py", files)
+
+
+SHOWS = "definitions: BELIEVE.md shows another text than the sources (tools/definitions.py --write)"
 DEFINITIONS = {
-    "what is made": lambda: equal(pages_made(DEFINED)[0].partition("## ")[1:], ("## ", LISTED.removeprefix("## "))),
-    "numbers are put right": lambda: equal(pages_made({**DEFINED, "docs/BELIEVE.md": DEFINED["docs/BELIEVE.md"].replace("11", "12")})[1], DEFINED["docs/BELIEVE.md"]),
-    "pages and sources agree": once_made({}),
-    "another comment": once_made({"crates/low/specs/Days.antt": ("a day", "one day")}, DIFFERS),
-    "another definition is cited": once_made({"crates/low/src/lib.rt": ("up as", "Rule as")}, DIFFERS),
-    "one that a private function cites": once_made({"crates/low/src/lib.rt": ("{\n    a\n}\n", "{\n    a\n}\n\nfn g()\n    ensures { Rule }\n{}\n")}),
-    "the text of a definition that no headline is made of": once_made({"crates/low/specs/Rules.antt": ("  up : Step", "  up : Step\n  down : Step")}),
-    "a definition of the headline that is longer": once_made({"crates/low/specs/Rules.antt": ("  pub on : day", "  pub on : day\n  pub at : day")},
+    "what is cited": lambda: equal(output_of("definitions.py", ["--list"], DEFINED).partition("## ")[1:], ("## ", LISTED.removeprefix("## "))),
+    "numbers are put right": rewritten("11", "12"),
+    "a text that is shown is put right": rewritten("    is_day = T\n", "    is_day = U\n    more\n"),
+    "a text that is left out is put in": rewritten("    -- a day\n    abbrev pub is_day : Type 0\n    is_day = T\n", ""),
+    "page and sources agree": changed({}),
+    "another comment": changed({"crates/low/specs/Days.antt": ("a day", "one day")}, SHOWS),
+    "another text": changed({"crates/low/specs/Days.antt": ("is_day = T", "is_day = U")}, SHOWS),
+    "a text that is shown and that no headline is made of": changed({"docs/BELIEVE.md": ("low::Days::is_day", "low::Views::unseen")},
+        "definitions: BELIEVE.md shows low::Views::unseen, of which the headline is not made"),
+    "a text that is shown and that is gone": changed({"docs/BELIEVE.md": ("low::Days::is_day", "low::Days::is_month")},
+        "definitions: BELIEVE.md shows low::Days::is_month, of which the headline is not made"),
+    "the text of a definition that no headline is made of": changed({"crates/low/specs/Rules.antt": ("  up : Step", "  up : Step\n  down : Step")}),
+    "a definition of the headline that is longer": changed({"crates/low/specs/Rules.antt": ("  pub on : day", "  pub on : day\n  pub at : day")},
         "definitions: BELIEVE.md has other numbers than the sources (tools/definitions.py --write)"),
-    "a module that the headline is made of no more": once_made({"crates/low/specs/Rules.antt": ("  pub on : day", "  pub on : T")},
+    "a module that the headline is made of no more": changed({"crates/low/specs/Rules.antt": ("  pub on : day", "  pub on : T")},
         "definitions: BELIEVE.md has low::Days, of which the headline is not made"),
-    "a module that no row has": once_made({"docs/BELIEVE.md": (", `Days`", "")},
+    "a module that no row has": changed({"docs/BELIEVE.md": (", `Days`", "")},
         "definitions: BELIEVE.md has no row for low::Days, of which the headline is made"),
-    "a module that two rows have": once_made({"docs/BELIEVE.md": ("`archive_pages`: `Laws`", "`archive_pages`: `Laws`; `low`: `Days`")},
+    "a module that two rows have": changed({"docs/BELIEVE.md": ("`archive_pages`: `Laws`", "`archive_pages`: `Laws`; `low`: `Days`")},
         "definitions: BELIEVE.md has low::Days twice"),
-    "a law that cites another": once_made({"crates/archive_pages/src/laws.rt": ("Goes", "Gone")},
-        "definitions: BELIEVE.md has archive_pages::Laws, of which the headline is not made", DIFFERS),
-    "a module of the headline in the row of its laws": once_made({"docs/BELIEVE.md": ("`Days`, `Views` | 11 | a; b |\n| 2 | `archive_pages`: `Laws`",
+    "a law that cites another": changed({"crates/archive_pages/src/laws.rt": ("Goes", "Gone")},
+        "definitions: BELIEVE.md has archive_pages::Laws, of which the headline is not made"),
+    "a module of the headline in the row of its laws": changed({"docs/BELIEVE.md": ("`Days`, `Views` | 11 | a; b |\n| 2 | `archive_pages`: `Laws`",
         "`Views` | 9 | a; b |\n| 2 | `archive_pages`: `Laws`; `low`: `Days`")},
         "definitions: BELIEVE.md has low::Days in a wrong row: the last is of what the laws add"),
-    "a definition of a law that is longer": once_made({"crates/archive_pages/specs/Laws.antt": ("Goes = T", "Goes = T\n  × T")},
+    "a definition of a law that is longer": changed({"crates/archive_pages/specs/Laws.antt": ("Goes = T", "Goes = T\n  × T")},
         "definitions: BELIEVE.md has other numbers than the sources (tools/definitions.py --write)"),
-    "a model that reads by another": once_made({"crates/policy_core/src/rules.rt": ("λ p. seen p", "λ p. unseen p")},
+    "a model that reads by another": changed({"crates/policy_core/src/rules.rt": ("λ p. seen p", "λ p. unseen p")},
         "definitions: BELIEVE.md has other numbers than the sources (tools/definitions.py --write)"),
-    "what is declared, and no page names": once_made({"docs/BELIEVE.md": ("`Moon`", "Moon")},
+    "what is declared, and no page names": changed({"docs/BELIEVE.md": ("`Moon`", "Moon")},
         "definitions: BELIEVE.md does not name Moon, of which the headline is made"),
-    "what the toolchain states, and no page names": once_made({"docs/BELIEVE.md": ("`digest`", "digest")},
+    "what the toolchain states, and no page names": changed({"docs/BELIEVE.md": ("`digest`", "digest")},
         "definitions: BELIEVE.md does not name digest, of which the headline is made"),
     "all that the headline is made of": lambda: equal(output_of("definitions.py", ["--headline"], DEFINED), TOLD),
     "other words": says("definitions.py", ["--make"], DEFINED, 1, faults="definitions.py --write"),
@@ -681,9 +697,10 @@ DEFINITIONS = {
 PAGES_FILES = {
     "crates.txt": "low: memchr\nbeside: low\narchive: low\n",
     "README.md": "[a](docs/A.md) [in](docs/INSTALL.md) [whole](docs/ARCHITECTURE.md) [out](https://example.org/x) [here](#here) `low`, `archive` "
-                 "program 0.3.1, tables 3\n",
+                 "program 0.3.1, tables 3\n\n    pub fn eat<T>(\n        row: T,\n    )\n        ensures eaten { T }\n",
+    "crates/archive_pages/src/eating.rt": "/// Eats.\npub fn eat<T>(\n    row: T,\n)\n    ensures eaten { T }\n{}\n",
     "docs/A.md": "[back](../README.md#top)\n",
-    "docs/ARCHITECTURE.md": "archive: low\n",
+    "docs/ARCHITECTURE.md": "archive: low; beside\n",
     "docs/layers/low.md": "## low\n| Calls | Clause |\n|---|---|\n| `Row::eat`, `low` | `eaten`, `left` | it eats |\n| `drink` | – | it drinks |\n\n## archive\n`main`\n",
     "crates/low/src/low.rt": "pub fn eat()\n    ensures eaten { T }\n    requires left { T }\n{}\n\nfn drink(&self)\n    ensures { T }\n{}\n",
     "docs/archive.1": '.TH ARCHIVE 1 "" "archive 0.3.1" "User Commands"\n',
@@ -704,6 +721,10 @@ PAGES = {
         "pages: CHANGELOG.md has a program 0.1.0 of tables 0"),
     "packages of two numbers": says("pages.py", [], {**PAGES_FILES, "docs/INSTALL.md": PAGES_FILES["docs/INSTALL.md"] + "    tar -xf luvazhimba-0.3.0+git.tar.gz\n"}, 1,
         "pages: docs/INSTALL.md has no package of the program 0.3.1 alone"),
+    "a function that the README shows otherwise": says("pages.py", [],
+        {**PAGES_FILES, "crates/archive_pages/src/eating.rt": PAGES_FILES["crates/archive_pages/src/eating.rt"].replace("{ T }", "{ U }")}, 1,
+        "pages: README.md shows 'pub fn eat' otherwise than archive_pages has it"),
+    "a README that shows none": says("pages.py", [], {**PAGES_FILES, "README.md": PAGES_FILES["README.md"].partition("\n\n")[0]}, 1, "pages: README.md shows no function"),
     "words that sources have": is_silent("pages.py", {**PAGES_FILES, "docs/A.md": "`low::eat_row`, `EatRow`, `count.adds_one.edit`, `find_..`, `fits_*`, no_word, `archive`",
         "crates/low/src/lib.rt": "fn eat_row() -> EatRow {}", "crates/low/must-fail/count.adds_one.edit": ""}),
     "a word that no source has": says("pages.py", [], {**PAGES_FILES, "docs/A.md": "`low::eat_row(EatRow)`, `eat_row`"}, 1,
@@ -718,10 +739,12 @@ PAGES = {
     "a crate of the program that no page of a layer has": says("pages.py", [], {**PAGES_FILES, "docs/layers/low.md": PAGES_FILES["docs/layers/low.md"].replace("## archive", "## beside")}, 1,
         "pages: docs/layers has no part on archive"),
     "a crate of the program that no page shows": says("pages.py", [], {**PAGES_FILES, "docs/ARCHITECTURE.md": "archive: lower\n"}, 1,
-        "pages: docs/ARCHITECTURE.md does not name low"),
-    "a README as long as it may be": is_silent("pages.py", {**PAGES_FILES, "README.md": PAGES_FILES["README.md"] + "line\n" * 109}),
-    "a README of many lines": says("pages.py", [], {**PAGES_FILES, "README.md": PAGES_FILES["README.md"] + "line\n" * 110}, 1, "pages: README.md has 111 lines"),
-    "a README of many words": says("pages.py", [], {**PAGES_FILES, "README.md": PAGES_FILES["README.md"] + "of " * 1500}, 1, "pages: README.md has 1,511 words"),
+        "pages: docs/ARCHITECTURE.md does not name low", "pages: docs/ARCHITECTURE.md does not name beside"),
+    "a crate of the program that the README does not show": says("pages.py", [], {**PAGES_FILES, "README.md": PAGES_FILES["README.md"].replace("`low`", "`lower`")}, 1,
+        "pages: README.md does not name low"),
+    "a README as long as it may be": is_silent("pages.py", {**PAGES_FILES, "README.md": PAGES_FILES["README.md"] + "line\n" * 104}),
+    "a README of many lines": says("pages.py", [], {**PAGES_FILES, "README.md": PAGES_FILES["README.md"] + "line\n" * 105}, 1, "pages: README.md has 111 lines"),
+    "a README of many words": says("pages.py", [], {**PAGES_FILES, "README.md": PAGES_FILES["README.md"] + "of " * 1489}, 1, "pages: README.md has 1,511 words"),
     "many words of proofs": says("pages.py", [], {**PAGES_FILES, "docs/PROVED.md": "of " * 16_900, "docs/DECISIONS.md": "of " * 100,
         "README.md": PAGES_FILES["README.md"] + "[p](docs/PROVED.md) [d](docs/DECISIONS.md)"}, 1, "pages: PROVED.md, DECISIONS.md and the pages of layers have 17,029 words"),
     "another number at the front": says("pages.py", [], {**PAGES_FILES, "README.md": PAGES_FILES["README.md"].replace("tables 3", "tables 2")}, 1,
@@ -876,8 +899,45 @@ WANTS = {
         "wants: low::lib::pushed tells of a want of memory by hand (bare): hand on what was refused by `?` or `From`",
         "wants: wants.txt names low::lib::pushed refused, which is not there"),
     "one that is gone": says("wants.py", [], {**WANTING, "crates/low/src/lib.rt": HANDED_ON, "tools/wants.txt": "low::lib::f named\n"}, 1, "wants: wants.txt names low::lib::f named, which is not there"),
+    "a growth by what is there": is_silent("wants.py", with_more("fn f(text: &[u8]) -> Result<Vec<u8>, AllocError> {\n    let held = text.len();\n    let mut own = Vec::with_capacity(Global, held)?;\n    own.reserve(text.len())?;\n    Ok(own)\n}\n")),
+    "a growth by a number": says("wants.py", [], with_more("fn f(text: &[u8]) -> Result<Vec<u8>, AllocError> {\n    Vec::with_capacity(Global, text.len() + 1_000_000_000_000_000)\n}\n"), 1,
+        "wants: low::lib::f asks for memory by a number that is written down: ask by the length of what is there"),
+    "a growth by a number that has a name": says("wants.py", [], with_more("fn f() -> Result<(), AllocError> {\n    let room = MOST * 4;\n    held.reserve_exact(room)?;\n    Ok(())\n}\n"), 1,
+        "wants: low::lib::f asks for memory by a number that is written down: ask by the length of what is there"),
+    "a growth that is listed has a reason": says("wants.py", [], {**with_more("fn f() -> Result<(), AllocError> {\n    held.reserve(64)\n}\n"), "tools/wants.txt": PLACES + "low::lib::f asked\n"}, 1,
+        "wants: wants.txt gives no reason for low::lib::f"),
     "no reason": says("wants.py", [], {**WANTING, "tools/wants.txt": PLACES.replace(" 2^32 bytes", "")}, 1, "wants: wants.txt gives no reason for low::lib::short"),
     "a word": says("wants.py", ["low"], WANTING, 1, faults="wants.py"),
+}
+# The page of the gate, with other tables than the file gives.
+MINUTES = {
+    "other tables": says("minutes.py", [], {**CHAIN, "docs/GATE.md": "<!-- by tools/minutes.py -->\n<!-- end of what tools/minutes.py wrote -->\n", "tools/minutes.txt": "low 1.0\n"}, 1,
+        "minutes: docs/GATE.md has other tables than tools/minutes.txt gives: tools/minutes.py --write makes them"),
+    "no place": says("minutes.py", [], {**CHAIN, "docs/GATE.md": "text\n"}, 1, "minutes: docs/GATE.md has no place for the tables"),
+    "a word": says("minutes.py", ["low"], CHAIN, 1, faults="minutes.py"),
+}
+# A program with a library below it: what it calls, what a fixed call alone calls, a method, a law, and what nobody calls.
+REACHING = {
+    "crates.txt": "low: memchr\narchive: low\nlow_tests: low\n",
+    "crates/archive/src/main.rt": "use low::size;\nfn main() {\n    let held = low::Held::new();\n    size(held.count());\n}\n",
+    "crates/low/src/lib.rt": "pub fn size(it: usize) -> usize\n    ensures same { result \u2261 it }\n{\n    own(it)\n}\nfn own(it: usize) -> usize {\n    it\n}\npub fn fixed() {\n    inner()\n}\n"
+                             "fn inner() {}\npub struct Held;\nimpl Held {\n    pub fn new() -> Held {\n        Held\n    }\n    pub fn count(&self) -> usize {\n        1\n    }\n"
+                             "    pub fn drop_all(&self) {}\n}\nimpl Display for Held {\n    fn fmt(&self) {}\n}\n",
+    "crates/low/src/laws.rt": "pub fn it_is_so() {}\n",
+    "crates/low_tests/src/lib.rt": "fn tries() {\n    low::fixed();\n    held.drop_all();\n}\n",
+    "tools/reached.txt": "# text\nlow::lib::drop_all tests alone\nlow::lib::fixed fixed\nlow::lib::inner called by fixed\n",
+}
+REACHED = {
+    "each is listed": is_silent("reached.py", REACHING),
+    "the lines": lambda: equal(output_of("reached.py", ["--list"], REACHING), "low::lib::drop_all tests alone\nlow::lib::fixed fixed\nlow::lib::inner called by fixed\n"),
+    "a new one": says("reached.py", [], {**REACHING, "crates/low/src/more.rt": "pub fn own() {}\npub fn other() {}\n"}, 1,
+        "reached: nothing that somebody runs reaches low::more::other: remove it", "reached: nothing that somebody runs reaches low::more::own: remove it"),
+    "one that is called now": says("reached.py", [], {**REACHING, "crates/archive/src/main.rt": "use low::{size, fixed};\nfn main() {\n    low::Held::new().count();\n    size(1);\n    fixed();\n}\n"}, 1,
+        "reached: reached.txt names low::lib::fixed, which is reached or is not there", "reached: reached.txt names low::lib::inner, which is reached or is not there"),
+    "no reason": says("reached.py", [], {**REACHING, "tools/reached.txt": REACHING["tools/reached.txt"].replace(" fixed\n", "\n", 1)}, 1, "reached: reached.txt gives no reason for low::lib::fixed"),
+    "the library for C": is_silent("reached.py", {**REACHING, "crates.txt": REACHING["crates.txt"] + "luvazhimba_c: low\n", "tools/reached.txt": "low::lib::drop_all tests alone\n",
+        "crates/luvazhimba_c/src/calls.rt": "use low::fixed;\npub extern \"C\" fn luv_fixed() -> u8 {\n    fixed()\n}\n"}),
+    "a word": says("reached.py", ["low"], REACHING, 1, faults="reached.py"),
 }
 
 # ---- identity.py, twice.py, owner_page.py
@@ -893,7 +953,13 @@ PROVED_FILES = {
     "crates/archive/src/main.rt": "fn main() {}\n",
     "crates/beside/src/lib.rt": "fn beside() {}\n",
 }
-OF_THE_WALK = "Run `./archive` once, and `./archive sift`: [whole](ARCHITECTURE.md), [commands](COMMANDS.md#sift), [tls](../samples/proxy/README.md), [out](https://example.org/x).\n"
+LIBRARY_FILES = {
+    **PROVED_FILES,
+    "crates.txt": "low: memchr\nluvazhimba_c staticlib: low\narchive: low\n",
+    "crates/luvazhimba_c/src/lib.rt": "pub fn call() {}\n",
+    "bindings/luvazhimba.h": '#define LUV_VERSION "0.4.2"\n',
+}
+OF_THE_WALK = "Run `./archive` once. Then `./archive sift`: [whole](ARCHITECTURE.md), [commands](COMMANDS.md#sift), [tls](../samples/proxy/README.md), [out](https://example.org/x).\n"
 
 
 def identity(files, *words):
@@ -924,7 +990,10 @@ IDENTITY = {
     "what a crate stands on is part of it": same_text({**PROVED_FILES, "crates.txt": PROVED_FILES["crates.txt"].replace("memchr", "toml")}, False),
     "a wrong body is none": same_text({**PROVED_FILES, "crates/low/must-fail/f.turns_it.edit": "file: src/main.rt\n"}, True),
     "a crate beside the program is none": same_text({**PROVED_FILES, "crates/beside/src/lib.rt": "fn other() {}\n"}, True),
-    "two words": says("identity.py", ["a", "b"], PROVED_FILES, 1, faults="identity.py [TOOLCHAIN]"),
+    "two words": says("identity.py", ["a", "b"], PROVED_FILES, 1, faults="identity.py [--library] [TOOLCHAIN]"),
+    "of the library": lambda: equal(
+        {it: identity(LIBRARY_FILES, "--library", "kit of yesterday")[0].get(it) for it in ("program", "library", "toolchain", "functions")},
+        {"program": None, "library": "luvazhimba_c 0.4.2", "toolchain": "kit of yesterday", "functions": "5"}),
 }
 # A program that is built, and what the toolchain says where it compiles that again.
 BUILT_HERE = {**CHAIN, "crates.txt": "low: memchr\narchive: low\n", "crates/archive/src/main.rt": "fn main() {}\n", "crates/archive/out/built-by-the-front-door": "kit of today\n",
@@ -941,21 +1010,127 @@ TWICE = {
 }
 OWNER_PAGE = {
     "links and commands": lambda: equal(output_of("owner_page.py", ["docs/WALKTHROUGH.md"], {"docs/WALKTHROUGH.md": OF_THE_WALK}),
-        "Run `./archive` once, and `luvazhimba sift`: whole, [commands](COMMANDS.md#sift), [tls](examples/proxy/README.md), [out](https://example.org/x).\n"),
+        "Then `luvazhimba sift`: whole, [commands](COMMANDS.md#sift), [tls](examples/proxy/README.md), [out](https://example.org/x).\n"),
     "a page below": lambda: equal(output_of("owner_page.py", ["samples/proxy/README.md"], {"samples/proxy/README.md": "[b](../../docs/HTTP.md) `samples/keep.sh` samples/soc.mbox\n"}),
         "[b](../../HTTP.md) `/usr/libexec/luvazhimba/keep.sh` /usr/share/doc/luvazhimba/examples/soc.mbox\n"),
     "units": lambda: equal(output_of("owner_page.py", ["docs/SCALE.md"], {"docs/SCALE.md": "`samples/archive-once.path` `-u archive.service` `archive-copy@.service` archive.db\n"}),
         "`/usr/lib/systemd/system/luvazhimba-once.path` `-u luvazhimba.service` `luvazhimba-copy@.service` archive.db\n"),
-    "what only a clone can do": lambda: equal(output_of("owner_page.py", ["docs/INSTALL.md"], {"docs/INSTALL.md": "`./archive package --twice`, `./archive --version`, `./archive --help`\n"}),
-        "`./archive package --twice`, `./archive --version`, `luvazhimba --help`\n"),
+    "sentences that speak of a clone": lambda: equal(output_of("owner_page.py", ["docs/INSTALL.md"], {"docs/INSTALL.md":
+        "In a clone `./archive package` packs. `./archive --help` helps. `trials/x.py` tried (by `bench/y.py`, today) that.\n\n\nIt is (see `tools/z.py`) so (and so).\n"}),
+        "`luvazhimba --help` helps.\n\nIt is so (and so).\n"),
+    "items, and cells of a table": lambda: equal(output_of("owner_page.py", ["docs/INSTALL.md"], {"docs/INSTALL.md":
+        "- **Built.** `./archive` does.\n- `keep.sh` keeps.\n| `a` | it is; `./archive --version` builds |\n\n    git clone x\n"}),
+        "- `keep.sh` keeps.\n| `a` | it is|\n\n    git clone x\n"),
     "a command of a clone alone": lambda: equal(output_of("owner_page.py", ["docs/COMMANDS.md"],
         {"docs/COMMANDS.md": "| `package [FOLDER]` | packs |\n| `check` | looks |\n\n    archive check --db FILE\n"}),
         "| `check` | looks |\n\n    luvazhimba check --db FILE\n"),
     "a page that no owner wants": says("owner_page.py", ["docs/STYLE.md"], {"docs/STYLE.md": ""}, 1, faults="owner_page.py FILE"),
 }
 
-TABLES = {"part.py": PART, "build.py": BUILD, "gate.py": GATE, "trial.py": TRIAL, "quick.py": QUICK, "edits.py": FITS, "refused.py": ROWS_CASES, "cases.py": CASES,
-          "definitions.py": DEFINITIONS, "pages.py": PAGES, "identity.py": IDENTITY, "twice.py": TWICE, "owner_page.py": OWNER_PAGE, "clauses.py": CLAUSES, "wants.py": WANTS}
+# ---- manual.py, words.py
+
+# The help of a small program, as run_cases has it, and its manual.
+HELP_TEXT = """# Help
+$ --help
+Keeps lists
+
+Usage: archive [COMMAND]
+
+Commands:
+  sift  Filter an mbox
+  drop  Drop a list
+  help  Print this
+
+Options:
+  -h, --help  Print help
+
+It begins. It ends.
+
+Status: 0 done; 2 usage error.
+
+Example:
+  archive drop --db a.db soc
+[0]
+$ sift --help
+Filter an mbox
+
+Usage: archive sift [OPTIONS]
+
+Options:
+      --day <DAY>  The day [default: today]
+  -h, --help       Print help
+
+Status: 0 done.
+Refusals: M1 no mbox.
+
+Example: archive sift < soc.mbox
+[0]
+$ drop --help
+Drop a list
+
+Usage: archive drop --db <FILE> --day <DAY> <NAME>
+
+Arguments:
+  <NAME>  A name
+
+Options:
+      --db <FILE>  The database
+      --day <DAY>  The last day
+  -h, --help       Print help
+
+Opens FILE, and creates it if it is missing or empty.
+
+Prints `no list-name`. It is gone.
+
+Status: 0 done.
+Refusals: E4 no
+list. A list that is gone stays so.
+
+Example: archive drop --db a.db soc
+[0]
+$ --version
+archive 0.3.1
+[0]
+"""
+MANUAL_FILES = {"crates/run_cases/stdout": HELP_TEXT, "docs/archive.1": "old\n"}
+LINES_OF_IT = (
+    '.TH ARCHIVE 1 "" "archive 0.3.1" "User Commands"', r"archive \- keeps lists", r"\fBarchive sift\fR [\fB\-\-day\fR DAY]",
+    r"\fBarchive drop\fR \fB\-\-db\fR FILE \fB\-\-day\fR DAY NAME", "It begins.", "It ends.", r"\fBdrop\fR", "Drop a list.", r"Prints \fBno list\-name\fR.", "It is gone.",
+    "Refusals: E4.", "A list that is gone stays so.", "Of sift: The day [default: today].", "Of drop: The last day.", "NAME", "A name.", "0 done; 2 usage error.",
+    r"archive drop \-\-db a.db soc", "archive sift < soc.mbox")
+
+
+def manual(files):
+    """Returns the manual that is made in a small repository, what is said of it before, and after."""
+    with repository(files) as (top, stand_in):
+        before = run(top, stand_in, "manual.py", [])
+        made = run(top, stand_in, "manual.py", ["--write"])
+        return (top / "docs/archive.1").read_text(encoding="utf-8").splitlines(), before[:2], made, run(top, stand_in, "manual.py", [])
+
+
+MANUAL = {
+    "what is made": lambda: [f"lacks {it!r}" for it in LINES_OF_IT if it not in manual(MANUAL_FILES)[0]],
+    "what is said once is not said of each command": lambda: equal([it for it in manual(MANUAL_FILES)[0] if it.startswith("Opens")], []),
+    "before and after": lambda: equal(manual(MANUAL_FILES)[1:],
+        ((1, "manual: docs/archive.1 is not what the help says (tools/manual.py --write)\n"), (0, "", ""), (0, "", ""))),
+    "help that is not there": says("manual.py", [], {**MANUAL_FILES, "crates/run_cases/stdout": HELP_TEXT.replace("$ drop --help", "$ drop -h")}, 1,
+        faults="manual: crates/run_cases/stdout has no output of 'drop --help'"),
+    "other words": says("manual.py", ["--make"], MANUAL_FILES, 1, faults="manual.py --write"),
+}
+WORDS_FILES = {"README.md": "one two `told` kept\n\n    told\n", "docs/layers/low.md": "so\nmany words\n", "docs/note.txt": "told " * 60_000, "bench/FIGURES.md": "told " * 60_000}
+WORDS = {
+    "few words": is_silent("words.py", WORDS_FILES),
+    "of each page": says("words.py", ["--pages"], WORDS_FILES, 0, "      5    1 README.md", "      3    1 docs/layers/low.md", "      8    2 all"),
+    "too many words": says("words.py", [], {**WORDS_FILES, "samples/proxy/README.md": "word " * 52_493}, 1,
+        "words: the pages have 52,501 words, of at most 52,500 (tools/words.py --pages)"),
+    "too many to avoid": says("words.py", [], {**WORDS_FILES, "docs/archive.1": "Told " * 59}, 1,
+        "words: the pages have 61 words that STYLE.md asks to avoid, of at most 60 (tools/words.py --pages)"),
+    "as many as may be": is_silent("words.py", {**WORDS_FILES, "docs/archive.1": "Told " * 58}),
+    "other words": says("words.py", ["--page"], WORDS_FILES, 1, faults="words.py --pages"),
+}
+
+TABLES = {"manual.py": MANUAL, "words.py": WORDS, "part.py": PART, "build.py": BUILD, "gate.py": GATE, "trial.py": TRIAL, "quick.py": QUICK, "edits.py": FITS, "refused.py": ROWS_CASES, "cases.py": CASES,
+          "definitions.py": DEFINITIONS, "pages.py": PAGES, "identity.py": IDENTITY, "twice.py": TWICE, "owner_page.py": OWNER_PAGE, "clauses.py": CLAUSES, "wants.py": WANTS, "reached.py": REACHED, "minutes.py": MINUTES}
 
 
 def main(words):

@@ -1,6 +1,6 @@
 #!/usr/bin/env python3
-"""Whether a want of memory is told where memory was refused: each place that tells of one by hand is in the list `wants.txt`.
-Status 1 where one is not, or where a line of the list has no place.
+"""Whether a want of memory is told where memory was refused: each place that reports one by hand, or that asks for memory by a number that
+is written down, is in the list `wants.txt`. Status 1 where one is not, or where a line of the list has no place.
 
   wants.py            says which they are
   wants.py --list     prints the line of each place as the list has it; for one that is bare the reason is to be written
@@ -14,6 +14,8 @@ place is, by the innermost arm, `else` or test around it,
   counted   in an arm `Err(refused)`, behind a call that counted `refused.into()`: it was handed on, so it is not in the list
   named     in an arm, or behind a test, that names the same fault by another name: `Memory`, `OutOfMemory`, `is_memory()`
   bare      in none of these: nothing was refused there, and the list says in words why it stands
+  asked     a growth whose amount has a number or a constant in it: one that is too large is refused whatever memory there is, so the list
+            says in words why it is not (a name that the function binds by `let` is looked at once)
 
 No place are patterns, types, clauses, and what an `impl From` makes. Crates of tests, of examples and of probes are left out.
 """
@@ -28,6 +30,8 @@ MADE = re.compile(
 GIVEN = re.compile(r"Err\((?:refused|(?:\w+::)*Refused\(refused\))\)")
 NAMED = re.compile(r"\b(?:Memory|OutOfMemory|NoMemory)\b|\.is_memory\(\)")
 BLANK = re.compile(r"//[^\n]*|\"(?:[^\"\\]|\\.)*\"|'(?:[^'\\]|\\.)'|^\s*(?:pub(?:\(crate\))? )?(?:ghost )?use [^;]*;", re.M)
+GROWTH = re.compile(r"\b(?:with_capacity|reserve|reserve_exact|resize|resize_with|repeat)(?=\()")
+WRITTEN = re.compile(r"(?<![\w.])\d[\d_]*|\b[A-Z][A-Z0-9_]+\b")
 GHOST = re.compile(r"(?:ensures|requires|ghost)\*?\s*\w*\s*(?:=|:[^{;]*)?\s*\{")
 FROM = re.compile(r"\bimpl(?:<[^{]*?>)? From<[^{]*?> for [^{]*\{")
 FUNCTION = re.compile(r"\bfn (\w+)")
@@ -35,6 +39,9 @@ OTHER_ANSWER = re.compile(r"\.(?:ok_or|ok_or_else|map_err|unwrap_or|unwrap_or_el
 STRUCT = re.compile(r"(?<![\w>])(?:[a-z_]\w*::)*[A-Z]\w*(?:::[A-Z]\w*)*$")
 NO_STRUCT = re.compile(r"(?:->|\b(?:if|while|match|impl|for|in|enum|struct|trait))\s[^;{}]*$")
 OPEN, CLOSE = "([{", ")]}"
+# What is wrong with a place that the list lacks.
+WRONG = {None: "tells of a want of memory by hand ({}): hand on what was refused by `?` or `From`",
+         "asked": "asks for memory by a number that is written down: ask by the length of what is there"}
 
 
 def closing(text, at):
@@ -144,6 +151,19 @@ def kind_at(text, place):
         at = opened
 
 
+def is_asked(text, found):
+    """Returns whether the amount of a growth has a number in it that is written down, there or in the `let` of a name that it has."""
+    amount = text[found.end() : closing(text, found.end())]
+    body = text[: found.start()]
+    body = body[max(body.rfind("fn "), 0) :]
+    bound = [it[2] for it in re.finditer(r"\blet (?:mut )?(\w+)(?:: \w+)? = ([^;]*);", body) if re.search(rf"\b{it[1]}\b", amount)]
+    return any(WRITTEN.search(it) for it in [amount, *bound])
+
+
+def function_at(text, place):
+    return next(iter([it[1] for it in FUNCTION.finditer(text, 0, place)][-1:]), "-")
+
+
 def places(crate):
     """Returns each place of a crate: its function as crate::file::function, and its kind."""
     src, found = part.CRATES / crate / "src", []
@@ -152,8 +172,8 @@ def places(crate):
         module = "::".join(file.relative_to(src).with_suffix("").parts)
         for it in MADE.finditer(text):
             if is_told(text, it) and (kind := kind_at(text, it.start())) != "counted":
-                function = [one[1] for one in FUNCTION.finditer(text, 0, it.start())][-1:] or ["-"]
-                found.append((f"{crate}::{module}::{function[0]}", kind))
+                found.append((f"{crate}::{module}::{function_at(text, it.start())}", kind))
+        found += [(f"{crate}::{module}::{function_at(text, it.start())}", "asked") for it in GROWTH.finditer(text) if is_asked(text, it)]
     return found
 
 
@@ -166,9 +186,9 @@ def listed():
 def faults(found, known):
     """Returns what is in one of the two and not in the other, and which line gives no reason."""
     have, wanted = collections.Counter(found), collections.Counter((it[0], it[1]) for it in known)
-    wrong = [f"{name} tells of a want of memory by hand ({kind}): hand on what was refused by `?` or `From`" for name, kind in (have - wanted).elements()]
+    wrong = [f"{name} {WRONG.get(kind, WRONG[None].format(kind))}" for name, kind in (have - wanted).elements()]
     wrong += [f"wants.txt names {name} {kind}, which is not there" for name, kind in (wanted - have).elements()]
-    return wrong + [f"wants.txt gives no reason for {name}" for name, kind, why in known if kind == "bare" and not why]
+    return wrong + [f"wants.txt gives no reason for {name}" for name, kind, why in known if kind in ("bare", "asked") and not why]
 
 
 def main(words):
