@@ -124,6 +124,18 @@ def cutting(trial, program, room):
     (room / "rest.mbox").write_text(output(SAMPLES / "mbox.py", "without", key, box) + "\n\n")
     trial.check("mbox.py without a mail: how many are left, and of that one", (len(output(SAMPLES / "mbox.py", "list", room / "rest.mbox").splitlines()),
                 key in output(SAMPLES / "mbox.py", "list", room / "rest.mbox")), (39, False))
+    ran = subprocess.run([SAMPLES / "mbox.py", "without", "0" * 64, box], capture_output=True, check=False)
+    trial.check("mbox.py without a mail that is not there: status, errors, whether all is written", (ran.returncode, ran.stderr.decode(), len(mbox_keys(ran.stdout))),
+                (1, f"mbox.py: no message has the key {'0' * 64}\n", 40))
+    trial.check("mbox.py: bad words", refused(SAMPLES / "mbox.py", "lists", box)[0], 2)
+    (room / "long.mbox").write_bytes(box.read_bytes() * 200)
+    ran = subprocess.run(["bash", "-c", '"$0" list "$1" | head -n 1', SAMPLES / "mbox.py", room / "long.mbox"], capture_output=True, text=True, check=False)
+    trial.check("mbox.py: a reader who has enough is no error", (ran.stdout.count("\n"), ran.stderr), (1, ""))
+
+
+def mbox_keys(text):
+    """The keys of the messages of an mbox."""
+    return [mbox.key_of(it) for _, _, it in mbox.messages(text.splitlines(keepends=True))]
 
 
 def backups(trial, program, room):
@@ -138,22 +150,61 @@ def backups(trial, program, room):
     (kept / "mail.done" / "seeds" / "1.mbox").write_text("x")
     to.mkdir()
     (to / "policy.toml").symlink_to(room / "rules.toml")
-    for day in range(1, 10):
-        (to / f"archive-2001-01-0{day}.db").write_text("old")
-    trial.check("backup.sh says nothing", output(SAMPLES / "backup.sh", kept, to, 4), "")
-    names = sorted(it.name for it in to.iterdir())
-    trial.check("backup.sh: what is there then", ([it for it in names if it.startswith("archive-2001")], len(names), (to / "mail.done" / "seeds" / "1.mbox").exists()),
-                (["archive-2001-01-07.db", "archive-2001-01-08.db", "archive-2001-01-09.db"], 6, True))
+    (kept / "mail.done" / "seeds" / "1.mbox").chmod(0o644)
+    back_up = lambda *words: refused_by(program, SAMPLES / "backup.sh", kept, to, *words)
+    trial.check("backup.sh says nothing", back_up(4), (0, ""))
+    newest = next(to.glob("archive-20[2-9]*.db"))
+    # (what it made on ten days before, as it wrote it down; what an older name and a mistyped one hold)
+    for day in range(1, 11):
+        shutil.copyfile(newest, to / f"archive-2001-01-{day:02}.db")
+    with open(to / "backups.made", "a", encoding="utf-8") as lines:
+        lines.writelines(f"archive-2001-01-{day:02}.db 40\n" for day in range(1, 11))
+    archive(program, "check", "--db", to / "archive-2099-01-01.db")
+    shutil.copyfile(newest, to / "archive-2000-01-01.db")
+    trial.check("backup.sh beside a mistyped file, with a name that is newer", back_up(11), (0, ""))
+    there = lambda: sorted(it.name for it in to.glob("archive-*.db"))
+    trial.check("none of those that it made is removed for it", [it for it in there() if it.startswith("archive-2001")], [f"archive-2001-01-{day:02}.db" for day in range(1, 11)])
+    shutil.copyfile(to / "archive-2099-01-01.db", to / "archive-2001-01-10.db")
+    trial.check("nor for one that holds fewer than it did", (back_up(10), len(there())), ((0, ""), 13))
+    trial.check("backup.sh: what stays of 4", (back_up(4), there()), ((0, ""), ["archive-2000-01-01.db", *(f"archive-2001-01-{day:02}.db" for day in (7, 8, 9, 10)), newest.name, "archive-2099-01-01.db"]))
     trial.check("backup.sh: of a link what it leads to is taken", ((to / "policy.toml").is_symlink(), (to / "policy.toml").read_text()), (False, "x = 1\n"))
-    trial.check("the copy is whole, as check finds", [refused(program, "check", "--db", it) for it in to.glob("archive-20[2-9]*.db")], [(0, "ok")])
-    trial.check("backup.sh: the copy is its owner's alone", {oct(stat.S_IMODE(it.stat().st_mode)) for it in to.glob("archive-20[2-9]*")}, {"0o600"})
+    own = [newest, to / "policy.toml", to / "mail.done", to / "mail.done" / "seeds" / "1.mbox", to / "backups.made"]
+    trial.check("backup.sh: what it makes is its owner's alone", [it.name for it in own if it.stat().st_mode & 0o077], [])
+    trial.check("the copy is whole, as check.sh finds", refused_by(program, SAMPLES / "check.sh", newest), (0, f"{newest}: ok\n{newest}: seeds 40"))
+    was = newest.read_bytes()
+    db.rename(kept / "lost.db")
+    archive(program, "list-add", "--db", db, "seeds")
+    status, said = back_up(1)
+    trial.holds("backup.sh: an archive that lost its messages is told, and takes no backup's place", status == 1 and "holds 0 messages" in said and newest.read_bytes() == was, said)
+    trial.check("and nothing older goes", len(there()), 7)
+    (kept / "lost.db").rename(db)
     text = bytearray(db.read_bytes())
     text[4096:8192] = b"\xa5" * 4096
     db.write_bytes(text)
-    ran = subprocess.run([SAMPLES / "backup.sh", kept, to, "1"], capture_output=True, text=True, check=False)
-    trial.holds("backup.sh: a damaged file is told, and nothing older goes", ran.returncode == 1 and "archive.db: " in ran.stderr and len([*to.glob("archive-2001*")]) == 3,
-                f"{ran.returncode} {ran.stderr.strip()[-80:]}")
+    status, said = back_up(1)
+    trial.holds("backup.sh: a damaged file is told, and nothing older goes", status == 1 and "archive.db: " in said and len(there()) == 7, f"{status} {said[-80:]}")
+    checked(trial, program, room, newest)
     trial.check("copy.sh: no such file", output(SAMPLES / "copy.sh", room / "none", room / "x"), f"copy.sh: {room / 'none'}: no such file")
+
+
+def checked(trial, program, room, whole):
+    """samples/check.sh: it refuses a file that is not there, and one that is damaged as the program's own check finds."""
+    trial.check("check.sh: a file that is not there is refused, and not made", (refused_by(program, SAMPLES / "check.sh", room / "none.db"), (room / "none.db").exists()),
+                ((1, f"check.sh: {room / 'none.db'}: no such file"), False))
+    shutil.copyfile(whole, room / "filed.db")
+    stock = sqlite3.connect(room / "filed.db")
+    stock.execute("UPDATE message SET text = CAST(text || 'x' AS BLOB) WHERE pos = (SELECT min(pos) FROM message)")
+    stock.commit()
+    stock.close()
+    status, said = refused_by(program, SAMPLES / "check.sh", whole, room / "filed.db")
+    trial.holds("check.sh: a damaged file is told, and the other one too", status == 1 and f"{whole}: ok" in said and "filed.db: archive: E16 Damaged seeds" in said, said)
+    trial.check("check.sh: no file", refused_by(program, SAMPLES / "check.sh")[0], 2)
+
+
+def refused_by(program, *words):
+    """The status of a sample that calls the program, and what it says."""
+    ran = subprocess.run([*map(str, words)], stdin=subprocess.DEVNULL, capture_output=True, text=True, check=False, env={**os.environ, "ARCHIVE": str(program)})
+    return ran.returncode, (ran.stdout + ran.stderr).strip()
 
 
 def moved_in(trial, program, room):
@@ -197,12 +248,13 @@ def ran_to(*words):
 def units(trial):
     """What systemd says of the units; of a unit with a word that is none it has to say something."""
     if trial.has("systemd-analyze"):
-        for name in ("archive.service", "archive-once.service", "archive-once.path", "archive-backup.service", "archive-backup.timer"):
+        for name in ("archive.service", "archive-once.service", "archive-once.path", "archive-backup.service", "archive-backup.timer",
+                     "archive-look.service", "archive-look.timer", "archive-search.service"):
             # (what it begins is this repository's)
             text = (SAMPLES / name).read_text().replace("/opt/archive", str(ROOT)).replace("User=archive", "User=root")
             trial.check(f"systemd-analyze verify {name}", found_in_unit(name, text), [])
             trial.holds(f"and of {name} with a word that is none it says something", found_in_unit(name, text.replace("]\n", "]\nNoSuchWord=1\n")))
-        for name in ("archive.service", "archive-once.service", "archive-backup.service"):
+        for name in ("archive.service", "archive-once.service", "archive-backup.service", "archive-look.service", "archive-search.service"):
             said = output("systemd-analyze", "security", "--offline=yes", "--no-pager", SAMPLES / name).splitlines()[-1]
             trial.holds(f"exposure of {name}, at most 1.5", float(re.search(r"[0-9.]+(?= [A-Z])", said)[0]) <= 1.5, said)
 
@@ -261,7 +313,7 @@ def policies(trial, program, room):
 
 def commands():
     """The program's commands in docs/COMMANDS.md: the words of each, and what it prints."""
-    table = next(it for it in (ROOT / "docs" / "COMMANDS.md").read_text().split("\n\n") if it.startswith("| Words |"))
+    table = next(it for it in (ROOT / "docs" / "COMMANDS.md").read_text().split("\n\n") if it.startswith("| Arguments |"))
     rows = re.findall(r"^\| `([a-z-]+)( [^`]*)` \|[^|]*\| ([^|]*) \|$", table, re.MULTILINE)
     return {command: (words, re.findall("`([^`]*)`", printed)) for command, words, printed in rows if command != "package"}
 
@@ -285,7 +337,10 @@ def completed(trial):
         options = {*re.findall(r"--[a-z-]+", line)}
         trial.check(f"completion of the options of {command}", {*offered("archive", command, "--")}, options | {"--help"})
     for words, wanted in ((["./archive", "wi"], ["withdraw"]), (["archive", "help", "ex"], ["export"]), (["archive", "sift", "--st"], ["--standing"]),
-                          (["archive", "sift", "--standing", "mo"], ["moderator"]), (["archive", "get", "--p"], ["--policy", "--person"]),
+                          (["archive", "sift", "--standing", "mo"], ["moderator"]), (["archive", "grant", "--db", "a.db", "mo", "soc", ""], ["member", "subscriber", "moderator"]),
+                          (["archive", "revoke", "mo", "soc", "s"], ["subscriber"]), (["archive", "withdraw", "--db", "a.db", "soc", "0" * 64, ""], ["author", "board"]),
+                          (["archive", "merge", "soc", ""], ["yes", "no"]), (["archive", "grant", "--db", "a.db", str(SAMPLES / "see")], []),
+                          (["archive", "import", "soc", str(SAMPLES / "seeds.m")], [str(SAMPLES / "seeds.mbox")]), (["archive", "get", "--p"], ["--policy", "--person"]),
                           (["archive", "serve", "--policy", str(SAMPLES / "seeds.t")], [str(SAMPLES / "seeds.toml")]), (["archive", "serve", "--port", ""], [])):
         trial.check(f"completion of {' '.join(words[:-1])} {words[-1][-9:]}", offered(*words), wanted)
 

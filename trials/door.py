@@ -92,13 +92,16 @@ def before(trial, door):
     for words in (["--help"], ["-h"], ["help"], ["help", "grant"], ["sift", "--help"], ["grant", "--help"]):
         status, said, wrong = door.run(*words, toolchain=False)
         trial.check(f"{' '.join(words)} before a build: status, errors, builds", (status, wrong, door.builds()), (0, "", 0))
-    for what in ("not built here yet", "minutes at first on", "archive grant --db FILE PERSON LIST KIND FROM UNTIL", "archive < MBOX"):
+    for what in ("not built here yet", "docs/INSTALL.md says how to install", "archive grant --db FILE PERSON LIST KIND FROM UNTIL", "archive < MBOX"):
         trial.holds(f"it says '{what}'", what in said)
-    table = next(it for it in (ROOT / "docs" / "COMMANDS.md").read_text().split("\n\n") if it.startswith("| Words")).splitlines()
+    trial.holds("without the toolchain it speaks of no build of its own", "minutes at first on" not in said)
+    built_here = door.run("--help")[1]
+    trial.holds("with the toolchain it says what a build takes", "minutes at first on" in built_here and "says how to install" not in built_here)
+    table = next(it for it in (ROOT / "docs" / "COMMANDS.md").read_text().split("\n\n") if it.startswith("| Arguments")).splitlines()
     trial.check("it has the commands of the page", (said.count("\n  archive "), "](" in said, "`" in said), (len(table) - 2, False, False))
     for words in (["list-add"], ["sift"]):
         status, said, wrong = door.run(*words, toolchain=False)
-        trial.check(f"without the toolchain nothing is built for {words[0]}", (status, said, wrong), (1, "", "archive: the toolchain's command rt is not on the PATH\n"))
+        trial.check(f"without the toolchain nothing is built for {words[0]}", (status, said, wrong), (1, "", "archive: the toolchain's command rt is not on the PATH; docs/INSTALL.md says how to do without\n"))
 
 
 def tried(trial, door):

@@ -4,7 +4,8 @@
   trials/endings.py [--archive PROGRAM] [--script KEEP.SH] [--mails 2000] [--rate 500]
 
 Midnight comes by a copy of the script that reads the day out of a file; a peer meanwhile reads a long mail slowly. The server that
-says 503 is a stand-in. Behind HAProxy (2.6) readers ask --rate times a second while ten changes come. Times are judged: 5 seconds
+says 503 is a stand-in. Behind HAProxy (2.6) readers ask --rate times a second while ten changes come, to a server on one port, and to one that has a second
+port, where the slowest reply has to come sooner. Times are judged: 5 seconds
 until a server that has to end has ended, 10 until a command is served. The last line is 'N passed, N failed, N skipped'.
 """
 import hashlib, pathlib, re, shutil, socket, stat, sys, tempfile, threading, time
@@ -181,13 +182,15 @@ def backend_of(script, port):
     return re.sub("^# ", "", lines, flags=re.MULTILINE).replace("127.0.0.1:8080", f"127.0.0.1:{port}")
 
 
-def behind_proxy(trial, program, script, room, rate, mails):
-    """Behind HAProxy no request fails while ten changes come, and each is served soon."""
+def behind_proxy(trial, program, script, room, rate, mails, second):
+    """Behind HAProxy no request fails while ten changes come, and each is served soon; with a second port the next server begins first."""
     if not (trial.has("haproxy", "behind HAProxy") and trial.has("socat", "behind HAProxy")):
-        return
-    folder = room / "proxied"
-    sockets, (front,) = room / "haproxy.sock", free_ports(1)
-    keeper = Keeper(script, program, folder, DRAIN=str(script.parent / "keep" / "haproxy.sh"), SOCKET=str(sockets))
+        return None
+    room = room / ("two-ports" if second else "one-port")
+    room.mkdir()
+    folder, sockets, (front, other) = room / "proxied", room / "haproxy.sock", free_ports(2)
+    more = {"SECOND": str(other)} if second else {}
+    keeper = Keeper(script, program, folder, DRAIN=str(script.parent / "keep" / "haproxy.sh"), SOCKET=str(sockets), **more)
     output(sys.executable, ROOT / "bench" / "gen_mbox.py", "--n", mails, "--out", room / "proxied.mbox")
     keeper.put("policy.toml", OPEN)
     keeper.order("1", "list-add soc\n")
@@ -206,10 +209,13 @@ def behind_proxy(trial, program, script, room, rate, mails):
     notes = askers.end()
     failed = [it for it in notes if it[1] != "200"]
     seconds = notes[-1][0] - notes[0][0]
-    trial.check("behind HAProxy, ten changes: requests that failed", failed[:3], [])
+    what = "behind HAProxy, with a second port" if second else "behind HAProxy"
+    trial.check(f"{what}, ten changes: requests that failed", failed[:3], [])
+    slowest = max(it[2] for it in notes)
     trial.holds("each command is served within 10 s", max(took) <= 10, f"{min(took):.1f} to {max(took):.1f} s; {len(notes) / seconds:.0f} requests a second of {rate}, {len(notes)} in all, "
-                f"the slowest {max(it[2] for it in notes):.2f} s")
+                f"the slowest {slowest:.2f} s")
     trial.check("stopped: status, and what was said", (keeper.stop(), (room / "errors").read_text().splitlines()), (0, []))
+    return slowest
 
 
 def main():
@@ -222,7 +228,9 @@ def main():
             midnight(trial, asked_for.archive, script, room, slowly)
         ill(trial, asked_for.archive, script, room)
         (room / "errors").unlink(missing_ok=True)
-        behind_proxy(trial, asked_for.archive, script, room, asked_for.rate, asked_for.mails)
+        one, two = (behind_proxy(trial, asked_for.archive, script, room, asked_for.rate, asked_for.mails, second) for second in (False, True))
+        if one is not None:
+            trial.holds("with a second port the slowest reply comes sooner than without", two < one, f"{two:.3f} s, {one:.3f} s")
 
 
 main()

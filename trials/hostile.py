@@ -17,6 +17,8 @@ from serving import archive, get, heard, make_archive
 S1, S2 = "archive: S1 Read", "archive: S2 Write"
 SLACK = 1.0  # seconds for a machine that does other things
 LARGE = "/l/large/mbox"  # a reply that no socket's buffers hold
+SENT = 10  # megabytes of it that those buffers hold at most
+REPLY = 30 + SENT  # seconds that a whole reply may take of which so much was written
 
 
 def reset(peer):
@@ -104,6 +106,23 @@ def never_reads(server):
     return [peer]
 
 
+def drip(peer):
+    """Reads a byte each twenty seconds, for as long as the reply may take and longer."""
+    try:
+        for _ in range(6):
+            peer.recv(1)
+            time.sleep(20)
+    except OSError:
+        pass
+
+
+def reads_by_bytes(server):
+    peer = server.connect()
+    peer.sendall(get(LARGE))
+    in_background(drip, peer)
+    return [peer]
+
+
 def fifty_at_once(server):
     peers = [server.connect() for _ in range(50)]
     for peer in peers:
@@ -166,12 +185,13 @@ CASES = [
     (a_body_without_end, 1, 1, [[]]),
     (a_body_that_trickles, 1, 1, [[]]),
     (gone_in_the_reply, 1, 0, [[S2]]),
-    (never_reads, 1, 93, [[S2]]),  # three waits of 31 seconds: two writes that take a part of a piece, and one that takes nothing
+    (never_reads, 1, REPLY, [[S2]]),
+    (reads_by_bytes, 1, REPLY, [[S2]]),
 ]
 
 
 # those that need a reply which no socket's buffers hold
-ASK_FOR_MUCH = [gone_in_the_reply, never_reads]
+ASK_FOR_MUCH = [gone_in_the_reply, never_reads, reads_by_bytes]
 
 
 def is_reset(peer):
@@ -196,7 +216,7 @@ def run_case(program, db, peers, count, most, told):
     reply = heard(last)
     waited = time.perf_counter() - begun
     status, lines = server.finish()
-    if peers is never_reads:
+    if peers in (never_reads, reads_by_bytes):
         replied = replied and is_reset(kept[0])
     for peer in kept:
         peer.close()

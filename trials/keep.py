@@ -7,7 +7,7 @@ A reader asks all the time, while a command comes, a large mbox, another policy,
 then the script is killed or stopped in the middle of its work, and begun again. It prints the longest time between two answers,
 beside the time of one command on the same file, and asks for at most three times that and a second. The archive holds --mails
 messages at first, and --more come. Then eight writers give a hundred orders while an import runs, `--once` works without serving,
-and a list gets full. The last line is 'N passed, N failed, N skipped'.
+commands are mistyped, `--look` says what there is to see to, and a list gets full. --only NAME tries one of the later parts. The last line is 'N passed, N failed, N skipped'.
 """
 import pathlib, shutil, signal, socket, sqlite3, subprocess, sys, tempfile, threading, time
 
@@ -148,8 +148,9 @@ def without_tokens(trial, room, keeper):
     trial.check("a database that is locked: status, standard error", (ran.returncode, ran.stderr),
                 (1, "keep.sh: person-add --db archive.db ..: archive: E15 Store\nkeep.sh: what is left is tried again in 6 seconds\narchive: E15 Store\n"))
     trial.check("its commands stay for the next beginning", [it.read_text() for it in (keeper.folder / "commands.now").iterdir()], [f"person-add mo {token}\n"])
-    modes = {it.name: oct(it.stat().st_mode & 0o077) for it in keeper.folder.rglob("*") if it.name in ("archive.db", "log", "commands.done")}
-    trial.check("what it makes, and holds tokens, is its owner's alone", modes, dict.fromkeys(("archive.db", "log", "commands.done"), "0o0"))
+    # (the policy, the mail and the commands were made by this trial)
+    own = [it for it in keeper.folder.rglob("*") if it.is_file() and it.name != "policy.toml" and it.suffix != ".mbox" and it.parent.name != "commands.now"]
+    trial.check("what it makes is its owner's alone: files, and those that others may read", (len(own) > 4, [it.name for it in own if it.stat().st_mode & 0o077]), (True, []))
 
 
 def not_begun(trial, keeper):
@@ -203,7 +204,7 @@ def ordered(trial, program, script, room, few, more):
     trial.check("stopped: status", keeper.stop(), 0)
 
 
-def behind_mail(trial, program, script, room, few):
+def behind_mail(trial, program, script, room, few, _):
     """Orders are carried out while mail is wanting memory, and waits."""
     stand_in = room / "wanting"
     stand_in.write_text(f'#!/bin/sh\n[ "$1" != import ] || [ ! -e wanting ] || {{ echo "archive: E14 Memory" >&2; exit 1; }}\nexec {program} "$@"\n')
@@ -228,7 +229,7 @@ def behind_mail(trial, program, script, room, few):
     trial.check("begun again it takes the mail in", (keeper.counts()[0], keeper.stop()), ({"soc": 1000, "board": 0}, 0))
 
 
-def without_serving(trial, program, script, room, few):
+def without_serving(trial, program, script, room, few, _):
     """`--once` does what waits, and says by its status whether all is settled."""
     keeper = Keeper(script, program, room / "once")
     keeper.order("first", "list-add soc\n")
@@ -254,7 +255,81 @@ def without_serving(trial, program, script, room, few):
     trial.check("--once: beside one that serves", keeper.once(), (1, "keep.sh: another one has this folder, or what it began still runs\n"))
     keeper.stop()
     ran = [subprocess.run([script, *words], env=keeper.env, capture_output=True, text=True, check=False) for words in ((), ("--once",), ("--once", "a", "80"), ("a", "80", "b"))]
-    trial.check("bad words: statuses, and lines", {(it.returncode, it.stderr) for it in ran}, {(2, "keep.sh: the words are FOLDER [PORT], or --once FOLDER\n")})
+    trial.check("bad words: statuses, and lines", {(it.returncode, it.stderr) for it in ran}, {(2, "keep.sh: the words are FOLDER [PORT], --once FOLDER, or --look FOLDER\n")})
+
+
+def lines_of(file):
+    """The lines of a file that are no comments."""
+    return [it for it in file.read_text().splitlines() if not it.startswith("#")] if file.exists() else []
+
+
+def mistyped(trial, program, script, room, few, _):
+    """A line that is no command, is a usage error or is refused goes to commands.refused, and `--once` ends with status 1."""
+    keeper = Keeper(script, program, room / "mistyped")
+    done, refused = keeper.folder / "commands.done", keeper.folder / "commands.refused"
+    key, token = keys_of(few)[0], "5fW2xkQ0aTz7uYp1"
+    keeper.order("1", "list-add soc\n")
+    keeper.mail("soc", few)
+    trial.check("nothing was refused: --once, --look", (keeper.once(), keeper.look()), ((0, ""), (0, "")))
+    # (the list is there before: as where a command comes a second time after a crash)
+    good = ["list-add soc", "list-add board"]
+    wrong = [f"withdrw soc {key} author", f"withdraw soc {key} authr", f"withdraw soc {'0' * 64} author", f"person-ad mo {token}", f"person-add mo -{token}", "grant mo"]
+    before = keeper.log()
+    keeper.order("2", "".join(f"{it}\n" for it in [good[0], *wrong, good[1]]))
+    status, said = keeper.once()
+    trial.check("mistyped commands: --once", (status, said.count("\n"), "commands.refused" in said, token in said), (1, 1, True, False))
+    trial.check("commands.refused has them", lines_of(refused), wrong)
+    trial.check("commands.done has the others", lines_of(done), ["list-add soc", *good])
+    told = keeper.log().removeprefix(before).splitlines()
+    trial.check("log has one line a command", ([it[:2] for it in told], len(told)), (["20"] * 8, 8))
+    trial.check("and the file is its owner's alone", oct(refused.stat().st_mode & 0o077) if refused.exists() else None, "0o0")
+    status, said = keeper.look()
+    shown = [it for it in said.splitlines() if it.startswith("log: ")]
+    trial.check("--look: its status, how many lines of the log, and whether it shows a token", (status, len(shown), token in said), (1, 7, False))
+    trial.holds("it says how many commands were refused", "\ncommands.refused: 6 " in said, said.splitlines()[-1:])
+    trial.check("--once again: nothing is left", keeper.once(), (0, ""))
+    if refused.exists():
+        keeper.order("3", refused.read_text().replace("withdrw", "withdraw").replace("authr", "author"))
+        refused.unlink()
+    trial.check("mended and given again: --once, and what was withdrawn", (keeper.once()[0], keeper.log().count(": withdrawn\n")), (1, 1))
+    trial.check("what is refused again is there again", lines_of(refused), wrong[2:])
+
+
+def state_of(folder):
+    """The files of a folder, each with its size and its time."""
+    return {it: (it.stat().st_size, it.stat().st_mtime_ns) for it in folder.rglob("*")}
+
+
+def looked_at(trial, program, script, room, few, _):
+    """`--look` finds mail that was refused or was too large, a policy that is none, and what cannot be read."""
+    keeper = Keeper(script, program, room / "looked")
+    keeper.order("1", "list-add soc\n")
+    (room / "large.mbox").write_text("From a@b Tue Mar  4 10:00:00 2003\n\n" + "x\n" * 8_500_000)
+    keeper.mail("soc", room / "large.mbox")
+    keeper.mail("none", few)
+    keeper.once()
+    (keeper.folder / "commands.d" / "folder").mkdir()
+    keeper.once()
+    keeper.put("policy.toml", OPEN)
+    keeper.begin()
+    keeper.shows("/", b"/l/soc/", 60)
+    keeper.put("policy.toml", "[[rule]]\n")
+    keeper.until(lambda: "policy.toml: " in keeper.log(), 20)
+    keeper.stop()
+    before = state_of(keeper.folder)
+    status, said = keeper.look()
+    wanted = ("soc/come.mbox: new 0 known 0 too-large 1\n", "none/come.mbox: archive: E4 NoList after 0\n", "commands.d/folder: it cannot be read, and stays\n",
+              "policy.toml: archive: P", "\npolicy.toml: it is no policy", "\nmail.refused/none/")
+    trial.check("--look: its status, and what it does not find", (status, [it for it in wanted if it not in said]), (1, []))
+    trial.holds("it changes nothing", state_of(keeper.folder) == before)
+    (keeper.folder / "log").rename(keeper.folder / "log.old")
+    shutil.rmtree(keeper.folder / "mail.refused")
+    (keeper.folder / "commands.d" / "folder").rmdir()
+    keeper.put("policy.toml", OPEN)
+    keeper.begin()
+    keeper.until(lambda: keeper.page("/"), 60)
+    keeper.stop()
+    trial.check("what was seen to is not shown again", keeper.look(), (0, ""))
 
 
 def small_mails(file, numbers):
@@ -262,7 +337,7 @@ def small_mails(file, numbers):
     return keys_of(file)
 
 
-def filled(trial, program, script, room):
+def filled(trial, program, script, room, *_):
     """A list gets full: what it refuses is told, or goes on in the next list, if it may."""
     keeper = Keeper(script, program, room / "full")
     mails, over = room / "full.mbox", room / "over.mbox"
@@ -299,15 +374,22 @@ def filled(trial, program, script, room):
     trial.check("the same again changes nothing", (keeper.once(), keeper.counts()[0]), ((0, ""), {"soc": FULL, "soc-2": 2}))
 
 
+# What follows when the first keeper has ended, each with a folder of its own.
+LATER = {it.__name__: it for it in (ordered, behind_mail, without_serving, mistyped, looked_at, filled)}
+
+
 def main():
     asked = words_of(__doc__, script={"default": SAMPLES / "keep.sh", "help": "another keep.sh"}, mails={"type": int, "default": 7000, "help": "messages at first"},
-                     more={"type": int, "default": 20000, "help": "messages that come"})
+                     more={"type": int, "default": 20000, "help": "messages that come"},
+                     only={"choices": LATER, "help": "one of the later parts"})
     program, script = asked.archive, pathlib.Path(asked.script).resolve()
     with Trial() as trial, tempfile.TemporaryDirectory() as room:
         room = pathlib.Path(room)
         mails, more, few = room / "mails.mbox", room / "more.mbox", room / "few.mbox"
         for file, count in ((mails, asked.mails), (more, asked.more), (few, 1000)):
             output(sys.executable, ROOT / "bench" / "gen_mbox.py", "--n", count, "--out", file)
+        if asked.only:
+            return LATER[asked.only](trial, program, script, room, few, more)
         keeper = Keeper(script, program, room / "kept")
         keeper.put("policy.toml", OPEN)
         keeper.put("commands", "list-add soc\n")
@@ -332,10 +414,8 @@ def main():
         trial.check("what it said on standard error, beside what was to be said", [it for it in told if not it.startswith(expected)], [])
         without_tokens(trial, room, keeper)
         not_begun(trial, keeper)
-        ordered(trial, program, script, room, few, more)
-        behind_mail(trial, program, script, room, few)
-        without_serving(trial, program, script, room, few)
-        filled(trial, program, script, room)
+        for does in LATER.values():
+            does(trial, program, script, room, few, more)
 
 
 main()

@@ -94,8 +94,16 @@ class Keeper:
 
     def once(self):
         """The status of `keep.sh --once`, and what it says on standard error."""
-        ran = subprocess.run([str(self.words[0]), "--once", str(self.folder)], env=self.env, capture_output=True, text=True, timeout=600, check=False)
+        ran = self.ran("--once")
         return ran.returncode, ran.stderr
+
+    def look(self):
+        """The status of `keep.sh --look`, and what it prints."""
+        ran = self.ran("--look")
+        return ran.returncode, ran.stdout
+
+    def ran(self, mode):
+        return subprocess.run([str(self.words[0]), mode, str(self.folder)], env=self.env, capture_output=True, text=True, timeout=600, check=False)
 
     def stop(self):
         """Ends the script as its owner does, and says its status."""

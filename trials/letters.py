@@ -16,6 +16,9 @@ class Letter:
     never: list = field(default_factory=list)    # what may not be read in it
     files: list = field(default_factory=list)    # the names under which its parts are saved
     quotes: int = 0                              # the depth of the deepest quote
+    named: list = field(default_factory=list)    # the names of texts and events that are shown and can be saved
+    open: list = field(default_factory=list)     # of each quote that folds, whether it is open
+    dated: bool = False                          # its date is looked at, in its row and on its page
     row: str = ""                                # its subject in rows, where that is not the heading
     harmful: bool = False
     large: bool = False                          # it is shown once that was asked for
@@ -160,6 +163,48 @@ FORWARDED = Part("Content-Type: message/rfc822\nContent-Disposition: inline",
                  mail(word("Weiter"), "the forwarded text\n", author=f"{word('Zoë', 'utf-8', 'Q')} <zoe@example.net>"))
 BIG_FILE = random.Random(5).randbytes(5_000_000)
 BIG = attached("application/zip; name=big.zip", BIG_FILE, "\nContent-Disposition: attachment; filename=big.zip")
+INLINE_PATCHES = [Part(f'Content-Type: text/plain; name="000{at}-{name}.patch"\nContent-Disposition: inline; filename="000{at}-{name}.patch"', f"+the {name} patch\n".encode())
+                  for at, name in ((1, "first"), (2, "second"))]
+BLANKS = [("nothing", Part("Content-Type: text/plain", b"")), ("white space", text(" \n\u00a0\n\t\n")), ("spaces in base64", text("\n \n", encoding="base64")),
+          ("spaces that are quoted", text("=20\n=C2=A0\n".encode(), encoding="8bit"))]
+BLANKS[3][1].fields = BLANKS[3][1].fields.replace("8bit", "quoted-printable")
+CALENDAR = """BEGIN:VCALENDAR\r
+METHOD:REQUEST\r
+BEGIN:VTIMEZONE\r
+TZID:Europe/Berlin\r
+BEGIN:STANDARD\r
+DTSTART:16010101T030000\r
+END:STANDARD\r
+END:VTIMEZONE\r
+BEGIN:VEVENT\r
+DTSTART;TZID=Europe/Berlin:20240318T100000\r
+DTEND;TZID="Europe/Berlin":20240318T113000\r
+SUMMARY:Besprechung\\, Grö\r
+ ße der Bäume <script>window.ran=1</script>\r
+LOCATION:Saal 2\\; Rathaus\\nKöln\r
+ORGANIZER;CN="Müller; Anna":mailto:anna@example.org\r
+BEGIN:VALARM\r
+SUMMARY:an alarm\r
+END:VALARM\r
+END:VEVENT\r
+BEGIN:VEVENT\r
+SUMMARY:the second event\r
+END:VEVENT\r
+END:VCALENDAR\r
+"""
+DAY_OFF = "BEGIN:VCALENDAR\nMETHOD:CANCEL\nBEGIN:VEVENT\nDTSTART;VALUE=DATE:20240401\nDURATION:P1DT2H\nSUMMARY:Day off\nRRULE:FREQ=YEARLY\nEND:VEVENT\nEND:VCALENDAR\n"
+INVITATION = Part("Content-Type: text/calendar; charset=utf-8; method=REQUEST", CALENDAR.encode())
+DELIVERY = [Part("Content-Type: message/delivery-status", b"Action: failed"), Part("Content-Type: text/rfc822-headers", b"Subject: what was returned")]
+SMIME = [("encrypted", "enveloped-data", "This message is encrypted."), ("signed and hidden", "signed-data", "is signed (S/MIME)"), ("compressed", "compressed-data", "is compressed (S/MIME)"),
+         ("certificates", "certs-only", "holds certificates"), ("of no kind", "", "signed or encrypted (S/MIME)")]
+LONG_QUOTE = "".join(f"> line {at} of what is answered\n" for at in range(20))
+# HTML's names: with and without a `;`, one that begins with another, numbers, Windows-1252, and what is none.
+NAMES = ("<p>&Alpha;&zeta;&check;&NotEqualTilde;&ouml;&notin;&notit; &copy2024 &AMP;amp; &lt;b&gt; &#x1F600;&#150;&#8364 &#0;&#xD800;&#99999999; &bogus; &; &toString; "
+         '<a href="https://example.org/?a=1&copy=2&amp;lt=3&para;">x</a></p>')
+NAMES_SHOWN = "Αζ✓≂̸ö∉¬it; ©2024 &amp; <b> 😀–€ \ufffd\ufffd\ufffd &bogus; &; &toString; x <https://example.org/?a=1&copy=2&lt=3¶>"
+PREVIEW = "<div>" + "&zwnj;&nbsp;&#847;" * 50 + "</div><p>the text</p>"
+META = [("meta", '<meta charset="{}">', "windows-1251"), ("an old meta", "<meta http-equiv='Content-Type' content='text/html; charset={}'>", "big5"),
+        ("a meta within a comment", "<!-- <meta charset=koi8-r> --><meta charset={}>", "windows-1251")]
 LONG_TEXT = "".join(f"{at:07} a line of a long text that goes on and on\n" for at in range(100_000))
 IN_JAPANESE = in_charset(0, *PANGRAMS[0])
 ASKED = re.search(rb"<letter\d+@[^>]*>", IN_JAPANESE.text)[0].decode()
@@ -167,6 +212,14 @@ ANSWER = multipart("mixed", text("Anna 山田 さん:\n> 今日の会議は三�
                                  "詳しくは https://lists.example.org/ をご覧ください。\n\n-- \n鈴木 一郎\n", "iso-2022-jp", "7bit"),
                    attached('application/pdf; name="=?iso-2022-jp?B?GyRCO3FOQRsoQi5wZGY=?="', b"%PDF-1.4 " * 20_000))
 HUGE = attached("application/zip; name=huge.zip", random.Random(6).randbytes(12_000_000))
+# Dates as they are and as they should not be: a page and its row have to agree.
+DATES = [
+    "Mon, 18 Mar 2024 10:00:00 EST", "18 Mar 24 10:00:00 +0100", "Mon, 31 Feb 2023 10:00:00 +0000", "Mon, 18 Mar 2024 10:00:00", "Mon, 18 Mar 2024 10:00:60 +0000",
+    "Mon, 18 Mar 2024 25:61:00 +0000", "2024-03-18T10:00:00Z", "Mon, 18 Mar 2024 10:00:00 -0000 (a (nested) comment)", "18/03/2024 10:00", "Mon, 18 Mar 2024 10:00 PM +0100",
+    "Thu, 1 Jan 1970 00:00:00 +0000", "Mon, 18 Mar 12024 10:00:00 +0000", "Mon Mar 18 10:00:00 2024", "Mon, 18 Mar 2024 10:00:00 +9999", "Mon, 18 Mar 2024 10:00:00 A",
+    "18 Mär 2024 10:00:00 +0100", "Mon, 18 Mar 2024 10:00:00 CEST", "Mon, 18 Mar 2024 10.00.00 +0100", "Mon, 18 Mar 0024 10:00:00 +0000", "Tue, 7 Mar 95 06:09:22 PM EDT",
+    "(x) 18 (y) Mar 2024 1:02 pdt", "18 mar 102 23:59:59 -0530", "Fri, 31 Dec 1899 23:00:00 -0200", "",
+]
 ORDINARY = [
     IN_JAPANESE, *(in_charset(at, *row) for at, row in enumerate(PANGRAMS) if at > 0),
     Letter("an answer in Japanese", mail(word("Re: 会議の件", "iso-2022-jp"), ANSWER, f"{word('鈴木 一郎', 'iso-2022-jp')} <ichiro@example.org>",
@@ -218,7 +271,38 @@ ORDINARY = [
     Letter("Latin-1 without a charset", mail("Latin", "Grüße\n".encode("latin-1")), "Latin", says=["Grüße"]),
     Letter("a charset that is not known", mail("Unknown", Part("Content-Type: text/plain; charset=x-klingon", b"plain part\n")), "Unknown", says=["plain part", "x-klingon"]),
     Letter("letters whose last byte is a space of Latin-1", mail("à".encode() + b" la carte", text("voilà\n", more='; name="voil\u00e0"')), "à la carte", says=["voilà"],
-           row="?? la carte"),
+           named=["voilà"], row="?? la carte"),
+    Letter("two patches in the text", mail("Inline", multipart("mixed", text("Two patches"), *INLINE_PATCHES)), "Inline", says=["Two patches", "+the first patch", "+the second patch"],
+           named=["0001-first.patch", "0002-second.patch"]),
+    *(Letter(f"a plain text of {name} beside HTML", mail("Blank", multipart("alternative", blank, html("<p>the only text</p>"))), "Blank",
+             says=["the only text", "written as HTML"], never=["The same text"]) for name, blank in BLANKS),
+    Letter("enriched beside HTML", mail("Enriched", multipart("alternative", Part("Content-Type: text/enriched", b"<bold>bold</bold>"), html("<p>HTML text</p>"))), "Enriched",
+           says=["HTML text"], never=["<bold>"], files=["part-1.1.txt"]),
+    *(Letter(f"text/{kind}", mail("Kind", Part(f"MIME-Version: 1.0\nContent-Type: text/{kind}; charset=utf-8", "# größer <bold>x</bold>\n".encode())), "Kind", says=["# größer <bold>x</bold>"])
+      for kind in ("markdown", "enriched", "x-unknown")),
+    Letter("a report with a header", mail("Undelivered again", multipart("report", text("It was not delivered"), *DELIVERY)), "Undelivered again",
+           says=["It was not delivered", "Subject: what was returned"], files=["part-1.2.bin"]),
+    Letter("an invitation", mail("Invitation", multipart("alternative", text("You are invited"), html("<p>invited</p>"), INVITATION)), "Invitation",
+           says=["You are invited", "An invitation.", "Besprechung, Größe der Bäume <script>", "2024-03-18 10:00 (Europe/Berlin)", "2024-03-18 11:30 (Europe/Berlin)",
+                 "Saal 2; Rathaus Köln", "Müller; Anna <anna@example.org>"], never=["an alarm", "the second event", "16010101", "Takes", "Repeats"], named=["part-1.3.ics"]),
+    Letter("an event alone", mail("Cancelled", Part("Content-Type: text/calendar", DAY_OFF.encode())), "Cancelled",
+           says=["An event that is cancelled.", "Day off", "2024-04-01", "1 d 2 h", "FREQ=YEARLY"], named=["part-1.ics"]),
+    Letter("a calendar without an event", mail("No event", Part("Content-Type: text/calendar; charset=utf-8", "BEGIN:VCALENDAR\nSUMMARY:Café\nEND:VCALENDAR\n".encode())), "No event",
+           says=["SUMMARY:Café"]),
+    *(Letter(f"S/MIME, {name}", mail("S/MIME", attached(f"application/pkcs7-mime{f'; smime-type={kind}' if kind else ''}; name=smime.p7m", b"0\x80" * 50)), "S/MIME", says=[note],
+             files=["smime.p7m"]) for name, kind, note in SMIME),
+    Letter("subject: unknown-8bit, of UTF-8", mail("=?unknown-8bit?Q?caf=C3=A9_=E2=9C=93?=", "the body\n", author="=?unknown-8bit?Q?Ren=C3=A9?= <r@example.org>"), "café ✓", "René"),
+    Letter("subject: unknown-8bit, of KOI8-R", mail(f"=?unknown-8bit?B?{base64.b64encode('Привет'.encode('koi8-r')).decode()}?=", text("Текст", "koi8-r")), "Привет", says=["Текст"],
+           row="ðÒÉ×ÅÔ"),
+    Letter("a long quote above its answer", mail("Long quote", f"{LONG_QUOTE}\nThe answer.\n"), "Long quote", says=["20 quoted lines", "line 19", "The answer."], quotes=1, open=[True]),
+    Letter("a long quote below its answer", mail("Full quote", f"The answer.\n\n{LONG_QUOTE}\n-- \nAnna\n"), "Full quote", says=["20 quoted lines", "The answer."], quotes=1, open=[False]),
+    Letter("a long quote alone", mail("Quote alone", LONG_QUOTE), "Quote alone", says=["20 quoted lines"], quotes=1, open=[True]),
+    Letter("names of HTML", mail("Names", html(NAMES)), "Names", says=[NAMES_SHOWN]),
+    Letter("a preview that is not seen", mail("Preview", html(PREVIEW)), "Preview", says=["the text"], never=["\u200c"]),
+    *(Letter(f"HTML with {name}", mail("Meta", Part("Content-Type: text/html", f"<head>{tag.format(charset)}</head><p>{body}</p>".encode(charset))), "Meta", says=[body], never=["\ufffd"])
+      for name, tag, charset in META for body in ["中文" if charset == "big5" else "Широкая"]),
+    Letter("HTML whose header names another charset", mail("Meta", Part("Content-Type: text/html; charset=koi8-r", "<meta charset=utf-8><p>привет</p>".encode("koi8-r"))), "Meta", says=["привет"]),
+    *(Letter(f"date: {written}", re.sub(rb"Date: [^\n]*", f"Date: {written}".encode(), mail("Date", "the body\n")), "Date", dated=True) for written in DATES),
     Letter("an answer to a list", mail("Re: help", "Answer\n", author='"O\'Hara, Bob" <bob@example.net>',
                                        fields="List-Post: <mailto:list@lists.example.org>\nReferences: <r1@x> <r2@x>\nIn-Reply-To: <r2@x>"), "Re: help", "O'Hara, Bob", ["Answer"]),
     Letter("many readers", mail("To all", "Hello\n", to=", ".join(f"{word(f'Jörg {at}', 'utf-8', 'Q')} <j{at}@example.org>" for at in range(40))), "To all",

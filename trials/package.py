@@ -15,9 +15,11 @@ from trial import ROOT, SAMPLES, Trial, begun, free_ports, output, words_of
 RELEASES = {"bookworm": "Debian 12", "trixie": "Debian 13"}
 WANTED = {"debootstrap": "debootstrap", "systemd-nspawn": "systemd-container", "lintian": "lintian", "objcopy": "binutils", "dpkg-deb": "dpkg"}
 IN_IT = "systemd,systemd-sysv,dbus,curl,sqlite3,bash-completion,iproute2,procps"
-UNITS = ("luvazhimba.service", "luvazhimba-once.service", "luvazhimba-backup.service")
+UNITS = ("luvazhimba.service", "luvazhimba-once.service", "luvazhimba-backup.service", "luvazhimba-look.service")
 KEPT, BACKUPS = "/var/lib/luvazhimba", "/var/backups/luvazhimba"
 PLAIN = {"PATH": "/usr/sbin:/usr/bin:/sbin:/bin", "LC_ALL": "C", "TZ": "UTC", "DEBIAN_FRONTEND": "noninteractive", "TERM": "dumb"}
+# What only a clone has: commands, and places.
+OF_A_CLONE = r"\./(archive|check)\b|(^|[^A-Za-z./])(crates|trials|bench|tools)/|\b(a|fresh|your) clone\b|root of the repository"
 # The commands of an owner: a rule stands on each message, once its `#` are taken away.
 WITH_RULES = r"sed -i -E 's/^# (\[\[rule|name =|effect =|withdrawn =|embargo =)/\1/' /etc/luvazhimba/policy.toml"
 NEW_MAIL = f"""cd {KEPT} && install -d -o luvazhimba -m 700 mail mail/$1 && install -o luvazhimba -m 600 "$2" mail/$1/.in && mv mail/$1/.in mail/$1/in.mbox"""
@@ -71,8 +73,8 @@ class System:
         self.into = self.plain()
 
     def until(self, script, wanted, *words):
-        """Whether a script prints this, within half a minute."""
-        for _ in range(150):
+        """Whether a script prints this, within two minutes."""
+        for _ in range(600):
             if wanted in self.says(script, *words):
                 return True
             time.sleep(0.2)
@@ -122,6 +124,7 @@ def packages(trial, asked, room):
     trial.holds("a program of another version is not packed", status == 1 and "says 'archive 9.9.9', and the sources" in said and not [*(room / "three").iterdir()], said)
     version = ran(asked.archive, "--version")[0].removeprefix("archive ")
     trial.holds(f"the package's version is one of {version}", output("dpkg-deb", "-f", debian, "Version").startswith(f"{version}+git"))
+    trial.holds("it depends on sqlite3, for backup.sh", "sqlite3" in output("dpkg-deb", "-f", debian, "Depends").replace(",", "").split())
     return debian, newer(debian, room), files
 
 
@@ -149,11 +152,26 @@ def other_systems(trial, files, room):
     said, status = ran("sh", script, room / "to")
     trial.holds("install.sh into a folder", status == 0 and said.startswith("installed: archive "), said)
     (room / "to" / "etc" / "luvazhimba" / "policy.toml").write_text("# mine\n")
+    of_before = [room / "to" / it for it in ("usr/libexec/luvazhimba/old.sh", "usr/share/doc/luvazhimba/old/OLD.md", "usr/lib/systemd/system/luvazhimba-old.timer")]
+    for it in of_before:
+        it.parent.mkdir(parents=True, exist_ok=True)
+        it.write_text("of an older package\n")
     trial.check("and again, over it", ran("sh", script, room / "to")[1], 0)
+    trial.check("what the newer one lacks is gone", [it.name for it in of_before if it.exists()], [])
+    pages_of(trial, room / "to" / "usr/share/doc/luvazhimba")
     trial.check("settings that are there stay", (room / "to" / "etc" / "luvazhimba" / "policy.toml").read_text(), "# mine\n")
     ran("sh", script, "--remove", room / "to")
     trial.check("what --remove leaves", sorted(str(it.relative_to(room / "to")) for it in (room / "to").rglob("*") if it.is_file()), ["etc/default/luvazhimba", "etc/luvazhimba/policy.toml"])
     return script.parent
+
+
+def pages_of(trial, folder):
+    """The pages for owners: they speak of no clone, and each link leads to a file."""
+    pages = {it: it.read_text() for it in sorted(folder.rglob("*.md"))}
+    trial.check("pages that are not there", [it for it in ("README.md", "WALKTHROUGH.md", "WITHDRAWN.md", "COMPARISON.md", "PROVED.md", "layers/store.md") if folder / it not in pages], [])
+    trial.check("lines of pages that speak of a clone", [f"{file.name}: {line[:90]}" for file, text in pages.items() for line in text.splitlines() if re.search(OF_A_CLONE, line)], [])
+    links = [(file, it.partition("#")[0]) for file, text in pages.items() for it in re.findall(r"\]\(([^)\s:]+)\)", text)]
+    trial.check("links that lead nowhere", [f"{file.name}: {it}" for file, it in links if it and not (file.parent / it).exists()], [])
 
 
 # ---- in a system without systemd
@@ -165,6 +183,7 @@ def main_job(trial, system, asked, debian):
         shutil.copyfile(SAMPLES / it, system.root / it)
     said, status = system.sh("apt-get install -y --no-install-recommends /p.deb")
     trial.check("apt-get installs it", (status, "" if status == 0 else said[-300:]), (0, ""))
+    trial.check("and nothing warns", warnings_in(said), [])
     words = "sift --day 2003-03-20 --min-age 6"
     here = subprocess.run([asked.archive, *words.split()], stdin=open(SAMPLES / "soc.mbox", "rb"), capture_output=True, text=True, check=True).stdout
     trial.check("the main job: as the program does it here", system.says(f"luvazhimba {words} < /soc.mbox"), here.strip())
@@ -176,9 +195,17 @@ def main_job(trial, system, asked, debian):
     trial.check("its threads", mails_of(shown), 40)
     identity(trial, system)
     trial.check("completion", system.says(". /usr/share/bash-completion/completions/luvazhimba; complete -p luvazhimba"), "complete -o filenames -F _archive luvazhimba")
-    system.sh("dpkg -P luvazhimba; rm -f /tmp/s.db*")
+    kinds = "COMP_WORDS=(luvazhimba grant --db a.db mo soc ''); COMP_CWORD=6; cd /; _archive; echo ${COMPREPLY[@]}"
+    trial.check("of the third word of grant it offers kinds", system.says(f". /usr/share/bash-completion/completions/luvazhimba; {kinds}"), "member subscriber moderator")
+    trial.check("a purge warns of nothing", warnings_in(system.says("dpkg -P luvazhimba")), [])
+    system.sh("rm -f /tmp/s.db*")
     trial.check("after a purge: the program, the settings, the folders of mail", system.says(f"ls -d /usr/bin/luvazhimba /etc/luvazhimba {KEPT} {BACKUPS} 2> /dev/null").split(), [BACKUPS, KEPT])
     system.sh(f"rm -r {KEPT} {BACKUPS}; userdel luvazhimba")
+
+
+def warnings_in(said):
+    """What dpkg and the scripts of the package warned of."""
+    return [it for it in said.splitlines() if re.search(r"deb-systemd-helper|deb-systemd-invoke|warning|error", it, re.IGNORECASE) and "debconf" not in it]
 
 
 def identity(trial, system):
@@ -229,8 +256,21 @@ def under_units(trial, system, debian):
 
 def backed_up(trial, system):
     trial.check("a backup", system.says("systemctl start luvazhimba-backup.service; systemctl show -p Result --value luvazhimba-backup.service"), "success")
+    trial.check("it is its owner's alone", system.says(f"find {BACKUPS} -perm /077"), "")
     trial.check("it is whole", system.says(f"cp {BACKUPS}/archive-*.db /tmp/b.db && luvazhimba check --db /tmp/b.db && sqlite3 /tmp/b.db 'SELECT count(*) FROM message'").split(), ["ok", "40"])
     trial.holds("it has the policy, and no link", "regular file" in system.says(f"stat -c %F {BACKUPS}/policy.toml") and "[[rule]]" in system.says(f"cat {BACKUPS}/policy.toml"))
+
+
+def looked_at(trial, system):
+    """The unit that looks whether there is something to see to: a mistyped command has it fail, and the journal says which."""
+    look = "systemctl start luvazhimba-look.service; systemctl show -p Result --value luvazhimba-look.service"
+    trial.check("nothing is to be seen to", system.says(look).splitlines()[-1:], ["success"])
+    system.sh(NEW_COMMANDS, "withdrw seeds x author", "person-ad mo 5fW2xkQ0aTz7uYp1")
+    trial.holds("a mistyped command goes to commands.refused", system.until(f"cat {KEPT}/commands.refused", "withdrw seeds x author"))
+    trial.check("then the unit fails", system.says(look).splitlines()[-1:], ["exit-code"])
+    said = system.says("journalctl -u luvazhimba-look --no-pager")
+    trial.check("and the journal says why, and no token", ("withdrw ..: no such command" in said, "5fW2xkQ0" in said), (True, False))
+    system.sh(f"cd {KEPT}; rm commands.refused; mv log log.old; systemctl start luvazhimba-look.service")
 
 
 def worked_once(trial, system):
@@ -268,23 +308,24 @@ def rows(system):
 def removed(trial, system, later, tree):
     """Removed, purged, and installed over what is left, by install.sh."""
     held, backups = rows(system), system.says(f"ls {BACKUPS}")
-    system.sh("apt-get remove -y luvazhimba")
+    trial.check("a removal warns of nothing", warnings_in(system.says("apt-get remove -y luvazhimba")), [])
     trial.check("removed: the server, the program, the settings", system.says("systemctl is-active luvazhimba.service; ls /usr/bin/luvazhimba /etc/luvazhimba/policy.toml 2> /dev/null").split(), ["inactive", "/etc/luvazhimba/policy.toml"])
     system.sh("apt-get install -y --no-install-recommends /root/later.deb; systemctl start luvazhimba.service")
     trial.holds("installed again it serves what it held, by the policy it had", system.until("curl -s http://127.0.0.1:8080/l/seeds/threads", "/m/") and mails_of(page(system)) == 40)
-    system.sh("apt-get purge -y luvazhimba")
+    trial.check("a purge warns of nothing", warnings_in(system.says("apt-get purge -y luvazhimba")), [])
     trial.check("purged: the server, the program, the settings", system.says("systemctl is-active luvazhimba.service; ls -d /usr/bin/luvazhimba /etc/luvazhimba /etc/default/luvazhimba 2> /dev/null").split(), ["inactive"])
     trial.check("purged: what would begin at boot", system.says("find /etc/systemd -name 'luvazhimba*'"), "")
     trial.check("the mail, its marks and the backups are as they were", (rows(system), system.says(f"ls {BACKUPS}")), (held, backups))
     shutil.copytree(tree, system.root / "root" / "files")
     said, status = system.sh("sh /root/files/install.sh && systemctl enable --now luvazhimba.service")
     trial.check("install.sh over what is left", (status, "" if status == 0 else said[-300:]), (0, ""))
+    trial.check("it warns of nothing", warnings_in(said), [])
     system.sh(WITH_RULES)
     trial.holds("it serves what was held", system.until("curl -s http://127.0.0.1:8080/l/seeds/threads", "/m/") and mails_of(page(system)) == 40)
     before = system.says("systemctl show -p MainPID --value luvazhimba.service")
     system.sh("sh /root/files/install.sh")
     trial.holds("install.sh again, over a server that runs", system.until("systemctl is-active luvazhimba.service", "active") and before != system.says("systemctl show -p MainPID --value luvazhimba.service"))
-    system.sh("sh /root/files/install.sh --remove")
+    trial.check("nor does install.sh --remove", warnings_in(system.says("sh /root/files/install.sh --remove")), [])
     trial.check("install.sh --remove: the server, the program, the mail", system.says(f"systemctl is-active luvazhimba.service; ls /usr/bin/luvazhimba {KEPT}/archive.db 2> /dev/null").split(), ["inactive", f"{KEPT}/archive.db"])
 
 
@@ -303,6 +344,7 @@ def in_release(trial, asked, release, roots, room, things):
         return
     under_units(trial, system, debian)
     backed_up(trial, system)
+    looked_at(trial, system)
     worked_once(trial, system)
     upgraded(trial, system, later)
     removed(trial, system, later, tree)

@@ -29,7 +29,7 @@ class Reading:
     def open_rows(self, url, width=1200, height=900):
         """Opens a page of rows, and waits until the script has been over the last one."""
         self.open(url, width, height)
-        self.wait("document.querySelector('main div[role=list] > :last-child[role]')", 60)
+        self.wait("[...document.querySelectorAll('main div[role=list] div[class]')].at(-1)?.role", 60)
 
 
 class Chromium(Browser, Reading):

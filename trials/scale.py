@@ -489,12 +489,14 @@ def failed_batch(s):
     t.check("a line for a shard that is not there: nothing is noted down", (code, "brich: no such shard" in said, batches() == before), (2, True, True))
     t.check("bad words", farm.told("everywhere.sh", farm.root, "--what")[0], 2)
     gone, none = s.a_key("birch"), "0" * 64
-    farm.everywhere(f"birch: withdraw birch-list {gone} author\nbirch: withdraw birch-list {none} author\nperson-add max 9999888877776666\nfrobnicate it\n")
+    farm.everywhere(f"birch: withdraw birch-list {gone} author\nbirch: withdraw birch-list {none} author\nbirch: withdraw birch-list {none} authr\n"
+                    "person-add max 9999888877776666\nfrobnicate it\n")
     t.check("a batch with a line that one shard refuses", (farm.settled(), {shard: refused for shard, (_, refused) in farm.state().items()}),
-            (True, {"ash": 1, "birch": 2, "cedar": 1, "dill": 1, "elm": 1}))
+            (True, {"ash": 1, "birch": 3, "cedar": 1, "dill": 1, "elm": 1}))
     code, said = farm.told("everywhere.sh", farm.root, "--refused")
-    t.check("which ones, and why", (code, [line for line in said.splitlines() if "frobnicate" not in line], said.count("frobnicate it: nothing stands")),
-            (1, [f"birch: withdraw birch-list {none} author: archive: E8 NoMessage"], 5))
+    t.check("which ones, and why", (code, [line for line in said.splitlines() if "frobnicate" not in line], said.count("frobnicate ..: no such command")),
+            (1, [f"birch: withdraw birch-list {none} author: archive: E8 NoMessage",
+                 f"birch: withdraw birch-list {none} authr: error: invalid value 'authr' for '<BY>': a message is withdrawn by author or board"], 5))
     for keys in ([none], [none, gone], [gone, none]):
         code, times, said = farm.publish("birch", *(f"birch-list/{it}" for it in keys))
         t.check(f"a mail that is not there is not said to be gone, {keys.index(none) + 1} of {len(keys)}", (code, times.keys() & {"changed", "gone"}, "shows birch-list/000" in said), (1, set(), True))

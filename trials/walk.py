@@ -165,6 +165,15 @@ def walk(trial, page, folder, shell, lacking):
     shell.end()
 
 
+def with_tokens(trial, page, folder):
+    """What the commands of a page leave and holds tokens: nobody else may read it, and git does not offer it."""
+    made = [it for it in folder.rglob("*") if it.is_file() and (it.suffix == ".db" or it.name in ("log", "commands.done", "commands.refused")) and ".git" not in it.parts]
+    trial.check(f"{page}: files with tokens, and those that others may read", (bool(made), [str(it.relative_to(folder)) for it in made if it.stat().st_mode & 0o077 and
+                not any(up.stat().st_mode & 0o077 == 0 for up in it.parents if folder in up.parents)]), (True, []))
+    offered = subprocess.run(["git", "-c", f"safe.directory={folder}", "status", "--porcelain", "--untracked-files=all"], cwd=folder, stdout=subprocess.PIPE, text=True, check=True).stdout
+    trial.check(f"{page}: of these what git would add", [it for it in offered.splitlines() if it.endswith((".db", "/log", "/commands.done"))], [])
+
+
 def build(folder, program):
     """Has the front door of a clone take the program for one that it built: by a stand-in for the toolchain, which copies it."""
     with tempfile.TemporaryDirectory() as room:
@@ -203,6 +212,7 @@ def main():
             build(folder, asked.archive)
             with mailers.ready(room / f"{folder.name}.mail", folder) as (words, known, lacking):
                 walk(trial, page, folder, Shell(folder, free_ports(1)[0], asked.patience, path, words, known), lacking)
+            with_tokens(trial, page, folder)
 
 
 main()
