@@ -16,11 +16,10 @@ with docs/TABLES.md.
 
 Then it times, in new files, a thousand messages added to a list that holds
 1,000 and to one that holds 49,000, and a hundred added where two lists hold
-49,000 together and where they hold 52,100, each by `add`, which counts its
-list there, and by `add_counted`, which is told. And it takes what came with
-tables 2 and 3 out of a file of --older messages, by stock SQLite, and times
-the program's opening of that file, which brings it over, beside opening the
-file itself. It prints ratios, and what is asked for beside them.
+49,000 together and where they hold 52,100, where each `add` counts its list.
+And it takes what came with tables 2 and 3 out of a file of --older messages,
+by stock SQLite, and times the program's opening of that file, which brings it
+over, beside opening the file itself. It prints ratios, and what is asked for beside them.
 Build the program first: (cd crates/archive_probe && rt run < stdin).
 """
 import hashlib, os, pathlib, re, shutil, sqlite3, subprocess, sys, tempfile, time
@@ -250,7 +249,7 @@ def main():
         print(f"integrity_check of stock SQLite: {check(ours)}")
         print(f"tables as in docs/TABLES.md: {'yes' if schema_of(ours) == documented() else 'NO'}")
         growing(asked, folder, "grow", ["a thousand more to 1,000 and to 49,000:"])
-        growing(asked, folder, "lists", ["a hundred where two lists hold 49,000 and 52,100:", "the same, to a list counted before:"])
+        growing(asked, folder, "lists", ["a hundred where two lists hold 49,000 and 52,100:"])
         bringing_over(asked, folder)
 
 

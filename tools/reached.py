@@ -21,7 +21,6 @@ SHARED = {
     ("archive_store/src/running.rt", "run"): {"archive_pages/src/running.rt"},
     ("archive_store/src/running.rt", "carry_out"): {"archive_store/src/running.rt"},
     ("archive_store/src/messages.rt", "add"): {"archive_store/src/running.rt"},
-    ("archive_store/src/messages.rt", "add_counted"): {"archive_store/src/running.rt"},
     ("archive_store/src/walking.rt", "rows"): {"archive_desk/src/viewing.rt"},
     ("archive_store/src/adopting.rt", "open_in_memory"): {"archive_pages/src/running.rt"},
 }

@@ -139,22 +139,26 @@ abbrev pub found_grant : Archive → List ℕ → List ℕ → ℤ → Found
 found_grant a person list rank =
     record nothing { person = has_person a person; list = has_list a list; grant = has_grant a person list rank }
 
-abbrev pub found_of : Archive → Command → Found
-found_of a (list_add name) = record nothing { list = has_list a name }
-found_of a (merge_set list merge) = record nothing { list = has_list a list }
-found_of a (person_add name token) = record nothing { person = has_person a name; token = has_token a token }
-found_of a (address_set person address) = record nothing { person = has_person a person; address = has_address a person }
-found_of a (grant person list rank from until) = found_grant a person list rank
-found_of a (revoke person list rank) = found_grant a person list rank
-found_of a (add list item) = record nothing {
+-- under this limit of messages that a list holds
+abbrev pub found_within : ℕ → Archive → Command → Found
+found_within limit a (list_add name) = record nothing { list = has_list a name }
+found_within limit a (merge_set list merge) = record nothing { list = has_list a list }
+found_within limit a (person_add name token) = record nothing { person = has_person a name; token = has_token a token }
+found_within limit a (address_set person address) = record nothing { person = has_person a person; address = has_address a person }
+found_within limit a (grant person list rank from until) = found_grant a person list rank
+found_within limit a (revoke person list rank) = found_grant a person list rank
+found_within limit a (add list item) = record nothing {
   list = has_list a list;
   message = has_message a list (item_key item);
-  full = nat_le message_limit (length (messages_in a list));
+  full = nat_le limit (length (messages_in a list));
 }
-found_of a (withdraw list key party) = found_message a list key
-found_of a (restore list key) = found_message a list key
-found_of a (embargo list key until) = found_message a list key
-found_of a (lift list key) = found_message a list key
+found_within limit a (withdraw list key party) = found_message a list key
+found_within limit a (restore list key) = found_message a list key
+found_within limit a (embargo list key until) = found_message a list key
+found_within limit a (lift list key) = found_message a list key
+
+abbrev pub found_of : Archive → Command → Found
+found_of = found_within message_limit
 
 -- ---- the three tables: a row for each command
 
@@ -216,6 +220,10 @@ abbrev pub unless_so : Archive → List Test → Outcome → Outcome
 unless_so a [] made = made
 unless_so a (test ∷ tests) made = if test.0 then (a, test.1) else unless_so a tests made
 
--- One command, carried out whole or refused: the archive afterwards, and the answer. (Profile)
+-- One command, carried out whole or refused, under this limit of messages that a list holds: the archive afterwards, and the answer. (Profile)
+abbrev pub step_within : ℕ → Archive → Command → Outcome
+step_within limit a command =
+    unless_so a (tests_of command (found_within limit a command)) (changed_by command a, reply_to command (found_within limit a command))
+
 abbrev pub step : Archive → Command → Outcome
-step a command = unless_so a (tests_of command (found_of a command)) (changed_by command a, reply_to command (found_of a command))
+step = step_within message_limit

@@ -7,7 +7,7 @@
 //! - `open FILE` does nothing: it takes the memory that every call takes;
 //! - `grow FILE BYTES` adds a thousand messages to a list of 1,000 and to one of 49,000, in a new file;
 //! - `lists FILE BYTES` adds a hundred messages to a list of 25,000 beside another of 24,000, and, where there are 27,000
-//!   in the other, a hundred more, and another hundred to the list counted before, in a new file.
+//!   in the other, a hundred more, in a new file.
 use crate::{LIST, tell};
 use anyhow::bail;
 use archive_store::{AddStop, Key, Store, key_of};
@@ -87,22 +87,6 @@ fn add_numbered<S: Alter>(
     Ok(())
 }
 
-/// The same to a list that holds so many messages.
-fn add_counted<S: Alter>(
-    alloc: Global,
-    store: &mut Store<S>,
-    list: &str,
-    numbers: Range<u32>,
-    size: usize,
-    mut count: usize,
-) -> anyhow::Result<()> {
-    for number in numbers {
-        let text = numbered_text(alloc, number, size)?;
-        store.add_counted(alloc, list, &item_of(&text)?, &mut count)?;
-    }
-    Ok(())
-}
-
 fn add_items<S: Alter>(
     alloc: Global,
     store: &mut Store<S>,
@@ -137,19 +121,6 @@ fn time_adding<S: Alter>(
 ) -> anyhow::Result<()> {
     let begun = Instant::now(rt)?;
     add_numbered(rt.alloc(), store, LIST, numbers, size)?;
-    tell(rt, begun.elapsed(rt)?)
-}
-
-/// The same to a list that is counted before.
-fn time_counted<S: Alter>(
-    rt: &HostRuntime,
-    store: &mut Store<S>,
-    numbers: Range<u32>,
-    size: usize,
-) -> anyhow::Result<()> {
-    let count = store.count(LIST)?;
-    let begun = Instant::now(rt)?;
-    add_counted(rt.alloc(), store, LIST, numbers, size, count)?;
     tell(rt, begun.elapsed(rt)?)
 }
 
@@ -246,7 +217,7 @@ fn time_growth<S: Alter>(
     time_adding(rt, store, 49_000..50_000, size)
 }
 
-/// How long a hundred messages take where all lists hold 49,000, where they hold 52,100, and there to a counted list.
+/// How long a hundred messages take where all lists hold 49,000, and where they hold 52,100.
 fn time_lists<S: Alter>(rt: &HostRuntime, store: &mut Store<S>, size: usize) -> anyhow::Result<()> {
     let alloc = rt.alloc();
     store.list_add(OTHER_LIST)?;
@@ -254,8 +225,7 @@ fn time_lists<S: Alter>(rt: &HostRuntime, store: &mut Store<S>, size: usize) -> 
     add_at_once(alloc, store, OTHER_LIST, 0..24_000, size)?;
     time_adding(rt, store, 25_000..25_100, size)?;
     add_at_once(alloc, store, OTHER_LIST, 24_000..27_000, size)?;
-    time_adding(rt, store, 25_100..25_200, size)?;
-    time_counted(rt, store, 25_200..25_300, size)
+    time_adding(rt, store, 25_100..25_200, size)
 }
 
 /// Times a call.

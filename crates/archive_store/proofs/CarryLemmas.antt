@@ -9,7 +9,7 @@ use Rattle.sqlite.specs.Store.{Ghosts}
 use Rattle.sqlite.specs.Held.{state}
 use Rattle.archive_machine.specs.Records.{Archive, Message}
 use Rattle.archive_machine.specs.Commands.{Command, list_add, person_add, grant, revoke, add, withdraw, restore, embargo, lift, merge_set, address_set, Refusal, bad_name, bad_text, list_exists, no_list, person_exists, no_person, token_taken, no_message, already_withdrawn, not_withdrawn, bad_days, list_full, too_large, Reply, refused, taken_in, already_known}
-use Rattle.archive_machine.specs.Machine.{Outcome, Test, when, nothing, found_of, tests_of, changed_by, reply_to, unless_so, longest_text, step}
+use Rattle.archive_machine.specs.Machine.{Outcome, Test, when, nothing, found_within, tests_of, changed_by, reply_to, unless_so, longest_text, step_within}
 use Rattle.archive_machine.specs.declared.found.Found.{Found}
 use Rattle.archive_machine.specs.Addresses.{is_address}
 use Rattle.archive_machine.specs.Tokens.{is_token}
@@ -33,7 +33,7 @@ use Rattle.archive_store.specs.Replies.{refusal, Does, Steps, IsOneOf, reply_of}
 use Rattle.archive_store.specs.Refusals.{IsCarried, IsWriteRefused}
 use Rattle.archive_store.specs.Told.{Lasts, HasReturned, HoldsTables, archive_in}
 use Rattle.archive_store.specs.Crashes.{CrashSteps}
-use Rattle.archive_store.specs.Carrying.{Looks, Puts, PutsDown, Commands, Carries, found_marks, first_so, reply_settled, with_reason, reasons_among, reasons_of, answer_by, said}
+use Rattle.archive_store.specs.Carrying.{Looks, Puts, PutsDown, Commands, CarriesWithin, IsToWrite, found_marks, first_so, reply_settled, with_reason, reasons_among, reasons_of, answer_by, said}
 use Rattle.archive_store.specs.declared.store.Store.{Store}
 use Rattle.archive_store.specs.declared.faults.StoreFault.{StoreFault}
 use Rattle.archive_store.specs.declared.deciding.Settled.{Settled}
@@ -76,13 +76,13 @@ one_so a [] made told is = absurd cc
 one_so a (test ∷ tests) made told is = is_first a test.1 made (first_so tests) (unless_so a tests made) test.0 told is (one_so a tests made told)
 
 -- the step, by what was found
-told_step : (a : Archive) (command : Command) (told : Reply) → first_so (tests_of command (found_of a command)) ≡ Some told → step a command ≡ told_at a told
-told_step a command told first = one_so a (tests_of command (found_of a command)) (changed_by command a, reply_to command (found_of a command)) told first
+told_step : (limit : ℕ) (a : Archive) (command : Command) (told : Reply) → first_so (tests_of command (found_within limit a command)) ≡ Some told → step_within limit a command ≡ told_at a told
+told_step limit a command told first = one_so a (tests_of command (found_within limit a command)) (changed_by command a, reply_to command (found_within limit a command)) told first
 
-made_step : (a : Archive) (command : Command) (found : Found) → found ≡ found_of a command → first_so (tests_of command found) ≡ None
-    → step a command ≡ told_at (changed_by command a) (reply_to command found)
-made_step a command found is none =
-    none_so a (tests_of command (found_of a command)) (changed_by command a, reply_to command (found_of a command)) (ap (λ f. first_so (tests_of command f)) (sym is) ∙ none)
+made_step : (limit : ℕ) (a : Archive) (command : Command) (found : Found) → found ≡ found_within limit a command → first_so (tests_of command found) ≡ None
+    → step_within limit a command ≡ told_at (changed_by command a) (reply_to command found)
+made_step limit a command found is none =
+    none_so a (tests_of command (found_within limit a command)) (changed_by command a, reply_to command (found_within limit a command)) (ap (λ f. first_so (tests_of command f)) (sym is) ∙ none)
     ∙ ap (λ f. told_at (changed_by command a) (reply_to command f)) (sym is)
 
 -- ---- its refusals
@@ -344,26 +344,26 @@ module _ {S : Type 0} (g : Ghosts S) where
   one_row passed = said (λ _. (let n : ℕ = 1 in n)) passed
 
   -- a message that the list does not hold
-  fresh : (a : Archive) (list : List ℕ) (item : Item) (found : Found) → (found ≡ found_of a (add list item)) × (first_so (tests_of (add list item) found) ≡ None)
+  fresh : (a : Archive) (list : List ℕ) (item : Item) (found : Found) → IsToWrite (add list item) found a
       → list_any (is_message list (item_key item)) a.messages ≡ false
   fresh a list item found need =
-      sym (is_some-find (is_message list (item_key item)) a.messages) ∙ sym (ap (λ f. f.message) need.0)
-      ∙ unknown (not found.list) (nat_lt longest_text (length (whole item.text))) found.message found.full need.1
+      sym (is_some-find (is_message list (item_key item)) a.messages) ∙ sym (ap (λ f. f.message) need.1)
+      ∙ unknown (not found.list) (nat_lt longest_text (length (whole item.text))) found.message found.full need.2
 
   -- it is written down
   pub puts_taken : {old new : Store S} {result : Result ℕ StoreFault} (told : Result (Unit {0}) Fault) (passed : Result (Unit {0}) StoreFault) (list : List ℕ) (item : Item) (found : Found)
       → result ≡ one_row passed → TakesIn g (held_of old) (held_of new) told list (item_key item) item → FailsToTake g (held_of old) (held_of new) told list (item_key item) item
       → TakesWhole g (held_of old) (held_of new) list (item_key item) item → Ends g (held_of old) (held_of new) told
       → PassesFault told passed → IfErr passed (λ fault. refusal fault ≡ None) → Raises IsWant (wants_of old) (wants_of new) passed
-      → Puts g old new result (λ a. (found ≡ found_of a (add list item)) × (first_so (tests_of (add list item) found) ≡ None)) (changed_by (add list item)) (IsWriteRefused (add list item))
+      → Puts g old new result (IsToWrite (add list item) found) (changed_by (add list item)) (IsWriteRefused (add list item))
   puts_taken {old = old} {new = new} told passed list item found is takes fails crash ends handed kind counted =
-      subst (λ (r : Result ℕ StoreFault). Puts g old new r (λ a. (found ≡ found_of a (add list item)) × (first_so (tests_of (add list item) found) ≡ None)) (changed_by (add list item)) (IsWriteRefused (add list item)))
+      subst (λ (r : Result ℕ StoreFault). Puts g old new r (IsToWrite (add list item) found) (changed_by (add list item)) (IsWriteRefused (add list item)))
       (sym is) (go told passed takes fails ends handed kind counted)
     where
       go : (told : Result (Unit {0}) Fault) (passed : Result (Unit {0}) StoreFault) → TakesIn g (held_of old) (held_of new) told list (item_key item) item
           → FailsToTake g (held_of old) (held_of new) told list (item_key item) item → Ends g (held_of old) (held_of new) told → PassesFault told passed
           → IfErr passed (λ fault. refusal fault ≡ None) → Raises IsWant (wants_of old) (wants_of new) passed
-          → Puts g old new (one_row passed) (λ a. (found ≡ found_of a (add list item)) × (first_so (tests_of (add list item) found) ≡ None)) (changed_by (add list item)) (IsWriteRefused (add list item))
+          → Puts g old new (one_row passed) (IsToWrite (add list item) found) (changed_by (add list item)) (IsWriteRefused (add list item))
       go (Ok _) (Ok _) takes fails ends handed kind counted = record {
         lasts = ends.lasts;
         was_open = λ clean. ends.was_open clean;
@@ -410,14 +410,14 @@ module _ {S : Type 0} (g : Ghosts S) where
     over = λ clean kept. (tt, (kept, refl));
   }
 
-  module _ (old new : Store S) (command : Command) where
+  module _ {limit : ℕ} (old new : Store S) (command : Command) where
     -- a question failed
     pub unlooked : {A : Type 0} {fault : StoreFault} (result : Result Found StoreFault) {P : Archive → A → Type 0}
-        → Looks g old new {A = A} (Err fault) P → IsErrAnd result (λ f. f ≡ fault) → Carries g old new command result
+        → Looks g old new {A = A} (Err fault) P → IsErrAnd result (λ f. f ≡ fault) → CarriesWithin g old new limit command result
     unlooked (Ok found) looks is = absurd is
-    unlooked (Err f) looks is = subst (λ f. Carries g old new command (Err f)) (sym is) (record {
+    unlooked (Err f) looks is = subst (λ f. CarriesWithin g old new limit command (Err f)) (sym is) (record {
       step = λ clean kept.
-          subst (λ o. Steps (state g (held_of old)) (state g (held_of new)) (λ a. step a command) (option_map refused o)) (sym looks.fault) (looks.over clean kept);
+          subst (λ o. Steps (state g (held_of old)) (state g (held_of new)) (λ a. step_within limit a command) (option_map refused o)) (sym looks.fault) (looks.over clean kept);
       crash = λ kept clean db may. inl (looks.quiet clean db may);
       ends = record {
         lasts = looks.lasts;
@@ -430,27 +430,27 @@ module _ {S : Type 0} (g : Ghosts S) where
 
     -- it is refused behind calls that left the archive, by what they found
     pub turned_down : {P : Archive → Type 0} (found : Found) (fault : StoreFault) → Leaves old new P → Some (option_map refused (refusal fault)) ≡ option_map Some (first_so (tests_of command found))
-        → ((a : Archive) → P a → first_so (tests_of command (found_of a command)) ≡ first_so (tests_of command found)) → Carries g old new command (Err fault)
+        → ((a : Archive) → P a → first_so (tests_of command (found_within limit a command)) ≡ first_so (tests_of command found)) → CarriesWithin g old new limit command (Err fault)
     turned_down found fault leaves is at =
         let told = reason_told fault (first_so (tests_of command found)) is in
         record {
           step = λ clean kept.
               let it = leaves.over clean kept in
-              subst (λ o. Steps (state g (held_of old)) (state g (held_of new)) (λ a. step a command) (option_map refused o)) (sym told.1)
-              (it.1.0, ap (λ a. told_at a (refused told.0)) (archive_stays it.1.1) ∙ sym (told_step (archive_in g old) command (refused told.0) (at (archive_in g old) it.0 ∙ told.2)));
+              subst (λ o. Steps (state g (held_of old)) (state g (held_of new)) (λ a. step_within limit a command) (option_map refused o)) (sym told.1)
+              (it.1.0, ap (λ a. told_at a (refused told.0)) (archive_stays it.1.1) ∙ sym (told_step limit (archive_in g old) command (refused told.0) (at (archive_in g old) it.0 ∙ told.2)));
           crash = λ kept clean db may. inl (leaves.quiet clean db may);
           ends = refuses g old new (reasons_of command) _ fault told.0 leaves.lasts leaves.wants told.1 (is_reason command found told.0 told.2);
         }
 
     -- by what was found of it
-    pub refused_by : (found : Found) (fault : StoreFault) (settled : Option Settled) → Looks g old new (Ok found) (λ a f. f ≡ found_of a command)
-        → settled ≡ Some (settled_as.Refused fault) → option_map reply_settled settled ≡ option_map Some (first_so (tests_of command found)) → Carries g old new command (Err fault)
+    pub refused_by : (found : Found) (fault : StoreFault) (settled : Option Settled) → Looks g old new (Ok found) (λ a f. f ≡ found_within limit a command)
+        → settled ≡ Some (settled_as.Refused fault) → option_map reply_settled settled ≡ option_map Some (first_so (tests_of command found)) → CarriesWithin g old new limit command (Err fault)
     refused_by found fault settled looks told is =
         turned_down found fault (leaves_looked looks) (sym (ap (option_map reply_settled) told) ∙ is) (λ a it. ap (λ f. first_so (tests_of command f)) (sym it))
 
     -- it is known
-    pub already_there : (found : Found) (settled : Option Settled) → Looks g old new (Ok found) (λ a f. f ≡ found_of a command)
-        → settled ≡ Some (settled_as.Known) → option_map reply_settled settled ≡ option_map Some (first_so (tests_of command found)) → Carries g old new command (Ok found)
+    pub already_there : (found : Found) (settled : Option Settled) → Looks g old new (Ok found) (λ a f. f ≡ found_within limit a command)
+        → settled ≡ Some (settled_as.Known) → option_map reply_settled settled ≡ option_map Some (first_so (tests_of command found)) → CarriesWithin g old new limit command (Ok found)
     already_there found settled looks told is =
         let known = one_of (first_so (tests_of command found)) already_known (sym (ap (option_map reply_settled) told) ∙ is) in
         record {
@@ -458,7 +458,7 @@ module _ {S : Type 0} (g : Ghosts S) where
               let it = looks.over clean kept in (
                 it.1.0,
                 ap (λ a. told_at a (answer_by command found)) (archive_stays it.1.1) ∙ ap (told_at (archive_in g old)) (answer_known command found known)
-                    ∙ sym (told_step (archive_in g old) command already_known (ap (λ f. first_so (tests_of command f)) (sym it.0) ∙ known)),
+                    ∙ sym (told_step limit (archive_in g old) command already_known (ap (λ f. first_so (tests_of command f)) (sym it.0) ∙ known)),
               );
           crash = λ kept clean db may. inl (looks.quiet clean db may);
           ends = record {
@@ -471,32 +471,32 @@ module _ {S : Type 0} (g : Ghosts S) where
         }
 
   -- it is refused by its words, whatever is found
-  pub refused_at_once : (old : Store S) (command : Command) (fault : StoreFault)
-      → ((found : Found) → option_map Some (first_so (tests_of command found)) ≡ Some (option_map refused (refusal fault))) → Carries g old old command (Err fault)
-  refused_at_once old command fault is =
+  pub refused_at_once : {limit : ℕ} (old : Store S) (command : Command) (fault : StoreFault)
+      → ((found : Found) → option_map Some (first_so (tests_of command found)) ≡ Some (option_map refused (refusal fault))) → CarriesWithin g old old limit command (Err fault)
+  refused_at_once {limit = limit} old command fault is =
       turned_down old old command nothing fault (leaves_nothing old) (sym (is nothing))
-      (λ a it. same_of (first_so (tests_of command (found_of a command))) (first_so (tests_of command nothing)) (is (found_of a command) ∙ sym (is nothing)))
+      (λ a it. same_of (first_so (tests_of command (found_within limit a command))) (first_so (tests_of command nothing)) (is (found_within limit a command) ∙ sym (is nothing)))
 
   -- it is written, or not
-  module _ (old mid new : Store S) (command : Command) (found : Found) (looks : Looks g old mid (Ok found) (λ a f. f ≡ found_of a command))
+  module _ {limit : ℕ} (old mid new : Store S) (command : Command) (found : Found) (looks : Looks g old mid (Ok found) (λ a f. f ≡ found_within limit a command))
       (none : first_so (tests_of command found) ≡ None) where
     abbrev PutsIt : Result ℕ StoreFault → Type 0
-    PutsIt result = Puts g mid new result (λ a. (found ≡ found_of a command) × (first_so (tests_of command found) ≡ None)) (changed_by command) (IsWriteRefused command)
+    PutsIt result = Puts g mid new result (IsToWrite command found) (changed_by command) (IsWriteRefused command)
 
-    still : found ≡ found_of (archive_in g old) command → archive_in g mid ≡ archive_in g old → (found ≡ found_of (archive_in g mid) command) × (first_so (tests_of command found) ≡ None)
-    still is same = (is ∙ ap (λ a. found_of a command) (sym same), none)
+    still : found ≡ found_within limit (archive_in g old) command → archive_in g mid ≡ archive_in g old → IsToWrite command found (archive_in g mid)
+    still is same = (limit, is ∙ ap (λ a. found_within limit a command) (sym same), none)
 
-    crashes : (result : Result ℕ StoreFault) → PutsIt result → CrashSteps g (held_of old) (held_of new) (λ a. step a command)
+    crashes : (result : Result ℕ StoreFault) → PutsIt result → CrashSteps g (held_of old) (held_of new) (λ a. step_within limit a command)
     crashes result puts = λ kept clean db may.
         let was = puts.lasts.returned clean in
         let it = looks.over was kept in
         let same = archive_stays it.1.1 in
         elim (puts.crash it.1.0 (still it.0 same) clean db may) [
           | inl before ↦ inl (looks.quiet was db before)
-          | inr made ↦ inr (subst (λ a. IsStored a db) (ap (changed_by command) same ∙ ap (λ (o : Outcome). o.0) (sym (made_step (archive_in g old) command found it.0 none))) made)
+          | inr made ↦ inr (subst (λ a. IsStored a db) (ap (changed_by command) same ∙ ap (λ (o : Outcome). o.0) (sym (made_step limit (archive_in g old) command found it.0 none))) made)
         ]
 
-    pub carried_out : (n : ℕ) → PutsIt (Ok n) → Carries g old new command (Ok found)
+    pub carried_out : (n : ℕ) → PutsIt (Ok n) → CarriesWithin g old new limit command (Ok found)
     carried_out n puts = record {
       step = λ clean kept.
           let it = looks.over (puts.lasts.returned clean) kept in
@@ -504,7 +504,7 @@ module _ {S : Type 0} (g : Ghosts S) where
           let made = puts.over clean it.1.0 (still it.0 same) in (
             made.0,
             ap (λ a. told_at a (answer_by command found)) (made.1 ∙ ap (changed_by command) same)
-                ∙ ap (told_at (changed_by command (archive_in g old))) (answer_made command found none) ∙ sym (made_step (archive_in g old) command found it.0 none),
+                ∙ ap (told_at (changed_by command (archive_in g old))) (answer_made command found none) ∙ sym (made_step limit (archive_in g old) command found it.0 none),
           );
       crash = crashes (Ok n) puts;
       ends = record {
@@ -517,12 +517,12 @@ module _ {S : Type 0} (g : Ghosts S) where
     }
 
     pub unwritten : (fault : StoreFault) (result : Result Found StoreFault) → PutsIt (Err fault) → IsErrAnd result (λ f. f ≡ fault)
-        → Carries g old new command result
+        → CarriesWithin g old new limit command result
     unwritten fault (Ok f) puts is = absurd is
-    unwritten fault (Err f) puts is = subst (λ f. Carries g old new command (Err f)) (sym is) (record {
+    unwritten fault (Err f) puts is = subst (λ f. CarriesWithin g old new limit command (Err f)) (sym is) (record {
       step = λ clean kept.
           let it = looks.over (puts.lasts.returned clean) kept in
-          subst (λ o. Steps (state g (held_of old)) (state g (held_of new)) (λ a. step a command) (option_map refused o)) (sym puts.fault)
+          subst (λ o. Steps (state g (held_of old)) (state g (held_of new)) (λ a. step_within limit a command) (option_map refused o)) (sym puts.fault)
           (rests_behind None (state g (held_of old)) (state g (held_of mid)) (state g (held_of new)) it.1.1 (puts.over clean it.1.0 (still it.0 (archive_stays it.1.1))));
       crash = crashes (Err fault) puts;
       ends = record {
@@ -535,7 +535,7 @@ module _ {S : Type 0} (g : Ghosts S) where
             elim (puts.caused clean it.1.0 (looks.lasts.limit ∙ free) (still it.0 (archive_stays it.1.1)) why) [
               | inl more ↦ inl (more_since (state g (held_of old)) (state g (held_of mid)) (state g (held_of new)) looks.lasts more)
               | inr bad ↦ inr (record {
-                carried = subst (λ (o : Outcome). IsCarried o.1) (sym (made_step (archive_in g old) command found it.0 none)) (is_carried command found);
+                carried = subst (λ (o : Outcome). IsCarried o.1) (sym (made_step limit (archive_in g old) command found it.0 none)) (is_carried command found);
                 refused = subst (IsWriteRefused command) it.1.1 bad;
               })
             ];
@@ -544,15 +544,15 @@ module _ {S : Type 0} (g : Ghosts S) where
 
   -- ---- a call of its own for each command
 
-  module _ {B : Type 0} (old new : Store S) (command : Command) (f : Found → B) (says : B → Reply) (told : Result Found StoreFault) (result : Result B StoreFault) where
+  module _ {B : Type 0} {limit : ℕ} (old new : Store S) (command : Command) (f : Found → B) (says : B → Reply) (told : Result Found StoreFault) (result : Result B StoreFault) where
     -- what it says is the machine's answer
-    pub called : result ≡ said f told → ((found : Found) → says (f found) ≡ answer_by command found) → Carries g old new command told
-        → Commands g old new command (reply_of says) result
-    called is same it = subst (Commands g old new command (reply_of says)) (sym is) (go told it)
+    pub called : result ≡ said f told → ((found : Found) → says (f found) ≡ answer_by command found) → CarriesWithin g old new limit command told
+        → Commands g old new limit command (reply_of says) result
+    called is same it = subst (Commands g old new limit command (reply_of says)) (sym is) (go told it)
       where
-        go : (told : Result Found StoreFault) → Carries g old new command told → Commands g old new command (reply_of says) (said f told)
+        go : (told : Result Found StoreFault) → CarriesWithin g old new limit command told → Commands g old new limit command (reply_of says) (said f told)
         go (Ok found) it = record {
-          step = subst (λ (r : Reply). Does g (held_of old) (held_of new) (λ a. step a command) (Some r)) (sym (same found)) it.step;
+          step = subst (λ (r : Reply). Does g (held_of old) (held_of new) (λ a. step_within limit a command) (Some r)) (sym (same found)) it.step;
           crash = it.crash;
           ends = record { lasts = it.ends.lasts; was_open = it.ends.was_open; kind = tt; counted = it.ends.counted; caused = λ clean kept free. tt };
         }

@@ -1,5 +1,5 @@
 -- What a stop of the machine leaves in a command and behind it.
-use Rattle.std.proofs.Common.{◌≡◌, inl, inr, refl, sym, ap, subst, ◌∙◌, ℕ, List, length, Option, Some, None, Result, Ok}
+use Rattle.std.proofs.Common.{◌≡◌, inl, inr, refl, sym, ap, subst, ◌∙◌, ℕ, Option, Some, None, Result, Ok}
 use Rattle.std.specs.Prelude.{⊤, IsTrue, Bool, true, false, is_some, ◌==◌, if◌then◌else◌}
 use Rattle.sqlite_trees.specs.Objects.{catalog_tree}
 use Rattle.sqlite_catalog.specs.Listing.{Lists}
@@ -10,19 +10,15 @@ use Rattle.sqlite.specs.Store.{Ghosts}
 use Rattle.sqlite.specs.Held.{Held, state}
 use Rattle.sqlite.specs.State.{State, HasCleanDisk, IsLive}
 use Rattle.sqlite.specs.declared.error.Error.{Error}
-use Rattle.mbox_items.specs.Division.{Item}
 use Rattle.archive_machine.specs.Records.{Archive}
 use Rattle.archive_machine.specs.Commands.{Reply}
-use Rattle.archive_machine.specs.Machine.{Outcome, added_within, message_limit}
-use Rattle.archive_machine.specs.Questions.{has_list, messages_in}
+use Rattle.archive_machine.specs.Machine.{Outcome}
 use Rattle.archive_tables.specs.Schema.{archive_schema, no_schema, schema_1, schema_2, schema_3}
 use Rattle.archive_tables.specs.Tables.{IsHeldAs, IsKept, AreTables, form_of, archive_in, archive_of}
 use Rattle.archive_tables.specs.Calls.{Asks}
 use Rattle.archive_tables.specs.Crashes.{IsStored, IsSafe, AddsNothing, AddsOnly}
-use Rattle.archive_tables.proofs.EndLemmas.{archive_stays}
 use Rattle.archive_store.specs.Replies.{Does, Steps}
-use Rattle.archive_store.specs.Batches.{IsCounted}
-use Rattle.archive_store.specs.Crashes.{CrashSteps, CrashStepsFrom, CrashAddsOver, CrashAdopts, StopsIn}
+use Rattle.archive_store.specs.Crashes.{CrashSteps, CrashAdopts, StopsIn}
 use Rattle.archive_store.proofs.StepLemmas.{Learns, begins, asks}
 use Rattle.archive_store.proofs.PassLemmas.{passed_over}
 
@@ -45,19 +41,6 @@ module _ {S : Type 0} (g : Ghosts S) where
         (λ clean kept. let answer = passed_over it is clean kept in (so (archive_of (state g mid)) answer.0, answer.1));
     quiet = λ clean db may. before.quiet (it.ends.lasts.returned clean) db (it.quiet clean db may);
   }
-
-  -- a message added to a list that is there and holds so many
-  pub steps_if_counted : (old mid new : Held S) (list : List ℕ) (item : Item) (count : ℕ) → Looks g old mid (λ a. ⊤ × (true ≡ has_list a list))
-      → (HasCleanDisk (state g new) → HasCleanDisk (state g mid)) → CrashAddsOver g mid new list item count
-      → CrashStepsFrom g old new (λ a. length (messages_in a list) ≡ count) (λ a. added_within message_limit a list item)
-  steps_if_counted old mid new list item count before was crash = λ kept n clean db may.
-      let k = before.learnt (was clean) kept in
-      let there : IsCounted (archive_of (state g mid)) list count =
-      subst (λ a. IsCounted a list count) (sym (archive_stays k.same)) (record { is_there = sym k.fact.1; length_is = n }) in
-      elim (crash None k.kept there clean db may) [
-        | inl earlier ↦ inl (before.quiet (was clean) db earlier)
-        | inr made ↦ inr (subst (λ a. IsStored (added_within message_limit a list item).0 db) (archive_stays k.same) made.1)
-      ]
 
   -- ---- what a stop leaves of an open connection is what is committed
 

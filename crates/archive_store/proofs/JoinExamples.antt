@@ -1,22 +1,16 @@
 -- Worked examples of calls that follow one another: they name neither tables nor a database.
-use Rattle.std.proofs.Common.{◌≡◌, ℕ, List, length, ap, subst, ◌∙◌, Option, Some, None, Result, Ok, Err}
+use Rattle.std.proofs.Common.{◌≡◌, ap, subst, ◌∙◌, Option, Some, None, Result, Ok, Err}
 use Rattle.sqlite.specs.Store.{Ghosts}
-use Rattle.mbox_items.specs.Division.{Item}
 use Rattle.archive_machine.specs.Records.{Archive}
 use Rattle.archive_machine.specs.Commands.{Refusal, Reply}
-use Rattle.archive_machine.specs.Questions.{messages_in}
-use Rattle.archive_machine.specs.Machine.{Outcome, added_within, message_limit}
+use Rattle.archive_machine.specs.Machine.{Outcome}
 use Rattle.archive_machine.specs.Sound.{IsFiledRight}
 use Rattle.archive_store.specs.Held.{held_of}
 use Rattle.archive_store.specs.declared.store.Store.{Store}
 use Rattle.archive_store.specs.declared.faults.StoreFault.{StoreFault}
 use Rattle.archive_store.specs.Replies.{refusal, Answers, Does}
-use Rattle.archive_store.specs.declared.words.Added.{Added}
-use Rattle.archive_store.specs.Words.{added_reply}
-use Rattle.archive_store.specs.Batches.{AddsCounted}
-use Rattle.archive_store.specs.Told.{archive_in, HasReturned, IsReady, Lasts, Goes, GoesIfOpen}
-use Rattle.archive_store.proofs.Joins.{asked, ask_failed, stepped, goes_on, goes_on_if_open, goes_as, goes_as_if_open, ready_with}
-use Rattle.archive_store.proofs.RightLemmas.{add_right}
+use Rattle.archive_store.specs.Told.{Lasts, Goes, GoesIfOpen}
+use Rattle.archive_store.proofs.Joins.{asked, ask_failed, stepped, goes_on, goes_on_if_open, goes_as, goes_as_if_open}
 
 abbrev NotRefused : Type 0
 NotRefused = ◌≡◌ {A = Option Refusal} None None
@@ -50,19 +44,3 @@ module _ {S : Type 0} (g : Ghosts S) (old mid new : Store S) {A B : Type 0} (fir
       goes_as_if_open g old new (λ x z. (y : Archive) × ((y ≡ x) × NotRefused × SaysFirst x a) × (z ≡ y)) (λ x z. z ≡ x) (λ x z h. h.2 ∙ h.1.0)
       (goes_on_if_open g old mid new (λ x y. (y ≡ x) × NotRefused × SaysFirst x a) (λ y z. z ≡ y)
       (asked g old mid lasts_first first a (λ _. None) SaysFirst is_a asks_first) (ask_failed g mid new lasts_second second fault (λ _. None) SaysSecond is_fault told asks_second))
-
--- two messages to a list that was counted once: the first call says to the second how many it holds
-two_counted_messages : {S : Type 0} (g : Ghosts S) (old mid new : Store S) (list : List ℕ) (one two : Item) (before between after : ℕ) (first second : Result Added StoreFault) (a b : Added)
-    → Lasts g mid new → first ≡ Ok a → second ≡ Ok b
-    → AddsCounted g (held_of old) (held_of mid) first list one before between → AddsCounted g (held_of mid) (held_of new) second list two between after
-    → HasReturned g new → IsReady g old → length (messages_in (archive_in g old) list) ≡ before
-    → IsReady g new × ((archive_in g new, added_reply b) ≡ added_within message_limit (added_within message_limit (archive_in g old) list one).0 list two)
-    × (length (messages_in (archive_in g new) list) ≡ after)
-two_counted_messages g old mid new list one two before between after first second a b lasts is_a is_b adds_first adds_second returned ready holds =
-    let start = (rw is_a at adds_first) (lasts.returned returned) ready.held holds in
-    let next = (rw is_b at adds_second) returned start.0.0 (start.1 start.0.0.is_open) in
-    let once = (added_within message_limit (archive_in g old) list one).0 in
-    let is : (archive_in g new, added_reply b) ≡ added_within message_limit once list two =
-    next.0.1 ∙ ap (λ (x : Archive). added_within message_limit x list two) (ap (λ (o : Outcome). o.0) start.0.1) in
-    let right = add_right list two once (add_right list one (archive_in g old) ready.filed_right) in
-    (ready_with g new (added_within message_limit once list two).0 next.0.0 (ap (λ (o : Outcome). o.0) is) right, is, next.1 next.0.0.is_open)

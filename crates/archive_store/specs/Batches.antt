@@ -14,11 +14,10 @@ use Rattle.archive_machine.specs.Runs.{taken, Tally, tally}
 use Rattle.archive_tables.specs.Tables.{IsHeld, IsKept, archive_of}
 use Rattle.archive_tables.specs.Calls.{RestsOver, IsHeldOrBack}
 use Rattle.archive_store.specs.Held.{held_of}
-use Rattle.archive_store.specs.Replies.{refusal, Steps, says_added}
+use Rattle.archive_store.specs.Replies.{refusal}
 use Rattle.archive_store.specs.Refusals.{IsCarried, IsMessageRefused, WritesFor, StopsAmong}
 use Rattle.archive_store.specs.Told.{HasFailed, HasReturned, HasNoLimit}
 use Rattle.archive_store.specs.declared.store.Store.{Store}
-use Rattle.archive_store.specs.declared.words.Added.{Added}
 use Rattle.archive_store.specs.declared.batches.AddReport.{AddReport}
 use Rattle.archive_store.specs.declared.batches.Taken.{Taken}
 use Rattle.archive_store.specs.declared.batches.Taken.TheVariants.{New, Known, TooLarge, Full}
@@ -116,14 +115,6 @@ module _ {S : Type 0} (g : Ghosts S) (old new : Held S) where
       (λ report. IsKept (state g new) × (archive_of (state g new) ≡ (taken a list items).archive) × (tally_of report ≡ tally (taken a list items).replies))
       (λ stop. MatchOption (refusal stop.fault) (IsAfter (state g new) a list (take stop.done items))
       (λ r. IsKept (state g new) × (archive_of (state g new) ≡ (taken a list (take stop.done items)).archive) × IsRefusedAt a list items stop.done r))
-
-  -- One message to a list of which it was said that it holds `before` messages: what the machine says, and then it holds `after`,
-  -- where the connection is still open.
-  abbrev pub AddsCounted : Result Added StoreFault → List ℕ → Item → ℕ → ℕ → Type 0
-  AddsCounted result list item before after =
-      HasCleanDisk (state g new) → IsKept (state g old) → length (messages_in (archive_of (state g old)) list) ≡ before
-      → Steps (state g old) (state g new) (λ a. added_within message_limit a list item) (says_added result)
-      × (IsTrue (state g new).is_open → length (messages_in (archive_of (state g new)) list) ≡ after)
 
 module _ {S : Type 0} (g : Ghosts S) (old new : Store S) where
   -- One message more, outside a transaction or within one: what it makes of the rows, or why E15 comes. The machine takes in one that is

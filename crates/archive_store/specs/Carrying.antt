@@ -1,12 +1,12 @@
 -- How a command is carried out: what is looked up, what is written, and what both make.
-use Rattle.std.specs.Prelude.{◌≡◌, ◌⊎◌, pos, Bool, true, not, List, [], ◌∷◌, is_some, if◌then◌else◌, Option, Some, None, option_map, Result, Ok, Err, IfErr, OnOk, MatchResult}
+use Rattle.std.specs.Prelude.{◌≡◌, ◌⊎◌, ℕ, pos, Bool, true, not, List, [], ◌∷◌, is_some, if◌then◌else◌, Option, Some, None, option_map, Result, Ok, Err, IfErr, OnOk, MatchResult}
 use Rattle.std.specs.Ordering.{int_eq}
 use Rattle.sqlite.specs.Effect.{Database}
 use Rattle.sqlite.specs.Store.{Ghosts}
 use Rattle.sqlite.specs.Held.{state}
 use Rattle.archive_machine.specs.Records.{Archive}
 use Rattle.archive_machine.specs.Commands.{Command as Told, list_add, merge_set, person_add, address_set, grant, revoke, add, withdraw, restore, embargo, lift, Refusal, Reply, refused, taken_in, already_known}
-use Rattle.archive_machine.specs.Machine.{Test, nothing, found_of, tests_of, changed_by, reply_to, step as machine_step}
+use Rattle.archive_machine.specs.Machine.{Test, nothing, found_within, tests_of, changed_by, reply_to, message_limit, step_within}
 use Rattle.archive_machine.specs.declared.found.Found.{Found}
 use Rattle.archive_tables.specs.Calls.{Changes, Rests, StaysOver}
 use Rattle.archive_tables.specs.Crashes.{IsStored, AddsNothing, AddsOnly}
@@ -16,7 +16,7 @@ use Rattle.archive_store.specs.Held.{held_of}
 use Rattle.archive_store.specs.Wanting.{IsWant}
 use Rattle.archive_store.specs.Replies.{refusal, reply_of, Does}
 use Rattle.archive_store.specs.Crashes.{CrashSteps}
-use Rattle.archive_store.specs.Refusals.{IsWriteRefused, IsCommandRefused}
+use Rattle.archive_store.specs.Refusals.{IsWriteRefused, IsRefusedWithin}
 use Rattle.archive_store.specs.Told.{HasReturned, HoldsTables, HasNoLimit, HasFailed, IsOpen, Lasts, Counts, Caused, EndsOr, archive_in}
 use Rattle.archive_store.specs.declared.store.Store.{Store}
 use Rattle.archive_store.specs.declared.faults.StoreFault.{StoreFault}
@@ -71,6 +71,10 @@ abbrev pub answer_by : Told → Found → Reply
 answer_by (add list item) found = if found.message then already_known else taken_in
 answer_by command found = reply_to command found
 
+-- An archive in which this was found of a command, under some limit of messages that a list holds, and in which no test answers it.
+abbrev pub IsToWrite : Told → Found → Archive → Type 0
+IsToWrite command found a = (limit : ℕ) × (found ≡ found_within limit a command) × (first_so (tests_of command found) ≡ None)
+
 -- what a call says that is told this
 abbrev pub said : {A B : Type 0} → (A → B) → Result A StoreFault → Result B StoreFault
 said f (Ok a) = Ok (f a)
@@ -109,17 +113,21 @@ module _ {S : Type 0} (g : Ghosts S) (old new : Store S) where
     pub caused : HasReturned g new → HoldsTables g old → HasNoLimit g old → Needs (archive_in g old)
         → IfErr result (λ fault. fault ≡ faults.Store → HasFailed g old new ⊎ Refused (state g (held_of old)).now)
 
-  -- a command of which this was found, and which no test answers, written down
-  abbrev pub PutsDown : {A : Type 0} → Command → Found → Result A StoreFault → Type 0
-  PutsDown command found result = Puts result (λ a. (found ≡ found_of a (command_of command)) × (first_so (tests_of (command_of command) found) ≡ None))
-      (changed_by (command_of command)) (IsWriteRefused (command_of command))
+  -- a command of which this was found, under some limit, and which no test answers, written down
+  abbrev PutsDown : {A : Type 0} → Command → Found → Result A StoreFault → Type 0
+  PutsDown command found result = Puts result (IsToWrite (command_of command) found) (changed_by (command_of command)) (IsWriteRefused (command_of command))
 
-  -- A command: one step of the machine, a stop leaves the archive before it or after it, and how it ends.
-  pub record Commands {A : Type 0} (command : Told) (says : Result A StoreFault → Option Reply) (result : Result A StoreFault) : Type 0 where
-    pub step : Does g (held_of old) (held_of new) (λ a. machine_step a command) (says result)
-    pub crash : CrashSteps g (held_of old) (held_of new) (λ a. machine_step a command)
-    pub ends : EndsOr g old new result (reasons_of command) (IsCommandRefused command)
+  -- A command under this limit of messages that a list holds: one step of the machine, a stop leaves the archive before it or after it,
+  -- and how it ends.
+  pub record Commands {A : Type 0} (limit : ℕ) (command : Told) (says : Result A StoreFault → Option Reply) (result : Result A StoreFault) : Type 0 where
+    pub step : Does g (held_of old) (held_of new) (λ a. step_within limit a command) (says result)
+    pub crash : CrashSteps g (held_of old) (held_of new) (λ a. step_within limit a command)
+    pub ends : EndsOr g old new result (reasons_of command) (IsRefusedWithin limit command)
 
   -- which hands on what was found
+  abbrev pub CarriesWithin : ℕ → Told → Result Found StoreFault → Type 0
+  CarriesWithin limit command result = Commands limit command (reply_of (answer_by command)) result
+
+  -- under the limit of the archive
   abbrev pub Carries : Told → Result Found StoreFault → Type 0
-  Carries command result = Commands command (reply_of (answer_by command)) result
+  Carries = CarriesWithin message_limit

@@ -1,6 +1,6 @@
 -- What a stop of the machine leaves of a store: of a command, or of a database that is taken over, the archive before or after it; of
 -- many commands or messages, what so many of them made.
--- To the right of an arrow stands nothing of the state behind the call but what a stop leaves of it (`CrashSteps`, `CrashStepsFrom`,
+-- To the right of an arrow stands nothing of the state behind the call but what a stop leaves of it (`CrashSteps`,
 -- `CrashAdopts`, `CrashAddsOver`, `CrashBatch`): so they speak of each moment within the call, too.
 use Rattle.std.specs.Prelude.{◌≡◌, ◌⊎◌, ℕ, ◌+◌, ◌≤◌, List, length, take, Option, Some, None, Result, Vec, MatchOption, MatchResult}
 use Rattle.std.specs.declared.alloc.Global.{Global}
@@ -32,11 +32,7 @@ pub record IsWholeBatch (a : Archive) (list : List ℕ) (items : List Item) (fro
 module _ {S : Type 0} (g : Ghosts S) (old new : Held S) where
   -- ---- a command
 
-  -- What a stop leaves after a command it left before, or it is the archive that the machine makes: where this is so of the archive before.
-  abbrev pub CrashStepsFrom : (Archive → Type 0) → (Archive → Outcome) → Type 0
-  CrashStepsFrom Needs step = IsKept (state g old) → Needs (archive_of (state g old)) → AddsOnly g old new (IsStored (step (archive_of (state g old))).0)
-
-  -- the same of whatever archive
+  -- What a stop leaves after a command it left before, or it is the archive that the machine makes.
   abbrev pub CrashSteps : (Archive → Outcome) → Type 0
   CrashSteps step = IsKept (state g old) → AddsOnly g old new (IsStored (step (archive_of (state g old))).0)
 

@@ -6,8 +6,8 @@ use Rattle.archive_machine.specs.Records.{Archive, Grant, Address}
 use Rattle.archive_machine.specs.Addresses.{kept_address}
 use Rattle.archive_machine.specs.Commands.{Command, list_add, person_add, grant, revoke, add, withdraw, restore, embargo, lift, merge_set, address_set, Reply, taken_in, already_known, refused as refused_by}
 use Rattle.archive_machine.specs.Keys.{item_key}
-use Rattle.archive_machine.specs.Questions.{has_grant, has_address, messages_in}
-use Rattle.archive_machine.specs.Machine.{Outcome, added_within, message_limit, step}
+use Rattle.archive_machine.specs.Questions.{has_grant, has_address}
+use Rattle.archive_machine.specs.Machine.{Outcome, message_limit, step_within}
 use Rattle.archive_tables.specs.Tables.{archive_in}
 use Rattle.archive_tables.specs.Statements.{Statement, adding_person, changing_grant, adding_grant, removing_grant, withdrawing, holding_back, freeing, changing_option, changing_address, adding_address, IsRefused, IsCarriedOut}
 use Rattle.archive_database.specs.Lists.{IsListRefused}
@@ -44,11 +44,6 @@ IsAddressRefused a db = IsRefused (giving_address a db) db
 abbrev pub IsMessageRefused : List ℕ → Item → Database → Type 0
 IsMessageRefused list item = IsRefused (taking_in list (item_key item) item)
 
--- The same of a list of which it was said that it holds so many messages: if it does, the machine takes the message in.
-pub record IsCountedStopped (list : List ℕ) (item : Item) (count : ℕ) (db : Database) : Type 0 where
-  pub carried : length (messages_in (archive_in db.trees) list) ≡ count → IsCarried (added_within message_limit (archive_in db.trees) list item).1
-  pub refused : IsMessageRefused list item db
-
 -- ---- any command
 
 -- the rows refuse what a command writes
@@ -66,9 +61,12 @@ IsWriteRefused (lift list key) = IsRefused (freeing list key)
 IsWriteRefused (merge_set list merge) = IsRefused (changing_option (record { list = list; merge = merge }))
 IsWriteRefused (address_set person address) = IsAddressRefused (record { person = person; address = kept_address address })
 
--- the machine carries a command out, and the rows refuse what it writes
+-- the machine carries a command out, under this limit, and the rows refuse what it writes
+abbrev pub IsRefusedWithin : ℕ → Command → Database → Type 0
+IsRefusedWithin limit command = RowsRefuse (λ a. step_within limit a command) (IsWriteRefused command)
+
 abbrev pub IsCommandRefused : Command → Database → Type 0
-IsCommandRefused command = RowsRefuse (λ a. step a command) (IsWriteRefused command)
+IsCommandRefused = IsRefusedWithin message_limit
 
 -- ---- many messages
 

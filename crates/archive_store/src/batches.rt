@@ -1,5 +1,5 @@
 //! Many messages to one list, in transactions of many messages.
-ghost use Rattle.std.specs.Prelude.{◌≡◌, [], ◌∷◌, ◌≤◌, ◌<◌, ◌+◌, ◌⊎◌, ℕ, IfOk, IfErr, Some, None, length, take, drop};
+ghost use Rattle.std.specs.Prelude.{◌≡◌, [], ◌∷◌, ◌≤◌, ◌<◌, ◌+◌, ◌⊎◌, IfOk, IfErr, Some, None, length, take, drop};
 ghost use Rattle.mbox_items.specs.Division.{Item};
 ghost use Rattle.archive_store.specs.Held.{held_of};
 ghost use Rattle.sqlite.specs.Held.{state};
@@ -11,8 +11,8 @@ ghost use Rattle.archive_store.specs.Crashes.{AddsSomeQuietly, CrashAddsOver, Cr
 ghost use Rattle.archive_store.specs.Batches.{AddsOne, AddsSome, AddsBatch, AddsAll, BeginsAt, EndsAt, FailsFrom, WritesOne, told_in, text_bytes};
 
 use crate::faults::StoreFault;
+use crate::limits::MESSAGES;
 use crate::store::Store;
-use crate::words::MESSAGES;
 use archive_database::taking::{is_too_large, take_in};
 use archive_machine::Key;
 use archive_tables::texts;

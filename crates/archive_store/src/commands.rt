@@ -1,10 +1,11 @@
 //! Commands: what the tables hold of their names is looked up, that decides, and one text is written.
 ghost use Rattle.std.specs.Prelude.{◌≡◌};
-ghost use Rattle.archive_store.specs.Carrying.{Carries, command_of, said};
+ghost use Rattle.archive_store.specs.Carrying.{Carries, CarriesWithin, command_of, said};
 ghost use Rattle.archive_store.specs.Words.{added_if};
 
 use crate::deciding::{Settled, refused_unseen, settle};
 use crate::faults::StoreFault;
+use crate::limits::MESSAGES;
 use crate::store::Store;
 use crate::words::Added;
 use archive_machine::{Found, Key};
@@ -77,10 +78,21 @@ impl<S: Alter> Store<S> {
     pub fn carry(&mut self, command: &Command<'_>) -> Result<Found, StoreFault>
         ensures { Carries S.Store self.old self.new (command_of command.now) result }
     {
+        self.carry_within(command, MESSAGES)
+    }
+
+    /// The same with this limit of messages that a list holds.
+    pub(crate) fn carry_within(
+        &mut self,
+        command: &Command<'_>,
+        limit: u32,
+    ) -> Result<Found, StoreFault>
+        ensures { CarriesWithin S.Store self.old self.new limit (command_of command.now) result }
+    {
         if let Some(fault) = refused_unseen(command) {
             return Err(fault);
         }
-        let found = self.look(command)?;
+        let found = self.look(command, limit)?;
         match settle(command, &found) {
             Some(Settled::Refused(fault)) => Err(fault),
             Some(Settled::Known) => Ok(found),

@@ -3,14 +3,13 @@ ghost use Rattle.std.specs.Prelude.{◌≡◌, option_map, nat_le, length};
 ghost use Rattle.archive_machine.specs.Questions.{has_list, has_person, has_token, has_grant, has_address, has_message, message_of, messages_in};
 ghost use Rattle.archive_machine.specs.Commands.{add};
 ghost use Rattle.archive_tables.specs.Rows.{marks_of};
-ghost use Rattle.archive_machine.specs.Machine.{found_of, found_grant, found_message, message_limit, nothing};
+ghost use Rattle.archive_machine.specs.Machine.{found_within, found_grant, found_message, nothing};
 ghost use Rattle.archive_store.specs.Carrying.{Looks, command_of, found_marks};
 ghost use Rattle.policy_core.specs.Numbers.{kind_rank};
 
 use crate::commands::Command;
 use crate::faults::StoreFault;
 use crate::store::Store;
-use crate::words::MESSAGES;
 use archive_database::taking::is_full;
 use archive_machine::{Found, Key, NOTHING};
 use archive_tables::rows::MarksRow;
@@ -89,11 +88,11 @@ impl<S: Alter> Store<S> {
         self.wants.pass(known)
     }
 
-    fn knows_full(&mut self, list: &str) -> Result<bool, StoreFault>
+    fn knows_full(&mut self, list: &str, limit: u32) -> Result<bool, StoreFault>
         ensures { Looks S.Store self.old self.new result
-            (λ a is. is ≡ nat_le message_limit (length (messages_in a list.now))) }
+            (λ a is. is ≡ nat_le limit (length (messages_in a list.now))) }
     {
-        let full = is_full(&mut self.conn, list, MESSAGES);
+        let full = is_full(&mut self.conn, list, limit);
         self.wants.pass(full)
     }
 
@@ -153,13 +152,13 @@ impl<S: Alter> Store<S> {
     }
 
     /// A list, whether it holds a message, and whether it is full.
-    fn look_item(&mut self, list: &str, item: &Item<'_>) -> Result<Found, StoreFault>
+    fn look_item(&mut self, list: &str, item: &Item<'_>, limit: u32) -> Result<Found, StoreFault>
         ensures { Looks S.Store self.old self.new result
-            (λ a found. found ≡ found_of a (add list.now item.now)) }
+            (λ a found. found ≡ found_within limit a (add list.now item.now)) }
     {
         let is_there = self.knows_list(list)?;
         let message = self.knows_message(list, &Key::of(item))?;
-        let full = self.knows_full(list)?;
+        let full = self.knows_full(list, limit)?;
         Ok(Found {
             list: is_there,
             message,
@@ -185,9 +184,9 @@ impl<S: Alter> Store<S> {
     }
 
     /// What a command names, and nothing else. None of the questions changes anything.
-    pub(crate) fn look(&mut self, command: &Command<'_>) -> Result<Found, StoreFault>
+    pub(crate) fn look(&mut self, command: &Command<'_>, limit: u32) -> Result<Found, StoreFault>
         ensures { Looks S.Store self.old self.new result
-            (λ a found. found ≡ found_of a (command_of command.now)) }
+            (λ a found. found ≡ found_within limit a (command_of command.now)) }
     {
         match command {
             Command::ListAdd { name } => self.look_list(name),
@@ -201,7 +200,7 @@ impl<S: Alter> Store<S> {
                 ..
             }
             | Command::Revoke { person, list, kind } => self.look_grant(person, list, *kind),
-            Command::Add { list, item, .. } => self.look_item(list, item),
+            Command::Add { list, item, .. } => self.look_item(list, item, limit),
             Command::Withdraw { list, key, .. }
             | Command::Restore { list, key }
             | Command::Embargo { list, key, .. }

@@ -1,11 +1,9 @@
 //! Commands on messages.
-use crate::batches::{Taken, add_counted};
 use crate::commands::{Command, added, done, had_embargo};
 use crate::faults::StoreFault;
 use crate::store::Store;
 use crate::words::Added;
 use archive_machine::Key;
-use archive_tables::texts;
 use civil_time::Day;
 use mbox_items::Item;
 use policy_core::Party;
@@ -13,22 +11,20 @@ use sqlite::Alter;
 use std::alloc::Global;
 
 impl<S: Alter> Store<S> {
-    ghost use Rattle.std.specs.Prelude.{◌≡◌, [], ◌∷◌, length, Some, None};
-    ghost use Rattle.archive_machine.specs.Machine.{message_limit, added_within, step};
+    ghost use Rattle.std.specs.Prelude.{[], ◌∷◌};
+    ghost use Rattle.archive_machine.specs.Machine.{step};
     ghost use Rattle.archive_store.specs.Held.{held_of};
     ghost use Rattle.archive_store.specs.Told.{EndsOr};
-    ghost use Rattle.archive_store.specs.Refusals.{IsCommandRefused, IsCountedStopped};
+    ghost use Rattle.archive_store.specs.Refusals.{IsCommandRefused};
     ghost use Rattle.policy_core.specs.Numbers.{party_number};
     ghost use Rattle.archive_machine.specs.Commands.{add, withdraw, restore, embargo, lift, no_list, no_message, already_withdrawn, not_withdrawn, too_large, list_full};
-    ghost use Rattle.archive_machine.specs.Questions.{messages_in};
-    ghost use Rattle.archive_store.specs.Crashes.{CrashSteps, CrashStepsFrom};
+    ghost use Rattle.archive_store.specs.Crashes.{CrashSteps};
     ghost use Rattle.archive_store.specs.Replies.{Does, says_added, says_done, says_whether};
-    ghost use Rattle.archive_store.specs.Batches.{AddsCounted};
 
     /// Adds a message. A message whose key the list holds is known, and nothing changes: the first sender and arrival
     /// stay. E4 where there is no such list, E13 where the whole text has more than 16,777,216 bytes, E12 where the list
     /// holds 50,000 messages and not this one. Once a message of the archive has the number 50,000, each call counts the messages
-    /// of its list, which takes some 30 ms where there are 50,000; `add_counted`, `add_all` and `run` count a list once.
+    /// of its list, which takes some 30 ms where there are 50,000; so does each addition by `run`, while `add_all` counts a list once.
     pub fn add(&mut self, alloc: Global, list: &str, item: &Item<'_>) -> Result<Added, StoreFault>
         ensures step { Does S.Store (held_of self.old) (held_of self.new)
             (λ a. step a (add list.now item.now)) (says_added result) }
@@ -39,37 +35,6 @@ impl<S: Alter> Store<S> {
             (IsCommandRefused (add list.now item.now)) }
     {
         added(self.carry(&Command::Add { alloc, list, item }))
-    }
-
-    /// The same to a list that holds so many messages, as `count` says before the first of such calls and each call says for
-    /// the next: it counts none, so it takes the same time however many messages there are. Of another number nothing is
-    /// promised but that it returns.
-    pub fn add_counted(
-        &mut self,
-        alloc: Global,
-        list: &str,
-        item: &Item<'_>,
-        count: &mut usize,
-    ) -> Result<Added, StoreFault>
-        ensures step { AddsCounted S.Store (held_of self.old)
-            (held_of self.new) result list.now item.now count.old count.new }
-        ensures crash { CrashStepsFrom S.Store (held_of self.old) (held_of self.new)
-            (λ a. length (messages_in a list.now) ≡ count.old)
-            (λ a. added_within message_limit a list.now item.now) }
-        ensures ends { EndsOr S.Store self.old self.new result
-            (no_list ∷ too_large ∷ list_full ∷ [])
-            (IsCountedStopped list.now item.now count.old) }
-    {
-        let listed = texts::lists::has_list(&mut self.conn, list);
-        if !self.wants.pass(listed)? {
-            return Err(StoreFault::NoList);
-        }
-        match add_counted(self, alloc, list, item, count)? {
-            Taken::New => Ok(Added::New),
-            Taken::Known => Ok(Added::Known),
-            Taken::TooLarge => Err(StoreFault::TooLarge),
-            Taken::Full => Err(StoreFault::ListFull),
-        }
     }
 
     /// Withdraws a message. E4 where there is no such list, E8 where it holds no such message, E9 where the message is

@@ -3,9 +3,6 @@ ghost use Rattle.std.specs.Prelude.{◌≡◌, pos};
 
 use civil_time::{Day, Month};
 
-/// How many messages a list may hold.
-pub const MESSAGES: u32 = 50_000;
-
 /// What becomes of a message that is added: it is taken in, or the list holds its key already and nothing changes.
 #[derive(Clone, Copy, Debug, PartialEq, Eq, Hash)]
 pub enum Added {

@@ -1,10 +1,10 @@
 //! Many messages at once, and a walk over a list by the messages' numbers.
-use archive_store::{AddReport, AddStop, Added, MESSAGES, Store, StoreFault};
+use archive_store::{AddReport, AddStop, Added, Store, StoreFault};
 use archive_tables::rows::read_place;
 use archive_tables::texts::messages;
 use civil_time::Instant;
 use mbox_core::{Envelope, Item, Sender};
-use sqlite::{Alter, MemStore};
+use sqlite::MemStore;
 use std::alloc::Global;
 use std::process::Abort;
 use std::test::Fail;
@@ -162,32 +162,5 @@ fn a_walk_over_a_list(rt: HostRuntime) -> Result<(), Fail> {
         assert_eq!(&rt; found.text.as_slice(), text);
     }
     assert!(&rt; messages::message_at(&mut conn, 0)?.is_none());
-    Ok(())
-}
-
-#[test]
-fn a_full_list(rt: HostRuntime) -> Result<(), Fail> {
-    let mut store = with_list(rt.alloc())?;
-    store.list_add("other")?;
-    fill(&rt, rt.alloc(), &mut store)?;
-    for (list, text, answer) in [
-        ("soc", b"more".as_slice(), Err(StoreFault::ListFull)),
-        ("soc", b"0\n".as_slice(), Ok(Added::Known)),
-        ("other", b"more".as_slice(), Ok(Added::New)),
-    ] {
-        let added = store.add(rt.alloc(), list, &item(text)?);
-        assert_eq!(&rt; added, answer);
-    }
-    Ok(())
-}
-
-/// Adds as many messages to the list `soc` as a list may hold.
-fn fill<S: Alter>(rt: &impl Abort, alloc: Global, store: &mut Store<S>) -> Result<(), Fail> {
-    let mut count = 0;
-    for number in 0..MESSAGES {
-        let text = format!(in alloc; "{number}")?;
-        let added = store.add_counted(alloc, "soc", &item(text.as_bytes())?, &mut count)?;
-        assert_eq!(rt; added, Added::New);
-    }
     Ok(())
 }

@@ -1,5 +1,6 @@
 //! What each command answers.
 use crate::questions::{are_names, day, item};
+use archive_store::limits::add_limited;
 use archive_store::{Added, Command, Key, Outcome, Store, StoreFault};
 use civil_time::Day;
 use mbox_core::Item;
@@ -365,19 +366,31 @@ pub fn calls<S: Alter>(rt: &impl Abort, alloc: Global, store: &mut Store<S>) -> 
     Ok(())
 }
 
-/// A message that no list takes, and a list that is not there.
+/// A limit of two messages: a third is refused, one of the two is known from any sender, and those of another list do
+/// not count.
 pub fn limits<S: Alter>(rt: &impl Abort, alloc: Global, store: &mut Store<S>) -> Result<(), Fail> {
     store.list_add("soc")?;
+    store.list_add("other")?;
     has_no_message(rt, alloc, store)?;
-    let long = vec![in alloc; b'x'; 16_777_216]?;
-    for (list, text, answer) in [
-        ("xyz", b"one".as_slice(), Err(StoreFault::NoList)),
-        ("xyz", long.as_slice(), Err(StoreFault::NoList)),
-        ("soc", long.as_slice(), Err(StoreFault::TooLarge)),
-        ("soc", b"one".as_slice(), Ok(Added::New)),
-    ] {
-        assert_eq!(rt; store.add(alloc, list, &item("a@b", text)?), answer);
+    for (list, answer) in [("xyz", Err(StoreFault::NoList)), ("other", Ok(Added::New))] {
+        assert_eq!(rt; store.add(alloc, list, &item("a@b", b"one")?), answer);
     }
+    let long = vec![in alloc; b'x'; 16_777_216]?;
+    for (sender, text, answer) in [
+        ("a@b", b"one".as_slice(), Ok(Added::New)),
+        ("a@b", b"two\n".as_slice(), Ok(Added::New)),
+        ("a@b", b"three\n".as_slice(), Err(StoreFault::ListFull)),
+        ("a@b", b"one\n".as_slice(), Ok(Added::Known)),
+        ("c@d", b"one\n".as_slice(), Ok(Added::Known)),
+        ("a@b", long.as_slice(), Err(StoreFault::TooLarge)),
+    ] {
+        let added = add_limited(store, alloc, "soc", &item(sender, text)?, 2);
+        assert_eq!(rt; added, answer);
+    }
+    assert_eq!(rt;
+        store.add(alloc, "soc", &item("a@b", b"three\n")?),
+        Ok(Added::New)
+    );
     Ok(())
 }
 

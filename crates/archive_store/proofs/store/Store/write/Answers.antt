@@ -32,10 +32,10 @@ returns-then-found g c =
     (λ a need. (
       tt,
       (λ i. record a { addresses = map (readdressed (record given { address = kept i })) a.addresses })
-          ∙ ap (λ b. record a { addresses = if b then map (readdressed given) a.addresses else a.addresses ++ given ∷ [] }) (sym c.if-found.true ∙ ap (λ f. f.address) need.0),
+          ∙ ap (λ b. record a { addresses = if b then map (readdressed given) a.addresses else a.addresses ++ given ∷ [] }) (sym c.if-found.true ∙ ap (λ f. f.address) need.1),
     ))
     (λ db need refused. subst (λ s. IsRefused s db) ((λ i. changing_address (record given { address = kept i }))
-    ∙ ap (λ b. if b then changing_address given else adding_address given) (sym c.if-found.true ∙ ap (λ f. f.address) need.0)) refused))
+    ∙ ap (λ b. if b then changing_address given else adding_address given) (sym c.if-found.true ∙ ap (λ f. f.address) need.1)) refused))
 
 pub returns-in-AddressSet : goal.returns-in-AddressSet
 returns-in-AddressSet g c =
@@ -47,10 +47,10 @@ returns-in-AddressSet g c =
     (λ a need. (
       tt,
       (λ i. record a { addresses = a.addresses ++ record given { address = kept i } ∷ [] })
-          ∙ ap (λ b. record a { addresses = if b then map (readdressed given) a.addresses else a.addresses ++ given ∷ [] }) (sym c.if-found.false ∙ ap (λ f. f.address) need.0),
+          ∙ ap (λ b. record a { addresses = if b then map (readdressed given) a.addresses else a.addresses ++ given ∷ [] }) (sym c.if-found.false ∙ ap (λ f. f.address) need.1),
     ))
     (λ db need refused. subst (λ s. IsRefused s db) ((λ i. adding_address (record given { address = kept i }))
-    ∙ ap (λ b. if b then changing_address given else adding_address given) (sym c.if-found.false ∙ ap (λ f. f.address) need.0)) refused))
+    ∙ ap (λ b. if b then changing_address given else adding_address given) (sym c.if-found.false ∙ ap (λ f. f.address) need.1)) refused))
 
 pub returns-in-Restore : goal.returns-in-Restore
 returns-in-Restore g c =
@@ -113,10 +113,10 @@ returns-then-found-2 g c =
     (λ a need. (
       tt,
       (λ i. record a { grants = map (with_days_of (record given { rank = rank i; from_day = from i; until_day = until i })) a.grants })
-          ∙ ap (λ b. record a { grants = if b then map (with_days_of given) a.grants else a.grants ++ given ∷ [] }) (sym c.if-found-2.true ∙ ap (λ f. f.grant) need.0),
+          ∙ ap (λ b. record a { grants = if b then map (with_days_of given) a.grants else a.grants ++ given ∷ [] }) (sym c.if-found-2.true ∙ ap (λ f. f.grant) need.1),
     ))
     (λ db need refused. subst (λ s. IsRefused s db) ((λ i. changing_grant (record given { rank = rank i; from_day = from i; until_day = until i }))
-    ∙ ap (λ b. if b then changing_grant given else adding_grant given) (sym c.if-found-2.true ∙ ap (λ f. f.grant) need.0)) refused))
+    ∙ ap (λ b. if b then changing_grant given else adding_grant given) (sym c.if-found-2.true ∙ ap (λ f. f.grant) need.1)) refused))
 
 pub returns : goal.returns
 returns g c =
@@ -129,12 +129,12 @@ returns g c =
     puts_as g.S.Store c.args.found.now c.in-Grant.is
     (puts_passed g.S.Store c.add_grant-put.ensures c.pass-else-found-2.ensures.passed c.pass-else-found-2.ensures.kind c.pass-else-found-2.ensures.counted.0
     (λ a need. (
-      ap (has_grant a person list) rank ∙ sym (ap (λ f. f.grant) need.0) ∙ c.if-found-2.false,
+      ap (has_grant a person list) rank ∙ sym (ap (λ f. f.grant) need.1) ∙ c.if-found-2.false,
       (λ i. record a { grants = a.grants ++ record given { rank = rank i; from_day = from i; until_day = until i } ∷ [] })
-          ∙ ap (λ b. record a { grants = if b then map (with_days_of given) a.grants else a.grants ++ given ∷ [] }) (sym c.if-found-2.false ∙ ap (λ f. f.grant) need.0),
+          ∙ ap (λ b. record a { grants = if b then map (with_days_of given) a.grants else a.grants ++ given ∷ [] }) (sym c.if-found-2.false ∙ ap (λ f. f.grant) need.1),
     ))
     (λ db need refused. subst (λ s. IsRefused s db) ((λ i. adding_grant (record given { rank = rank i; from_day = from i; until_day = until i }))
-    ∙ ap (λ b. if b then changing_grant given else adding_grant given) (sym c.if-found-2.false ∙ ap (λ f. f.grant) need.0)) refused))
+    ∙ ap (λ b. if b then changing_grant given else adding_grant given) (sym c.if-found-2.false ∙ ap (λ f. f.grant) need.1)) refused))
 
 pub returns-in-Add : goal.returns-in-Add
 returns-in-Add g c =

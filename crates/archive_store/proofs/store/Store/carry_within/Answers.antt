@@ -2,7 +2,7 @@ use Rattle.std.proofs.Common.{Some, sym, ap, ◌∙◌}
 use Rattle.std.specs.Prelude.{option_map}
 use Rattle.archive_store.specs.Carrying.{command_of, reply_settled}
 use Rattle.archive_store.proofs.CarryLemmas.{unlooked, refused_at_once, refused_by, already_there, carried_out, unwritten, none_of}
-use Rattle.archive_store.proofs.store.Store.carry.Goals as goal
+use Rattle.archive_store.proofs.store.Store.carry_within.Goals as goal
 
 pub returns-in_err-found : goal.returns-in_err-found
 returns-in_err-found g c = unlooked g.S.Store _ _ (command_of c.args.command.now) c.from_residual.result c.in_err-found.ensures c.from_residual.ensures.1
