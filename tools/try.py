@@ -1121,8 +1121,8 @@ WORDS_FILES = {"README.md": "one two `told` kept\n\n    told\n", "docs/layers/lo
 WORDS = {
     "few words": is_silent("words.py", WORDS_FILES),
     "of each page": says("words.py", ["--pages"], WORDS_FILES, 0, "      5    1 README.md", "      3    1 docs/layers/low.md", "      8    2 all"),
-    "too many words": says("words.py", [], {**WORDS_FILES, "samples/proxy/README.md": "word " * 52_493}, 1,
-        "words: the pages have 52,501 words, of at most 52,500 (tools/words.py --pages)"),
+    "too many words": says("words.py", [], {**WORDS_FILES, "samples/proxy/README.md": "word " * 49_993}, 1,
+        "words: the pages have 50,001 words, of at most 50,000 (tools/words.py --pages)"),
     "too many to avoid": says("words.py", [], {**WORDS_FILES, "docs/archive.1": "Told " * 59}, 1,
         "words: the pages have 61 words that STYLE.md asks to avoid, of at most 60 (tools/words.py --pages)"),
     "as many as may be": is_silent("words.py", {**WORDS_FILES, "docs/archive.1": "Told " * 58}),
