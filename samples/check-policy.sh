@@ -1,15 +1,15 @@
 #!/usr/bin/env bash
-# Says of a policy whom it shows what, by trying it: a table of readers by kinds of mail, for each list that the policy names, and for
+# Says of a policy whom it shows what, by trying it: a table of readers by kinds of messages, for each list that the policy names, and for
 # one that it does not name.
 #
 #   samples/check-policy.sh POLICY [DAY]      as of DAY, today where none is given
 #
-# The mails came on the day, or a hundred years before; they are as they came, withdrawn by their author or the board, or held back.
+# The messages came on the day, or a hundred years before; they are as they came, withdrawn by their author or the board, or embargoed.
 # Each cell is what `get` says on that day to a reader of that standing: `shown`, or `denied` and the rule. `author` is a person
-# without a grant whose address the mail has in From.
+# without a grant whose address the message has in From.
 #
-# Below the table stands a line where the public is shown what is withdrawn or held back. Such a policy is one: the status is 0, and 1
-# where the text is no policy.
+# If the public is shown a withdrawn or embargoed message, a line below the table says so. Such a policy is one: the status is 0. It is 1
+# if the text is no policy.
 set -eu
 case ${1-} in -h | --help) sed -n '2,/^[^#]/s/^# \{0,1\}//p' -- "$0"; exit ;; esac
 policy=${1:?the policy is to be given}
@@ -25,7 +25,7 @@ tell() {
   "$archive" "$1" --db "$folder/a.db" "${@:2}" > /dev/null
 }
 
-# an mbox of one mail of these marks that came on this day; `key` is its key
+# an mbox of one message of these marks that came on this day; `key` is its key
 write_mail() {
   local arrival
   arrival=$(LC_ALL=C date -u -d "$1" '+%a %b %e 12:00:00 %Y')
@@ -40,7 +40,7 @@ lists() {
   { tr '\n' ' ' < "$policy" | grep -oE "lists *= *\[[^]]*\]" | grep -oE "[\"'][a-z][a-z0-9-]*[\"']" | tr -d "\"'"; echo other; } | sort -u
 }
 
-# what a reader is told of the mail
+# what a reader is answered for the message
 ask() {
   local said
   if said=$("$archive" get --db "$folder/a.db" --policy "$policy" --day "$day" --person "$2" "$1" "$key" 2>&1); then
@@ -56,7 +56,7 @@ row() {
   printf '%s\n' "${@:6}"
 }
 
-# one kind of mail on a list, as it came (no mark) or marked by a command: a row, and whether it is hidden from the public
+# one kind of message on a list, as it came (no mark) or marked by a command: a row, and whether it is hidden from the public
 try_kind() {
   local list=$1 when=$2 age=$3 name=$4 mark=("${@:5}") cells=() it
   write_mail "$when" "$age $name"
@@ -67,13 +67,13 @@ try_kind() {
   if [ "${#mark[@]}" -gt 0 ] && [ "${cells[0]}" = shown ]; then open+=("on the list $list, $age,$name"); fi
 }
 
-# all kinds of mail that came on this day
+# all kinds of messages that came on this day
 try_day() {
   local list=$1 when=$2 age=$3
   try_kind "$list" "$when" "$age" ''
   try_kind "$list" "$when" "$age" '  withdrawn by author' withdraw author
   try_kind "$list" "$when" "$age" '  withdrawn by board' withdraw board
-  try_kind "$list" "$when" "$age" '  held back' embargo "$later"
+  try_kind "$list" "$when" "$age" '  embargoed' embargo "$later"
 }
 
 "$archive" sift --policy "$policy" < /dev/null

@@ -1,22 +1,22 @@
 #!/usr/bin/env python3
-"""from-maildir.py: writes the mails of a Maildir as an mbox, in the order in which they arrived.
+"""from-maildir.py: writes the messages of a Maildir as an mbox, in the order in which they arrived.
 
   samples/from-maildir.py MAILDIR > MBOX       all of them
   samples/from-maildir.py MAILDIR FOLDER       those in MAILDIR/new, as one mbox in FOLDER; then they lie in MAILDIR/cur
 
-A mail's arrival is the time of its file. The second form is for what comes from now on: as a job that runs every few minutes,
-with the folder mail/LIST of an archive that samples/keep.sh keeps. The mbox comes whole, as it is written beside and renamed;
-where nothing is new none is made. If the job stops in between, the same mails come again, and an import knows them.
+A message's arrival is the time of its file. The second form is for what comes from now on: as a job that runs every few minutes,
+with the folder mail/LIST of an archive that samples/keep.sh keeps. The mbox comes whole, because it is renamed once it is
+written; if nothing is new none is made. If the job stops in between, the same messages come again, and an import knows them.
 
-A line of a mail that would begin another message of the mbox (docs/MBOX.md) gets a `>` in front. Standard error says how many
-mails were written, and how many of them have such a line.
+A line of a message that would begin another message of the mbox (docs/MBOX.md) gets a `>` in front. Standard error says how many
+messages were written, and how many of them have such a line.
 """
 import io, os, pathlib, sys, time
 
 import mbox
 
 
-def mails(maildir, folders):
+def files_of(maildir, folders):
     """The files of a Maildir, by their time and then by their name."""
     if not (maildir / "cur").is_dir():
         sys.exit(f"from-maildir.py: {maildir}: not a Maildir")
@@ -35,7 +35,7 @@ def quoted(text):
 
 
 def write(files, out):
-    """Writes mails as an mbox, and tells how many of them had a line that begins another one."""
+    """Writes messages as an mbox, and tells how many of them had a line that begins another one."""
     count = 0
     for file in files:
         text, found = quoted(file.read_bytes())
@@ -47,7 +47,7 @@ def write(files, out):
 
 def take_new(maildir, folder):
     """Writes what is new as one mbox in a folder, and puts it away."""
-    files = mails(maildir, ["new"])
+    files = files_of(maildir, ["new"])
     if not files:
         return 0, 0
     name = f"{time.strftime('%Y%m%d%H%M%S')}-{os.getpid()}"
@@ -70,10 +70,10 @@ def main(words):
     if len(words) == 2:
         written, count = take_new(maildir, pathlib.Path(words[1]))
     else:
-        files = mails(maildir, ["new", "cur"])
+        files = files_of(maildir, ["new", "cur"])
         written, count = len(files), write(files, sys.stdout.buffer)
     if written:
-        print(f"{written} mails, {count} of them with a line that begins another one", file=sys.stderr)
+        print(f"{written} messages, {count} of them with a line that begins another one", file=sys.stderr)
 
 
 if __name__ == "__main__":

@@ -1,6 +1,6 @@
 #!/usr/bin/env bash
-# Writes a news spool as an mbox: a folder with one file for each article, named by its number, as Gmane's groups are kept by
-# whoever reads them over NNTP.
+# Writes a news spool as an mbox: a folder with one file for each article, named by its number, as a reader of Gmane's groups
+# over NNTP has it.
 #
 #   samples/from-news.sh FOLDER > MBOX
 #
@@ -19,7 +19,7 @@ field() {
 # a date as a separator line has it, in UTC; none where it is none there
 arrival_of() {
   local said
-  # (what stands in parentheses is a comment)
+  # (what is in parentheses is a comment)
   said=$(date -u -d "${1%%(*}" '+%a %b %e %H:%M:%S %Y' 2> /dev/null) && [[ $said =~ \ (19|[2-9][0-9])[0-9][0-9]$ && $said != *9999 ]] && echo "$said"
 }
 
@@ -34,7 +34,7 @@ while IFS= read -r number; do
   done
   printf 'From - %s\n' "$arrival"
   cat -- "$file"
-  # (a text ends in a line feed, and an empty line stands before the next separator)
+  # (a text ends in a line feed, and an empty line comes before the next separator)
   [ -z "$(tail -c 1 -- "$file")" ] || echo
   echo
 done <<< "$numbers"

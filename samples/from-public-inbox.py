@@ -1,10 +1,10 @@
 #!/usr/bin/env python3
-"""from-public-inbox.py: writes the mails of a public-inbox (version 2, one commit a mail) as an mbox, in their order.
+"""from-public-inbox.py: writes the messages of a public-inbox (version 2, one commit a message) as an mbox, in their order.
 
   samples/from-public-inbox.py GIT.. > MBOX     the folders of its epochs: INBOX/git/0.git INBOX/git/1.git
 
-A mail's arrival is the time of its commit. What the inbox took away (a file `d`) is left out. It tells on standard error how
-many mails it wrote, and how many of them hold a line that the archive takes for the beginning of another one (docs/MBOX.md):
+A message's arrival is the time of its commit. What the inbox took away (a file `d`) is left out. It tells on standard error how
+many messages it wrote, and how many of them hold a line that the archive takes for the beginning of another one (docs/MBOX.md):
 an import counts one more for each.
 """
 import subprocess, sys, time
@@ -38,7 +38,7 @@ def texts(git, names):
 
 
 def write(at, text):
-    """Writes a mail with its separator line, and tells how many messages the archive makes of it."""
+    """Writes a message with its separator line, and tells how many messages the archive makes of it."""
     text = text if text.endswith(b"\n") else text + b"\n"
     separator = time.strftime("From - %a %b %e %H:%M:%S %Y\n", time.gmtime(at)).encode()
     sys.stdout.buffer.write(separator + text + b"\n")
@@ -58,7 +58,7 @@ def main(gits):
         for (at, _), text in zip(kept, texts(git, [name for _, name in kept])):
             written += 1
             cut += write(at, text) > 1
-    print(f"{written} mails, {cut} of them with a line that begins another one", file=sys.stderr)
+    print(f"{written} messages, {cut} of them with a line that begins another one", file=sys.stderr)
 
 
 if __name__ == "__main__":
@@ -66,4 +66,4 @@ if __name__ == "__main__":
         main(sys.argv[1:])
     except subprocess.CalledProcessError as error:
         # (git has said why)
-        sys.exit(f"from-public-inbox.py: {error.cmd[2]}: no repository of mails")
+        sys.exit(f"from-public-inbox.py: {error.cmd[2]}: no repository of messages")

@@ -9,25 +9,26 @@
 #   policy.toml        the policy; a change of it is taken at once, if it is a policy
 #   archive.db         the database; the first command makes it
 #   commands           commands, one a line, without `--db FILE`: `list-add soc`, `withdraw soc KEY author`
-#   commands.d/NAME    the same, in as many files as there are writers; they are taken in the order of their names, behind `commands`
+#   commands.d/NAME    the same, in as many files as there are writers; they are taken in the order of their names, after `commands`
 #   mail/LIST/*.mbox   mboxes that are to be taken into LIST
 #   continue           where there is such a file, a list that is full goes on as LIST-2, LIST-3 .. ("A full list", below)
 #   commands.done, mail.done/LIST, mail.refused/LIST, log
-#                      what became of them, and what each command said, in one line; tokens stand in commands.done and in log
+#                      what became of them, and what each command said, in one line; tokens are in commands.done, commands.refused and
+#                      log
 #   commands.refused   the lines of commands that did nothing, each below the reason: no command, a usage error, or a refusal, but not
 #                      one that says that it was done before (E3, E5, E9, E10). Correct the file, and submit it again as it is
-#   full               what full lists refused: when, which list, how many mails of the mbox went in before, and where it lies
+#   full               what full lists refused: when, which list, how many messages of the mbox went in before, and where it lies
 #   archive.next, commands.now, commands.put, done.now, refused.now, mail.now, mail.rest, mail.held, policy.served, policy.refused,
 #   keep.lock          its own: the work under way, the policy that is served by, the last one that was none
 #
 # Only its owner can read what it makes.
 #
-# A file comes whole and takes nobody's place: write it beside, under a name that begins with a dot, and rename it to a name of its
+# A file comes whole and takes nobody's place: write it under a name that begins with a dot, and rename it to a name of its
 # own (`mv` in commands.d and mail), or `ln` it to the name `commands`, which refuses where one waits. A file that is taken is moved
-# away first, so that what comes meanwhile is kept. One of commands that cannot be read stays, and the log names it.
+# away first, so that nothing is lost that comes meanwhile. One of commands that cannot be read stays, and the log names it.
 #
 # The database is locked while `serve` runs, which writes nothing. So work is done on a copy of the file, while the archive is
-# served as it was; then the server ends, the copy takes the file's place, and the next server begins. Readers find nobody only
+# served as it was; then the server ends, the copy takes the file's place, and the next server begins. Readers get no answer only
 # while a file is opened: between two servers, which follow each other also where the connections of one are used up, where
 # the policy changes, and where the day does (in UTC: a server keeps the day of its beginning). Where the copy cannot be made
 # or worked on, as without room on the disk or without memory, the work is done in the file itself, and nobody is served meanwhile.
@@ -39,7 +40,7 @@
 # is gone within 5 seconds of midnight, and of whatever else ends it.
 #
 # What COUNT costs. A server takes COUNT connections (1000; four times as many, up to 16 times, where readers use them up within a
-# minute). With few the file is opened often at a high rate, and readers find nobody meanwhile. With many those that are left cannot
+# minute). With few the file is opened often at a high rate, and readers get no answer meanwhile. With many those that are left cannot
 # be used up in 4 seconds (some 2,000 can, on a busy machine), and what is under way or waits breaks off at each change.
 #
 # Behind a proxy DRAIN names a program, as samples/keep/haproxy.sh: `DRAIN drain PORT` has the proxy let go of the server, which is
@@ -55,17 +56,18 @@
 # LIST holds. A policy that names LIST has to name LIST-2 too, else it is refused all the same. It wants python3.
 #
 # After a crash begin again: a command that is carried out twice is refused the second time or changes nothing, and a message that
-# is there is known. Where a command could do better another time (the disk is full, memory is wanted), and where what was done
+# is there is known. Where a command could do better another time (the disk is full, memory has run out), and where what was done
 # cannot be put away, the rest stays where it lies, the archive is served as it is, and the work is tried again after a minute,
 # then two, up to an hour; commands that come meanwhile are not held up by mail.
 #
-# --look prints what `log` has of refusals, of mails that were too large and of servers that answered 503, which files hold commands or
+# --look prints what `log` has of refusals, of messages that were too large and of servers that answered 503, which files hold commands or
 # mail that were refused, and what has waited for two hours. It shows no token. Remove or move away what you have dealt with: `log`
 # too, of which the next command starts a new one. archive-look.service has systemd look each day, and fails if there is anything.
 #
-# Statuses: 0 stopped, or with --once all is settled, or with --look there is nothing; 1 `serve` is refused (the port is taken, the database is locked by another
-# program or damaged, the program is not there), policy.toml is no policy at the beginning, another keep.sh has the folder, with
-# --once a command was refused or something is left to be tried again, or with --look there is something; 2 bad words. The reason is on standard error. Backups: samples/backup.sh.
+# Statuses: 0 stopped, or with --once all is settled, or with --look there is nothing; 1 `serve` is refused (the port is taken, the
+# database is locked by another program or damaged, the program is not there), policy.toml is no policy at the beginning, another
+# keep.sh has the folder, with --once a command was refused or something is left to be tried again, or with --look there is something;
+# 2 a usage error. The reason is on standard error. Backups: samples/backup.sh.
 set -u
 shopt -s nullglob
 case ${1-} in -h | --help) sed -n '2,/^[^#]/s/^# \{0,1\}//p' -- "$0"; exit ;; esac
@@ -85,7 +87,7 @@ mode=keep
 case ${1-} in --once | --look) mode=${1#--}; shift ;; esac
 case "$mode $#" in
   'keep 1' | 'keep 2' | 'once 1' | 'look 1') ;;
-  *) echo 'keep.sh: the words are FOLDER [PORT], --once FOLDER, or --look FOLDER' >&2; exit 2 ;;
+  *) echo 'keep.sh: usage: FOLDER [PORT], --once FOLDER, or --look FOLDER; --help says more' >&2; exit 2 ;;
 esac
 port=${2:-8080}
 second=${SECOND-} # the other port, on which the next server begins

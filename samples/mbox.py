@@ -1,15 +1,15 @@
 #!/usr/bin/env python3
 """mbox.py: looks at an mbox as the archive cuts it (docs/MBOX.md), for what no command tells.
 
-  samples/mbox.py list MBOX           each message: its number, where it stands, its size, its key, its Message-ID
+  samples/mbox.py list MBOX           each message: its number, where it begins, its size, its key, its Message-ID
   samples/mbox.py large MBOX          those that an import leaves out as too large
   samples/mbox.py without KEY MBOX    writes the mbox without the messages of that key
 
-MBOX may be /dev/stdin. A message stands from the first byte of its separator line, counted from 0; its size is that of its
+MBOX may be /dev/stdin. A message begins with the first byte of its separator line, counted from 0; its size is that of its
 whole text, and its key the SHA-256 of that. An mbox that begins with something else than a separator line is refused.
 
 Status 1, with a line on standard error, if MBOX cannot be read or is refused, or if no message has KEY: then all of it was
-written. Status 2 for bad words.
+written. Status 2 for a usage error.
 """
 import calendar, hashlib, re, signal, sys
 

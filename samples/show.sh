@@ -1,5 +1,5 @@
 #!/usr/bin/env bash
-# Shows what is in an archive: lists, persons with their addresses, grants, and messages that are withdrawn or held back. It asks
+# Shows what is in an archive: lists, persons with their addresses, grants, and messages that are withdrawn or embargoed. It asks
 # stock sqlite3, of a copy, so that nothing is locked or changed, also while the archive is served. Tokens are not shown.
 #
 #   samples/show.sh FILE [LIST]     with a LIST also its messages: key, arrival, size, sender
@@ -23,7 +23,7 @@ has() {
   [ "$(ask "SELECT count(*) FROM sqlite_schema WHERE type = 'table' AND name = '$1'")" -eq 1 ]
 }
 
-echo '# lists: name, messages, bytes, withdrawn, held back, how full (of 50,000 messages)'
+echo '# lists: name, messages, bytes, withdrawn, embargoed, how full (of 50,000 messages)'
 ask "SELECT l.name, count(m.pos), coalesce(sum(length(m.text)), 0), count(nullif(m.withdrawn, 0)), count(m.embargo),
   printf('%.1f%%', count(m.pos) / 500.0)
   FROM list l LEFT JOIN message m ON m.list = l.name GROUP BY l.name ORDER BY l.name"

@@ -98,6 +98,7 @@ put_program() {
 put_scripts() {
   git -C "$root/samples" ls-files -- '*.sh' '*.py' > "$work/list"
   while read -r it; do
+    # shellcheck disable=SC2016
     sed -E -e 's|\$\{ARCHIVE:-[^}]*\}|${ARCHIVE:-/usr/bin/luvazhimba}|' -e 's|([ (=])samples/|\1/usr/libexec/luvazhimba/|g' \
       -e 's|/opt/archive/samples/|/usr/libexec/luvazhimba/|g' -- "$root/samples/$it" |
       put_text "usr/libexec/luvazhimba/$it" "$([ -x "$root/samples/$it" ] && echo 755 || echo 644)"

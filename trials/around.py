@@ -14,6 +14,8 @@ import mbox
 
 POLICY = SAMPLES / "seeds.toml"
 DASHED = "-5fW2xkQ0aTz7uYp1"
+# For these docs/STYLE.md has other terms.
+AVOIDED = re.compile(r"\b(?:held back|mails|(?:a|each|new|one) mail\b(?!ing)|bad words|anew|whoever|so many|want of)\b", re.I)
 # Lines that are separators, by docs/MBOX.md, and lines that are none.
 SEPARATORS = [
     b"From a@b Tue Mar  4 10:00:00 2003", b"From anna at example.org  Tue Mar  4 10:00:00 2003", b"From 12@xxx Tue Mar 04 10:00:00 +0100 2003",
@@ -74,6 +76,7 @@ def served(trial, program, room, db):
     copied = output(SAMPLES / "copy.sh", db, room / "copy.db")
     trial.check("samples/copy.sh copies it", (copied, output("sqlite3", "-init", "/dev/null", room / "copy.db", "PRAGMA integrity_check; SELECT count(*) FROM message")), ("", "ok\n40"))
     shown = output(SAMPLES / "show.sh", db)
+    trial.check("samples/show.sh names what it counts", shown.splitlines()[:1], ["# lists: name, messages, bytes, withdrawn, embargoed, how full (of 50,000 messages)"])
     trial.holds("samples/show.sh shows it", "seeds\t40\t10789\t0\t0" in shown, shown.splitlines()[1:2])
     server.kill()
 
@@ -225,13 +228,13 @@ def moved_in(trial, program, room):
     (room / "news.mbox").write_bytes(written)
     trial.check("the program takes in each of them", archive(program, "import", "--db", room / "news.db", "x", room / "news.mbox"), b"new 4 known 0 too-large 0\n")
     trial.check("from-public-inbox.py: no such repository", ran_to(SAMPLES / "from-public-inbox.py", room / "none"), (1, 0))
-    trial.holds("it says so", output(SAMPLES / "from-public-inbox.py", room / "none").endswith(f"from-public-inbox.py: {room / 'none'}: no repository of mails"))
+    trial.holds("it says so", output(SAMPLES / "from-public-inbox.py", room / "none").endswith(f"from-public-inbox.py: {room / 'none'}: no repository of messages"))
     maildir, folder = room / "maildir", room / "taken"
     for it in (maildir / "new", maildir / "cur", maildir / "tmp", folder):
         it.mkdir(parents=True)
     trial.check("from-maildir.py: nothing is new", ran_to(SAMPLES / "from-maildir.py", maildir, folder), (0, 0))
     (maildir / "new" / "1").write_bytes(b"Subject: x\n\nFrom a@b Mon Jan  8 09:12:47 2024\rnot one\nFrom a@b Mon Jan  8 09:12:47 2024\n\nFrom a@b Mon Jan  8 09:12:47 2024")
-    trial.holds("a mail with a line that would begin another one", output(SAMPLES / "from-maildir.py", maildir, folder) == "1 mails, 1 of them with a line that begins another one")
+    trial.check("a message with a line that would begin another one", output(SAMPLES / "from-maildir.py", maildir, folder), "1 messages, 1 of them with a line that begins another one")
     written = [it for it in folder.iterdir() if it.suffix == ".mbox"]
     trial.holds("it is one message, and in one mbox", len(written) == 1 and len(output(SAMPLES / "mbox.py", "list", written[0]).splitlines()) == 1)
     trial.holds("it is put away", [it.name for it in maildir.glob("*/*")] == ["1:2,"])
@@ -269,16 +272,19 @@ def found_in_unit(name, text):
 
 
 def helped(trial):
-    """Each sample that is run says what it does, and does nothing else."""
-    for script in sorted([*SAMPLES.glob("*.sh"), *SAMPLES.glob("*.py")]):
+    """Each sample that is run says what it does, in the terms of docs/STYLE.md, and does nothing else."""
+    for script in sorted([*SAMPLES.glob("*.sh"), *SAMPLES.glob("*.py"), *SAMPLES.glob("scale/*.sh"), SAMPLES / "scale" / "front.py", SAMPLES / "search" / "search.py"]):
         ran = subprocess.run([script, "--help"], stdin=subprocess.DEVNULL, capture_output=True, text=True, check=False)
-        trial.check(f"{script.name} --help: status, errors, whether it shows how it is called", (ran.returncode, ran.stderr, f"  samples/{script.name} " in ran.stdout), (0, "", True))
+        call = f"  samples/{script.name} " if script.parent == SAMPLES else f"{script.name} "
+        trial.check(f"{script.name} --help: status, errors, whether it shows how it is called", (ran.returncode, ran.stderr, call in ran.stdout), (0, "", True))
+        trial.check(f"{script.name} --help: terms that docs/STYLE.md avoids", AVOIDED.findall(ran.stdout), [])
 
 
 def sound(trial):
     """What shellcheck says of the scripts."""
     if trial.has("shellcheck"):
-        for script in sorted([*SAMPLES.glob("*.sh"), *SAMPLES.glob("keep/haproxy.sh")]):
+        for script in sorted([ROOT / "archive", ROOT / "check", *SAMPLES.glob("*.sh"), *SAMPLES.glob("keep/haproxy.sh"), *SAMPLES.glob("scale/*.sh"),
+                              *ROOT.glob("tools/package*.sh"), *ROOT.glob("tools/package/*inst"), *ROOT.glob("tools/package/*rm"), *ROOT.glob("tools/package/*.sh")]):
             trial.check(f"shellcheck {script.name}", output("shellcheck", "-x", script.relative_to(ROOT), cwd=ROOT), "")
 
 

@@ -207,7 +207,7 @@ def without_stamp(trial, door):
         status, said, wrong = door.run(*words)
         trial.check(f"a program without its stamp runs: {words[0]}", (status, said, door.builds() - begun, door.count("trials") - tries),
                     (0, f"ran {words[0]}\n0\n", 0, 0))
-        trial.holds("one line says so", wrong.count("\n") == 1 and "it is run as it is" in wrong, wrong)
+        trial.holds("one line says so", wrong.count("\n") == 1 and "cannot tell from which sources" in wrong and "running it anyway" in wrong, wrong)
     trial.check("help too", door.run("--help"), (0, "ran --help\n0\n", ""))
 
 

@@ -255,7 +255,7 @@ def without_serving(trial, program, script, room, few, _):
     trial.check("--once: beside one that serves", keeper.once(), (1, "keep.sh: another one has this folder, or what it began still runs\n"))
     keeper.stop()
     ran = [subprocess.run([script, *words], env=keeper.env, capture_output=True, text=True, check=False) for words in ((), ("--once",), ("--once", "a", "80"), ("a", "80", "b"))]
-    trial.check("bad words: statuses, and lines", {(it.returncode, it.stderr) for it in ran}, {(2, "keep.sh: the words are FOLDER [PORT], --once FOLDER, or --look FOLDER\n")})
+    trial.check("usage errors: statuses, and lines", {(it.returncode, it.stderr) for it in ran}, {(2, "keep.sh: usage: FOLDER [PORT], --once FOLDER, or --look FOLDER; --help says more\n")})
 
 
 def lines_of(file):

@@ -171,7 +171,7 @@ def with_tokens(trial, page, folder):
     trial.check(f"{page}: files with tokens, and those that others may read", (bool(made), [str(it.relative_to(folder)) for it in made if it.stat().st_mode & 0o077 and
                 not any(up.stat().st_mode & 0o077 == 0 for up in it.parents if folder in up.parents)]), (True, []))
     offered = subprocess.run(["git", "-c", f"safe.directory={folder}", "status", "--porcelain", "--untracked-files=all"], cwd=folder, stdout=subprocess.PIPE, text=True, check=True).stdout
-    trial.check(f"{page}: of these what git would add", [it for it in offered.splitlines() if it.endswith((".db", "/log", "/commands.done"))], [])
+    trial.check(f"{page}: of these what git would add", [it for it in offered.splitlines() if it.endswith((".db", "/log", "/commands.done", "/commands.refused"))], [])
 
 
 def build(folder, program):

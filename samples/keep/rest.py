@@ -3,7 +3,7 @@
 
   rest.py DB LIST NEXT POLICY MBOX AFTER REST
 
-AFTER messages of MBOX went into LIST before it was full. REST gets those behind them that LIST does not hold: one that it holds may
+AFTER messages of MBOX went into LIST before it was full. REST gets those after them that LIST does not hold: one that it holds may
 be withdrawn there, and shall not come back. Printed are the commands of keep.sh that make NEXT, if it is not there, with the
 threading and the grants of LIST. Where POLICY has the name of LIST in quotes and not that of NEXT, what a rule says of LIST would
 not hold of what goes on in NEXT: then it prints that, ends with status 1, and writes nothing.

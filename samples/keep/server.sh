@@ -79,7 +79,7 @@ says_503() {
   [ "$(ask_status)" = 503 ]
 }
 
-# whether the server said 503 at the last two looks: it is looked at beside all else, once a minute
+# whether the server said 503 at the last two looks: a process of its own asks, once a minute
 is_ill() {
   if [ -n "$looker" ] && ! is_there "$looker"; then
     if wait "$looker"; then times_ill=$((times_ill + 1)); else times_ill=0; fi
@@ -105,7 +105,7 @@ ask() (
     to+=("$peer")
     printf 'GET / HTTP/1.0\r\n\r\n' >&"$peer"
   done 2> /dev/null
-  # (each is closed once its reply is there: the server waits a moment for what comes behind a request)
+  # (each is closed once its reply is there: the server waits a moment for what comes after a request)
   for peer in "${to[@]}"; do read -rd '' _ <&"$peer"; exec {peer}>&-; done 2> /dev/null
   [ "${#to[@]}" -gt 0 ]
 )

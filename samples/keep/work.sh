@@ -1,4 +1,4 @@
-# keep.sh: the work: commands and mail, on a copy of the file beside the server, or in the file.
+# keep.sh: the work: commands and mail, on a copy of the file while it is served, or in the file.
 # shellcheck shell=bash
 
 # whether what was put off still waits
@@ -48,14 +48,14 @@ drop_copy() {
 }
 
 # Whether nothing waits in the file with `-wal`, to be read with this database. A command that closed the database leaves some bytes
-# there; what waits is at least a page of 4,096 bytes, behind 32 bytes of the file's and 24 of its own.
+# there; what waits is at least a page of 4,096 bytes, after 32 bytes of the file's and 24 of its own.
 is_bare() {
   local size
   size=$(stat -c %s -- "$1-wal" 2> /dev/null) || return 0
   [ "$size" -lt $((32 + 24 + 4096)) ]
 }
 
-# A copy stands for the file where nothing of either waits.
+# A copy can take the place of the file if nothing of either waits.
 work_beside() {
   drop_copy
   [ -e archive.db ] && is_bare archive.db && cp -- archive.db archive.next 2> /dev/null &&
@@ -81,7 +81,7 @@ take_copy() {
   is_bare archive.db && rm -f -- archive.db-wal archive.next-wal && mv -- archive.next archive.db && sync -- .
 }
 
-# what was done beside takes its place; where it could not be done, it is done in the file
+# what was done in the copy takes the file's place; if it could not be done, it is done in the file
 end_work() {
   wait "$worker"
   local status=$?

@@ -9,9 +9,9 @@
 #
 #   COPIES=/srv/copies     the folder of the copies: each colour of a shard is COPIES/COPY/COLOUR; with UNITS, COPIES/COLOUR
 #   ARCHIVE=archive        the program
-#   UNITS=no               `yes`: a server is the unit archive-copy@COLOUR, which systemd begins anew where it dies
+#   UNITS=no               `yes`: a server is the unit archive-copy@COLOUR, which systemd restarts if it dies
 #
-# Status 0 where it is done, 1 where it is not, with the reason on standard error; 2 for bad words.
+# Status 0 if it is done, 1 if it is not, with the reason on standard error; 2 for a usage error.
 set -eu
 case ${1-} in -h | --help) sed -n '2,/^[^#]/s/^# \{0,1\}//p' -- "$0"; exit ;; esac
 umask 077 # the database holds tokens
@@ -31,7 +31,7 @@ is_there() {
   if [ "$units" = yes ]; then
     systemctl is-active --quiet "archive-copy@$colour"
   else
-    # (a number of before the machine was started anew may be another program's now)
+    # (a number of before the machine was restarted may be another program's now)
     [ -e "$folder/pid" ] && grep -qF -- "$folder/archive.db" "/proc/$(cat "$folder/pid")/cmdline" 2> /dev/null
   fi
 }

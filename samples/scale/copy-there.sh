@@ -9,10 +9,10 @@
 # COPY is a name that ssh knows (`Host` in ~/.ssh/config, with its address, user and key; nobody is there to be asked for a password).
 #
 #   THERE=/opt/archive/samples/scale/copy-here.sh    that script on the other machine
-#   COPIES, ARCHIVE, UNITS                           what it is told there
+#   COPIES, ARCHIVE, UNITS                           what that script is given there
 #   BROUGHT=/srv/brought                             the folder there for what rsync brings, one below it for each colour
 #
-# Status 0 where it is done, 1 where it is not, 2 for bad words, 255 where ssh does not reach the machine.
+# Status 0 if it is done, 1 if it is not, 2 for a usage error, 255 if ssh does not reach the machine.
 set -eu
 case ${1-} in -h | --help) sed -n '2,/^[^#]/s/^# \{0,1\}//p' -- "$0"; exit ;; esac
 

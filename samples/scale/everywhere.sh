@@ -8,14 +8,14 @@
 #   samples/scale/everywhere.sh ROOT --refused        the lines of its newest batch that a shard refused, and what it said
 #
 # ROOT holds a folder for each shard that samples/keep.sh keeps, and ROOT/everywhere/, where the batches lie, numbered. A line is one
-# of keep.sh's; `SHARD: LINE` is for that shard alone. A person has to be known on every shard: whoever sends a token that a shard
-# does not know is told 401 there, also of pages for the public.
+# of keep.sh's; `SHARD: LINE` is for that shard alone. A person has to be known on every shard: a reader who sends a token that a
+# shard does not know gets 401 there, also for pages for the public.
 #
 # Each batch ends with a mark, `person-add at-N mark.N` with N of twelve digits: a person without grants, whom a server knows exactly
 # where it serves what that batch did. So `curl -H 'Authorization: Bearer mark.N' ADDRESS/` is 200 there, and 401 where it lags.
 #
-# Status 0; of --state 1 where a shard has not carried out the newest batch, of --refused 1 where one refused a line; 2 where a line is
-# for a shard that is not there, or the words are bad: then nothing is noted down. A shard that is away finds its lines when it is there
+# Status 0; of --state 1 if a shard has not carried out the newest batch, of --refused 1 if one refused a line; 2 if a line is for a
+# shard that is not there, or for a usage error: then nothing is noted down. A shard that is away finds its lines when it is there
 # again, in the order of their numbers (keep.sh's commands.d).
 set -eu
 case ${1-} in -h | --help) sed -n '2,/^[^#]/s/^# \{0,1\}//p' -- "$0"; exit ;; esac
@@ -77,14 +77,14 @@ give() {
   done
 }
 
-# The lines of a batch that a shard refused, each with what it said last, by its log, where a line has `--db FILE` behind its first
+# The lines of a batch that a shard refused, each with what it said last, by its log, where a line has `--db FILE` after its first
 # word. A line that was carried out once is not refused where it came again. Tokens are not shown.
 refused_of() {
   local shard=$1 batch=$2 before
   printf -v before 'at-%012d' $((10#$batch - 1))
   [ -e "$all/$batch" ] || return 0
   lines_of "$batch" "$shard" | awk -v before="$before" -v shard="$shard" '
-    NR == FNR { $1 = $1; if ($1 ~ /^[^#]/) said[$0] = "nothing stands in the log of it"; next }
+    NR == FNR { $1 = $1; if ($1 ~ /^[^#]/) said[$0] = "its log has nothing of it"; next }
     index($0, before " ") { begun = 1 }
     begun || before == "at-000000000000" {
       at = index($0, ": "); words = substr($0, 1, at - 1); told = substr($0, at + 2)

@@ -38,7 +38,7 @@ defaults
   # a server that writes a long reply answers no check meanwhile; one that is gone refuses connections, which is seen at once
   timeout check 30s
   option http-server-close
-  # requests are GET alone and change nothing, so each may be asked again, of another copy
+  # requests are GET only and change nothing, so each may be asked again, of another copy
   option redispatch 1
   retry-on all-retryable-errors
   load-server-state-from-file global
@@ -72,12 +72,12 @@ backend {colour}
   http-check expect status 200
   default-server check inter 500ms fall 1 rise 1 observe layer4 error-limit 1 on-error mark-down maxconn 4{words}
 {servers}
-# mboxes go one after the other, and to one copy alone while that is there: so they hold short pages up for one of them
+# mboxes go one after the other, and to one copy only while that is there: so they hold short pages up for one of them
 backend {colour}-long
   timeout server 120s
   retries 3
 {longs}"""
-# A keep.sh by itself is away while its file is opened: whoever asks meanwhile waits, a second between two tries, and so it has no check.
+# A keep.sh by itself is away while its file is opened: a request meanwhile waits, a second between two tries, and so it has no check.
 KEEPER = """
 backend {colour}
   timeout server 120s

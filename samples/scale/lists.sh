@@ -3,7 +3,7 @@
 #
 #   samples/scale/lists.sh ADDRESS:PORT
 #
-# Status 1 where nobody answers there, with curl's reason on standard error; 2 for bad words.
+# Status 1 if nobody answers there, with curl's reason on standard error; 2 for a usage error.
 set -eu
 case ${1-} in -h | --help) sed -n '2,/^[^#]/s/^# \{0,1\}//p' -- "$0"; exit ;; esac
 [ $# -eq 1 ] || { echo 'lists.sh: ADDRESS:PORT is to be given; --help says more' >&2; exit 2; }

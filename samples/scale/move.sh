@@ -4,14 +4,14 @@
 #   samples/scale/move.sh FILE LIST TO INTO
 #
 # FILE is the database of the shard that has LIST, served or not, TO the shard that gets it, INTO a folder, which gets
-#   LIST.mbox      every message of the list, withdrawn and held back ones too, in mailbox order, with sender and arrival
+#   LIST.mbox      every message of the list, withdrawn and embargoed ones too, in mailbox order, with sender and arrival
 #   before         lines: the list, how it is threaded, all persons with their addresses, the grants on the list
-#   after          lines, once the mail is in: what is withdrawn or held back
+#   after          lines, once the mail is in: what is withdrawn or embargoed
 #   withdrawn      LIST/KEY of each message that is withdrawn, for publish.sh
 # and tries them: an archive is made of before, LIST.mbox and after, and its rows have to be those of FILE. before and after hold tokens.
 # What FILE takes in meanwhile is not in them, so have its mail wait from here until the move is done (docs/SCALE.md, "Move a list").
 #
-# Status 0 where the rows are the same; 1 where one is not, or LIST or FILE is not there; 2 for bad words. ARCHIVE is the program.
+# Status 0 if the rows are the same; 1 if one is not, or LIST or FILE is not there; 2 for a usage error. ARCHIVE is the program.
 set -eu
 case ${1-} in -h | --help) sed -n '2,/^[^#]/s/^# \{0,1\}//p' -- "$0"; exit ;; esac
 umask 077 # the lines hold tokens
@@ -32,7 +32,7 @@ mkdir -p -- "$into"
 
 ask() { sqlite3 -batch -init /dev/null -separator ' ' "$work/$1.db" "$2"; }
 
-# (a token that begins with `-` stands behind `--`)
+# (a token that begins with `-` goes after `--`)
 write_before() {
   ask a "SELECT 'person-add', CASE WHEN token LIKE '-%' THEN '-- ' ELSE '' END || name, token FROM person ORDER BY rowid"
   ask a "SELECT 'person-address', CASE WHEN address LIKE '-%' THEN '-- ' ELSE '' END || person, address FROM address ORDER BY rowid"

@@ -10,7 +10,7 @@
 #   DAY=2026-12-01     the day to serve: tomorrow's, a few minutes before midnight, with AT
 #   AT=1796083200      the second (of 1970) at which readers are changed over: midnight
 #   SOCKETS            HAProxy's sockets, more than one where there are several proxies (/run/haproxy/archive.sock)
-#   RUN                what carries out its three steps on the machine of a copy (copy-here.sh beside this script; copy-there.sh)
+#   RUN                what carries out its three steps on the machine of a copy (copy-here.sh in this script's folder; copy-there.sh)
 #   PATIENCE=60        how many seconds such a step may take: a large file over a slow wire wants more
 #   ASK=http://        how a copy is asked from here; with `https://`, ASK_WITH has a curl configuration with `cacert` and `cert`
 #   ASK_AS=FILE        a file with a line `Authorization: Bearer TOKEN`: LIST/KEY is asked for as this reader, where the public reads
@@ -19,7 +19,7 @@
 #   STALE=no           `yes`: where there are fewer, readers get 503 and not what is out of date
 #
 # Each shard has two colours of servers. One is asked. The other is begun with the new file, on each copy's machine, and asked by
-# this script: for the keeper's newest mark (everywhere.sh), and for each LIST/KEY. Then the proxy is told, in one line, to ask
+# this script: for the keeper's newest mark (everywhere.sh), and for each LIST/KEY. Then one line has the proxy ask
 # the other colour. What it asked before goes on for as long as replies are under way, two minutes at most, and is stopped. The last
 # lines say when:
 #
@@ -29,7 +29,7 @@
 # Status 0 where both were said. 1 where one was not, with the reason on standard error: there are too few copies (policy.toml is no
 # policy, a copy's machine is not reached); the keeper's newest mark is older than what readers have, as its folder is an old one; a
 # proxy could not be told. Then the servers of before are ended all the same, so that such a proxy has nobody to ask and says 503.
-# 2 where the words are bad.
+# 2 for a usage error.
 set -eu
 case ${1-} in -h | --help) sed -n '2,/^[^#]/s/^# \{0,1\}//p' -- "$0"; exit ;; esac
 umask 077 # the database holds tokens
@@ -124,7 +124,7 @@ note_map() {
   flock -u 8
 }
 
-# which servers are left out, so that this stays so where HAProxy is begun anew
+# which servers are left out, so that this stays so if HAProxy is restarted
 note_states() {
   local said
   flock 8
@@ -176,7 +176,7 @@ stop_all() {
   return "$status"
 }
 
-# Has the proxies ask those servers of the next colour alone that are good, and those by the mark all the time; and waits until they
+# Has the proxies ask only those servers of the next colour that are good, and those by the mark all the time; and waits until they
 # have asked them.
 admit() {
   local copy at status=0

@@ -1,7 +1,7 @@
 #!/bin/sh
-# Installs the archive from the files beside this script, as root, on a system with systemd or without:
+# Installs the archive from the files in this script's folder, as root, on a system with systemd or without:
 #
-#   sh install.sh [FOLDER]            into FOLDER, / where none is given: files alone, no user and no unit where it is not /
+#   sh install.sh [FOLDER]            into FOLDER, or / if none is given; into another one than / only files, no user and no unit
 #   sh install.sh --remove [FOLDER]   takes them away again; the settings in etc, the archive and its backups stay
 #
 # It says what the system lacks before it changes anything, begins nothing, and has a server that runs go on with the new program. It
@@ -55,7 +55,7 @@ install_all() {
   ./usr/bin/luvazhimba --version > /dev/null || { echo "install.sh: nothing was changed, since the program does not run here" >&2; exit 1; }
   cut -c 67- SUMS | while IFS= read -r it; do
     case $it in etc/*) [ ! -e "$to/$it" ] || continue ;; esac
-    # (in one step, so that whoever runs the old file goes on with it)
+    # (in one step, so that a process that runs the old file goes on with it)
     install -D -m "$(stat -c %a -- "$it")" -- "$it" "$to/$it.new"
     mv -- "$to/$it.new" "$to/$it"
   done

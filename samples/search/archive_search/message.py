@@ -201,7 +201,7 @@ def shown_text(kind, parameters, content):
 
 
 def text_of_html(text):
-    """Returns what stands between the tags; only elements whose text is not shown are left out."""
+    """Returns what is between the tags; only elements whose text is not shown are left out."""
     first, *rest = text.split("<")
     pieces, until = [first], None
     for part in rest:
