@@ -161,10 +161,45 @@ def check(path):
     return sqlite3.connect(path).execute("PRAGMA integrity_check").fetchone()[0]
 
 
+def named(text):
+    """The names in backticks."""
+    return tuple(re.findall(r"`(\w+)`", text))
+
+
 def documented():
-    """The texts of the tables in docs/TABLES.md."""
+    """The tables of docs/TABLES.md, each with its columns, keys, ranges and indexes."""
     page = (ROOT / "docs" / "TABLES.md").read_text()
-    return [text.removesuffix(";") for text in re.findall(r"^CREATE (?:TABLE|INDEX) .*;$", page, re.MULTILINE)]
+    first, last = re.search(r"^\| `from_day`[^|]*\| days since [0-9-]+, (-?\d+) to (-?\d+)", page, re.MULTILINE).groups()
+    days = {it: (first, last) for it in named(re.search(r"^\| (`from_day`[^|]*)\|", page, re.MULTILINE)[1])}
+    tables = {}
+    for name, columns, keys in re.findall(r"^\| `(\w+)` \| (`\w+` [A-Z].*?) \| (.*?) \|$", page, re.MULTILINE):
+        found = {column: (kind, bool(empty)) for column, kind, empty in re.findall(r"`(\w+)` ([A-Z]+)( or NULL)?", columns)}
+        primary = re.search(r"primary key(?: (\([^)]*\)|`\w+`))?", keys)
+        # (of one foreign key the column before it is meant, of several all before them)
+        foreign = {it for before, many in re.findall(r"(.*?)\(foreign key(s?)\)", columns) for it in (named(before) if many else named(before)[-1:])}
+        ranges = {column: ends for column, *ends in re.findall(r"`(\w+)` INTEGER (\d) (?:to|or) (\d)", columns)}
+        ranges |= {it: list(ends) for it, ends in days.items() if it in found}
+        unique = {named(it) for it in re.findall(r"unique (\([^)]*\))", keys)} | {(it,) for it in re.findall(r"`(\w+)` unique", keys)}
+        checks = {f"{it} BETWEEN {low} AND {high}" for it, (low, high) in ranges.items()} | {*re.findall(r"`(\w+ <= \w+)`", keys)}
+        indexes = {*named(re.search(r"indexes (.*)|$", keys)[1] or "")}
+        # (a primary key without names is the only column)
+        tables[name] = found, (named(primary[1]) if primary[1] else (*found,)) if primary else (), unique, foreign, checks, indexes
+    return tables
+
+
+def tables_of(path):
+    """The tables of a file, as `documented` has them; one that is not STRICT has no columns."""
+    stock = sqlite3.connect(path)
+    asked = lambda text: stock.execute(text).fetchall()
+    tables = {}
+    for name, made in asked("SELECT name, sql FROM sqlite_schema WHERE type = 'table' AND name NOT LIKE 'sqlite%'"):
+        rows = asked(f"PRAGMA table_info({name})")
+        indexes = {(index, origin): tuple(it[2] for it in asked(f"PRAGMA index_info({index})")) for _, index, _, origin, _ in asked(f"PRAGMA index_list({name})")}
+        columns = {column: (kind, not filled and not (kind == "INTEGER" and key)) for _, column, kind, filled, _, key in rows} if made.endswith(" STRICT") else {}
+        tables[name] = (columns, tuple(it[1] for it in sorted(rows, key=lambda it: it[5]) if it[5]), {those for (_, origin), those in indexes.items() if origin == "u"},
+                        {it[3] for it in asked(f"PRAGMA foreign_key_list({name})")}, {*re.findall(r"CHECK \(([^()]*)\)", made)}, {index for index, origin in indexes if origin == "c"})
+    stock.close()
+    return tables
 
 
 def in_new_file(asked, folder, call):
@@ -247,7 +282,7 @@ def main():
         print(f"held, in multiples of the texts: {held} (at most 1.3)")
         ours = os.path.join(folder, "batch-0.db")
         print(f"integrity_check of stock SQLite: {check(ours)}")
-        print(f"tables as in docs/TABLES.md: {'yes' if schema_of(ours) == documented() else 'NO'}")
+        print(f"tables as in docs/TABLES.md: {'yes' if tables_of(ours) == documented() else 'NO'}")
         growing(asked, folder, "grow", ["a thousand more to 1,000 and to 49,000:"])
         growing(asked, folder, "lists", ["a hundred where two lists hold 49,000 and 52,100:"])
         bringing_over(asked, folder)

@@ -10,7 +10,7 @@ import os, pathlib, re, shutil, sqlite3, stat, subprocess, tempfile
 
 from trial import ROOT, SAMPLES, Server, Trial, output, words_of
 from serving import archive, make_archive
-import mbox
+import mbox, store
 
 POLICY = SAMPLES / "seeds.toml"
 DASHED = "-5fW2xkQ0aTz7uYp1"
@@ -46,6 +46,8 @@ def refused(program, *words):
 def surprises(trial, program, room):
     """What surprises, and is said in docs/REFUSALS.md and docs/COMMANDS.md."""
     db = make_archive(program, room)
+    found, wanted = store.tables_of(db), store.documented()
+    trial.check("tables of a FILE, and those with other columns, keys, ranges or indexes than docs/TABLES.md has", (len(found), [it for it in {**found, **wanted} if found.get(it) != wanted.get(it)]), (7, []))
     trial.check("a FILE that is mistyped is made, and has no list (E4)", refused(program, "import", "--db", room / "archve.db", "seeds", SAMPLES / "seeds.mbox"), (1, "archive: E4 NoList after 0"))
     trial.check("so it is for a question (G1)", refused(program, "export", "--db", room / "arhive.db", "--policy", POLICY, "seeds"), (1, "archive: G1 NoList"))
     trial.holds("both files are there then", (room / "archve.db").exists() and (room / "arhive.db").exists())
