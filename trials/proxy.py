@@ -47,6 +47,13 @@ MEASURE = """(() => {
   return { width: innerWidth, scroll: document.documentElement.scrollWidth, left, styles: document.styleSheets.length, rows: rows.length,
     narrowest: Math.min(...links.filter(it => it.href.includes('/m/')).map(it => Math.round(it.getBoundingClientRect().width))) };
 })()"""
+# (what was visited no page can ask: the rule is taken without that)
+MARKED = """(() => {
+  const rules = [...document.styleSheets].flatMap(it => [...it.cssRules]).filter(it => it.style?.color === "var(--seen)");
+  const marked = new Set(rules.flatMap(it => [...document.querySelectorAll(it.selectorText.replaceAll(":visited", ""))]));
+  const messages = [...document.links].filter(it => /^\\/l\\/[^/]+\\/m\\/[0-9a-f]{64}$/.test(it.pathname));
+  return [messages.filter(it => marked.has(it)).length, marked.size - messages.filter(it => marked.has(it)).length, messages.filter(it => !marked.has(it)).length];
+})()"""
 
 
 class Proxy:
@@ -208,6 +215,13 @@ def drawn(trial, proxy, browser, pictures):
     browser.tell("Emulation.setScriptExecutionDisabled", browser.session, value=False)
 
 
+def read_before(trial, proxy, browser):
+    """What the style marks once it was read: the links of messages, and of a list named m no other ones."""
+    for path, messages in (("/l/seeds/threads", 40), ("/l/m/threads", 40), ("/l/m/month/2024-02", 11), ("/", 0)):
+        browser.open(f"https://{NAME}:{proxy.tls}{path}")
+        trial.check(f"browser {path}: links that are marked once they were read: of messages, others, of messages not marked", browser.value(MARKED), [messages, 0, 0])
+
+
 def entered(trial, proxy, browser):
     """A token that is entered in a browser."""
     rows = "document.querySelectorAll('a[href*=\"/m/\"]').length"
@@ -256,13 +270,13 @@ def log(trial, proxy):
 
 
 def made(program, folder):
-    """The sample list with a trap, one mail of it withdrawn, a moderator, and a list of three thousand mails."""
+    """The sample list with a trap, one message of it withdrawn, a moderator, a list of three thousand messages, and one named m."""
     db = make_archive(program, folder)
     (pathlib.Path(folder) / "trap.mbox").write_bytes(TRAP)
     many = pathlib.Path(folder) / "many.mbox"
     output(sys.executable, ROOT / "bench" / "gen_mbox.py", "--n", 3000, "--out", many)
     for words in (("import", "seeds", f"{folder}/trap.mbox"), ("withdraw", "seeds", KEYS, "author"), ("person-add", "mo", TOKEN),
-                  ("grant", "mo", "seeds", "moderator", "2024-01-01", "2024-12-31"), ("list-add", "many"), ("import", "many", many)):
+                  ("grant", "mo", "seeds", "moderator", "2024-01-01", "2024-12-31"), ("list-add", "many"), ("import", "many", many), ("list-add", "m"), ("import", "m", SAMPLES / "seeds.mbox")):
         archive(program, words[0], "--db", db, *words[1:])
     return db
 
@@ -283,6 +297,7 @@ def main():
                 browser = Browser(program, proxy.folder / "profile")
                 time.sleep(4)
                 drawn(trial, proxy, browser, asked.pictures)
+                read_before(trial, proxy, browser)
                 entered(trial, proxy, browser)
                 browser.close()
             else:
