@@ -94,13 +94,13 @@ put_program() {
   put "$work/proof" "$owners/PROOF"
 }
 
-# the samples' scripts, which call the program by the name that it has there
+# the samples' scripts, which call the program by the name that it has there, and name the pages where they lie
 put_scripts() {
   git -C "$root/samples" ls-files -- '*.sh' '*.py' > "$work/list"
   while read -r it; do
     # shellcheck disable=SC2016
     sed -E -e 's|\$\{ARCHIVE:-[^}]*\}|${ARCHIVE:-/usr/bin/luvazhimba}|' -e 's|([ (=])samples/|\1/usr/libexec/luvazhimba/|g' \
-      -e 's|/opt/archive/samples/|/usr/libexec/luvazhimba/|g' -- "$root/samples/$it" |
+      -e 's|/opt/archive/samples/|/usr/libexec/luvazhimba/|g; s|\bdocs/([A-Z-]+\.md)|/usr/share/doc/luvazhimba/\1|g' -- "$root/samples/$it" |
       put_text "usr/libexec/luvazhimba/$it" "$([ -x "$root/samples/$it" ] && echo 755 || echo 644)"
   done < "$work/list"
   ! grep -rE '/\.\./archive|/opt/archive' -- "$top/usr/libexec/luvazhimba" || fail "a script has a place of a clone"
@@ -135,8 +135,9 @@ put_search() {
 put_pages() {
   python3 "$tools/owner_page.py" --list > "$work/list"
   while read -r page place; do python3 "$tools/owner_page.py" "$page" | put_text "$owners/$place"; done < "$work/list"
-  git -C "$root/samples" ls-files -- '*.mbox' '*.toml' mbsyncrc '*/*' ':!*/README.md' ':!*.sh' ':!*.py' ':!scale/archive*' > "$work/list"
+  git -C "$root/samples" ls-files -- '*.mbox' '*.toml' '*/*' ':!*/README.md' ':!*.sh' ':!*.py' ':!scale/archive*' > "$work/list"
   while read -r it; do put "$root/samples/$it" "$owners/examples/$it"; done < "$work/list"
+  sed -e "s|samples/mbsyncrc|/$owners/examples/mbsyncrc|; s|samples/|/usr/libexec/luvazhimba/|g" -- "$root/samples/mbsyncrc" | put_text "$owners/examples/mbsyncrc"
   sed -E -e 's/\\fBarchive( |\\)/\\fBluvazhimba\1/g' -e 's/^archive (\\-|[a-z])/luvazhimba \1/' -e 's/^\.TH ARCHIVE/.TH LUVAZHIMBA/; s/"archive ([0-9.]+)"/"luvazhimba \1"/' \
     -e 's|docs/([A-Z]+\.md)|\1|g; s| in the repository; \\fBsamples/keep.sh\\fR there| in /usr/share/doc/luvazhimba; \\fB/usr/libexec/luvazhimba/keep.sh\\fR|' \
     -e '/^\.SH DESCRIPTION/i .SH NAMES\nThe program calls itself \\fBarchive\\fR in its help and in its messages.' -- "$root/docs/archive.1" |

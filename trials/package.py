@@ -161,16 +161,18 @@ def other_systems(trial, files, room):
     pages_of(trial, room / "to" / "usr/share/doc/luvazhimba")
     trial.check("settings that are there stay", (room / "to" / "etc" / "luvazhimba" / "policy.toml").read_text(), "# mine\n")
     ran("sh", script, "--remove", room / "to")
-    trial.check("what --remove leaves", sorted(str(it.relative_to(room / "to")) for it in (room / "to").rglob("*") if it.is_file()), ["etc/default/luvazhimba", "etc/luvazhimba/policy.toml"])
+    trial.check("what --remove leaves", sorted(str(it.relative_to(room / "to")) for it in (room / "to").rglob("*") if it.is_file()), ["etc/default/luvazhimba", "etc/default/luvazhimba-search", "etc/luvazhimba/policy.toml"])
     return script.parent
 
 
 def pages_of(trial, folder):
-    """The pages for owners: they speak of no clone, and each link leads to a file."""
+    """The pages for owners, and the scripts: they speak of no clone, and each link leads to a file."""
     pages = {it: it.read_text() for it in sorted(folder.rglob("*.md"))}
     trial.check("pages that are not there", [it for it in ("README.md", "WALKTHROUGH.md", "WITHDRAWN.md", "COMPARISON.md", "PROVED.md", "layers/store.md") if folder / it not in pages], [])
     trial.check("lines of pages that speak of a clone", [f"{file.name}: {line[:90]}" for file, text in pages.items() for line in text.splitlines() if re.search(OF_A_CLONE, line)], [])
     links = [(file, it.partition("#")[0]) for file, text in pages.items() for it in re.findall(r"\]\(([^)\s:]+)\)", text)]
+    scripts = {it: it.read_text() for it in [*(folder.parents[1] / "libexec/luvazhimba").rglob("*.*"), folder / "examples/mbsyncrc"] if it.is_file()}
+    trial.check("scripts, and those that speak of a clone", (len(scripts) > 20, [it.name for it, text in scripts.items() if re.search(r"(^|[^A-Za-z./])(docs|samples)/", text)]), (True, []))
     trial.check("links that lead nowhere", [f"{file.name}: {it}" for file, it in links if it and not (file.parent / it).exists()], [])
 
 
