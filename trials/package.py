@@ -171,7 +171,7 @@ def pages_of(trial, folder):
     trial.check("pages that are not there", [it for it in ("README.md", "WALKTHROUGH.md", "WITHDRAWN.md", "COMPARISON.md", "PROVED.md", "layers/store.md") if folder / it not in pages], [])
     trial.check("lines of pages that speak of a clone", [f"{file.name}: {line[:90]}" for file, text in pages.items() for line in text.splitlines() if re.search(OF_A_CLONE, line)], [])
     links = [(file, it.partition("#")[0]) for file, text in pages.items() for it in re.findall(r"\]\(([^)\s:]+)\)", text)]
-    scripts = {it: it.read_text() for it in [*(folder.parents[1] / "libexec/luvazhimba").rglob("*.*"), folder / "examples/mbsyncrc"] if it.is_file()}
+    scripts = {it: it.read_text() for it in [*(folder.parents[2] / "libexec/luvazhimba").rglob("*.*"), folder / "examples/mbsyncrc"] if it.is_file()}
     trial.check("scripts, and those that speak of a clone", (len(scripts) > 20, [it.name for it, text in scripts.items() if re.search(r"(^|[^A-Za-z./])(docs|samples)/", text)]), (True, []))
     trial.check("links that lead nowhere", [f"{file.name}: {it}" for file, it in links if it and not (file.parent / it).exists()], [])
 
