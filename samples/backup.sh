@@ -10,7 +10,7 @@
 # fewer than the newest backup holds. TO/backups.made then has its name and how many messages it holds. Of the files that it
 # lists and that still hold as many, the last COUNT stay (14). No other file is counted or removed, whatever its name.
 #
-# Status 1, and a line on standard error, if something is missing; then nothing older is removed. If the archive was rebuilt without
+# Status 1, and a line on standard error, if something is missing; then no older file is removed, and no copy stays. If the archive was rebuilt without
 # some of its messages, move the older backups away first. ARCHIVE is the program.
 set -eu
 case ${1-} in -h | --help) sed -n '2,/^[^#]/s/^# \{0,1\}//p' -- "$0"; exit ;; esac
@@ -65,7 +65,7 @@ try_copy() {
   [ "$said" = "$had" ] || die "$folder/archive.db: of $had messages \`check\` had $said"
 }
 
-trap 'rm -f -- "$tried" "$tried-wal" "$tried-shm"' EXIT
+trap 'rm -f -- "$new" "$new-wal" "$new-shm" "$tried" "$tried-wal" "$tried-shm"' EXIT
 "$here/copy.sh" "$folder/archive.db" "$new"
 try_copy
 read -r newest most <<< "$(counted | head -n 1)"

@@ -192,12 +192,25 @@ def backups(trial, program, room):
     trial.check("and nothing older goes", len(there()), 7)
     (kept / "lost.db").rename(db)
     text = bytearray(db.read_bytes())
+    change_a_text(db)
+    status, said = back_up(1)
+    trial.holds("backup.sh: a message that stock sqlite3 finds whole and `check` does not is told, and takes no backup's place", status == 1 and "archive.db: archive: E16 Damaged seeds" in said
+                and newest.read_bytes() == was and len(there()) == 7, said)
     text[4096:8192] = b"\xa5" * 4096
     db.write_bytes(text)
     status, said = back_up(1)
     trial.holds("backup.sh: a damaged file is told, and nothing older goes", status == 1 and "archive.db: " in said and len(there()) == 7, f"{status} {said[-80:]}")
+    trial.check("backup.sh: of copies that were not taken nothing stays", [it.name for it in to.iterdir() if ".new" in it.name], [])
     checked(trial, program, room, newest)
     trial.check("copy.sh: no such file", output(SAMPLES / "copy.sh", room / "none", room / "x"), f"copy.sh: {room / 'none'}: no such file")
+
+
+def change_a_text(db):
+    """Changes the text of the first message, by stock SQLite, and not its key."""
+    stock = sqlite3.connect(db)
+    stock.execute("UPDATE message SET text = CAST(text || 'x' AS BLOB) WHERE pos = (SELECT min(pos) FROM message)")
+    stock.commit()
+    stock.close()
 
 
 def checked(trial, program, room, whole):
@@ -205,10 +218,7 @@ def checked(trial, program, room, whole):
     trial.check("check.sh: a file that is not there is refused, and not made", (refused_by(program, SAMPLES / "check.sh", room / "none.db"), (room / "none.db").exists()),
                 ((1, f"check.sh: {room / 'none.db'}: no such file"), False))
     shutil.copyfile(whole, room / "filed.db")
-    stock = sqlite3.connect(room / "filed.db")
-    stock.execute("UPDATE message SET text = CAST(text || 'x' AS BLOB) WHERE pos = (SELECT min(pos) FROM message)")
-    stock.commit()
-    stock.close()
+    change_a_text(room / "filed.db")
     status, said = refused_by(program, SAMPLES / "check.sh", whole, room / "filed.db")
     trial.holds("check.sh: a damaged file is told, and the other one too", status == 1 and f"{whole}: ok" in said and "filed.db: archive: E16 Damaged seeds" in said, said)
     trial.check("check.sh: no file", refused_by(program, SAMPLES / "check.sh")[0], 2)
