@@ -1,7 +1,7 @@
 #!/usr/bin/env python3
 """store.py: how fast the tables take messages in and give them back, beside stock SQLite in the same run.
 
-  bench/store.py [--messages 20000] [--bytes 3000] [--rounds 3] [--probe PROGRAM] [--folder FOLDER]
+  bench/store.py [--messages 20000] [--bytes 3000] [--older 50000] [--rounds 3] [--probe PROGRAM] [--folder FOLDER]
 
 Adds --messages messages of --bytes bytes to one list of a new file, by the
 program crates/archive_probe and by Python's sqlite3 (the same tables, WAL,

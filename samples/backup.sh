@@ -79,7 +79,9 @@ for it in policy.toml commands.done mail.done; do
   [ -e "$folder/$it" ] || [ -L "$folder/$it" ] || continue
   # (a backup that holds a link holds nothing)
   [ ! -L "$to/$it" ] || rm -- "$to/$it"
-  cp -ruL --preserve=timestamps -- "$folder/$it" "$to/"
+  # (mail that is there is not copied again; a policy may be older than the one before it)
+  case $it in mail.done) how=--update ;; *) how=--force ;; esac
+  cp -rL "$how" --preserve=timestamps -- "$folder/$it" "$to/"
   chmod -R go= -- "$to/$it"
 done
 sync -- "$to/$name" "$made"

@@ -181,6 +181,9 @@ def backups(trial, program, room):
     trial.check("nor for one that holds fewer than it did", (back_up(10), len(there())), ((0, ""), 13))
     trial.check("backup.sh: what stays of 4", (back_up(4), there()), ((0, ""), ["archive-2000-01-01.db", *(f"archive-2001-01-{day:02}.db" for day in (7, 8, 9, 10)), newest.name, "archive-2099-01-01.db"]))
     trial.check("backup.sh: of a link what it leads to is taken", ((to / "policy.toml").is_symlink(), (to / "policy.toml").read_text()), (False, "x = 1\n"))
+    (room / "rules.toml").write_text("x = 0\n")
+    os.utime(room / "rules.toml", (0, 0))
+    trial.check("backup.sh: a policy that is older than the one before it is taken too", (back_up(4), (to / "policy.toml").read_text()), ((0, ""), "x = 0\n"))
     own = [newest, to / "policy.toml", to / "mail.done", to / "mail.done" / "seeds" / "1.mbox", to / "backups.made"]
     trial.check("backup.sh: what it makes is its owner's alone", [it.name for it in own if it.stat().st_mode & 0o077], [])
     trial.check("the copy is whole, as check.sh finds", refused_by(program, SAMPLES / "check.sh", newest), (0, f"{newest}: ok\n{newest}: seeds 40"))
@@ -280,6 +283,20 @@ def units(trial):
         for name in ("archive.service", "archive-once.service", "archive-backup.service", "archive-look.service", "archive-search.service"):
             said = output("systemd-analyze", "security", "--offline=yes", "--no-pager", SAMPLES / name).splitlines()[-1]
             trial.holds(f"exposure of {name}, at most 1.5", float(re.search(r"[0-9.]+(?= [A-Z])", said)[0]) <= 1.5, said)
+
+
+def called(trial):
+    """The scripts of trials and bench can be called; docs/TRIALS.md has each trial, whose head shows all options."""
+    scripts = [it for folder in ("trials", "bench") for it in sorted((ROOT / folder).iterdir()) if it.is_file() and it.read_bytes()[:2] == b"#!"]
+    trial.check("scripts that cannot be called", [it.name for it in scripts if not os.access(it, os.X_OK)], [])
+    trials = {it.name: it for it in scripts if it.parent.name == "trials"}
+    rows = re.findall(r"^\| `trials/([a-z_.-]+)", (ROOT / "docs" / "TRIALS.md").read_text(), re.MULTILINE)
+    trial.check("trials without a row in docs/TRIALS.md, and rows without a trial", (sorted({*trials} - {*rows}), sorted({*rows} - {*trials})), ([], []))
+    for name in sorted(it for it in trials if it.endswith(".py")):
+        usage, _, about = output(trials[name], "--help").partition("\n\n")
+        head = re.search(rf"^  trials/{name}(?: .*)?$", about, re.MULTILINE)
+        options = lambda text: {*re.findall(r"--[a-z-]+", text)} - {"--help"}
+        trial.check(f"{name} --help: options that its head lacks, or has and are none", sorted(options(usage) ^ options(head[0] if head else "--none")), [])
 
 
 def found_in_unit(name, text):
@@ -383,6 +400,7 @@ def main():
         units(trial)
         helped(trial)
         sound(trial)
+        called(trial)
         completed(trial)
         told(trial, asked.archive)
         for what in (surprises, cutting, policies, backups, moved_in):

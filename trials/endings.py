@@ -130,6 +130,7 @@ def ill(trial, program, script, room):
     (keeper.folder / "ill").unlink()
     took = keeper.until(lambda: asked(keeper.port, "/") == "200", 60)
     trial.holds("another one begins", asked(keeper.port, "/") == "200" and keeper.log().count("the server says 503: another one begins\n") == 1, f"after {took:.1f} s")
+    trial.holds("--look says so", keeper.look()[1].count(" the server says 503: another one begins\n") == 1)
     time.sleep(4)
     trial.check("and stays", (keeper.log().count("another one begins\n"), asked(keeper.port, "/"), keeper.stop()), (1, "200", 0))
 

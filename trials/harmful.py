@@ -1,7 +1,7 @@
 #!/usr/bin/env python3
 """harmful.py: worked cases of harmful mail and harmful peers, on the built program, over sockets.
 
-  trials/harmful.py [--archive PROGRAM]
+  trials/harmful.py [--archive PROGRAM] [--scratch FOLDER]
 
 Identifiers behind thousands of parentheses, a ring of 500 messages, a chain of 2,000, 2,000 references that nobody owns, a
 subject and an author of what a page has to escape, each beginning of a head, heads as large as may be and larger, a peer

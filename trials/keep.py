@@ -1,15 +1,16 @@
 #!/usr/bin/env python3
-"""keep.py: samples/keep.sh whole: what it takes in, what it serves, and how long readers find nobody.
+"""keep.py: samples/keep.sh whole: what it takes in, what it serves, and how long readers get no answer.
 
-  trials/keep.py [--archive PROGRAM] [--script KEEP.SH] [--mails 7000] [--more 20000]
+  trials/keep.py [--archive PROGRAM] [--script KEEP.SH] [--mails 7000] [--more 20000] [--only NAME]
 
 A reader asks all the time, while a command comes, a large mbox, another policy, a text that is no policy; then as fast as it can;
 then the script is killed or stopped in the middle of its work, and begun again. It prints the longest time between two answers,
 beside the time of one command on the same file, and asks for at most three times that and a second. The archive holds --mails
-messages at first, and --more come. Then eight writers give a hundred orders while an import runs, `--once` works without serving,
-commands are mistyped, `--look` says what there is to see to, and a list gets full. --only NAME tries one of the later parts. The last line is 'N passed, N failed, N skipped'.
+messages at first, and --more come. Then eight writers give a hundred commands while an import runs, `--once` works without serving,
+commands are mistyped, `--look` prints what its owner has to deal with, and a list gets full. --only NAME tries one of the later parts:
+ordered, behind_mail, without_serving, mistyped, looked_at or filled. The last line is 'N passed, N failed, N skipped'.
 """
-import pathlib, shutil, signal, socket, sqlite3, subprocess, sys, tempfile, threading, time
+import os, pathlib, shutil, signal, socket, sqlite3, subprocess, sys, tempfile, threading, time
 
 from trial import ROOT, SAMPLES, Trial, output, words_of
 from keeper import OPEN, SHUT, Keeper, Reader, one_command
@@ -330,6 +331,20 @@ def looked_at(trial, program, script, room, few, _):
     keeper.until(lambda: keeper.page("/"), 60)
     keeper.stop()
     trial.check("what was seen to is not shown again", keeper.look(), (0, ""))
+    waited_for(trial, keeper, script, room, few)
+
+
+def waited_for(trial, keeper, script, room, few):
+    """`--look` finds what has waited for two hours. Nobody can set the time of such a change, so a stand-in for `find` asks for one of now."""
+    (room / "bin").mkdir()
+    (room / "bin" / "find").write_text(f'#!/bin/bash\nexec {shutil.which("find")} "${{@/#+120/-120}}"\n')
+    (room / "bin" / "find").chmod(0o755)
+    late = Keeper(script, "/bin/false", keeper.folder, PATH=f"{room / 'bin'}:{os.environ['PATH']}")
+    late.order("1", "list-add late\n")
+    late.order(".2", "list-add unfinished\n")
+    late.mail("late", few)
+    trial.check("--look: what waits now", keeper.look(), (0, ""))
+    trial.check("--look: what has waited for two hours", (late.look()[0], sorted(late.look()[1].splitlines())), (1, [f"{it}: it has waited for two hours" for it in ("commands.d/1", "mail/late/come.mbox")]))
 
 
 def small_mails(file, numbers):
@@ -356,6 +371,7 @@ def filled(trial, program, script, room, *_):
     full = (keeper.folder / "full").read_text().split(" ", 1)[1].split(": ")
     trial.check("the file `full` says of which list, after how many, and where it lies",
                 (full[:2], [str(it.relative_to(keeper.folder)) for it in (keeper.folder / "mail.refused").glob("soc/*.mbox")]), (["soc", "E12 ListFull after 1"], [full[2].strip()]))
+    trial.holds("--look has it too", f"full: {(keeper.folder / 'full').read_text().strip()}" in keeper.look()[1].splitlines())
     (keeper.folder / "continue").touch()
     (keeper.folder / "policy.toml").write_text('[[rule]]\nname = "a"\neffect = "allow"\nlists = ["soc"]\n')
     keeper.mail("soc", over)

@@ -1,7 +1,7 @@
 #!/usr/bin/env python3
 """peers.py: a server that many peers come to at once, or one after the other, and that has to be the same afterwards.
 
-  trials/peers.py [--archive PROGRAM] [--only WORD] [--peers 10000]
+  trials/peers.py [--archive PROGRAM] [--only WORD] [--peers 10000] [--scratch FOLDER]
 
 Each case starts a server on 127.0.0.1, does what its name says, and then asks for all lists. The reply has to be the page,
 within 20 seconds; the server has to end by itself with status 0; its lines of faults may be S1 and S2 alone; and it may hold

@@ -450,17 +450,17 @@ def too_few(s):
 
 
 def a_day(s):
-    """A day begins at an instant: what was held back until then is shown from there on."""
+    """A day begins at an instant: what was embargoed until then is shown from there on."""
     t, farm = s.t, s.farm
     key = s.a_key("dill")
     farm.everywhere(f"dill: embargo dill-list {key} {NEXT_DAY}\n")
-    t.check("a mail is held back", (farm.settled(), farm.publish("dill", f"dill-list/{key}")[0], asked(farm.port, s.path("dill", key))[0]), (True, 0, 403))
+    t.check("a message is embargoed", (farm.settled(), farm.publish("dill", f"dill-list/{key}")[0], asked(farm.port, s.path("dill", key))[0]), (True, 0, 403))
     instant = int(time.time()) + 15
     (code, times, said), notes = s.while_read("a day begins", lambda: farm.publish("dill", DAY=NEXT_DAY, AT=str(instant)), [s.path("dill", key)], (200, 403))
     if not t.check("and is published", code, 0):
         return print(said)
     t.holds("within a second of its instant", 0 <= times["changed"] - instant < 1, f"{(times['changed'] - instant) * 1000:.0f} ms")
-    t.check("shown before it; held back after it", (sum(status == 200 and done_at < instant for _, done_at, _, status in notes),
+    t.check("shown before it; denied after it", (sum(status == 200 and done_at < instant for _, done_at, _, status in notes),
                                                     sum(status == 403 and asked_at > times["changed"] for asked_at, _, _, status in notes)), (0, 0))
 
 
@@ -606,7 +606,7 @@ def at_once(s):
 
 
 def moved(s):
-    """A list goes to another shard while it is read, with what is withdrawn and held back, its grants and threading."""
+    """A list goes to another shard while it is read, with what is withdrawn and embargoed, its grants and threading."""
     t, farm = s.t, s.farm
     key, held_back = s.a_key("ash"), s.a_key("ash")
     farm.everywhere(f"ash: withdraw ash-list {key} board\nash: embargo ash-list {held_back} 2030-01-01\nash: merge ash-list no\n")
@@ -641,7 +641,7 @@ def moved(s):
         os.kill(farm.pid("ash", copy), signal.SIGKILL)
     t.holds("the old shard is not asked any more", until(lambda: asked(farm.port, "/l/ash-list/threads")[0] == 200, 10))
     t.check("its mbox is the same, byte for byte", asked(farm.port, "/l/ash-list/mbox")[1] == box, True)
-    t.check("what is withdrawn or held back stays so", [asked(farm.port, s.path("ash", it))[0] for it in (key, held_back)], [403, 403])
+    t.check("what is withdrawn or embargoed stays so", [asked(farm.port, s.path("ash", it))[0] for it in (key, held_back)], [403, 403])
     t.check("and a moderator reads it", asked(farm.port, s.path("ash", key), PERSON)[0], 200)
 
 

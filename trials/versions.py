@@ -5,7 +5,7 @@
 
 OLD is a program of tables 1 (of a commit before the tables' number rose: in a clone of it ./archive --version builds it), NEW the
 program that is tried (default: what ./archive builds). OLD makes a file of four lists, with persons, grants, a message that is
-withdrawn and one that is held back, and a file of no list; of a reader of each standing it tells every page, every export and
+withdrawn and one that is embargoed, and a file of no list; of a reader of each standing it tells every page, every export and
 whether the file is whole. NEW opens copies, each by another command, and has to tell the same, byte for byte. Stock SQLite then finds
 that the rows of before are there and no others, that each list is joined by subject and nobody has an address, that the file is
 sound, and that its tables are made as those of a new one. A file of version 2, made by stock SQLite, keeps what it says of its
