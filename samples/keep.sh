@@ -13,15 +13,14 @@
 #   mail/LIST/*.mbox   mboxes that are to be taken into LIST
 #   continue           where there is such a file, a list that is full goes on as LIST-2, LIST-3 .. ("A full list", below)
 #   commands.done, mail.done/LIST, mail.refused/LIST, log
-#                      what became of them, and what each command said, in one line; tokens are in commands.done, commands.refused and
-#                      log
+#                      what became of them, and what each command said, in one line
 #   commands.refused   the lines of commands that did nothing, each below the reason: no command, a usage error, or a refusal, but not
 #                      one that says that it was done before (E3, E5, E9, E10). Correct the file, and submit it again as it is
 #   full               what full lists refused: when, which list, how many messages of the mbox went in before, and where it lies
 #   archive.next, commands.now, commands.put, done.now, refused.now, mail.now, mail.rest, mail.held, policy.served, policy.refused,
 #   keep.lock          its own: the work under way, the policy that is served by, the last one that was none
 #
-# Only its owner can read what it makes.
+# Only its owner can read what it makes. Tokens stay in archive.db, commands.done, commands.refused and log.
 #
 # A file comes whole and takes nobody's place: write it under a name that begins with a dot, and rename it to a name of its
 # own (`mv` in commands.d and mail), or `ln` it to the name `commands`, which refuses where one waits. A file that is taken is moved

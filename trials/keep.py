@@ -10,7 +10,7 @@ messages at first, and --more come. Then eight writers give a hundred commands w
 commands are mistyped, `--look` prints what its owner has to deal with, and a list gets full. --only NAME tries one of the later parts:
 ordered, behind_mail, without_serving, mistyped, looked_at or filled. The last line is 'N passed, N failed, N skipped'.
 """
-import os, pathlib, shutil, signal, socket, sqlite3, subprocess, sys, tempfile, threading, time
+import os, pathlib, re, shutil, signal, socket, sqlite3, subprocess, sys, tempfile, threading, time
 
 from trial import ROOT, SAMPLES, Trial, output, words_of
 from keeper import OPEN, SHUT, Keeper, Reader, one_command
@@ -294,6 +294,11 @@ def mistyped(trial, program, script, room, few, _):
         refused.unlink()
     trial.check("mended and given again: --once, and what was withdrawn", (keeper.once()[0], keeper.log().count(": withdrawn\n")), (1, 1))
     trial.check("what is refused again is there again", lines_of(refused), wrong[2:])
+    keeper.order("4", f"person-add mo {token}\n")
+    keeper.once()
+    named = re.search(r"Tokens stay in (.*)\.$", output(script, "--help"), re.MULTILINE)
+    found = {it.name.removesuffix("-wal") for it in keeper.folder.rglob("*") if it.is_file() and token.encode() in it.read_bytes()}
+    trial.check("the files with tokens are those that keep.sh --help names", sorted(found), sorted(re.findall(r"[a-z]+(?:\.[a-z]+)?", named[1].replace(" and ", " "))) if named else None)
 
 
 def state_of(folder):
