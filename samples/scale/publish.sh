@@ -81,7 +81,7 @@ settle_proxies() {
   done
 }
 
-# whether every proxy that answers finds so many servers of a colour good, by its own checks
+# whether every proxy that answers finds this number of servers of a colour good, by its own checks
 are_up() {
   local socket said
   for socket in $sockets; do

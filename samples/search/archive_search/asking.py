@@ -19,7 +19,7 @@ class Refused(Exception):
 
 
 class Waiting(Refused):
-    """503: a sentence says what the reader waits for, and after so many seconds the page is asked for again."""
+    """503: a sentence says what the reader waits for, and after `seconds` the page is asked for again."""
 
     def __init__(self, why=OPENING, seconds=2):
         super().__init__(503)
@@ -53,7 +53,7 @@ class Archive:
         if len(body) > LARGEST_PAGE:
             raise Refused(503, b"503 Service Unavailable: the page of this list is too large to be searched\n")
         if reply.length:
-            raise Waiting()  # (the reply broke off: so many bytes of it are missing)
+            raise Waiting()  # (the reply broke off: bytes of it are missing)
         if reply.status == 200:
             return body
         if reply.status == 503:

@@ -80,7 +80,7 @@ class Makings:
         self.lock, self.makings = threading.Lock(), {}
 
     def wait(self, archive, name, index, view, seconds):
-        """Waits until the segments of a view are there, for so many seconds; then the reader is told to come back."""
+        """Waits until the segments of a view are there, for `seconds` at most; then the reader has to come back."""
         making = self.making(archive, name, index, view)
         making.join(seconds)
         if making.is_alive():

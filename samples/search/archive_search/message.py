@@ -113,7 +113,7 @@ def content_of(fields, body):
 
 
 def normal(text, most):
-    """Returns at most so many characters in the form NFKC, with spaces in the place of controls."""
+    """Returns at most `most` characters in the form NFKC, with spaces in the place of controls."""
     text = re.sub("[ \t\u3000]{2,}", " ", text[:2 * most])[:most]
     if not text.isascii():
         text = "".join(unicodedata.normalize("NFKC", it) for it in PIECE.findall(text))[:most]

@@ -8,7 +8,7 @@ from .view import Views
 
 WAIT = 2  # seconds until a reader is told that the index is being made
 TIDIED = 3_600  # seconds between two looks for segments that no reader needs
-SHARE = 20  # the service asks for itself during one second of so many at most
+SHARE = 20  # of this many seconds, the service asks for itself during one at most
 LIST = re.compile(r'<a href="/l/([a-z][a-z0-9-]{0,39})/threads">')
 
 
