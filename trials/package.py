@@ -205,6 +205,16 @@ def main_job(trial, system, asked, debian):
     system.sh(f"rm -r {KEPT} {BACKUPS}; userdel luvazhimba")
 
 
+def by_files(trial, system, tree):
+    """install.sh in the same system: it warns of nothing, as where dpkg has not called it, and takes all away again."""
+    shutil.copytree(tree, system.root / "root" / "files")
+    said, status = system.sh("sh /root/files/install.sh")
+    trial.check("install.sh without systemd: status, warnings, the program", (status, warnings_in(said), system.says("ls /usr/bin/luvazhimba")), (0, [], "/usr/bin/luvazhimba"))
+    said, status = system.sh("sh /root/files/install.sh --remove")
+    trial.check("and with --remove", (status, warnings_in(said), system.says("ls /usr/bin/luvazhimba 2> /dev/null")), (0, [], ""))
+    system.sh(f"rm -r /root/files /etc/luvazhimba /etc/default/luvazhimba* {KEPT} {BACKUPS}; userdel luvazhimba")
+
+
 def warnings_in(said):
     """What dpkg and the scripts of the package warned of."""
     return [it for it in said.splitlines() if re.search(r"deb-systemd-helper|deb-systemd-invoke|warning|error", it, re.IGNORECASE) and "debconf" not in it]
@@ -341,6 +351,7 @@ def in_release(trial, asked, release, roots, room, things):
     ran("cp", "-a", "--reflink=auto", kept, system.root)
     print(f"--- {RELEASES[release]}", flush=True)
     main_job(trial, system, asked, debian)
+    by_files(trial, system, tree)
     if why := system.boot():
         trial.skip(f"the units in {RELEASES[release]}", f"systemd-nspawn cannot boot a system here: {why}")
         return
