@@ -478,7 +478,7 @@ module _ {S : Type 0} (g : Ghosts S) where
       (λ a it. same_of (first_so (tests_of command (found_within limit a command))) (first_so (tests_of command nothing)) (is (found_within limit a command) ∙ sym (is nothing)))
 
   -- it is written, or not
-  module _ {limit : ℕ} (old mid new : Store S) (command : Command) (found : Found) (looks : Looks g old mid (Ok found) (λ a f. f ≡ found_within limit a command))
+  module _ (limit : ℕ) (old mid new : Store S) (command : Command) (found : Found) (looks : Looks g old mid (Ok found) (λ a f. f ≡ found_within limit a command))
       (none : first_so (tests_of command found) ≡ None) where
     abbrev PutsIt : Result ℕ StoreFault → Type 0
     PutsIt result = Puts g mid new result (IsToWrite command found) (changed_by command) (IsWriteRefused command)

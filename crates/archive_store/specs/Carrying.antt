@@ -114,7 +114,7 @@ module _ {S : Type 0} (g : Ghosts S) (old new : Store S) where
         → IfErr result (λ fault. fault ≡ faults.Store → HasFailed g old new ⊎ Refused (state g (held_of old)).now)
 
   -- a command of which this was found, under some limit, and which no test answers, written down
-  abbrev PutsDown : {A : Type 0} → Command → Found → Result A StoreFault → Type 0
+  abbrev pub PutsDown : {A : Type 0} → Command → Found → Result A StoreFault → Type 0
   PutsDown command found result = Puts result (IsToWrite (command_of command) found) (changed_by (command_of command)) (IsWriteRefused (command_of command))
 
   -- A command under this limit of messages that a list holds: one step of the machine, a stop leaves the archive before it or after it,

@@ -14,11 +14,11 @@ pub returns-in-Some-Refused : goal.returns-in-Some-Refused
 returns-in-Some-Refused g c = refused_by g.S.Store _ _ (command_of c.args.command.now) _ c.in-Some-Refused.fault c.settle.result c.in_ok-found.ensures (c.in-Some-Refused.is ∙ ap Some c.in-Some-Refused.field-0-is) c.settle.ensures
 
 pub returns-in_ok-write-in-None : goal.returns-in_ok-write-in-None
-returns-in_ok-write-in-None g c = carried_out g.S.Store _ _ _ (command_of c.args.command.now) _ c.in_ok-found.ensures
+returns-in_ok-write-in-None g c = carried_out g.S.Store _ _ _ _ (command_of c.args.command.now) _ c.in_ok-found.ensures
     (none_of _ (ap (option_map reply_settled) (sym c.in-None.is) ∙ c.settle.ensures)) _ c.in_ok-write-in-None.ensures
 
 pub returns-in_err-write-in-None : goal.returns-in_err-write-in-None
-returns-in_err-write-in-None g c = unwritten g.S.Store _ _ _ (command_of c.args.command.now) _ c.in_ok-found.ensures
+returns-in_err-write-in-None g c = unwritten g.S.Store _ _ _ _ (command_of c.args.command.now) _ c.in_ok-found.ensures
     (none_of _ (ap (option_map reply_settled) (sym c.in-None.is) ∙ c.settle.ensures)) _ c.from_residual-in_err-write-in-None.result
     c.in_err-write-in-None.ensures c.from_residual-in_err-write-in-None.ensures.1
 
