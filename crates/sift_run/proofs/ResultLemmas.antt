@@ -1,6 +1,8 @@
 -- What holds of a result, by its cases.
 use Rattle.std.proofs.Common.{◌≡◌, ◌++◌, ◌∙◌, ap, sym, subst, ℕ, List, length, Result, Ok, Err, arith}
-use Rattle.std.specs.Prelude.{MatchResult, ⊤}
+use Rattle.std.specs.Prelude.{IfOk, MatchResult, String, Vec, drop, map, string_bytes, vec_items, ⊤}
+use Rattle.std.specs.declared.alloc.Global.{Global}
+use Rattle.std.proofs.lemmas.List.{drop-map}
 use Rattle.std.specs.Result.{IsErrAnd}
 use Rattle.std.proofs.Math.Seq.{take-length}
 use Rattle.mbox_core.specs.Written.{IsCutShort}
@@ -10,6 +12,12 @@ pub by_result : {A E : Type 0} (R : Result A E → Type 0) (P : A → Type 0) (Q
     → ((a : A) → P a → R (Ok a)) → ((e : E) → Q e → R (Err e)) → R result
 by_result R P Q (Ok a) it ok err = ok a it
 by_result R P Q (Err e) it ok err = err e it
+
+-- what a result says holds of the same result with another error
+pub ok_as : {A E F : Type 0} (P : A → Type 0) (told : E → F) (read : Result A E) (result : Result A F)
+    → MatchResult read (λ a. result ≡ Ok a) (λ e. result ≡ Err (told e)) → IfOk read P → IfOk result P
+ok_as {A = A} {F = F} P told (Ok a) result e it = let R : Result A F → Type 0 = λ r. IfOk r P in subst R (sym e) it
+ok_as {A = A} {F = F} P told (Err why) result e it = let R : Result A F → Type 0 = λ r. IfOk r P in subst R (sym e) tt
 
 -- an error that is handed on
 pub err_at : {A E : Type 0} (R : Result A E → Type 0) (result : Result A E) (e : E) → IsErrAnd result (λ x. x ≡ e) → R (Err e) → R result
@@ -41,3 +49,11 @@ pub sent_as : {E : Type 0} (told : E) (before after : Sent) (text line : List �
 sent_as told before after text line result e it =
     let P : List ℕ → Type 0 = λ t. IsSent told before after t result in
     subst P e it
+
+-- ---- the words of a command line
+
+-- the bytes of all words but the first
+pub behind_first : {E : Type 0} (words : List (String Global)) (result : Result (Vec (String Global) Global) E)
+    → IfOk result (λ all. vec_items all ≡ drop 1 words) → IfOk result (λ all. map string_bytes all.items ≡ drop 1 (map string_bytes words))
+behind_first words (Ok all) e = ap (map string_bytes) e ∙ sym (drop-map string_bytes 1 words)
+behind_first words (Err why) e = tt

@@ -1,5 +1,5 @@
 -- How far the messages that pass are out.
-use Rattle.std.proofs.Common.{◌≡◌, ◌≢◌, ℕ, ◌+◌, ◌-◌, ◌<◌, ◌^◌, min, Bool, List, [], ◌∷◌, ◌++◌, length, take, true, false, refl, sym, ap, subst, ◌∙◌, arith, append_assoc, length-append, inl, inr, ◌⊎◌}
+use Rattle.std.proofs.Common.{◌≡◌, ◌≢◌, ℕ, ◌+◌, ◌-◌, ◌<◌, ◌^◌, min, Bool, List, [], ◌∷◌, ◌++◌, length, take, true, false, refl, sym, ap, subst, ◌∙◌, arith, append_assoc, length-append, inl, inr, ◌⊎◌, Result, Err, if◌then◌else◌}
 use Rattle.std.proofs.lemmas.List.{append-nil}
 use Rattle.std.proofs.lemmas.List.{take-append-le}
 use Rattle.std.proofs.Math.Seq.{take-append-add}
@@ -9,7 +9,7 @@ use Rattle.mbox_core.specs.Written.{written_item, IsCutShort}
 use Rattle.policy_core.specs.Rules.{Rule}
 use Rattle.mbox_core.specs.Division.{IsPreamble}
 use Rattle.mbox_stream.specs.Stream.{IsBeginning, settled_items, IsSettledPreamble, IsCounted}
-use Rattle.mbox_stream.specs.Cutter.{CutterState, given, IsGiven, IsCutter, IsReadFault, IsEndFault}
+use Rattle.mbox_stream.specs.Cutter.{CutterState, given, IsGiven, IsCutter, IsReadFault, IsEndFault, is_read}
 use Rattle.mbox_stream.specs.declared.cutter.Phase.{Phase}
 use Rattle.mbox_stream.specs.declared.cutter.Phase.TheVariants.{Open, Finished}
 use Rattle.mbox_core.specs.declared.faults.MboxFault.{MboxFault}
@@ -17,7 +17,7 @@ use Rattle.mbox_core.specs.declared.faults.MboxFault.TheVariants.{Preamble, Read
 use Rattle.mbox_core.proofs.DivisionLaws.{some_division}
 use Rattle.sift_run.specs.declared.sifting.SiftFault.TheVariants.{Mbox}
 use Rattle.mbox_stream.proofs.StreamLaws.{settled_grow, settled_none, settled_preamble, settled_divide}
-use Rattle.sift_run.specs.Sifting.{Asked, passes, sifted, SiftsSettled, SiftsBegun, IsNoMbox, IsUnread, SiftsSoFar, SiftsPart, SiftsTold}
+use Rattle.sift_run.specs.Sifting.{Asked, passes, sifted, SiftsSettled, SiftsBegun, IsNoMbox, IsUnread, SiftsSoFar, SiftsPart, SiftsTold, IsOfRead}
 
 -- Of a text `all` a part is out, `left` is to come, and `count` bytes were counted, up to the greatest number of 64 bits.
 pub record Sent (old now all left : List ℕ) (count : ℕ) : Type 0 where
@@ -243,6 +243,26 @@ module _ (rules : List Rule) (asked : Asked) (in_old in_new out_old out_new : Li
           o ∙ ap (λ x. x ++ sifted rules asked d.waiting) s.out ∙ append_assoc out_old (sifted rules asked c.taken) (sifted rules asked d.waiting) ∙ ap (λ x. out_old ++ x) (sym all),
           record { items = given d; divided = subst D ds (given_end d dg dst); are_sifted = refl },
         )
+
+-- M2 alone is told of a read that failed
+by_read : (fault : MboxFault) (first old now : ℕ) → old ≡ first → now ≡ old + (if is_read (Err fault) then 1 else 0) → IsOfRead (Mbox fault) first now
+by_read (Preamble at) first old now same n = omega (arith, n, same)
+by_read Read first old now same n = omega (arith, n, same)
+by_read Memory first old now same n = omega (arith, n, same)
+by_read Failed first old now same n = omega (arith, n, same)
+
+pub of_read_fault : (result : Result Bool MboxFault) (fault : MboxFault) (first old now : ℕ) → result ≡ Err fault → old ≡ first
+    → now ≡ old + (if is_read result then 1 else 0) → IsOfRead (Mbox fault) first now
+of_read_fault result fault first old now e same n =
+    let N : Result Bool MboxFault → Type 0 = λ r. now ≡ old + (if is_read r then 1 else 0) in
+    by_read fault first old now same (subst N e n)
+
+-- the end of an input is met by no read that failed
+pub of_read_end : (stream : List ℕ) (fault : MboxFault) (first now : ℕ) → IsEndFault stream fault → now ≡ first → IsOfRead (Mbox fault) first now
+of_read_end stream (Preamble at) first now why same = same
+of_read_end stream Read first now why same = absurd why
+of_read_end stream Memory first now why same = same
+of_read_end stream Failed first now why same = same
 
 pub so_far_start : (rules : List Rule) (asked : Asked) (in_old out_old : List ℕ) (c : CutterState) → c ≡ record { stream = []; taken = []; waiting = []; phase = Open }
     → IsCutter c → SiftsSoFar rules asked in_old in_old out_old out_old c 0

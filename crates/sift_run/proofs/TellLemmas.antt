@@ -1,5 +1,5 @@
 -- What is told piece by piece, and what is said of a wish for help.
-use Rattle.std.proofs.Common.{◌≡◌, ◌<◌, ◌++◌, ◌∙◌, ap, append_assoc, inl, inr, subst, ℕ, List, Result, Ok, Err, arith}
+use Rattle.std.proofs.Common.{◌≡◌, ◌++◌, ◌∙◌, ap, append_assoc, inl, inr, subst, ℕ, List, Result, Ok, Err, arith}
 use Rattle.std.specs.Prelude.{MatchResult, String, string_bytes, ⊤}
 use Rattle.std.specs.declared.alloc.Global.{Global}
 use Rattle.byte_device.specs.declared.devices.Sink.{Ghosts as Takes}

@@ -2,3 +2,4 @@ pub mod Sifting
 pub mod Streams
 pub mod Refusals
 pub mod Running
+pub mod Systems

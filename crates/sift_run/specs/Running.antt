@@ -3,7 +3,6 @@ use Rattle.std.specs.Prelude.{◌≡◌, ◌≢◌, ◌<◌, ◌+◌, ◌⊎◌,
 use Rattle.policy_core.specs.Rules.{Rule, open_rule}
 use Rattle.policy_core.specs.Written.{written_policy}
 use Rattle.policy_core.specs.declared.faults.PolicyFault.TheVariants as policy
-use Rattle.mbox_core.specs.declared.faults.MboxFault.TheVariants as mbox
 use Rattle.sift_run.specs.declared.faults.RunFault.{RunFault}
 use Rattle.sift_run.specs.declared.faults.RunFault.TheVariants.{Mbox, Policy, Read, Write, Clock, Memory}
 use Rattle.sift_run.specs.Streams.{Heard, Sent, heard, sent}
@@ -21,7 +20,7 @@ use Rattle.byte_device.specs.declared.devices.Source.{Ghosts as Reads}
 use Rattle.mbox_core.specs.declared.faults.MboxFault.{MboxFault}
 use Rattle.archive_listen.specs.declared.connections.Outgoing.{Ghosts as Passes}
 use Rattle.sift_run.specs.declared.sifting.SiftFault.TheVariants as sift
-use Rattle.sift_run.specs.Sifting.{Asked, SiftsTold, SiftsPart, IsUnread}
+use Rattle.sift_run.specs.Sifting.{Asked, SiftsTold, SiftsPart, IsUnread, IsOfRead}
 
 -- the words are such as the program takes, or `clap` has no fault to tell of them; and they order this
 abbrev pub GiveOrder : List (List ℕ) → Order → Type 0
@@ -100,6 +99,7 @@ module _ {C : Type 0} (tells : Tells C) (order : SiftValues) (old new : C) (in_o
     pub is_day : IsDayOf (Some day)
     pub count : ℕ
     pub sifts : SiftsPart rules (asked_on order day) in_old.read in_new.read out_old.written out_new.written count
+    pub read_well : in_new.failures ≡ in_old.failures
     pub failed : out_old.failures < out_new.failures
 
   -- the clock told a day where it was asked, and the fault of the input is as a sift tells it
@@ -107,13 +107,13 @@ module _ {C : Type 0} (tells : Tells C) (order : SiftValues) (old new : C) (in_o
     pub day : ℤ
     pub is_day : IsDayOf (Some day)
     pub unread : IsUnread rules (asked_on order day) in_old.read in_new.read out_old.written out_new.written (sift.Mbox fault)
+    pub of_read : IsOfRead (sift.Mbox fault) in_old.failures in_new.failures
     pub untried : out_new.failures ≡ out_old.failures
 
-  -- Why a sift by some rules was refused: the clock gave no day (F3), the input is no mbox (M1), a read failed (M2), there
-  -- was no memory (M3), the output failed (F2).
+  -- Why a sift by some rules was refused: the clock gave no day (F3); the input is no mbox (M1), or a read failed, for which M2 alone is
+  -- told, or there was no memory (M3); the output failed (F2).
   abbrev pub IsSiftCause : List Rule → RunFault → Type 0
   IsSiftCause rules Clock = IsDayOf None × (in_new ≡ in_old) × (out_new ≡ out_old)
-  IsSiftCause rules (Mbox mbox.Read) = SiftsUnread rules mbox.Read × (in_old.failures < in_new.failures)
   IsSiftCause rules (Mbox fault) = SiftsUnread rules fault
   IsSiftCause rules Write = SiftsPartly rules
   IsSiftCause rules _ = ⊥

@@ -1,5 +1,5 @@
 -- Which messages of an mbox pass, and what is written of them.
-use Rattle.std.specs.Prelude.{◌≡◌, ◌<◌, ◌-◌, ◌^◌, [], min, ℕ, ℤ, pos, int_le, List, ◌++◌, length, filter, Bool, true, false, ◌&&◌, Option, Some, None}
+use Rattle.std.specs.Prelude.{◌≡◌, ◌<◌, ◌≤◌, ◌⊎◌, ◌+◌, ◌-◌, ◌^◌, [], min, ℕ, ℤ, pos, int_le, List, ◌++◌, length, filter, Bool, true, false, ◌&&◌, Option, Some, None}
 use Rattle.civil_time.specs.Calendar.{day_of_instant}
 use Rattle.mbox_core.specs.Division.{Item, Divides, IsPreamble}
 use Rattle.mbox_core.specs.Written.{written, IsCutShort}
@@ -11,7 +11,9 @@ use Rattle.policy_core.specs.declared.access.Withdrawn.TheVariants.{No}
 use Rattle.mbox_core.specs.declared.faults.MboxFault.TheVariants.{Preamble, Read, Memory, Failed}
 use Rattle.mbox_stream.specs.Stream.{IsBeginning, settled_items, IsCounted}
 use Rattle.mbox_stream.specs.Cutter.{CutterState, IsCutter}
-use Rattle.mbox_stream.specs.declared.cutter.Phase.TheVariants.{Open}
+use Rattle.mbox_stream.specs.declared.cutter.Phase.TheVariants.{Open, Short}
+use Rattle.archive_listen.specs.Connections.{Noted}
+use Rattle.sift_run.specs.Streams.{Heard}
 use Rattle.sift_run.specs.declared.sifting.SiftFault.{SiftFault}
 use Rattle.sift_run.specs.declared.sifting.SiftFault.TheVariants.{Mbox, Write}
 
@@ -68,15 +70,12 @@ SiftsPart rules asked in_old in_new out_old out_new count =
     (mbox : List ℕ) × (out : List ℕ) × (in_new ≡ in_old ++ mbox) × Sifts rules asked mbox out
     × (length out_new < 2 ^ 64 → IsCutShort out_old out_new out count)
 
--- the sifting ended by a fault of its input or of memory (M1 to M4), not of its output
-abbrev pub IsMboxFault : SiftFault → Type 0
-IsMboxFault (Mbox fault) = Unit {0}
-IsMboxFault (Write written) = ⊥
-
--- a claim on a fault of the output alone, about how many bytes of the sifted text went out; any other fault satisfies it
-abbrev pub OnWrite : SiftFault → (ℕ → Type 0) → Type 0
-OnWrite (Mbox fault) P = Unit {0}
-OnWrite (Write written) P = P written
+-- The input was read to its end as an mbox, and the messages that pass were written, whole; no read and no write failed.
+pub record SiftsDone (rules : List Rule) (asked : Asked) (in_old in_new : Heard) (out_old out_new : Noted) : Type 0 where
+  pub sifts : SiftsTold rules asked in_old.read in_new.read out_old.written out_new.written
+  pub ended : in_new.ends ≡ in_old.ends + 1
+  pub read_well : in_new.failures ≡ in_old.failures
+  pub wrote_well : out_new.failures ≡ out_old.failures
 
 -- ---- a fault of the input: what was read of it are these bytes
 
@@ -104,6 +103,34 @@ IsUnread rules asked in_old in_new out_old out_new (Mbox Read) = SiftsSettled ru
 IsUnread rules asked in_old in_new out_old out_new (Mbox Memory) = SiftsBegun rules asked in_old in_new out_old out_new
 IsUnread rules asked in_old in_new out_old out_new (Mbox Failed) = ⊥
 IsUnread rules asked in_old in_new out_old out_new (Write written) = Unit {0}
+
+-- M2 is told only where a read failed, and where a read failed no other fault is told
+abbrev pub IsOfRead : SiftFault → (before after : ℕ) → Type 0
+IsOfRead (Mbox Read) before after = before < after
+IsOfRead fault before after = after ≡ before
+
+-- The output failed only where that is told. Then exactly the first bytes of the text went out.
+abbrev pub IsOfWrite : List Rule → Asked → Heard → Heard → Noted → Noted → SiftFault → Type 0
+IsOfWrite rules asked in_old in_new out_old out_new (Mbox fault) = out_new.failures ≡ out_old.failures
+IsOfWrite rules asked in_old in_new out_old out_new (Write written) =
+    SiftsPart rules asked in_old.read in_new.read out_old.written out_new.written written × (out_old.failures < out_new.failures)
+
+-- why a sift was not carried out, and what was read and written by then
+pub record SiftsNot (rules : List Rule) (asked : Asked) (in_old in_new : Heard) (out_old out_new : Noted) (fault : SiftFault) : Type 0 where
+  pub unread : IsUnread rules asked in_old.read in_new.read out_old.written out_new.written fault
+  pub of_read : IsOfRead fault in_old.failures in_new.failures
+  pub of_write : IsOfWrite rules asked in_old in_new out_old out_new fault
+
+-- ---- over a cutter
+
+-- nothing was fed to it
+abbrev pub IsFresh : CutterState → Type 0
+IsFresh c = (c ≡ record { stream = []; taken = []; waiting = []; phase = Open }) × IsCutter c
+
+-- M3 is told only where the cutter told it, or after 2^64 - 1 reads, each of which gave a byte
+abbrev pub IsOfCutter : CutterState → SiftFault → Type 0
+IsOfCutter cutter (Mbox Memory) = (cutter.phase ≡ Short) ⊎ (2 ^ 64 - 1 ≤ length cutter.stream)
+IsOfCutter cutter fault = Unit {0}
 
 -- So far the input gave a stream, of which the cutter may take more, and the output got what passes of the messages that
 -- were taken, in so many bytes; none waits.

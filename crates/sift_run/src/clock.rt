@@ -1,7 +1,9 @@
 //! The day: whoever tells it, and a system's clock.
+ghost use Rattle.std.specs.Prelude.{◌≡◌};
+ghost use Rattle.sift_run.specs.Systems.{day_after};
+
+use crate::system::TellsTime;
 use civil_time::{Day, Instant};
-use std::rt::Clock;
-use std::time::{SystemTime, UNIX_EPOCH};
 
 /// Whoever knows which day it is, in UTC. `None`: it does not.
 pub trait DayClock {
@@ -14,18 +16,28 @@ pub trait DayClock {
         ensures { gives self.old self.new result };
 }
 
-/// The system's clock.
+/// A system's clock.
 #[derive(Drop)]
 pub struct SystemDay<'a, R> {
     /// The system that is asked for the time.
     pub rt: &'a R,
 }
 
-impl<'a, R: Clock> DayClock for SystemDay<'a, R> {
+/// The day of so many seconds after 1970-01-01 00:00:00 UTC. `None` after the year 9998.
+fn day_at(seconds: u64) -> Option<Day>
+    ensures { result ≡ day_after seconds }
+{
+    let seconds = i64::try_from(seconds).ok()?;
+    Some(Instant::new(seconds)?.day())
+}
+
+impl<'a, R: TellsTime> DayClock for SystemDay<'a, R> {
+    ghost use Rattle.std.specs.Prelude.{◌≡◌};
+    ghost use Rattle.sift_run.specs.Systems.{IsToday};
+
+    ghost gives = { λ old new day. (new ≡ old) × IsToday R.tells old.rt.now day };
+
     fn today(&mut self) -> Option<Day> {
-        let now = SystemTime::now(self.rt).ok()?;
-        let passed = now.duration_since(UNIX_EPOCH).ok()?;
-        let seconds = i64::try_from(passed.as_secs()).ok()?;
-        Some(Instant::new(seconds)?.day())
+        day_at(self.rt.seconds()?)
     }
 }

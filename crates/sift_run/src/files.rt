@@ -1,9 +1,11 @@
 //! The bytes of files, by their names.
+ghost use Rattle.std.specs.Prelude.{◌≡◌};
+ghost use Rattle.sift_run.specs.Systems.{file_fault};
+
+use crate::system::HasFiles;
 use mbox_core::device::{Counted, Source};
-use std::alloc::{AllocGlobal, Global};
-use std::fs;
+use std::alloc::Global;
 use std::io::ErrorKind;
-use std::rt::Files;
 
 /// Why a file was not read, or not opened.
 #[derive(Debug, Clone, Copy, PartialEq, Eq, Drop)]
@@ -51,30 +53,39 @@ pub struct SystemFiles<'a, R> {
 }
 
 /// What a system's fault is called here.
-fn fault_of(kind: ErrorKind) -> FileFault {
-    if kind == ErrorKind::OutOfMemory {
-        FileFault::Memory
-    } else {
-        FileFault::Read
+fn fault_of(kind: ErrorKind) -> FileFault
+    ensures { result ≡ file_fault kind }
+{
+    match kind {
+        ErrorKind::OutOfMemory => FileFault::Memory,
+        _ => FileFault::Read,
     }
 }
 
-impl<'a, R: Files + AllocGlobal> ReadFiles for SystemFiles<'a, R> {
+impl<'a, R: HasFiles> ReadFiles for SystemFiles<'a, R> {
+    ghost use Rattle.sift_run.specs.Systems.{IsReadOf};
+
+    ghost gives = { λ files name result. IsReadOf R.reads files.rt.now name result };
+
     fn read_file(&self, _alloc: Global, name: &str) -> Result<Vec<u8>, FileFault> {
-        match fs::read(self.rt, name) {
+        match self.rt.bytes_of(name) {
             Ok(bytes) => Ok(bytes),
-            Err(error) => Err(fault_of(error.kind())),
+            Err(kind) => Err(fault_of(kind)),
         }
     }
 }
 
-impl<'a, R: Files + AllocGlobal> OpenFiles for SystemFiles<'a, R> {
-    type Input = Counted<R::File>;
+impl<'a, R: HasFiles> OpenFiles for SystemFiles<'a, R> {
+    ghost use Rattle.sift_run.specs.Systems.{IsOpenedOf};
 
-    fn open_file(&self, _alloc: Global, name: &str) -> Result<Counted<R::File>, FileFault> {
-        match fs::open(self.rt, name) {
+    type Input = Counted<R::Opened>;
+
+    ghost inputs = { λ files name result. IsOpenedOf R.opens files.rt.now name result };
+
+    fn open_file(&self, _alloc: Global, name: &str) -> Result<Counted<R::Opened>, FileFault> {
+        match self.rt.opened(name) {
             Ok(file) => Ok(Counted::new(file)),
-            Err(error) => Err(fault_of(error.kind())),
+            Err(kind) => Err(fault_of(kind)),
         }
     }
 }

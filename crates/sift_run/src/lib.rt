@@ -9,6 +9,7 @@ mod files;
 mod policies;
 mod running;
 mod sifting;
+mod system;
 mod telling;
 
 pub use clock::{DayClock, SystemDay};
@@ -18,4 +19,5 @@ pub use files::{FileFault, OpenFiles, ReadFiles, SystemFiles};
 pub use policies::asked_policy;
 pub use running::{run, run_sift};
 pub use sifting::{SiftFault, SiftWords, sift};
+pub use system::{HasFiles, HasWords, TellsTime};
 pub use telling::{BAD_WORDS, DONE, REFUSED, finish, say_stop, send, tell};

@@ -1,5 +1,5 @@
 //! The policy of an order.
-ghost use Rattle.std.specs.Prelude.{◌≡◌, option_map, string_bytes, Some, Ok, IfOk, IfErr};
+ghost use Rattle.std.specs.Prelude.{◌≡◌, option_map, string_bytes, Some, Ok, Err, IfOk, IfErr, MatchResult};
 ghost use Rattle.policy_core.specs.Written.{written_policy};
 ghost use Rattle.sift_run.specs.Running.{IsPolicyRefusal, IsPolicyOf, IsPolicyCause};
 
@@ -25,15 +25,22 @@ fn read_text<F: ReadFiles>(alloc: Global, files: &F, name: &str) -> Result<Strin
     }
 }
 
+/// What reading a policy came to: each refusal is handed on as it is.
+fn handed_on(read: Result<Policy, PolicyFault>) -> Result<Policy, RunFault>
+    ensures { MatchResult read (λ rules. result ≡ Ok rules) (λ fault. result ≡ Err (RunFault.Policy fault)) }
+{
+    match read {
+        Ok(policy) => Ok(policy),
+        Err(fault) => Err(RunFault::Policy(fault)),
+    }
+}
+
 /// The policy that a text writes, or its first refusal, P1 to P8.
 fn read_policy(alloc: Global, text: &str) -> Result<Policy, RunFault>
     ensures ok { IfOk result (λ rules. written_policy text.now ≡ Ok rules) }
     ensures refused { IfErr result (IsPolicyRefusal text.now) }
 {
-    match Policy::read(alloc, text) {
-        Ok(policy) => Ok(policy),
-        Err(fault) => Err(RunFault::Policy(fault)),
-    }
+    handed_on(Policy::read(alloc, text))
 }
 
 /// The policy of a file, or the open one where none is named. F1: the file could not be read. P1 to P8: it is no policy. F5: there was no

@@ -2,8 +2,9 @@
 ghost use Rattle.std.specs.Prelude.{◌≡◌, ◌≢◌, ◌≤◌, ◌<◌, ◌+◌, ◌-◌, ◌^◌, ◌++◌, ◌∷◌, [], ℕ, List, length, min, IfOk, IfErr, OnOk, OnErr};
 ghost use Rattle.mbox_core.specs.Written.{IsCutShort};
 ghost use Rattle.mbox_stream.specs.Cutter.{IsCutter};
-ghost use Rattle.mbox_stream.specs.declared.cutter.Phase.TheVariants.{Open};
-ghost use Rattle.sift_run.specs.Sifting.{passes, sifted, SiftsTold, SiftsPart, SiftsSoFar, IsUnread, OnWrite, IsMboxFault};
+ghost use Rattle.sift_run.specs.Sifting.{passes, sifted, IsFresh, SiftsDone, SiftsSoFar, SiftsNot, IsOfCutter};
+ghost use Rattle.sift_run.specs.Streams.{heard};
+ghost use Rattle.archive_listen.specs.Connections.{noted};
 
 use civil_time::Day;
 use mbox_core::device::{Sink, Source, WriteFault};
@@ -139,19 +140,17 @@ fn sift_settled<R: Source, W: Sink>(
     input: &mut R,
     output: &mut W,
 ) -> Result<u64, SiftFault>
-    requires fresh { cutter.old ≡ record { stream = []; taken = []; waiting = []; phase = Open } }
-    requires given { IsCutter cutter.old }
+    requires { IsFresh cutter.old }
     ensures ok { IfOk result (SiftsSoFar policy.now words.now (R.told input.old) (R.told input.new) (W.told output.old) (W.told output.new) cutter.new) }
-    ensures end { OnOk result (R.ends input.new ≡ R.ends input.old + 1) }
-    ensures quiet { OnOk result ((R.failures input.new ≡ R.failures input.old) × (W.failures output.new ≡ W.failures output.old)) }
+    ensures ended { OnOk result ((R.ends input.new ≡ R.ends input.old + 1) × (R.failures input.new ≡ R.failures input.old)
+        × (W.failures output.new ≡ W.failures output.old)) }
 
-    ensures unread { IfErr result (IsUnread policy.now words.now (R.told input.old) (R.told input.new) (W.told output.old) (W.told output.new)) }
-    ensures read { result ≡ Err (SiftFault.Mbox MboxFault.Read) → R.failures input.old < R.failures input.new }
-    ensures calm { IfErr result (λ fault. IsMboxFault fault → W.failures output.new ≡ W.failures output.old) }
-    ensures write { IfErr result (λ fault. OnWrite fault (λ written. SiftsPart policy.now words.now (R.told input.old) (R.told input.new) (W.told output.old) (W.told output.new) written × (W.failures output.old < W.failures output.new))) }
+    ensures stopped { IfErr result (SiftsNot policy.now words.now (heard R.Source input.old) (heard R.Source input.new)
+        (noted W.Sink output.old) (noted W.Sink output.new)) }
+    ensures caused { IfErr result (IsOfCutter cutter.new) }
 {
     let mut before: u64 = 0;
-    for _ in 0..u64::MAX {
+    for reads in 0..u64::MAX {
         match cutter.read_from(input) {
             Ok(true) => {}
             Ok(false) => return Ok(before),
@@ -169,10 +168,41 @@ fn sift_settled<R: Source, W: Sink>(
     Err(SiftFault::Mbox(MboxFault::Memory))
 }
 
+/// Reads an mbox to its end, and writes the messages that pass. M3: the cutter ran out of memory, or 2^64 - 1 reads gave bytes.
+fn sift_through<R: Source, W: Sink>(
+    policy: &Policy,
+    words: &SiftWords,
+    cutter: &mut Cutter,
+    input: &mut R,
+    output: &mut W,
+) -> Result<(), SiftFault>
+    requires { IsFresh cutter.old }
+    ensures done { OnOk result (SiftsDone policy.now words.now (heard R.Source input.old) (heard R.Source input.new)
+        (noted W.Sink output.old) (noted W.Sink output.new)) }
+    ensures stopped { IfErr result (SiftsNot policy.now words.now (heard R.Source input.old) (heard R.Source input.new)
+        (noted W.Sink output.old) (noted W.Sink output.new)) }
+    ensures caused { IfErr result (IsOfCutter cutter.new) }
+{
+    let before = match sift_settled(policy, words, cutter, input, output) {
+        Ok(before) => before,
+        Err(fault) => return Err(fault),
+    };
+    match cutter.finish() {
+        Ok(()) => {}
+        Err(fault) => return Err(SiftFault::Mbox(fault)),
+    }
+    match write_waiting(policy, words, cutter, output) {
+        Ok(_) => Ok(()),
+        Err(fault) => Err(SiftFault::Write {
+            written: before.saturating_add(fault.written),
+        }),
+    }
+}
+
 /// Reads an mbox to its end, and writes the messages that pass as RFC 4155 has them, in their order: after each read those
 /// that are settled. It holds one message and a piece. M1: the input's first line that is not empty is no separator line;
 /// nothing was written. M2: a read failed, and all that was settled and passes went out. M3: there was no memory for a
-/// message, or after 2^64 reads; a beginning of that went out. Write: the output failed, and exactly the first `written`
+/// message, or after 2^64 - 1 reads; a beginning of that went out. Write: the output failed, and exactly the first `written`
 /// bytes of the text went out.
 pub fn sift<R: Source, W: Sink>(
     alloc: Global,
@@ -181,27 +211,11 @@ pub fn sift<R: Source, W: Sink>(
     input: &mut R,
     output: &mut W,
 ) -> Result<(), SiftFault>
-    ensures done { OnOk result (SiftsTold policy.now words.now (R.told input.old) (R.told input.new) (W.told output.old) (W.told output.new)
-        × (R.ends input.new ≡ R.ends input.old + 1) × (R.failures input.new ≡ R.failures input.old) × (W.failures output.new ≡ W.failures output.old)) }
-
-    ensures unread { IfErr result (IsUnread policy.now words.now (R.told input.old) (R.told input.new) (W.told output.old) (W.told output.new)) }
-    ensures read { result ≡ Err (SiftFault.Mbox MboxFault.Read) → R.failures input.old < R.failures input.new }
-    ensures calm { IfErr result (λ fault. IsMboxFault fault → W.failures output.new ≡ W.failures output.old) }
-    ensures write { IfErr result (λ fault. OnWrite fault (λ written. SiftsPart policy.now words.now (R.told input.old) (R.told input.new) (W.told output.old) (W.told output.new) written × (W.failures output.old < W.failures output.new))) }
+    ensures done { OnOk result (SiftsDone policy.now words.now (heard R.Source input.old) (heard R.Source input.new)
+        (noted W.Sink output.old) (noted W.Sink output.new)) }
+    ensures stopped { IfErr result (SiftsNot policy.now words.now (heard R.Source input.old) (heard R.Source input.new)
+        (noted W.Sink output.old) (noted W.Sink output.new)) }
 {
     let mut cutter = Cutter::new(alloc);
-    let before = match sift_settled(policy, words, &mut cutter, input, output) {
-        Ok(before) => before,
-        Err(fault) => return Err(fault),
-    };
-    match cutter.finish() {
-        Ok(()) => {}
-        Err(fault) => return Err(SiftFault::Mbox(fault)),
-    }
-    match write_waiting(policy, words, &mut cutter, output) {
-        Ok(_) => Ok(()),
-        Err(fault) => Err(SiftFault::Write {
-            written: before.saturating_add(fault.written),
-        }),
-    }
+    sift_through(policy, words, &mut cutter, input, output)
 }

@@ -1,0 +1,15 @@
+use Rattle.std.proofs.Common.{◌∙◌, ap}
+use Rattle.std.specs.Iterator.Adapters.{skip_source}
+use Rattle.std.specs.Vec.Iter.{into_iter_items, into_iter_len}
+use Rattle.std.proofs.lemmas.Iterator.{items_from_collect}
+use Rattle.std.proofs.lemmas.Iterator.Adapters.{YieldsList-from_skip, YieldsList-from_vec}
+use Rattle.sift_run.proofs.ResultLemmas.{behind_first}
+use Rattle.sift_run.proofs.command_line.words_behind.Goals as goal
+
+pub returns : goal.returns
+returns c =
+    let words = into_iter_items c.args.words in
+    let all = YieldsList-from_vec {s = skip_source c.skip.result} words (ap into_iter_items c.skip.ensures.source)
+    (ap into_iter_len c.skip.ensures.source ∙ c.args.words.rest.ok.0) in
+    behind_first words c.collect.result
+    (items_from_collect c.collect.result c.collect.ensures.ran (YieldsList-from_skip {s = c.skip.result} 1 all c.skip.ensures.count))
