@@ -1,41 +1,92 @@
-//! The archive's program, of `sift` alone: standard input to standard output by the words of its command line.
+//! The archive's program, of `sift` alone: standard input to standard output by the arguments of its command line.
 #![tactic(auto)]
 
+ghost use Rattle.std.specs.Prelude.{map, string_bytes};
+ghost use Rattle.std.specs.Process.{exit_status};
+ghost use Rattle.sift.specs.Program.{IsProgram, RunsWhole};
+
 use archive_listen::{Gathered, Outgoing};
-use mbox_core::device::Counted;
+use archive_words::OrderStop;
+use mbox_core::device::{Counted, Sink, Source};
 use sift_run::{
-    OUTPUT_ROOM, REFUSED, RunFault, SystemDay, SystemFiles, borrowed, command_words, run, say_stop,
-    tell,
+    DayClock, HasWords, OUTPUT_ROOM, ReadFiles, SystemDay, SystemFiles, borrowed, command_words,
+    run, say_stop,
 };
+use std::alloc::{AllocGlobal, Global};
 use std::io;
 use std::process::ExitCode;
 
-/// Carries out what the words order, over the standard streams. What a sift that is refused left in the output is passed on here.
-fn run_words(rt: &HostRuntime) -> u8 {
-    let alloc = rt.alloc();
-    let mut output: Gathered<_, OUTPUT_ROOM> = Gathered::new(Counted::new(io::writer(rt)));
-    let mut faults = Counted::new(rt.stderr());
-    let words = match command_words(rt) {
-        Ok(words) => words,
-        Err(stop) => return say_stop(&mut output, &mut faults, &stop),
+/// Carries out what these arguments order. What a sift that is refused left in the output is passed on here.
+fn run_words<F: ReadFiles, C: DayClock, R: Source, O: Outgoing, E: Sink>(
+    alloc: Global,
+    files: &F,
+    clock: &mut C,
+    input: &mut R,
+    output: &mut O,
+    faults: &mut E,
+    words: &[String],
+) -> u8
+    ensures { RunsWhole C.DayClock R.Source O.Sink O.Outgoing.own E.Sink F.ReadFiles files.now clock.old clock.new input.old input.new
+        output.old faults.old faults.new (map string_bytes words.now) output.new result }
+{
+    let Ok(words) = borrowed(alloc, words) else {
+        return say_stop(output, faults, &OrderStop::Memory);
     };
-    let Ok(words) = borrowed(alloc, words.as_slice()) else {
-        tell(&mut faults, &RunFault::Memory);
-        return REFUSED;
-    };
-    let status = run(
-        alloc,
-        &SystemFiles { rt },
-        &mut SystemDay { rt },
-        &mut Counted::new(rt.reader()),
-        &mut output,
-        &mut faults,
-        words.as_slice(),
-    );
+    let status = run(alloc, files, clock, input, output, faults, words.as_slice());
     let _ = output.flush();
     status
 }
 
+/// Carries out what the command line orders.
+fn run_line<Y: HasWords + AllocGlobal, F: ReadFiles, C: DayClock, R: Source, O: Outgoing, E: Sink>(
+    rt: &Y,
+    files: &F,
+    clock: &mut C,
+    input: &mut R,
+    output: &mut O,
+    faults: &mut E,
+) -> u8
+    ensures { IsProgram C.DayClock R.Source O.Sink O.Outgoing.own E.Sink F.ReadFiles files.now clock.old clock.new input.old input.new
+        output.old faults.old faults.new Y.gave rt.now output.new result }
+{
+    match command_words(rt) {
+        Ok(words) => run_words(
+            rt.alloc(),
+            files,
+            clock,
+            input,
+            output,
+            faults,
+            words.as_slice(),
+        ),
+        Err(stop) => say_stop(output, faults, &stop),
+    }
+}
+
+/// Carries out what the command line orders, over these devices, and ends with its status.
+fn carry_out<Y: HasWords + AllocGlobal, F: ReadFiles, C: DayClock, R: Source, O: Outgoing, E: Sink>(
+    rt: &Y,
+    files: &F,
+    clock: &mut C,
+    input: &mut R,
+    output: &mut O,
+    faults: &mut E,
+) -> ExitCode
+    ensures { IsProgram C.DayClock R.Source O.Sink O.Outgoing.own E.Sink F.ReadFiles files.now clock.old clock.new input.old input.new
+        output.old faults.old faults.new Y.gave rt.now output.new (exit_status result) }
+{
+    ExitCode::from(run_line(rt, files, clock, input, output, faults))
+}
+
+/// Makes the devices of the system.
 fn main(rt: HostRuntime) -> ExitCode {
-    ExitCode::from(run_words(&rt))
+    let mut output: Gathered<_, OUTPUT_ROOM> = Gathered::new(Counted::new(io::writer(&rt)));
+    carry_out(
+        &rt,
+        &SystemFiles { rt: &rt },
+        &mut SystemDay { rt: &rt },
+        &mut Counted::new(rt.reader()),
+        &mut output,
+        &mut Counted::new(rt.stderr()),
+    )
 }
