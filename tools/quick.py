@@ -1,41 +1,29 @@
 #!/usr/bin/env python3
-"""Runs every test and every program without any proof, by the toolchain's `rt try`: the answers of all of them in minutes, and no verdict.
+"""Runs every test and every program without any proof, by the toolchain's `rt try`.
 
   quick.py [NAME..]     of these crates alone
 
-Each is compiled with checks, and stops at an index out of bounds, a sum that wraps, a failed `unwrap` or a bad access; no contract is
-looked at. Under checks code is some ten times as slow: a test that does not end in 240 seconds is cut, and said to be. A program is run on
-its files `args`, `stdin` and `data`; what it writes has to be its file `stdout`. The last line is 'N passed, M failed, K cut; nothing is
-proved', and the status is 0 where M is 0.
+Each is compiled with checks and stops at an index out of bounds, a sum that wraps, a failed `unwrap` or a bad access; no contract is looked at.
+A trial compiles all libraries below it. So crates of tests that stand on the same libraries are tried together (`TOGETHER`): in a copy of the
+repository they are the modules of one crate. A program is run on its files `args`, `stdin` and `data`; what it writes has to be its file
+`stdout`. A test or a program that does not end in 600 seconds has failed. The last line is 'N passed, M failed', and the status is 0 where M
+is 0.
 """
 import concurrent.futures, os, re, subprocess, sys, time
 
 import part
 
-# What a trial takes of memory, in MB, where its crate stands on `sqlite`, and where it does not; and how many seconds a test may run, and
-# a program.
-LARGE, SMALL, TEST, PROGRAM = 3500, 1500, "240", "120"
-# Crates whose tests take longest, so that each of their files is tried by itself, beside the others.
-BY_FILE = ("thread_tests",)
-# Why tests take long under checks, by the beginning of their names, and a program.
-LONG = {
-    "store_tests::batches": "it fills a list of 50,000 messages",
-    "store_tests::files": "it makes the tables anew for each case, each time in a file of memory that is copied",
-    "store_tests::migrating": "a file is brought over once for each call at which it can stop, some hundred times",
-    "store_tests::stops": "a file is opened anew for each call at which it can stop, some hundred times",
-    "store_tests::versions": "a file is made anew for each number that a version can have",
-    "desk_tests::cases": "it makes the tables anew for each case",
-    "desk_tests::stops": "an import is made anew for each call at which it can stop, some hundred times",
-    "desk_tests::streams": "it reads mboxes of 17 MB, and is cut at each byte of a small one",
-    "pages_tests::older": "each older file is made and brought over anew",
-    "thread_tests::nodes": "its lists have 50,000 messages, or are small and many thousands",
-    "thread_tests::threads": "it threads every list of three messages of 48 kinds, or 40,000 lists by chance",
-    "mail_tests::subjects": "its subjects have up to 2,500,000 bytes",
-    "pages_tests::breaking": "a file is opened anew for each call at which its disk can stop",
-    "pages_tests::standing": "a file is opened anew for each call at which its disk can stop",
-    "run_cases": "its script has some hundred runs, each over databases in memory",
-}
-UNKNOWN = "no cause is known, so this machine may be busy"
+# What a trial takes of memory, in MB, where its crate stands on `sqlite`, and where it does not; and how many seconds a test or a program may
+# run. Under checks code is some ten times as slow.
+LARGE, SMALL, SECONDS = 3500, 1500, "600"
+# Which crates of tests are tried together: each of these trials is compiled once.
+TOGETHER = (
+    ("store_tests", "run_tests"),
+    ("desk_tests", "pages_tests"),
+    ("mail_tests", "mbox_tests", "thread_tests", "policy_tests", "results_tests", "html_tests", "stream_tests", "request_tests", "listen_tests"),
+)
+# The crate that is made of several.
+JOINED = "joined_tests"
 CUT = "checked: no-answer: the program did not end within the time limit"
 ENDED = re.compile(r"run=ended status=(\d+) .*proved=no")
 TEST_LINE = re.compile(r"^\s*#\[test\]\n", re.M)
@@ -44,18 +32,17 @@ TEST_LINE = re.compile(r"^\s*#\[test\]\n", re.M)
 def stands_on(name, library):
     """Returns whether a crate uses a library, or one below it does."""
     known = part.lines()
-    return any(library in known[it].partition(":")[2].split() for it in part.with_those_below(name))
+    return any(library in used_by(known[it]) for it in part.with_those_below(name))
 
 
-def tests_in(name):
-    """Returns how many tests each file of a crate has that has any."""
-    found = {it.name: len(TEST_LINE.findall(it.read_text(encoding="utf-8"))) for it in (part.CRATES / name / "src").glob("**/*.rt")}
-    return {it: count for it, count in found.items() if count}
+def used_by(line):
+    """Returns the crates that one uses, by its line in crates.txt."""
+    return line.partition(":")[2].split()
 
 
 def tests_of(name):
     """Returns how many tests a crate has."""
-    return sum(tests_in(name).values())
+    return sum(len(TEST_LINE.findall(it.read_text(encoding="utf-8"))) for it in (part.CRATES / name / "src").glob("**/*.rt"))
 
 
 def is_program(name):
@@ -70,48 +57,52 @@ def bytes_of(name, file):
 
 def tried(folder, words, given):
     """Tries a crate in its folder, and returns what was written, the lines that were said, and the status of what ended."""
-    ran = subprocess.run(["rt", "try", *words], cwd=folder, input=given, capture_output=True, check=False)
+    ran = subprocess.run(["rt", "try", "--seconds", SECONDS, *words], cwd=folder, input=given, capture_output=True, check=False)
     said = ran.stderr.decode(errors="replace").splitlines()
     ended = ENDED.fullmatch(said[-1]) if said else None
     return ran.stdout, said, int(ended[1]) if ended else None
 
 
-def try_tests(name):
-    """Returns how many tests of a crate passed, how many were cut, and what is said of the others."""
-    return judge(name, part.CRATES / name, tests_of(name))
+def try_tests(names):
+    """Returns how many tests of some crates passed, and what is said of the others."""
+    if len(names) == 1:
+        return judge(part.CRATES / names[0], {names[0]: tests_of(names[0])}, f"{names[0]}::")
+    with part.copied([it for it in part.lines() if any(it in part.with_those_below(name) for name in names)], ()) as top:
+        join(top, names)
+        return judge(top / "crates" / JOINED, {it: tests_of(it) for it in names}, "")
 
 
-def try_file(name, file):
-    """Returns the same of the tests of one file, in a copy of the crate that lacks the other files of tests."""
-    with part.copied(part.with_those_below(name), ()) as top:
-        folder = top / "crates" / name
-        root = folder / "src" / "lib.rt"
-        for it in {*tests_in(name)} - {file}:
-            (folder / "src" / it).unlink()
-            own = re.compile(rf"^(#\[cfg\(test\)\]\n)?mod {it.removesuffix('.rt')};\n", re.M)
-            root.write_text(own.sub("", root.read_text(encoding="utf-8")), encoding="utf-8")
-        return judge(name, folder, tests_in(name)[file])
+def join(top, names):
+    """Makes one crate of these crates of tests, each a module, in a copy of the repository. What it takes of another of them, as the tests of
+    pages do of those of the desk, it takes of its module."""
+    known, source = part.lines(), top / "crates" / JOINED / "src"
+    own = re.compile(rf"(?<![\w:])({'|'.join(names)})::")
+    for name in names:
+        for file in (part.CRATES / name / "src").glob("**/*.rt"):
+            text = re.sub(r"(?<!\w)crate::", f"crate::{name}::", own.sub(r"crate::\1::", file.read_text(encoding="utf-8")))
+            text = re.sub(r"crate::\w+::(?=(%s)::)" % "|".join(names), "crate::", text)
+            inside = file.relative_to(part.CRATES / name / "src")
+            at = source / f"{name}.rt" if inside.name == "lib.rt" else source / name / inside
+            at.parent.mkdir(parents=True, exist_ok=True)
+            at.write_text(re.sub(r"^#!\[.*\]\n", "", text, flags=re.M), encoding="utf-8")
+    (source / "lib.rt").write_text("".join(f"#[cfg(test)]\npub mod {it};\n" for it in names), encoding="utf-8")
+    uses = dict.fromkeys(it for name in names for it in [*used_by(known[name]), name])
+    with open(top / "crates.txt", "a", encoding="utf-8") as it:
+        it.write(f"{JOINED}: {' '.join(uses)}\n")
 
 
-def judge(name, folder, wanted):
-    """Tries the tests in a folder, as many as are wanted, of a crate of this name."""
-    wrote, said, _ = tried(folder, ["--test", "--seconds", TEST], b"")
+def judge(folder, wanted, before):
+    """Tries the tests in a folder: so many are wanted of each crate, whose name stands first in that of a test, behind what is set `before` it."""
+    wrote, said, _ = tried(folder, ["--test"], b"")
     lines = wrote.decode(errors="replace").splitlines()
-    told = {at: it for at, it in enumerate(lines) if re.match(r"test (?!result:).* \.\.\. ", it)}
-    passed = [at for at, it in told.items() if it.endswith("... ok")]
-    cut = [at for at in told if lines[at + 1:at + 2] and lines[at + 1].strip() == CUT]
-    for at in cut:
-        print(f"quick: {name}: {told[at].partition(' ... ')[0]} was cut after {TEST} seconds: {cause(name, told[at])}", flush=True)
-    others = [f"{name}: {it}" for at, it in told.items() if at not in passed and at not in cut]
-    if len(told) != wanted:
-        others.append(f"{name}: of its {wanted} tests {len(told)} were tried: {' / '.join(said[-3:])}")
-    return len(passed), len(cut), others
-
-
-def cause(name, line):
-    """Returns why a test takes long, by the line that tells what came of it."""
-    test = f"{name}::{line.removeprefix('test ')}"
-    return next((why for begins, why in LONG.items() if test.startswith(f"{begins}::")), UNKNOWN)
+    told = [(before + it.removeprefix("test "), at) for at, it in enumerate(lines) if re.match(r"test (?!result:).* \.\.\. ", it)]
+    passed = [it for it, _ in told if it.endswith(" ... ok")]
+    failed = [f"{it}{' after ' + SECONDS + ' seconds' if lines[at + 1:at + 2] and lines[at + 1].strip() == CUT else ''}" for it, at in told if not it.endswith(" ... ok")]
+    for name, count in wanted.items():
+        found = sum(it.startswith(f"{name}::") for it, _ in told)
+        if found != count:
+            failed.append(f"{name}: of its {count} tests {found} were tried: {' / '.join(said[-3:])}")
+    return len(passed), failed
 
 
 def try_program(name):
@@ -120,34 +111,31 @@ def try_program(name):
     data = sorted(it for it in at.glob("**/*") if it.is_file())
     words = [w for it in data for w in ("--data", f"{it.relative_to(at)}={it}")]
     args = bytes_of(name, "args").decode().splitlines()
-    wrote, said, ended = tried(part.CRATES / name, ["--seconds", PROGRAM, *words, *(["--", *args] if args else [])], bytes_of(name, "stdin"))
+    wrote, said, ended = tried(part.CRATES / name, [*words, *(["--", *args] if args else [])], bytes_of(name, "stdin"))
     wanted = int((bytes_of(name, "status") or b"0").decode())
     if ended == wanted and wrote == bytes_of(name, "stdout"):
-        return 1, 0, []
-    if CUT in said:
-        print(f"quick: {name} was cut after {PROGRAM} seconds: {LONG.get(name, UNKNOWN)}", flush=True)
-        return 0, 1, []
+        return 1, []
     why = "it wrote something else than its file stdout" if ended == wanted else f"it came to no such end: {' / '.join(said[-3:])}"
-    return 0, 0, [f"{name}: {why}"]
+    return 0, [f"{name}: {why}"]
 
 
-def trials_of(name):
-    """Returns the trials of a crate, each with what it is called and how many tests it has: of its tests, or of each file of them, and of its
-    program."""
-    files = tests_in(name)
-    if name in BY_FILE:
-        trials = [(f"{name}, {file}", count, lambda file=file: try_file(name, file)) for file, count in files.items()]
-    else:
-        trials = [(name, sum(files.values()), lambda: try_tests(name))] if files else []
-    return trials + ([(name, 0, lambda: try_program(name))] if is_program(name) else [])
+def trials_of(asked):
+    """Returns the trials of these crates: of the tests, together or alone, and of the programs. Each has what it is called, whether it stands on
+    `sqlite`, and what makes it. Those that take longest come first."""
+    with_tests = [it for it in asked if tests_of(it)]
+    groups = [[it for it in names if it in with_tests] for names in TOGETHER]
+    groups += [[it] for it in with_tests if not any(it in names for names in TOGETHER)]
+    tests = [(" ".join(it), stands_on(it[0], "sqlite"), lambda it=it: try_tests(it)) for it in groups if it]
+    programs = [(it, stands_on(it, "sqlite"), lambda it=it: try_program(it)) for it in asked if is_program(it)]
+    return tests + sorted(programs, key=lambda it: not it[1])
 
 
 def told_of(called, trial):
     """Makes a trial, and says what came of it."""
     begun = time.monotonic()
-    passed, cut, failed = trial()
-    print(f"quick: {called}: {passed} passed, {len(failed)} failed, {cut} cut, in {time.monotonic() - begun:.0f} seconds", flush=True)
-    return passed, cut, failed
+    passed, failed = trial()
+    print(f"quick: {called}: {passed} passed, {len(failed)} failed, in {time.monotonic() - begun:.0f} seconds", flush=True)
+    return passed, failed
 
 
 def lanes():
@@ -162,13 +150,11 @@ def lanes():
 def main(words):
     if unknown := {*words} - {*part.lines()}:
         sys.exit(f"quick: crates.txt has no crate {' '.join(sorted(unknown))}")
-    trials = [(name, *it) for name in part.lines() if name in words or not words for it in trials_of(name)]
-    # (those with most tests first)
-    trials.sort(key=lambda it: (it[0] not in BY_FILE, -it[2]))
+    trials = trials_of([it for it in part.lines() if it in words or not words])
     large, small = lanes()
     pool = concurrent.futures.ThreadPoolExecutor
     with pool(large) as one, pool(small or 1) as other:
-        begun = [(other if small and not stands_on(name, "sqlite") else one).submit(told_of, called, it) for name, called, _, it in trials]
+        begun = [(one if is_large or not small else other).submit(told_of, called, trial) for called, is_large, trial in trials]
         try:
             results = [it.result() for it in begun]
         except BaseException:
@@ -176,10 +162,10 @@ def main(words):
             for it in begun:
                 it.cancel()
             raise
-    passed, cut, failed = sum(it[0] for it in results), sum(it[1] for it in results), [line for it in results for line in it[2]]
+    passed, failed = sum(it[0] for it in results), [line for it in results for line in it[1]]
     for line in failed:
         print(f"quick: {line}")
-    print(f"{passed} passed, {len(failed)} failed, {cut} cut; nothing is proved: ./check proves")
+    print(f"{passed} passed, {len(failed)} failed")
     return 1 if failed else 0
 
 

@@ -456,25 +456,64 @@ TESTED = {
 }
 # (both of the stand-in's trials write the same)
 PASSES = {"writes": "test a::b ... ok\n", "tells": "run=ended status=3 runners=1 proved=no\n"}
+# Two crates of tests that are tried together, the second of which uses the first.
+TOGETHER = {
+    "crates.txt": "low: memchr\ndesk_tests: low\npages_tests: desk_tests low\n",
+    "HANDLES": "Handles allowed: none.\n",
+    "crates/low/src/lib.rt": "fn f() {}\n",
+    "crates/desk_tests/src/lib.rt": "//! The desk.\n#![tactic(auto)]\n\npub mod made;\n",
+    "crates/desk_tests/src/made.rt": "#[test]\nfn a() {}\n",
+    "crates/pages_tests/src/lib.rt": "//! Pages.\n#![tactic(auto)]\n\nmod b;\nmod c;\n",
+    "crates/pages_tests/src/b.rt": "use crate::c::d;\nuse desk_tests::made::a;\nuse low::f;\n\n#[test]\nfn b() {}\n",
+    "crates/pages_tests/src/c.rt": "pub fn d() {}\n",
+}
+BOTH = {"writes": "test desk_tests::a ... ok\ntest pages_tests::b ... ok\n", "tells": "run=ended status=3 runners=1 proved=no\n"}
+
+
+def is_joined():
+    """Each crate is a module of one, and takes what it took, of itself and of another, out of a module."""
+    joins = "import pathlib, sys\nimport quick\nquick.join(pathlib.Path(sys.argv[1]), sys.argv[2:])\n"
+    with repository({**TOGETHER, "tools/joins.py": joins}) as (top, stand_in), tempfile.TemporaryDirectory() as room:
+        at = pathlib.Path(room)
+        (at / "crates.txt").write_text("low: memchr\n", encoding="utf-8")
+        run(top, stand_in, "joins.py", [room, "desk_tests", "pages_tests"])
+        texts = {str(it.relative_to(at)): it.read_text(encoding="utf-8") for it in at.glob("**/*") if it.is_file()}
+        source = "crates/joined_tests/src"
+        return equal(texts, {
+            "crates.txt": "low: memchr\njoined_tests: low desk_tests pages_tests\n",
+            f"{source}/lib.rt": "#[cfg(test)]\npub mod desk_tests;\n#[cfg(test)]\npub mod pages_tests;\n",
+            f"{source}/desk_tests.rt": "//! The desk.\n\npub mod made;\n",
+            f"{source}/desk_tests/made.rt": "#[test]\nfn a() {}\n",
+            f"{source}/pages_tests.rt": "//! Pages.\n\nmod b;\nmod c;\n",
+            f"{source}/pages_tests/b.rt": "use crate::pages_tests::c::d;\nuse crate::desk_tests::made::a;\nuse low::f;\n\n#[test]\nfn b() {}\n",
+            f"{source}/pages_tests/c.rt": "pub fn d() {}\n",
+        })
+
+
 QUICK = {
-    "all passes": says("quick.py", ["shown"], TESTED, 0, "1 passed, 0 failed, 0 cut; nothing is proved: ./check proves", **PASSES),
-    "tests": says("quick.py", ["low_tests"], TESTED, 0, "1 passed, 0 failed, 0 cut; nothing is proved: ./check proves", **{**PASSES, "tells": TRIED}),
-    "a test that fails": says("quick.py", ["low_tests"], TESTED, 1, "quick: low_tests: test a::b ... FAILED", "0 passed, 1 failed, 0 cut; nothing is proved: ./check proves",
+    "all passes": says("quick.py", ["shown"], TESTED, 0, "1 passed, 0 failed", **PASSES),
+    "tests": says("quick.py", ["low_tests"], TESTED, 0, "1 passed, 0 failed", **{**PASSES, "tells": TRIED}),
+    "a test that fails": says("quick.py", ["low_tests"], TESTED, 1, "quick: low_tests::a::b ... FAILED", "0 passed, 1 failed",
         **{**PASSES, "writes": "test a::b ... FAILED\n"}),
-    "a test that is cut": says("quick.py", ["low_tests"], TESTED, 0, "quick: low_tests: test a::b was cut after 240 seconds: no cause is known, so this machine may be busy", "0 passed, 0 failed, 1 cut; nothing is proved: ./check proves",
+    "a test that is cut": says("quick.py", ["low_tests"], TESTED, 1, "quick: low_tests::a::b ... FAILED after 600 seconds", "0 passed, 1 failed",
         **{**PASSES, "writes": "test a::b ... FAILED\n    checked: no-answer: the program did not end within the time limit\n    run=no-answer\ntest result: FAILED.\n"}),
-    "a program that is cut": says("quick.py", ["shown"], TESTED, 0, "quick: shown was cut after 120 seconds: no cause is known, so this machine may be busy", "0 passed, 0 failed, 1 cut; nothing is proved: ./check proves",
-        writes="", tells="checked: no-answer: the program did not end within the time limit\nrun=no-answer proved=no\n"),
-    "tests that do not end": says("quick.py", ["low_tests"], TESTED, 1, "0 passed, 1 failed, 0 cut; nothing is proved: ./check proves", **{**PASSES, "writes": "", "tells": "run=none proved=no\n"}),
+    "a program that is cut": says("quick.py", ["shown"], TESTED, 1, "quick: shown: it came to no such end: checked: no-answer: the program did not end within the time limit / run=no-answer proved=no",
+        "0 passed, 1 failed", writes="", tells="checked: no-answer: the program did not end within the time limit\nrun=no-answer proved=no\n"),
+    "tests that do not end": says("quick.py", ["low_tests"], TESTED, 1, "quick: low_tests: of its 1 tests 0 were tried: run=none proved=no", "0 passed, 1 failed",
+        **{**PASSES, "writes": "", "tells": "run=none proved=no\n"}),
     "a test that is not tried": says("quick.py", ["low_tests"], {**TESTED, "crates/low_tests/src/lib.rt": "#[test]\nfn f() {}\n\n#[test]\nfn g() {}\n"}, 1,
-        "quick: low_tests: of its 2 tests 1 were tried: run=ended status=3 runners=1 proved=no", "1 passed, 1 failed, 0 cut; nothing is proved: ./check proves", **PASSES),
-    "each file by itself": says("quick.py", ["thread_tests"], {**TESTED, "crates.txt": "thread_tests:\n", "crates/thread_tests/src/lib.rt": "#[cfg(test)]\nmod a;\n#[cfg(test)]\nmod b;\n", "crates/thread_tests/src/a.rt": "#[test]\nfn f() {}\n",
-        "crates/thread_tests/src/b.rt": "#[test]\nfn g() {}\n"}, 0, "2 passed, 0 failed, 0 cut; nothing is proved: ./check proves", **PASSES),
+        "quick: low_tests: of its 2 tests 1 were tried: run=ended status=3 runners=1 proved=no", "1 passed, 1 failed", **PASSES),
+    "two crates together": says("quick.py", [], TOGETHER, 0, "quick: desk_tests pages_tests: 2 passed, 0 failed, in 0 seconds", "2 passed, 0 failed", **BOTH),
+    "one of two": asks("quick.py", ["pages_tests"], TOGETHER, ["--test", "in pages_tests"], ["in joined_tests"], **PASSES),
+    "two that are one crate": asks("quick.py", [], TOGETHER, ["--test", "in joined_tests"], ["in desk_tests"], **BOTH),
+    "a test of the second that is not tried": says("quick.py", [], TOGETHER, 1, "quick: pages_tests: of its 1 tests 0 were tried: run=ended status=3 runners=1 proved=no",
+        "1 passed, 1 failed", **{**BOTH, "writes": "test desk_tests::a ... ok\n"}),
+    "each is a module": is_joined,
     "a program that writes something else": says("quick.py", ["shown"], TESTED, 1, "quick: shown: it wrote something else than its file stdout",
-        "0 passed, 1 failed, 0 cut; nothing is proved: ./check proves", **{**PASSES, "writes": "other\n"}),
-    "one that ends with another status": says("quick.py", ["shown"], TESTED, 1, "0 passed, 1 failed, 0 cut; nothing is proved: ./check proves", **{**PASSES, "tells": TRIED}),
-    "a crate with neither is left": says("quick.py", ["low"], TESTED, 0, "0 passed, 0 failed, 0 cut; nothing is proved: ./check proves"),
-    "all of them": says("quick.py", [], TESTED, 1, "1 passed, 1 failed, 0 cut; nothing is proved: ./check proves", **{**PASSES, "tells": TRIED}),
+        "0 passed, 1 failed", **{**PASSES, "writes": "other\n"}),
+    "one that ends with another status": says("quick.py", ["shown"], TESTED, 1, "0 passed, 1 failed", **{**PASSES, "tells": TRIED}),
+    "a crate with neither is left": says("quick.py", ["low"], TESTED, 0, "0 passed, 0 failed"),
+    "all of them": says("quick.py", [], TESTED, 1, "1 passed, 1 failed", **{**PASSES, "tells": TRIED}),
     "an unknown crate": says("quick.py", ["none"], TESTED, 1, faults="quick: crates.txt has no crate none"),
     "what a program is run on": asks("quick.py", ["shown"], TESTED, ["--data", "--", "one", "in shown", "in"], [], **PASSES),
 }

@@ -1,10 +1,11 @@
 //! The worked cases for any store, and the stores that are told them.
+use crate::files::few_pages;
 use crate::{asking, exports, imports, listings, messages, shown};
 use archive_results::{Ask, Reader};
 use archive_store::Store;
 use civil_time::Day;
 use policy_core::Policy;
-use sqlite::{Alter, Connection, Files, Options};
+use sqlite::{Alter, Connection, Files};
 use sqlite_disk::Memory;
 use std::alloc::Global;
 use std::hash::RandomState;
@@ -115,7 +116,7 @@ fn a_store_over_a_file(rt: HostRuntime) -> Result<(), Fail> {
     if !files.may_be_used() {
         return Err(Fail::from("files that may be used"));
     }
-    let Ok(connection) = Connection::open_files(rt.alloc(), files, Options::new(1)) else {
+    let Ok(connection) = Connection::open_files(rt.alloc(), files, few_pages()) else {
         return Err(Fail::from("an open file"));
     };
     let Ok(mut store) = Store::adopt(connection) else {

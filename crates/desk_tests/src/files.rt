@@ -29,6 +29,14 @@ pub fn new_files(alloc: Global) -> Files<Memory> {
     }
 }
 
+/// A cache of a few pages. Each opening fills it with zeros, which takes most of the time of a small file if it has the usual 2,000.
+pub fn few_pages() -> Options {
+    Options {
+        cache_pages: 64,
+        ..Options::new(1)
+    }
+}
+
 /// Imports a file into the list `soc` of a store over these files, exports that list as far as `held` takes it, and hands the files
 /// back as a crash leaves them.
 pub fn import_into<D: Disk + Drop>(
@@ -41,7 +49,7 @@ pub fn import_into<D: Disk + Drop>(
     if !files.may_be_used() {
         return Err(Fail::from("files that may be used"));
     }
-    match Connection::open_files(alloc, files, Options::new(1)) {
+    match Connection::open_files(alloc, files, few_pages()) {
         Ok(connection) => Ok(import_connection(alloc, connection, mbox, how, held)),
         Err((_error, left)) => Ok((None, left.into_files())),
     }

@@ -187,40 +187,64 @@ fn count_of_three(alloc: Global, mbox: &[u8]) -> Result<u64, Fail> {
     Err(Fail::from("the first messages"))
 }
 
-/// Imports the three messages over files of which one stops: what is left holds the first ones, as many as were said to be done
-/// or more; the same import knows these, and the others are new. Whether the first import came to its end.
-fn stops_between(rt: &impl Abort, alloc: Global, files: Files<Fuse<Memory>>) -> Result<bool, Fail> {
-    let mbox = first_of_three(alloc, 3)?;
+/// Whether disks that stopped hold what these hold.
+fn hold_the_same(stopped: &Files<Fuse<Memory>>, files: &Files<Memory>) -> bool {
+    stopped.log.inner().bytes() == files.log.bytes()
+        && stopped.db.inner().bytes() == files.db.bytes()
+}
+
+/// How many of the three messages are in what is left, the first ones. The same import knows these, and the others are new.
+fn known_in(
+    rt: &impl Abort,
+    alloc: Global,
+    files: Files<Memory>,
+    mbox: &[u8],
+) -> Result<u64, Fail> {
     let (mut none, mut held) = (nothing(alloc)?, Tap::new(alloc, b"", 1000)?);
-    let (outcome, stopped) = import_into(alloc, files, &mbox, How::Whole, &mut none)?;
-    let (said, is_whole) = done(outcome);
-    let (_nothing, files) = import_into(alloc, left(alloc, &stopped)?, b"", How::Whole, &mut held)?;
+    let (_nothing, files) = import_into(alloc, files, b"", How::Whole, &mut held)?;
     let known = count_of_three(alloc, held.bytes())?;
-    assert!(rt; said <= known && known <= 3, "{said}, {known}");
-    let (again, _files) = import_into(alloc, files, &mbox, How::Whole, &mut none)?;
+    assert!(rt; known <= 3, "{known}");
+    let (again, _files) = import_into(alloc, files, mbox, How::Whole, &mut none)?;
     let rest = Report {
         new: 3 - known,
         known,
         too_large: 0,
     };
     assert_eq!(rt; again, Some(Ok(rest)));
-    Ok(is_whole)
+    Ok(known)
 }
 
-/// The log, or the database file, stops at each call in turn, until none is met.
+/// The log, or the database file, stops at each call in turn of an import of the three messages, until none is met: what is left
+/// holds as many as were said to be done or more. It is looked at where it is not what the stop before left.
 fn stop_at_each_call(
     rt: &impl Abort,
     alloc: Global,
     files: &Files<Memory>,
     is_log: bool,
 ) -> Result<(), Fail> {
+    let mbox = first_of_three(alloc, 3)?;
+    let (mut seen, mut known) = (new_files(alloc), 0);
     for calls in 0..CALLS {
         let (log, db) = if is_log {
             (calls, CALLS)
         } else {
             (CALLS, calls)
         };
-        if stops_between(rt, alloc, fused(alloc, files, log, db)?)? {
+        let stopping = fused(alloc, files, log, db)?;
+        let (outcome, stopped) = import_into(
+            alloc,
+            stopping,
+            &mbox,
+            How::Whole,
+            &mut nothing(alloc)?,
+        )?;
+        if !hold_the_same(&stopped, &seen) {
+            seen = left(alloc, &stopped)?;
+            known = known_in(rt, alloc, left(alloc, &stopped)?, &mbox)?;
+        }
+        let (said, is_whole) = done(outcome);
+        assert!(rt; said <= known, "{calls}: {said}, {known}");
+        if is_whole {
             assert!(rt; calls > 0, "a disk that is called");
             return Ok(());
         }

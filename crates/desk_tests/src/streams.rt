@@ -137,9 +137,20 @@ fn batches<S: Alter>(rt: &impl Abort, alloc: Global, store: &mut Store<S>) -> Re
     Ok(())
 }
 
+/// A line of about a kilobyte, so that a large message has few of them.
+fn long_line(alloc: Global) -> Result<String, Fail> {
+    let mut line = String::new(alloc);
+    for _ in 0..16 {
+        line.push_str("a piece of sixty-four bytes, which is here as often as is needed")?;
+    }
+    line.push_str("\n")?;
+    Ok(line)
+}
+
 /// A message that is too large to be taken in, and one of a megabyte after it.
 fn large<S: Alter>(rt: &impl Abort, alloc: Global, store: &mut Store<S>) -> Result<(), Fail> {
     store.list_add("large")?;
+    let line = long_line(alloc)?;
     let mut mbox = String::new(alloc);
     for lines in [17_000, 1000] {
         write!(
@@ -147,11 +158,7 @@ fn large<S: Alter>(rt: &impl Abort, alloc: Global, store: &mut Store<S>) -> Resu
             "From a@b Tue Mar  4 10:00:00 2003\nSubject: {lines}\n\n"
         )?;
         for _ in 0..lines {
-            for _ in 0..16 {
-                mbox.push_str(
-                    "a line of sixty-four bytes, which stands here as often as needed\n",
-                )?;
-            }
+            mbox.push_str(&line)?;
         }
         mbox.push_str("\n")?;
     }

@@ -100,25 +100,25 @@ fn the_author_is_the_address_in_lower_case(rt: HostRuntime) -> Result<(), Fail> 
 }
 
 #[test]
-fn a_million_short_fields_are_counted(rt: HostRuntime) -> Result<(), Fail> {
-    let text = repeated(rt.alloc(), b"a:\n", 1_000_000)?;
+fn many_short_fields_are_counted(rt: HostRuntime) -> Result<(), Fail> {
+    let text = repeated(rt.alloc(), b"a:\n", 200_000)?;
     let mut count = 0u32;
     for _ in fields(&text) {
         count = count.saturating_add(1);
     }
-    assert_eq!(rt; count, 1_000_000);
+    assert_eq!(rt; count, 200_000);
     assert!(rt; first(&text, b"b").is_none());
     Ok(())
 }
 
 #[test]
-fn a_field_of_four_megabytes_is_read(rt: HostRuntime) -> Result<(), Fail> {
+fn a_field_of_many_folds_is_read(rt: HostRuntime) -> Result<(), Fail> {
     let mut text = repeated(rt.alloc(), b"From:", 1)?;
-    let folds = repeated(rt.alloc(), b"\n <<", 1_000_000)?;
+    let folds = repeated(rt.alloc(), b"\n <<", 200_000)?;
     text.extend_from_slice(&folds)?;
     let body = first(&text, b"from").unwrap_or(b"");
-    assert_eq!(rt; body.len(), 4_000_000);
-    assert_eq!(rt; unfold(rt.alloc(), body)?.len(), 3_000_000);
-    assert_eq!(rt; author_key(rt.alloc(), &text)?.len(), 2_999_999);
+    assert_eq!(rt; body.len(), 800_000);
+    assert_eq!(rt; unfold(rt.alloc(), body)?.len(), 600_000);
+    assert_eq!(rt; author_key(rt.alloc(), &text)?.len(), 599_999);
     Ok(())
 }

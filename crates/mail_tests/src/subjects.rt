@@ -52,11 +52,11 @@ fn known_subjects_have_their_base(rt: HostRuntime) -> Result<(), Memory> {
 
 // a piece, how often it stands, what follows once, a piece that follows as often; the base, `None` for the subject itself; a reply
 static LONG_SUBJECTS: [(&[u8], usize, &[u8], &[u8], Option<&[u8]>, bool); 5] = [
-    (b"[a]", 500_000, b"x", b"", Some(b"x"), false),
-    (b"re:", 500_000, b"", b"", Some(b""), true),
-    (b"(fwd)", 500_000, b"", b"", Some(b""), true),
-    (b"[fwd:", 500_000, b"", b"", None, false),
-    (b"[fwd:[a]re:", 100_000, b"x", b"] (fwd)", Some(b"x"), true),
+    (b"[a]", 100_000, b"x", b"", Some(b"x"), false),
+    (b"re:", 100_000, b"", b"", Some(b""), true),
+    (b"(fwd)", 100_000, b"", b"", Some(b""), true),
+    (b"[fwd:", 100_000, b"", b"", None, false),
+    (b"[fwd:[a]re:", 20_000, b"x", b"] (fwd)", Some(b"x"), true),
 ];
 
 #[test]

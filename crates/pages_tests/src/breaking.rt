@@ -163,6 +163,14 @@ pub fn one_page() -> Options {
     }
 }
 
+/// A cache that holds what a small file has. Each opening fills it with zeros, which takes long if it has the usual 2,000 pages.
+pub fn few_pages() -> Options {
+    Options {
+        cache_pages: 64,
+        ..Options::new(1)
+    }
+}
+
 /// Opens a store over these files, takes a step, and hands the files back.
 pub fn over_files<D: Disk + Drop>(
     rt: &impl Abort,
@@ -173,7 +181,11 @@ pub fn over_files<D: Disk + Drop>(
     if !files.may_be_used() {
         return Err(Fail::from("files that may be used"));
     }
-    match Connection::open_files(alloc, files, one_page()) {
+    let options = match step {
+        Step::Ask => one_page(),
+        Step::Open | Step::Import | Step::Show => few_pages(),
+    };
+    match Connection::open_files(alloc, files, options) {
         Ok(connection) => over_connection(rt, alloc, connection, step),
         Err((_error, left)) => Ok((Stage::Shut, left.into_files())),
     }
@@ -197,6 +209,14 @@ fn over_connection<D: Disk + Drop>(
                 fault: _fault,
             },
         ) => Ok((Stage::Shut, connection.into_store().close())),
+    }
+}
+
+/// A database file and its log, both empty.
+pub fn empty(alloc: Global) -> Files<Memory> {
+    Files {
+        log: Memory::new(alloc),
+        db: Memory::new(alloc),
     }
 }
 
@@ -230,6 +250,12 @@ pub fn left(alloc: Global, files: &Files<Fuse<Memory>>) -> Result<Files<Memory>,
     })
 }
 
+/// Whether disks that stopped hold what these hold.
+pub fn hold_the_same(stopped: &Files<Fuse<Memory>>, files: &Files<Memory>) -> bool {
+    stopped.log.inner().bytes() == files.log.bytes()
+        && stopped.db.inner().bytes() == files.db.bytes()
+}
+
 /// Asks for the mbox over copies of these files whose disks stop after so many calls.
 fn ask_over(
     rt: &impl Abort,
@@ -257,11 +283,7 @@ pub fn last_shut(rt: &impl Abort, alloc: Global, files: &Files<Memory>) -> Resul
 
 #[test]
 fn an_mbox_breaks_off_where_a_disk_stops(rt: HostRuntime) -> Result<(), Fail> {
-    let empty = Files {
-        log: Memory::new(rt.alloc()),
-        db: Memory::new(rt.alloc()),
-    };
-    let (_imported, files) = over_files(&rt, rt.alloc(), empty, Step::Import)?;
+    let (_imported, files) = over_files(&rt, rt.alloc(), empty(rt.alloc()), Step::Import)?;
     let mut reached = Vec::new(rt.alloc());
     for calls in last_shut(&rt, rt.alloc(), &files)?..CALLS {
         let stage = ask_over(&rt, rt.alloc(), &files, calls)?;

@@ -1,6 +1,6 @@
 //! Threads that are kept while the store fails between two requests: over disks that stop, and where a message of another list
 //! cannot be read.
-use crate::breaking::{Step, UNAVAILABLE, last_shut, one_page, over_files, stopping};
+use crate::breaking::{Step, UNAVAILABLE, empty, last_shut, one_page, over_files, stopping};
 use crate::cases::{TWO, today};
 use crate::damaged::damaged;
 use crate::keeping::kept_reply;
@@ -179,11 +179,7 @@ fn stops_at_each(
 /// Where a disk stops, nothing is shown of what is kept: 503, whether it was kept before a reading or is read again behind it.
 #[test]
 fn what_is_kept_is_not_shown_where_a_disk_stopped(rt: HostRuntime) -> Result<(), Fail> {
-    let empty = Files {
-        log: Memory::new(rt.alloc()),
-        db: Memory::new(rt.alloc()),
-    };
-    let (_imported, files) = over_files(&rt, rt.alloc(), empty, Step::Import)?;
+    let (_imported, files) = over_files(&rt, rt.alloc(), empty(rt.alloc()), Step::Import)?;
     for paths in [&KEPT_FIRST, &READ_FIRST] {
         stops_at_each(&rt, rt.alloc(), &files, paths)?;
     }

@@ -55,7 +55,7 @@ impl Shelf {
         if !files.may_be_used() {
             bail!("the files are used");
         }
-        let mut connection = match Connection::open_files(alloc, files, Options::new(1)) {
+        let mut connection = match Connection::open_files(alloc, files, few_pages()) {
             Ok(connection) => connection,
             Err(_) => bail!("the database is not opened"),
         };
@@ -87,6 +87,14 @@ struct Unopened {
     fault: StoreFault,
 }
 
+/// A cache of a few pages. Each opening fills it with zeros, which takes most of the time of a small file if it has the usual 2,000.
+fn few_pages() -> Options {
+    Options {
+        cache_pages: 64,
+        ..Options::new(1)
+    }
+}
+
 /// The archive in these files, or the files again.
 fn adopt(alloc: Global, files: Files<Memory>) -> Result<Store<FileStore<Memory>>, Unopened>
     ensures { IfErr result (λ stop. refusal stop.fault ≡ None) }
@@ -97,7 +105,7 @@ fn adopt(alloc: Global, files: Files<Memory>) -> Result<Store<FileStore<Memory>>
             fault: StoreFault::Store,
         });
     }
-    let connection = match Connection::open_files(alloc, files, Options::new(1)) {
+    let connection = match Connection::open_files(alloc, files, few_pages()) {
         Ok(connection) => connection,
         Err((error, left)) => {
             return Err(Unopened {

@@ -1,4 +1,5 @@
 //! Many messages at once, and a walk over a list by the messages' numbers.
+use archive_store::limits::add_limited;
 use archive_store::{AddReport, AddStop, Added, Store, StoreFault};
 use archive_tables::rows::read_place;
 use archive_tables::texts::messages;
@@ -83,6 +84,18 @@ fn new_and_known_and_too_large(rt: HostRuntime) -> Result<(), Fail> {
     Ok(())
 }
 
+/// One byte more than a message may have, for a list that has room and for one that is full.
+#[test]
+fn one_that_is_too_large(rt: HostRuntime) -> Result<(), Fail> {
+    let mut store = with_list(rt.alloc())?;
+    let large = vec![in rt.alloc(); b'x'; 16_777_216]?;
+    let added = store.add(rt.alloc(), "soc", &item(&large)?);
+    assert_eq!(&rt; added, Err(StoreFault::TooLarge));
+    let limited = add_limited(&mut store, rt.alloc(), "soc", &item(&large)?, 0);
+    assert_eq!(&rt; limited, Err(StoreFault::TooLarge));
+    Ok(())
+}
+
 #[test]
 fn none_of_no_messages(rt: HostRuntime) -> Result<(), Fail> {
     let mut store = with_list(rt.alloc())?;
@@ -107,10 +120,9 @@ fn no_list_to_add_to(rt: HostRuntime) -> Result<(), Fail> {
 }
 
 #[test]
-fn messages_to_a_list_that_is_counted_once(rt: HostRuntime) -> Result<(), Fail> {
+fn messages_to_a_list_are_counted(rt: HostRuntime) -> Result<(), Fail> {
     let mut store = with_list(rt.alloc())?;
     store.list_add("a")?;
-    let mut count = store.count("soc")?;
     let texts: [(&[u8], Added, usize); 4] = [
         (b"one\n", Added::New, 1),
         (b"two\n", Added::New, 2),
@@ -118,21 +130,17 @@ fn messages_to_a_list_that_is_counted_once(rt: HostRuntime) -> Result<(), Fail> 
         (b"", Added::New, 3),
     ];
     for (text, wanted, held) in texts {
-        let added = store.add_counted(rt.alloc(), "soc", &item(text)?, &mut count)?;
-        assert_eq!(&rt; (added, count), (wanted, held));
+        let added = store.add(rt.alloc(), "soc", &item(text)?)?;
+        assert_eq!(&rt; (added, store.count("soc")?), (wanted, held));
     }
-    assert_eq!(&rt; (store.count("soc")?, store.count("a")?), (3, 0));
+    assert_eq!(&rt; store.count("a")?, 0);
     Ok(())
 }
 
 #[test]
 fn no_list_to_count(rt: HostRuntime) -> Result<(), Fail> {
     let mut store = with_list(rt.alloc())?;
-    let mut count = 0;
     assert!(&rt; store.count("a") == Err(StoreFault::NoList));
-    let refused = store.add_counted(rt.alloc(), "a", &item(b"one")?, &mut count);
-    assert!(&rt; refused == Err(StoreFault::NoList));
-    assert_eq!(&rt; count, 0);
     Ok(())
 }
 

@@ -9,7 +9,8 @@ use std::test::Fail;
 /// What a store is told and asked.
 #[derive(Clone, Copy, Debug, PartialEq, Eq)]
 pub enum Case {
-    /// Each command with each of its refusals but that of a full list, told to an empty store.
+    /// Each command with each of its refusals but those of a full list and of a message that is too large, told to an empty
+    /// store.
     Commands,
     /// Each command by its own call, told to an empty store.
     Calls,

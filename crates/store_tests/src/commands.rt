@@ -32,7 +32,7 @@ pub fn run<S: Alter>(
     }
 }
 
-/// What each command answers, and each of its refusals but that of a full list.
+/// What each command answers, and each of its refusals but those of a full list and of a message that is too large.
 pub fn commands<S: Alter>(
     rt: &impl Abort,
     alloc: Global,
@@ -51,13 +51,7 @@ pub fn commands<S: Alter>(
     is_withdrawn_by_the_board(rt, store, &key)?;
     merges(rt, alloc, store)?;
     addresses(rt, alloc, store)?;
-    embargoes(rt, alloc, store, &key, &other, last)?;
-    let long = vec![in alloc; b'x'; 16_777_216]?;
-    assert_eq!(rt;
-        store.add(alloc, "soc", &item("a@b", &long)?),
-        Err(StoreFault::TooLarge)
-    );
-    Ok(())
+    embargoes(rt, alloc, store, &key, &other, last)
 }
 
 /// The lists `soc` and `a` and the persons `anna` and `bob`, and what is refused of others.
@@ -375,14 +369,12 @@ pub fn limits<S: Alter>(rt: &impl Abort, alloc: Global, store: &mut Store<S>) ->
     for (list, answer) in [("xyz", Err(StoreFault::NoList)), ("other", Ok(Added::New))] {
         assert_eq!(rt; store.add(alloc, list, &item("a@b", b"one")?), answer);
     }
-    let long = vec![in alloc; b'x'; 16_777_216]?;
     for (sender, text, answer) in [
         ("a@b", b"one".as_slice(), Ok(Added::New)),
         ("a@b", b"two\n".as_slice(), Ok(Added::New)),
         ("a@b", b"three\n".as_slice(), Err(StoreFault::ListFull)),
         ("a@b", b"one\n".as_slice(), Ok(Added::Known)),
         ("c@d", b"one\n".as_slice(), Ok(Added::Known)),
-        ("a@b", long.as_slice(), Err(StoreFault::TooLarge)),
     ] {
         let added = add_limited(store, alloc, "soc", &item(sender, text)?, 2);
         assert_eq!(rt; added, answer);

@@ -36,6 +36,14 @@ pub fn new_files(alloc: Global) -> Files<Memory> {
     }
 }
 
+/// A cache of a few pages. Each opening fills it with zeros, which takes most of the time of a small file if it has the usual 2,000.
+pub fn few_pages() -> Options {
+    Options {
+        cache_pages: 64,
+        ..Options::new(1)
+    }
+}
+
 /// Tells a store over these files a case, and hands the files back. `None` where they cannot be opened as a store.
 pub fn tell_files<D: Disk + Drop>(
     rt: &impl Abort,
@@ -46,7 +54,7 @@ pub fn tell_files<D: Disk + Drop>(
     if !files.may_be_used() {
         return Err(Fail::from("files that may be used"));
     }
-    match Connection::open_files(alloc, files, Options::new(1)) {
+    match Connection::open_files(alloc, files, few_pages()) {
         Ok(connection) => tell_connection(rt, alloc, connection, case),
         Err((_error, left)) => Ok((None, left.into_files())),
     }

@@ -1,7 +1,7 @@
 //! Databases of other tables, and of a number that is not that of their tables: E15, and the files are byte for byte as before.
-use crate::files::{TABLES, new_files};
+use crate::files::{TABLES, few_pages, new_files};
 use archive_store::{AdoptStop, Store, StoreFault};
-use sqlite::{Connection, Error, FileStore, Files, Options};
+use sqlite::{Connection, Error, FileStore, Files};
 use sqlite_disk::Memory;
 use std::alloc::Global;
 use std::process::Abort;
@@ -68,7 +68,7 @@ fn open(alloc: Global, files: Files<Memory>) -> Result<Connection<FileStore<Memo
     if !files.may_be_used() {
         return Err(Fail::from("files that may be used"));
     }
-    match Connection::open_files(alloc, files, Options::new(1)) {
+    match Connection::open_files(alloc, files, few_pages()) {
         Ok(connection) => Ok(connection),
         Err((_error, _left)) => Err(Fail::from("an open file")),
     }
