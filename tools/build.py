@@ -4,7 +4,7 @@
   build.py LOG NAME=MADE..     what the toolchain says goes to the file LOG, and each program to crates/NAME/out/NAME; the file MADE, which
                                says what it is made of, goes to built-by-the-front-door beside it
 
-What `rt ci` passed on this machine before, here or under ./check, is not proved again. The last program is there when the whole gate has
+What `rt ci` passed on this machine before, here or under ./check --prove, is not proved again. The last program is there when the whole gate has
 passed, and each before it as soon as it is proved and built, and writes what its file stdout has. On standard error it says how much is
 done, and how long it still takes, by what each crate took before; and why it failed. The status is 0 where all are built.
 """

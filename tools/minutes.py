@@ -4,7 +4,7 @@
   minutes.py            says whether the page has the tables that the file gives; status 1 where not
   minutes.py --write    writes them into the page
 
-`./check --record` writes the file (gate.py): of each crate that it proved from nothing the minutes by the clock between the end of the last
+`./check --prove --record` writes the file (gate.py): of each crate that it proved from nothing the minutes by the clock between the end of the last
 crate that it stands on and its own, and the day. That includes waiting for a processor. Every other line stays.
 """
 import datetime, sys
@@ -16,7 +16,7 @@ FIRST, LAST = "<!-- by tools/minutes.py -->\n", "<!-- end of what tools/minutes.
 PROGRAMS = ("sift", "archive")
 LANES = (1, 2, 4, 8)
 DEAR = 6.0
-HEAD = """# The minutes of each crate, as ./check --record found them, and the day (tools/minutes.py). A line without a day is older: of 27 and 28
+HEAD = """# The minutes of each crate, as ./check --prove --record found them, and the day (tools/minutes.py). A line without a day is older: of 27 and 28
 # November 2026, written down by hand.
 """
 

@@ -9,7 +9,7 @@ repository they are the modules of one crate. A program is run on its files `arg
 `stdout`. A test or a program that does not end in 600 seconds has failed. The last line is 'N passed, M failed', and the status is 0 where M
 is 0.
 """
-import concurrent.futures, os, re, subprocess, sys, time
+import concurrent.futures, os, re, subprocess, sys, tempfile, time
 
 import part
 
@@ -55,16 +55,33 @@ def bytes_of(name, file):
     return at.read_bytes() if at.exists() else b""
 
 
-def tried(folder, words, given):
-    """Tries a crate in its folder, and returns what was written, the lines that were said, and the status of what ended."""
-    ran = subprocess.run(["rt", "try", "--seconds", SECONDS, *words], cwd=folder, input=given, capture_output=True, check=False)
-    said = ran.stderr.decode(errors="replace").splitlines()
-    ended = ENDED.fullmatch(said[-1]) if said else None
-    return ran.stdout, said, int(ended[1]) if ended else None
+class Ran:
+    """A trial that ended: what it wrote, the lines that were said, the status of what ended, and how many seconds it took: by the clock until
+    the first test, by the clock after that, and of a processor."""
+
+    def __init__(self, folder, words, given):
+        begun, first = time.monotonic(), None
+        with tempfile.TemporaryFile() as said, tempfile.TemporaryFile() as stdin:
+            stdin.write(given)
+            stdin.seek(0)
+            how = {"cwd": folder, "stdin": stdin, "stdout": subprocess.PIPE, "stderr": said}
+            with subprocess.Popen(["rt", "try", "--seconds", SECONDS, *words], **how) as rt:
+                wrote = []
+                for line in rt.stdout:
+                    first = first or time.monotonic()
+                    wrote.append(line)
+                _, status, used = os.wait4(rt.pid, 0)
+                rt.returncode = os.waitstatus_to_exitcode(status)
+            said.seek(0)
+            self.said = said.read().decode(errors="replace").splitlines()
+        self.wrote = b"".join(wrote)
+        ended = ENDED.fullmatch(self.said[-1]) if self.said else None
+        self.status = int(ended[1]) if ended else None
+        self.seconds = (first or time.monotonic()) - begun, time.monotonic() - (first or time.monotonic()), used.ru_utime + used.ru_stime
 
 
 def try_tests(names):
-    """Returns how many tests of some crates passed, and what is said of the others."""
+    """Returns how many tests of some crates passed, what is said of the others, and how many seconds all took (`Ran`)."""
     if len(names) == 1:
         return judge(part.CRATES / names[0], {names[0]: tests_of(names[0])}, f"{names[0]}::")
     with part.copied([it for it in part.lines() if any(it in part.with_those_below(name) for name in names)], ()) as top:
@@ -93,16 +110,16 @@ def join(top, names):
 
 def judge(folder, wanted, before):
     """Tries the tests in a folder: so many are wanted of each crate, whose name stands first in that of a test, behind what is set `before` it."""
-    wrote, said, _ = tried(folder, ["--test"], b"")
-    lines = wrote.decode(errors="replace").splitlines()
+    ran = Ran(folder, ["--test"], b"")
+    lines = ran.wrote.decode(errors="replace").splitlines()
     told = [(before + it.removeprefix("test "), at) for at, it in enumerate(lines) if re.match(r"test (?!result:).* \.\.\. ", it)]
     passed = [it for it, _ in told if it.endswith(" ... ok")]
     failed = [f"{it}{' after ' + SECONDS + ' seconds' if lines[at + 1:at + 2] and lines[at + 1].strip() == CUT else ''}" for it, at in told if not it.endswith(" ... ok")]
     for name, count in wanted.items():
         found = sum(it.startswith(f"{name}::") for it, _ in told)
         if found != count:
-            failed.append(f"{name}: of its {count} tests {found} were tried: {' / '.join(said[-3:])}")
-    return len(passed), failed
+            failed.append(f"{name}: of its {count} tests {found} were tried: {' / '.join(ran.said[-3:])}")
+    return len(passed), failed, ran.seconds
 
 
 def try_program(name):
@@ -111,12 +128,12 @@ def try_program(name):
     data = sorted(it for it in at.glob("**/*") if it.is_file())
     words = [w for it in data for w in ("--data", f"{it.relative_to(at)}={it}")]
     args = bytes_of(name, "args").decode().splitlines()
-    wrote, said, ended = tried(part.CRATES / name, [*words, *(["--", *args] if args else [])], bytes_of(name, "stdin"))
+    ran = Ran(part.CRATES / name, [*words, *(["--", *args] if args else [])], bytes_of(name, "stdin"))
     wanted = int((bytes_of(name, "status") or b"0").decode())
-    if ended == wanted and wrote == bytes_of(name, "stdout"):
-        return 1, []
-    why = "it wrote something else than its file stdout" if ended == wanted else f"it came to no such end: {' / '.join(said[-3:])}"
-    return 0, [f"{name}: {why}"]
+    if ran.status == wanted and ran.wrote == bytes_of(name, "stdout"):
+        return 1, [], ran.seconds
+    why = "it wrote something else than its file stdout" if ran.status == wanted else f"it came to no such end: {' / '.join(ran.said[-3:])}"
+    return 0, [f"{name}: {why}"], ran.seconds
 
 
 def trials_of(asked):
@@ -131,10 +148,9 @@ def trials_of(asked):
 
 
 def told_of(called, trial):
-    """Makes a trial, and says what came of it."""
-    begun = time.monotonic()
-    passed, failed = trial()
-    print(f"quick: {called}: {passed} passed, {len(failed)} failed, in {time.monotonic() - begun:.0f} seconds", flush=True)
+    """Makes a trial, and says what came of it. A program writes nothing before its end, so how long it ran is not known."""
+    passed, failed, (compiled, ran, used) = trial()
+    print(f"quick: {called}: {passed} passed, {len(failed)} failed; compiled in {compiled:.0f} seconds and ran for {ran:.0f}, {used:.0f} of a processor", flush=True)
     return passed, failed
 
 

@@ -3,7 +3,7 @@
 
   tools/refused.py [--program PROGRAM] [--library FILE]
 
-The program (crates/refused_rows, which `./check` proves and builds) makes each call twice, and marks the first one. With the
+The program (crates/refused_rows, which `./check --prove` proves and builds) makes each call twice, and marks the first one. With the
 Nth growth of each first call refused (refuse.c, which the toolchain's clang builds), each call has to come to its answer or to
 the refusal for want of memory, never to another answer; what an export or a reply counts is what went out, and a beginning of
 the whole; the second call comes to the answer. Of an import that stopped the list holds what stands then, and the same import

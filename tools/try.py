@@ -503,7 +503,7 @@ QUICK = {
         **{**PASSES, "writes": "", "tells": "run=none proved=no\n"}),
     "a test that is not tried": says("quick.py", ["low_tests"], {**TESTED, "crates/low_tests/src/lib.rt": "#[test]\nfn f() {}\n\n#[test]\nfn g() {}\n"}, 1,
         "quick: low_tests: of its 2 tests 1 were tried: run=ended status=3 runners=1 proved=no", "1 passed, 1 failed", **PASSES),
-    "two crates together": says("quick.py", [], TOGETHER, 0, "quick: desk_tests pages_tests: 2 passed, 0 failed, in 0 seconds", "2 passed, 0 failed", **BOTH),
+    "two crates together": says("quick.py", [], TOGETHER, 0, "2 passed, 0 failed", **BOTH),
     "one of two": asks("quick.py", ["pages_tests"], TOGETHER, ["--test", "in pages_tests"], ["in joined_tests"], **PASSES),
     "two that are one crate": asks("quick.py", [], TOGETHER, ["--test", "in joined_tests"], ["in desk_tests"], **BOTH),
     "a test of the second that is not tried": says("quick.py", [], TOGETHER, 1, "quick: pages_tests: of its 1 tests 0 were tried: run=ended status=3 runners=1 proved=no",

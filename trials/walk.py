@@ -7,7 +7,7 @@ A block of a page that is indented and begins with a command is given to a shell
 follows behind an empty line, that is what has to come, with `..` for any lines, and DAY for a day. Where nothing is shown, no
 refusal may come, and the last command may not fail; what the README says of its blocks in its own words stands in SAID. The clone
 is of the repository as it is committed, with what is changed but not committed, and runs the program that is given, as if it
-were built there: nothing is proved, and lines that would prove (./check) are left out. Port 8080 becomes a free one; FACTOR makes each `sleep`
+were built there: nothing is proved, and ./check, which runs all tests, is left out. Port 8080 becomes a free one; FACTOR makes each `sleep`
 longer, on a busy machine. New mail comes by mailers.py. The last line is 'N passed, N failed, N skipped'.
 """
 import os, pathlib, re, shutil, signal, subprocess, tempfile, time
@@ -24,8 +24,8 @@ case $1 in
   ci) mkdir -p crates/archive/out && cp -- "$PROGRAM" crates/archive/out/archive && echo '1 passed, 0 failed' ;;
 esac
 """
-# What takes an hour or more, or another machine.
-LEFT_OUT = {"./check": "it proves everything", "apt-get": "it changes the machine"}
+# What takes long, or another machine.
+LEFT_OUT = {"./check": "it runs every test", "apt-get": "it changes the machine"}
 END = "--- end of block"
 # The row of the answer to a mail that is withdrawn.
 ANSWER = ('<div class="d0"><a href="/l/seeds/month/2024-02">2024-02-05 10:24</a> <a href="/l/seeds/by/ada%40garden.example">ada@garden.example</a> '

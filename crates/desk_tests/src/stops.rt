@@ -74,14 +74,14 @@ fn done(outcome: Outcome) -> (u64, bool) {
 }
 
 /// Imports over files whose log stops, and then once more over what is left: what was said to be done is known then, with no
-/// more than the transaction beside it that stopped, and the rest is new. Whether the first import came to its end.
+/// more than the transaction beside it that stopped, and the rest is new. How much the first import said it had done.
 fn again(
     rt: &impl Abort,
     alloc: Global,
     files: Files<Fuse<Memory>>,
     mbox: &[u8],
     how: How,
-) -> Result<bool, Fail> {
+) -> Result<(u64, bool), Fail> {
     let mut none = nothing(alloc)?;
     let (first, stopped) = import_into(alloc, files, mbox, how, &mut none)?;
     let (said, is_whole) = done(first);
@@ -95,43 +95,40 @@ fn again(
         "{said}, {}",
         report.known
     );
-    Ok(is_whole)
+    Ok((said, is_whole))
 }
 
-/// Halves the calls between a disk that stops and one that does not, so that disks stop early, and at last in the second
-/// transaction.
-fn halve(
-    rt: &impl Abort,
-    alloc: Global,
-    files: &Files<Memory>,
-    mbox: &[u8],
-    how: How,
-) -> Result<(u64, u64), Fail> {
+/// The latest call at which a log that stops ends an import, by halving.
+fn last_stop(alloc: Global, files: &Files<Memory>, mbox: &[u8]) -> Result<u64, Fail> {
     let (mut stops, mut lasts) = (0, 2048);
     for _turn in 0..11 {
         let calls = stops / 2 + lasts / 2;
-        if again(rt, alloc, fused(alloc, files, calls, CALLS)?, mbox, how)? {
+        let stopping = fused(alloc, files, calls, CALLS)?;
+        let (first, _files) = import_into(alloc, stopping, mbox, How::Whole, &mut nothing(alloc)?)?;
+        if done(first).1 {
             lasts = calls;
         } else {
             stops = calls;
         }
     }
-    Ok((stops, lasts))
+    Ok(stops)
 }
 
-/// The first import stops in its second transaction, at the latest call that stops it: the first transaction stands.
+/// An import stops in its second transaction, at the latest call that stops it: the first transaction stands. At half of the calls it
+/// stops in the first one: nothing stands.
 fn stops_late(
     rt: &impl Abort,
     alloc: Global,
     files: &Files<Memory>,
     mbox: &[u8],
     how: How,
+    last: u64,
 ) -> Result<(), Fail> {
-    let (stops, lasts) = halve(rt, alloc, files, mbox, how)?;
-    assert!(rt; 0 < stops && lasts < 2048, "{stops}, {lasts}");
-    let stopping = fused(alloc, files, stops, CALLS)?;
-    let (last, _files) = import_into(alloc, stopping, mbox, how, &mut nothing(alloc)?)?;
-    assert_eq!(rt; done(last), (AT_ONCE, false));
+    for (calls, stands) in [(last / 2, 0), (last, AT_ONCE)] {
+        let stopping = fused(alloc, files, calls, CALLS)?;
+        let said = again(rt, alloc, stopping, mbox, how)?;
+        assert_eq!(rt; said, (stands, false), "{calls}");
+    }
     Ok(())
 }
 
@@ -157,8 +154,9 @@ fn with_a_list(rt: &impl Abort, alloc: Global) -> Result<Files<Memory>, Fail> {
 fn an_import_that_stopped_is_made_again(rt: HostRuntime) -> Result<(), Fail> {
     let mbox = numbered(rt.alloc())?;
     let files = with_a_list(&rt, rt.alloc())?;
-    stops_late(&rt, rt.alloc(), &files, &mbox, How::Whole)?;
-    stops_late(&rt, rt.alloc(), &files, &mbox, How::InPieces)
+    let last = last_stop(rt.alloc(), &files, &mbox)?;
+    stops_late(&rt, rt.alloc(), &files, &mbox, How::Whole, last)?;
+    stops_late(&rt, rt.alloc(), &files, &mbox, How::InPieces, last)
 }
 
 /// Three messages, each as an mbox has it.
