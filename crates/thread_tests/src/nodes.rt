@@ -226,11 +226,12 @@ fn other_lists(alloc: Global, threader: &NodeThreader, first: usize) -> Result<u
             entries.push(short_entry(alloc, first)?)?;
             entries.push(short_entry(alloc, second)?)?;
             entries.push(short_entry(alloc, third)?)?;
-            // (the lists of one and two are the same with each third)
-            let shortest = if third == 0 { 1 } else { 3 };
-            for length in shortest..4 {
-                if !is_same(alloc, threader, &entries[..length])? {
-                    other = 1;
+            for length in 1..4 {
+                // (the lists of one and two are the same with each third)
+                if length == 3 || third == 0 {
+                    if !is_same(alloc, threader, &entries[..length])? {
+                        other = 1;
+                    }
                 }
             }
         }
@@ -627,7 +628,7 @@ fn rows_of_references(
 #[test]
 fn a_message_with_many_references(rt: HostRuntime) -> Result<(), Fail> {
     let threader = NodeThreader::new(RandomState::new(&rt)?);
-    let rows = rows_of_references(rt.alloc(), &threader, 100_000)?;
+    let rows = rows_of_references(rt.alloc(), &threader, 50_000)?;
     assert_eq!(rt; rows.as_slice(), [row(0, 0), row(1, 1)].as_slice());
     Ok(())
 }
