@@ -6,7 +6,7 @@
 Each is compiled with checks and stops at an index out of bounds, a sum that wraps, a failed `unwrap` or a bad access; no contract is looked at.
 A trial compiles all libraries below it. So crates of tests that stand on the same libraries are tried together (`TOGETHER`): in a copy of the
 repository they are the modules of one crate. A program is run on its files `args`, `stdin` and `data`; what it writes has to be its file
-`stdout`. A test or a program that does not end in 600 seconds has failed. The last line is 'N passed, M failed', and the status is 0 where M
+`stdout`. A test or a program that does not end in 900 seconds has failed. The last line is 'N passed, M failed', and the status is 0 where M
 is 0.
 """
 import concurrent.futures, os, re, subprocess, sys, tempfile, time
@@ -15,7 +15,7 @@ import part
 
 # What a trial takes of memory, in MB, where its crate stands on `sqlite`, and where it does not; and how many seconds a test or a program may
 # run. Under checks code is some ten times as slow.
-LARGE, SMALL, SECONDS = 3500, 1500, "600"
+LARGE, SMALL, SECONDS = 3500, 1500, "900"
 # Which crates of tests are tried together: each of these trials is compiled once.
 TOGETHER = (
     ("store_tests", "run_tests"),

@@ -495,7 +495,7 @@ QUICK = {
     "tests": says("quick.py", ["low_tests"], TESTED, 0, "1 passed, 0 failed", **{**PASSES, "tells": TRIED}),
     "a test that fails": says("quick.py", ["low_tests"], TESTED, 1, "quick: low_tests::a::b ... FAILED", "0 passed, 1 failed",
         **{**PASSES, "writes": "test a::b ... FAILED\n"}),
-    "a test that is cut": says("quick.py", ["low_tests"], TESTED, 1, "quick: low_tests::a::b ... FAILED after 600 seconds", "0 passed, 1 failed",
+    "a test that is cut": says("quick.py", ["low_tests"], TESTED, 1, "quick: low_tests::a::b ... FAILED after 900 seconds", "0 passed, 1 failed",
         **{**PASSES, "writes": "test a::b ... FAILED\n    checked: no-answer: the program did not end within the time limit\n    run=no-answer\ntest result: FAILED.\n"}),
     "a program that is cut": says("quick.py", ["shown"], TESTED, 1, "quick: shown: it came to no such end: checked: no-answer: the program did not end within the time limit / run=no-answer proved=no",
         "0 passed, 1 failed", writes="", tells="checked: no-answer: the program did not end within the time limit\nrun=no-answer proved=no\n"),

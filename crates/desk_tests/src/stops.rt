@@ -99,12 +99,12 @@ fn again(
 }
 
 /// The latest call at which a log that stops ends an import, by halving.
-fn last_stop(alloc: Global, files: &Files<Memory>, mbox: &[u8]) -> Result<u64, Fail> {
+fn last_stop(alloc: Global, files: &Files<Memory>, mbox: &[u8], how: How) -> Result<u64, Fail> {
     let (mut stops, mut lasts) = (0, 2048);
     for _turn in 0..11 {
         let calls = stops / 2 + lasts / 2;
         let stopping = fused(alloc, files, calls, CALLS)?;
-        let (first, _files) = import_into(alloc, stopping, mbox, How::Whole, &mut nothing(alloc)?)?;
+        let (first, _files) = import_into(alloc, stopping, mbox, how, &mut nothing(alloc)?)?;
         if done(first).1 {
             lasts = calls;
         } else {
@@ -122,8 +122,8 @@ fn stops_late(
     files: &Files<Memory>,
     mbox: &[u8],
     how: How,
-    last: u64,
 ) -> Result<(), Fail> {
+    let last = last_stop(alloc, files, mbox, how)?;
     for (calls, stands) in [(last / 2, 0), (last, AT_ONCE)] {
         let stopping = fused(alloc, files, calls, CALLS)?;
         let said = again(rt, alloc, stopping, mbox, how)?;
@@ -154,9 +154,8 @@ fn with_a_list(rt: &impl Abort, alloc: Global) -> Result<Files<Memory>, Fail> {
 fn an_import_that_stopped_is_made_again(rt: HostRuntime) -> Result<(), Fail> {
     let mbox = numbered(rt.alloc())?;
     let files = with_a_list(&rt, rt.alloc())?;
-    let last = last_stop(rt.alloc(), &files, &mbox)?;
-    stops_late(&rt, rt.alloc(), &files, &mbox, How::Whole, last)?;
-    stops_late(&rt, rt.alloc(), &files, &mbox, How::InPieces, last)
+    stops_late(&rt, rt.alloc(), &files, &mbox, How::Whole)?;
+    stops_late(&rt, rt.alloc(), &files, &mbox, How::InPieces)
 }
 
 /// Three messages, each as an mbox has it.
