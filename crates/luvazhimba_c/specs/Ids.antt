@@ -1,7 +1,7 @@
 -- The message ids of a message as texts.
 use Rattle.std.specs.Prelude.{◌≡◌, ◌<◌, ◌⊎◌, ℕ, List, ◌∷◌, ◌++◌, length, take, map}
 use Rattle.std.specs.List.{flat_map}
-use Rattle.mail_core.specs.Headers.{own_id_of, references_of, alone}
+use Rattle.mail_core.specs.Headers.{Header, header_of, own_id_in, own_id_of, references_in, alone}
 use Rattle.mail_core.specs.MsgIds.{Id}
 use Rattle.luvazhimba_c.specs.declared.ids.LuvIds.{LuvIds}
 
@@ -13,9 +13,13 @@ id_text id = id.left ++ 64 ∷ id.right
 abbrev pub text_len : Id → ℕ
 text_len id = length (id_text id)
 
--- the message's own id, where it has one, and then those that it refers to
+-- the message's own id, where it has one, and then those that it refers to, by its header
+abbrev pub ids_of_header : Header → List Id
+ids_of_header header = alone (own_id_in header) ++ references_in header
+
+-- the same of a message
 abbrev pub ids_of_message : List ℕ → List Id
-ids_of_message message = alone (own_id_of message) ++ references_of message
+ids_of_message message = ids_of_header (header_of message)
 
 -- their texts, one behind the other
 abbrev pub id_texts : List ℕ → List ℕ

@@ -9,9 +9,11 @@
 pub mod cutting;
 pub mod dates;
 mod entries;
+pub mod fields;
 pub mod ids;
 mod keys;
 pub mod laws;
+pub mod mbox_fields;
 pub mod messages;
 mod outputs;
 mod refusals;
