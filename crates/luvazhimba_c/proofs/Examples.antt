@@ -2,9 +2,12 @@
 use Rattle.std.proofs.Common.{◌≡◌, ℕ, List, [], ◌∷◌, refl, Some, None, pos, codes, true, false}
 use Rattle.civil_time.specs.Calendar.{days_before_year, days_of_months}
 use Rattle.civil_time.specs.Names.{month_of, is_weekday}
-use Rattle.mail_core.specs.Lines.{lines, content}
+use Rattle.mail_core.specs.Fields.{header_blocks, fields_of, unfolded}
+use Rattle.mail_core.specs.Lines.{lines, content, is_empty_line}
+use Rattle.mail_core.specs.MsgIds.{ids_from, next_piece, id_at, sides_of, is_left, is_right, right_from}
 use Rattle.mbox_core.specs.Separator.{Envelope, tokens, day_of, clock_of, year_of, instant_of, arrival_of, sent_by_one, sent_by_two, envelope_of, separator_of}
 use Rattle.mbox_items.proofs.SeparatorLemmas.{separator_is}
+use Rattle.luvazhimba_c.specs.Fields.{field_texts, field_lens}
 use Rattle.luvazhimba_c.specs.Ids.{id_text}
 use Rattle.luvazhimba_c.specs.Numbers.{number_of}
 use Rattle.luvazhimba_c.specs.Places.{StandsAt, Stand}
@@ -61,6 +64,18 @@ both_stand = (37, first_stands, (71, second_stands, refl))
 
 an_id : id_text (record { left = codes "a"; right = codes "b" }) ≡ codes "a@b"
 an_id = refl
+
+-- A folded From, a subject and an id. The texts begin with the space that stands behind the colon.
+abbrev message : List ℕ
+message = codes "From: a\n <b>\nSubject: x\nMessage-ID: <a@b>\n\n"
+
+its_texts : field_texts message ≡ codes " x a <b>a@b"
+unfolding lines content is_empty_line header_blocks fields_of unfolded ids_from next_piece id_at sides_of is_left is_right right_from
+its_texts = refl
+
+its_lens : field_lens message ≡ 2 ∷ 6 ∷ 3 ∷ []
+unfolding lines content is_empty_line header_blocks fields_of unfolded ids_from next_piece id_at sides_of is_left is_right right_from
+its_lens = refl
 
 a_number : number_of Mbox ≡ 5
 a_number = refl

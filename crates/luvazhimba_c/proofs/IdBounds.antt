@@ -1,7 +1,6 @@
 -- How many ids a message names at most, and how long their texts are: each is a stretch of a field, and no two fields overlap.
-use Rattle.std.proofs.Common.{◌≡◌, ℕ, zero, suc, ◌+◌, ◌-◌, ◌*◌, ◌<◌, ◌≤◌, Bool, true, false, cond, ◌==◌, ◌||◌, ◌&&◌, List, [], ◌∷◌, ◌++◌, length, map, take, drop, refl, arith, ap, sym, ◌∙◌, subst, Option, Some, None, ◌⊎◌, inl, inr, option_map, length-append, flat_map, codes, nat_lt, ◌≢◌, get_or}
+use Rattle.std.proofs.Common.{◌≡◌, ℕ, suc, ◌+◌, ◌-◌, ◌*◌, ◌≤◌, Bool, true, false, cond, ◌==◌, ◌&&◌, List, [], ◌∷◌, ◌++◌, length, map, take, drop, refl, arith, ap, sym, ◌∙◌, subst, Option, Some, None, ◌⊎◌, inl, inr, option_map, length-append, flat_map, codes, nat_lt, ◌≢◌, get_or}
 use Rattle.std.specs.List.{concat, cons_option, filter_map, find, prefix_len}
-use Rattle.std.specs.Str.{bytes_eq}
 use Rattle.std.specs.Char.{to_ascii_lowercase}
 use Rattle.std.proofs.lemmas.List.{length-drop, length-take, length-map}
 use Rattle.std.proofs.lemmas.Grind.{flat_map-append}
@@ -9,7 +8,7 @@ use Rattle.std.proofs.lemmas.Slice.Eq.{bytes_eq-Decides}
 use Rattle.mail_core.specs.Bytes.{lf, cr, colon}
 use Rattle.mail_core.specs.Lines.{lines, content, is_empty_line, without_end, ends_in}
 use Rattle.mail_core.specs.Fields.{Entry, continues, header_lines, onto_first_block, blocks, header_blocks, field_in, field_from, is_name_byte, is_blank, skip_blanks, fields_of, has_name, field_of, is_fold, unfolded}
-use Rattle.mail_core.specs.Headers.{alone, first_of, or_alone, or_empty, ids_in_field, own_id_of, references_of}
+use Rattle.mail_core.specs.Headers.{alone, first_of, or_alone, or_empty, ids_in_field}
 use Rattle.mail_core.specs.MsgIds.{Id, IsMsgId, OneOrMore, is_left, is_right, ids_of}
 use Rattle.mail_core.specs.Pieces.{Piece, Pieces, ids_in}
 use Rattle.mail_core.specs.Pieces.Piece.{comment, quoted_string, msg_id, single}
@@ -20,9 +19,9 @@ use Rattle.mbox_items.proofs.LineLemmas.{concat-lines}
 use Rattle.luvazhimba_c.specs.Ids.{id_text, text_len, ids_of_message, id_texts, id_lens}
 
 -- so many ids with such texts stand in a stretch of this length
-record FitIn (ids : List Id) (n : ℕ) : Type 0 where
-  texts : length (flat_map id_text ids) + 2 * length ids ≤ n
-  count : 5 * length ids ≤ n
+pub record FitIn (ids : List Id) (n : ℕ) : Type 0 where
+  pub texts : length (flat_map id_text ids) + 2 * length ids ≤ n
+  pub count : 5 * length ids ≤ n
 
 -- ---- ids of one text
 
@@ -91,7 +90,7 @@ ids_fit text =
 weaker : (ids : List Id) (m n : ℕ) → m ≤ n → FitIn ids m → FitIn ids n
 weaker ids m n h f = record { texts = let t = f.texts in omega (arith, h, t); count = let k = f.count in omega (arith, h, k) }
 
-unfolded_few : (t : List ℕ) → length (unfolded t) ≤ length t
+pub unfolded_few : (t : List ℕ) → length (unfolded t) ≤ length t
 unfolding unfolded
 unfolded_few [] = omega arith
 unfolded_few (b ∷ bs) = go (is_fold (b ∷ bs)) (unfolded_few bs)
@@ -137,7 +136,7 @@ content_few line =
     let two = without_few cr (without_end lf line) in
     omega (arith, one, two)
 
-abbrev body_len : Option Entry → ℕ
+abbrev pub body_len : Option Entry → ℕ
 body_len None = 0
 body_len (Some f) = length f.body
 
@@ -158,7 +157,7 @@ field_in_few text =
     let two : length (skip_blanks behind) ≡ length behind - prefix_len is_blank behind = length-drop (prefix_len is_blank behind) behind in
     omega (arith, from, one, two)
 
-abbrev total : List Entry → ℕ
+abbrev pub total : List Entry → ℕ
 total [] = 0
 total (f ∷ fs) = length f.body + total fs
 
@@ -200,7 +199,7 @@ header_few (l ∷ ls) = go (is_empty_line l) (header_few ls) (length-append l (c
     go true later own all = omega arith
     go false later own all = omega (arith, later, own, all)
 
-all_few : (text : List ℕ) → total (fields_of text) ≤ length text
+pub all_few : (text : List ℕ) → total (fields_of text) ≤ length text
 unfolding fields_of header_blocks
 all_few text =
     let fields = fields_few (blocks (header_lines (lines text))) in
@@ -230,32 +229,33 @@ two_few p q (f ∷ fs) h = go (p f) refl (q f) refl (one_few p fs) (one_few q fs
     go false d true e a b c = omega (arith, a)
     go false d false e a b c = omega (arith, c)
 
-body_is : (o : Option Entry) → length (or_empty (option_map (λ (f : Entry). f.body) o)) ≡ body_len o
+pub body_is : (o : Option Entry) → length (or_empty (option_map (λ (f : Entry). f.body) o)) ≡ body_len o
 body_is None = refl
 body_is (Some f) = refl
 
 -- the first letters of two names are not the same
-abbrev AreApart : List ℕ → List ℕ → Type 0
+abbrev pub AreApart : List ℕ → List ℕ → Type 0
 AreApart m n = get_or (map to_ascii_lowercase m) 0 0 ≢ get_or (map to_ascii_lowercase n) 0 0
+
+-- no field has both of them
+pub names_apart : (m n : List ℕ) → AreApart m n → (f : Entry) → has_name m f ≡ true → has_name n f ≡ true → ⊥
+names_apart m n other f h k = other (ap (λ (l : List ℕ). get_or l 0 0) (sym (is m h) ∙ is n k))
+  where
+    is : (name : List ℕ) → has_name name f ≡ true → map to_ascii_lowercase f.name ≡ map to_ascii_lowercase name
+    is name e = (bytes_eq-Decides (map to_ascii_lowercase f.name) (map to_ascii_lowercase name)).0 e
 
 fields_apart : (text m n : List ℕ) → AreApart m n → length (or_empty (field_of text m)) + length (or_empty (field_of text n)) ≤ length text
 fields_apart text m n other =
     let first : length (or_empty (field_of text m)) ≡ body_len (find (has_name m) (fields_of text)) = body_is (find (has_name m) (fields_of text)) in
     let second : length (or_empty (field_of text n)) ≡ body_len (find (has_name n) (fields_of text)) = body_is (find (has_name n) (fields_of text)) in
-    let both = two_few (has_name m) (has_name n) (fields_of text) apart in
+    let both = two_few (has_name m) (has_name n) (fields_of text) (names_apart m n other) in
     let all = all_few text in
     omega (arith, first, second, both, all)
-  where
-    is : (name : List ℕ) (f : Entry) → has_name name f ≡ true → map to_ascii_lowercase f.name ≡ map to_ascii_lowercase name
-    is name f h = (bytes_eq-Decides (map to_ascii_lowercase f.name) (map to_ascii_lowercase name)).0 h
-
-    apart : (f : Entry) → has_name m f ≡ true → has_name n f ≡ true → ⊥
-    apart f h k = other (ap (λ (l : List ℕ). get_or l 0 0) (sym (is m f h) ∙ is n f k))
 
 -- ---- all ids of a message
 
 -- of three fields, the second or the third gives the ids that a message refers to
-of_fields : (own references reply : Option (List ℕ)) (ids : List Id) (n : ℕ) → ids_in_field references ≡ ids
+pub of_fields : (own references reply : Option (List ℕ)) (ids : List Id) (n : ℕ) → ids_in_field references ≡ ids
     → length (or_empty own) + length (or_empty references) ≤ n → length (or_empty own) + length (or_empty reply) ≤ n
     → FitIn (alone (first_of (ids_in_field own)) ++ or_alone ids (first_of (ids_in_field reply))) n
 of_fields own references reply [] n e h k =

@@ -1,5 +1,8 @@
 mod Examples
 pub mod BaseBounds
+pub mod DateLemmas
+pub mod FieldBounds
+pub mod FieldLemmas
 pub mod IdBounds
 pub mod IdLemmas
 pub mod PlaceLemmas

@@ -1,4 +1,17 @@
 //! All that a message says of itself, in one reading.
+ghost use Rattle.std.specs.Prelude.{◌≡◌, ◌≢◌, ◌⊎◌, ◌↔◌, ◌++◌, false, pos, OnOk, IfOk, IfErr};
+ghost use Rattle.std.specs.Ordering.{int_eq};
+ghost use Rattle.civil_time.specs.Calendar.{is_instant};
+ghost use Rattle.mail_core.specs.Headers.{sent_date_in};
+ghost use Rattle.luvazhimba_c.specs.Fields.{unfolded_from_of, field_texts, field_lens, numbers_of, AreFieldsOf, WantsFieldRoom};
+ghost use Rattle.luvazhimba_c.specs.Numbers.{done, no_room, no_memory, no_instant, too_long, number_of, IsTooLong};
+
+use crate::ids::Texts;
+use crate::outputs::put;
+use crate::refusals::{DONE, Refusal, is_too_long};
+use civil_time::{Instant, Memory};
+use mail_core::{Header, first, unfold};
+use std::alloc::Global;
 
 /// What a message says of itself, in numbers.
 #[repr(C)]
@@ -14,4 +27,102 @@ pub struct LuvFields {
     pub len: usize,
     /// Whether its Date field says when it was sent.
     pub is_dated: bool,
+}
+
+/// Whether a Date field says when a message was sent, which arrived then and was sent at this instant.
+fn is_dated(header: &Header<'_>, arrival: Instant, sent: Instant) -> bool
+    requires { sent ≡ sent_date_in header.now arrival }
+    ensures { result ≡ int_eq (sent_date_in header.now (pos 0)) (sent_date_in header.now (pos 1)) }
+{
+    if sent.seconds() != arrival.seconds() {
+        return true;
+    }
+    let (Some(one), Some(other)) = (Instant::new(0), Instant::new(1)) else {
+        return false;
+    };
+    header.sent(one).seconds() == header.sent(other).seconds()
+}
+
+/// The unfolded body of a message's From field, empty where it has none.
+fn unfolded_from(alloc: Global, message: &[u8]) -> Result<Vec<u8>, Memory>
+    ensures { IfOk result (λ from. from.items ≡ unfolded_from_of message.now) }
+{
+    unfold(alloc, first(message, b"from").unwrap_or(b""))
+}
+
+/// Puts the texts of a message behind others, and says the rest of what it says of itself, where it arrived then.
+pub(crate) fn push_fields(
+    alloc: Global,
+    texts: &mut Texts,
+    message: &[u8],
+    arrival: Instant,
+) -> Result<LuvFields, Memory>
+    ensures bytes { OnOk result (texts.new.bytes.items ≡ texts.old.bytes.items ++ field_texts message.now) }
+    ensures lens { OnOk result (texts.new.lens.items ≡ texts.old.lens.items ++ field_lens message.now) }
+    ensures numbers { IfOk result (λ found. found ≡ numbers_of message.now arrival) }
+{
+    let (count, len) = (texts.lens.len(), texts.bytes.len());
+    let header = Header::of(message);
+    texts.push_text(&header.unfolded_subject(alloc)?)?;
+    texts.push_text(&unfolded_from(alloc, message)?)?;
+    let own = texts.push_ids(alloc, &header)?;
+    let sent = header.sent(arrival);
+    Ok(LuvFields {
+        sent: sent.seconds(),
+        own,
+        count: texts.lens.len() - count,
+        len: texts.bytes.len() - len,
+        is_dated: is_dated(&header, arrival, sent),
+    })
+}
+
+/// All that a message says of itself that arrived then: the texts of its Subject and its From field (RFC 5322, sections 3.6.5 and
+/// 3.6.2), unfolded, and of its ids, as `luv_message_ids` has them, written to the front of `texts`, one behind the other; how long
+/// each is, to the front of `lens`; and `found`, which says when it was sent, as `luv_sent_date` has it, and whether its Date field says
+/// so, whether an id of its own comes first, how many texts there are, and how long they are together. It refuses where the arrival lies outside the years 1900 to
+/// 9998, where an array has no room, and then `found` says how much is wanted, where the message is too long, and where a growth of
+/// memory is refused.
+#[unsafe(no_mangle)]
+pub extern "C" fn luv_fields(
+    alloc: Global,
+    message: &[u8],
+    arrival: i64,
+    texts: &mut [u8],
+    lens: &mut [usize],
+    found: &mut LuvFields,
+) -> u8
+    ensures fields { result ≡ done → AreFieldsOf message.now arrival texts.new lens.new found.new }
+    ensures no_room { result ≡ no_room → WantsFieldRoom message.now arrival texts.old lens.old found.new }
+    ensures no_instant { (result ≡ no_instant) ↔ (is_instant arrival ≡ false) × ¬ IsTooLong message.now }
+    ensures too_long { (result ≡ too_long) ↔ IsTooLong message.now }
+    ensures refused { result ≢ done → (result ≡ no_room) ⊎ (result ≡ no_memory) ⊎ (result ≡ no_instant) ⊎ (result ≡ too_long) }
+{
+    if is_too_long(message) {
+        return Refusal::TooLong.number();
+    }
+    let Some(arrival) = Instant::new(arrival) else {
+        return Refusal::Arrival.number();
+    };
+    match write_fields(alloc, message, arrival, texts, lens, found) {
+        Ok(()) => DONE,
+        Err(refusal) => refusal.number(),
+    }
+}
+
+fn write_fields(
+    alloc: Global,
+    message: &[u8],
+    arrival: Instant,
+    texts: &mut [u8],
+    lens: &mut [usize],
+    found: &mut LuvFields,
+) -> Result<(), Refusal>
+    ensures fields { OnOk result (AreFieldsOf message.now arrival texts.new lens.new found.new) }
+    ensures no_room { IfErr result (λ e. number_of e ≡ no_room → WantsFieldRoom message.now arrival texts.old lens.old found.new) }
+    ensures refused { IfErr result (λ e. (number_of e ≡ no_room) ⊎ (number_of e ≡ no_memory)) }
+{
+    let mut said = Texts::new(alloc);
+    *found = push_fields(alloc, &mut said, message, arrival)?;
+    put(texts, &said.bytes)?;
+    put(lens, &said.lens)
 }

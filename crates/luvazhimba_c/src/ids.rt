@@ -2,7 +2,7 @@
 ghost use Rattle.std.specs.Prelude.{◌≡◌, ◌≢◌, ◌⊎◌, ◌↔◌, ◌++◌, ◌∷◌, [], length, map, OnOk, IfOk, IfErr};
 ghost use Rattle.std.specs.List.{flat_map};
 ghost use Rattle.mail_core.specs.Headers.{own_id_in, own_id_of, alone};
-ghost use Rattle.luvazhimba_c.specs.Ids.{id_text, text_len, id_texts, id_lens, AreIdsOf, WantRoom};
+ghost use Rattle.luvazhimba_c.specs.Ids.{id_text, text_len, ids_of_header, id_texts, id_lens, AreIdsOf, WantRoom};
 ghost use Rattle.luvazhimba_c.specs.Numbers.{done, no_room, no_memory, too_long, number_of, IsTooLong};
 
 use crate::outputs::put;
@@ -22,14 +22,35 @@ pub struct LuvIds {
     pub len: usize,
 }
 
-/// The texts of ids, one behind the other, and how long each is.
+/// Texts, one behind the other, and how long each is.
 #[derive(Drop)]
-struct Texts {
-    bytes: Vec<u8>,
-    lens: Vec<usize>,
+pub(crate) struct Texts {
+    pub(crate) bytes: Vec<u8>,
+    pub(crate) lens: Vec<usize>,
 }
 
 impl Texts {
+    /// No text.
+    pub(crate) fn new(alloc: Global) -> Texts
+        ensures bytes { result.bytes.items ≡ [] }
+        ensures lens { result.lens.items ≡ [] }
+    {
+        Texts {
+            bytes: Vec::new(alloc),
+            lens: Vec::new(alloc),
+        }
+    }
+
+    /// Puts a text behind the others.
+    pub(crate) fn push_text(&mut self, text: &[u8]) -> Result<(), Memory>
+        ensures bytes { OnOk result (self.new.bytes.items ≡ self.old.bytes.items ++ text.now) }
+        ensures lens { OnOk result (self.new.lens.items ≡ self.old.lens.items ++ length text.now ∷ []) }
+    {
+        self.bytes.extend_from_slice(text)?;
+        self.lens.push(text.len())?;
+        Ok(())
+    }
+
     /// Puts the text of an id behind the others.
     fn push(&mut self, id: &MsgIdRef<'_>) -> Result<(), Memory>
         ensures bytes { OnOk result (self.new.bytes.items ≡ self.old.bytes.items ++ id_text id.now) }
@@ -52,21 +73,32 @@ impl Texts {
         }
         Ok(())
     }
-}
 
-/// The text of a message's own id, where it has one.
-fn own_text(alloc: Global, header: &Header<'_>) -> Result<Texts, Memory>
-    ensures bytes { IfOk result (λ texts. texts.bytes.items ≡ flat_map id_text (alone (own_id_in header.now))) }
-    ensures lens { IfOk result (λ texts. texts.lens.items ≡ map text_len (alone (own_id_in header.now))) }
-{
-    let mut texts = Texts {
-        bytes: Vec::new(alloc),
-        lens: Vec::new(alloc),
-    };
-    if let Some(id) = header.own_id(alloc)? {
-        texts.push(&id.borrowed())?;
+    /// Puts the text of a message's own id behind the others, where it has one, and says how many that are.
+    fn push_own(&mut self, alloc: Global, header: &Header<'_>) -> Result<usize, Memory>
+        ensures bytes { OnOk result (self.new.bytes.items ≡ self.old.bytes.items ++ flat_map id_text (alone (own_id_in header.now))) }
+        ensures lens { OnOk result (self.new.lens.items ≡ self.old.lens.items ++ map text_len (alone (own_id_in header.now))) }
+        ensures own { IfOk result (λ own. own ≡ length (alone (own_id_in header.now))) }
+    {
+        match header.own_id(alloc)? {
+            Some(id) => {
+                self.push(&id.borrowed())?;
+                Ok(1)
+            }
+            None => Ok(0),
+        }
     }
-    Ok(texts)
+
+    /// Puts the texts of all ids of a message behind the others, and says how many are its own.
+    pub(crate) fn push_ids(&mut self, alloc: Global, header: &Header<'_>) -> Result<usize, Memory>
+        ensures bytes { OnOk result (self.new.bytes.items ≡ self.old.bytes.items ++ flat_map id_text (ids_of_header header.now)) }
+        ensures lens { OnOk result (self.new.lens.items ≡ self.old.lens.items ++ map text_len (ids_of_header header.now)) }
+        ensures own { IfOk result (λ own. own ≡ length (alone (own_id_in header.now))) }
+    {
+        let own = self.push_own(alloc, header)?;
+        self.push_all(&header.references(alloc)?)?;
+        Ok(own)
+    }
 }
 
 /// The texts of all ids of a message, and how many are its own.
@@ -75,10 +107,8 @@ fn texts_of(alloc: Global, message: &[u8]) -> Result<(Texts, usize), Memory>
     ensures lens { IfOk result (λ found. found.0.lens.items ≡ id_lens message.now) }
     ensures own { IfOk result (λ found. found.1 ≡ length (alone (own_id_of message.now))) }
 {
-    let header = Header::of(message);
-    let mut texts = own_text(alloc, &header)?;
-    let own = texts.lens.len();
-    texts.push_all(&header.references(alloc)?)?;
+    let mut texts = Texts::new(alloc);
+    let own = texts.push_ids(alloc, &Header::of(message))?;
     Ok((texts, own))
 }
 

@@ -2,6 +2,8 @@
 ghost use Rattle.std.specs.Prelude.{◌≡◌, ◌<◌, ◌↔◌, IsTrue};
 ghost use Rattle.luvazhimba_c.specs.Numbers.{number_of, IsTooLong};
 
+use civil_time::Memory;
+
 /// What a call answers that did what its name says.
 pub(crate) const DONE: u8 = 0;
 
@@ -30,6 +32,17 @@ pub(crate) enum Refusal {
     Mbox,
     /// An array that is read has more elements than `MOST`.
     TooLong,
+}
+
+impl From<Memory> for Refusal {
+    ghost use Rattle.std.specs.Prelude.{◌≡◌};
+    ghost use Rattle.luvazhimba_c.specs.declared.refusals.Refusal.TheVariants as refusals;
+
+    ghost from_gives = { λ _ refusal. refusal ≡ refusals.Memory };
+
+    fn from(_refused: Memory) -> Refusal {
+        Refusal::Memory
+    }
 }
 
 impl Refusal {
