@@ -6,7 +6,9 @@
 FOLDER (bindings/out) is what bindings/build.sh made. An mbox of --messages ordinary messages (bench/gen_mbox.py) is cut by `cut`
 and by `mailbox.mbox`, which have to find as many; of each message the ids, the sent date and the base of its subject are asked
 of the library, and the same fields of `email`, by its parser of whole messages and by its parser of headers alone, which give
-texts that nobody has read yet. Cutting is asked to be 20 times as fast, the fields 10 times. Then the mbox is threaded. Times are
+texts that nobody has read yet. Then all fields, From too, are asked in one reading: by `fields` of each message, and by `fields_of_mbox`,
+which cuts the mbox as well; both have to say what the calls before said. Cutting is asked to be 20 times as fast, the fields
+10 times. Then the mbox is threaded. Times are
 a processor's, and the least of so many rounds, for all of them. bindings/c/calls.c is run under valgrind, and with each growth of
 memory refused in turn. With --beside the same calls are first made of another build of the library, in turn with the first.
 """
@@ -37,12 +39,15 @@ def cut_by_mailbox(path):
     return len(mailbox.mbox(path, create=False))
 
 
-def fields_by_email(parse, texts):
-    """Returns how many fields were found of all that threads ask for."""
+NAMES = ("message-id", "references", "in-reply-to", "subject")
+
+
+def fields_by_email(parse, texts, names=NAMES):
+    """Returns how many fields were found of all that threads ask for, or of these names and the date."""
     found = 0
     for text in texts:
         message = parse(text)
-        for name in ("message-id", "references", "in-reply-to", "subject"):
+        for name in names:
             found += message[name] is not None
         found += email.utils.parsedate_tz(message["date"] or "") is not None
     return found
@@ -71,6 +76,15 @@ def compare(luv, path, rounds):
     for name, parse in (("email.message_from_bytes", email.message_from_bytes), ("BytesHeaderParser", headers)):
         theirs, _ = least(rounds, lambda: fields_by_email(parse, texts))
         print(f"ids, dates and subjects: {ours:.2f} s, {name} {theirs:.2f} s: {theirs / ours:.1f} times")
+    three = ours
+    theirs, _ = least(rounds, lambda: fields_by_email(headers, texts, (*NAMES, "from")))
+    wanted = [(*luv.message_ids(text), luv.sent_date(text, it.arrival)) for text, it in zip(texts, messages)]
+    calls = {"fields": lambda: [luv.fields(text, it.arrival) for text, it in zip(texts, messages)], "fields_of_mbox": lambda: luv.fields_of_mbox(data)[1]}
+    for what, call in calls.items():
+        ours, found = least(rounds, call)
+        print(f"{what}: {ours:.2f} s, BytesHeaderParser {theirs:.2f} s: {theirs / ours:.1f} times; the three calls {three:.2f} s: {three / ours:.1f} times")
+        if [(it.own, it.references, it.sent) for it in found] != wanted:
+            sys.exit(f"{what} does not say what message_ids and sent_date say")
     for what, call in (("threads_of_mbox", lambda: luv.threads_of_mbox(data)), ("threads", lambda: luv.threads(data, messages))):
         seconds, rows = least(rounds, call)
         print(f"{what}: {seconds:.2f} s, {len(rows)} rows")

@@ -47,6 +47,20 @@ struct luv_message {
     int64_t arrival;   /* in seconds since 1970-01-01 00:00:00 UTC */
 };
 
+struct luv_fields {
+    int64_t sent;  /* as of luv_sent_date */
+    size_t own;    /* as of luv_ids */
+    size_t count;  /* of the texts: the subject, From, and the ids */
+    size_t len;    /* of all of them together */
+    bool is_dated; /* false: the Date field is no date, and sent is the arrival */
+};
+
+struct luv_totals {
+    size_t messages; /* of an mbox */
+    size_t count;    /* of their texts */
+    size_t len;      /* of all of them together */
+};
+
 struct luv_row {
     size_t depth;    /* 0 at the top */
     size_t place;    /* which message it is, from 0, where is_message */
@@ -67,6 +81,22 @@ uint8_t luv_message_ids(const uint8_t *message, size_t message_len, uint8_t *tex
 /* When a message was sent, by its Date field (RFC 5322, section 3.3), in seconds since 1970-01-01 00:00:00 UTC; the arrival if that
  * is no date. It takes no memory. LUV_NO_INSTANT, LUV_TOO_LONG. */
 uint8_t luv_sent_date(const uint8_t *message, size_t message_len, int64_t arrival, int64_t *sent);
+
+/* All that a message says of itself, in one reading. In texts are, one after the other, the bodies of its Subject and From fields,
+ * unfolded and else as they are, mostly with a space in front (luv_base_subject takes such a subject; a field that is not there is
+ * empty), and then its ids, as of luv_message_ids; lens says how long each of them is. At most message_len bytes and
+ * 2 + message_len / 5 texts.
+ * LUV_NO_ROOM, LUV_NO_MEMORY, LUV_NO_INSTANT, LUV_TOO_LONG. */
+uint8_t luv_fields(const uint8_t *message, size_t message_len, int64_t arrival, uint8_t *texts, size_t texts_len, size_t *lens,
+                   size_t lens_len, struct luv_fields *found);
+
+/* The same of all messages of an mbox: messages is as of luv_cut, and for luv_threads; fields, texts and lens have of each message what
+ * luv_fields says, those of one after those of the other. At most mbox_len bytes of texts, and mbox_len / 5 of them and two for each
+ * message.
+ * LUV_NO_ROOM, LUV_NO_MEMORY, LUV_TOO_LONG; LUV_NO_MBOX, and then found->messages is as *count of luv_cut. */
+uint8_t luv_fields_of_mbox(const uint8_t *mbox, size_t mbox_len, struct luv_message *messages, size_t messages_len,
+                           struct luv_fields *fields, size_t fields_len, uint8_t *texts, size_t texts_len, size_t *lens,
+                           size_t lens_len, struct luv_totals *found);
 
 /* Where the messages of an mbox (RFC 4155) are, in order, and when each arrived; *count is how many there are. The separator line
  * of a message ends where its text begins. It takes no memory. LUV_NO_ROOM, LUV_TOO_LONG; LUV_NO_MBOX, and then *count is where the

@@ -15,7 +15,7 @@ BINDINGS = ROOT / "bindings"
 CRATE, LIBRARY, CPU = "luvazhimba_c", "libluvazhimba_c.a", "--cpu=x86-64"
 PLAIN = ("qemu-x86_64", "-cpu", "qemu64")
 PASSED, FAILED = (re.compile(rf"^(?:test result: .*?)?.*?(\d+) {it}", re.M) for it in ("passed", "failed"))
-CALLS = ["luv_base_subject", "luv_cut", "luv_message_ids", "luv_sent_date", "luv_threads", "luv_threads_of_mbox"]
+CALLS = ["luv_base_subject", "luv_cut", "luv_fields", "luv_fields_of_mbox", "luv_message_ids", "luv_sent_date", "luv_threads", "luv_threads_of_mbox"]
 # Which files have the version.
 VERSIONS = {
     "luvazhimba.h": r'#define LUV_VERSION "(.+)"',

@@ -2,7 +2,7 @@
  * 'N passed, M failed'; status 1 where one failed.
  *
  * Under tools/refuse.c with REFUSE_MARKS a growth of memory of the first of two equal calls is refused: it may then say so, and
- * the second one has to answer. All calls are made twice, and after the second time as much memory is in use as after the first.
+ * the second one has to answer. All calls are made three times, and after the third time as much memory is in use as after the second.
  */
 #include "luvazhimba.h"
 #include <malloc.h>
@@ -79,6 +79,52 @@ static void try_cutting(void) {
     check(luv_cut(NULL, SIZE_MAX, ROOM(messages), &count) == LUV_TOO_LONG, "an mbox that is too long");
 }
 
+#define MESSAGE "From: Anna\n <a@b>\nSubject: Re: Hello\nMessage-ID: <a@b>\nReferences: <c@d> <e@f>\nDate: Tue, 4 Mar 2003 10:00:00 +0100\n\nx\n"
+
+static void try_fields(void) {
+    uint8_t texts[64];
+    size_t lens[8];
+    struct luv_fields found = {0, 0, 0, 0, false};
+    check(CALL(luv_fields(BYTES(MESSAGE), 5, ROOM(texts), ROOM(lens), &found)) == LUV_DONE, "fields");
+    check(found.sent == 1046768400 && found.own == 1 && found.count == 5 && found.len == 30 && found.is_dated, "their numbers");
+    check(!memcmp(texts, " Re: Hello Anna <a@b>a@bc@de@f", 30), "their texts");
+    check(lens[0] == 10 && lens[1] == 11 && lens[2] == 3 && lens[3] == 3 && lens[4] == 3, "how long each is");
+    check(CALL(luv_fields(BYTES(MESSAGE), 5, texts, 29, ROOM(lens), &found)) == LUV_NO_ROOM && found.len == 30, "fields that have no room");
+    check(CALL(luv_fields(BYTES(MESSAGE), 5, ROOM(texts), lens, 4, &found)) == LUV_NO_ROOM && found.count == 5, "lengths that have no room");
+    check(CALL(luv_fields(BYTES(MESSAGE), 5, texts, 30, lens, 5, &found)) == LUV_DONE, "fields that have just the room that was wanted");
+    check(CALL(luv_fields(NULL, 0, 7, NULL, 0, lens, 2, &found)) == LUV_DONE && found.sent == 7 && !found.is_dated, "the fields of nothing");
+    check(found.own == 0 && found.len == 0 && found.count == 2, "which are two");
+    check(CALL(luv_fields(BYTES("Date: 1 Jan 1970 00:00 GMT\n\n"), 0, ROOM(texts), ROOM(lens), &found)) == LUV_DONE && found.sent == 0 && found.is_dated, "a message that was sent when it arrived");
+    check(CALL(luv_fields(BYTES("Date: soon\n\n"), 0, ROOM(texts), ROOM(lens), &found)) == LUV_DONE && found.sent == 0 && !found.is_dated, "one that does not say when");
+    check(luv_fields(BYTES(MESSAGE), INT64_MIN, ROOM(texts), ROOM(lens), &found) == LUV_NO_INSTANT, "fields without an instant");
+    check(luv_fields(texts, SIZE_MAX, INT64_MIN, ROOM(texts), ROOM(lens), &found) == LUV_TOO_LONG, "fields of a message that is too long");
+}
+
+static bool wants(struct luv_totals found) {
+    return found.messages == 2 && found.count == 6 && found.len == 6;
+}
+
+static void try_fields_of_mbox(void) {
+    struct luv_message messages[4];
+    struct luv_fields fields[4];
+    uint8_t texts[8];
+    size_t lens[8];
+    struct luv_totals found = {9, 9, 9};
+    check(CALL(luv_fields_of_mbox(BYTES(MBOX), ROOM(messages), ROOM(fields), ROOM(texts), ROOM(lens), &found)) == LUV_DONE && wants(found), "the fields of an mbox");
+    check(messages[0].start == 35 && messages[0].end == 56 && messages[1].start == 91 && messages[1].end == 109 && messages[1].arrival == 1046775600, "its messages");
+    check(fields[0].sent == 1046772000 && fields[0].own == 1 && fields[0].count == 3 && fields[0].len == 3, "of its first message");
+    check(fields[1].sent == 1046775600 && fields[1].own == 0 && fields[1].count == 3 && fields[1].len == 3, "of its second message");
+    check(!memcmp(texts, "a@ba@b", 6) && lens[0] + lens[1] + lens[3] + lens[4] == 0 && lens[2] == 3 && lens[5] == 3, "texts of both");
+    check(CALL(luv_fields_of_mbox(BYTES(MBOX), messages, 1, ROOM(fields), ROOM(texts), ROOM(lens), &found)) == LUV_NO_ROOM && wants(found), "no room for messages");
+    check(CALL(luv_fields_of_mbox(BYTES(MBOX), ROOM(messages), fields, 1, ROOM(texts), ROOM(lens), &found)) == LUV_NO_ROOM && wants(found), "no room for fields");
+    check(CALL(luv_fields_of_mbox(BYTES(MBOX), ROOM(messages), ROOM(fields), texts, 5, ROOM(lens), &found)) == LUV_NO_ROOM && wants(found), "no room for texts of an mbox");
+    check(CALL(luv_fields_of_mbox(BYTES(MBOX), ROOM(messages), ROOM(fields), ROOM(texts), lens, 5, &found)) == LUV_NO_ROOM && wants(found), "no room for lens of an mbox");
+    check(CALL(luv_fields_of_mbox(BYTES(MBOX), messages, 2, fields, 2, texts, 6, lens, 6, &found)) == LUV_DONE && wants(found), "just the room that was wanted");
+    check(luv_fields_of_mbox(BYTES("\n\nno\n"), ROOM(messages), ROOM(fields), ROOM(texts), ROOM(lens), &found) == LUV_NO_MBOX && found.messages == 2, "the fields of no mbox");
+    check(CALL(luv_fields_of_mbox(NULL, 0, NULL, 0, NULL, 0, NULL, 0, NULL, 0, &found)) == LUV_DONE && found.messages == 0 && found.count == 0, "of nothing");
+    check(luv_fields_of_mbox(texts, SIZE_MAX, ROOM(messages), ROOM(fields), ROOM(texts), ROOM(lens), &found) == LUV_TOO_LONG, "of an mbox that is too long");
+}
+
 static void try_threads(void) {
     static const char bytes[] = "Message-ID: <a@b>\n\nReferences: <a@b>\n\n";
     struct luv_message messages[] = {{0, 19, 5}, {19, 38, 6}};
@@ -109,13 +155,16 @@ static void try_all(void) {
     try_ids();
     try_dates();
     try_cutting();
+    try_fields();
+    try_fields_of_mbox();
     try_threads();
 }
 
 int main(void) {
     setvbuf(stdout, NULL, _IONBF, 0);
     try_all();
-    /* (malloc keeps small blocks that were freed for the next call, and counts them as in use) */
+    /* (malloc keeps small blocks that were freed for the next call, and counts them as in use: after the second time it keeps no more) */
+    try_all();
     size_t before = mallinfo2().uordblks;
     try_all();
     check(mallinfo2().uordblks == before, "memory that is not given back");

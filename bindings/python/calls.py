@@ -8,6 +8,9 @@ import luvazhimba as luv
 MBOX = (b"\nFrom a@b Tue Mar  4 10:00:00 2003\nMessage-ID: <a@b>\n\nx\n\n"
         b"From c@d Tue Mar  4 11:00:00 2003\nReferences: <a@b>\n\n")
 MESSAGES = [luv.Message(35, 56, 1046772000), luv.Message(91, 109, 1046775600)]
+MESSAGE = (b"From: Anna\n <a@b>\nSubject: Re: Hello\nMessage-ID: <a@b>\nReferences: <c@d> <e@f>\n"
+           b"Date: Tue, 4 Mar 2003 10:00:00 +0100\n\nx\n")
+SHORT = b"From a@b Tue Mar  4 10:00:00 2003\nSubject: x\n\n" * 1_000
 MANY = b"References: " + b" ".join(b"<%d@x>" % it for it in range(5_000)) + b"\n\n"
 
 
@@ -40,6 +43,17 @@ CASES = [
     (luv.sent_date(b"Date: Tue, 4 Mar 2003 10:00:00 +0100\n\n", 5), 1046768400),
     (luv.sent_date(b"", -1), -1),
     (refusal(luv.sent_date, b"", 253_370_764_800), (luv.NO_INSTANT, None)),
+    (luv.fields(MESSAGE, 5), luv.Fields(b" Re: Hello", b" Anna <a@b>", b"a@b", [b"c@d", b"e@f"], 1046768400, True)),
+    (luv.fields(b"In-Reply-To: <a@b> <c@d>\n\n", 5), luv.Fields(b"", b"", None, [b"a@b"], 5, False)),
+    (luv.fields(MANY, 5), luv.Fields(b"", b"", None, [b"%d@x" % it for it in range(5_000)], 5, False)),
+    (luv.fields(b"Date: Tue, 4 Mar 2003 10:00:00 +0100\n\n", 1046768400), luv.Fields(b"", b"", None, [], 1046768400, True)),
+    (refusal(luv.fields, b"", 253_370_764_800), (luv.NO_INSTANT, None)),
+    (refusal(luv.fields, b"", (1 << 64) + 5), (luv.NO_INSTANT, None)),
+    (refusal(luv.fields, b"", None), "TypeError"),
+    (luv.fields_of_mbox(MBOX), (MESSAGES, [luv.Fields(b"", b"", b"a@b", [], 1046772000, False), luv.Fields(b"", b"", None, [b"a@b"], 1046775600, False)])),
+    (luv.fields_of_mbox(b""), ([], [])),
+    (luv.fields_of_mbox(bytearray(SHORT)), (luv.cut(SHORT), [luv.Fields(b" x", b"", None, [], 1046772000, False)] * 1_000)),
+    (refusal(luv.fields_of_mbox, b"\n\nno\n"), (luv.NO_MBOX, 2)),
     (luv.cut(MBOX), MESSAGES),
     (luv.cut(b""), []),
     (len(luv.cut(b"From a@b Tue Mar  4 10:00:00 2003\n\n" * 1_000)), 1_000),

@@ -1,4 +1,4 @@
-"""Readers of mail that are proved: base subjects, message ids, sent dates, the messages of an mbox, and threads.
+"""Readers of mail that are proved: the fields of messages, base subjects, the messages of an mbox, and threads.
 
     import luvazhimba
     mbox = open("seeds.mbox", "rb").read()
@@ -15,10 +15,10 @@ import secrets
 import struct
 from ctypes import POINTER, byref, c_bool, c_char, c_char_p, c_int64, c_size_t, c_uint8, c_uint64
 from operator import index
-from typing import Any, Callable, Iterable, List, NamedTuple, Optional
+from typing import Any, Callable, Iterable, List, NamedTuple, Optional, Tuple
 
-__all__ = ["Base", "Ids", "Message", "Refused", "Row", "base_subject", "cut", "message_ids", "sent_date", "threads", "threads_of_mbox",
-           "NO_ROOM", "NO_MEMORY", "NO_INSTANT", "OUTSIDE", "NO_MBOX", "TOO_LONG"]
+__all__ = ["Base", "Fields", "Ids", "Message", "Refused", "Row", "base_subject", "cut", "fields", "fields_of_mbox", "message_ids",
+           "sent_date", "threads", "threads_of_mbox", "NO_ROOM", "NO_MEMORY", "NO_INSTANT", "OUTSIDE", "NO_MBOX", "TOO_LONG"]
 __version__ = "0.3.0"
 
 
@@ -32,6 +32,18 @@ class Ids(NamedTuple):
     """The id of a message, None where it has none, and the ids that it refers to, oldest first."""
     own: Optional[bytes]
     references: List[bytes]
+
+
+class Fields(NamedTuple):
+    """What a message says of itself: the bodies of Subject and From, unfolded and else as they are, its ids, and when it was sent.
+
+    Where `is_dated` is false, its Date field is no date, and `sent` is the arrival."""
+    subject: bytes
+    author: bytes
+    own: Optional[bytes]
+    references: List[bytes]
+    sent: int
+    is_dated: bool
 
 
 class Message(NamedTuple):
@@ -77,11 +89,19 @@ class _Ids(ctypes.Structure):
     _fields_ = [("own", c_size_t), ("count", c_size_t), ("len", c_size_t)]
 
 
+class _Fields(ctypes.Structure):
+    _fields_ = [("sent", c_int64), ("own", c_size_t), ("count", c_size_t), ("len", c_size_t), ("is_dated", c_bool)]
+
+
+class _Totals(ctypes.Structure):
+    _fields_ = [("messages", c_size_t), ("count", c_size_t), ("len", c_size_t)]
+
+
 # What an `int64_t` holds. Which of these are instants says the library.
 _INT64 = range(-(1 << 63), 1 << 63)
 
-# (as luv_message and luv_row have them)
-_MESSAGE, _ROW = struct.Struct("@NNq"), struct.Struct("@NN?7x")
+# (as luv_message, luv_fields and luv_row have them)
+_MESSAGE, _FIELDS, _ROW = struct.Struct("@NNq"), struct.Struct("@qNNN?7x"), struct.Struct("@NN?7x")
 
 
 def _library() -> str:
@@ -104,6 +124,8 @@ _BYTES, _OUT = (c_char_p, c_size_t), (ctypes.c_void_p, c_size_t)
 _base_subject = _export("luv_base_subject", *_BYTES, *_OUT, POINTER(_Base))
 _message_ids = _export("luv_message_ids", *_BYTES, *_OUT, *_OUT, POINTER(_Ids))
 _sent_date = _export("luv_sent_date", *_BYTES, c_int64, POINTER(c_int64))
+_fields = _export("luv_fields", *_BYTES, c_int64, *_OUT, *_OUT, POINTER(_Fields))
+_fields_of_mbox = _export("luv_fields_of_mbox", *_BYTES, *_OUT, *_OUT, *_OUT, *_OUT, POINTER(_Totals))
 _cut = _export("luv_cut", *_BYTES, *_OUT, POINTER(c_size_t))
 _threads = _export("luv_threads", *_BYTES, *_OUT, c_bool, c_uint64, c_uint64, *_OUT, POINTER(c_size_t))
 _threads_of_mbox = _export("luv_threads_of_mbox", *_BYTES, c_bool, c_uint64, c_uint64, *_OUT, POINTER(c_size_t))
@@ -137,6 +159,15 @@ def base_subject(subject: bytes) -> Base:
     return Base(text[:found.len], found.is_reply)
 
 
+def _split(text: bytes, lens: Iterable[int]) -> List[bytes]:
+    """Return the texts that are one behind the other in this one, each of which is so long."""
+    texts, at = [], 0
+    for length in lens:
+        texts.append(text[at:at + length])
+        at += length
+    return texts
+
+
 def message_ids(message: bytes) -> Ids:
     """Return the ids that a message names (RFC 5322, section 3.6.4), each as `left@right`."""
     message = _bytes(message)
@@ -145,10 +176,7 @@ def message_ids(message: bytes) -> Ids:
         if status != NO_ROOM:
             _refuse(status)
         texts, lens = (c_char * found.len)(), (c_size_t * found.count)()
-    text, ids, at = texts[:found.len], [], 0
-    for length in lens[:found.count]:
-        ids.append(text[at:at + length])
-        at += length
+    ids = _split(texts[:found.len], lens[:found.count])
     return Ids(ids[0] if found.own else None, ids[found.own:])
 
 
@@ -160,6 +188,24 @@ def sent_date(message: bytes, arrival: int) -> int:
     if status := _sent_date(message, len(message), arrival, byref(sent)):
         _refuse(status)
     return sent.value
+
+
+def _said(sent: int, own: int, is_dated: bool, texts: List[bytes]) -> Fields:
+    """Return what a message says of itself that has these texts."""
+    return Fields(texts[0], texts[1], texts[2] if own else None, texts[2 + own:], sent, is_dated)
+
+
+def fields(message: bytes, arrival: int) -> Fields:
+    """Return all that a message says of itself that arrived then: what `message_ids` and `sent_date` say, its subject and its From."""
+    message = _bytes(message)
+    if index(arrival) not in _INT64:
+        raise Refused(NO_INSTANT)
+    texts, lens, found = _Texts(), _Lens(), _Fields()
+    while status := _fields(message, len(message), arrival, texts, len(texts), lens, len(lens), byref(found)):
+        if status != NO_ROOM:
+            _refuse(status)
+        texts, lens = (c_char * found.len)(), (c_size_t * found.count)()
+    return _said(found.sent, found.own, found.is_dated, _split(texts[:found.len], lens[:found.count]))
 
 
 def _filled(call: Callable[..., int], layout: struct.Struct, room: int) -> memoryview:
@@ -180,6 +226,25 @@ def cut(mbox: bytes) -> List[Message]:
     mbox = _bytes(mbox)
     found = _filled(lambda *out: _cut(mbox, len(mbox), *out), _MESSAGE, 64 + len(mbox) // 1_000)
     return list(map(Message._make, _MESSAGE.iter_unpack(found)))
+
+
+def fields_of_mbox(mbox: bytes) -> Tuple[List[Message], List[Fields]]:
+    """Return the messages of an mbox, as `cut` does, and what each says of itself, as `fields` does."""
+    mbox = _bytes(mbox)
+    found = _Totals(64 + len(mbox) // 1_000, 512 + len(mbox) // 200, 8_192 + len(mbox) // 8)
+    while True:
+        many, count, size = found.messages, found.count, found.len
+        messages, rows, texts = map(ctypes.create_string_buffer, (many * _MESSAGE.size, many * _FIELDS.size, size))
+        lens = (c_size_t * count)()
+        status = _fields_of_mbox(mbox, len(mbox), messages, many, rows, many, texts, size, lens, count, byref(found))
+        if status != NO_ROOM:
+            break
+    _refuse(status, found.messages)
+    parts, said, at = _split(texts[:found.len], lens[:found.count]), [], 0
+    for sent, own, several, _, is_dated in _FIELDS.iter_unpack(memoryview(rows)[:found.messages * _FIELDS.size]):
+        said.append(_said(sent, own, is_dated, parts[at:at + several]))
+        at += several
+    return list(map(Message._make, _MESSAGE.iter_unpack(memoryview(messages)[:found.messages * _MESSAGE.size]))), said
 
 
 def _rows(call: Callable[..., int], room: int) -> List[Row]:

@@ -1,4 +1,4 @@
-//! Readers of mail that are proved: base subjects, message ids, sent dates, the messages of an mbox, and threads.
+//! Readers of mail that are proved: the fields of messages, base subjects, the messages of an mbox, and threads.
 //!
 //! What each call gives is said by a contract of the library, and proved; that this crate hands over what it is given and gives
 //! back what it got is tested.
@@ -33,6 +33,18 @@ pub struct Base {
 pub struct Ids {
     pub own: Option<Vec<u8>>,
     pub references: Vec<Vec<u8>>,
+}
+
+/// What a message says of itself: the bodies of Subject and From, unfolded and else as they are, its ids, and when it was sent; where
+/// `is_dated` is false, its Date field is no date, and `sent` is the arrival.
+#[derive(Clone, Debug, PartialEq, Eq)]
+pub struct Fields {
+    pub subject: Vec<u8>,
+    pub author: Vec<u8>,
+    pub own: Option<Vec<u8>>,
+    pub references: Vec<Vec<u8>>,
+    pub sent: i64,
+    pub is_dated: bool,
 }
 
 /// A row of threads: its depth, from 0, and which message stands there; `None` where others refer to one that is not there.
@@ -108,6 +120,16 @@ pub fn base_subject(subject: &[u8]) -> Result<Base, Refusal> {
     }
 }
 
+/// The texts that are one behind the other in this one, each of which is so long.
+fn split<'a>(text: &'a [u8], lens: &'a [usize]) -> impl Iterator<Item = Vec<u8>> + 'a {
+    let mut rest = text;
+    lens.iter().map(move |&len| {
+        let (it, behind) = rest.split_at(len);
+        rest = behind;
+        it.to_vec()
+    })
+}
+
 /// The ids that a message names (RFC 5322, section 3.6.4).
 pub fn message_ids(message: &[u8]) -> Result<Ids, Refusal> {
     let (mut texts, mut lens, mut found) = (room(1_000)?, room(20)?, sys::Ids::default());
@@ -120,13 +142,9 @@ pub fn message_ids(message: &[u8]) -> Result<Ids, Refusal> {
             status => return Err(refusal(status, 0)),
         }
     }
-    let mut rest = &texts[..found.len];
-    let mut ids = lens[..found.count].iter().map(|&len| {
-        let (id, behind) = rest.split_at(len);
-        rest = behind;
-        id.to_vec()
-    });
-    Ok(Ids { own: if found.own == 1 { ids.next() } else { None }, references: ids.collect() })
+    let mut ids = split(&texts[..found.len], &lens[..found.count]);
+    let own = if found.own == 1 { ids.next() } else { None };
+    Ok(Ids { own, references: ids.collect() })
 }
 
 /// When a message was sent that arrived then, in seconds since 1970: by its Date field, else the arrival.
@@ -136,6 +154,56 @@ pub fn sent_date(message: &[u8], arrival: i64) -> Result<i64, Refusal> {
     match unsafe { sys::luv_sent_date(message.as_ptr(), message.len(), arrival, &mut sent) } {
         sys::DONE => Ok(sent),
         status => Err(refusal(status, 0)),
+    }
+}
+
+/// What a message says of itself that has the next of these texts.
+fn said(found: &sys::Fields, texts: &mut impl Iterator<Item = Vec<u8>>) -> Fields {
+    let mut texts = texts.by_ref().take(found.count);
+    let (subject, author) = (texts.next().unwrap_or_default(), texts.next().unwrap_or_default());
+    let own = if found.own == 1 { texts.next() } else { None };
+    Fields { subject, author, own, references: texts.collect(), sent: found.sent, is_dated: found.is_dated }
+}
+
+/// All that a message says of itself that arrived then: what `message_ids` and `sent_date` say, its subject and its From.
+pub fn fields(message: &[u8], arrival: i64) -> Result<Fields, Refusal> {
+    let (mut texts, mut lens, mut found) = (room(1_000)?, room(20)?, sys::Fields::default());
+    loop {
+        let (text, len) = (texts.as_mut_ptr(), lens.as_mut_ptr());
+        // SAFETY: as above.
+        match unsafe { sys::luv_fields(message.as_ptr(), message.len(), arrival, text, texts.len(), len, lens.len(), &mut found) } {
+            sys::DONE => break,
+            sys::NO_ROOM => (texts, lens) = (room(found.len)?, room(found.count)?),
+            status => return Err(refusal(status, 0)),
+        }
+    }
+    let mut texts = split(&texts[..found.len], &lens[..found.count]);
+    Ok(said(&found, &mut texts))
+}
+
+/// The messages of an mbox, as `cut` has them, and what each says of itself, as `fields` has it.
+pub fn fields_of_mbox(mbox: &[u8]) -> Result<(Vec<Message>, Vec<Fields>), Refusal> {
+    let mut found = sys::Totals { messages: 64 + mbox.len() / 1_000, count: 512 + mbox.len() / 200, len: 8_192 + mbox.len() / 8 };
+    loop {
+        let (mut messages, mut rows): (Vec<Message>, Vec<sys::Fields>) = (room(found.messages)?, room(found.messages)?);
+        let (mut texts, mut lens): (Vec<u8>, Vec<usize>) = (room(found.len)?, room(found.count)?);
+        // SAFETY: as above.
+        let status = unsafe {
+            sys::luv_fields_of_mbox(
+                mbox.as_ptr(), mbox.len(), messages.as_mut_ptr(), messages.len(), rows.as_mut_ptr(), rows.len(), texts.as_mut_ptr(),
+                texts.len(), lens.as_mut_ptr(), lens.len(), &mut found,
+            )
+        };
+        match status {
+            sys::DONE => {
+                let mut texts = split(&texts[..found.len], &lens[..found.count]);
+                let fields = rows[..found.messages].iter().map(|it| said(it, &mut texts)).collect();
+                messages.truncate(found.messages);
+                return Ok((messages, fields));
+            }
+            sys::NO_ROOM => (),
+            status => return Err(refusal(status, found.messages)),
+        }
     }
 }
 

@@ -17,6 +17,24 @@ pub struct Ids {
 
 #[repr(C)]
 #[derive(Clone, Copy, Default)]
+pub struct Fields {
+    pub sent: i64,
+    pub own: usize,
+    pub count: usize,
+    pub len: usize,
+    pub is_dated: bool,
+}
+
+#[repr(C)]
+#[derive(Default)]
+pub struct Totals {
+    pub messages: usize,
+    pub count: usize,
+    pub len: usize,
+}
+
+#[repr(C)]
+#[derive(Clone, Copy, Default)]
 pub struct Row {
     pub depth: usize,
     pub place: usize,
@@ -37,6 +55,14 @@ extern "C" {
         message: *const u8, message_len: usize, texts: *mut u8, texts_len: usize, lens: *mut usize, lens_len: usize, found: *mut Ids,
     ) -> u8;
     pub fn luv_sent_date(message: *const u8, message_len: usize, arrival: i64, sent: *mut i64) -> u8;
+    pub fn luv_fields(
+        message: *const u8, message_len: usize, arrival: i64, texts: *mut u8, texts_len: usize, lens: *mut usize, lens_len: usize,
+        found: *mut Fields,
+    ) -> u8;
+    pub fn luv_fields_of_mbox(
+        mbox: *const u8, mbox_len: usize, messages: *mut crate::Message, messages_len: usize, fields: *mut Fields, fields_len: usize,
+        texts: *mut u8, texts_len: usize, lens: *mut usize, lens_len: usize, found: *mut Totals,
+    ) -> u8;
     pub fn luv_cut(mbox: *const u8, mbox_len: usize, messages: *mut crate::Message, messages_len: usize, count: *mut usize) -> u8;
     pub fn luv_threads(
         bytes: *const u8, bytes_len: usize, messages: *const crate::Message, messages_len: usize, merge: bool, key0: u64, key1: u64,
