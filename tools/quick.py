@@ -16,6 +16,8 @@ import part
 # What a trial takes of memory, in MB, where its crate stands on `sqlite`, and where it does not; and how many seconds a test or a program may
 # run. Under checks code is some ten times as slow.
 LARGE, SMALL, SECONDS = 3500, 1500, "900"
+# An interpreter of the toolchain goes first, for some seconds of each test: it gets one step, and what is compiled with checks runs whole.
+STEPS = "1"
 # Which crates of tests are tried together: each of these trials is compiled once.
 TOGETHER = (
     ("store_tests", "run_tests"),
@@ -65,7 +67,7 @@ class Ran:
             stdin.write(given)
             stdin.seek(0)
             how = {"cwd": folder, "stdin": stdin, "stdout": subprocess.PIPE, "stderr": said}
-            with subprocess.Popen(["rt", "try", "--seconds", SECONDS, *words], **how) as rt:
+            with subprocess.Popen(["rt", "try", "--steps", STEPS, "--seconds", SECONDS, *words], **how) as rt:
                 wrote = []
                 for line in rt.stdout:
                     first = first or time.monotonic()
