@@ -1,5 +1,5 @@
 #!/usr/bin/env python3
-"""Tests the scripts beside this one, each by a table of cases, on small repositories that it makes and removes.
+"""Tests the scripts beside this one and `check`, each by a table of cases, on small repositories that it makes and removes.
 
   try.py [WORD]     the cases of all scripts, or of those whose name has the word
 
@@ -516,6 +516,36 @@ QUICK = {
     "all of them": says("quick.py", [], TESTED, 1, "1 passed, 1 failed", **{**PASSES, "tells": TRIED}),
     "an unknown crate": says("quick.py", ["none"], TESTED, 1, faults="quick: crates.txt has no crate none"),
     "what a program is run on": asks("quick.py", ["shown"], TESTED, ["--data", "--", "one", "in shown", "in"], [], **PASSES),
+}
+
+
+# ---- check
+
+SCRIPTS = ("clauses", "definitions", "edits", "manual", "minutes", "pages", "wants", "reached", "words", "try")
+
+
+def checks(words, wanted, said, faults="", /, **scripts):
+    """A case of the script `check`, with scripts that find nothing but where others are given, and a gate and trials that say their words: its
+    status, what it writes, and what it says of faults."""
+    def holds():
+        tells = "import sys\nprint('{}', *sys.argv[1:])\n"
+        files = {**{f"tools/{it}.py": "" for it in SCRIPTS}, **{f"tools/{it}.py": tells.format(it) for it in ("gate", "quick")},
+                 **{f"tools/{it}.py": text for it, text in scripts.items()}, "check": (TOOLS.parent / "check").read_text(encoding="utf-8")}
+        with repository(files) as (top, stand_in):
+            how = {"capture_output": True, "text": True, "check": False, "env": {**os.environ, "PATH": f"{stand_in}:{os.environ['PATH']}"}}
+            ran = subprocess.run([top / "check", *words], **how)
+            return equal((ran.returncode, ran.stdout, faults in ran.stderr), (wanted, said, True))
+    return holds
+
+
+CHECK = {
+    "without a word": checks([], 0, "quick\n"),
+    "of two crates": checks(["low", "top"], 0, "quick low top\n"),
+    "the gate": checks(["--prove"], 0, "gate\n"),
+    "the gate with options": checks(["--prove", "--all", "--record"], 0, "gate --all --record\n"),
+    "an option of the gate alone": checks(["--all"], 2, "", "check: unknown: --all"),
+    "an option that is gone": checks(["--quick"], 2, "", "check: unknown: --quick"),
+    "a script that finds something": checks(["--prove"], 1, "0 passed, 1 failed\n", words="import sys\nsys.exit(1)\n"),
 }
 
 
@@ -1168,7 +1198,7 @@ WORDS = {
     "other words": says("words.py", ["--page"], WORDS_FILES, 1, faults="words.py --pages"),
 }
 
-TABLES = {"manual.py": MANUAL, "words.py": WORDS, "part.py": PART, "build.py": BUILD, "gate.py": GATE, "trial.py": TRIAL, "quick.py": QUICK, "edits.py": FITS, "refused.py": ROWS_CASES, "cases.py": CASES,
+TABLES = {"manual.py": MANUAL, "words.py": WORDS, "part.py": PART, "build.py": BUILD, "gate.py": GATE, "trial.py": TRIAL, "quick.py": QUICK, "check": CHECK, "edits.py": FITS, "refused.py": ROWS_CASES, "cases.py": CASES,
           "definitions.py": DEFINITIONS, "pages.py": PAGES, "identity.py": IDENTITY, "twice.py": TWICE, "owner_page.py": OWNER_PAGE, "clauses.py": CLAUSES, "wants.py": WANTS, "reached.py": REACHED, "minutes.py": MINUTES}
 
 
