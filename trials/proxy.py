@@ -217,7 +217,7 @@ def drawn(trial, proxy, browser, pictures):
 
 def read_before(trial, proxy, browser):
     """What the style marks once it was read: the links of messages, and of a list named m no other ones."""
-    for path, messages in (("/l/seeds/threads", 40), ("/l/m/threads", 40), ("/l/m/month/2024-02", 11), ("/", 0)):
+    for path, messages in (("/l/seeds/threads", 40), ("/l/m/threads", 40), ("/l/m/month/2024-02", 12), ("/", 0)):
         browser.open(f"https://{NAME}:{proxy.tls}{path}")
         trial.check(f"browser {path}: links that are marked once they were read: of messages, others, of messages not marked", browser.value(MARKED), [messages, 0, 0])
 
