@@ -60,7 +60,7 @@ class Keeper:
         # (a shell cannot trap a signal that whoever began it ignored, as nohup has SIGHUP ignored)
         words = ["env", "--default-signal=HUP", *map(str, self.words), str(self.port)]
         with open(self.folder.parent / "errors", "ab") as errors:
-            self.process = begun(subprocess.Popen(words, env=self.env, stdout=subprocess.DEVNULL, stderr=errors, start_new_session=True))
+            self.process = begun(subprocess.Popen(words, env=self.env, stdout=subprocess.DEVNULL, stderr=errors, start_new_session=True), group=True)
 
     def page(self, path):
         try:
