@@ -1,1 +1,2 @@
 pub mod CloseLemmas
+pub mod ProgramLemmas

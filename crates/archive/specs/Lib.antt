@@ -1,2 +1,4 @@
 pub mod Opening
 pub mod Closing
+pub mod Refusing
+pub mod Program

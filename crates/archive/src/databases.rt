@@ -1,196 +1,175 @@
 //! The archives in a system's files.
-ghost use Rattle.std.specs.Prelude.{◌≡◌, ◌≤◌, None, IfErr, IfOk, IfSome};
+ghost use Rattle.std.specs.Prelude.{◌≡◌, false, None, IfErr, IfOk, MatchResult};
 ghost use Rattle.sqlite_wal.specs.Files.{image_at};
 ghost use Rattle.sqlite.specs.Files.{file_state, IsOpened};
 ghost use Rattle.sqlite.specs.Start.{FindsIn};
 ghost use Rattle.sqlite.specs.State.{HasCleanDisk};
 ghost use Rattle.archive_store.specs.Replies.{refusal};
 ghost use Rattle.archive.specs.Opening.{WasTakenOver};
-ghost use Rattle.archive.specs.Closing.{IsLeftBy};
+ghost use Rattle.archive.specs.Closing.{FailedToClose, IsLeftBy};
+ghost use Rattle.archive.specs.Refusing.{is_in_memory, open_fault, IsUnconnected, IsUnopened};
 
+use crate::system::HasPairs;
 use archive_run::Databases;
-use archive_store::{AdoptStop, Store, StoreFault};
-use sqlite::{Connection, FileFrom, FileStore, Files, Options, Start};
+use archive_store::{Store, StoreFault};
+use sqlite::{Connection, Error, FileFrom, FileStore, Files, Options, Start};
 use sqlite_disk::Disk;
 use sqlite_std_file::OpenError;
 use std::alloc::Global;
-use std::fs;
-use std::hash::{BuildHasher, RandomState};
+use std::hash::BuildHasher;
 use std::io::ErrorKind;
 
-/// How many bytes a page of a new file has.
-const PAGE_BYTES: u64 = 4096;
-
-/// How many pages are kept where not all can be.
-const FEW_PAGES: u64 = 2000;
-
-/// How many pages may be kept at least where they are all of a file's: 256 MB of them.
-const MANY_PAGES: u64 = 65_536;
-
-/// How many pages are kept at most: 4 GB of them.
-const MOST_PAGES: u64 = 1_048_576;
-
-/// How many bytes of memory the system can give, as it says itself.
-fn available_bytes(rt: &HostRuntime) -> Option<u64> {
-    let text = fs::read_to_string(rt, "/proc/meminfo").ok()?;
-    for line in text.lines() {
-        if let Some(amount) = line.strip_prefix("MemAvailable:") {
-            let kilobytes: u64 = amount.trim().strip_suffix(" kB")?.parse().ok()?;
-            return kilobytes.checked_mul(1024);
-        }
-    }
-    None
-}
-
-/// How many pages may be kept where they are all of a file's: those of a quarter of the memory that the system can give.
-fn room_for_pages(rt: &HostRuntime) -> u64
-    ensures least { MANY_PAGES ≤ result }
-    ensures most { result ≤ MOST_PAGES }
+/// How the file of this name is read and written. E15: the system gave no random bytes.
+fn options<R: HasPairs>(rt: &R, name: &str) -> Result<Options, StoreFault>
+    ensures kept { IfOk result (λ options. R.keeps rt.now name.now options.cache_pages) }
+    ensures fault { IfErr result (λ fault. (fault ≡ StoreFault.Store) × R.seeds rt.now false) }
 {
-    let quarter = available_bytes(rt).unwrap_or(0) / 4 / PAGE_BYTES;
-    quarter.max(MANY_PAGES).min(MOST_PAGES)
-}
-
-/// How many pages of the file are kept in memory: all, and some that may come to it, or few. A file of which all are kept is
-/// read twice as it is opened, and then no more; of another one each test of a table or an index reads all pages again.
-fn pages_to_keep(rt: &HostRuntime, name: &str) -> usize
-    ensures few { FEW_PAGES ≤ result }
-    ensures most { result ≤ MOST_PAGES }
-{
-    let pages = match fs::metadata(rt, name) {
-        Ok(found) => found.len() / PAGE_BYTES,
-        Err(_) => 0,
-    };
-    if pages < FEW_PAGES || room_for_pages(rt) - FEW_PAGES < pages {
-        FEW_PAGES as usize
-    } else {
-        (pages + FEW_PAGES) as usize
-    }
-}
-
-/// How the file of this name is read and written.
-fn options(rt: &HostRuntime, name: &str) -> Result<Options, StoreFault>
-    ensures fault { IfErr result (λ fault. refusal fault ≡ None) }
-{
-    let Ok(state) = RandomState::new(rt) else {
+    let Some(state) = rt.random_state() else {
         return Err(StoreFault::Store);
     };
     let mut options = Options::new(state.hash_one(&0u8));
-    options.cache_pages = pages_to_keep(rt, name);
+    options.cache_pages = rt.pages_for(name);
     Ok(options)
 }
 
 /// What a file that cannot be opened is called.
 fn fault_of(error: &OpenError) -> StoreFault
-    ensures { refusal result ≡ None }
+    ensures called { result ≡ open_fault error.now }
+    ensures fault { refusal result ≡ None }
 {
     match error {
         OpenError::OutOfMemory => StoreFault::Memory,
-        OpenError::Io(cause) if cause.kind() == ErrorKind::OutOfMemory => StoreFault::Memory,
+        OpenError::Io(cause) => match cause.kind() {
+            ErrorKind::OutOfMemory => StoreFault::Memory,
+            _ => StoreFault::Store,
+        },
         _ => StoreFault::Store,
     }
 }
 
+/// Whether a name stands for a database in memory, or for a URI.
+fn stands_for_memory(name: &str) -> bool
+    ensures { result ≡ is_in_memory name.now }
+{
+    name == ":memory:" || name.as_bytes().starts_with(b"file:")
+}
+
 /// A connection to the file of this name, which is made where it is not there, and which held what `start` stands for. No name stands
 /// for a database in memory.
-fn connect<S: Start>(
-    rt: &HostRuntime,
+fn connect<R: HasPairs, S: Start>(
+    alloc: Global,
+    rt: &R,
     name: &str,
     start: S,
 ) -> Result<Connection<FileStore<FileFrom<S>>>, StoreFault>
     ensures opened { IfOk result (λ c. HasCleanDisk (file_state c) → IsOpened c) }
     ensures found { IfOk result (λ c. HasCleanDisk (file_state c) → FindsIn (image_at S.Start) (file_state c)) }
+    ensures named { IfOk result (λ _. R.opens rt.now name.now None) }
     ensures fault { IfErr result (λ fault. refusal fault ≡ None) }
+    ensures cause { IfErr result (IsUnconnected ⟦<FileFrom<S> as Disk>⟧ R.seeds R.opens rt.now name.now (image_at S.Start)) }
 {
-    if name == ":memory:" || name.starts_with("file:") {
+    if stands_for_memory(name) {
         return Err(StoreFault::Store);
     }
-    let options = options(rt, name)?;
-    let files = match sqlite_std_file::open(rt, name, start) {
+    let options = match options(rt, name) {
+        Ok(options) => options,
+        Err(fault) => return Err(fault),
+    };
+    let files = match rt.open_pair(name, start) {
         Ok(files) => files,
         Err(error) => return Err(fault_of(&error)),
     };
-    match Connection::open_files(rt.alloc(), files, options) {
+    match Connection::open_files(alloc, files, options) {
         Ok(connection) => Ok(connection),
         Err((error, _left)) => Err(error.into()),
     }
 }
 
 /// The archive in the file of this name, which held what `start` stands for.
-fn take_over<S: Start>(
-    rt: &HostRuntime,
+fn take_over<R: HasPairs, S: Start>(
+    alloc: Global,
+    rt: &R,
     name: &str,
     start: S,
 ) -> Result<Store<FileStore<FileFrom<S>>>, StoreFault>
     ensures opened { IfOk result (λ store. WasTakenOver (image_at S.Start) store) }
+    ensures named { IfOk result (λ _. R.opens rt.now name.now None) }
     ensures fault { IfErr result (λ fault. refusal fault ≡ None) }
+    ensures cause { IfErr result (IsUnopened ⟦<FileFrom<S> as Disk>⟧ R.seeds R.opens rt.now name.now (image_at S.Start)) }
 {
-    let connection = match connect(rt, name, start) {
+    let connection = match connect(alloc, rt, name, start) {
         Ok(connection) => connection,
         Err(fault) => return Err(fault),
     };
     match Store::adopt(connection) {
         Ok(store) => Ok(store),
-        Err(AdoptStop { connection, fault }) => {
-            let _closed = connection.close();
+        Err(stop) => {
+            let fault = stop.fault;
+            let _closed = stop.connection.close();
             Err(fault)
         }
     }
 }
 
 /// Closes a store, and hands its files back: what is committed is in the database file. Where it cannot be copied there now, it stays in
-/// the log, and nothing is handed back.
-fn close_store<D: Disk + Drop>(store: Store<FileStore<D>>) -> Option<Files<D>>
-    ensures { IfSome result (λ files. IsLeftBy store files) }
+/// the log, and the error is handed back.
+fn close_store<D: Disk + Drop>(store: Store<FileStore<D>>) -> Result<Files<D>, Error>
+    ensures { MatchResult result (λ files. IsLeftBy store files) (λ error. FailedToClose store error) }
 {
     let connection = store.into_connection();
     // It says that an open connection is to a database.
     let _schema = connection.schema();
     match connection.close_files() {
-        Ok(files) => Some(files),
-        Err((_error, _left)) => None,
+        Ok(files) => Ok(files),
+        Err((error, _left)) => Err(error),
     }
 }
 
 /// One of the system's files, as a database. `S` stands for what the file holds before it is opened, which no code can read; its value is
 /// used up by the opening, so a second one is E15. No order opens a database twice.
 #[derive(Drop)]
-pub struct SystemDatabases<'a, S: Start> {
+pub struct SystemDatabases<'a, R, S: Start> {
     /// The system whose file it is.
-    pub rt: &'a HostRuntime,
+    pub rt: &'a R,
     /// What the file holds, until it is opened.
     pub start: Option<S>,
-    /// The file and its log once the database was closed, if that did not fail.
-    pub left: Option<Files<FileFrom<S>>>,
+    /// Once the database was closed: the file and its log, or why that failed.
+    pub left: Option<Result<Files<FileFrom<S>>, Error>>,
 }
 
-impl<'a, S: Start> Databases<Store<FileStore<FileFrom<S>>>> for SystemDatabases<'a, S> {
-    ghost use Rattle.std.specs.Prelude.{◌≡◌, None, IfOk};
+impl<'a, R: HasPairs, S: Start> Databases<Store<FileStore<FileFrom<S>>>>
+    for SystemDatabases<'a, R, S> {
+    ghost use Rattle.std.specs.Prelude.{◌≡◌, ◌⊎◌, None, IfErr, IfOk};
     ghost use Rattle.sqlite_wal.specs.Files.{image_at};
+    ghost use Rattle.archive_store.specs.declared.faults.StoreFault.TheVariants.{Store as NoStore};
     ghost use Rattle.archive.specs.Opening.{HoldsRows, Until, WasTakenOver};
     ghost use Rattle.archive.specs.Closing.{IsClosedAs, StillHolds};
+    ghost use Rattle.archive.specs.Refusing.{IsUnopened};
 
     // What the file holds before it is opened, and once it was closed. While it is open, and behind a close that failed, nothing is said.
     ghost holds = { λ it name archive. Until it.start (HoldsRows (image_at S.Start) archive) × StillHolds ⟦<FileFrom<S> as Disk>⟧ it.left archive };
 
-    // It was not opened before, and the store comes of a connection that found what the file held.
+    // It was not opened before, the system opened the files of this name, and the store comes of a connection that found what they held. Or
+    // it is said why there is none.
     ghost opens = { λ old new name result. (old.start ≡ None → IfOk result (λ _. ⊥)) × (new.start ≡ None)
-        × IfOk result (λ store. WasTakenOver (image_at S.Start) store) };
+        × IfOk result (λ store. WasTakenOver (image_at S.Start) store)
+        × IfOk result (λ _. R.opens old.rt.now name None)
+        × IfErr result (λ fault. ((old.start ≡ None) × (fault ≡ NoStore)) ⊎ IsUnopened ⟦<FileFrom<S> as Disk>⟧ R.seeds R.opens old.rt.now name (image_at S.Start) fault) };
 
     ghost closes = { λ old new store. (new.start ≡ old.start) × IsClosedAs new.left store };
 
     fn open(
         &mut self,
-        _alloc: Global,
+        alloc: Global,
         name: &str,
     ) -> Result<Store<FileStore<FileFrom<S>>>, StoreFault> {
         let Some(start) = self.start.take() else {
             return Err(StoreFault::Store);
         };
-        take_over(self.rt, name, start)
+        take_over(alloc, self.rt, name, start)
     }
 
     fn close(&mut self, store: Store<FileStore<FileFrom<S>>>) {
-        self.left = close_store(store);
+        self.left = Some(close_store(store));
     }
 }

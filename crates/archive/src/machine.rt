@@ -23,7 +23,7 @@ impl<'a, S: Start, I: Source + Drop, O: Outgoing + Drop, E: Sink + Drop> System
 
     type Files = SystemFiles<'a, HostRuntime>;
 
-    type Databases = SystemDatabases<'a, S>;
+    type Databases = SystemDatabases<'a, HostRuntime, S>;
 
     type Clock = SystemDay<'a, HostRuntime>;
 

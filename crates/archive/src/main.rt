@@ -1,41 +1,73 @@
 //! The archive's program: what the words of its command line order, over the system's devices.
 #![tactic(auto)]
 
+ghost use Rattle.std.specs.Prelude.{map, string_bytes};
+ghost use Rattle.std.specs.Process.{exit_status};
+ghost use Rattle.archive_run.specs.World.{devices};
+ghost use Rattle.archive.specs.Program.{IsProgram, RunsWhole};
+
 mod databases;
 mod machine;
+mod pages;
+mod system;
 mod threaders;
 
 use archive_listen::{Gathered, Outgoing};
-use archive_run::run;
+use archive_run::{System, World, run};
+use archive_words::OrderStop;
 use machine::make_world;
 use mbox_core::device::Counted;
-use sift_run::{OUTPUT_ROOM, REFUSED, RunFault, borrowed, command_words, say_stop, tell};
+use sift_run::{HasWords, OUTPUT_ROOM, borrowed, command_words, say_stop};
 use sqlite::{Start, Unknown};
+use std::alloc::{AllocGlobal, Global};
 use std::io;
 use std::process::ExitCode;
 
-/// Carries out what the words order, over the standard streams. What an order that is refused left in the output is passed on here.
-/// `start` stands for what the file of the database holds before it is opened.
-fn run_words<S: Start>(rt: &HostRuntime, start: S) -> u8 {
-    let alloc = rt.alloc();
-    let mut output: Gathered<_, OUTPUT_ROOM> = Gathered::new(Counted::new(io::writer(rt)));
-    let mut faults = Counted::new(rt.stderr());
-    let words = match command_words(rt) {
-        Ok(words) => words,
-        Err(stop) => return say_stop(&mut output, &mut faults, &stop),
+/// Carries out what these words order. What an order that is refused left in the output is passed on here.
+fn run_words<Y: System>(alloc: Global, world: &mut World<Y>, words: &[String]) -> u8
+    ensures { RunsWhole (devices Y.Storage.Store Y.Files.ReadFiles Y.Files.OpenFiles Y.Files.Input.Source Y.Databases.Databases Y.Clock.DayClock
+        Y.Ports.listens Y.Ports.Listener.accepts Y.Ports.Listener.closes Y.Threaders.makes Y.Input.Source Y.Output.Sink Y.Output.Outgoing.own Y.Faults.Sink)
+        world.old (map string_bytes words.now) world.new result }
+{
+    let Ok(words) = borrowed(alloc, words) else {
+        return say_stop(&mut world.output, &mut world.faults, &OrderStop::Memory);
     };
-    let Ok(words) = borrowed(alloc, words.as_slice()) else {
-        tell(&mut faults, &RunFault::Memory);
-        return REFUSED;
-    };
-    let mut world = make_world(rt, start, Counted::new(rt.reader()), output, faults);
-    let status = run(alloc, &mut world, words.as_slice());
+    let status = run(alloc, world, words.as_slice());
     let _ = world.output.flush();
     status
+}
+
+/// Carries out what the command line orders.
+fn run_line<R: HasWords + AllocGlobal, Y: System>(rt: &R, world: &mut World<Y>) -> u8
+    ensures { IsProgram (devices Y.Storage.Store Y.Files.ReadFiles Y.Files.OpenFiles Y.Files.Input.Source Y.Databases.Databases Y.Clock.DayClock
+        Y.Ports.listens Y.Ports.Listener.accepts Y.Ports.Listener.closes Y.Threaders.makes Y.Input.Source Y.Output.Sink Y.Output.Outgoing.own Y.Faults.Sink)
+        world.old R.gave rt.now world.new result }
+{
+    match command_words(rt) {
+        Ok(words) => run_words(rt.alloc(), world, words.as_slice()),
+        Err(stop) => say_stop(&mut world.output, &mut world.faults, &stop),
+    }
+}
+
+/// Carries out what the command line orders, over these devices, and ends with its status.
+fn carry_out<R: HasWords + AllocGlobal, Y: System>(rt: &R, world: &mut World<Y>) -> ExitCode
+    ensures { IsProgram (devices Y.Storage.Store Y.Files.ReadFiles Y.Files.OpenFiles Y.Files.Input.Source Y.Databases.Databases Y.Clock.DayClock
+        Y.Ports.listens Y.Ports.Listener.accepts Y.Ports.Listener.closes Y.Threaders.makes Y.Input.Source Y.Output.Sink Y.Output.Outgoing.own Y.Faults.Sink)
+        world.old R.gave rt.now world.new (exit_status result) }
+{
+    ExitCode::from(run_line(rt, world))
+}
+
+/// Makes the devices of the system, over the standard streams. `start` stands for what the file of the database holds before it is opened.
+fn run_from<S: Start>(rt: &HostRuntime, start: S) -> ExitCode {
+    let output: Gathered<_, OUTPUT_ROOM> = Gathered::new(Counted::new(io::writer(rt)));
+    let faults = Counted::new(rt.stderr());
+    let mut world = make_world(rt, start, Counted::new(rt.reader()), output, faults);
+    carry_out(rt, &mut world)
 }
 
 // What is proved of a run for any `S` holds of this one, whatever the file held, since no code can read that. `Unknown` supposes that a
 // write which a stop of the machine tears leaves each byte old or new, so a commit syncs once.
 fn main(rt: HostRuntime) -> ExitCode {
-    ExitCode::from(run_words(&rt, Unknown))
+    run_from(&rt, Unknown)
 }

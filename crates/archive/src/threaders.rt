@@ -1,7 +1,6 @@
 //! What threads messages on a system.
+use crate::system::HasRandom;
 use archive_run::Threaders;
-use std::hash::RandomState;
-use std::random::RandomSource;
 use thread_core::NodeThreader;
 
 /// Threaders that hash identifiers by random bytes of a system.
@@ -11,11 +10,14 @@ pub struct SystemThreaders<'a, R> {
     pub rt: &'a R,
 }
 
-impl<'a, R: RandomSource> Threaders for SystemThreaders<'a, R> {
+impl<'a, R: HasRandom> Threaders for SystemThreaders<'a, R> {
     type Threader = NodeThreader;
 
+    // One is made exactly if the system gave random bytes.
+    ghost makes = { λ it is_made. R.seeds it.rt.now is_made };
+
     fn threader(&self) -> Option<NodeThreader> {
-        let state = RandomState::new(self.rt).ok()?;
+        let state = self.rt.random_state()?;
         Some(NodeThreader::new(state))
     }
 }

@@ -1,4 +1,8 @@
+use Rattle.std.proofs.Common.{inl, inr, refl}
 use Rattle.archive.proofs.databases.take_over.Goals as goal
+
+pub returns-in-Err-clause-cause : goal.returns-in-Err-clause-cause
+returns-in-Err-clause-cause g c = inl c.in-Err.ensures.cause
 
 pub returns-in-Ok-adopt-clause-opened : goal.returns-in-Ok-adopt-clause-opened
 returns-in-Ok-adopt-clause-opened g c = record {
@@ -7,3 +11,14 @@ returns-in-Ok-adopt-clause-opened g c = record {
   opened = c.in-Ok.ensures.opened;
   adopted = c.in-Ok-adopt.ensures.adopted;
 }
+
+pub returns-in-Err-adopt-clause-cause : goal.returns-in-Err-adopt-clause-cause
+returns-in-Err-adopt-clause-cause g c = inr (record {
+  named = c.in-Ok.ensures.named;
+  connection = c.in-Ok.connection;
+  found = c.in-Ok.ensures.found;
+  opened = c.in-Ok.ensures.opened;
+  stop = c.in-Err-adopt.stop;
+  left = c.in-Err-adopt.ensures.refused;
+  told = refl;
+})
