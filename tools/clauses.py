@@ -1,6 +1,6 @@
 #!/usr/bin/env python3
-"""Prints how many functions, clauses and lines of clauses each crate of the product has, and says which function has too many clauses.
-Status 1 where one has.
+"""Prints how many functions, clauses and lines of clauses each crate of the product has, and says which function has too many clauses,
+and which line of a source or a proof is too long. Status 1 where one is.
 
   clauses.py          a line for each crate, then what is wrong
 
@@ -11,14 +11,18 @@ are left out, by their names.
 More than MOST clauses on one function is a finding, unless `clauses.txt` beside this script names the function with just that number.
 That list only gets shorter and its numbers lower: a number on it that is not the function's is a finding too, so whoever takes a clause
 away writes that down, and no other function may take its place.
+
+A line of any crate's `src`, `specs` or `proofs` has at most WIDEST characters. What stands between double quotes does not count: neither
+language breaks a literal.
 """
 import collections, re, sys
 
 import part
 
-MOST = 5
+MOST, WIDEST = 5, 200
 EXCEPTIONS = part.ROOT / "tools" / "clauses.txt"
 BESIDE_THE_PRODUCT = re.compile(r"\w+_tests|example_\w+|(?:\w+_)?probe|run_cases|refused_rows")
+TEXT = re.compile(r'"(?:[^"\\]|\\.)*"')
 COMMENT = re.compile(r"//[^\n]*")
 FUNCTION = re.compile(r"^[ \t]*(?:pub(?:\(\w+\))? )?(?:const )?(?:unsafe )?(?:extern \"C\" )?fn (\w+)", re.M)
 UP_TO_BRACE, WORD = re.compile(r"[^{;]*"), re.compile(r"\b(requires|ensures)\b")
@@ -82,6 +86,13 @@ def faults(found):
     return wrong + [f"clauses.txt names {name}, which needs no exception" for name in excused if 0 < most[name] == excused[name] <= MOST]
 
 
+def long_lines():
+    """Returns each line that is too long, by file and line."""
+    files = sorted(it for part_of in ("src", "specs", "proofs") for end in ("rt", "antt") for it in part.CRATES.glob(f"*/{part_of}/**/*.{end}"))
+    lines = [(file, at, TEXT.sub('""', line)) for file in files for at, line in enumerate(file.read_text(encoding="utf-8").splitlines(), 1)]
+    return [f"{file.relative_to(part.ROOT)}:{at}: {len(line)} characters, more than {WIDEST}" for file, at, line in lines if len(line) > WIDEST]
+
+
 def main(words):
     if words:
         sys.exit(__doc__)
@@ -93,7 +104,7 @@ def main(words):
         print(f"clauses: {crate}: {counts[0]} functions, {counts[1]} clauses in {counts[2]} lines, {counts[3]} functions with more than {MOST}")
         every, totals = every + found, [a + b for a, b in zip(totals, counts)]
     print(f"clauses: all: {totals[0]} functions, {totals[1]} clauses in {totals[2]} lines, {totals[3]} functions with more than {MOST}")
-    wrong = faults(every)
+    wrong = faults(every) + long_lines()
     for it in wrong:
         print(f"clauses: {it}")
     return 1 if wrong else 0

@@ -865,6 +865,10 @@ CLAUSES = {
     "one that is gone": says("clauses.py", [], {**COUNTED, "tools/clauses.txt": "low::lib::wide 6\n"}, 1, "clauses: clauses.txt names low::lib::wide, which is not there"),
     "one that needs no exception": says("clauses.py", [], {**COUNTED, "tools/clauses.txt": "low::lib::half 3\n"}, 1,
         "clauses: clauses.txt names low::lib::half, which needs no exception"),
+    "a line that is as long as it may be": says("clauses.py", [], {**COUNTED, "crates/low/specs/Low.antt": "-- " + "ℕ" * 197 + "\n"}, 0),
+    "a line that is too long": says("clauses.py", [], {**COUNTED, "crates/low_tests/proofs/lib/half/Answers.antt": "\n-- " + "ℕ" * 198 + "\n"}, 1,
+        "clauses: crates/low_tests/proofs/lib/half/Answers.antt:2: 201 characters, more than 200"),
+    "a text that is long": says("clauses.py", [], {**COUNTED, "crates/low/specs/Low.antt": 'text = codes "' + 'a \\" ' * 60 + '"\n'}, 0),
     "a word": says("clauses.py", ["low"], COUNTED, 1, faults="clauses.py"),
 }
 

@@ -128,6 +128,7 @@ passes old mid1 mid2 new (Err g) f Earlier Later is before after on why = λ it.
 ]
 
 -- a row that is not read
-pub unread : {A : Type 0} (old new : State) (r : Result A Fault) (e : Error) (Later : Type 0) → IsErrAnd r (λ f. f ≡ fault_of e) → (e ≢ SqliteFailure OutOfMemory → Later) → FailsByDiskOr old new r Later
+pub unread : {A : Type 0} (old new : State) (r : Result A Fault) (e : Error) (Later : Type 0) → IsErrAnd r (λ f. f ≡ fault_of e) → (e ≢ SqliteFailure OutOfMemory → Later)
+    → FailsByDiskOr old new r Later
 unread old new (Ok a) e Later is why = tt
 unread old new (Err f) e Later is why = λ it. inr (why (λ none. absurd (let bad : faults.Memory ≡ faults.Database = sym (ap fault_of none) ∙ sym is ∙ it in cc)))

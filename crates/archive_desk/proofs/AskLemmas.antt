@@ -17,7 +17,8 @@ use Rattle.archive_store.specs.Held.{held_of}
 use Rattle.archive_store.specs.Told.{HoldsTables, Lasts, GoesIn, GoesInIfOpen, AsksIn}
 use Rattle.archive_store.specs.declared.store.Store.{Store}
 use Rattle.archive_store.specs.declared.faults.StoreFault.{StoreFault}
-use Rattle.archive_store.specs.declared.faults.StoreFault.TheVariants.{BadName, BadText, ListExists, NoList, PersonExists, NoPerson, TokenTaken, NoMessage, AlreadyWithdrawn, NotWithdrawn, BadDays, ListFull, TooLarge, Memory, Store as Failed}
+use Rattle.archive_store.specs.declared.faults.StoreFault.TheVariants.{BadName, BadText, ListExists, NoList, PersonExists, NoPerson, TokenTaken, NoMessage}
+use Rattle.archive_store.specs.declared.faults.StoreFault.TheVariants.{AlreadyWithdrawn, NotWithdrawn, BadDays, ListFull, TooLarge, Memory, Store as Failed}
 use Rattle.archive_store.proofs.Joins.{goes_in_as}
 use Rattle.archive_results.specs.Access.{Ask, ReaderMarks, Refusal, no_list, no_person, is_shown, reader_marks, view_of}
 use Rattle.archive_results.specs.Access.{Asked, asked_on, asked_of}
@@ -118,7 +119,8 @@ module _ {S : Type 0} (g : Ghosts S) (old new : Store S) {A : Type 0} (refuses :
     where
       by_reason : (r : Option Declined)
           → MatchOption r (GoesInIfOpen g (HoldsTables g) old new (λ a b. b ≡ a)) (λ why. GoesIn g (HoldsTables g) old new (λ a b. (b ≡ a) × (refuses a ≡ Some why)))
-          → MatchOption (option_map reason_by r) (GoesInIfOpen g (HoldsTables g) old new (λ a b. b ≡ a)) (λ why. GoesIn g (HoldsTables g) old new (λ a b. (b ≡ a) × (option_map reason_by (refuses a) ≡ Some why)))
+          → MatchOption (option_map reason_by r) (GoesInIfOpen g (HoldsTables g) old new (λ a b. b ≡ a))
+          (λ why. GoesIn g (HoldsTables g) old new (λ a b. (b ≡ a) × (option_map reason_by (refuses a) ≡ Some why)))
       by_reason None same = same
       by_reason (Some why) same =
           goes_in_as g (HoldsTables g) old new (λ a b. (b ≡ a) × (refuses a ≡ Some why)) (λ a b. (b ≡ a) × (option_map reason_by (refuses a) ≡ Some (reason_by why)))
@@ -185,7 +187,8 @@ module _ {S : Type 0} (g : Ghosts S) (ask : Ask) where
   list_refused old new fault Says Says' it = by_reason (reason fault) it
     where
       by_reason : (r : Option Reason)
-          → MatchOption r (GoesInIfOpen g (HoldsTables g) old new (λ a b. b ≡ a)) (λ why. GoesIn g (HoldsTables g) old new (λ a b. (b ≡ a) × (option_map reason_by (list_refusal a ask.list) ≡ Some why)))
+          → MatchOption r (GoesInIfOpen g (HoldsTables g) old new (λ a b. b ≡ a)) (λ why. GoesIn g (HoldsTables g) old new
+          (λ a b. (b ≡ a) × (option_map reason_by (list_refusal a ask.list) ≡ Some why)))
           → MatchOption r (GoesInIfOpen g (HoldsTables g) old new (λ a b. b ≡ a)) (λ why. GoesIn g (HoldsTables g) old new (λ a b. (b ≡ a) × (ask_reason a ask ≡ Some why)))
       by_reason None same = same
       by_reason (Some why) same =

@@ -95,7 +95,8 @@ module _ {X : Type 0} (made : List Remembered → List X) (apart : IsMadeApart m
           )
 
       -- the store fails at their marks
-      pub listed_unpassed : (fault : DeskFault) → reason fault ≡ None → (told : StoreFault) → PassesWithheld g mid new ask reader {A = Unit {0}} (Err told) → ListsRows g old new ask reader made (Err fault)
+      pub listed_unpassed : (fault : DeskFault) → reason fault ≡ None → (told : StoreFault) → PassesWithheld g mid new ask reader {A = Unit {0}} (Err told)
+          → ListsRows g old new ask reader made (Err fault)
       listed_unpassed fault none told passes = λ returned all a w.
           let it = so_far (was returned) all a w in
           rw none (λ up. let last = passes.passed returned all a it.0 it.1 up in (last.1.held, last.1.archive_is))
@@ -120,7 +121,8 @@ module _ {X : Type 0} (made : List Remembered → List X) (apart : IsMadeApart m
 
       -- the store fails at the next
       pub listed_unread : (fault : DeskFault) → reason fault ≡ None
-          → (HasReturned g new.store → (all : List Remembered) (a : Archive) (given : List Remembered) → WalksOver g ask.list all a given mid → IsOpen g new.store → WalksOver g ask.list all a given new)
+          → (HasReturned g new.store → (all : List Remembered) (a : Archive) (given : List Remembered) → WalksOver g ask.list all a given mid → IsOpen g new.store
+          → WalksOver g ask.list all a given new)
           → ListsRows g old new ask reader made (Err fault)
       listed_unread fault none rests = λ returned all a w.
           let it = so_far (was returned) all a w in

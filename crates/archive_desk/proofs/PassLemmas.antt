@@ -71,7 +71,8 @@ module _ {S : Type 0} (g : Ghosts S) (ask : Ask) (reader : ReaderMarks) where
   -- ---- one message
 
   -- none was passed by
-  pub none_passed : (old new : Walk S) → (HasReturned g new.store → (all : List Remembered) (a : Archive) (given : List Remembered) → WalksOver g ask.list all a given old → WalksOver g ask.list all a given new)
+  pub none_passed : (old new : Walk S) → (HasReturned g new.store → (all : List Remembered) (a : Archive) (given : List Remembered) → WalksOver g ask.list all a given old
+      → WalksOver g ask.list all a given new)
       → left_of new.walk ≤ left_of old.walk → PassesOne g old new ask reader (Ok false)
   none_passed old new stays left = record {
     passes = record { passed = λ returned all a given w. passed_none all a given old new (stays returned all a given w); left = left; fault = tt };

@@ -1,5 +1,6 @@
 -- Messages that are added again: the first so many, and then all, make the same archive as all.
-use Rattle.std.proofs.Common.{◌≡◌, ◌⊎◌, inl, inr, refl, ap, sym, subst, ◌∙◌, arith, ℕ, ◌+◌, Bool, true, false, ◌||◌, cond, List, [], ◌∷◌, ◌++◌, length, take, drop, map, filter, Some, is_some, length-append}
+use Rattle.std.proofs.Common.{◌≡◌, ◌⊎◌, inl, inr, refl, ap, sym, subst, ◌∙◌, arith, ℕ, ◌+◌, Bool, true, false, ◌||◌, cond, List}
+use Rattle.std.proofs.Common.{[], ◌∷◌, ◌++◌, length, take, drop, map, filter, Some, is_some, length-append}
 use Rattle.std.specs.Prelude.{⊤, not, if◌then◌else◌, bytes_eq, find, nat_lt, nat_le}
 use Rattle.std.proofs.lemmas.Bool.Decides.{nat_tests}
 use Rattle.std.proofs.lemmas.List.{map-append, take-append-drop}
@@ -117,7 +118,8 @@ module _ (list : List ℕ) where
     | inr is ↦
         (let b = with_message a list item in
         let known : has_message b list (item_key item) ≡ true = found_last (is_message list (item_key item)) a.messages (keyed_message list (item_key item) item) (is_itself list item) in
-        let seen : is_seen b item ≡ true = subst (λ k. unless_new (has_list b list) (nat_lt longest_text (length (whole item.text))) k (nat_le message_limit (length (messages_in b list))) ≡ true) (sym known)
+        let seen : is_seen b item ≡ true = subst (λ k. unless_new (has_list b list) (nat_lt longest_text (length (whole item.text))) k
+        (nat_le message_limit (length (messages_in b list))) ≡ true) (sym known)
         (known_by (has_list b list) (nat_lt longest_text (length (whole item.text))) (nat_le message_limit (length (messages_in b list)))) in
         subst (λ x. is_seen x item ≡ true) (sym is) seen)
   ]

@@ -1,5 +1,6 @@
 -- How far the messages of a walk are out.
-use Rattle.std.proofs.Common.{◌≡◌, refl, sym, ap, ◌∙◌, subst, ℕ, ◌+◌, ◌<◌, ◌^◌, min, Bool, true, false, cond, List, [], ◌∷◌, ◌++◌, length, take, filter, map, Option, Some, None, Ok, Err, arith, append_assoc, length-append, length-take}
+use Rattle.std.proofs.Common.{◌≡◌, refl, sym, ap, ◌∙◌, subst, ℕ, ◌+◌, ◌<◌, ◌^◌, min, Bool, true, false, cond, List, [], ◌∷◌, ◌++◌, length, take}
+use Rattle.std.proofs.Common.{filter, map, Option, Some, None, Ok, Err, arith, append_assoc, length-append, length-take}
 use Rattle.std.specs.Prelude.{MatchOption}
 use Rattle.std.proofs.lemmas.List.{append-nil, take-append-le}
 use Rattle.std.proofs.Math.Seq.{take-append-add}
@@ -33,7 +34,8 @@ module _ (ask : Ask) (reader : ReaderMarks) where
   shown_joined (x ∷ xs) ys = by_test (is_shown ask reader x) (shown_joined xs ys)
     where
       by_test : (t : Bool) → text_of (filter (is_shown ask reader) (xs ++ ys)) ≡ text_of (filter (is_shown ask reader) xs) ++ text_of (filter (is_shown ask reader) ys)
-          → text_of (cond t (x ∷ filter (is_shown ask reader) (xs ++ ys)) (filter (is_shown ask reader) (xs ++ ys))) ≡ text_of (cond t (x ∷ filter (is_shown ask reader) xs) (filter (is_shown ask reader) xs)) ++ text_of (filter (is_shown ask reader) ys)
+          → text_of (cond t (x ∷ filter (is_shown ask reader) (xs ++ ys)) (filter (is_shown ask reader) (xs ++ ys))) ≡ text_of
+          (cond t (x ∷ filter (is_shown ask reader) xs) (filter (is_shown ask reader) xs)) ++ text_of (filter (is_shown ask reader) ys)
       by_test true h = ap (λ rest. written_item (shown_of x).item ++ rest) h
           ∙ sym (append_assoc (written_item (shown_of x).item) (text_of (filter (is_shown ask reader) xs)) (text_of (filter (is_shown ask reader) ys)))
       by_test false h = h

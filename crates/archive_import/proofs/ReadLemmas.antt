@@ -278,7 +278,8 @@ module _ {S : Type 0} (g : Ghosts S) (old mid new : Store S) (list text : List �
       (HaltsRead list text 1 items j) (λ a b why. IsHalted list text 1 a b why.0 why.1) (BreaksRead list text 1 items j) (λ a b stop. IsBroken list text 1 a b stop.done stop.fault)
       (λ a b c why it halts. halts a it) (λ a b c stop it breaks. breaks a it) stop before call
 
-  pub read_in : (report : Report) → GoesHeld g mid new (λ b c. (a : Archive) → IsUnderWay list a b items j → IsReadIn list text 1 a c report) → GoesHeld g old new (λ a c. IsReadIn list text 1 a c report)
+  pub read_in : (report : Report) → GoesHeld g mid new (λ b c. (a : Archive) → IsUnderWay list a b items j → IsReadIn list text 1 a c report)
+      → GoesHeld g old new (λ a c. IsReadIn list text 1 a c report)
   read_in report last = goes_in_as g (HoldsTables g) old new (λ a c. (b : Archive) × IsUnderWay list a b items j × ((a' : Archive) → IsUnderWay list a' b items j → IsReadIn list text 1 a' c report))
       (λ a c. IsReadIn list text 1 a c report) (λ a c h. h.2 a h.1)
       (goes_on_in g (HoldsTables g) old mid new (λ a c. IsUnderWay list a c items j) (λ b c. (a : Archive) → IsUnderWay list a b items j → IsReadIn list text 1 a c report) before last)

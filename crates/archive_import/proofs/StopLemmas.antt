@@ -134,7 +134,8 @@ module _ {S : Type 0} (g : Ghosts S) (old new : Store S) (list : List ℕ) (i : 
   pub add_stopped : (stop : AddStop) (at : ImportStop) → at ≡ record { done = i.done + stop.done; fault = Stored stop.fault } → Lasts g old new
       → AddsAll g (held_of old) (held_of new) (Err stop) list i.held → stop.done ≤ length i.held
       → CallsHeld g old new {A = Unit {0}} halt_reason (Err at) Nothing (HaltsAmid list i) (BreaksAmid list i)
-  add_stopped stop at is lasts adds low = subst (λ s. CallsHeld g old new {A = Unit {0}} halt_reason (Err s) Nothing (HaltsAmid list i) (BreaksAmid list i)) (sym is) (by_reason (refusal stop.fault) adds)
+  add_stopped stop at is lasts adds low = subst (λ s. CallsHeld g old new {A = Unit {0}} halt_reason (Err s) Nothing (HaltsAmid list i) (BreaksAmid list i))
+      (sym is) (by_reason (refusal stop.fault) adds)
     where
       by_reason : (r : Option Refusal)
           → (HasCleanDisk (state g (held_of new)) → IsKept (state g (held_of old)) → MatchOption r (IsAfter (state g (held_of new)) (archive_of (state g (held_of old))) list (take stop.done i.held))
@@ -176,7 +177,8 @@ module _ {S : Type 0} (g : Ghosts S) (old mid : Store S) (list : List ℕ) (i j 
   hold_says k (Err stop) ok err = not_held stop err
 
 pub keeps_all : {S : Type 0} (g : Ghosts S) (store : Store S) (list : List ℕ) (i : IntakeState) → GoesHeld g store store (Keeps list i i)
-keeps_all g store list i = goes_in_as g (HoldsTables g) store store (λ a b. b ≡ a) (Keeps list i i) (λ b c same a items w. subst (λ x. IsUnderWay list a x items i) (sym same) w) (stays_there_in g (HoldsTables g) store)
+keeps_all g store list i = goes_in_as g (HoldsTables g) store store (λ a b. b ≡ a) (Keeps list i i) (λ b c same a items w. subst (λ x. IsUnderWay list a x items i) (sym same) w)
+    (stays_there_in g (HoldsTables g) store)
 
 -- ---- one message after the other
 

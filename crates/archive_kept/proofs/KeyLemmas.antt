@@ -1,5 +1,6 @@
 -- A line is found by its key.
-use Rattle.std.proofs.Common.{◌≡◌, pos, refl, sym, ap, ◌∙◌, subst, ℕ, ◌+◌, ◌<◌, ◌≤◌, arith, Bool, true, false, List, [], ◌∷◌, ◌++◌, length, get_or, slice_get, bytes_eq, Option, Some, None, Less, Equal, Greater, ltb, ltb-true, ltb-false}
+use Rattle.std.proofs.Common.{◌≡◌, pos, refl, sym, ap, ◌∙◌, subst, ℕ, ◌+◌, ◌<◌, ◌≤◌, arith, Bool, true, false, List, [], ◌∷◌, ◌++◌, length}
+use Rattle.std.proofs.Common.{get_or, slice_get, bytes_eq, Option, Some, None, Less, Equal, Greater, ltb, ltb-true, ltb-false}
 use Rattle.std.specs.Prelude.{position, nat_lt, cond}
 use Rattle.std.specs.Cmp.{IsTotalOrder, IsStrictWeakOrder}
 use Rattle.std.specs.Cmp.Lexicographic.{slice_cmp}

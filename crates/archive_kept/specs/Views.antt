@@ -1,5 +1,6 @@
 -- What is kept of views: the outlines, how one is looked for, and how many bytes they take, about.
-use Rattle.std.specs.Prelude.{◌≡◌, ◌==◌, ◌&&◌, ◌⊎◌, ◌+◌, ◌*◌, ◌≤◌, ℕ, Bool, true, false, List, [], length, drop, insert, position, sum_by, slice_get, bytes_eq, Option, None, Some, option_map, Result, MatchResult}
+use Rattle.std.specs.Prelude.{◌≡◌, ◌==◌, ◌&&◌, ◌⊎◌, ◌+◌, ◌*◌, ◌≤◌, ℕ, Bool, true, false, List, [], length, drop, insert, position}
+use Rattle.std.specs.Prelude.{sum_by, slice_get, bytes_eq, Option, None, Some, option_map, Result, MatchResult}
 use Rattle.std.specs.Option.{option_map_or}
 use Rattle.policy_core.specs.Facts.{rank_of}
 use Rattle.archive_results.specs.Access.{ReaderMarks}

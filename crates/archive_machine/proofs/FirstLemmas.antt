@@ -58,7 +58,8 @@ Holds a list room items = messages_in (taken a list items).archive list ≡ mess
 abbrev Later : List ℕ → List Item → Type 0
 Later list items = (b : Archive) (r : ℕ) → has_list b list ≡ true → length (messages_in b list) + r ≡ 50000 → Holds b list r items
 
-module _ (list : List ℕ) (item : Item) (items : List Item) (a : Archive) (room : ℕ) (there : has_list a list ≡ true) (fits : length (messages_in a list) + room ≡ 50000) (later : Later list items) where
+module _ (list : List ℕ) (item : Item) (items : List Item) (a : Archive) (room : ℕ) (there : has_list a list ≡ true) (fits : length (messages_in a list) + room ≡ 50000)
+    (later : Later list items) where
   stays : (step a (add list item)).0 ≡ a → accepted room (keys_in a list) (item ∷ items) ≡ accepted room (keys_in a list) items → Holds a list room (item ∷ items)
   unfolding run
   stays same drops =
@@ -77,7 +78,8 @@ module _ (list : List ℕ) (item : Item) (items : List Item) (a : Archive) (room
       let is : (step a (add list item)).0 ≡ b = rw (there, small, new, full) refl in
       let more = pushed a list item in
       let fits_b : length (messages_in b list) + some.0 ≡ 50000 = rw more (rw (length-append (messages_in a list) (new_message list item ∷ [])) some.2) in
-      let keys : keys_in b list ≡ keys_in a list ++ item_key item ∷ [] = ap (map (λ (m : Message). m.key)) more ∙ map-append (λ (m : Message). m.key) (messages_in a list) (new_message list item ∷ []) in
+      let keys : keys_in b list ≡ keys_in a list ++ item_key item ∷ [] = ap (map (λ (m : Message). m.key)) more ∙ map-append (λ (m : Message). m.key) (messages_in a list)
+      (new_message list item ∷ []) in
       let unknown : is_among (keys_in a list) (item_key item) ≡ false = sym (held_key list (item_key item) a.messages) ∙ new in
       let rest : List Item = firsts (keys_in a list ++ item_key item ∷ []) (filter is_small items) in
       let shown : firsts (keys_in a list) (filter is_small (item ∷ items)) ≡ item ∷ rest = rw (small, unknown) refl in

@@ -1,5 +1,6 @@
 -- What is set is what is told, until it is set anew.
-use Rattle.std.proofs.Common.{◌≡◌, ◌≢◌, ℕ, ℤ, Bool, true, false, ◌&&◌, ◌||◌, cond, List, [], ◌∷◌, ◌++◌, map, Option, Some, None, is_some, option_map, refl, sym, ap, ap₂, ◌∙◌, subst, if◌then◌else◌, pos}
+use Rattle.std.proofs.Common.{◌≡◌, ◌≢◌, ℕ, ℤ, Bool, true, false, ◌&&◌, ◌||◌, cond, List, [], ◌∷◌, ◌++◌, map, Option, Some, None}
+use Rattle.std.proofs.Common.{is_some, option_map, refl, sym, ap, ap₂, ◌∙◌, subst, if◌then◌else◌, pos}
 use Rattle.std.specs.Prelude.{not, find, bytes_eq}
 use Rattle.std.specs.List.{All, list_any}
 use Rattle.std.specs.Option.{option_map_or}
@@ -12,7 +13,8 @@ use Rattle.std.proofs.lemmas.Slice.Eq.{bytes_eq-Decides}
 use Rattle.mbox_items.specs.Division.{Item}
 use Rattle.policy_core.specs.Names.{is_name}
 use Rattle.archive_machine.specs.Records.{Message, ListOption, Address, Archive}
-use Rattle.archive_machine.specs.Commands.{Command, list_add, withdraw, embargo, merge_set, address_set, no_list, no_person, no_message, bad_name, bad_text, list_exists, already_withdrawn, Reply, done, refused}
+use Rattle.archive_machine.specs.Commands.{Command, list_add, withdraw, embargo, merge_set, address_set, no_list, no_person, no_message}
+use Rattle.archive_machine.specs.Commands.{bad_name, bad_text, list_exists, already_withdrawn, Reply, done, refused}
 use Rattle.archive_machine.specs.Keys.{item_key}
 use Rattle.archive_machine.specs.Addresses.{is_address, kept_address}
 use Rattle.archive_machine.specs.Questions.{has_list, has_person, is_option_of, merge_of, is_address_of, has_address, address_of, is_message, message_of, has_message, is_withdrawn}

@@ -16,7 +16,8 @@ use Rattle.archive_machine.specs.Damage.{IsSoundFiled, IsWhole, is_listed_before
 more_same : (f : Filed) (gs : List Filed) → IsPermutation (f ∷ gs) (with_listed f gs)
 more_same f [] = IsPermutation-refl (f ∷ [])
 more_same f (g ∷ gs) = elim (cases_Bool (is_listed_before g f)) [
-  | inl before ↦ rw before (IsPermutation-trans (f ∷ g ∷ gs) (g ∷ f ∷ gs) (g ∷ with_listed f gs) (IsPermutation-middle (f ∷ []) g gs) (IsPermutation-cons g (f ∷ gs) (with_listed f gs) (more_same f gs)))
+  | inl before ↦ rw before (IsPermutation-trans (f ∷ g ∷ gs) (g ∷ f ∷ gs) (g ∷ with_listed f gs) (IsPermutation-middle (f ∷ []) g gs)
+      (IsPermutation-cons g (f ∷ gs) (with_listed f gs) (more_same f gs)))
   | inr after ↦ rw after (IsPermutation-refl (f ∷ g ∷ gs))
 ]
 

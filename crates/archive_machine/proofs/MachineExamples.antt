@@ -1,7 +1,8 @@
 -- Worked examples of commands. Day 12053 is 2003-01-01, and day 12143 is 2003-04-01.
 use Rattle.std.proofs.Common.{◌≡◌, ℕ, ℤ, pos, List, [], ◌∷◌, Some, None, true, false, refl, codes}
 use Rattle.archive_machine.specs.Records.{Message, Archive}
-use Rattle.archive_machine.specs.Commands.{Command, list_add, person_add, grant, revoke, withdraw, restore, embargo, lift, merge_set, address_set, bad_name, bad_text, list_exists, no_list, person_exists, no_person, token_taken, no_message, already_withdrawn, not_withdrawn, bad_days, Reply, done, was_there, refused}
+use Rattle.archive_machine.specs.Commands.{Command, list_add, person_add, grant, revoke, withdraw, restore, embargo, lift, merge_set, address_set, bad_name, bad_text, list_exists}
+use Rattle.archive_machine.specs.Commands.{no_list, person_exists, no_person, token_taken, no_message, already_withdrawn, not_withdrawn, bad_days, Reply, done, was_there, refused}
 use Rattle.archive_machine.specs.Questions.{standing_of, person_of_token, merge_of, address_of, person_refusal}
 use Rattle.archive_machine.specs.Runs.{run}
 

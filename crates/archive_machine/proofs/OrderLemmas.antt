@@ -95,7 +95,8 @@ rises (name ∷ names) = rises_more name (in_byte_order names) (rises names)
 more_same : (name : Name) (ys : List Name) → IsPermutation (name ∷ ys) (with_name name ys)
 more_same name [] = IsPermutation-refl (name ∷ [])
 more_same name (y ∷ ys) = elim (cases_Bool (is_lt (order y name))) [
-  | inl less ↦ rw less (IsPermutation-trans (name ∷ y ∷ ys) (y ∷ name ∷ ys) (y ∷ with_name name ys) (IsPermutation-middle (name ∷ []) y ys) (IsPermutation-cons y (name ∷ ys) (with_name name ys) (more_same name ys)))
+  | inl less ↦ rw less (IsPermutation-trans (name ∷ y ∷ ys) (y ∷ name ∷ ys) (y ∷ with_name name ys) (IsPermutation-middle (name ∷ []) y ys)
+      (IsPermutation-cons y (name ∷ ys) (with_name name ys) (more_same name ys)))
   | inr not_less ↦ rw not_less (IsPermutation-refl (name ∷ y ∷ ys))
 ]
 

@@ -4,12 +4,15 @@ use Rattle.std.specs.Prelude.{ℕ, ℤ, pos, Bool, true, false, int_lt, nat_lt, 
 use Rattle.policy_core.specs.Names.{is_name}
 use Rattle.mbox_items.specs.Division.{Item, whole}
 use Rattle.archive_machine.specs.Records.{Grant, Message, ListOption, Address, Archive}
-use Rattle.archive_machine.specs.Commands.{Command, list_add, person_add, grant, revoke, add, withdraw, restore, embargo, lift, merge_set, address_set, Refusal, bad_name, bad_text, list_exists, no_list, person_exists, no_person, token_taken, no_message, already_withdrawn, not_withdrawn, bad_days, list_full, too_large, Reply, done, was_there, taken_in, already_known, refused}
+use Rattle.archive_machine.specs.Commands.{Command, list_add, person_add, grant, revoke, add, withdraw, restore, embargo, lift, merge_set, address_set, Refusal}
+use Rattle.archive_machine.specs.Commands.{bad_name, bad_text, list_exists, no_list, person_exists, no_person, token_taken, no_message, already_withdrawn}
+use Rattle.archive_machine.specs.Commands.{not_withdrawn, bad_days, list_full, too_large, Reply, done, was_there, taken_in, already_known, refused}
 use Rattle.archive_machine.specs.Tokens.{is_token}
 use Rattle.archive_machine.specs.Addresses.{is_address, kept_address}
 use Rattle.archive_machine.specs.Keys.{item_key}
 use Rattle.archive_machine.specs.Filing.{item_filing}
-use Rattle.archive_machine.specs.Questions.{has_list, has_person, has_token, is_grant, has_grant, is_option_of, is_address_of, has_address, messages_in, is_message, message_of, has_message, is_withdrawn, is_embargoed}
+use Rattle.archive_machine.specs.Questions.{has_list, has_person, has_token, is_grant, has_grant, is_option_of, is_address_of, has_address}
+use Rattle.archive_machine.specs.Questions.{messages_in, is_message, message_of, has_message, is_withdrawn, is_embargoed}
 use Rattle.archive_machine.specs.declared.found.Found.{Found}
 
 -- the archive afterwards, and the answer

@@ -1,5 +1,6 @@
 -- What is asked of the archive.
-use Rattle.std.specs.Prelude.{if◌then◌else◌, ℕ, ℤ, pos, int_le, List, [], ◌∷◌, map, filter, find, bytes_eq, Bool, true, false, not, ◌&&◌, Option, Some, None, is_some, option_map, IsSorted, IsPermutation}
+use Rattle.std.specs.Prelude.{if◌then◌else◌, ℕ, ℤ, pos, int_le, List, [], ◌∷◌, map, filter, find, bytes_eq, Bool, true, false}
+use Rattle.std.specs.Prelude.{not, ◌&&◌, Option, Some, None, is_some, option_map, IsSorted, IsPermutation}
 use Rattle.std.specs.List.{list_any}
 use Rattle.std.specs.Int.{int_max}
 use Rattle.std.specs.Option.{option_map_or}

@@ -96,8 +96,24 @@ an_mbox_without_messages = refl
 abbrev two : Archive
 two = record soc {
   messages =
-      record { list = codes "soc"; key = codes "1111111111111111111111111111111111111111111111111111111111111111"; sender = codes "anna@example.org"; arrival = pos 1046772000; text = codes "From: Anna <anna@example.org>\nSubject: Hello\n\nOne.\n"; withdrawn = pos 1; embargo = None }
-      ∷ record { list = codes "soc"; key = codes "2222222222222222222222222222222222222222222222222222222222222222"; sender = codes "bob@example.org"; arrival = pos 1047465000; text = codes "Subject: Re: Hello\n\nTwo.\n"; withdrawn = pos 0; embargo = None } ∷ [];
+      record {
+        list = codes "soc";
+        key = codes "1111111111111111111111111111111111111111111111111111111111111111";
+        sender = codes "anna@example.org";
+        arrival = pos 1046772000;
+        text = codes "From: Anna <anna@example.org>\nSubject: Hello\n\nOne.\n";
+        withdrawn = pos 1;
+        embargo = None;
+      }
+      ∷ record {
+        list = codes "soc";
+        key = codes "2222222222222222222222222222222222222222222222222222222222222222";
+        sender = codes "bob@example.org";
+        arrival = pos 1047465000;
+        text = codes "Subject: Re: Hello\n\nTwo.\n";
+        withdrawn = pos 0;
+        embargo = None;
+      } ∷ [];
 }
 
 abbrev moderated : Archive
@@ -121,13 +137,17 @@ a_message = refl
 -- the threads show nothing of it, as if it had never come
 its_threads : reply_bytes (reply_of two example (pos 12131) (asks (codes "GET") (codes "/l/soc/threads") []))
     ≡ codes "HTTP/1.1 200 OK\r\nContent-Type: text/html; charset=us-ascii\r\nContent-Length: 380\r\nConnection: close\r\n\r\n<!DOCTYPE html>\n<html><head><title>soc: threads</title></head><body>\n<h1>soc: threads</h1>\n<div class=\"d0\"><a href=\"/l/soc/month/2003-03\">2003-03-12 10:30</a> (none) <a href=\"/l/soc/m/2222222222222222222222222222222222222222222222222222222222222222\">Re: Hello</a> <a href=\"/l/soc/t/2222222222222222222222222222222222222222222222222222222222222222\">thread</a></div>\n</body></html>\n"
-unfolding head_bytes lines is_empty_line content fields_of header_blocks unfolded tokens_of tokens_from token_at kind_of date_at ids_from rest_within spaced next_of without_trailer after after_closing without_leader after_leader after_refwd without_blob without_pair after_spaces without_front page_head page_foot tree_row message_row month_link author_link subject_text message_link thread_link instant_text instant_month_text date_after year_after month_after digits marks_of ruling_on
+unfolding head_bytes lines is_empty_line content fields_of header_blocks unfolded tokens_of tokens_from token_at kind_of date_at ids_from rest_within spaced
+    next_of without_trailer after after_closing without_leader after_leader after_refwd without_blob without_pair after_spaces without_front page_head page_foot
+    tree_row message_row month_link author_link subject_text message_link thread_link instant_text instant_month_text date_after year_after month_after digits marks_of ruling_on
 its_threads = refl
 
 -- a moderator reads both, the second below the first: it has no reference, but the subject of a reply
 its_threads_for_a_moderator : reply_bytes (reply_of moderated example (pos 12131) (asks (codes "GET") (codes "/l/soc/threads") (authorization (codes "Bearer 0123456789abcdef") ∷ [])))
     ≡ codes "HTTP/1.1 200 OK\r\nContent-Type: text/html; charset=us-ascii\r\nContent-Length: 703\r\nConnection: close\r\n\r\n<!DOCTYPE html>\n<html><head><title>soc: threads</title></head><body>\n<h1>soc: threads</h1>\n<div class=\"d0\"><a href=\"/l/soc/month/2003-03\">2003-03-04 10:00</a> <a href=\"/l/soc/by/anna%40example.org\">anna@example.org</a> <a href=\"/l/soc/m/1111111111111111111111111111111111111111111111111111111111111111\">Hello</a> <a href=\"/l/soc/t/1111111111111111111111111111111111111111111111111111111111111111\">thread</a></div>\n<div class=\"d1\"><a href=\"/l/soc/month/2003-03\">2003-03-12 10:30</a> (none) <a href=\"/l/soc/m/2222222222222222222222222222222222222222222222222222222222222222\">Re: Hello</a> <a href=\"/l/soc/t/2222222222222222222222222222222222222222222222222222222222222222\">thread</a></div>\n</body></html>\n"
-unfolding trim_ows head_bytes lines is_empty_line content fields_of header_blocks unfolded tokens_of tokens_from token_at kind_of date_at ids_from rest_within spaced next_of without_trailer after after_closing without_leader after_leader after_refwd without_blob without_pair after_spaces without_front page_head page_foot tree_row message_row month_link author_link subject_text message_link thread_link instant_text instant_month_text date_after year_after month_after digits marks_of ruling_on
+unfolding trim_ows head_bytes lines is_empty_line content fields_of header_blocks unfolded tokens_of tokens_from token_at kind_of date_at ids_from rest_within
+    spaced next_of without_trailer after after_closing without_leader after_leader after_refwd without_blob without_pair after_spaces without_front page_head
+    page_foot tree_row message_row month_link author_link subject_text message_link thread_link instant_text instant_month_text date_after year_after month_after digits marks_of ruling_on
 its_threads_for_a_moderator = refl
 
 -- nor does the mbox hold it
@@ -147,7 +167,17 @@ mbox_of archive = reply_of archive of_authors (pos 12131) (asks (codes "GET") (c
 abbrev never : Archive
 never = without two (codes "soc") (codes "1111111111111111111111111111111111111111111111111111111111111111")
 
-one_never_came : never ≡ record two { messages = record { list = codes "soc"; key = codes "2222222222222222222222222222222222222222222222222222222222222222"; sender = codes "bob@example.org"; arrival = pos 1047465000; text = codes "Subject: Re: Hello\n\nTwo.\n"; withdrawn = pos 0; embargo = None } ∷ [] }
+one_never_came : never ≡ record two {
+  messages = record {
+    list = codes "soc";
+    key = codes "2222222222222222222222222222222222222222222222222222222222222222";
+    sender = codes "bob@example.org";
+    arrival = pos 1047465000;
+    text = codes "Subject: Re: Hello\n\nTwo.\n";
+    withdrawn = pos 0;
+    embargo = None;
+  } ∷ [];
+}
 one_never_came = refl
 
 without_a_trace : mbox_of two ≡ mbox_of never

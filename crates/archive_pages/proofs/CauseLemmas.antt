@@ -203,7 +203,8 @@ module _ {S : Type 0} (g : Ghosts S) where
       by_store faults.TooLarge none counts why = absurd (cc)
 
       pub desk_unfound : (fault : DeskFault) → fault ≢ desk.NoList → IsAskFault fault → (IsWanting fault → WasRefused old new) → (IsBroken fault → HasCause g old new Unread)
-          → MatchOption (reason fault) (GoesHeldIfOpen g old new (λ a b. b ≡ a)) (λ why. GoesHeld g old new (λ a b. (b ≡ a) × (ask_reason a ask ≡ Some why))) → HasServeCause g old new (IsUnreadBy Unread ask.reader)
+          → MatchOption (reason fault) (GoesHeldIfOpen g old new (λ a b. b ≡ a)) (λ why. GoesHeld g old new (λ a b. (b ≡ a) × (ask_reason a ask ≡ Some why)))
+          → HasServeCause g old new (IsUnreadBy Unread ask.reader)
       desk_unfound desk.NoList other kind counts why asks = absurd (other refl)
       desk_unfound desk.NoPerson other kind counts why asks = unasked asks
       desk_unfound desk.NotInView other kind counts why asks = absurd kind

@@ -1,5 +1,6 @@
 -- What the answers of the desk say of a reply.
-use Rattle.std.proofs.Common.{◌≡◌, ◌∙◌, ◌<◌, ◌++◌, ◌-◌, ◌^◌, inl, inr, ℕ, List, [], ◌∷◌, Bool, true, false, not, cond, min, Option, Some, None, Result, Ok, Err, MatchOption, length, refl, sym, ap, subst, codes, arith, append-nil}
+use Rattle.std.proofs.Common.{◌≡◌, ◌∙◌, ◌<◌, ◌++◌, ◌-◌, ◌^◌, inl, inr, ℕ, List, [], ◌∷◌, Bool, true, false, not, cond, min, Option, Some}
+use Rattle.std.proofs.Common.{None, Result, Ok, Err, MatchOption, length, refl, sym, ap, subst, codes, arith, append-nil}
 use Rattle.std.specs.Prelude.{option_map, if◌then◌else◌}
 use Rattle.std.specs.Option.{option_map_or}
 use Rattle.std.specs.Fmt.{digits}
@@ -91,7 +92,8 @@ module _ {S : Type 0} (g : Ghosts S) (old new : Store S) (ask : Ask) (before aft
 
   pub exported_part : (count : ℕ) → GoesHeld g old new (λ a b. (b ≡ a) × IsExportRefused (ask_reason a ask) before after (mbox_head ++ exported a ask) count not_written)
       → (HasReturned g new → IsOpen g old) → Serves g old new (MboxReply ask) before after (Err (Write count))
-  exported_part count goes up = served_open (Err (Write count)) up (inl (goes_in_as g (HoldsTables g) old new (λ a b. (b ≡ a) × IsExportRefused (ask_reason a ask) before after (mbox_head ++ exported a ask) count not_written)
+  exported_part count goes up = served_open (Err (Write count)) up (inl (goes_in_as g (HoldsTables g) old new
+      (λ a b. (b ≡ a) × IsExportRefused (ask_reason a ask) before after (mbox_head ++ exported a ask) count not_written)
       (λ a b. (b ≡ a) × Sends (MboxReply ask a) before after (Err (Write count)))
       (λ a b h. (
         h.0,

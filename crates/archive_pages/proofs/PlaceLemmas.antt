@@ -97,7 +97,8 @@ module _ (a : Archive) (ask : Ask) (outline : Outline) (list : List ℕ) (lines 
       ap page_reply (made ∙ (ap (λ l. author_page l key lines) same_list ∙ ap (λ ls. author_page ask.list key ls) (same_lines ∙ ap (λ (x : Outline). x.lines) of)))
 
 module _ (ask : Ask) where
-  none_by : (b : Bool) (x : Option (List TreeLine)) → None ≡ option_map (flat_map (tree_row ask.list)) x → not_found ≡ option_map_or (λ trees. page_reply (thread_page ask.list trees)) (cond b x None) not_found
+  none_by : (b : Bool) (x : Option (List TreeLine)) → None ≡ option_map (flat_map (tree_row ask.list)) x → not_found ≡ option_map_or (λ trees. page_reply (thread_page ask.list trees))
+      (cond b x None) not_found
   none_by true None is = refl
   none_by true (Some trees) is = absurd (cc)
   none_by false x is = refl

@@ -126,9 +126,11 @@ matched_by : (path : List ℕ) (found : Option Entry) (route : Option Route) →
 matched_by _ _ _ (is_none path) u r e = absurd (none_some r e)
 matched_by _ _ _ is_root u r e = subst (λ x. Matched x (codes "/") (Some lists)) (same_some root_row r e) (tt, refl)
 matched_by _ _ _ (is_threads d list h) u r e = subst (λ x. Matched x (below d list (codes "threads")) (Some (threads (d ∷ list)))) (same_some threads_row r e)
-    (one_part threads_row (below d list (codes "threads")) (d ∷ list) threads (list_walk (codes "threads") (codes "/l/{list}/threads") (4, 8) [] d list (codes "threads") h) (λ p o x. x) (list_utf8 d list (codes "threads") u).0)
+    (one_part threads_row (below d list (codes "threads")) (d ∷ list) threads (list_walk (codes "threads") (codes "/l/{list}/threads") (4, 8) [] d list (codes "threads") h)
+    (λ p o x. x) (list_utf8 d list (codes "threads") u).0)
 matched_by _ _ _ (is_mbox d list h) u r e = subst (λ x. Matched x (below d list (codes "mbox")) (Some (mbox (d ∷ list)))) (same_some mbox_row r e)
-    (one_part mbox_row (below d list (codes "mbox")) (d ∷ list) mbox (list_walk (codes "mbox") (codes "/l/{list}/mbox") (4, 8) [] d list (codes "mbox") h) (λ p o x. x) (list_utf8 d list (codes "mbox") u).0)
+    (one_part mbox_row (below d list (codes "mbox")) (d ∷ list) mbox (list_walk (codes "mbox") (codes "/l/{list}/mbox") (4, 8) [] d list (codes "mbox") h)
+    (λ p o x. x) (list_utf8 d list (codes "mbox") u).0)
 matched_by _ _ _ (is_message d list x key h g) u r e = subst (λ y. Matched y (below d list (codes "m/" ++ x ∷ key)) (Some (message (d ∷ list) (x ∷ key)))) (same_some m_row r e)
     (let us = list_utf8 d list (codes "m/" ++ x ∷ key) u in
     two_parts m_row (below d list (codes "m/" ++ x ∷ key)) (codes "list") (codes "key") (d ∷ list) (x ∷ key) message
@@ -137,7 +139,8 @@ matched_by _ _ _ (is_message d list x key h g) u r e = subst (λ y. Matched y (b
 matched_by _ _ _ (is_month d list x key h g) u r e = subst (λ y. Matched y (below d list (codes "month/" ++ x ∷ key)) (Some (month (d ∷ list) (x ∷ key)))) (same_some month_row r e)
     (let us = list_utf8 d list (codes "month/" ++ x ∷ key) u in
     two_parts month_row (below d list (codes "month/" ++ x ∷ key)) (codes "list") (codes "month") (d ∷ list) (x ∷ key) month
-    (two_walk (codes "month/") (codes "/l/{list}/month/{month}") (4, 8) (17, 22) d list (x ∷ key) h (omega arith, (omega arith, (omega arith, (omega arith, (omega arith, (omega arith, tt)))))) (λ p at. refl)) (λ p o y. y) refl refl
+    (two_walk (codes "month/") (codes "/l/{list}/month/{month}") (4, 8) (17, 22) d list (x ∷ key) h
+    (omega arith, (omega arith, (omega arith, (omega arith, (omega arith, (omega arith, tt)))))) (λ p at. refl)) (λ p o y. y) refl refl
     text_list us.0 text_month (cut_utf8 (codes "month") (x ∷ key) us.1).1)
 matched_by _ _ _ (is_thread d list x key h g) u r e = subst (λ y. Matched y (below d list (codes "t/" ++ x ∷ key)) (Some (thread (d ∷ list) (x ∷ key)))) (same_some t_row r e)
     (let us = list_utf8 d list (codes "t/" ++ x ∷ key) u in

@@ -154,7 +154,8 @@ module _ {K : Type 0} (k_by k_m k_mbox k_month k_t k_threads k_root : K) where
             (parameter k_m (below d list (109 ∷ 47 ∷ q)) (λ p. message (d ∷ list) p) (λ ws. list_route (d ∷ list) (codes "m" ∷ ws)) (λ p. refl) (λ p x xs. refl) q (cut q) bytes
             (λ x key is g. rw is (is_message d list x key h g)))
         by false a false b true c e e' = subst (Parted q) (sym ((bytes_eq-Decides w (codes "month")).0 c))
-            (parameter k_month (below d list (109 ∷ 111 ∷ 110 ∷ 116 ∷ 104 ∷ 47 ∷ q)) (λ p. month (d ∷ list) p) (λ ws. list_route (d ∷ list) (codes "month" ∷ ws)) (λ p. refl) (λ p x xs. refl) q (cut q) bytes
+            (parameter k_month (below d list (109 ∷ 111 ∷ 110 ∷ 116 ∷ 104 ∷ 47 ∷ q)) (λ p. month (d ∷ list) p) (λ ws. list_route (d ∷ list) (codes "month" ∷ ws))
+            (λ p. refl) (λ p x xs. refl) q (cut q) bytes
             (λ x key is g. rw is (is_month d list x key h g)))
         by false a false b false c true e = subst (Parted q) (sym ((bytes_eq-Decides w (codes "t")).0 e))
             (parameter k_t (below d list (116 ∷ 47 ∷ q)) (λ p. thread (d ∷ list) p) (λ ws. list_route (d ∷ list) (codes "t" ∷ ws)) (λ p. refl) (λ p x xs. refl) q (cut q) bytes

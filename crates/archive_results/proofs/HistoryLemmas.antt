@@ -1,5 +1,6 @@
 -- An archive without a message is the archive of all commands but those of that message.
-use Rattle.std.proofs.Common.{◌≡◌, ◌≢◌, ◌≤◌, ◌∙◌, ℕ, ℤ, pos, Bool, true, false, not, ◌&&◌, cond, nat_lt, nat_le, List, [], ◌∷◌, ◌++◌, length, map, filter, Option, Some, None, is_some, refl, sym, ap, ap₂, if◌then◌else◌, arith}
+use Rattle.std.proofs.Common.{◌≡◌, ◌≢◌, ◌≤◌, ◌∙◌, ℕ, ℤ, pos, Bool, true, false, not, ◌&&◌, cond, nat_lt, nat_le, List, [], ◌∷◌, ◌++◌}
+use Rattle.std.proofs.Common.{length, map, filter, Option, Some, None, is_some, refl, sym, ap, ap₂, if◌then◌else◌, arith}
 use Rattle.std.specs.Prelude.{⊤, bytes_eq, find, int_lt, zip}
 use Rattle.std.specs.List.{All}
 use Rattle.std.proofs.lemmas.Bool.{true≢false}
@@ -10,7 +11,8 @@ use Rattle.std.proofs.lemmas.Slice.Eq.{bytes_eq-Decides}
 use Rattle.mbox_items.specs.Division.{Item, whole}
 use Rattle.policy_core.specs.Names.{is_name}
 use Rattle.archive_machine.specs.Records.{Message, Filing, Archive}
-use Rattle.archive_machine.specs.Commands.{Command, list_add, person_add, grant, revoke, add, withdraw, restore, embargo, lift, merge_set, address_set, no_list, no_message, already_withdrawn, not_withdrawn, list_full, too_large, Reply, done, was_there, taken_in, already_known, refused}
+use Rattle.archive_machine.specs.Commands.{Command, list_add, person_add, grant, revoke, add, withdraw, restore, embargo, lift, merge_set, address_set, no_list, no_message}
+use Rattle.archive_machine.specs.Commands.{already_withdrawn, not_withdrawn, list_full, too_large, Reply, done, was_there, taken_in, already_known, refused}
 use Rattle.archive_machine.specs.Addresses.{is_address}
 use Rattle.archive_machine.specs.Filing.{Filed, item_filing}
 use Rattle.archive_machine.specs.Keys.{item_key}
@@ -190,9 +192,11 @@ module _ (list key : List ℕ) where
       (few (length (messages_in a l)) (length (messages_in (never a) l)) (fewer (λ m. bytes_eq m.list l) a.messages))
     where
       by_tests : (h s k w : Bool) → w ≡ k → (f g : Bool) → (f ≡ false → g ≡ false)
-          → (if h then refuse a no_list else if s then (a, refused too_large) else if k then (a, already_known) else if f then (a, refused list_full) else (with_message a l item, taken_in)).1 ≢ refused list_full
+          → (if h then refuse a no_list else if s then (a, refused too_large) else if k then (a, already_known) else if f then (a, refused list_full) else
+          (with_message a l item, taken_in)).1 ≢ refused list_full
           → never (if h then refuse a no_list else if s then (a, refused too_large) else if k then (a, already_known) else if f then (a, refused list_full) else (with_message a l item, taken_in)).0
-          ≡ (if h then refuse (never a) no_list else if s then (never a, refused too_large) else if w then (never a, already_known) else if g then (never a, refused list_full) else (with_message (never a) l item, taken_in)).0
+          ≡ (if h then refuse (never a) no_list else if s then (never a, refused too_large) else if w then (never a, already_known) else if g then
+          (never a, refused list_full) else (with_message (never a) l item, taken_in)).0
       by_tests true s k w e f g room full = refl
       by_tests false true k w e f g room full = refl
       by_tests false false true true e f g room full = refl

@@ -21,12 +21,14 @@ entries_of_view (m ∷ ms) = rw (entries_of_view ms) refl
 pub lines_are : (view : List Message) (headers : List Header) (lines : List Line) → IsIndexOf view headers → lines ≡ lines_in headers → lines ≡ lines_of (map shown_of view)
 lines_are view headers lines e h = h ∙ ap lines_in e ∙ lines_of_view view
 
-pub rows_are : (merge : Bool) (view : List Message) (headers : List Header) (entries : List Entry) (rows : List Row) → IsIndexOf view headers → entries ≡ entries_in headers → rows ≡ threads_of entries merge → rows ≡ rows_of merge (map shown_of view)
+pub rows_are : (merge : Bool) (view : List Message) (headers : List Header) (entries : List Entry) (rows : List Row) → IsIndexOf view headers → entries ≡ entries_in headers
+    → rows ≡ threads_of entries merge → rows ≡ rows_of merge (map shown_of view)
 rows_are merge view headers entries rows e h r = r ∙ ap (λ (es : List Entry). threads_of es merge) (h ∙ ap entries_in e ∙ entries_of_view view)
 
 -- ---- threads
 
-pub trees_are : (merge : Bool) (view : List Message) (lines : List Line) (rows : List Row) (shown : List TreeLine) → lines ≡ lines_of (map shown_of view) → rows ≡ rows_of merge (map shown_of view) → shown ≡ map (tree_line lines) rows
+pub trees_are : (merge : Bool) (view : List Message) (lines : List Line) (rows : List Row) (shown : List TreeLine) → lines ≡ lines_of (map shown_of view)
+    → rows ≡ rows_of merge (map shown_of view) → shown ≡ map (tree_line lines) rows
     → shown ≡ tree_lines merge (map shown_of view)
 trees_are merge view lines rows shown l r s = s ∙ ap (map (tree_line lines)) r ∙ ap (λ (ls : List Line). map (tree_line ls) (rows_of merge (map shown_of view))) l
 
@@ -37,9 +39,11 @@ thread_by_parts : (merge : Bool) (key : List ℕ) (view : List Message) (lines :
     → thread_from key lines rows ≡ thread_lines merge key (map shown_of view)
 thread_by_parts merge key view lines rows l r = ap (λ (ls : List Line). thread_from key ls rows) l ∙ ap (thread_from key (lines_of (map shown_of view))) r
 
-pub no_place : (merge : Bool) (key : List ℕ) (view : List Message) (lines : List Line) → lines ≡ lines_of (map shown_of view) → None ≡ place_of key lines → None ≡ thread_lines merge key (map shown_of view)
+pub no_place : (merge : Bool) (key : List ℕ) (view : List Message) (lines : List Line) → lines ≡ lines_of (map shown_of view) → None ≡ place_of key lines
+    → None ≡ thread_lines merge key (map shown_of view)
 no_place merge key view lines l p =
-    ap (λ (place : Option ℕ). option_map (λ range. map (tree_line lines) (within range (rows_of merge (map shown_of view)))) (option_and_then (top_thread_of (rows_of merge (map shown_of view))) place)) p
+    ap (λ (place : Option ℕ). option_map (λ range. map (tree_line lines) (within range (rows_of merge (map shown_of view))))
+    (option_and_then (top_thread_of (rows_of merge (map shown_of view))) place)) p
     ∙ thread_by_parts merge key view lines (rows_of merge (map shown_of view)) l refl
 
 pub no_thread : (merge : Bool) (key : List ℕ) (view : List Message) (lines : List Line) (rows : List Row) (place : ℕ) → lines ≡ lines_of (map shown_of view) → rows ≡ rows_of merge (map shown_of view)
@@ -48,7 +52,8 @@ no_thread merge key view lines rows place l r p t =
     ap (option_map (λ range. map (tree_line lines) (within range rows))) (t ∙ ap (option_and_then (top_thread_of rows)) p)
     ∙ thread_by_parts merge key view lines rows l r
 
-pub one_thread : (merge : Bool) (key : List ℕ) (view : List Message) (lines : List Line) (rows part : List Row) (place : ℕ) (range : ℕ × ℕ) (shown : List TreeLine) → lines ≡ lines_of (map shown_of view) → rows ≡ rows_of merge (map shown_of view)
+pub one_thread : (merge : Bool) (key : List ℕ) (view : List Message) (lines : List Line) (rows part : List Row) (place : ℕ) (range : ℕ × ℕ) (shown : List TreeLine)
+    → lines ≡ lines_of (map shown_of view) → rows ≡ rows_of merge (map shown_of view)
     → Some place ≡ place_of key lines → Some range ≡ top_thread_of rows place → part ≡ within range rows → shown ≡ map (tree_line lines) part → Some shown ≡ thread_lines merge key (map shown_of view)
 one_thread merge key view lines rows part place range shown l r p t w s =
     ap (λ (ts : List TreeLine). Some ts) (s ∙ ap (map (tree_line lines)) w)

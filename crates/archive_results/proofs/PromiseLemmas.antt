@@ -1,5 +1,6 @@
 -- What is withheld leaves no trace in a view, and so neither does what is withdrawn, for those to whom the policy denies it.
-use Rattle.std.proofs.Common.{◌≡◌, ◌≢◌, ◌∙◌, ℕ, ℤ, pos, Bool, true, false, not, cond, nat_lt, nat_le, List, [], ◌∷◌, ◌++◌, length, map, filter, Some, is_some, refl, sym, ap, ap₂, subst, if◌then◌else◌, arith}
+use Rattle.std.proofs.Common.{◌≡◌, ◌≢◌, ◌∙◌, ℕ, ℤ, pos, Bool, true, false, not, cond, nat_lt, nat_le, List, [], ◌∷◌, ◌++◌, length}
+use Rattle.std.proofs.Common.{map, filter, Some, is_some, refl, sym, ap, ap₂, subst, if◌then◌else◌, arith}
 use Rattle.std.specs.Prelude.{bytes_eq, find, slice_index_or, zip}
 use Rattle.std.specs.List.{All}
 use Rattle.std.proofs.lemmas.Bool.{true≢false}
@@ -205,7 +206,8 @@ module _ (list key : List ℕ) (change : Message → Message) (names : (m : Mess
       rest = map (changed list key change) ms
 
       by_key : (b : Bool) → is_message list key m ≡ b → filter (λ n. not (is_message list key n)) rest ≡ filter (λ n. not (is_message list key n)) ms
-          → filter (λ n. not (is_message list key n)) ((if b then change m else m) ∷ rest) ≡ cond (not b) (m ∷ filter (λ n. not (is_message list key n)) ms) (filter (λ n. not (is_message list key n)) ms)
+          → filter (λ n. not (is_message list key n)) ((if b then change m else m) ∷ rest) ≡ cond (not b) (m ∷ filter (λ n. not (is_message list key n)) ms)
+          (filter (λ n. not (is_message list key n)) ms)
       by_key true is later = rw (names m ∙ is) later
       by_key false is later = rw is (ap (λ (ns : List Message). m ∷ ns) later)
 

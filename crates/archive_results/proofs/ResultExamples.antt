@@ -48,17 +48,20 @@ unfolding lines is_empty_line content fields_of header_blocks unfolded tokens_of
 in_march = ap (λ (m : ℕ). m == 24038) (month_is 24038 (day_of_instant (line_of hello).sent) (omega arith) refl)
 
 in_february : is_of_month 24037 (line_of late) ≡ true
-unfolding lines is_empty_line content fields_of header_blocks unfolded tokens_of tokens_from token_at kind_of date_at month_of time_at second_at signed_zone_at hours_west days_before_year days_of_months
+unfolding lines is_empty_line content fields_of header_blocks unfolded tokens_of tokens_from token_at kind_of date_at month_of time_at second_at signed_zone_at
+    hours_west days_before_year days_of_months
 in_february = ap (λ (m : ℕ). m == 24037) (month_is 24037 (day_of_instant (line_of late).sent) (omega arith) refl)
 
 not_when_it_came : is_of_month 24038 (line_of late) ≡ false
-unfolding lines is_empty_line content fields_of header_blocks unfolded tokens_of tokens_from token_at kind_of date_at month_of time_at second_at signed_zone_at hours_west days_before_year days_of_months
+unfolding lines is_empty_line content fields_of header_blocks unfolded tokens_of tokens_from token_at kind_of date_at month_of time_at second_at signed_zone_at
+    hours_west days_before_year days_of_months
 not_when_it_came = ap (λ (m : ℕ). m == 24038) (month_is 24037 (day_of_instant (line_of late).sent) (omega arith) refl)
 
 -- ---- authors, in lower case
 
 by_anna : keys (author_lines (codes "anna@example.org") (hello ∷ re_hello ∷ late ∷ [])) ≡ codes "k3" ∷ codes "k1" ∷ []
-unfolding lines is_empty_line content fields_of header_blocks unfolded tokens_of tokens_from token_at kind_of date_at month_of time_at second_at signed_zone_at hours_west days_before_year days_of_months
+unfolding lines is_empty_line content fields_of header_blocks unfolded tokens_of tokens_from token_at kind_of date_at month_of time_at second_at signed_zone_at
+    hours_west days_before_year days_of_months
 by_anna = refl
 
 case_counts_in_the_question : author_lines (codes "Anna@example.org") (hello ∷ re_hello ∷ []) ≡ []
@@ -82,12 +85,14 @@ in_order = refl
 -- ---- threads
 
 a_thread : tree (tree_lines true (hello ∷ re_hello ∷ [])) ≡ (0, Some (codes "k1")) ∷ (1, Some (codes "k2")) ∷ []
-unfolding lines is_empty_line content fields_of header_blocks unfolded tokens_of tokens_from token_at kind_of date_at ids_from rest_within spaced next_of without_trailer after after_closing without_leader after_leader after_refwd without_blob without_pair after_spaces without_front
+unfolding lines is_empty_line content fields_of header_blocks unfolded tokens_of tokens_from token_at kind_of date_at ids_from rest_within spaced next_of
+    without_trailer after after_closing without_leader after_leader after_refwd without_blob without_pair after_spaces without_front
 a_thread = refl
 
 -- a reply of the same subject that names no message stands for itself where threads are not gathered
 not_gathered : tree (tree_lines false (hello ∷ re_hello ∷ [])) ≡ (0, Some (codes "k1")) ∷ (0, Some (codes "k2")) ∷ []
-unfolding lines is_empty_line content fields_of header_blocks unfolded tokens_of tokens_from token_at kind_of date_at ids_from rest_within spaced next_of without_trailer after after_closing without_leader after_leader after_refwd without_blob without_pair after_spaces without_front
+unfolding lines is_empty_line content fields_of header_blocks unfolded tokens_of tokens_from token_at kind_of date_at ids_from rest_within spaced next_of
+    without_trailer after after_closing without_leader after_leader after_refwd without_blob without_pair after_spaces without_front
 not_gathered = refl
 
 no_threads : tree_lines true [] ≡ []
@@ -98,24 +103,31 @@ reply_to_missing key arrival = message key arrival (codes "In-Reply-To: <p@q>\n\
 
 -- one reply to a message that is missing or withheld, and two
 one_reply : tree (tree_lines true (reply_to_missing (codes "a") (pos 5) ∷ [])) ≡ (0, Some (codes "a")) ∷ []
-unfolding lines is_empty_line content fields_of header_blocks unfolded tokens_of tokens_from token_at kind_of date_at ids_from next_piece id_at sides_of right_from is_left is_right closing_rest comment_mark after_quote quote_mark unquoted rest_within spaced next_of without_trailer after after_closing without_leader after_leader after_refwd without_blob without_pair after_spaces without_front
+unfolding lines is_empty_line content fields_of header_blocks unfolded tokens_of tokens_from token_at kind_of date_at ids_from next_piece id_at sides_of right_from
+    is_left is_right closing_rest comment_mark after_quote quote_mark unquoted rest_within spaced next_of without_trailer after after_closing without_leader
+    after_leader after_refwd without_blob without_pair after_spaces without_front
 one_reply = refl
 
 two_replies : tree (tree_lines true (reply_to_missing (codes "a") (pos 5) ∷ reply_to_missing (codes "b") (pos 4) ∷ [])) ≡ (0, None) ∷ (1, Some (codes "b")) ∷ (1, Some (codes "a")) ∷ []
-unfolding lines is_empty_line content fields_of header_blocks unfolded tokens_of tokens_from token_at kind_of date_at ids_from next_piece id_at sides_of right_from is_left is_right closing_rest comment_mark after_quote quote_mark unquoted rest_within spaced next_of without_trailer after after_closing without_leader after_leader after_refwd without_blob without_pair after_spaces without_front
+unfolding lines is_empty_line content fields_of header_blocks unfolded tokens_of tokens_from token_at kind_of date_at ids_from next_piece id_at sides_of right_from
+    is_left is_right closing_rest comment_mark after_quote quote_mark unquoted rest_within spaced next_of without_trailer after after_closing without_leader
+    after_leader after_refwd without_blob without_pair after_spaces without_front
 two_replies = refl
 
 -- the thread of a message is that of its top alone
 of_the_reply : option_map tree (thread_lines true (codes "k2") (message (codes "k4") (pos 5) [] ∷ hello ∷ re_hello ∷ [])) ≡ Some ((0, Some (codes "k1")) ∷ (1, Some (codes "k2")) ∷ [])
-unfolding lines is_empty_line content fields_of header_blocks unfolded tokens_of tokens_from token_at kind_of date_at ids_from rest_within spaced next_of without_trailer after after_closing without_leader after_leader after_refwd without_blob without_pair after_spaces without_front
+unfolding lines is_empty_line content fields_of header_blocks unfolded tokens_of tokens_from token_at kind_of date_at ids_from rest_within spaced next_of
+    without_trailer after after_closing without_leader after_leader after_refwd without_blob without_pair after_spaces without_front
 of_the_reply = refl
 
 of_the_other : option_map tree (thread_lines true (codes "k4") (message (codes "k4") (pos 5) [] ∷ hello ∷ re_hello ∷ [])) ≡ Some ((0, Some (codes "k4")) ∷ [])
-unfolding lines is_empty_line content fields_of header_blocks unfolded tokens_of tokens_from token_at kind_of date_at ids_from rest_within spaced next_of without_trailer after after_closing without_leader after_leader after_refwd without_blob without_pair after_spaces without_front
+unfolding lines is_empty_line content fields_of header_blocks unfolded tokens_of tokens_from token_at kind_of date_at ids_from rest_within spaced next_of
+    without_trailer after after_closing without_leader after_leader after_refwd without_blob without_pair after_spaces without_front
 of_the_other = refl
 
 of_a_key_that_is_not_there : thread_lines true (codes "k9") (hello ∷ []) ≡ None
-unfolding lines is_empty_line content fields_of header_blocks unfolded tokens_of tokens_from token_at kind_of date_at ids_from rest_within spaced next_of without_trailer after after_closing without_leader after_leader after_refwd without_blob without_pair after_spaces without_front
+unfolding lines is_empty_line content fields_of header_blocks unfolded tokens_of tokens_from token_at kind_of date_at ids_from rest_within spaced next_of
+    without_trailer after after_closing without_leader after_leader after_refwd without_blob without_pair after_spaces without_front
 of_a_key_that_is_not_there = refl
 
 -- ---- mbox: the sender and the arrival, the text, and an empty line

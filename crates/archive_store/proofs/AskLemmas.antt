@@ -26,6 +26,7 @@ module _ {S A : Type 0} {g : Ghosts S} {old new : Held S} where
       → Changes (state g old) (state g new) change
   written writes clean kept = writes.over clean None kept tt
 
-  pub unwritten : {e : Error} {Needs : Archive → Type 0} {change : Archive → Archive} {statement : Statement} → (let r : Result A Error = Err e in Writes g old new r Needs change statement) → HasCleanDisk (state g new) → IsKept (state g old)
+  pub unwritten : {e : Error} {Needs : Archive → Type 0} {change : Archive → Archive} {statement : Statement}
+      → (let r : Result A Error = Err e in Writes g old new r Needs change statement) → HasCleanDisk (state g new) → IsKept (state g old)
       → Rests (state g old) (state g new)
   unwritten writes clean kept = writes.over clean None kept

@@ -8,7 +8,9 @@ use Rattle.sqlite.specs.Effect.{Database}
 use Rattle.sqlite.specs.Store.{Ghosts}
 use Rattle.sqlite.specs.Held.{state}
 use Rattle.archive_machine.specs.Records.{Archive, Message}
-use Rattle.archive_machine.specs.Commands.{Command, list_add, person_add, grant, revoke, add, withdraw, restore, embargo, lift, merge_set, address_set, Refusal, bad_name, bad_text, list_exists, no_list, person_exists, no_person, token_taken, no_message, already_withdrawn, not_withdrawn, bad_days, list_full, too_large, Reply, refused, taken_in, already_known}
+use Rattle.archive_machine.specs.Commands.{Command, list_add, person_add, grant, revoke, add, withdraw, restore, embargo, lift, merge_set, address_set, Refusal, bad_name, bad_text}
+use Rattle.archive_machine.specs.Commands.{list_exists, no_list, person_exists, no_person, token_taken, no_message, already_withdrawn, not_withdrawn, bad_days, list_full, too_large}
+use Rattle.archive_machine.specs.Commands.{Reply, refused, taken_in, already_known}
 use Rattle.archive_machine.specs.Machine.{Outcome, Test, when, nothing, found_within, tests_of, changed_by, reply_to, unless_so, longest_text, step_within}
 use Rattle.archive_machine.specs.declared.found.Found.{Found}
 use Rattle.archive_machine.specs.Addresses.{is_address}
@@ -146,7 +148,8 @@ unknown false false false full is = refl
 
 -- and one of which it is told that it is known was found
 is_known : (unlisted large known full : Bool)
-    → (if unlisted then Some (refused no_list) else if large then Some (refused too_large) else if known then Some already_known else if full then Some (refused list_full) else None) ≡ Some already_known
+    → (if unlisted then Some (refused no_list) else if large then Some (refused too_large) else if known then Some already_known else if full then Some (refused list_full) else None)
+    ≡ Some already_known
     → (if known then already_known else taken_in) ≡ already_known
 is_known true large known full is = absurd cc
 is_known false true known full is = absurd cc
@@ -565,7 +568,12 @@ module _ {S : Type 0} (g : Ghosts S) where
 -- ---- what is found
 
 -- of a message
-pub message_found : (list : Bool) (o : Option Message) → found_marks list (option_map marks_of o) ≡ record nothing { list = list; message = is_some o; withdrawn = is_withdrawn o; embargo = is_embargoed o }
+pub message_found : (list : Bool) (o : Option Message) → found_marks list (option_map marks_of o) ≡ record nothing {
+  list = list;
+  message = is_some o;
+  withdrawn = is_withdrawn o;
+  embargo = is_embargoed o;
+}
 message_found list None = refl
 message_found list (Some m) = refl
 

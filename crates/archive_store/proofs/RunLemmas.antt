@@ -1,5 +1,6 @@
 -- Commands that are carried out one after the other.
-use Rattle.std.proofs.Common.{◌≡◌, ◌⊎◌, ℕ, ◌+◌, ◌<◌, suc, true, List, [], ◌∷◌, ◌++◌, length, get_or, take, drop, map, length-take-le, take-append-drop, drop-cons, refl, ap, sym, subst, arith, ◌∙◌, Option, Some, None, Result, Ok, Err, IfErr}
+use Rattle.std.proofs.Common.{◌≡◌, ◌⊎◌, ℕ, ◌+◌, ◌<◌, suc, true, List, [], ◌∷◌, ◌++◌, length, get_or, take, drop, map, length-take-le}
+use Rattle.std.proofs.Common.{take-append-drop, drop-cons, refl, ap, sym, subst, arith, ◌∙◌, Option, Some, None, Result, Ok, Err, IfErr}
 use Rattle.std.specs.Prelude.{IsTrue, is_some}
 use Rattle.std.proofs.lemmas.List.{length-map, map-append, map_more, take-map}
 use Rattle.sqlite.specs.Effect.{Database}

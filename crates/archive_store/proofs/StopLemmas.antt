@@ -1,5 +1,6 @@
 -- Messages that are added one after the other: what they make of the rows, and which of them the rows refuse.
-use Rattle.std.proofs.Common.{◌≡◌, ◌≤◌, ◌<◌, ◌⊎◌, ◌∙◌, ◌+◌, ◌-◌, ℕ, suc, inl, inr, List, [], ◌∷◌, ◌++◌, length, get_or, take, drop, None, Result, Ok, Err, IfErr, refl, sym, ap, subst, arith, take-suc, drop-cons, take-append-drop, get_or-drop}
+use Rattle.std.proofs.Common.{◌≡◌, ◌≤◌, ◌<◌, ◌⊎◌, ◌∙◌, ◌+◌, ◌-◌, ℕ, suc, inl, inr, List, [], ◌∷◌, ◌++◌, length, get_or, take, drop, None, Result}
+use Rattle.std.proofs.Common.{Ok, Err, IfErr, refl, sym, ap, subst, arith, take-suc, drop-cons, take-append-drop, get_or-drop}
 use Rattle.std.specs.Prelude.{IsErrAnd, IsTrue, OnOk, MatchResult}
 use Rattle.sqlite_disk.specs.Disk.{MoreFaults}
 use Rattle.sqlite.specs.declared.error.Error.{Error}
@@ -67,7 +68,8 @@ pub no_rows : (list : List ℕ) (db : Database) → MakeRows list [] db db
 unfolding MakeRows
 no_rows list db = refl
 
-module _ (list : List ℕ) (items : List Item) (i : ℕ) (item : Item) (within : i < length items) (is : item ≡ get_or items i item) (first mid : Database) (made : MakeRows list (take i items) first mid) where
+module _ (list : List ℕ) (items : List Item) (i : ℕ) (item : Item) (within : i < length items) (is : item ≡ get_or items i item) (first mid : Database)
+    (made : MakeRows list (take i items) first mid) where
   one_more : take (i + 1) items ≡ take i items ++ item ∷ []
   one_more =
       let on : i + 1 ≡ suc i = omega arith in

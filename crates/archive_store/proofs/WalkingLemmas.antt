@@ -1,5 +1,6 @@
 -- Walks over the messages of a list.
-use Rattle.std.proofs.Common.{arith, zero, suc, ◌≡◌, ℕ, ℤ, ◌+◌, ◌<◌, ◌≤◌, true, List, [], ◌∷◌, ◌++◌, length, get_or, drop, map, bytes_eq, refl, ap, sym, subst, append_assoc, ◌∙◌, Option, Some, None, Result, Ok, Err, IfErr, ◌⊎◌, inl, inr}
+use Rattle.std.proofs.Common.{arith, zero, suc, ◌≡◌, ℕ, ℤ, ◌+◌, ◌<◌, ◌≤◌, true, List, [], ◌∷◌, ◌++◌, length, get_or, drop, map, bytes_eq, refl}
+use Rattle.std.proofs.Common.{ap, sym, subst, append_assoc, ◌∙◌, Option, Some, None, Result, Ok, Err, IfErr, ◌⊎◌, inl, inr}
 use Rattle.std.specs.Prelude.{option_map, slice_get, Vec, ◌&&◌, Bool, false, filter}
 use Rattle.std.specs.declared.alloc.Global.{Global}
 use Rattle.std.proofs.lemmas.Option.{slice_get_cases, slice_get_within, get_or_from_slice_get}
@@ -199,7 +200,8 @@ module _ {S : Type 0} (g : Ghosts S) where
 
 module _ {S : Type 0} (g : Ghosts S) (list : List ℕ) (all : List Message) (a : Archive) (given : List Message) where
   -- one message further
-  pub further : (old : Walk S) (new : Store S) (where_at : ℕ) (left : List ℤ) (d : ℤ) (m : Given) → WalksOver g list all a given old → old.walk.at < length old.walk.places.items → left ≡ old.walk.places.items → where_at ≡ old.walk.at + 1
+  pub further : (old : Walk S) (new : Store S) (where_at : ℕ) (left : List ℤ) (d : ℤ) (m : Given) → WalksOver g list all a given old → old.walk.at < length old.walk.places.items
+      → left ≡ old.walk.places.items → where_at ≡ old.walk.at + 1
       → now_in g new ≡ now_in g old.store → HoldsTables g new
       → (it : Message) × (message_at (rows_of g old.store) (get_or old.walk.places.items old.walk.at d) ≡ Some it) × (remembered it.list m ≡ it)
       → WalksOn g list all a (given ++ remembered list m ∷ []) (held_of new) (drop where_at left)
@@ -221,7 +223,8 @@ module _ {S : Type 0} (g : Ghosts S) (list : List ℕ) (all : List Message) (a :
       }
 
   -- the walk is where it was, and these are the marks of the message that is next
-  pub seen_next : (old : Walk S) (new : Store S) (where_at : ℕ) (left : List ℤ) (d : ℤ) (marks : DatedMarks) → WalksOver g list all a given old → old.walk.at < length old.walk.places.items → left ≡ old.walk.places.items
+  pub seen_next : (old : Walk S) (new : Store S) (where_at : ℕ) (left : List ℤ) (d : ℤ) (marks : DatedMarks) → WalksOver g list all a given old
+      → old.walk.at < length old.walk.places.items → left ≡ old.walk.places.items
       → where_at ≡ old.walk.at → now_in g new ≡ now_in g old.store → HoldsTables g new
       → (it : Message) × (message_at (rows_of g old.store) (get_or old.walk.places.items old.walk.at d) ≡ Some it) × AreMarksOf marks it
       → WalksOn g list all a given (held_of new) (drop where_at left) × ((next : Message) × (rest : List Message) × (given ++ next ∷ rest ≡ all) × AreMarksOf marks next)

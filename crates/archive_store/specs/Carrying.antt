@@ -5,7 +5,8 @@ use Rattle.sqlite.specs.Effect.{Database}
 use Rattle.sqlite.specs.Store.{Ghosts}
 use Rattle.sqlite.specs.Held.{state}
 use Rattle.archive_machine.specs.Records.{Archive}
-use Rattle.archive_machine.specs.Commands.{Command as Told, list_add, merge_set, person_add, address_set, grant, revoke, add, withdraw, restore, embargo, lift, Refusal, Reply, refused, taken_in, already_known}
+use Rattle.archive_machine.specs.Commands.{Command as Told, list_add, merge_set, person_add, address_set, grant, revoke, add, withdraw}
+use Rattle.archive_machine.specs.Commands.{restore, embargo, lift, Refusal, Reply, refused, taken_in, already_known}
 use Rattle.archive_machine.specs.Machine.{Test, nothing, found_within, tests_of, changed_by, reply_to, message_limit, step_within}
 use Rattle.archive_machine.specs.declared.found.Found.{Found}
 use Rattle.archive_tables.specs.Calls.{Changes, Rests, StaysOver}

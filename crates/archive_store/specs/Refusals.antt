@@ -4,12 +4,14 @@ use Rattle.mbox_items.specs.Division.{Item}
 use Rattle.sqlite.specs.Effect.{Database}
 use Rattle.archive_machine.specs.Records.{Archive, Grant, Address}
 use Rattle.archive_machine.specs.Addresses.{kept_address}
-use Rattle.archive_machine.specs.Commands.{Command, list_add, person_add, grant, revoke, add, withdraw, restore, embargo, lift, merge_set, address_set, Reply, taken_in, already_known, refused as refused_by}
+use Rattle.archive_machine.specs.Commands.{Command, list_add, person_add, grant, revoke, add, withdraw, restore, embargo, lift}
+use Rattle.archive_machine.specs.Commands.{merge_set, address_set, Reply, taken_in, already_known, refused as refused_by}
 use Rattle.archive_machine.specs.Keys.{item_key}
 use Rattle.archive_machine.specs.Questions.{has_grant, has_address}
 use Rattle.archive_machine.specs.Machine.{Outcome, added_within, message_limit, step_within}
 use Rattle.archive_tables.specs.Tables.{archive_in}
-use Rattle.archive_tables.specs.Statements.{Statement, adding_person, changing_grant, adding_grant, removing_grant, withdrawing, holding_back, freeing, changing_option, changing_address, adding_address, IsRefused, IsCarriedOut}
+use Rattle.archive_tables.specs.Statements.{Statement, adding_person, changing_grant, adding_grant, removing_grant, withdrawing, holding_back}
+use Rattle.archive_tables.specs.Statements.{freeing, changing_option, changing_address, adding_address, IsRefused, IsCarriedOut}
 use Rattle.archive_database.specs.Lists.{IsListRefused}
 use Rattle.archive_database.specs.Taking.{taking_in}
 

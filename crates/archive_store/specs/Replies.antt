@@ -7,7 +7,8 @@ use Rattle.sqlite.specs.declared.error.ErrorCode.TheVariants.{OutOfMemory}
 use Rattle.sqlite.specs.Held.{Held, state}
 use Rattle.sqlite.specs.State.{State, HasCleanDisk}
 use Rattle.archive_machine.specs.Records.{Archive}
-use Rattle.archive_machine.specs.Commands.{Refusal, bad_name, bad_text, list_exists, no_list, person_exists, no_person, token_taken, no_message, already_withdrawn, not_withdrawn, bad_days, list_full, too_large, Reply, done, was_there, refused}
+use Rattle.archive_machine.specs.Commands.{Refusal, bad_name, bad_text, list_exists, no_list, person_exists, no_person, token_taken, no_message}
+use Rattle.archive_machine.specs.Commands.{already_withdrawn, not_withdrawn, bad_days, list_full, too_large, Reply, done, was_there, refused}
 use Rattle.archive_machine.specs.Machine.{Outcome}
 use Rattle.archive_tables.specs.Tables.{IsKept, archive_of}
 use Rattle.archive_tables.specs.Calls.{Rests}
@@ -16,7 +17,8 @@ use Rattle.archive_database.specs.declared.faults.Fault.TheVariants.{Memory as N
 use Rattle.archive_store.specs.declared.words.Added.{Added}
 use Rattle.archive_store.specs.Words.{added_reply}
 use Rattle.archive_store.specs.declared.faults.StoreFault.{StoreFault}
-use Rattle.archive_store.specs.declared.faults.StoreFault.TheVariants.{BadName, BadText, ListExists, NoList, PersonExists, NoPerson, TokenTaken, NoMessage, AlreadyWithdrawn, NotWithdrawn, BadDays, ListFull, TooLarge, Memory, Store}
+use Rattle.archive_store.specs.declared.faults.StoreFault.TheVariants.{BadName, BadText, ListExists, NoList, PersonExists, NoPerson, TokenTaken, NoMessage}
+use Rattle.archive_store.specs.declared.faults.StoreFault.TheVariants.{AlreadyWithdrawn, NotWithdrawn, BadDays, ListFull, TooLarge, Memory, Store}
 
 -- none where memory or the database was at fault
 abbrev pub refusal : StoreFault → Option Refusal

@@ -1,5 +1,6 @@
 -- Walks over the messages of a list, one message at a time.
-use Rattle.std.specs.Prelude.{◌≡◌, ◌⊎◌, ◌-◌, ◌≤◌, ℕ, ℤ, true, bytes_eq, List, [], ◌∷◌, ◌++◌, length, drop, map, pos, Option, Some, None, Result, IfOk, IfErr, MatchResult, MatchOption, Vec, ◌<◌, IfSome}
+use Rattle.std.specs.Prelude.{◌≡◌, ◌⊎◌, ◌-◌, ◌≤◌, ℕ, ℤ, true, bytes_eq, List, [], ◌∷◌, ◌++◌, length, drop, map, pos, Option}
+use Rattle.std.specs.Prelude.{Some, None, Result, IfOk, IfErr, MatchResult, MatchOption, Vec, ◌<◌, IfSome}
 use Rattle.std.specs.declared.alloc.Global.{Global}
 use Rattle.std.specs.List.{All, AllByRecursion}
 use Rattle.std.specs.Option.{IsSomeAnd}

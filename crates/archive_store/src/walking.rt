@@ -9,7 +9,8 @@ ghost use Rattle.archive_machine.specs.Commands.{no_list};
 ghost use Rattle.archive_store.specs.Replies.{RefusedFor};
 ghost use Rattle.archive_store.specs.Told.{EndsAsk, EndsAskOr, EndsUnrefused};
 ghost use Rattle.archive_database.specs.Messages.{IsReadable};
-ghost use Rattle.archive_store.specs.Walking.{GivesNext, GivesAll, StopsNext, StopsAll, ShowsMessage, ShowsMarks, ShowsNext, StopsShowing, FindsPlaces, IsNotBegun, ahead_of, left_of, over, selected_places};
+ghost use Rattle.archive_store.specs.Walking.{GivesNext, GivesAll, StopsNext, StopsAll, ShowsMessage, ShowsMarks, ShowsNext, StopsShowing};
+ghost use Rattle.archive_store.specs.Walking.{FindsPlaces, IsNotBegun, ahead_of, left_of, over, selected_places};
 
 use crate::faults::StoreFault;
 use crate::store::Store;

@@ -198,7 +198,8 @@ module _ (person : List ℕ) where
         → edited db (edit_of db address_table (ids_of given) Given 1 given) ≡ put_row (row_of address_cells (record r { it = said r.it })) (without_rowid r.number (db 15))
     puts db r given from = rw (from, cast_int r.number)
 
-    changes : {behind : Option Database} (old new : State) (count : ℕ) → IsHeld behind old → Executes change_text change_params old new (Ok count) → ChangesOver behind old new (λ a. record a { addresses = map change a.addresses })
+    changes : {behind : Option Database} (old new : State) (count : ℕ) → IsHeld behind old → Executes change_text change_params old new (Ok count)
+        → ChangesOver behind old new (λ a. record a { addresses = map change a.addresses })
     changes old new count k h =
         let params = change_params in
         let query = plain_query 15 of_person changed_cells [] in
@@ -235,7 +236,8 @@ module _ (person : List ℕ) where
     found rows h =
         let params = Text person ∷ [] in
         let picks = asked find_text 15 of_person the_address by_number _ find_is.0 find_plain find_is.1 (λ t. refl) params old new k rows h in (
-          shows 15 of_person the_address params address_cells address_read back (is_address_of person) (is_of_person person []) (λ (a : Address). name_shown a.address) (λ n o. refl) (old.now.trees 15) rows k.tables.addresses picks,
+          shows 15 of_person the_address params address_cells address_read back (is_address_of person) (is_of_person person []) (λ (a : Address). name_shown a.address)
+              (λ n o. refl) (old.now.trees 15) rows k.tables.addresses picks,
           asked_stays find_text 15 of_person the_address by_number _ find_is.0 find_plain find_is.1 (λ t. refl) params old new k rows h,
         )
 

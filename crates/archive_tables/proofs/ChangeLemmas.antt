@@ -205,7 +205,8 @@ module _ {R : Type 0} (cells : R → Row) (read : Row → R) (back : (n : ℤ) (
   rising_left (r ∷ all) up =
       elim (cases_Bool (wanted r.it)) [ inl found ↦ rw found (rising_left all up.1) | inr other ↦ rw other (above_left r.number all up.0, rising_left all up.1) ]
 
-  drop_first : (x : Numbered R) (all : List (Numbered R)) → wanted x.it ≡ true → AreAbove x.number all → filter hit all ≡ [] → without_rowid x.number (rows_of (x ∷ all)) ≡ rows_of (filter left (x ∷ all))
+  drop_first : (x : Numbered R) (all : List (Numbered R)) → wanted x.it ≡ true → AreAbove x.number all → filter hit all ≡ [] → without_rowid x.number
+      (rows_of (x ∷ all)) ≡ rows_of (filter left (x ∷ all))
   drop_first x all found above none = rw (itself x.number, found) (no_number x.number all above ∙ ap rows_of (sym (all_left all none)))
 
   drop_one : (r : Numbered R) (all : List (Numbered R)) → IsTable (rows_of all) → filter hit all ≡ r ∷ [] → without_rowid r.number (rows_of all) ≡ rows_of (filter left all)

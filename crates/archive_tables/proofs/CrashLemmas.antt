@@ -20,7 +20,8 @@ use Rattle.sqlite.specs.Listing.{understood, reads_listing, listing_schema, if_s
 use Rattle.sqlite.specs.Effect.{Database}
 use Rattle.sqlite.specs.Does.{Tally, Does}
 use Rattle.sqlite.specs.declared.run.Mode.{Mode}
-use Rattle.sqlite.specs.State.{State, HasCleanDisk, IsLive, Survives, Writes, Runs, MayWrite, MayCommit, CommitsBy, CommitsShowing, ExecutesIn, Executes, text_of, shows_rows, mode_of, Shown, ShowsRows}
+use Rattle.sqlite.specs.State.{State, HasCleanDisk, IsLive, Survives, Writes, Runs, MayWrite, MayCommit, CommitsBy}
+use Rattle.sqlite.specs.State.{CommitsShowing, ExecutesIn, Executes, text_of, shows_rows, mode_of, Shown, ShowsRows}
 use Rattle.sqlite.proofs.Callers.{IsPlain, command_of}
 use Rattle.archive_machine.specs.Records.{Archive}
 use Rattle.archive_tables.specs.Schema.{archive_schema}
@@ -144,7 +145,8 @@ module _ (s : State) (up : IsTrue s.is_open) where
     last_rowid = refl;
   }
 
-writes_run : (old new : State) (how : Option Returning) (k : Command) (text : List ℕ) (full : Row) (count : ℕ) → WritesRows k → Writes old new how k text full count → Runs old new how k text full count
+writes_run : (old new : State) (how : Option Returning) (k : Command) (text : List ℕ) (full : Row) (count : ℕ) → WritesRows k → Writes old new how k text full count
+    → Runs old new how k text full count
 writes_run old new how (Insert at from) text full count ours w = w
 writes_run old new how (InsertOr at way from clauses) text full count ours w = w
 writes_run old new how (Update at q) text full count ours w = w
@@ -160,7 +162,8 @@ module _ (sql : List ℕ) (k : Command) (is : command_of (understood archive_sch
       let which : h.0.command ≡ k = ap command_of known ∙ is in
       (writes_only old h.0.returning h.0.command _ _ db (rows_end_nothing h.0.command (subst WritesRows (sym which) ours)) h.2).0
 
-  commits : IsKept old → ((next : State) (count : ℕ) → Executes sql params old next (Ok count) → Changes old next change) → (db : Trees) → CommitsBy sql params old db → IsStored (change (archive_of old)) db
+  commits : IsKept old → ((next : State) (count : ℕ) → Executes sql params old next (Ok count) → Changes old next change) → (db : Trees) → CommitsBy sql params old db
+      → IsStored (change (archive_of old)) db
   unfolding CommitsBy ExecutesIn
   commits kept does db h =
       let known = sym h.1.is ∙ ap (λ s. understood s sql) kept.schema in
@@ -171,7 +174,12 @@ module _ (sql : List ℕ) (k : Command) (is : command_of (understood archive_sch
       let next = would old kept.is_open may.1 may.2 in
       let count = unwrap_or may.1.rows 0 in
       let silent : shows_rows false h.0 ≡ false = shows_nothing h.0.command h.0.returning mine bare.0 in
-      let ran : Executes sql params old next (Ok count) = (h.0, h.1, rw silent (writes_run old next h.0.returning h.0.command _ _ count mine (would_write old kept.is_open h.0.returning h.0.command _ _ db may))) in
+      let ran : Executes sql params old next (Ok count) = (
+        h.0,
+        h.1,
+        rw silent (writes_run old next h.0.returning h.0.command _ _ count mine
+            (would_write old kept.is_open h.0.returning h.0.command _ _ db may)),
+      ) in
       let done = does next count ran in
       record {
         lists = subst (λ (t : Trees). Lists (t catalog_tree) archive_schema) (sym may.5) (subst (λ (x : Schema). Lists (may.2.trees catalog_tree) x) done.0.schema may.4.lists);

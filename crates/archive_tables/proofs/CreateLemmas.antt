@@ -1,5 +1,6 @@
 -- Which texts of CREATE TABLE and CREATE INDEX SQL does not refuse, and what they leave, over tables without rows.
-use Rattle.std.proofs.Common.{◌≡◌, ◌⊎◌, inl, inr, ℕ, zero, suc, ◌+◌, ◌*◌, ◌^◌, ◌<◌, ◌≤◌, List, [], ◌∷◌, length, codes, Ok, Err, Result, Option, Some, None, true, false, not, ◌&&◌, ◌==◌, refl, sym, ap, subst, ◌∙◌, arith}
+use Rattle.std.proofs.Common.{◌≡◌, ◌⊎◌, inl, inr, ℕ, zero, suc, ◌+◌, ◌*◌, ◌^◌, ◌<◌, ◌≤◌, List, [], ◌∷◌, length, codes, Ok, Err, Result}
+use Rattle.std.proofs.Common.{Option, Some, None, true, false, not, ◌&&◌, ◌==◌, refl, sym, ap, subst, ◌∙◌, arith}
 use Rattle.std.specs.Prelude.{IsUtf8, slice_get}
 use Rattle.std.specs.List.{AllByRecursion}
 use Rattle.sqlite.specs.declared.error.Error.{Error}
@@ -78,7 +79,8 @@ module _ (s : Schema) (sql : List ℕ) (table : Table) (can : CanCreate s sql ta
         | inr it ↦ let bad = rw (it.0, it.1) at can.own in cc
       ]
   not_refused TooBig h =
-      elim (same_table sql table (λ t. (65536 ≤ next_tree s + length t.uniques) ⊎ ((2 ^ 64 ≤ table_reals t) ⊎ ((key : List ℕ) × Has t.uniques key × (2 ^ 64 ≤ index_reals (table_reals t) key)))) can.defined h) [
+      elim (same_table sql table (λ t. (65536 ≤ next_tree s + length t.uniques) ⊎ ((2 ^ 64 ≤ table_reals t)
+      ⊎ ((key : List ℕ) × Has t.uniques key × (2 ^ 64 ≤ index_reals (table_reals t) key)))) can.defined h) [
         | inl full ↦ let room = can.room in omega (arith, room, full)
         | inr big ↦ elim big [
           | inl wide ↦ let none = can.reals in omega (arith, none, wide)

@@ -166,10 +166,22 @@ module _ {S : Type 0} {g : Ghosts S} {old new : Held S} (sql : List ℕ) (params
 
     -- where its rows are the answer
     pub asks_shows : {Says : Archive → Vec Row Global → Type 0} {Unread : Type 0} → AsksOver g old new q Says → FailsByFaultOr g old new q Unread → Asks g old new q Says Unread
-    asks_shows over caused = record { over = over; caused = caused; same = λ clean. shown_same (state g old) (state g new) sql params asks q (ok clean); quiet = λ clean db may. question_adds_nothing (state g old) (state g new) sql params asks s clean db may; ends = shown_ends }
+    asks_shows over caused = record {
+      over = over;
+      caused = caused;
+      same = λ clean. shown_same (state g old) (state g new) sql params asks q (ok clean);
+      quiet = λ clean db may. question_adds_nothing (state g old) (state g new) sql params asks s clean db may;
+      ends = shown_ends;
+    }
 
     pub asks_rows_shows : {Says : Trees → Vec Row Global → Type 0} {Unread : Type 0} → AsksRowsOver g old new q Says → FailsByFaultOr g old new q Unread → AsksRows g old new q Says Unread
-    asks_rows_shows over caused = record { over = over; caused = caused; same = λ clean. shown_same (state g old) (state g new) sql params asks q (ok clean); quiet = λ clean db may. question_adds_nothing (state g old) (state g new) sql params asks s clean db may; ends = shown_ends }
+    asks_rows_shows over caused = record {
+      over = over;
+      caused = caused;
+      same = λ clean. shown_same (state g old) (state g new) sql params asks q (ok clean);
+      quiet = λ clean db may. question_adds_nothing (state g old) (state g new) sql params asks s clean db may;
+      ends = shown_ends;
+    }
 
     -- and where it answers
     pub asks_answers : {A : Type 0} {Says : Archive → A → Type 0} {Unread : Type 0} (a : A) (rows : List Row)

@@ -59,7 +59,8 @@ all_by_date P (r ∷ rows) all = all_with_row P r (rows_by_date rows) all.0 (all
 more_same : (r : Numbered Filed) (rows : List (Numbered Filed)) → IsPermutation (r ∷ rows) (with_row r rows)
 more_same r [] = IsPermutation-refl (r ∷ [])
 more_same r (s ∷ rows) = elim (cases_Bool (was_sent_before s r)) [
-  | inl before ↦ rw before (IsPermutation-trans (r ∷ s ∷ rows) (s ∷ r ∷ rows) (s ∷ with_row r rows) (IsPermutation-middle (r ∷ []) s rows) (IsPermutation-cons s (r ∷ rows) (with_row r rows) (more_same r rows)))
+  | inl before ↦ rw before (IsPermutation-trans (r ∷ s ∷ rows) (s ∷ r ∷ rows) (s ∷ with_row r rows) (IsPermutation-middle (r ∷ []) s rows)
+      (IsPermutation-cons s (r ∷ rows) (with_row r rows) (more_same r rows)))
   | inr after ↦ rw after (IsPermutation-refl (r ∷ s ∷ rows))
 ]
 
@@ -208,7 +209,8 @@ month_text = codes "SELECT pos FROM message WHERE list = ?1 AND month = ?2 ORDER
 abbrev of_month : List Term
 of_month = op2 (Compare Eq Binary) (col 1 2) (col 0 0) ∷ op2 (Compare Eq Binary) (col 1 10) (col 0 1) ∷ []
 
-month_is : (command_of (understood archive_schema month_text) ≡ Select (record { lets = []; body = plain_query 8 of_month number_cell by_date }) (codes "pos" ∷ [])) × (reads_listing archive_schema month_text ≡ false)
+month_is : (command_of (understood archive_schema month_text) ≡ Select (record { lets = []; body = plain_query 8 of_month number_cell by_date }) (codes "pos" ∷ []))
+    × (reads_listing archive_schema month_text ≡ false)
 unfolding understood everything
 month_is = (refl, refl)
 
@@ -230,7 +232,8 @@ author_text = codes "SELECT pos FROM message WHERE list = ?1 AND author = ?2 ORD
 abbrev of_author : List Term
 of_author = op2 (Compare Eq Binary) (col 1 2) (col 0 0) ∷ op2 (Compare Eq Binary) (col 1 11) (col 0 1) ∷ []
 
-author_is : (command_of (understood archive_schema author_text) ≡ Select (record { lets = []; body = plain_query 8 of_author number_cell by_date }) (codes "pos" ∷ [])) × (reads_listing archive_schema author_text ≡ false)
+author_is : (command_of (understood archive_schema author_text) ≡ Select (record { lets = []; body = plain_query 8 of_author number_cell by_date }) (codes "pos" ∷ []))
+    × (reads_listing archive_schema author_text ≡ false)
 unfolding understood everything
 author_is = (refl, refl)
 
@@ -279,7 +282,8 @@ module _ (old new : State) {behind : Option Database} (k : IsHeld behind old) (l
   no_month month e h = refused_rests month_text 8 of_month number_cell by_date _ month_is.0 month_plain month_is.1 (λ t. refl) (Text list ∷ Int month ∷ []) old new k e h
 
   pub no_month_caused : (month : ℤ) (e : Error) → FailsToQuery month_text (Text list ∷ Int month ∷ []) old new e → old.step_limit ≡ None → IsCaused old new e
-  no_month_caused month e h free = question_fails_by month_text 8 of_month number_cell by_date _ month_is.0 month_plain month_is.1 (Text list ∷ Int month ∷ []) month_fit (month_typed list month) old new k free e h
+  no_month_caused month e h free = question_fails_by month_text 8 of_month number_cell by_date _ month_is.0 month_plain month_is.1 (Text list ∷ Int month ∷ []) month_fit
+      (month_typed list month) old new k free e h
 
   pub author_found : (key : List ℕ) (rows : List Row) → Shown author_text (Text list ∷ Blob key ∷ []) old new rows
       → (rows ≡ map place_shown (author_places old.now.trees list key)) × StaysOver behind old new
@@ -293,4 +297,5 @@ module _ (old new : State) {behind : Option Database} (k : IsHeld behind old) (l
   no_author key e h = refused_rests author_text 8 of_author number_cell by_date _ author_is.0 author_plain author_is.1 (λ t. refl) (Text list ∷ Blob key ∷ []) old new k e h
 
   pub no_author_caused : (key : List ℕ) (e : Error) → FailsToQuery author_text (Text list ∷ Blob key ∷ []) old new e → old.step_limit ≡ None → IsCaused old new e
-  no_author_caused key e h free = question_fails_by author_text 8 of_author number_cell by_date _ author_is.0 author_plain author_is.1 (Text list ∷ Blob key ∷ []) author_fit (author_typed list key) old new k free e h
+  no_author_caused key e h free = question_fails_by author_text 8 of_author number_cell by_date _ author_is.0 author_plain author_is.1 (Text list ∷ Blob key ∷ []) author_fit
+      (author_typed list key) old new k free e h

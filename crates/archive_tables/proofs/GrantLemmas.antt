@@ -35,7 +35,8 @@ use Rattle.archive_tables.proofs.RunLemmas.{passed, value_is, no_action, cast_nu
 use Rattle.archive_tables.proofs.RowLemmas.{put_past}
 use Rattle.archive_tables.proofs.TableLemmas.{SameBut, same_but, grants_change}
 use Rattle.archive_tables.proofs.ChangeLemmas.{apart_more, apart_mapped, apart_filtered, updated, deleted}
-use Rattle.archive_tables.proofs.SelectLemmas.{plain_query, by_number, passes, picks_of, hits, asked, asked_stays, refused_rests, any_wanted, shows, alone, text_is, int_is, text_flips, equal_words, no_row, one_row}
+use Rattle.archive_tables.proofs.SelectLemmas.{plain_query, by_number, passes, picks_of, hits, asked, asked_stays, refused_rests, any_wanted}
+use Rattle.archive_tables.proofs.SelectLemmas.{shows, alone, text_is, int_is, text_flips, equal_words, no_row, one_row}
 use Rattle.archive_tables.proofs.CauseLemmas.{Fits, question_fails_by}
 use Rattle.sqlite_typing.specs.Types.{accepts_program}
 
@@ -107,7 +108,8 @@ adding : (db : Trees) (g : Grant) (given : List Row) → given ≡ (Null ∷ gra
     → edited db (edit_of db grant_table [] Chosen 0 given) ≡ put_row (row_of grant_cells (fresh db g)) (db 6)
 adding db g given from = rw (from, cast_null, cast_int g.rank, cast_int g.from_day, cast_int g.until_day)
 
-adds : {behind : Option Database} (old new : State) (g : Grant) (count : ℕ) → IsHeld behind old → list_any (is_grant g.person g.list g.rank) (archive_of old).grants ≡ false → Executes add_text (params_of g) old new (Ok count)
+adds : {behind : Option Database} (old new : State) (g : Grant) (count : ℕ) → IsHeld behind old → list_any (is_grant g.person g.list g.rank) (archive_of old).grants ≡ false
+    → Executes add_text (params_of g) old new (Ok count)
     → ChangesOver behind old new (λ a. record a { grants = a.grants ++ g ∷ [] })
 adds old new g count k none h =
     let params = params_of g in
@@ -198,7 +200,8 @@ module _ (person list : List ℕ) (rank : ℤ) where
         → edited db (edit_of db grant_table (ids_of given) Given 1 given) ≡ put_row (row_of grant_cells (record r { it = days r.it })) (without_rowid r.number (db 6))
     puts db r given from = rw (from, cast_int r.number, cast_int r.it.rank, cast_int from_day, cast_int until_day)
 
-    changes : {behind : Option Database} (old new : State) (count : ℕ) → IsHeld behind old → Executes change_text change_params old new (Ok count) → ChangesOver behind old new (λ a. record a { grants = map change a.grants })
+    changes : {behind : Option Database} (old new : State) (count : ℕ) → IsHeld behind old → Executes change_text change_params old new (Ok count)
+        → ChangesOver behind old new (λ a. record a { grants = map change a.grants })
     changes old new count k h =
         let params = change_params in
         let query = plain_query 6 at_key changed_cells [] in
@@ -276,7 +279,8 @@ has_text = codes "SELECT kind FROM grant_row WHERE person = ?1 AND list = ?2 AND
 abbrev rank_cell : List Term
 rank_cell = col 1 3 ∷ []
 
-has_is : (command_of (understood archive_schema has_text) ≡ Select (record { lets = []; body = plain_query 6 at_key rank_cell [] }) (codes "kind" ∷ [])) × (reads_listing archive_schema has_text ≡ false)
+has_is : (command_of (understood archive_schema has_text) ≡ Select (record { lets = []; body = plain_query 6 at_key rank_cell [] }) (codes "kind" ∷ []))
+    × (reads_listing archive_schema has_text ≡ false)
 unfolding understood everything
 has_is = (refl, refl)
 
@@ -298,7 +302,8 @@ both_text = codes "SELECT kind, from_day, until_day FROM grant_row WHERE person 
 abbrev day_cells : List Term
 day_cells = col 1 3 ∷ col 1 4 ∷ col 1 5 ∷ []
 
-both_is : (command_of (understood archive_schema both_text) ≡ Select (record { lets = []; body = plain_query 6 of_both day_cells by_number }) (codes "kind" ∷ codes "from_day" ∷ codes "until_day" ∷ [])) × (reads_listing archive_schema both_text ≡ false)
+both_is : (command_of (understood archive_schema both_text) ≡ Select (record { lets = []; body = plain_query 6 of_both day_cells by_number })
+    (codes "kind" ∷ codes "from_day" ∷ codes "until_day" ∷ [])) × (reads_listing archive_schema both_text ≡ false)
 unfolding understood everything
 both_is = (refl, refl)
 
@@ -320,7 +325,8 @@ module _ (old new : State) (person list : List ℕ) {behind : Option Database} (
   of_person rows h =
       let params = Text person ∷ Text list ∷ [] in
       let picks = asked both_text 6 of_both day_cells by_number _ both_is.0 both_plain both_is.1 (λ t. refl) params old new k rows h in (
-        shows 6 of_both day_cells params grant_cells grant_read back (λ g. bytes_eq g.person person && bytes_eq g.list list) (has_both person list) grant_shown (λ n g. refl) (old.now.trees 6) rows k.tables.grants picks,
+        shows 6 of_both day_cells params grant_cells grant_read back (λ g. bytes_eq g.person person && bytes_eq g.list list) (has_both person list) grant_shown
+            (λ n g. refl) (old.now.trees 6) rows k.tables.grants picks,
         asked_stays both_text 6 of_both day_cells by_number _ both_is.0 both_plain both_is.1 (λ t. refl) params old new k rows h,
       )
 
@@ -328,7 +334,8 @@ module _ (old new : State) (person list : List ℕ) {behind : Option Database} (
   not_of_person e h = refused_rests both_text 6 of_both day_cells by_number _ both_is.0 both_plain both_is.1 (λ t. refl) (Text person ∷ Text list ∷ []) old new k e h
 
   pub not_of_person_caused : (e : Error) → FailsToQuery both_text (Text person ∷ Text list ∷ []) old new e → old.step_limit ≡ None → IsCaused old new e
-  not_of_person_caused e h free = question_fails_by both_text 6 of_both day_cells by_number _ both_is.0 both_plain both_is.1 (Text person ∷ Text list ∷ []) both_fit (both_typed person list) old new k free e h
+  not_of_person_caused e h free = question_fails_by both_text 6 of_both day_cells by_number _ both_is.0 both_plain both_is.1 (Text person ∷ Text list ∷ []) both_fit
+      (both_typed person list) old new k free e h
 
   module _ (rank : ℤ) where
     pub has : (rows : List Row) → Shown has_text (Text person ∷ Text list ∷ Int rank ∷ []) old new rows
@@ -344,4 +351,5 @@ module _ (old new : State) (person list : List ℕ) {behind : Option Database} (
     has_not e h = refused_rests has_text 6 at_key rank_cell [] _ has_is.0 has_plain has_is.1 (λ t. refl) (Text person ∷ Text list ∷ Int rank ∷ []) old new k e h
 
     pub has_not_caused : (e : Error) → FailsToQuery has_text (Text person ∷ Text list ∷ Int rank ∷ []) old new e → old.step_limit ≡ None → IsCaused old new e
-    has_not_caused e h free = question_fails_by has_text 6 at_key rank_cell [] _ has_is.0 has_plain has_is.1 (Text person ∷ Text list ∷ Int rank ∷ []) has_fit (has_typed person list rank) old new k free e h
+    has_not_caused e h free = question_fails_by has_text 6 at_key rank_cell [] _ has_is.0 has_plain has_is.1 (Text person ∷ Text list ∷ Int rank ∷ []) has_fit
+        (has_typed person list rank) old new k free e h

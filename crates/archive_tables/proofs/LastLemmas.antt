@@ -23,7 +23,8 @@ use Rattle.sqlite_schema.specs.Names.{table_named, index_named, view_named}
 use Rattle.std.specs.Option.{option_or}
 use Rattle.sqlite_schema.specs.declared.command.Returning.{Returning}
 use Rattle.sqlite_schema.specs.declared.command.Command.{Command}
-use Rattle.sqlite_schema.specs.declared.command.Command.TheVariants.{Select, Insert, InsertOr, Update, Delete, CreateTable, CreateIndex, DropTable, DropIndex, Begin, Commit, Rollback, Savepoint as Save, Release, RollbackTo, Nothing, CreateView, DropView, Rows}
+use Rattle.sqlite_schema.specs.declared.command.Command.TheVariants.{Select, Insert, InsertOr, Update, Delete, CreateTable, CreateIndex, DropTable, DropIndex, Begin, Commit}
+use Rattle.sqlite_schema.specs.declared.command.Command.TheVariants.{Rollback, Savepoint as Save, Release, RollbackTo, Nothing, CreateView, DropView, Rows}
 use Rattle.sqlite_resolve.specs.declared.compiled.Compiled.{Compiled}
 use Rattle.sqlite_resolve.specs.declared.error.CompileError.TheVariants.{NoSuchTable, Misuse, Unsupported}
 use Rattle.sqlite_resolve.specs.Lowering.{Checked, and_then}
@@ -33,7 +34,8 @@ use Rattle.sqlite_resolve.specs.Program.{program}
 use Rattle.sqlite_resolve.specs.Write.{updated, deleted}
 use Rattle.sqlite_resolve.specs.Given.{upserts}
 use Rattle.sqlite_resolve.specs.Define as define
-use Rattle.sqlite_resolve.specs.Compile.{first, with_command, meaning, planned, compiled, command, insert, insert_or, insert_or_abort, update, delete, create_table, create_index, is_attached, is_reserved, creates, target, on_table, new_rows, returning, timed, small}
+use Rattle.sqlite_resolve.specs.Compile.{first, with_command, meaning, planned, compiled, command, insert, insert_or, insert_or_abort, update, delete, create_table}
+use Rattle.sqlite_resolve.specs.Compile.{create_index, is_attached, is_reserved, creates, target, on_table, new_rows, returning, timed, small}
 use Rattle.sqlite.specs.Listing.{understood, reads_listing, listing_schema, if_select, is_select}
 use Rattle.sqlite.specs.State.{State, HasCleanDisk, Survives, Runs, IsUnchanged, IsRolledBack, ExecutesIn, Executes, shows_rows, Shown, ShowsRows, FailsToShow, FailsToQuery, IsNotRun}
 use Rattle.archive_tables.specs.Calls.{ShutsByFault, Lasts}

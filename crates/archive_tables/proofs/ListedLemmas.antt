@@ -60,7 +60,8 @@ all_by_list P (r ∷ rows) all = all_with_listed P r (rows_by_list rows) all.0 (
 more_same : (r : Numbered Filed) (rows : List (Numbered Filed)) → IsPermutation (r ∷ rows) (with_listed_row r rows)
 more_same r [] = IsPermutation-refl (r ∷ [])
 more_same r (s ∷ rows) = elim (cases_Bool (was_listed_before s r)) [
-  | inl before ↦ rw before (IsPermutation-trans (r ∷ s ∷ rows) (s ∷ r ∷ rows) (s ∷ with_listed_row r rows) (IsPermutation-middle (r ∷ []) s rows) (IsPermutation-cons s (r ∷ rows) (with_listed_row r rows) (more_same r rows)))
+  | inl before ↦ rw before (IsPermutation-trans (r ∷ s ∷ rows) (s ∷ r ∷ rows) (s ∷ with_listed_row r rows) (IsPermutation-middle (r ∷ []) s rows)
+      (IsPermutation-cons s (r ∷ rows) (with_listed_row r rows) (more_same r rows)))
   | inr after ↦ rw after (IsPermutation-refl (r ∷ s ∷ rows))
 ]
 
@@ -254,7 +255,8 @@ module _ (place : ℤ) where
   passing : (all : List (Numbered Filed)) → filter (passes at_place (Int place ∷ [])) (map (row_of filed_cells) all) ≡ map (row_of filed_cells) (filter is_at all)
   passing [] = refl
   passing (r ∷ all) =
-      rw (has_place r) (elim (is_at r) as (λ b. cond b (row_of filed_cells r ∷ filter (passes at_place (Int place ∷ [])) (map (row_of filed_cells) all)) (filter (passes at_place (Int place ∷ [])) (map (row_of filed_cells) all))
+      rw (has_place r) (elim (is_at r) as (λ b. cond b (row_of filed_cells r ∷ filter (passes at_place (Int place ∷ [])) (map (row_of filed_cells) all))
+      (filter (passes at_place (Int place ∷ [])) (map (row_of filed_cells) all))
       ≡ map (row_of filed_cells) (cond b (r ∷ filter is_at all) (filter is_at all)))
       [ true ↦ ap (λ l. row_of filed_cells r ∷ l) (passing all) | false ↦ passing all ])
 

@@ -50,7 +50,8 @@ all_names = codes "key" ∷ codes "sender" ∷ codes "arrival" ∷ codes "text" 
 abbrev pub list_text : List ℕ
 list_text = codes "SELECT key, sender, arrival, text, withdrawn, embargo FROM message WHERE list = ?1 ORDER BY pos"
 
-list_is : (command_of (understood archive_schema list_text) ≡ Select (record { lets = []; body = plain_query 8 of_list all_cells by_number }) all_names) × (reads_listing archive_schema list_text ≡ false)
+list_is : (command_of (understood archive_schema list_text) ≡ Select (record { lets = []; body = plain_query 8 of_list all_cells by_number }) all_names)
+    × (reads_listing archive_schema list_text ≡ false)
 unfolding understood everything
 list_is = (refl, refl)
 
@@ -120,7 +121,8 @@ has_text = codes "SELECT pos FROM message WHERE list = ?1 AND key = ?2"
 abbrev number_cell : List Term
 number_cell = col 1 0 ∷ []
 
-has_is : (command_of (understood archive_schema has_text) ≡ Select (record { lets = []; body = plain_query 8 at_key number_cell [] }) (codes "pos" ∷ [])) × (reads_listing archive_schema has_text ≡ false)
+has_is : (command_of (understood archive_schema has_text) ≡ Select (record { lets = []; body = plain_query 8 at_key number_cell [] }) (codes "pos" ∷ []))
+    × (reads_listing archive_schema has_text ≡ false)
 unfolding understood everything
 has_is = (refl, refl)
 
@@ -141,7 +143,8 @@ has_typed list key = refl
 abbrev pub count_text : List ℕ
 count_text = codes "SELECT pos FROM message WHERE list = ?1"
 
-count_is : (command_of (understood archive_schema count_text) ≡ Select (record { lets = []; body = plain_query 8 of_list number_cell [] }) (codes "pos" ∷ [])) × (reads_listing archive_schema count_text ≡ false)
+count_is : (command_of (understood archive_schema count_text) ≡ Select (record { lets = []; body = plain_query 8 of_list number_cell [] }) (codes "pos" ∷ []))
+    × (reads_listing archive_schema count_text ≡ false)
 unfolding understood everything
 count_is = (refl, refl)
 
@@ -217,7 +220,8 @@ module _ (old new : State) (list : List ℕ) {behind : Option Database} (k : IsH
     no_marks e h = refused_rests marks_text 8 at_key mark_cells by_number _ marks_is.0 marks_plain marks_is.1 (λ t. refl) (Text list ∷ Text key ∷ []) old new k e h
 
     pub no_marks_caused : (e : Error) → FailsToQuery marks_text (Text list ∷ Text key ∷ []) old new e → old.step_limit ≡ None → IsCaused old new e
-    no_marks_caused e h free = question_fails_by marks_text 8 at_key mark_cells by_number _ marks_is.0 marks_plain marks_is.1 (Text list ∷ Text key ∷ []) marks_fit (marks_typed list key) old new k free e h
+    no_marks_caused e h free = question_fails_by marks_text 8 at_key mark_cells by_number _ marks_is.0 marks_plain marks_is.1 (Text list ∷ Text key ∷ []) marks_fit
+        (marks_typed list key) old new k free e h
 
     pub has : (rows : List Row) → Shown has_text (Text list ∷ Text key ∷ []) old new rows
         → (not (length rows == 0) ≡ list_any (is_message list key) (archive_of old).messages) × StaysOver behind old new

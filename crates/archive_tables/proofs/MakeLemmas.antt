@@ -22,7 +22,10 @@ use Rattle.sqlite.specs.Effect.{Database}
 use Rattle.sqlite.specs.State.{State, Writes, Executes, mode_of}
 use Rattle.sqlite.proofs.Callers.{IsPlain, command_of, statement_of, runs_as, one_step}
 use Rattle.sqlite_tied.specs.Compute.{everything}
-use Rattle.archive_tables.specs.Schema.{no_schema, with_version, with_list, with_person, with_grant, with_message, with_month_index, schema_1, schema_2, archive_schema, create_version, create_list, create_person, create_grant, create_message, create_month_index, create_author_index, create_option, create_address, version_table, list_table, person_table, grant_table, message_table, sequence_table, option_table, address_table, month_index, author_index}
+use Rattle.archive_tables.specs.Schema.{no_schema, with_version, with_list, with_person, with_grant, with_message, with_month_index, schema_1, schema_2, archive_schema}
+use Rattle.archive_tables.specs.Schema.{create_version, create_list, create_person, create_grant, create_message, create_month_index, create_author_index, create_option}
+use Rattle.archive_tables.specs.Schema.{create_address, version_table, list_table, person_table, grant_table, message_table, sequence_table, option_table, address_table, month_index}
+use Rattle.archive_tables.specs.Schema.{author_index}
 use Rattle.archive_machine.specs.Records.{Archive}
 use Rattle.archive_tables.specs.Tables.{AreTables, IsKept, archive_in, archive_of, version_rows}
 use Rattle.archive_tables.specs.Making.{IsMaking, IsMade, empty_archive}
@@ -274,7 +277,8 @@ module _ (old new : State) (before : Database) (count : ℕ) where
       (unplaced sequence_table) sequence_is)
 
   pub makes_month_index : IsMaking old with_message before → Executes create_month_index [] old new (Ok count) → IsMaking new with_month_index before
-  makes_month_index k h = makes_index with_message create_month_index 4 message_table month_index refl month_index_text_is.0 month_index_text_is.1 month_index_plain month_index_is old new before k count h
+  makes_month_index k h = makes_index with_message create_month_index 4 message_table month_index refl month_index_text_is.0 month_index_text_is.1 month_index_plain
+      month_index_is old new before k count h
 
   pub makes_author_index : IsMaking old with_month_index before → Executes create_author_index [] old new (Ok count) → IsMaking new schema_1 before
   makes_author_index k h = subst (λ s. IsMaking new s before) author_indexed

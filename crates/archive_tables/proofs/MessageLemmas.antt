@@ -89,11 +89,13 @@ module _ (terms shown : List Term) (params : Row) (wanted : Message → Bool) (t
   shows_messages show same rows picked k it =
       shows 8 terms shown params filed_cells filed_read filed_back (λ (f : Filed). wanted f.0) tests (λ (f : Filed). show f.0) same rows picked k it ∙ wanted_messages wanted show rows
 
-  pub counts_messages : (rows picked : List Row) → Holds filed_cells filed_read rows → Picks (plain_query 8 terms shown []) params rows picked → length picked ≡ length (filter wanted (map message_read rows))
+  pub counts_messages : (rows picked : List Row) → Holds filed_cells filed_read rows → Picks (plain_query 8 terms shown []) params rows picked
+      → length picked ≡ length (filter wanted (map message_read rows))
   counts_messages rows picked k it =
       count_wanted filed_cells filed_read filed_back (plain_query 8 terms shown []) params (λ (f : Filed). wanted f.0) tests rows picked k it ∙ count_of_messages wanted rows
 
-  pub has_messages : (rows picked : List Row) → Holds filed_cells filed_read rows → Picks (plain_query 8 terms shown []) params rows picked → not (nat_eq (length picked) 0) ≡ list_any wanted (map message_read rows)
+  pub has_messages : (rows picked : List Row) → Holds filed_cells filed_read rows → Picks (plain_query 8 terms shown []) params rows picked
+      → not (nat_eq (length picked) 0) ≡ list_any wanted (map message_read rows)
   has_messages rows picked k it =
       any_wanted filed_cells filed_read filed_back (plain_query 8 terms shown []) params (λ (f : Filed). wanted f.0) tests rows picked k it ∙ any_of_messages wanted rows
 
@@ -174,7 +176,8 @@ module _ (list key sender : List ℕ) (arrival : ℤ) (text : List ℕ) (filing 
     addresses = λ e. last.addresses (λ f. omega (arith, f)) ∙ first.addresses e;
   }
 
-  adds : {behind : Option Database} (old new_state : State) (count : ℕ) → IsHeld behind old → list_any (is_message list key) (archive_of old).messages ≡ false → Executes add_text params_of old new_state (Ok count)
+  adds : {behind : Option Database} (old new_state : State) (count : ℕ) → IsHeld behind old → list_any (is_message list key) (archive_of old).messages ≡ false
+      → Executes add_text params_of old new_state (Ok count)
       → ChangesOver behind old new_state more
   adds old next count k none h =
       let params = params_of in

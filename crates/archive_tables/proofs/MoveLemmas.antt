@@ -40,7 +40,9 @@ use Rattle.std.proofs.lemmas.Cmp.{tied_itself}
 use Rattle.archive_machine.specs.Records.{ListOption, Archive}
 use Rattle.archive_machine.specs.Machine.{merging}
 use Rattle.archive_tables.specs.Schema.{schema_1, schema_2, archive_schema, schema_of, create_option, create_address, version_table, option_table, address_table}
-use Rattle.archive_tables.specs.Tables.{IsHeldAs, Since, Numbered, row_of, Holds, AreApart, ArePositive, AreTablesWith, newest_number, form_of, archive_by, version_rows, list_cells, list_read, person_cells, person_read, grant_cells, grant_read, message_read, filed_cells, filing_read, filed_read, option_cells, option_read, address_cells, address_read, same_grant, same_message, same_option, same_address}
+use Rattle.archive_tables.specs.Tables.{IsHeldAs, Since, Numbered, row_of, Holds, AreApart, ArePositive, AreTablesWith, newest_number, form_of, archive_by, version_rows}
+use Rattle.archive_tables.specs.Tables.{list_cells, list_read, person_cells, person_read, grant_cells, grant_read, message_read, filed_cells, filing_read, filed_read}
+use Rattle.archive_tables.specs.Tables.{option_cells, option_read, address_cells, address_read, same_grant, same_message, same_option, same_address}
 use Rattle.archive_tables.specs.Making.{IsWithin, IsMoving, IsMade}
 use Rattle.archive_tables.specs.declared.texts.schema.TheConstants.{VERSION}
 use Rattle.archive_tables.proofs.SchemaLemmas.{unplaced, option_is, address_is}

@@ -181,7 +181,8 @@ module _ (list : List ℕ) where
         → edited db (edit_of db option_table (ids_of given) Given 1 given) ≡ put_row (row_of option_cells (record r { it = said r.it })) (without_rowid r.number (db 13))
     puts db r given from = rw (from, cast_int r.number, cast_int (merge_number merge))
 
-    changes : {behind : Option Database} (old new : State) (count : ℕ) → IsHeld behind old → Executes change_text change_params old new (Ok count) → ChangesOver behind old new (λ a. record a { options = map change a.options })
+    changes : {behind : Option Database} (old new : State) (count : ℕ) → IsHeld behind old → Executes change_text change_params old new (Ok count)
+        → ChangesOver behind old new (λ a. record a { options = map change a.options })
     changes old new count k h =
         let params = change_params in
         let query = plain_query 13 of_list changed_cells [] in

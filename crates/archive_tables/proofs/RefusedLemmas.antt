@@ -1,5 +1,6 @@
 -- SQL refuses none of the statements that make the tables in an empty database.
-use Rattle.std.proofs.Common.{◌≡◌, ◌≢◌, inl, inr, ℕ, zero, suc, pos, List, [], ◌∷◌, length, codes, Ok, Err, Result, Option, Some, None, true, false, not, ◌||◌, refl, sym, ap, subst, subst₂, ◌∙◌, arith, lit<, length-append}
+use Rattle.std.proofs.Common.{◌≡◌, ◌≢◌, inl, inr, ℕ, zero, suc, pos, List, [], ◌∷◌, length, codes, Ok, Err, Result, Option, Some, None}
+use Rattle.std.proofs.Common.{true, false, not, ◌||◌, refl, sym, ap, subst, subst₂, ◌∙◌, arith, lit<, length-append}
 use Rattle.std.proofs.lemmas.Str.{IsUtf8-from_is_utf8}
 use Rattle.std.proofs.lemmas.Nat.Bits.{bit_at-zero}
 use Rattle.std.proofs.lemmas.List.Elements.{All-from_recursion}
@@ -38,12 +39,17 @@ use Rattle.sqlite_tied.specs.Compute.{everything}
 use Rattle.sqlite_trees.specs.Sound as sound
 use Rattle.sqlite_trees.specs.View.{IsStorableRow}
 use Rattle.sqlite_value.specs.Order.{value_cmp}
-use Rattle.archive_tables.specs.Schema.{no_schema, with_version, with_list, with_person, with_grant, with_message, with_month_index, schema_1, schema_2, archive_schema, create_version, create_list, create_person, create_grant, create_message, create_month_index, create_author_index, create_option, create_address, version_table, list_table, person_table, grant_table, message_table, sequence_table, option_table, address_table, month_index, author_index}
-use Rattle.archive_tables.specs.Statements.{Statement, MayEnd, IsRefusedInTurn, making_version, making_lists, making_persons, making_grants, making_messages, indexing_months, indexing_authors, making_options, making_addresses, adding_version, making_statements}
+use Rattle.archive_tables.specs.Schema.{no_schema, with_version, with_list, with_person, with_grant, with_message, with_month_index, schema_1, schema_2, archive_schema}
+use Rattle.archive_tables.specs.Schema.{create_version, create_list, create_person, create_grant, create_message, create_month_index, create_author_index, create_option}
+use Rattle.archive_tables.specs.Schema.{create_address, version_table, list_table, person_table, grant_table, message_table, sequence_table, option_table, address_table, month_index}
+use Rattle.archive_tables.specs.Schema.{author_index}
+use Rattle.archive_tables.specs.Statements.{Statement, MayEnd, IsRefusedInTurn, making_version, making_lists, making_persons, making_grants, making_messages}
+use Rattle.archive_tables.specs.Statements.{indexing_months, indexing_authors, making_options, making_addresses, adding_version, making_statements}
 use Rattle.archive_tables.specs.Tables.{version_rows}
 use Rattle.archive_tables.specs.declared.texts.schema.TheConstants.{VERSION}
 use Rattle.archive_tables.proofs.SchemaLemmas.{unplaced, version_is, list_is, person_is, grant_is, message_is, sequence_is, option_is, address_is, month_index_is, author_index_is}
-use Rattle.archive_tables.proofs.MakeLemmas.{AreEmpty, version_alone, list_alone, person_alone, grant_alone, message_brings, author_indexed, option_alone, address_alone, version_text, version_cells, puts}
+use Rattle.archive_tables.proofs.MakeLemmas.{AreEmpty, version_alone, list_alone, person_alone, grant_alone, message_brings}
+use Rattle.archive_tables.proofs.MakeLemmas.{author_indexed, option_alone, address_alone, version_text, version_cells, puts}
 use Rattle.archive_tables.proofs.RunLemmas.{passed, value_is, no_action, cast_null, cast_int}
 use Rattle.archive_tables.proofs.CreateLemmas.{Proceeds, CanCreate, CanIndex, Completes, over, at_once, went, keeps_rules, table_proceeds, index_proceeds, completes_alone, completes_counted}
 
@@ -66,7 +72,8 @@ can_version = record {
   listed = refl;
 }
 
-version_may : (trees : Trees) (out : Result (Tally × Database) (Option Error)) → MayEnd making_version (over no_schema trees) out → Does None at_once [] (over no_schema trees) create_version None CreateTable out
+version_may : (trees : Trees) (out : Result (Tally × Database) (Option Error)) → MayEnd making_version (over no_schema trees) out → Does None at_once []
+    (over no_schema trees) create_version None CreateTable out
 unfolding understood everything
 version_may trees out h = h
 
@@ -92,7 +99,8 @@ can_list = record {
   listed = refl;
 }
 
-list_may : (trees : Trees) (out : Result (Tally × Database) (Option Error)) → MayEnd making_lists (over with_version trees) out → Does None at_once [] (over with_version trees) create_list None CreateTable out
+list_may : (trees : Trees) (out : Result (Tally × Database) (Option Error)) → MayEnd making_lists (over with_version trees) out → Does None at_once []
+    (over with_version trees) create_list None CreateTable out
 unfolding understood everything
 list_may trees out h = h
 
@@ -118,7 +126,8 @@ can_person = record {
   listed = refl;
 }
 
-person_may : (trees : Trees) (out : Result (Tally × Database) (Option Error)) → MayEnd making_persons (over with_list trees) out → Does None at_once [] (over with_list trees) create_person None CreateTable out
+person_may : (trees : Trees) (out : Result (Tally × Database) (Option Error)) → MayEnd making_persons (over with_list trees) out → Does None at_once []
+    (over with_list trees) create_person None CreateTable out
 unfolding understood everything
 person_may trees out h = h
 
@@ -144,7 +153,8 @@ can_grant = record {
   listed = refl;
 }
 
-grant_may : (trees : Trees) (out : Result (Tally × Database) (Option Error)) → MayEnd making_grants (over with_person trees) out → Does None at_once [] (over with_person trees) create_grant None CreateTable out
+grant_may : (trees : Trees) (out : Result (Tally × Database) (Option Error)) → MayEnd making_grants (over with_person trees) out → Does None at_once []
+    (over with_person trees) create_grant None CreateTable out
 unfolding understood everything
 grant_may trees out h = h
 
@@ -187,13 +197,15 @@ can_count = record {
   listed = refl;
 }
 
-message_may : (trees : Trees) (out : Result (Tally × Database) (Option Error)) → MayEnd making_messages (over with_grant trees) out → Does None at_once [] (over with_grant trees) create_message None CreateTable out
+message_may : (trees : Trees) (out : Result (Tally × Database) (Option Error)) → MayEnd making_messages (over with_grant trees) out → Does None at_once []
+    (over with_grant trees) create_message None CreateTable out
 unfolding understood everything
 message_may trees out h = h
 
 message_next : (trees : Trees) → AreEmpty trees with_grant.tables → Proceeds making_messages with_grant with_message trees
 message_next trees empty =
-    let whole = subst (Completes (created with_grant (unplaced message_table))) message_brings.1 (completes_counted (created with_grant (unplaced message_table)) (unplaced sequence_table) message_brings.0 can_count) in
+    let whole = subst (Completes (created with_grant (unplaced message_table))) message_brings.1
+    (completes_counted (created with_grant (unplaced message_table)) (unplaced sequence_table) message_brings.0 can_count) in
     table_proceeds making_messages with_grant with_message create_message (unplaced message_table) trees can_message whole empty (message_may trees)
 
 can_months : CanIndex with_message message_table create_month_index month_index
@@ -212,7 +224,8 @@ can_months = record {
   listed = refl;
 }
 
-months_may : (trees : Trees) (out : Result (Tally × Database) (Option Error)) → MayEnd indexing_months (over with_message trees) out → Does None at_once [] (over with_message trees) create_month_index None (CreateIndex 4) out
+months_may : (trees : Trees) (out : Result (Tally × Database) (Option Error)) → MayEnd indexing_months (over with_message trees) out → Does None at_once []
+    (over with_message trees) create_month_index None (CreateIndex 4) out
 unfolding understood everything
 months_may trees out h = h
 
@@ -235,12 +248,14 @@ can_authors = record {
   listed = refl;
 }
 
-authors_may : (trees : Trees) (out : Result (Tally × Database) (Option Error)) → MayEnd indexing_authors (over with_month_index trees) out → Does None at_once [] (over with_month_index trees) create_author_index None (CreateIndex 4) out
+authors_may : (trees : Trees) (out : Result (Tally × Database) (Option Error)) → MayEnd indexing_authors (over with_month_index trees) out → Does None at_once []
+    (over with_month_index trees) create_author_index None (CreateIndex 4) out
 unfolding understood everything
 authors_may trees out h = h
 
 authors_next : (trees : Trees) → AreEmpty trees with_month_index.tables → Proceeds indexing_authors with_month_index schema_1 trees
-authors_next trees empty = subst (λ s. Proceeds indexing_authors with_month_index s trees) author_indexed (index_proceeds with_month_index 4 message_table refl create_author_index author_index can_authors trees empty indexing_authors (authors_may trees))
+authors_next trees empty = subst (λ s. Proceeds indexing_authors with_month_index s trees) author_indexed
+    (index_proceeds with_month_index 4 message_table refl create_author_index author_index can_authors trees empty indexing_authors (authors_may trees))
 
 can_option : CanCreate schema_1 create_option (unplaced option_table)
 unfolding everything is_utf8 chars lib.Utf8.encode sound.fits_kind sound.begins sound.same_name sound.is_free_name value_cmp lib.Ieee.is_nan lib.Ieee.lt
@@ -259,7 +274,8 @@ can_option = record {
   listed = refl;
 }
 
-option_may : (trees : Trees) (out : Result (Tally × Database) (Option Error)) → MayEnd making_options (over schema_1 trees) out → Does None at_once [] (over schema_1 trees) create_option None CreateTable out
+option_may : (trees : Trees) (out : Result (Tally × Database) (Option Error)) → MayEnd making_options (over schema_1 trees) out → Does None at_once []
+    (over schema_1 trees) create_option None CreateTable out
 unfolding understood everything
 option_may trees out h = h
 
@@ -285,7 +301,8 @@ can_address = record {
   listed = refl;
 }
 
-address_may : (trees : Trees) (out : Result (Tally × Database) (Option Error)) → MayEnd making_addresses (over schema_2 trees) out → Does None at_once [] (over schema_2 trees) create_address None CreateTable out
+address_may : (trees : Trees) (out : Result (Tally × Database) (Option Error)) → MayEnd making_addresses (over schema_2 trees) out → Does None at_once []
+    (over schema_2 trees) create_address None CreateTable out
 unfolding understood everything
 address_may trees out h = h
 
@@ -296,7 +313,8 @@ address_next trees empty =
 
 -- ---- the number of the version
 
-number_may : (trees : Trees) (out : Result (Tally × Database) (Option Error)) → MayEnd adding_version (over archive_schema trees) out → Does None at_once (Int VERSION ∷ []) (over archive_schema trees) version_text None (Insert 0 (Values version_cells 2)) out
+number_may : (trees : Trees) (out : Result (Tally × Database) (Option Error)) → MayEnd adding_version (over archive_schema trees) out → Does None at_once
+    (Int VERSION ∷ []) (over archive_schema trees) version_text None (Insert 0 (Values version_cells 2)) out
 unfolding understood everything
 number_may trees out h = h
 
@@ -314,12 +332,25 @@ stored = (
 
 -- no index is one of `version`
 unindexed : AllByRecursion (λ (i : Index). i.table ≢ 0) archive_schema.indexes
-unindexed = (λ e. omega (arith, e), (λ e. omega (arith, e), (λ e. omega (arith, e), (λ e. omega (arith, e), (λ e. omega (arith, e), (λ e. omega (arith, e), (λ e. omega (arith, e), (λ e. omega (arith, e), (λ e. omega (arith, e), tt)))))))))
+unindexed = (
+  λ e. omega (arith, e),
+  (
+    λ e. omega (arith, e),
+    (
+      λ e. omega (arith, e),
+      (
+        λ e. omega (arith, e),
+        (λ e. omega (arith, e), (λ e. omega (arith, e), (λ e. omega (arith, e), (λ e. omega (arith, e), (λ e. omega (arith, e), tt))))),
+      ),
+    ),
+  ),
+)
 
 abbrev others : List Table
 others = list_table ∷ person_table ∷ grant_table ∷ message_table ∷ sequence_table ∷ option_table ∷ address_table ∷ []
 
-still_none : (db next : Trees) (tables : List Table) → AllByRecursion (λ (t : Table). t.tree ≢ 0) tables → AllByRecursion (λ (t : Table). t.tree ≢ 0 → next t.tree ≡ db t.tree) tables → AreEmpty db tables → AreEmpty next tables
+still_none : (db next : Trees) (tables : List Table) → AllByRecursion (λ (t : Table). t.tree ≢ 0) tables → AllByRecursion (λ (t : Table). t.tree ≢ 0 → next t.tree ≡ db t.tree) tables
+    → AreEmpty db tables → AreEmpty next tables
 still_none db next [] apart same empty = tt
 still_none db next (t ∷ tables) apart same empty = (same.0 apart.0 ∙ empty.0, still_none db next tables apart.1 same.1 empty.1)
 
@@ -381,7 +412,8 @@ module _ (trees : Trees) (empty : AreEmpty trees archive_schema.tables) (given :
   refers next written =
       let applied = one_step archive_schema _ trees next edit (no_action 0 (taken_by trees edit) edit.news) written in (
         subst (AllByRecursion (λ row. true ≡ true)) (sym (applied.rows ∙ puts trees given empty.0 from)) (refl, tt),
-        keeps_rules (λ t row. list_all (λ ref. not (is_among All ref) || has_parent archive_schema.tables next row ref) t.references ≡ true) next others (still_none trees next others apart applied.tables.1 empty.1),
+        keeps_rules (λ t row. list_all (λ ref. not (is_among All ref) || has_parent archive_schema.tables next row ref) t.references ≡ true) next others
+            (still_none trees next others apart applied.tables.1 empty.1),
       )
 
 never_sourced : (trees : Trees) (stop : Option Error) → ¬ Sourced None (over archive_schema trees) (Int VERSION ∷ []) (Values version_cells 2) (Err stop)

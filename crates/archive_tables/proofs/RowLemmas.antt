@@ -92,7 +92,8 @@ module _ {R : Type 0} (cells : R → Row) (read : Row → R) (back : (n : ℤ) (
 
   -- a row whose number is not below the next one goes to the end
   pub put_past : (rows : List Row) (new : Numbered R) → (next_rowid rows ≡ new.number) ⊎ (next_rowid rows <ℤ new.number) → Holds cells read rows
-      → Holds cells read (put_row (row_of cells new) rows) × (map read (put_row (row_of cells new) rows) ≡ map read rows ++ new.it ∷ []) × (put_row (row_of cells new) rows ≡ rows ++ row_of cells new ∷ [])
+      → Holds cells read (put_row (row_of cells new) rows) × (map read (put_row (row_of cells new) rows) ≡ map read rows ++ new.it ∷ [])
+      × (put_row (row_of cells new) rows ≡ rows ++ row_of cells new ∷ [])
   put_past rows new far k =
       let all = map (read_of read) rows in
       let num = subst (AllByRecursion HasNumber) (sym k.coded) (have_numbers all) in
@@ -105,7 +106,8 @@ module _ {R : Type 0} (cells : R → Row) (read : Row → R) (back : (n : ℤ) (
   positive_next : (rows : List Row) → AllByRecursion HasNumber rows → AllByRecursion (λ row. value_cmp (Int (pos 0)) (rowid row) ≡ Less) rows → (first : ℤ) → pos 0 <ℤ first
       → pos 0 <ℤ fold (λ _ row. id_in (rowid row) +ℤ pos 1) first rows
   positive_next [] num all first above = above
-  positive_next (row ∷ rows) num all first above = positive_next rows num.1 all.1 (id_in (rowid row) +ℤ pos 1) (successor (id_in (rowid row)) (zero_below (id_in (rowid row)) (subst (λ v. value_cmp (Int (pos 0)) v ≡ Less) num.0 all.0)))
+  positive_next (row ∷ rows) num all first above = positive_next rows num.1 all.1 (id_in (rowid row) +ℤ pos 1)
+      (successor (id_in (rowid row)) (zero_below (id_in (rowid row)) (subst (λ v. value_cmp (Int (pos 0)) v ≡ Less) num.0 all.0)))
     where
       zero_below : (n : ℤ) → value_cmp (Int (pos 0)) (Int n) ≡ Less → pos 0 <ℤ n
       zero_below n less = int_less (sym (value_cmp-Int (pos 0) n) ∙ less)

@@ -1,5 +1,6 @@
 -- A query over one table of records, with no group, limit or offset.
-use Rattle.std.proofs.Common.{◌≡◌, inl, inr, ℕ, ℤ, pos, negsuc, Bool, true, false, cond, not, List, [], ◌∷◌, ◌++◌, map, filter, flat_map, length, Option, None, Some, refl, sym, ap, ap₂, subst, subst₂, ◌∙◌, arith}
+use Rattle.std.proofs.Common.{◌≡◌, inl, inr, ℕ, ℤ, pos, negsuc, Bool, true, false, cond, not, List, [], ◌∷◌, ◌++◌, map, filter}
+use Rattle.std.proofs.Common.{flat_map, length, Option, None, Some, refl, sym, ap, ap₂, subst, subst₂, ◌∙◌, arith}
 use Rattle.std.specs.Prelude.{nat_eq, ◌||◌, ◌&&◌, bytes_eq, find, slice_get, option_map}
 use Rattle.std.specs.Ordering.{is_eq, int_eq, int_cmp}
 use Rattle.std.proofs.lemmas.Bool.{cases_Bool}
@@ -230,14 +231,16 @@ module _ {R : Type 0} (cells : R → Row) (read : Row → R) (back : (n : ℤ) (
   passing : (all : List (Numbered R)) → filter (passes q.filter params) (map (row_of cells) all) ≡ map (row_of cells) (filter (λ (r : Numbered R). wanted r.it) all)
   passing [] = refl
   passing (r ∷ all) =
-      rw (tests r.number r.it) (elim (wanted r.it) as (λ b. cond b (row_of cells r ∷ filter (passes q.filter params) (map (row_of cells) all)) (filter (passes q.filter params) (map (row_of cells) all))
+      rw (tests r.number r.it) (elim (wanted r.it) as (λ b. cond b (row_of cells r ∷ filter (passes q.filter params) (map (row_of cells) all))
+      (filter (passes q.filter params) (map (row_of cells) all))
       ≡ map (row_of cells) (cond b (r ∷ filter (λ (x : Numbered R). wanted x.it) all) (filter (λ (x : Numbered R). wanted x.it) all)))
       [ true ↦ ap (λ l. row_of cells r ∷ l) (passing all) | false ↦ passing all ])
 
   filter_its : (all : List (Numbered R)) → its (filter (λ (r : Numbered R). wanted r.it) all) ≡ filter wanted (its all)
   filter_its [] = refl
   filter_its (r ∷ all) =
-      elim (wanted r.it) as (λ b. its (cond b (r ∷ filter (λ (x : Numbered R). wanted x.it) all) (filter (λ (x : Numbered R). wanted x.it) all)) ≡ cond b (r.it ∷ filter wanted (its all)) (filter wanted (its all)))
+      elim (wanted r.it) as (λ b. its (cond b (r ∷ filter (λ (x : Numbered R). wanted x.it) all) (filter (λ (x : Numbered R). wanted x.it) all)) ≡ cond b
+      (r.it ∷ filter wanted (its all)) (filter wanted (its all)))
       [ true ↦ ap (λ l. r.it ∷ l) (filter_its all) | false ↦ filter_its all ]
 
   -- the rows that pass are those of the records that are wanted

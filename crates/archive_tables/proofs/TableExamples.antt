@@ -9,7 +9,8 @@ use Rattle.archive_machine.specs.Records.{Message, Grant, Filing}
 use Rattle.archive_tables.specs.Schema.{archive_schema}
 use Rattle.archive_machine.specs.Questions.{is_message, is_grant}
 use Rattle.archive_machine.specs.Machine.{merging}
-use Rattle.archive_tables.specs.Tables.{row_of, read_of, filed_cells, filed_read, grant_cells, grant_read, same_message, AreApart, archive_in, archive_by, option_cells, address_cells, version_rows, IsOfVersion}
+use Rattle.archive_tables.specs.Tables.{row_of, read_of, filed_cells, filed_read, grant_cells, grant_read, same_message, AreApart}
+use Rattle.archive_tables.specs.Tables.{archive_in, archive_by, option_cells, address_cells, version_rows, IsOfVersion}
 use Rattle.archive_tables.specs.declared.texts.schema.TheConstants.{VERSION}
 use Rattle.archive_tables.specs.Rows.{message_shown, marks_shown, marks_of, new_message, versions_shown}
 

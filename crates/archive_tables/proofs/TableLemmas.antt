@@ -6,7 +6,9 @@ use Rattle.sqlite.specs.Table.{Table}
 use Rattle.sqlite.specs.Tree.{Trees}
 use Rattle.archive_machine.specs.Records.{Person, Grant, Message, Filing, ListOption, Address, Archive}
 use Rattle.archive_tables.specs.Schema.{archive_schema}
-use Rattle.archive_tables.specs.Tables.{Holds, AreApart, ArePositive, AreTables, archive_in, list_cells, list_read, person_cells, person_read, grant_cells, grant_read, message_read, filed_cells, filing_read, filed_read, option_cells, option_read, address_cells, address_read, same_grant, same_message, same_option, same_address}
+use Rattle.archive_tables.specs.Tables.{Holds, AreApart, ArePositive, AreTables, archive_in, list_cells, list_read, person_cells, person_read, grant_cells, grant_read, message_read}
+use Rattle.archive_tables.specs.Tables.{filed_cells, filing_read, filed_read, option_cells, option_read, address_cells, address_read, same_grant, same_message, same_option}
+use Rattle.archive_tables.specs.Tables.{same_address}
 
 -- every table but the one of this tree is as before
 pub record SameBut (t : ℕ) (old new : Trees) : Type 0 where

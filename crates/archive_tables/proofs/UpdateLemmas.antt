@@ -64,7 +64,8 @@ changed_filed : (p : Message → Bool) (set : Message → Message) (new old : Li
     → (map message_read new ≡ map (λ (m : Message). if p m then set m else m) (map message_read old)) × (map filing_read new ≡ map filing_read old)
 changed_filed p set new old is = (sym (messages_are new) ∙ ap (map (λ (f : Filed). f.0)) is ∙ firsts old, sym (filings_are new) ∙ ap (map (λ (f : Filed). f.1)) is ∙ seconds old)
   where
-    firsts : (rows : List Row) → map (λ (f : Filed). f.0) (map (λ (f : Filed). if p f.0 then (set f.0, f.1) else f) (map filed_read rows)) ≡ map (λ (m : Message). if p m then set m else m) (map message_read rows)
+    firsts : (rows : List Row) → map (λ (f : Filed). f.0) (map (λ (f : Filed). if p f.0 then (set f.0, f.1) else f) (map filed_read rows)) ≡ map
+        (λ (m : Message). if p m then set m else m) (map message_read rows)
     firsts [] = refl
     firsts (row ∷ rows) = ap₂ ◌∷◌ (by_test (p (message_read row))) (firsts rows)
       where
@@ -112,7 +113,8 @@ module _ (sql : List ℕ) (new_cells : List Term) (is : command_of (understood a
 
   module _ (puts : (db : Trees) (r : Numbered Filed) (given : List Row) → given ≡ shown_of r ∷ []
       → edited db (edit_of db message_table (ids_of given) Given 1 given) ≡ put_row (row_of filed_cells (record r { it = (set r.it.0, r.it.1) })) (without_rowid r.number (db 8))) where
-    changes : {behind : Option Database} (old new : State) (count : ℕ) → IsHeld behind old → Executes sql params old new (Ok count) → ChangesOver behind old new (λ a. record a { messages = map change a.messages })
+    changes : {behind : Option Database} (old new : State) (count : ℕ) → IsHeld behind old → Executes sql params old new (Ok count) → ChangesOver behind old new
+        (λ a. record a { messages = map change a.messages })
     changes old new count k h =
         let db = old.now.trees in
         let command = Update 4 (record { lets = []; body = query }) in
@@ -128,7 +130,8 @@ module _ (sql : List ℕ) (new_cells : List Term) (is : command_of (understood a
         let trees : new.now.trees ≡ written.0 = ap (λ (d : Database). d.trees) now ∙ ap (λ (x : Written). x.trees) (value_is written.2) in
         let rows : new.now.trees 8 ≡ edited db edit = ap (λ (t : Trees). t 8) trees ∙ applied.rows in
         let found = hits filed_cells filed_read filed_back query params (λ (f : Filed). is_message list key f.0) (has_key list key more) (db 8) k.tables.messages in
-        let it = updated filed_cells filed_read filed_back (λ (f : Filed). is_message list key f.0) (λ (f : Filed). (set f.0, f.1)) same_filed (λ f g found. alike list key f.0 g.0 found) (db 8) (edited db edit) k.tables.messages
+        let it = updated filed_cells filed_read filed_back (λ (f : Filed). is_message list key f.0) (λ (f : Filed). (set f.0, f.1)) same_filed
+        (λ f g found. alike list key f.0 g.0 found) (db 8) (edited db edit) k.tables.messages
         (filed_apart (db 8) k.tables.messages_apart)
         (λ r one. puts db r queried.0 (one_row query params (db 8) queried.0 (row_of filed_cells r) picks (found.0 ∙ ap (map (row_of filed_cells)) one)))
         (λ none. ap (λ l. edited db (edit_of db message_table (ids_of l) Given 1 l)) (no_row query params (db 8) queried.0 picks (found.0 ∙ ap (map (row_of filed_cells)) none))) in
@@ -189,26 +192,33 @@ unfolding understood everything
 clear_plain = (refl, refl)
 
 withdrawn_puts : (db : Trees) (r : Numbered Filed) (by : ℤ) (given : List Row)
-    → given ≡ (Int r.number ∷ Int r.number ∷ Null ∷ Text r.it.0.list ∷ Text r.it.0.key ∷ Blob r.it.0.sender ∷ Int r.it.0.arrival ∷ Blob r.it.0.text ∷ Int by ∷ or_null r.it.0.embargo ∷ Int r.it.1.sent ∷ Int r.it.1.month ∷ Blob r.it.1.author ∷ []) ∷ []
+    → given ≡ (Int r.number ∷ Int r.number ∷ Null ∷ Text r.it.0.list ∷ Text r.it.0.key ∷ Blob r.it.0.sender ∷ Int r.it.0.arrival ∷ Blob r.it.0.text ∷ Int by ∷ or_null
+    r.it.0.embargo ∷ Int r.it.1.sent ∷ Int r.it.1.month ∷ Blob r.it.1.author ∷ []) ∷ []
     → edited db (edit_of db message_table (ids_of given) Given 1 given) ≡ put_row (row_of filed_cells (record r { it = (record r.it.0 { withdrawn = by }, r.it.1) })) (without_rowid r.number (db 8))
 withdrawn_puts db r by given from = rw (from, cast_null, cast_int r.number, cast_int r.it.0.arrival, cast_int by, cast_or_null r.it.0.embargo, cast_int r.it.1.sent, cast_int r.it.1.month)
 
 embargo_puts : (db : Trees) (r : Numbered Filed) (until : Option ℤ) (given : List Row)
-    → given ≡ (Int r.number ∷ Int r.number ∷ Null ∷ Text r.it.0.list ∷ Text r.it.0.key ∷ Blob r.it.0.sender ∷ Int r.it.0.arrival ∷ Blob r.it.0.text ∷ Int r.it.0.withdrawn ∷ or_null until ∷ Int r.it.1.sent ∷ Int r.it.1.month ∷ Blob r.it.1.author ∷ []) ∷ []
+    → given ≡ (Int r.number ∷ Int r.number ∷ Null ∷ Text r.it.0.list ∷ Text r.it.0.key ∷ Blob r.it.0.sender ∷ Int r.it.0.arrival ∷ Blob r.it.0.text ∷ Int
+    r.it.0.withdrawn ∷ or_null until ∷ Int r.it.1.sent ∷ Int r.it.1.month ∷ Blob r.it.1.author ∷ []) ∷ []
     → edited db (edit_of db message_table (ids_of given) Given 1 given) ≡ put_row (row_of filed_cells (record r { it = (record r.it.0 { embargo = until }, r.it.1) })) (without_rowid r.number (db 8))
 embargo_puts db r until given from = rw (from, cast_null, cast_int r.number, cast_int r.it.0.arrival, cast_int r.it.0.withdrawn, cast_or_null until, cast_int r.it.1.sent, cast_int r.it.1.month)
 
-pub tries_withdrawn : (list key : List ℕ) (by : ℤ) (behind : Option Database) (old new : State) (r : Result ℕ Error) → IsHeld behind old → Executes withdrawn_text (Text list ∷ Text key ∷ Int by ∷ []) old new r
-    → MatchResult r (λ _. ChangesOver behind old new (λ a. record a { messages = map (λ m. if is_message list key m then record m { withdrawn = by } else m) a.messages })) (λ _. RestsOver behind old new)
+pub tries_withdrawn : (list key : List ℕ) (by : ℤ) (behind : Option Database) (old new : State) (r : Result ℕ Error) → IsHeld behind old → Executes withdrawn_text
+    (Text list ∷ Text key ∷ Int by ∷ []) old new r
+    → MatchResult r (λ _. ChangesOver behind old new (λ a. record a { messages = map (λ m. if is_message list key m then record m { withdrawn = by } else m) a.messages }))
+    (λ _. RestsOver behind old new)
 tries_withdrawn list key by = tries_to_change withdrawn_text withdrawn_cells withdrawn_is withdrawn_plain list key (Int by ∷ []) (λ m. record m { withdrawn = by }) (λ m. refl) (λ m. refl)
     (λ db r given from. withdrawn_puts db r by given from)
 
-pub tries_embargo : (list key : List ℕ) (until : ℤ) (behind : Option Database) (old new : State) (r : Result ℕ Error) → IsHeld behind old → Executes embargo_text (Text list ∷ Text key ∷ Int until ∷ []) old new r
-    → MatchResult r (λ _. ChangesOver behind old new (λ a. record a { messages = map (λ m. if is_message list key m then record m { embargo = Some until } else m) a.messages })) (λ _. RestsOver behind old new)
+pub tries_embargo : (list key : List ℕ) (until : ℤ) (behind : Option Database) (old new : State) (r : Result ℕ Error) → IsHeld behind old → Executes embargo_text
+    (Text list ∷ Text key ∷ Int until ∷ []) old new r
+    → MatchResult r (λ _. ChangesOver behind old new (λ a. record a { messages = map (λ m. if is_message list key m then record m { embargo = Some until } else m) a.messages }))
+    (λ _. RestsOver behind old new)
 tries_embargo list key until = tries_to_change embargo_text embargo_cells embargo_is embargo_plain list key (Int until ∷ []) (λ m. record m { embargo = Some until }) (λ m. refl) (λ m. refl)
     (λ db r given from. embargo_puts db r (Some until) given from)
 
 pub tries_to_clear : (list key : List ℕ) (behind : Option Database) (old new : State) (r : Result ℕ Error) → IsHeld behind old → Executes clear_text (Text list ∷ Text key ∷ []) old new r
-    → MatchResult r (λ _. ChangesOver behind old new (λ a. record a { messages = map (λ m. if is_message list key m then record m { embargo = None } else m) a.messages })) (λ _. RestsOver behind old new)
+    → MatchResult r (λ _. ChangesOver behind old new (λ a. record a { messages = map (λ m. if is_message list key m then record m { embargo = None } else m) a.messages }))
+    (λ _. RestsOver behind old new)
 tries_to_clear list key = tries_to_change clear_text clear_cells clear_is clear_plain list key [] (λ m. record m { embargo = None }) (λ m. refl) (λ m. refl)
     (λ db r given from. embargo_puts db r None given from)

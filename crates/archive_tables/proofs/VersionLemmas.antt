@@ -31,7 +31,8 @@ number_text = codes "SELECT number FROM version ORDER BY rowid"
 abbrev number_cell : List Term
 number_cell = col 1 1 ∷ []
 
-number_is : (command_of (understood archive_schema number_text) ≡ Select (record { lets = []; body = plain_query 0 [] number_cell by_number }) (codes "number" ∷ [])) × (reads_listing archive_schema number_text ≡ false)
+number_is : (command_of (understood archive_schema number_text) ≡ Select (record { lets = []; body = plain_query 0 [] number_cell by_number }) (codes "number" ∷ []))
+    × (reads_listing archive_schema number_text ≡ false)
 unfolding understood everything
 number_is = (refl, refl)
 
@@ -107,7 +108,8 @@ module _ (old new : State) (number : ℕ) (known : IsKnown number) (o : HasForm 
 
   pub no_numbers_caused : (e : Error) → FailsToQuery number_text [] old new e → old.step_limit ≡ None → IsCaused old new e
   no_numbers_caused e h free =
-      schema_question_fails_by (schema_of number) number_text (plain_query 0 [] number_cell by_number) _ reads.is reads.plain reads.unlisted [] reads.fit reads.typed (calm 0 [] number_cell by_number []) old new
+      schema_question_fails_by (schema_of number) number_text (plain_query 0 [] number_cell by_number) _ reads.is reads.plain reads.unlisted [] reads.fit reads.typed
+      (calm 0 [] number_cell by_number []) old new
       o.is_open o.schema free e h
 
 -- ---- tables of the newest

@@ -43,7 +43,8 @@ places_text = codes "SELECT pos FROM message WHERE list = ?1 ORDER BY pos"
 abbrev number_cell : List Term
 number_cell = col 1 0 ∷ []
 
-places_is : (command_of (understood archive_schema places_text) ≡ Select (record { lets = []; body = plain_query 8 of_list number_cell by_number }) (codes "pos" ∷ [])) × (reads_listing archive_schema places_text ≡ false)
+places_is : (command_of (understood archive_schema places_text) ≡ Select (record { lets = []; body = plain_query 8 of_list number_cell by_number }) (codes "pos" ∷ []))
+    × (reads_listing archive_schema places_text ≡ false)
 unfolding understood everything
 places_is = (refl, refl)
 
@@ -100,7 +101,8 @@ marks_at_text = codes "SELECT arrival, withdrawn, embargo FROM message WHERE pos
 abbrev mark_cells : List Term
 mark_cells = col 1 5 ∷ col 1 7 ∷ col 1 8 ∷ []
 
-marks_at_is : (command_of (understood archive_schema marks_at_text) ≡ Select (record { lets = []; body = plain_query 8 at_place mark_cells by_number }) (codes "arrival" ∷ codes "withdrawn" ∷ codes "embargo" ∷ []))
+marks_at_is : (command_of (understood archive_schema marks_at_text) ≡ Select (record { lets = []; body = plain_query 8 at_place mark_cells by_number })
+    (codes "arrival" ∷ codes "withdrawn" ∷ codes "embargo" ∷ []))
     × (reads_listing archive_schema marks_at_text ≡ false)
 unfolding understood everything
 marks_at_is = (refl, refl)
@@ -130,7 +132,8 @@ module _ (place : ℤ) where
   passing : (all : List (Numbered Filed)) → filter (passes at_place (Int place ∷ [])) (map (row_of filed_cells) all) ≡ map (row_of filed_cells) (filter is_at all)
   passing [] = refl
   passing (r ∷ all) =
-      rw (has_place r) (elim (is_at r) as (λ b. cond b (row_of filed_cells r ∷ filter (passes at_place (Int place ∷ [])) (map (row_of filed_cells) all)) (filter (passes at_place (Int place ∷ [])) (map (row_of filed_cells) all))
+      rw (has_place r) (elim (is_at r) as (λ b. cond b (row_of filed_cells r ∷ filter (passes at_place (Int place ∷ [])) (map (row_of filed_cells) all))
+      (filter (passes at_place (Int place ∷ [])) (map (row_of filed_cells) all))
       ≡ map (row_of filed_cells) (cond b (r ∷ filter is_at all) (filter is_at all)))
       [ true ↦ ap (λ l. row_of filed_cells r ∷ l) (passing all) | false ↦ passing all ])
 
@@ -214,7 +217,8 @@ module _ (old new : State) {behind : Option Database} (k : IsHeld behind old) wh
       let all = numbered_filed old.now.trees in
       let wanted = filter (λ (r : Numbered Filed). bytes_eq r.it.0.list list) all in
       let picks = asked places_text 8 of_list number_cell by_number _ places_is.0 places_plain places_is.1 (λ t. refl) params old new k rows h in
-      let its = hits filed_cells filed_read filed_back (plain_query 8 of_list number_cell by_number) params (λ (f : Filed). bytes_eq f.0.list list) (has_list list) (old.now.trees 8) k.tables.messages in
+      let its = hits filed_cells filed_read filed_back (plain_query 8 of_list number_cell by_number) params (λ (f : Filed). bytes_eq f.0.list list) (has_list list)
+      (old.now.trees 8) k.tables.messages in
       let same = asked_stays places_text 8 of_list number_cell by_number _ places_is.0 places_plain places_is.1 (λ t. refl) params old new k rows h in (
         in_order 8 of_list number_cell params (old.now.trees 8) rows k.tables.messages.rise picks ∙ ap (map (cell_of list)) its.0 ∙ shown_cell list wanted,
         same,
@@ -224,7 +228,8 @@ module _ (old new : State) {behind : Option Database} (k : IsHeld behind old) wh
   no_places list e h = refused_rests places_text 8 of_list number_cell by_number _ places_is.0 places_plain places_is.1 (λ t. refl) (Text list ∷ []) old new k e h
 
   pub no_places_caused : (list : List ℕ) (e : Error) → FailsToQuery places_text (Text list ∷ []) old new e → old.step_limit ≡ None → IsCaused old new e
-  no_places_caused list e h free = question_fails_by places_text 8 of_list number_cell by_number _ places_is.0 places_plain places_is.1 (Text list ∷ []) places_fit (places_typed list) old new k free e h
+  no_places_caused list e h free = question_fails_by places_text 8 of_list number_cell by_number _ places_is.0 places_plain places_is.1 (Text list ∷ []) places_fit
+      (places_typed list) old new k free e h
 
   pub at_found : (place : ℤ) (rows : List Row) → Shown at_text (Int place ∷ []) old new rows
       → (rows ≡ map (λ (r : Numbered Filed). message_shown r.it.0) (filter (is_at place) (numbered_filed old.now.trees))) × StaysOver behind old new
@@ -263,7 +268,8 @@ module _ (old new : State) {behind : Option Database} (k : IsHeld behind old) wh
   no_marks_at place e h = refused_rests marks_at_text 8 at_place mark_cells by_number _ marks_at_is.0 marks_at_plain marks_at_is.1 (λ t. refl) (Int place ∷ []) old new k e h
 
   pub no_marks_at_caused : (place : ℤ) (e : Error) → FailsToQuery marks_at_text (Int place ∷ []) old new e → old.step_limit ≡ None → IsCaused old new e
-  no_marks_at_caused place e h free = question_fails_by marks_at_text 8 at_place mark_cells by_number _ marks_at_is.0 marks_at_plain marks_at_is.1 (Int place ∷ []) marks_at_fit (marks_at_typed place) old new k free e h
+  no_marks_at_caused place e h free = question_fails_by marks_at_text 8 at_place mark_cells by_number _ marks_at_is.0 marks_at_plain marks_at_is.1
+      (Int place ∷ []) marks_at_fit (marks_at_typed place) old new k free e h
 
   pub marks_at_rests : (place : ℤ) (rows : List Row) → Shown marks_at_text (Int place ∷ []) old new rows → RestsOver behind old new
   marks_at_rests place rows h = asked_rests marks_at_text 8 at_place mark_cells by_number _ marks_at_is.0 marks_at_plain marks_at_is.1 (λ t. refl) (Int place ∷ []) old new k rows h

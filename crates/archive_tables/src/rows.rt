@@ -2,7 +2,8 @@
 
 ghost use Rattle.std.specs.Prelude.{◌≡◌, ◌∷◌, string_bytes, IfOk, IfErr};
 ghost use Rattle.archive_machine.specs.Records.{Grant, Message, ListOption};
-ghost use Rattle.archive_tables.specs.Rows.{name_shown, place_shown, message_shown, message_in, marks_shown, marks_of, dated_marks_shown, dated_marks_of, merge_shown, grant_shown, grant_in, no_memory, IsTextFault};
+ghost use Rattle.archive_tables.specs.Rows.{name_shown, place_shown, message_shown, message_in, marks_shown, marks_of, dated_marks_shown};
+ghost use Rattle.archive_tables.specs.Rows.{dated_marks_of, merge_shown, grant_shown, grant_in, no_memory, IsTextFault};
 
 use sqlite::{Error, Row};
 

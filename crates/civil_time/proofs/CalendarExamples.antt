@@ -1,7 +1,8 @@
 -- Worked examples of the calendar: what its definitions say of known dates.
 use Rattle.std.proofs.Common.{◌≡◌, pos, negsuc, neg_ℤ, true, false, refl, Some, None, [], ◌∷◌, map}
 use Rattle.std.specs.Prelude.{codes}
-use Rattle.civil_time.specs.Calendar.{is_leap, month_days, days_before_year, days_of_months, day_number_of, is_day, day_of_date, day_of_text, weekday, is_instant, instant_at, day_of_instant, is_month, month_start, is_in_month, month_of_text}
+use Rattle.civil_time.specs.Calendar.{is_leap, month_days, days_before_year, days_of_months, day_number_of, is_day, day_of_date, day_of_text, weekday}
+use Rattle.civil_time.specs.Calendar.{is_instant, instant_at, day_of_instant, is_month, month_start, is_in_month, month_of_text}
 
 -- 1900 was no leap year, 2000 was one, 2003 was none
 leap_years : map is_leap (1900 ∷ 2000 ∷ 2003 ∷ 2004 ∷ []) ≡ false ∷ true ∷ false ∷ true ∷ []

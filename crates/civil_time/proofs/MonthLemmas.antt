@@ -1,9 +1,11 @@
 -- Months follow one another, and each day lies in one of them.
-use Rattle.std.proofs.Common.{◌≡◌, ℕ, zero, suc, ◌+◌, ◌-◌, ◌*◌, ◌/◌, ◌%◌, ◌<◌, ◌≤◌, ◌⊎◌, inl, inr, Bool, true, false, ◌&&◌, nat_le, int_le, int_lt, ℤ, pos, negsuc, nat_abs, ◌-ℤ◌, ◌<ℤ◌, ◌≤ℤ◌, refl, arith, ap, ◌∙◌, sym, Option, Some, None, if◌then◌else◌}
+use Rattle.std.proofs.Common.{◌≡◌, ℕ, zero, suc, ◌+◌, ◌-◌, ◌*◌, ◌/◌, ◌%◌, ◌<◌, ◌≤◌, ◌⊎◌, inl, inr, Bool, true, false, ◌&&◌, nat_le, int_le, int_lt, ℤ}
+use Rattle.std.proofs.Common.{pos, negsuc, nat_abs, ◌-ℤ◌, ◌<ℤ◌, ◌≤ℤ◌, refl, arith, ap, ◌∙◌, sym, Option, Some, None, if◌then◌else◌}
 use Rattle.std.proofs.lemmas.Int.{ints}
 use Rattle.jiff_core.proofs.SignedLemmas.{signed_arith}
 use Rattle.jiff_core.proofs.CalendarLemmas.{days_of_months_all}
-use Rattle.civil_time.specs.Calendar.{year_days, month_days, days_before_year, days_of_months, days_before, day_number, day_number_of, is_date, day_of_date, month_start, is_in_month, last_begun, month_of_day}
+use Rattle.civil_time.specs.Calendar.{year_days, month_days, days_before_year, days_of_months, days_before, day_number, day_number_of}
+use Rattle.civil_time.specs.Calendar.{is_date, day_of_date, month_start, is_in_month, last_begun, month_of_day}
 use Rattle.civil_time.proofs.CalendarLemmas.{months}
 use Rattle.civil_time.proofs.DayLemmas.{was_there, date_is_civil}
 
@@ -27,7 +29,8 @@ abbrev before : ℕ → ℕ
 before i = days_before_year (i / 12) + days_of_months (i / 12) (i % 12)
 
 start_is : (i : ℕ) → month_start i ≡ pos (before i) -ℤ pos (days_before 1970 1 1)
-start_is i = ap (λ (n : ℕ). pos (days_before_year (i / 12) + n) -ℤ pos (days_before 1970 1 1)) (ends (days_of_months (i / 12) (i % 12 + 1 - 1)) (days_of_months (i / 12) (i % 12)) (ap (days_of_months (i / 12)) (let e : i % 12 + 1 - 1 ≡ i % 12 = omega arith in e)))
+start_is i = ap (λ (n : ℕ). pos (days_before_year (i / 12) + n) -ℤ pos (days_before 1970 1 1))
+    (ends (days_of_months (i / 12) (i % 12 + 1 - 1)) (days_of_months (i / 12) (i % 12)) (ap (days_of_months (i / 12)) (let e : i % 12 + 1 - 1 ≡ i % 12 = omega arith in e)))
   where
     ends : (a b : ℕ) → a ≡ b → a + 1 - 1 ≡ b
     ends a b e = omega (arith, e)
@@ -120,7 +123,8 @@ month_is i z h e =
 
 lies : (y m d i : ℕ) → y ≡ i / 12 → m ≡ i % 12 + 1 → 1 ≤ d → d ≤ month_days y m → is_in_month i (day_number y m d) ≡ true
 lies y m d i ey em low high =
-    let month : days_of_months y (m - 1) ≡ days_of_months (i / 12) (i % 12) = ap (λ (k : ℕ). days_of_months k (m - 1)) ey ∙ ap (days_of_months (i / 12)) (let k : m - 1 ≡ i % 12 = omega (arith, em) in k) in
+    let month : days_of_months y (m - 1) ≡ days_of_months (i / 12) (i % 12) = ap (λ (k : ℕ). days_of_months k (m - 1)) ey ∙ ap (days_of_months (i / 12))
+    (let k : m - 1 ≡ i % 12 = omega (arith, em) in k) in
     let year : days_before_year y ≡ days_before_year (i / 12) = ap days_before_year ey in
     let days : month_days y m ≡ month_days (i / 12) (i % 12 + 1) = ap (λ (k : ℕ). month_days k m) ey ∙ ap (month_days (i / 12)) em in
     let next = before-next i in

@@ -69,7 +69,9 @@ module _ (refused : IsRefused) (followed : IsFollowed) (takes : TakesIn) (steps 
         let later = on.1 (memory_is_clean (held_of behind.ends.between)) made.0.held in
         let grown = behind.ends.second_caused.0 in
         elim bad [
-          | inl one ↦ let more = refused behind.found behind.ends.between answered.first (gives.told first.input) (gives.told first'.input) rules day made.0.held unlimited readable behind.ends.first_caused one in omega (arith, more, grown)
-          | inr other ↦ let more = refused behind.ends.between new answered.second (gives.told second.input) (gives.told second'.input) rules day later.0 (on.0.limit ∙ unlimited) (subst CanBeRead (sym later.1) readable)
+          | inl one ↦ let more = refused behind.found behind.ends.between answered.first (gives.told first.input) (gives.told first'.input) rules day made.0.held
+              unlimited readable behind.ends.first_caused one in omega (arith, more, grown)
+          | inr other ↦ let more = refused behind.ends.between new answered.second (gives.told second.input) (gives.told second'.input) rules day later.0
+              (on.0.limit ∙ unlimited) (subst CanBeRead (sym later.1) readable)
               behind.ends.second_caused other in omega (arith, more)
         ]

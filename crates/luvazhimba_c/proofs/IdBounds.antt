@@ -1,5 +1,6 @@
 -- How many ids a message names at most, and how long their texts are: each is a stretch of a field, and no two fields overlap.
-use Rattle.std.proofs.Common.{◌≡◌, ℕ, suc, ◌+◌, ◌-◌, ◌*◌, ◌≤◌, Bool, true, false, cond, ◌==◌, ◌&&◌, List, [], ◌∷◌, ◌++◌, length, map, take, drop, refl, arith, ap, sym, ◌∙◌, subst, Option, Some, None, ◌⊎◌, inl, inr, option_map, length-append, flat_map, codes, nat_lt, ◌≢◌, get_or}
+use Rattle.std.proofs.Common.{◌≡◌, ℕ, suc, ◌+◌, ◌-◌, ◌*◌, ◌≤◌, Bool, true, false, cond, ◌==◌, ◌&&◌, List, [], ◌∷◌, ◌++◌, length, map, take, drop, refl, arith, ap, sym}
+use Rattle.std.proofs.Common.{◌∙◌, subst, Option, Some, None, ◌⊎◌, inl, inr, option_map, length-append, flat_map, codes, nat_lt, ◌≢◌, get_or}
 use Rattle.std.specs.List.{concat, cons_option, filter_map, find, prefix_len}
 use Rattle.std.specs.Char.{to_ascii_lowercase}
 use Rattle.std.proofs.lemmas.List.{length-drop, length-take, length-map}
@@ -7,7 +8,8 @@ use Rattle.std.proofs.lemmas.Grind.{flat_map-append}
 use Rattle.std.proofs.lemmas.Slice.Eq.{bytes_eq-Decides}
 use Rattle.mail_core.specs.Bytes.{lf, cr, colon}
 use Rattle.mail_core.specs.Lines.{lines, content, is_empty_line, without_end, ends_in}
-use Rattle.mail_core.specs.Fields.{Entry, continues, header_lines, onto_first_block, blocks, header_blocks, field_in, field_from, is_name_byte, is_blank, skip_blanks, fields_of, has_name, field_of, is_fold, unfolded}
+use Rattle.mail_core.specs.Fields.{Entry, continues, header_lines, onto_first_block, blocks, header_blocks, field_in, field_from}
+use Rattle.mail_core.specs.Fields.{is_name_byte, is_blank, skip_blanks, fields_of, has_name, field_of, is_fold, unfolded}
 use Rattle.mail_core.specs.Headers.{alone, first_of, or_alone, or_empty, ids_in_field}
 use Rattle.mail_core.specs.MsgIds.{Id, IsMsgId, OneOrMore, is_left, is_right, ids_of}
 use Rattle.mail_core.specs.Pieces.{Piece, Pieces, ids_in}

@@ -61,7 +61,8 @@ after_last-at k (x ∷ xs) zero lt e h =
     let later = after_last-none k xs (λ j low lt e. h (suc j) (omega arith) (let g : suc j < suc (length xs) = omega (arith, lt) in g) e) in
     rw (later, e) refl
 after_last-at k (x ∷ xs) (suc n) lt e h =
-    let later = after_last-at k xs n (let g : suc n < suc (length xs) = lt in omega (arith, g)) e (λ j low lt e. h (suc j) (omega (arith, low)) (let g : suc j < suc (length xs) = omega (arith, lt) in g) e) in
+    let later = after_last-at k xs n (let g : suc n < suc (length xs) = lt in omega (arith, g)) e
+    (λ j low lt e. h (suc j) (omega (arith, low)) (let g : suc j < suc (length xs) = omega (arith, lt) in g) e) in
     let next : suc n + 1 ≡ suc (n + 1) = omega arith in
     rw (later, next) refl
 

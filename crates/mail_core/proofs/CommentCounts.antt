@@ -1,7 +1,8 @@
 -- The count of depth, by places and by any depth above 0.
 use Rattle.std.proofs.Common.{◌≡◌, ◌≢◌, ℕ, zero, suc, ◌+◌, ◌-◌, ◌<◌, ◌≤◌, Bool, true, false, List, length, refl, arith, ap, ◌∙◌, sym, Option, Some, None, drop, get_or}
 use Rattle.mail_core.specs.Comments.{closing_rest}
-use Rattle.mail_core.proofs.CommentLemmas.{closing_rest-done, closing_rest-quoted, closing_rest-opening, closing_rest-closing, closing_rest-backslash, closing_rest-ordinary, comment_mark-40, comment_mark-41, comment_mark-92, comment_mark-other}
+use Rattle.mail_core.proofs.CommentLemmas.{closing_rest-done, closing_rest-quoted, closing_rest-opening, closing_rest-closing, closing_rest-backslash}
+use Rattle.mail_core.proofs.CommentLemmas.{closing_rest-ordinary, comment_mark-40, comment_mark-41, comment_mark-92, comment_mark-other}
 use Rattle.mail_core.proofs.CommentTable.{drop-at, closing_rest-past}
 
 none_at : (n : ℕ) → 1 ≤ n → n ≡ 0 → ⊥

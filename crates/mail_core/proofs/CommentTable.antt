@@ -1,5 +1,6 @@
 -- The table of the comments that are closed, from the last place back.
-use Rattle.std.proofs.Common.{◌≡◌, ℕ, zero, suc, ◌+◌, ◌<◌, ◌≤◌, Bool, true, false, List, [], ◌∷◌, ◌++◌, ◌-◌, nat_lt, length, length-append, length-drop, drop-drop, refl, arith, ap, ◌∙◌, sym, None, drop, get_or, drop-cons, add-one}
+use Rattle.std.proofs.Common.{◌≡◌, ℕ, zero, suc, ◌+◌, ◌<◌, ◌≤◌, Bool, true, false, List, [], ◌∷◌, ◌++◌, ◌-◌, nat_lt, length, length-append}
+use Rattle.std.proofs.Common.{length-drop, drop-drop, refl, arith, ap, ◌∙◌, sym, None, drop, get_or, drop-cons, add-one}
 use Rattle.std.proofs.lemmas.Grind.{common_steps}
 use Rattle.std.proofs.lemmas.Bool.Decides.{nat_tests}
 use Rattle.std.proofs.lemmas.List.{get_or_at, get_or_append_left}

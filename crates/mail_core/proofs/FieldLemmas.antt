@@ -1,5 +1,6 @@
 -- The blocks of a header, one after the other.
-use Rattle.std.proofs.Common.{◌≡◌, ◌≢◌, ℕ, zero, suc, ◌+◌, ◌-◌, ◌<◌, Bool, true, false, ◌==◌, ◌||◌, List, [], ◌∷◌, ◌++◌, length, take, drop, refl, arith, ap, ◌∙◌, sym, if◌then◌else◌, append_assoc, subst, drop-drop, Some, None}
+use Rattle.std.proofs.Common.{◌≡◌, ◌≢◌, ℕ, zero, suc, ◌+◌, ◌-◌, ◌<◌, Bool, true, false, ◌==◌, ◌||◌, List, [], ◌∷◌, ◌++◌, length, take, drop}
+use Rattle.std.proofs.Common.{refl, arith, ap, ◌∙◌, sym, if◌then◌else◌, append_assoc, subst, drop-drop, Some, None}
 use Rattle.std.proofs.Math.Seq.{take-add}
 use Rattle.std.specs.List.{filter_map}
 use Rattle.mail_core.specs.Lines.{lines, onto_first_line, content, is_empty_line, ends_in, without_end}

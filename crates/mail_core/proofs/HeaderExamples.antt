@@ -44,17 +44,20 @@ unfolding fields_of header_blocks lines content is_empty_line unfolded ids_from 
 an_empty_references = refl
 
 sent_date : sent_date_of (line (codes "Date: 2 Jan 1970 00:00:05 +0000") ++ line []) (pos 0) ≡ pos 86405
-unfolding fields_of header_blocks lines content is_empty_line tokens_of tokens_from token_at kind_of date_at second_at time_at signed_zone_at month_of hours_west closing_rest comment_mark days_before_year days_of_months
+unfolding fields_of header_blocks lines content is_empty_line tokens_of tokens_from token_at kind_of date_at second_at time_at signed_zone_at month_of hours_west
+    closing_rest comment_mark days_before_year days_of_months
 sent_date = refl
 
 -- a Date below the header is text
 a_date_in_the_body : sent_date_of (line (codes "To: x") ++ line [] ++ line (codes "Date: 2 Jan 1970 00:00:05 +0000")) (pos 0) ≡ pos 0
-unfolding fields_of header_blocks lines content is_empty_line tokens_of tokens_from token_at kind_of date_at second_at time_at signed_zone_at month_of hours_west closing_rest comment_mark days_before_year days_of_months
+unfolding fields_of header_blocks lines content is_empty_line tokens_of tokens_from token_at kind_of date_at second_at time_at signed_zone_at month_of hours_west
+    closing_rest comment_mark days_before_year days_of_months
 a_date_in_the_body = refl
 
 -- the first Date counts, though it is no date
 two_dates : sent_date_of (line (codes "Date: soon") ++ line (codes "Date: 2 Jan 1970 00:00:05 +0000")) (pos 0) ≡ pos 0
-unfolding fields_of header_blocks lines content is_empty_line tokens_of tokens_from token_at kind_of date_at second_at time_at signed_zone_at month_of hours_west closing_rest comment_mark days_before_year days_of_months
+unfolding fields_of header_blocks lines content is_empty_line tokens_of tokens_from token_at kind_of date_at second_at time_at signed_zone_at month_of hours_west
+    closing_rest comment_mark days_before_year days_of_months
 two_dates = refl
 
 -- Subject: SP Re: LF TAB SP Hello TAB

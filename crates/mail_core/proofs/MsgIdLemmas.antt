@@ -1,13 +1,16 @@
 -- The grammar of msg-ids and the function that reads one are one.
-use Rattle.std.proofs.Common.{◌≡◌, ◌≢◌, ℕ, suc, ◌+◌, ◌-◌, ◌<◌, ◌≤◌, Bool, true, false, ◌==◌, List, [], ◌∷◌, ◌++◌, length, refl, arith, ap, ◌∙◌, sym, Option, Some, None, subst, take, option_map, inl, inr, append_assoc, IsTrue, length-append}
+use Rattle.std.proofs.Common.{◌≡◌, ◌≢◌, ℕ, suc, ◌+◌, ◌-◌, ◌<◌, ◌≤◌, Bool, true, false, ◌==◌, List, [], ◌∷◌, ◌++◌, length, refl, arith, ap, ◌∙◌}
+use Rattle.std.proofs.Common.{sym, Option, Some, None, subst, take, option_map, inl, inr, append_assoc, IsTrue, length-append}
 use Rattle.std.specs.List.{AllByRecursion}
 use Rattle.std.specs.Option.{option_and_then}
 use Rattle.std.proofs.Math.Seq.{take-append_seam}
-use Rattle.mail_core.specs.MsgIds.{Id, IsMsgId, OneOrMore, is_left, is_right, after_byte, with_first, right_from, right_at, Sides, with_left_first, sides_of, quoted_id, quoted_parts, plain_parts, plain_id, id_at}
+use Rattle.mail_core.specs.MsgIds.{Id, IsMsgId, OneOrMore, is_left, is_right, after_byte, with_first, right_from, right_at, Sides}
+use Rattle.mail_core.specs.MsgIds.{with_left_first, sides_of, quoted_id, quoted_parts, plain_parts, plain_id, id_at}
 use Rattle.mail_core.specs.Quotes.{IsQuotedContent, after_quote, unquoted}
 use Rattle.mail_core.proofs.CommentLemmas.{is_it, is_not, not_equal}
 use Rattle.mail_core.proofs.QuoteLemmas.{quote_ends, quoted_of, means}
-use Rattle.mail_core.proofs.SideLemmas.{right-62, right-more, right-closing_rest, right-stops, right-over, right-begins, right-no_byte, right_at-is, sides_of-over, sides_of-stops, sides_of-more, sides_of-here, id_at-cons, quoted-step, short-none}
+use Rattle.mail_core.proofs.SideLemmas.{right-62, right-more, right-closing_rest, right-stops, right-over, right-begins, right-no_byte, right_at-is}
+use Rattle.mail_core.proofs.SideLemmas.{sides_of-over, sides_of-stops, sides_of-more, sides_of-here, id_at-cons, quoted-step, short-none}
 use Rattle.mail_core.proofs.ScanLemmas.{no_id}
 
 true_of : (b : Bool) → IsTrue b → b ≡ true

@@ -1,5 +1,6 @@
 -- The grammar of quoted strings and the scan for the quote that ends them are one.
-use Rattle.std.proofs.Common.{◌≡◌, ◌≢◌, ℕ, zero, suc, ◌+◌, ◌<◌, ◌≤◌, Bool, true, false, ◌==◌, List, [], ◌∷◌, ◌++◌, length, refl, arith, ap, ◌∙◌, sym, Some, None, if◌then◌else◌, drop, get_or, ◌-◌, length-drop, drop-drop, get_or-drop, append_assoc}
+use Rattle.std.proofs.Common.{◌≡◌, ◌≢◌, ℕ, zero, suc, ◌+◌, ◌<◌, ◌≤◌, Bool, true, false, ◌==◌, List, [], ◌∷◌, ◌++◌, length, refl, arith, ap, ◌∙◌, sym}
+use Rattle.std.proofs.Common.{Some, None, if◌then◌else◌, drop, get_or, ◌-◌, length-drop, drop-drop, get_or-drop, append_assoc}
 use Rattle.mail_core.specs.Quotes.{IsQuotedContent, QuoteMark, quote_mark, after_quote, unquoted}
 use Rattle.mail_core.specs.Quotes.IsQuotedContent.{nothing, byte, pair}
 use Rattle.mail_core.specs.Quotes.QuoteMark.{ending, escape, plain}

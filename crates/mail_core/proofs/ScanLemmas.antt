@@ -1,5 +1,6 @@
 -- The scan, piece by piece, over places of the text.
-use Rattle.std.proofs.Common.{◌≡◌, ◌≢◌, ℕ, zero, suc, ◌+◌, ◌-◌, ◌<◌, ◌≤◌, false, List, [], ◌∷◌, length, refl, arith, ap, ◌∙◌, sym, Option, Some, None, ◌++◌, take, drop, get_or, length-append, length-drop, drop-drop}
+use Rattle.std.proofs.Common.{◌≡◌, ◌≢◌, ℕ, zero, suc, ◌+◌, ◌-◌, ◌<◌, ◌≤◌, false, List, [], ◌∷◌, length, refl, arith, ap, ◌∙◌, sym}
+use Rattle.std.proofs.Common.{Option, Some, None, ◌++◌, take, drop, get_or, length-append, length-drop, drop-drop}
 use Rattle.mail_core.specs.Comments.{closing_rest}
 use Rattle.mail_core.specs.Quotes.{after_quote}
 use Rattle.mail_core.specs.MsgIds.{Id, id_at}
@@ -34,7 +35,8 @@ scan_step text i e b o lt le hb h =
     let gap : length (drop (i + 1) text) - length (drop e text) ≡ e - (i + 1) = simp length-drop (omega arith) in
     ap ids_of (drop-at text i b under hb)
     ∙ ids-cons b (drop (i + 1) text) (drop e text) o h
-    ∙ ap (add_identity o) (ap (λ (n : ℕ). ids_from n (drop (i + 1) text)) gap ∙ ids-skip (drop (i + 1) text) (e - (i + 1)) ∙ ap ids_of (drop_of_drop text (i + 1) (e - (i + 1)) ∙ ap (λ (n : ℕ). drop n text) (let k : i + 1 + (e - (i + 1)) ≡ e = omega arith in k)))
+    ∙ ap (add_identity o) (ap (λ (n : ℕ). ids_from n (drop (i + 1) text)) gap ∙ ids-skip (drop (i + 1) text) (e - (i + 1))
+    ∙ ap ids_of (drop_of_drop text (i + 1) (e - (i + 1)) ∙ ap (λ (n : ℕ). drop n text) (let k : i + 1 + (e - (i + 1)) ≡ e = omega arith in k)))
 
 pub piece-comment : (bs rest : List ℕ) → closing_rest false 1 bs ≡ Some rest → next_piece 40 bs ≡ (None, rest)
 unfolding next_piece

@@ -1,5 +1,6 @@
 -- The sides of a msg-id, by places.
-use Rattle.std.proofs.Common.{◌≡◌, ◌≢◌, ℕ, zero, suc, ◌+◌, ◌-◌, ◌<◌, ◌≤◌, Bool, true, false, ◌==◌, List, [], ◌∷◌, ◌++◌, length, refl, arith, ap, ◌∙◌, sym, Option, Some, None, take, drop, get_or, length-drop, drop-drop, get_or-drop, option_map, ◌⊎◌, inl, inr, append_assoc, append-nil, length-take}
+use Rattle.std.proofs.Common.{◌≡◌, ◌≢◌, ℕ, zero, suc, ◌+◌, ◌-◌, ◌<◌, ◌≤◌, Bool, true, false, ◌==◌, List, [], ◌∷◌, ◌++◌, length, refl, arith, ap, ◌∙◌, sym, Option, Some, None}
+use Rattle.std.proofs.Common.{take, drop, get_or, length-drop, drop-drop, get_or-drop, option_map, ◌⊎◌, inl, inr, append_assoc, append-nil, length-take}
 use Rattle.std.proofs.Math.Seq.{take-suc}
 use Rattle.std.specs.Option.{option_and_then}
 use Rattle.mail_core.specs.MsgIds.{Id, is_left, is_right, after_byte, with_first, right_from, right_at, Sides, with_left_first, sides_of, quoted_id, quoted_parts, plain_parts, plain_id, id_at}
@@ -57,7 +58,8 @@ right-none [] k le run h = right-over
 right-none (x ∷ xs) zero le run h = let w = h (let g : 0 < suc (length xs) = omega arith in g) in right-stops x xs w.0 w.1
 right-none (x ∷ xs) (suc k) le run h =
     right-more x xs (run 0 (omega arith))
-    ∙ ap (option_map (with_first x)) (right-none xs k (let g : suc k ≤ suc (length xs) = le in omega (arith, g)) (λ j l. run (suc j) (omega (arith, l))) (λ l. h (let g : suc k < suc (length xs) = omega (arith, l) in g)))
+    ∙ ap (option_map (with_first x)) (right-none xs k (let g : suc k ≤ suc (length xs) = le in omega (arith, g)) (λ j l. run (suc j) (omega (arith, l)))
+    (λ l. h (let g : suc k < suc (length xs) = omega (arith, l) in g)))
 
 pub right-begins : (xs : List ℕ) → 0 < length xs → is_right (get_or xs 0 0) ≡ true → right_at xs ≡ right_from xs
 right-begins [] lt h = absurd (let bad : 0 < 0 = lt in omega (arith, bad))
@@ -97,7 +99,8 @@ right_at-none text i j lt end run h =
 
 pub right_at-nothing : (text : List ℕ) (i : ℕ) → (i < length text → is_right (get_or text i 0) ≡ false) → right_at (drop i text) ≡ None
 right_at-nothing text i h =
-    right-no_byte (drop i text) (λ g. ap is_right (shifted text i 0 ∙ ap (λ (n : ℕ). get_or text n 0) (let k : i + 0 ≡ i = omega arith in k)) ∙ h (let k : 0 < length text - i = simp length-drop at g in omega (arith, k)))
+    right-no_byte (drop i text) (λ g. ap is_right (shifted text i 0 ∙ ap (λ (n : ℕ). get_or text n 0) (let k : i + 0 ≡ i = omega arith in k))
+    ∙ h (let k : 0 < length text - i = simp length-drop at g in omega (arith, k)))
 
 -- one more byte of the run
 pub run-more : (text : List ℕ) (i j : ℕ) → RightRun text i j → is_right (get_or text j 0) ≡ true → RightRun text i (j + 1)
@@ -239,7 +242,8 @@ quoted-no_at text s e h a =
     ap (option_and_then (λ (rest : List ℕ). option_and_then (λ (r : List ℕ). option_map (quoted_parts (drop s text) rest) (right_at r)) (after_byte 64 rest))) h
     ∙ ap (option_and_then (λ (r : List ℕ). option_map (quoted_parts (drop s text) (drop e text)) (right_at r))) (after_byte-none text e a)
 
-pub quoted-no_right : (text : List ℕ) (s e : ℕ) → e < length text → after_quote false (drop s text) ≡ Some (drop e text) → get_or text e 0 ≡ 64 → right_at (drop (e + 1) text) ≡ None → quoted_id (drop s text) ≡ None
+pub quoted-no_right : (text : List ℕ) (s e : ℕ) → e < length text → after_quote false (drop s text) ≡ Some (drop e text) → get_or text e 0 ≡ 64
+    → right_at (drop (e + 1) text) ≡ None → quoted_id (drop s text) ≡ None
 quoted-no_right text s e end h a k =
     ap (option_and_then (λ (rest : List ℕ). option_and_then (λ (r : List ℕ). option_map (quoted_parts (drop s text) rest) (right_at r)) (after_byte 64 rest))) h
     ∙ ap (option_and_then (λ (r : List ℕ). option_map (quoted_parts (drop s text) (drop e text)) (right_at r))) (after_byte-found text e end a)

@@ -79,4 +79,5 @@ tokens-open b bs e h = rw e (tokens-cons 40 bs (Some (sign 40)) 0 (rw (kind-pare
 pub tokens-comment : (b : ℕ) (bs : List ℕ) (e : ℕ) → b ≡ 40 → e ≤ length bs → closing_rest false 1 bs ≡ Some (drop e bs) → tokens_of (b ∷ bs) ≡ tokens_of (drop e bs)
 unfolding token_at
 tokens-comment b bs e s le h =
-    rw s (tokens-cons 40 bs None (length bs - length (drop e bs)) (rw (kind-paren, h, token_at) refl) ∙ ap (λ (n : ℕ). tokens_of (drop n bs)) (let k : length bs - length (drop e bs) ≡ e = simp length-drop (omega arith) in k))
+    rw s (tokens-cons 40 bs None (length bs - length (drop e bs)) (rw (kind-paren, h, token_at) refl) ∙ ap (λ (n : ℕ). tokens_of (drop n bs))
+    (let k : length bs - length (drop e bs) ≡ e = simp length-drop (omega arith) in k))

@@ -21,7 +21,9 @@ fn left_byte(byte: u8) -> bool
 /// The place of the `>` behind the right side that begins here.
 pub(crate) fn right_end(text: &[u8], from: usize) -> Option<usize>
     requires { from ≤ length text.now }
-    ensures { MatchOption result (right_at (drop from text.now) ≡ None) (λ end. (from < end) × (end < length text.now) × (right_at (drop from text.now) ≡ Some (take (end - from) (drop from text.now), drop (end + 1) text.now))) }
+    ensures { MatchOption result (right_at (drop from text.now) ≡ None)
+        (λ end. (from < end) × (end < length text.now)
+        × (right_at (drop from text.now) ≡ Some (take (end - from) (drop from text.now), drop (end + 1) text.now))) }
 {
     let mut at = from;
     while at < text.len() {

@@ -4,7 +4,8 @@ use Rattle.std.specs.List.{concat, AllByRecursion}
 use Rattle.mail_core.specs.Lines.{lines}
 use Rattle.mbox_items.specs.Division.{is_blank, Item, Split, IsBlank, Divides, IsPreamble, with_line, split_lines, items_of}
 use Rattle.mbox_items.proofs.LineLemmas.{lines_are}
-use Rattle.mbox_items.proofs.SplitLemmas.{Quiet, quiet_back, quiet_blanks, last_blanks, last_blank, split-quiet, split-none, heads_any, with_lines, none_is, divides_items, reads, first_unblank, Unblank, all_back, blocks_split}
+use Rattle.mbox_items.proofs.SplitLemmas.{Quiet, quiet_back, quiet_blanks, last_blanks, last_blank, split-quiet, split-none, heads_any}
+use Rattle.mbox_items.proofs.SplitLemmas.{with_lines, none_is, divides_items, reads, first_unblank, Unblank, all_back, blocks_split}
 
 -- no bytes have two divisions
 pub one_division : (bytes : List ℕ) (is js : List Item) → Divides bytes is → Divides bytes js → is ≡ js

@@ -117,7 +117,11 @@ two_messages = refl
 
 -- lines that look alike and are text
 text_alike : items_of (codes "From a@b Tue Mar  4 10:00:00 2003\n\nFrom here on we sail.\nFrom bob@example.org Wed Mar 12 10:30:00 2003\n\nFrom a b Tue Mar 4 10:00:00 2003\n")
-    ≡ record { envelope = record { sender = codes "a@b"; arrival = pos 1046772000 }; text = codes "\nFrom here on we sail.\nFrom bob@example.org Wed Mar 12 10:30:00 2003\n\nFrom a b Tue Mar 4 10:00:00 2003\n" } ∷ []
+    ≡ record {
+      envelope = record { sender = codes "a@b"; arrival = pos 1046772000 };
+      text = codes
+          "\nFrom here on we sail.\nFrom bob@example.org Wed Mar 12 10:30:00 2003\n\nFrom a b Tue Mar 4 10:00:00 2003\n";
+    } ∷ []
 unfolding separator_of envelope_of sent_by_one sent_by_two arrival_of instant_of is_weekday month_of year_of clock_of day_of tokens days_before_year days_of_months split_lines lines content body
 text_alike = refl
 
@@ -136,7 +140,11 @@ preamble = refl
 
 -- the relation itself, by the law that what is computed is a division
 alike_divides : Divides (codes "From a@b Tue Mar  4 10:00:00 2003\n\nFrom here on we sail.\nFrom bob@example.org Wed Mar 12 10:30:00 2003\n\nFrom a b Tue Mar 4 10:00:00 2003\n")
-    (record { envelope = record { sender = codes "a@b"; arrival = pos 1046772000 }; text = codes "\nFrom here on we sail.\nFrom bob@example.org Wed Mar 12 10:30:00 2003\n\nFrom a b Tue Mar 4 10:00:00 2003\n" } ∷ [])
+    (record {
+      envelope = record { sender = codes "a@b"; arrival = pos 1046772000 };
+      text = codes
+          "\nFrom here on we sail.\nFrom bob@example.org Wed Mar 12 10:30:00 2003\n\nFrom a b Tue Mar 4 10:00:00 2003\n";
+    } ∷ [])
 unfolding separator_of envelope_of sent_by_one sent_by_two arrival_of instant_of is_weekday month_of year_of clock_of day_of tokens days_before_year days_of_months split_lines lines content body
 alike_divides = subst (Divides (codes "From a@b Tue Mar  4 10:00:00 2003\n\nFrom here on we sail.\nFrom bob@example.org Wed Mar 12 10:30:00 2003\n\nFrom a b Tue Mar 4 10:00:00 2003\n")) text_alike
     (front_divides (codes "From a@b Tue Mar  4 10:00:00 2003\n\nFrom here on we sail.\nFrom bob@example.org Wed Mar 12 10:30:00 2003\n\nFrom a b Tue Mar 4 10:00:00 2003\n") tt)

@@ -1,5 +1,6 @@
 -- What is written is cut again.
-use Rattle.std.proofs.Common.{◌≡◌, ℕ, suc, ◌+◌, ◌-◌, ◌*◌, ◌/◌, ◌%◌, ◌<◌, Bool, true, false, ◌==◌, nat_lt, refl, arith, ap, ◌∙◌, sym, if◌then◌else◌, inl, inr, ◌⊎◌, List, [], ◌∷◌, ◌++◌, length, length-append, take, take_all, get_or, subst, codes, map, append_assoc, Some, None, ℤ, pos, ◌+ℤ◌, ◌-ℤ◌, ◌*ℤ◌, unsigned_abs}
+use Rattle.std.proofs.Common.{◌≡◌, ℕ, suc, ◌+◌, ◌-◌, ◌*◌, ◌/◌, ◌%◌, ◌<◌, Bool, true, false, ◌==◌, nat_lt, refl, arith, ap, ◌∙◌, sym, if◌then◌else◌, inl, inr, ◌⊎◌, List, [], ◌∷◌}
+use Rattle.std.proofs.Common.{◌++◌, length, length-append, take, take_all, get_or, subst, codes, map, append_assoc, Some, None, ℤ, pos, ◌+ℤ◌, ◌-ℤ◌, ◌*ℤ◌, unsigned_abs}
 use Rattle.std.specs.List.{All}
 use Rattle.std.specs.Int.{int_rem_euclid}
 use Rattle.std.proofs.lemmas.List.{take_more}
@@ -119,7 +120,8 @@ heading_ended e is =
     let day = day_of_instant e.arrival in
     ended_run (codes "From") refl (32 ∷ (e.sender ++ 32 ∷ time_text e.arrival))
     (ended_space (e.sender ++ 32 ∷ time_text e.arrival) (text_ended e.sender (32 ∷ time_text e.arrival) is.sender
-    (ended_space (time_text e.arrival) (date_ended (weekday day) (date_after (days_since_1900 day)) (unsigned_abs (int_rem_euclid e.arrival (pos 86400))) (rest_small (day +ℤ pos 3)) (in_year_after e is)))))
+    (ended_space (time_text e.arrival) (date_ended (weekday day) (date_after (days_since_1900 day)) (unsigned_abs (int_rem_euclid e.arrival (pos 86400)))
+    (rest_small (day +ℤ pos 3)) (in_year_after e is)))))
 
 -- ---- its length
 

@@ -1,5 +1,7 @@
 -- A search for the mark that begins a separator line, beside the fold over lines.
-use Rattle.std.proofs.Common.{◌≡◌, ◌≢◌, ℕ, suc, ◌+◌, ◌-◌, ◌<◌, ◌≤◌, Bool, true, false, ◌==◌, List, [], ◌∷◌, ◌++◌, length, take, drop, get_or, refl, arith, ap, ◌∙◌, sym, if◌then◌else◌, Option, Some, None, append_assoc, append-nil, inl, inr, ◌⊎◌, subst, codes, length-take, length-drop, length-append, get_or-take, get_or-drop, take_all}
+use Rattle.std.proofs.Common.{◌≡◌, ◌≢◌, ℕ, suc, ◌+◌, ◌-◌, ◌<◌, ◌≤◌, Bool, true, false, ◌==◌, List, [], ◌∷◌, ◌++◌, length, take, drop, get_or, refl, arith, ap, ◌∙◌, sym}
+use Rattle.std.proofs.Common.{if◌then◌else◌, Option, Some, None, append_assoc, append-nil, inl, inr, ◌⊎◌, subst, codes, length-take, length-drop, length-append, get_or-take}
+use Rattle.std.proofs.Common.{get_or-drop, take_all}
 use Rattle.std.proofs.lemmas.List.{take-append-drop, get_or_append_left, take-take, drop_all, take_more}
 use Rattle.std.proofs.lemmas.Bool.{eqb-true, cases_lt}
 use Rattle.std.specs.List.{concat, AllByRecursion}
@@ -207,7 +209,8 @@ one_line xs some none true e =
     let n = length xs - 1 in
     let h : n < length xs = omega (arith, some) in
     let s : suc n ≡ length xs = omega (arith, some) in
-    lines-cut xs n h none e ∙ rw s (ap (λ x. x ∷ lines (drop (length xs) xs)) (take_all (length xs) xs (omega arith)) ∙ ap (λ x. xs ∷ lines x) (drop_all (length xs) xs (omega arith)) ∙ ap (λ ls. xs ∷ ls) lines-nil)
+    lines-cut xs n h none e ∙ rw s (ap (λ x. x ∷ lines (drop (length xs) xs)) (take_all (length xs) xs (omega arith)) ∙ ap (λ x. xs ∷ lines x) (drop_all (length xs) xs (omega arith))
+    ∙ ap (λ ls. xs ∷ ls) lines-nil)
 one_line xs some none false e =
     lines-whole xs some (λ k lt q. at_last k lt q (cases_lt k (length xs - 1)))
     ∙ ap (λ x. x ∷ lines (drop (length xs) xs)) (take_all (length xs) xs (omega arith)) ∙ ap (λ x. xs ∷ lines x) (drop_all (length xs) xs (omega arith)) ∙ ap (λ ls. xs ∷ ls) lines-nil

@@ -1,5 +1,6 @@
 -- What holds of the text of an item.
-use Rattle.std.proofs.Common.{◌≡◌, ◌≢◌, ℕ, suc, ◌-◌, Bool, true, false, ◌==◌, List, [], ◌∷◌, ◌++◌, length, refl, arith, ap, ◌∙◌, sym, if◌then◌else◌, Option, Some, None, append-nil, inl, inr, ◌⊎◌, subst, length-append}
+use Rattle.std.proofs.Common.{◌≡◌, ◌≢◌, ℕ, suc, ◌-◌, Bool, true, false, ◌==◌, List, [], ◌∷◌, ◌++◌, length, refl, arith, ap, ◌∙◌, sym}
+use Rattle.std.proofs.Common.{if◌then◌else◌, Option, Some, None, append-nil, inl, inr, ◌⊎◌, subst, length-append}
 use Rattle.std.proofs.lemmas.List.{get_or_at, take_at}
 use Rattle.std.proofs.lemmas.Bool.Decides.{nat_tests}
 use Rattle.std.specs.Option.{is_some}
@@ -7,7 +8,8 @@ use Rattle.mail_core.specs.Lines.{lines, onto_first_line, content, ends_in, with
 use Rattle.mbox_items.specs.Separator.{Envelope, IsSeparator}
 use Rattle.mbox_items.specs.Division.{is_blank, Item, Split, IsBlank, IsSeparatorLine, NoneSeparates, AreBlocks, body, split_lines, is_whole, whole, text_in, items_in, items_after}
 use Rattle.mbox_items.proofs.LineLemmas.{lines_are, AreLines, are_front, lines-concat, lines-nil}
-use Rattle.mbox_items.proofs.SplitLemmas.{Quiet, none_separates, quiet_false, quiet_front, reads, split-quiet, split-nil, last_blank, with_lines, last_line, body-blank, body-some, body-nil, concat_snoc}
+use Rattle.mbox_items.proofs.SplitLemmas.{Quiet, none_separates, quiet_false, quiet_front, reads, split-quiet, split-nil, last_blank}
+use Rattle.mbox_items.proofs.SplitLemmas.{with_lines, last_line, body-blank, body-some, body-nil, concat_snoc}
 
 pub never : (n : ℕ) → (suc n == 0) ≡ false
 never n = grind (arith, nat_tests)

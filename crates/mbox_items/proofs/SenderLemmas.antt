@@ -1,5 +1,6 @@
 -- The senders of the code, and their written form.
-use Rattle.std.proofs.Common.{◌≡◌, ℕ, zero, suc, ◌<◌, ◌≤◌, Bool, true, false, ◌==◌, not, List, [], ◌∷◌, ◌++◌, length, take, drop, get_or, refl, arith, ap, ◌∙◌, sym, ℤ, codes, length-append, ◌⊎◌, inl, inr}
+use Rattle.std.proofs.Common.{◌≡◌, ℕ, zero, suc, ◌<◌, ◌≤◌, Bool, true, false, ◌==◌, not, List, [], ◌∷◌, ◌++◌, length, take, drop}
+use Rattle.std.proofs.Common.{get_or, refl, arith, ap, ◌∙◌, sym, ℤ, codes, length-append, ◌⊎◌, inl, inr}
 use Rattle.std.proofs.lemmas.List.{get_or_at, take_at, drop_at}
 use Rattle.civil_time.specs.Calendar.{is_instant}
 use Rattle.mbox_items.specs.Separator.{IsSenderText, is_sender_token, spaced}

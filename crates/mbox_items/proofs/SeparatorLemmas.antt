@@ -1,11 +1,13 @@
 -- The relation and the value.
-use Rattle.std.proofs.Common.{◌≡◌, ℕ, Bool, true, false, ◌&&◌, List, [], ◌∷◌, ◌++◌, take, drop, refl, ap, ◌∙◌, sym, if◌then◌else◌, Option, Some, None, ℤ, pos, ◌+ℤ◌, ◌-ℤ◌, ◌*ℤ◌, codes, take-append-drop}
+use Rattle.std.proofs.Common.{◌≡◌, ℕ, Bool, true, false, ◌&&◌, List, [], ◌∷◌, ◌++◌, take, drop, refl, ap, ◌∙◌, sym}
+use Rattle.std.proofs.Common.{if◌then◌else◌, Option, Some, None, ℤ, pos, ◌+ℤ◌, ◌-ℤ◌, ◌*ℤ◌, codes, take-append-drop}
 use Rattle.std.specs.Str.{bytes_eq}
 use Rattle.std.specs.Option.{MatchOption, IfSome, IfNone, is_some}
 use Rattle.std.proofs.lemmas.Slice.Eq.{bytes_eq-Decides}
 use Rattle.civil_time.specs.Calendar.{day_number_of, instant_at}
 use Rattle.civil_time.specs.Zones.{zone_of}
-use Rattle.mbox_items.specs.Separator.{◌>>=◌, Envelope, IsSeparator, IsArrival, IsSentBy, separator_of, envelope_of, arrival_of, sent_by_one, sent_by_two, east_of, spaced, tokens, is_sender_token, day_of, clock_of, year_of, instant_of}
+use Rattle.mbox_items.specs.Separator.{◌>>=◌, Envelope, IsSeparator, IsArrival, IsSentBy, separator_of, envelope_of, arrival_of, sent_by_one}
+use Rattle.mbox_items.specs.Separator.{sent_by_two, east_of, spaced, tokens, is_sender_token, day_of, clock_of, year_of, instant_of}
 use Rattle.civil_time.specs.Names.{is_weekday, month_of}
 
 pub bind_some : {A B : Type 0} (o : Option A) (f : A → Option B) (y : B) → (o >>= f) ≡ Some y → (x : A) × (o ≡ Some x) × (f x ≡ Some y)
@@ -234,26 +236,37 @@ chain_1 x0 x1 t1 ts h1 e = h1 ∙ ap (λ r. t1 ∷ r) e
 pub chain_2 : (x0 x1 x2 t1 t2 : List ℕ) (ts : List (List ℕ)) → tokens x0 ≡ t1 ∷ tokens x1 → tokens x1 ≡ t2 ∷ tokens x2 → tokens x2 ≡ ts → tokens x0 ≡ t1 ∷ t2 ∷ ts
 chain_2 x0 x1 x2 t1 t2 ts h1 h2 e = h1 ∙ ap (λ r. t1 ∷ r) (chain_1 x1 x2 t2 ts h2 e)
 
-pub chain_3 : (x0 x1 x2 x3 t1 t2 t3 : List ℕ) (ts : List (List ℕ)) → tokens x0 ≡ t1 ∷ tokens x1 → tokens x1 ≡ t2 ∷ tokens x2 → tokens x2 ≡ t3 ∷ tokens x3 → tokens x3 ≡ ts → tokens x0 ≡ t1 ∷ t2 ∷ t3 ∷ ts
+pub chain_3 : (x0 x1 x2 x3 t1 t2 t3 : List ℕ) (ts : List (List ℕ)) → tokens x0 ≡ t1 ∷ tokens x1 → tokens x1 ≡ t2 ∷ tokens x2 → tokens x2 ≡ t3 ∷ tokens x3
+    → tokens x3 ≡ ts → tokens x0 ≡ t1 ∷ t2 ∷ t3 ∷ ts
 chain_3 x0 x1 x2 x3 t1 t2 t3 ts h1 h2 h3 e = h1 ∙ ap (λ r. t1 ∷ r) (chain_2 x1 x2 x3 t2 t3 ts h2 h3 e)
 
-pub chain_4 : (x0 x1 x2 x3 x4 t1 t2 t3 t4 : List ℕ) (ts : List (List ℕ)) → tokens x0 ≡ t1 ∷ tokens x1 → tokens x1 ≡ t2 ∷ tokens x2 → tokens x2 ≡ t3 ∷ tokens x3 → tokens x3 ≡ t4 ∷ tokens x4 → tokens x4 ≡ ts → tokens x0 ≡ t1 ∷ t2 ∷ t3 ∷ t4 ∷ ts
+pub chain_4 : (x0 x1 x2 x3 x4 t1 t2 t3 t4 : List ℕ) (ts : List (List ℕ)) → tokens x0 ≡ t1 ∷ tokens x1 → tokens x1 ≡ t2 ∷ tokens x2 → tokens x2 ≡ t3 ∷ tokens x3
+    → tokens x3 ≡ t4 ∷ tokens x4 → tokens x4 ≡ ts → tokens x0 ≡ t1 ∷ t2 ∷ t3 ∷ t4 ∷ ts
 chain_4 x0 x1 x2 x3 x4 t1 t2 t3 t4 ts h1 h2 h3 h4 e = h1 ∙ ap (λ r. t1 ∷ r) (chain_3 x1 x2 x3 x4 t2 t3 t4 ts h2 h3 h4 e)
 
-pub chain_5 : (x0 x1 x2 x3 x4 x5 t1 t2 t3 t4 t5 : List ℕ) (ts : List (List ℕ)) → tokens x0 ≡ t1 ∷ tokens x1 → tokens x1 ≡ t2 ∷ tokens x2 → tokens x2 ≡ t3 ∷ tokens x3 → tokens x3 ≡ t4 ∷ tokens x4 → tokens x4 ≡ t5 ∷ tokens x5 → tokens x5 ≡ ts → tokens x0 ≡ t1 ∷ t2 ∷ t3 ∷ t4 ∷ t5 ∷ ts
+pub chain_5 : (x0 x1 x2 x3 x4 x5 t1 t2 t3 t4 t5 : List ℕ) (ts : List (List ℕ)) → tokens x0 ≡ t1 ∷ tokens x1 → tokens x1 ≡ t2 ∷ tokens x2 → tokens x2 ≡ t3 ∷ tokens x3
+    → tokens x3 ≡ t4 ∷ tokens x4 → tokens x4 ≡ t5 ∷ tokens x5 → tokens x5 ≡ ts → tokens x0 ≡ t1 ∷ t2 ∷ t3 ∷ t4 ∷ t5 ∷ ts
 chain_5 x0 x1 x2 x3 x4 x5 t1 t2 t3 t4 t5 ts h1 h2 h3 h4 h5 e = h1 ∙ ap (λ r. t1 ∷ r) (chain_4 x1 x2 x3 x4 x5 t2 t3 t4 t5 ts h2 h3 h4 h5 e)
 
-pub chain_6 : (x0 x1 x2 x3 x4 x5 x6 t1 t2 t3 t4 t5 t6 : List ℕ) (ts : List (List ℕ)) → tokens x0 ≡ t1 ∷ tokens x1 → tokens x1 ≡ t2 ∷ tokens x2 → tokens x2 ≡ t3 ∷ tokens x3 → tokens x3 ≡ t4 ∷ tokens x4 → tokens x4 ≡ t5 ∷ tokens x5 → tokens x5 ≡ t6 ∷ tokens x6 → tokens x6 ≡ ts → tokens x0 ≡ t1 ∷ t2 ∷ t3 ∷ t4 ∷ t5 ∷ t6 ∷ ts
+pub chain_6 : (x0 x1 x2 x3 x4 x5 x6 t1 t2 t3 t4 t5 t6 : List ℕ) (ts : List (List ℕ)) → tokens x0 ≡ t1 ∷ tokens x1 → tokens x1 ≡ t2 ∷ tokens x2 → tokens x2 ≡ t3 ∷ tokens x3
+    → tokens x3 ≡ t4 ∷ tokens x4 → tokens x4 ≡ t5 ∷ tokens x5 → tokens x5 ≡ t6 ∷ tokens x6 → tokens x6 ≡ ts → tokens x0 ≡ t1 ∷ t2 ∷ t3 ∷ t4 ∷ t5 ∷ t6 ∷ ts
 chain_6 x0 x1 x2 x3 x4 x5 x6 t1 t2 t3 t4 t5 t6 ts h1 h2 h3 h4 h5 h6 e = h1 ∙ ap (λ r. t1 ∷ r) (chain_5 x1 x2 x3 x4 x5 x6 t2 t3 t4 t5 t6 ts h2 h3 h4 h5 h6 e)
 
-pub chain_7 : (x0 x1 x2 x3 x4 x5 x6 x7 t1 t2 t3 t4 t5 t6 t7 : List ℕ) (ts : List (List ℕ)) → tokens x0 ≡ t1 ∷ tokens x1 → tokens x1 ≡ t2 ∷ tokens x2 → tokens x2 ≡ t3 ∷ tokens x3 → tokens x3 ≡ t4 ∷ tokens x4 → tokens x4 ≡ t5 ∷ tokens x5 → tokens x5 ≡ t6 ∷ tokens x6 → tokens x6 ≡ t7 ∷ tokens x7 → tokens x7 ≡ ts → tokens x0 ≡ t1 ∷ t2 ∷ t3 ∷ t4 ∷ t5 ∷ t6 ∷ t7 ∷ ts
+pub chain_7 : (x0 x1 x2 x3 x4 x5 x6 x7 t1 t2 t3 t4 t5 t6 t7 : List ℕ) (ts : List (List ℕ)) → tokens x0 ≡ t1 ∷ tokens x1 → tokens x1 ≡ t2 ∷ tokens x2
+    → tokens x2 ≡ t3 ∷ tokens x3 → tokens x3 ≡ t4 ∷ tokens x4 → tokens x4 ≡ t5 ∷ tokens x5 → tokens x5 ≡ t6 ∷ tokens x6 → tokens x6 ≡ t7 ∷ tokens x7 → tokens x7 ≡ ts
+    → tokens x0 ≡ t1 ∷ t2 ∷ t3 ∷ t4 ∷ t5 ∷ t6 ∷ t7 ∷ ts
 chain_7 x0 x1 x2 x3 x4 x5 x6 x7 t1 t2 t3 t4 t5 t6 t7 ts h1 h2 h3 h4 h5 h6 h7 e = h1 ∙ ap (λ r. t1 ∷ r) (chain_6 x1 x2 x3 x4 x5 x6 x7 t2 t3 t4 t5 t6 t7 ts h2 h3 h4 h5 h6 h7 e)
 
-pub chain_8 : (x0 x1 x2 x3 x4 x5 x6 x7 x8 t1 t2 t3 t4 t5 t6 t7 t8 : List ℕ) (ts : List (List ℕ)) → tokens x0 ≡ t1 ∷ tokens x1 → tokens x1 ≡ t2 ∷ tokens x2 → tokens x2 ≡ t3 ∷ tokens x3 → tokens x3 ≡ t4 ∷ tokens x4 → tokens x4 ≡ t5 ∷ tokens x5 → tokens x5 ≡ t6 ∷ tokens x6 → tokens x6 ≡ t7 ∷ tokens x7 → tokens x7 ≡ t8 ∷ tokens x8 → tokens x8 ≡ ts → tokens x0 ≡ t1 ∷ t2 ∷ t3 ∷ t4 ∷ t5 ∷ t6 ∷ t7 ∷ t8 ∷ ts
+pub chain_8 : (x0 x1 x2 x3 x4 x5 x6 x7 x8 t1 t2 t3 t4 t5 t6 t7 t8 : List ℕ) (ts : List (List ℕ)) → tokens x0 ≡ t1 ∷ tokens x1 → tokens x1 ≡ t2 ∷ tokens x2
+    → tokens x2 ≡ t3 ∷ tokens x3 → tokens x3 ≡ t4 ∷ tokens x4 → tokens x4 ≡ t5 ∷ tokens x5 → tokens x5 ≡ t6 ∷ tokens x6 → tokens x6 ≡ t7 ∷ tokens x7
+    → tokens x7 ≡ t8 ∷ tokens x8 → tokens x8 ≡ ts → tokens x0 ≡ t1 ∷ t2 ∷ t3 ∷ t4 ∷ t5 ∷ t6 ∷ t7 ∷ t8 ∷ ts
 chain_8 x0 x1 x2 x3 x4 x5 x6 x7 x8 t1 t2 t3 t4 t5 t6 t7 t8 ts h1 h2 h3 h4 h5 h6 h7 h8 e = h1 ∙ ap (λ r. t1 ∷ r) (chain_7 x1 x2 x3 x4 x5 x6 x7 x8 t2 t3 t4 t5 t6 t7 t8 ts h2 h3 h4 h5 h6 h7 h8 e)
 
-pub chain_9 : (x0 x1 x2 x3 x4 x5 x6 x7 x8 x9 t1 t2 t3 t4 t5 t6 t7 t8 t9 : List ℕ) (ts : List (List ℕ)) → tokens x0 ≡ t1 ∷ tokens x1 → tokens x1 ≡ t2 ∷ tokens x2 → tokens x2 ≡ t3 ∷ tokens x3 → tokens x3 ≡ t4 ∷ tokens x4 → tokens x4 ≡ t5 ∷ tokens x5 → tokens x5 ≡ t6 ∷ tokens x6 → tokens x6 ≡ t7 ∷ tokens x7 → tokens x7 ≡ t8 ∷ tokens x8 → tokens x8 ≡ t9 ∷ tokens x9 → tokens x9 ≡ ts → tokens x0 ≡ t1 ∷ t2 ∷ t3 ∷ t4 ∷ t5 ∷ t6 ∷ t7 ∷ t8 ∷ t9 ∷ ts
-chain_9 x0 x1 x2 x3 x4 x5 x6 x7 x8 x9 t1 t2 t3 t4 t5 t6 t7 t8 t9 ts h1 h2 h3 h4 h5 h6 h7 h8 h9 e = h1 ∙ ap (λ r. t1 ∷ r) (chain_8 x1 x2 x3 x4 x5 x6 x7 x8 x9 t2 t3 t4 t5 t6 t7 t8 t9 ts h2 h3 h4 h5 h6 h7 h8 h9 e)
+pub chain_9 : (x0 x1 x2 x3 x4 x5 x6 x7 x8 x9 t1 t2 t3 t4 t5 t6 t7 t8 t9 : List ℕ) (ts : List (List ℕ)) → tokens x0 ≡ t1 ∷ tokens x1 → tokens x1 ≡ t2 ∷ tokens x2
+    → tokens x2 ≡ t3 ∷ tokens x3 → tokens x3 ≡ t4 ∷ tokens x4 → tokens x4 ≡ t5 ∷ tokens x5 → tokens x5 ≡ t6 ∷ tokens x6 → tokens x6 ≡ t7 ∷ tokens x7
+    → tokens x7 ≡ t8 ∷ tokens x8 → tokens x8 ≡ t9 ∷ tokens x9 → tokens x9 ≡ ts → tokens x0 ≡ t1 ∷ t2 ∷ t3 ∷ t4 ∷ t5 ∷ t6 ∷ t7 ∷ t8 ∷ t9 ∷ ts
+chain_9 x0 x1 x2 x3 x4 x5 x6 x7 x8 x9 t1 t2 t3 t4 t5 t6 t7 t8 t9 ts h1 h2 h3 h4 h5 h6 h7 h8 h9 e =
+    h1 ∙ ap (λ r. t1 ∷ r) (chain_8 x1 x2 x3 x4 x5 x6 x7 x8 x9 t2 t3 t4 t5 t6 t7 t8 t9 ts h2 h3 h4 h5 h6 h7 h8 h9 e)
 
 pub few_0 : envelope_of [] ≡ None
 unfolding envelope_of

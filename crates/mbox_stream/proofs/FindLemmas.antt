@@ -1,5 +1,6 @@
 -- The search for the next separating line, in bytes that may go on.
-use Rattle.std.proofs.Common.{◌≡◌, ℕ, suc, ◌+◌, ◌-◌, ◌<◌, ◌≤◌, Bool, true, false, ◌==◌, List, [], ◌∷◌, ◌++◌, length, take, drop, get_or, get_or-take, refl, arith, ap, ◌∙◌, sym, if◌then◌else◌, None, append-nil, inl, inr, ◌⊎◌, subst, length-take, length-drop, length-append}
+use Rattle.std.proofs.Common.{◌≡◌, ℕ, suc, ◌+◌, ◌-◌, ◌<◌, ◌≤◌, Bool, true, false, ◌==◌, List, [], ◌∷◌, ◌++◌, length, take, drop, get_or, get_or-take, refl, arith}
+use Rattle.std.proofs.Common.{ap, ◌∙◌, sym, if◌then◌else◌, None, append-nil, inl, inr, ◌⊎◌, subst, length-take, length-drop, length-append}
 use Rattle.std.proofs.lemmas.List.{take-append-drop, get_or_append_left, get_or-append-add, get_or-drop, take_more}
 use Rattle.std.proofs.lemmas.Bool.{cases_lt, eqb-true}
 use Rattle.std.proofs.Math.Seq.{take-append-add, take-add}

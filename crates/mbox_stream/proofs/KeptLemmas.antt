@@ -1,5 +1,6 @@
 -- What is kept from one step to the next.
-use Rattle.std.proofs.Common.{◌≡◌, ℕ, ◌+◌, ◌≤◌, min, Bool, true, false, if◌then◌else◌, List, [], ◌∷◌, ◌++◌, length, take, drop, refl, arith, ap, ◌∙◌, sym, Some, append_assoc, append-nil, subst, length-take, length-drop, length-append}
+use Rattle.std.proofs.Common.{◌≡◌, ℕ, ◌+◌, ◌≤◌, min, Bool, true, false, if◌then◌else◌, List, [], ◌∷◌, ◌++◌, length, take, drop, refl, arith, ap}
+use Rattle.std.proofs.Common.{◌∙◌, sym, Some, append_assoc, append-nil, subst, length-take, length-drop, length-append}
 use Rattle.std.proofs.lemmas.List.{take-append-drop, drop-drop}
 use Rattle.std.specs.List.{concat, AllByRecursion}
 use Rattle.mail_core.specs.Lines.{lines, content}
@@ -178,7 +179,8 @@ front_faulty stream window skipped at n u p =
 pub preamble_within : (bytes : List ℕ) (at : ℕ) → IsPreamble bytes at → at ≤ length bytes
 preamble_within bytes at p =
     let all : length bytes ≡ length (concat p.blanks) + length (concat (p.line ∷ p.rest)) =
-    ap length (sym (concat-lines bytes)) ∙ ap (λ ls. length (concat ls)) p.are_lines ∙ ap length (concat_append p.blanks (p.line ∷ p.rest)) ∙ length-append (concat p.blanks) (concat (p.line ∷ p.rest)) in
+    ap length (sym (concat-lines bytes)) ∙ ap (λ ls. length (concat ls)) p.are_lines ∙ ap length (concat_append p.blanks (p.line ∷ p.rest))
+    ∙ length-append (concat p.blanks) (concat (p.line ∷ p.rest)) in
     omega (arith, all, p.at)
 
 pub settled_within : (bytes : List ℕ) (at : ℕ) → IsSettledPreamble bytes at → at ≤ length bytes

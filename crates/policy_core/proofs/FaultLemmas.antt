@@ -10,7 +10,9 @@ use Rattle.std.proofs.lemmas.Bool.{false≢true}
 use Rattle.policy_core.specs.Rules.{Rule}
 use Rattle.civil_time.specs.Calendar.{day_of_text}
 use Rattle.policy_core.specs.Names.{is_name}
-use Rattle.policy_core.specs.Written.{refuse, first_of, fails, some_that, is_text, is_table, is_array_of, are_some, is_age, is_after, is_rule_key, keys_of, day_in, effect_named, standing_named, withdrawal_named, rule_values, tables_of, name_refusal, effect_refusal, texts_refusal, flag_refusal, age_refusal, day_refusal, rule_refusal, rules_refusal, text_at, tree_refusal, unless_refused, policy_in, written_policy}
+use Rattle.policy_core.specs.Written.{refuse, first_of, fails, some_that, is_text, is_table, is_array_of, are_some, is_age, is_after, is_rule_key, keys_of, day_in}
+use Rattle.policy_core.specs.Written.{effect_named, standing_named, withdrawal_named, rule_values, tables_of, name_refusal, effect_refusal, texts_refusal, flag_refusal}
+use Rattle.policy_core.specs.Written.{age_refusal, day_refusal, rule_refusal, rules_refusal, text_at, tree_refusal, unless_refused, policy_in, written_policy}
 
 -- nothing, or the refusal of a tree
 is_tree_fault : Option PolicyFault → Bool

@@ -1,5 +1,6 @@
 -- A tree's values beside those of the program.
-use Rattle.std.proofs.Common.{◌≡◌, ℕ, suc, ◌+◌, ◌<◌, ◌≤◌, ◌++◌, get_or, drop, append_assoc, arith, Bool, true, false, not, ◌&&◌, List, [], ◌∷◌, Option, Some, None, String, Global, refl, sym, ◌∙◌, ap, map, length, string_bytes}
+use Rattle.std.proofs.Common.{◌≡◌, ℕ, suc, ◌+◌, ◌<◌, ◌≤◌, ◌++◌, get_or, drop, append_assoc, arith, Bool, true, false, not, ◌&&◌, List, []}
+use Rattle.std.proofs.Common.{◌∷◌, Option, Some, None, String, Global, refl, sym, ◌∙◌, ap, map, length, string_bytes}
 use Rattle.std.proofs.lemmas.Bool.{lt-ltb}
 use Rattle.std.proofs.lemmas.Bool.Decides.{nat_tests}
 use Rattle.std.proofs.lemmas.List.{drop_more, length-map, length-append, map-append}
@@ -13,7 +14,8 @@ use Rattle.policy_core.specs.declared.faults.PolicyFault.{PolicyFault}
 use Rattle.policy_core.specs.declared.faults.PolicyFault.TheVariants.{WrongType, BadName, DuplicateName, BadValue, TooManyRules}
 use Rattle.policy_core.specs.Reading.{IsTextArray, texts, tables, names_of}
 use Rattle.policy_core.specs.Rules.{Rule}
-use Rattle.policy_core.specs.Written.{keys_of, values_of, rule_values, tables_of, is_text, is_table, is_array_of, refuse, fails, first_of, name_refusal, texts_refusal, text_at, rule_refusal, rules_refusal, rule_of, tree_refusal}
+use Rattle.policy_core.specs.Written.{keys_of, values_of, rule_values, tables_of, is_text, is_table, is_array_of, refuse, fails, first_of}
+use Rattle.policy_core.specs.Written.{name_refusal, texts_refusal, text_at, rule_refusal, rules_refusal, rule_of, tree_refusal}
 
 -- the keys of a map, and those of its tree
 pub keys_of-view : (test : List ℕ → Bool) (es : List (String Global × Value))

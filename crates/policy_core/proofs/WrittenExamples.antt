@@ -7,7 +7,8 @@ use Rattle.policy_core.specs.declared.access.Withdrawn.TheVariants.{Author, Boar
 use Rattle.policy_core.specs.declared.faults.PolicyFault.TheVariants.{NotToml, UnknownKey, WrongType, BadName, DuplicateName, BadValue, TooManyRules}
 use Rattle.policy_core.specs.Names.{is_name}
 use Rattle.policy_core.specs.Rules.{open_rule}
-use Rattle.policy_core.specs.Written.{name_refusal, effect_refusal, texts_refusal, flag_refusal, age_refusal, day_refusal, rule_refusal, rule_of, rules_refusal, tree_refusal, policy_of, written_policy}
+use Rattle.policy_core.specs.Written.{name_refusal, effect_refusal, texts_refusal, flag_refusal, age_refusal, day_refusal}
+use Rattle.policy_core.specs.Written.{rule_refusal, rule_of, rules_refusal, tree_refusal, policy_of, written_policy}
 use Rattle.std.specs.Prelude.{⊤}
 use Rattle.civil_time.specs.Calendar.{days_before_year, days_of_months}
 

@@ -1,6 +1,7 @@
 -- What a written policy says: the rules that the tree of a TOML text (TOML 1.1) holds, or the first refusal.
 -- (profile: the keys, their values and the order of the refusals are this project's, and docs/POLICY.md lists them)
-use Rattle.std.specs.Prelude.{ℕ, suc, ℤ, pos, List, [], ◌∷◌, ◌++◌, length, map, unwrap_or, codes, bytes_eq, nat_lt, int_le, int_lt, unsigned_abs, filter_map, Bool, true, false, not, ◌&&◌, ◌||◌, if◌then◌else◌, Option, Some, None, is_some, is_none, option_map, option_and_then, Result, Ok, Err}
+use Rattle.std.specs.Prelude.{ℕ, suc, ℤ, pos, List, [], ◌∷◌, ◌++◌, length, map, unwrap_or, codes, bytes_eq, nat_lt, int_le, int_lt, unsigned_abs, filter_map, Bool, true}
+use Rattle.std.specs.Prelude.{false, not, ◌&&◌, ◌||◌, if◌then◌else◌, Option, Some, None, is_some, is_none, option_map, option_and_then, Result, Ok, Err}
 use Rattle.std.specs.List.{list_all, list_any}
 use Rattle.toml.specs.Data.{Data, Items, no_items, item, Members, no_members, member, get_member, as_str, as_integer, as_bool, as_array, as_table, array}
 use Rattle.toml.specs.Parse.{parse_document}

@@ -1,11 +1,13 @@
 //! Reading a rule: its keys, in the order in which they are tested.
-ghost use Rattle.std.specs.Prelude.{◌≡◌, ℕ, List, Bool, Some, None, Ok, Err, IfOk, IfErr, MatchOption, map, not, filter_map, option_map, option_and_then, unsigned_abs, is_some, bytes_eq, codes, string_bytes};
+ghost use Rattle.std.specs.Prelude.{◌≡◌, ℕ, List, Bool, Some, None, Ok, Err, IfOk, IfErr, MatchOption, map, not, filter_map};
+ghost use Rattle.std.specs.Prelude.{option_map, option_and_then, unsigned_abs, is_some, bytes_eq, codes, string_bytes};
 ghost use Rattle.std.specs.List.{list_all, list_any};
 ghost use Rattle.toml.specs.Data.{get_member, as_str, as_integer, as_bool};
 ghost use Rattle.toml.specs.View.{view, table_view};
 ghost use Rattle.policy_core.specs.Names.{is_name};
 ghost use Rattle.policy_core.specs.Reading.{Reads, ReadsInMemory, IsTextArray, texts, names_of};
-ghost use Rattle.policy_core.specs.Written.{allows_at, is_rule_key, keys_of, texts_in, text_at, day_in, refuse, is_text, name_refusal, effect_refusal, texts_refusal, flag_refusal, age_refusal, day_refusal, rule_refusal, rule_of};
+ghost use Rattle.policy_core.specs.Written.{allows_at, is_rule_key, keys_of, texts_in, text_at, day_in, refuse, is_text, name_refusal};
+ghost use Rattle.policy_core.specs.Written.{effect_refusal, texts_refusal, flag_refusal, age_refusal, day_refusal, rule_refusal, rule_of};
 
 use crate::access::MOST_DAYS;
 use crate::faults::PolicyFault;

@@ -35,7 +35,18 @@ impl Model for Rule {
 
     ghost Value = { Stated };
 
-    ghost view = { λ r. record { name = string_bytes r.name; allows = r.allows; lists = option_map (λ v. map string_bytes v.items) r.lists; standings = option_map (λ v. v.items) r.standings; withdrawn = option_map (λ v. v.items) r.withdrawn; embargo = r.embargo; age_min = r.age_min; from = r.from; until = r.until; own = r.own } };
+    ghost view = { λ r. record {
+      name = string_bytes r.name;
+      allows = r.allows;
+      lists = option_map (λ v. map string_bytes v.items) r.lists;
+      standings = option_map (λ v. v.items) r.standings;
+      withdrawn = option_map (λ v. v.items) r.withdrawn;
+      embargo = r.embargo;
+      age_min = r.age_min;
+      from = r.from;
+      until = r.until;
+      own = r.own;
+    } };
 }
 
 /// The rules of a policy.

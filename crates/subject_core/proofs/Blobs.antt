@@ -88,7 +88,8 @@ blob_sound t u h =
 pub blob_complete : (blob t : List ℕ) → IsBlob blob → after_blob (blob ++ t) ≡ Some (after_spaces t)
 blob_complete blob t h =
     ap (λ (l : List ℕ). after_blob (l ++ t)) h.is
-    ∙ then_some (λ (bs : List ℕ). option_map after_spaces (after_closing bs)) (after (codes "[") (91 ∷ (h.inside ++ 93 ∷ h.spaces) ++ t)) ((h.inside ++ 93 ∷ h.spaces) ++ t) (opened ((h.inside ++ 93 ∷ h.spaces) ++ t))
+    ∙ then_some (λ (bs : List ℕ). option_map after_spaces (after_closing bs)) (after (codes "[") (91 ∷ (h.inside ++ 93 ∷ h.spaces) ++ t)) ((h.inside ++ 93 ∷ h.spaces) ++ t)
+    (opened ((h.inside ++ 93 ∷ h.spaces) ++ t))
     ∙ ap (λ (l : List ℕ). option_map after_spaces (after_closing l)) (append_assoc h.inside (93 ∷ h.spaces) t)
     ∙ map_some after_spaces (after_closing (h.inside ++ 93 ∷ (h.spaces ++ t))) (h.spaces ++ t) (closing_complete h.inside (h.spaces ++ t) h.are_chars)
     ∙ ap Some (spaces_over h.spaces t h.are_spaces)

@@ -60,7 +60,8 @@ module _ (t : List ℕ) (n : without_trailer t ≡ None) where
       }
 
 -- a leader behind a blob is found from either place
-leader_behind : (t u v : List ℕ) → without_trailer t ≡ None → without_trailer u ≡ None → after (codes " ") t ≡ None → after_leader (length t) t ≡ Some v → after_leader (length u) u ≡ Some v → after (codes " ") u ≡ None
+leader_behind : (t u v : List ℕ) → without_trailer t ≡ None → without_trailer u ≡ None → after (codes " ") t ≡ None → after_leader (length t) t ≡ Some v
+    → after_leader (length u) u ≡ Some v → after (codes " ") u ≡ None
     → rest_of t ≡ marked false (rest_of u)
 leader_behind t u v n k s h g z =
     rest-next t (left true v) (next-leader t (left true v) n (without_leader-marked t n v s h))
@@ -131,14 +132,16 @@ front_step t w n h =
         subst P x.2 (blob_goes t x.0 n s r (y.1 ∙ ap Some i.0) (if_any_some x.0 i.1))
 
     at_second : after (codes " ") t ≡ None
-        → (option_map (left true) (after_refwd t) ≡ Some w) ⊎ ((option_map (left true) (after_refwd t) ≡ None) × (option_map (left false) (option_and_then if_any (after_blob t)) ≡ Some w)) → IsStep t w.text w.reply
+        → (option_map (left true) (after_refwd t) ≡ Some w) ⊎ ((option_map (left true) (after_refwd t) ≡ None)
+        × (option_map (left false) (option_and_then if_any (after_blob t)) ≡ Some w)) → IsStep t w.text w.reply
     at_second s (inl e) =
         let x = some_map (left true) (after_refwd t) w e in
         let P : Left → Type 0 = λ l. IsStep t l.text l.reply in
         subst P x.2 (refwd_goes t n x.0 s x.1)
     at_second s (inr e) = at_last s (none_map (left true) (after_refwd t) e.0) e.1
 
-    at_first : (option_map (left false) (after (codes " ") t) ≡ Some w) ⊎ ((option_map (left false) (after (codes " ") t) ≡ None) × (option_or (option_map (left true) (after_refwd t)) (option_map (left false) (option_and_then if_any (after_blob t))) ≡ Some w)) → IsStep t w.text w.reply
+    at_first : (option_map (left false) (after (codes " ") t) ≡ Some w) ⊎ ((option_map (left false) (after (codes " ") t) ≡ None)
+        × (option_or (option_map (left true) (after_refwd t)) (option_map (left false) (option_and_then if_any (after_blob t))) ≡ Some w)) → IsStep t w.text w.reply
     at_first (inl e) =
         let x = some_map (left false) (after (codes " ") t) w e in
         let P : Left → Type 0 = λ l. IsStep t l.text l.reply in

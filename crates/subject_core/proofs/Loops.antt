@@ -36,7 +36,8 @@ front_less rest w n h = (front_step rest w n h).less
 pub front_none : (rest : List ℕ) (w : Left) → without_trailer rest ≡ None → without_front rest ≡ Some w → without_trailer w.text ≡ None
 front_none rest w n h = (front_step rest w n h).none
 
-pub front_same : (t rest : List ℕ) (m : Bool) (w : Left) → rest_of t ≡ marked m (rest_of rest) → without_trailer rest ≡ None → without_front rest ≡ Some w → rest_of t ≡ marked (m || w.reply) (rest_of w.text)
+pub front_same : (t rest : List ℕ) (m : Bool) (w : Left) → rest_of t ≡ marked m (rest_of rest) → without_trailer rest ≡ None → without_front rest ≡ Some w
+    → rest_of t ≡ marked (m || w.reply) (rest_of w.text)
 front_same t rest m w h n e = h ∙ ap (marked m) (front_step rest w n e).same ∙ marked-more m w.reply (rest_of w.text)
 
 pub front_within : (t rest : List ℕ) (w : Left) → (leader : List ℕ) × (t ≡ leader ++ rest) → without_trailer rest ≡ None → without_front rest ≡ Some w → (leader : List ℕ) × (t ≡ leader ++ w.text)

@@ -6,7 +6,8 @@ use Rattle.std.specs.Prelude.{codes}
 use Rattle.std.specs.Option.{option_map, option_or, option_and_then}
 use Rattle.std.specs.Char.{to_ascii_lowercase}
 use Rattle.subject_core.specs.Pieces.{lower}
-use Rattle.subject_core.specs.Removal.{Left, left, after, before, after_spaces, after_closing, after_blob, after_colon, after_mark, after_refwd, after_leader, if_any, without_trailer, without_leader, without_blob, without_pair}
+use Rattle.subject_core.specs.Removal.{Left, left, after, before, after_spaces, after_closing, after_blob, after_colon, after_mark, after_refwd}
+use Rattle.subject_core.specs.Removal.{after_leader, if_any, without_trailer, without_leader, without_blob, without_pair}
 use Rattle.subject_core.specs.BaseSubject.{next_of, marked, rest_within, rest_of}
 use Rattle.subject_core.proofs.Steps.{is_it, is_not, after-nothing, after-past, after-same, after-other, spaces-end, spaces-more, spaces-done, closing-end, closing-here, closing-opened, closing-more}
 use Rattle.subject_core.proofs.Blobs.{as_it_is}
@@ -25,7 +26,8 @@ or-map : {A B : Type 0} (g : A → B) (o p : Option A) → option_or (option_map
 or-map g None p = refl
 or-map g (Some x) p = refl
 
-then-map : {A B C D : Type 0} (g : A → B) (h : C → D) (f : A → Option C) (k : B → Option D) → ((x : A) → k (g x) ≡ option_map h (f x)) → (o : Option A) → option_and_then k (option_map g o) ≡ option_map h (option_and_then f o)
+then-map : {A B C D : Type 0} (g : A → B) (h : C → D) (f : A → Option C) (k : B → Option D) → ((x : A) → k (g x) ≡ option_map h (f x)) → (o : Option A)
+    → option_and_then k (option_map g o) ≡ option_map h (option_and_then f o)
 then-map g h f k e None = refl
 then-map g h f k e (Some x) = e x
 
@@ -76,7 +78,8 @@ closing-lower : (t : List ℕ) → after_closing (lower t) ≡ option_map lower 
 closing-lower [] = closing-end ∙ ap (option_map lower) (sym closing-end)
 closing-lower (b ∷ t) = go (closing-lower t) (b == 93) refl (b == 91) refl
   where
-    go : after_closing (lower t) ≡ option_map lower (after_closing t) → (s : Bool) → (b == 93) ≡ s → (r : Bool) → (b == 91) ≡ r → after_closing (lower (b ∷ t)) ≡ option_map lower (after_closing (b ∷ t))
+    go : after_closing (lower t) ≡ option_map lower (after_closing t) → (s : Bool) → (b == 93) ≡ s → (r : Bool) → (b == 91) ≡ r → after_closing (lower (b ∷ t))
+        ≡ option_map lower (after_closing (b ∷ t))
     go ih true e r f =
         let i = is_it b 93 e in
         closing-here (to_ascii_lowercase b) (lower t) (plain_byte b 93 refl i) ∙ ap (option_map lower) (sym (closing-here b t i))
@@ -141,7 +144,8 @@ unfolding without_leader
 leaders-lower t =
     ap₂ option_or
     (ap (option_map (left false)) (after-lower (codes " ") t) ∙ left-lower false (after (codes " ") t))
-    (ap (λ (n : ℕ). option_map (left true) (after_leader n (lower t))) (length-map t to_ascii_lowercase) ∙ ap (option_map (left true)) (leader-lower (length t) t) ∙ left-lower true (after_leader (length t) t))
+    (ap (λ (n : ℕ). option_map (left true) (after_leader n (lower t))) (length-map t to_ascii_lowercase) ∙ ap (option_map (left true)) (leader-lower (length t) t)
+    ∙ left-lower true (after_leader (length t) t))
     ∙ or-map lower_left (option_map (left false) (after (codes " ") t)) (option_map (left true) (after_leader (length t) t))
 
 any-lower : (t : List ℕ) → if_any (lower t) ≡ option_map lower (if_any t)

@@ -86,7 +86,8 @@ refwd_sound t u h = go (some_or (after_mark (codes "re") t) (option_or (after_ma
     last (inl e) = tail_refwd (codes "fwd") t u (λ (w : List ℕ) (l : IsLiteral (codes "fwd") w). inr (inl l)) e
     last (inr e) = tail_refwd (codes "fw") t u (λ (w : List ℕ) (l : IsLiteral (codes "fw") w). inr (inr l)) e.1
 
-    go : (after_mark (codes "re") t ≡ Some u) ⊎ ((after_mark (codes "re") t ≡ None) × (option_or (after_mark (codes "fwd") t) (after_mark (codes "fw") t) ≡ Some u)) → (r : List ℕ) × IsRefwd r × (t ≡ r ++ u)
+    go : (after_mark (codes "re") t ≡ Some u) ⊎ ((after_mark (codes "re") t ≡ None) × (option_or (after_mark (codes "fwd") t) (after_mark (codes "fw") t) ≡ Some u))
+        → (r : List ℕ) × IsRefwd r × (t ≡ r ++ u)
     go (inl e) = tail_refwd (codes "re") t u (λ (w : List ℕ) (l : IsLiteral (codes "re") w). inl l) e
     go (inr e) = last (some_or (after_mark (codes "fwd") t) (after_mark (codes "fw") t) u e.1)
 
@@ -128,7 +129,8 @@ tail_first t u c = go c.spaces c.are_spaces c.blob c.is_blob c.is
 not_re : (w ks t : List ℕ) → IsLiteral (102 ∷ ks) w → after_mark (codes "re") (w ++ t) ≡ None
 not_re w ks t h =
     let f = first_byte w ks 102 h in
-    not_mark (codes "re") (w ++ t) (other_first (w ++ t) (f.1 ++ t) (101 ∷ []) f.0 114 (ap (λ (l : List ℕ). l ++ t) f.2) (λ (n : to_ascii_lowercase f.0 ≡ 114). let e : 114 ≡ 102 = sym n ∙ f.3 in omega arith))
+    not_mark (codes "re") (w ++ t) (other_first (w ++ t) (f.1 ++ t) (101 ∷ []) f.0 114 (ap (λ (l : List ℕ). l ++ t) f.2)
+    (λ (n : to_ascii_lowercase f.0 ≡ 114). let e : 114 ≡ 102 = sym n ∙ f.3 in omega arith))
 
 not_fwd : (w t u : List ℕ) → IsLiteral (codes "fw") w → IsTail t u → after_mark (codes "fwd") (w ++ t) ≡ None
 not_fwd w t u h c =

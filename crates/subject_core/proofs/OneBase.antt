@@ -41,7 +41,8 @@ unfolding without_leader
 space_goes b u e n =
     let f : after (codes " ") (b ∷ u) ≡ Some u = ap (λ (x : ℕ). after (codes " ") (x ∷ u)) e ∙ at_space u in
     rest-next (b ∷ u) (left false u) (next-leader (b ∷ u) (left false u) n
-    (or_some (option_map (left false) (after (codes " ") (b ∷ u))) (option_map (left true) (after_leader (length (b ∷ u)) (b ∷ u))) (left false u) (map_some (left false) (after (codes " ") (b ∷ u)) u f)))
+    (or_some (option_map (left false) (after (codes " ") (b ∷ u))) (option_map (left true) (after_leader (length (b ∷ u)) (b ∷ u))) (left false u)
+    (map_some (left false) (after (codes " ") (b ∷ u)) u f)))
 
 pub spaces_go : (s u : List ℕ) → AreSpaces s → without_trailer (s ++ u) ≡ None → rest_of (s ++ u) ≡ rest_of u
 spaces_go [] u a n = refl
@@ -83,7 +84,8 @@ trailer_stays front rest (m, u, l) = (
 )
 
 -- a part of the text with single spaces, in lower case, is the base where that part is the rest
-pub part_found : (subject text base : List ℕ) (from len : ℕ) (m : Bool) → text ≡ spaced subject → rest_of text ≡ left m (take len (drop from text)) → base ≡ lower (take len (drop from text)) → IsBase subject base m
+pub part_found : (subject text base : List ℕ) (from len : ℕ) (m : Bool) → text ≡ spaced subject → rest_of text ≡ left m (take len (drop from text))
+    → base ≡ lower (take len (drop from text)) → IsBase subject base m
 part_found subject text base from len m e h b =
     let r : rest_of (spaced subject) ≡ left m (take len (drop from text)) = ap rest_of (sym e) ∙ h in
     let P : List ℕ → Type 0 = λ l. IsBase subject l m in

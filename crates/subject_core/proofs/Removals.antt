@@ -40,7 +40,8 @@ trailer_sound t w h = go (some_or (option_map (left false) (before (codes " ") t
     a_space : (v : List ℕ) → IsLiteral (codes " ") v → IsTrailer false v
     a_space v l = let P : List ℕ → Type 0 = IsTrailer false in subst P (sym (that_byte v 32 (omega arith) l)) trailing_space
 
-    go : (option_map (left false) (before (codes " ") t) ≡ Some w) ⊎ ((option_map (left false) (before (codes " ") t) ≡ None) × (option_map (left true) (before (codes "(fwd)") t) ≡ Some w)) → LosesTrailer t w.reply w.text
+    go : (option_map (left false) (before (codes " ") t) ≡ Some w) ⊎ ((option_map (left false) (before (codes " ") t) ≡ None)
+        × (option_map (left true) (before (codes "(fwd)") t) ≡ Some w)) → LosesTrailer t w.reply w.text
     go (inl e) = ends (codes " ") false a_space e
     go (inr e) = ends (codes "(fwd)") true (λ (v : List ℕ) (l : IsLiteral (codes "(fwd)") v). forwarded l) e.1
 
@@ -83,7 +84,8 @@ pub leaders_sound : (t : List ℕ) (w : Left) → without_leader t ≡ Some w �
 unfolding without_leader
 leaders_sound t w h = go (some_or (option_map (left false) (after (codes " ") t)) (option_map (left true) (after_leader (length t) t)) w h)
   where
-    go : (option_map (left false) (after (codes " ") t) ≡ Some w) ⊎ ((option_map (left false) (after (codes " ") t) ≡ None) × (option_map (left true) (after_leader (length t) t) ≡ Some w)) → LosesLeader t w.reply w.text
+    go : (option_map (left false) (after (codes " ") t) ≡ Some w) ⊎ ((option_map (left false) (after (codes " ") t) ≡ None)
+        × (option_map (left true) (after_leader (length t) t) ≡ Some w)) → LosesLeader t w.reply w.text
     go (inl e) =
         let x = some_map (left false) (after (codes " ") t) w e in
         let P : Left → Type 0 = λ l. LosesLeader t l.reply l.text in

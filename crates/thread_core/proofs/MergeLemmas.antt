@@ -1,5 +1,6 @@
 -- Steps of the loops over groups.
-use Rattle.std.proofs.Common.{◌≡◌, ◌≢◌, ℕ, zero, suc, ◌+◌, ◌<◌, ◌≤◌, Bool, true, false, not, cond, ◌||◌, ◌==◌, nat_lt, ◌⊎◌, inl, inr, List, [], ◌∷◌, ◌++◌, length, take, drop, get_or, map, filter, Some, None, refl, sym, ◌∙◌, ap, arith, flat_map, take_all, bytes_eq, position}
+use Rattle.std.proofs.Common.{◌≡◌, ◌≢◌, ℕ, zero, suc, ◌+◌, ◌<◌, ◌≤◌, Bool, true, false, not, cond, ◌||◌, ◌==◌, nat_lt, ◌⊎◌, inl, inr, List, [], ◌∷◌, ◌++◌, length}
+use Rattle.std.proofs.Common.{take, drop, get_or, map, filter, Some, None, refl, sym, ◌∙◌, ap, arith, flat_map, take_all, bytes_eq, position}
 use Rattle.std.specs.List.{before_first, after_first, position_or_len, list_any}
 use Rattle.std.proofs.lemmas.Grind.{flat_map-append}
 use Rattle.std.proofs.lemmas.List.{drop_more, take_more, append-nil}
@@ -7,24 +8,28 @@ use Rattle.std.proofs.lemmas.List.Elements.{filter-append}
 use Rattle.std.proofs.lemmas.List.Folds.{list_any-append}
 use Rattle.std.proofs.lemmas.Bool.Decides.{nat_tests}
 use Rattle.thread_links.specs.Links.{Link}
-use Rattle.thread_core.specs.Merge.{MergedTop, base_of, subject, with_subject, distinct_subjects, group_of, groups, links_under_first, taken_of_group, is_dummy_tree, messages_of, merged_group, merged_trees}
+use Rattle.thread_core.specs.Merge.{MergedTop, base_of, subject, with_subject, distinct_subjects, group_of, groups}
+use Rattle.thread_core.specs.Merge.{links_under_first, taken_of_group, is_dummy_tree, messages_of, merged_group, merged_trees}
 use Rattle.thread_core.specs.Parts.{merged_for}
 use Rattle.thread_links.specs.declared.entry.Entry.{Entry}
 use Rattle.thread_core.specs.declared.tree.Tree.{Tree}
 
 -- where a search ends
-position-cases : {X : Type 0} (p : X → Bool) (xs : List X) → ((position p xs ≡ None) × (length xs ≤ position_or_len p xs)) ⊎ ((position p xs ≡ Some (position_or_len p xs)) × (position_or_len p xs < length xs))
+position-cases : {X : Type 0} (p : X → Bool) (xs : List X) → ((position p xs ≡ None) × (length xs ≤ position_or_len p xs))
+    ⊎ ((position p xs ≡ Some (position_or_len p xs)) × (position_or_len p xs < length xs))
 position-cases p xs = by_test (nat_lt (position_or_len p xs) (length xs)) refl
   where
     by_test : (t : Bool) → nat_lt (position_or_len p xs) (length xs) ≡ t
-        → ((cond t (Some (position_or_len p xs)) None ≡ None) × (length xs ≤ position_or_len p xs)) ⊎ ((cond t (Some (position_or_len p xs)) None ≡ Some (position_or_len p xs)) × (position_or_len p xs < length xs))
+        → ((cond t (Some (position_or_len p xs)) None ≡ None) × (length xs ≤ position_or_len p xs))
+        ⊎ ((cond t (Some (position_or_len p xs)) None ≡ Some (position_or_len p xs)) × (position_or_len p xs < length xs))
     by_test true e = inr (refl, grind (arith, nat_tests, e))
     by_test false e = inl (refl, grind (arith, nat_tests, e))
 
 place_is : {X : Type 0} (p : X → Bool) (xs : List X) (k : ℕ) → position p xs ≡ Some k → (position_or_len p xs ≡ k) × (k < length xs)
 place_is p xs k e = by_case (position-cases p xs)
   where
-    by_case : ((position p xs ≡ None) × (length xs ≤ position_or_len p xs)) ⊎ ((position p xs ≡ Some (position_or_len p xs)) × (position_or_len p xs < length xs)) → (position_or_len p xs ≡ k) × (k < length xs)
+    by_case : ((position p xs ≡ None) × (length xs ≤ position_or_len p xs)) ⊎ ((position p xs ≡ Some (position_or_len p xs)) × (position_or_len p xs < length xs))
+        → (position_or_len p xs ≡ k) × (k < length xs)
     by_case (inl none) = absurd (let n = none.0 in let bad : Some k ≡ None = sym e ∙ n in cc)
     by_case (inr some) = let s : Some (position_or_len p xs) ≡ Some k = sym some.0 ∙ e in let is : position_or_len p xs ≡ k = cc in let lt = some.1 in (is, omega (arith, lt, is))
 
@@ -76,7 +81,8 @@ map-filter : {X Y : Type 0} (f : X → Y) (t : Y → Bool) (xs : List X) → map
 map-filter f t [] = refl
 map-filter f t (x ∷ xs) = by_test (t (f x)) (map-filter f t xs)
   where
-    by_test : (b : Bool) → map f (filter (λ y. t (f y)) xs) ≡ filter t (map f xs) → map f (cond b (x ∷ filter (λ y. t (f y)) xs) (filter (λ y. t (f y)) xs)) ≡ cond b (f x ∷ filter t (map f xs)) (filter t (map f xs))
+    by_test : (b : Bool) → map f (filter (λ y. t (f y)) xs) ≡ filter t (map f xs) → map f (cond b (x ∷ filter (λ y. t (f y)) xs) (filter (λ y. t (f y)) xs)) ≡ cond b
+        (f x ∷ filter t (map f xs)) (filter t (map f xs))
     by_test true later = ap (λ (ys : List _). f x ∷ ys) later
     by_test false later = later
 
@@ -118,12 +124,14 @@ pub messages_last : (trees : List Tree) (tree : Tree) → flat_map messages_of (
 messages_last trees tree = flat_map-append messages_of trees (tree ∷ []) ∙ ap (λ (ms : List ℕ). flat_map messages_of trees ++ ms) (append-nil (messages_of tree))
 
 gathered-trees : (entries : List Entry) (trees : List Tree) (leaders : List ℕ)
-    → flat_map (λ (m : MergedTop). m.trees) (map (merged_group entries) (map (group_of entries trees) (map (base_of entries) leaders))) ≡ flat_map (λ leader. (merged_for entries trees leader).trees) leaders
+    → flat_map (λ (m : MergedTop). m.trees) (map (merged_group entries) (map (group_of entries trees) (map (base_of entries) leaders))) ≡ flat_map
+    (λ leader. (merged_for entries trees leader).trees) leaders
 gathered-trees entries trees [] = refl
 gathered-trees entries trees (leader ∷ leaders) = ap (λ (ts : List Tree). (merged_for entries trees leader).trees ++ ts) (gathered-trees entries trees leaders)
 
 gathered-links : (entries : List Entry) (trees : List Tree) (leaders : List ℕ)
-    → flat_map (λ (m : MergedTop). m.links) (map (merged_group entries) (map (group_of entries trees) (map (base_of entries) leaders))) ≡ flat_map (λ leader. (merged_for entries trees leader).links) leaders
+    → flat_map (λ (m : MergedTop). m.links) (map (merged_group entries) (map (group_of entries trees) (map (base_of entries) leaders))) ≡ flat_map
+    (λ leader. (merged_for entries trees leader).links) leaders
 gathered-links entries trees [] = refl
 gathered-links entries trees (leader ∷ leaders) = ap (λ (ls : List Link). (merged_for entries trees leader).links ++ ls) (gathered-links entries trees leaders)
 
@@ -139,13 +147,15 @@ all_gathered_links entries trees leaders is =
     sym (gathered-links entries trees leaders) ∙ ap (λ (bs : List (List ℕ)). flat_map (λ (m : MergedTop). m.links) (map (merged_group entries) (map (group_of entries trees) bs))) is
 
 pub leader_trees : (entries : List Entry) (trees : List Tree) (leaders : List ℕ) (i : ℕ) → i < length leaders
-    → flat_map (λ leader. (merged_for entries trees leader).trees) (take (i + 1) leaders) ≡ flat_map (λ leader. (merged_for entries trees leader).trees) (take i leaders) ++ (merged_for entries trees (get_or leaders i 0)).trees
+    → flat_map (λ leader. (merged_for entries trees leader).trees) (take (i + 1) leaders) ≡ flat_map (λ leader. (merged_for entries trees leader).trees)
+    (take i leaders) ++ (merged_for entries trees (get_or leaders i 0)).trees
 leader_trees entries trees leaders i h =
     rw (take_more leaders i 0 h) (flat_map-append (λ leader. (merged_for entries trees leader).trees) (take i leaders) (get_or leaders i 0 ∷ [])
     ∙ ap (λ (ts : List Tree). flat_map (λ leader. (merged_for entries trees leader).trees) (take i leaders) ++ ts) (append-nil _))
 
 pub leader_links : (entries : List Entry) (trees : List Tree) (leaders : List ℕ) (i : ℕ) → i < length leaders
-    → flat_map (λ leader. (merged_for entries trees leader).links) (take (i + 1) leaders) ≡ flat_map (λ leader. (merged_for entries trees leader).links) (take i leaders) ++ (merged_for entries trees (get_or leaders i 0)).links
+    → flat_map (λ leader. (merged_for entries trees leader).links) (take (i + 1) leaders) ≡ flat_map (λ leader. (merged_for entries trees leader).links)
+    (take i leaders) ++ (merged_for entries trees (get_or leaders i 0)).links
 leader_links entries trees leaders i h =
     rw (take_more leaders i 0 h) (flat_map-append (λ leader. (merged_for entries trees leader).links) (take i leaders) (get_or leaders i 0 ∷ [])
     ∙ ap (λ (ls : List Link). flat_map (λ leader. (merged_for entries trees leader).links) (take i leaders) ++ ls) (append-nil _))

@@ -1,5 +1,6 @@
 -- The first message of each subject, and the trees that go to it.
-use Rattle.std.proofs.Common.{◌≡◌, ◌≢◌, ◌==◌, ℕ, zero, suc, ◌+◌, ◌<◌, ◌≤◌, Bool, true, false, not, cond, ◌&&◌, ◌||◌, ◌⊎◌, inl, inr, List, [], ◌∷◌, ◌++◌, length, take, get_or, map, filter, flat_map, slice_get, is_none, Option, Some, None, refl, sym, ◌∙◌, ap, subst, arith, add-one, bytes_eq}
+use Rattle.std.proofs.Common.{◌≡◌, ◌≢◌, ◌==◌, ℕ, zero, suc, ◌+◌, ◌<◌, ◌≤◌, Bool, true, false, not, cond, ◌&&◌, ◌||◌, ◌⊎◌, inl, inr, List, [], ◌∷◌, ◌++◌, length, take}
+use Rattle.std.proofs.Common.{get_or, map, filter, flat_map, slice_get, is_none, Option, Some, None, refl, sym, ◌∙◌, ap, subst, arith, add-one, bytes_eq}
 use Rattle.std.specs.List.{list_any}
 use Rattle.std.specs.Option.{option_map_or, option_and_then}
 use Rattle.std.specs.Cmp.Lexicographic.{bytes_decides}
@@ -139,7 +140,8 @@ leaders-new entries subjects place leaders get some none all = record {
 }
   where
     absent : list_any (bytes_eq (base_of entries place)) (distinct_subjects subjects) ≡ false
-    absent = ap (list_any (bytes_eq (base_of entries place))) (sym all.bases) ∙ not-not true (list_any (bytes_eq (base_of entries place)) (map (base_of entries) leaders)) (sym (ap is_none none) ∙ all.found (base_of entries place))
+    absent = ap (list_any (bytes_eq (base_of entries place))) (sym all.bases) ∙ not-not true (list_any (bytes_eq (base_of entries place)) (map (base_of entries) leaders))
+        (sym (ap is_none none) ∙ all.found (base_of entries place))
 
     by_empty : (t : Bool) → bytes_eq (base_of entries place) [] ≡ t → cond t (Some place) (get []) ≡ None
     by_empty false e = all.empty
@@ -171,13 +173,16 @@ leaders_more entries subjects base place leaders leaders' get get' added own som
 
     by_option : (o : Option ℕ) → get base ≡ o → AreLeaders entries (subjects ++ base ∷ []) leaders' get'
     by_option None e =
-        let tables : with_lead get (base_of entries place) place ≡ get' = (λ i o. cond (bytes_eq (own i) o) (Some place) (get o)) ∙ (λ i o. sym (now o ∙ ap (λ (t : Bool). cond (t && bytes_eq base o) (Some place) (get o)) (ap is_none e)) i) in
+        let tables : with_lead get (base_of entries place) place ≡ get' = (λ i o. cond (bytes_eq (own i) o) (Some place) (get o))
+        ∙ (λ i o. sym (now o ∙ ap (λ (t : Bool). cond (t && bytes_eq base o) (Some place) (get o)) (ap is_none e)) i) in
         let lists : leaders ++ place ∷ [] ≡ leaders' = sym (grown ∙ ap (λ (t : Bool). cond t (leaders ++ place ∷ []) leaders) (was ∙ ap is_none e)) in
-        subst (λ (x : List ℕ × (List ℕ → Option ℕ) × List ℕ). AreLeaders entries (subjects ++ x.0 ∷ []) x.2 x.1) (λ i. (own i, tables i, lists i)) (leaders-new entries subjects place leaders get here (ap get own ∙ e) all)
+        subst (λ (x : List ℕ × (List ℕ → Option ℕ) × List ℕ). AreLeaders entries (subjects ++ x.0 ∷ []) x.2 x.1) (λ i. (own i, tables i, lists i))
+        (leaders-new entries subjects place leaders get here (ap get own ∙ e) all)
     by_option (Some p) e =
         let tables : get ≡ get' = λ i o. sym (now o ∙ ap (λ (t : Bool). cond (t && bytes_eq base o) (Some place) (get o)) (ap is_none e)) i in
         let lists : leaders ≡ leaders' = sym (grown ∙ ap (λ (t : Bool). cond t (leaders ++ place ∷ []) leaders) (was ∙ ap is_none e)) in
-        let held : list_any (bytes_eq base) (distinct_subjects subjects) ≡ true = ap (list_any (bytes_eq base)) (sym all.bases) ∙ not-not false (list_any (bytes_eq base) (map (base_of entries) leaders)) (sym (ap is_none e) ∙ all.found base) in
+        let held : list_any (bytes_eq base) (distinct_subjects subjects) ≡ true = ap (list_any (bytes_eq base)) (sym all.bases)
+        ∙ not-not false (list_any (bytes_eq base) (map (base_of entries) leaders)) (sym (ap is_none e) ∙ all.found base) in
         let same : AreLeaders entries (subjects ++ base ∷ []) leaders get = record {
           bases = all.bases ∙ sym (distinct-last subjects base some ∙ ap (λ (t : Bool). distinct_subjects subjects ++ cond t [] (base ∷ [])) held ∙ append-nil (distinct_subjects subjects));
           empty = all.empty;
@@ -191,13 +196,15 @@ pub tree_noted : (entries : List Entry) (trees : List Tree) (i : ℕ) (d : Tree)
     → AreLeaders entries (map (subject entries) (take i trees) ++ base_of entries place ∷ []) leaders get → AreLeaders entries (map (subject entries) (take (i + 1) trees)) leaders get
 tree_noted entries trees i d place leaders get h is =
     subst (λ (bs : List (List ℕ)). AreLeaders entries bs leaders get)
-    (ap (λ (p : ℕ). map (subject entries) (take i trees) ++ base_of entries p ∷ []) is ∙ sym (map-append (subject entries) (take i trees) (get_or trees i d ∷ [])) ∙ ap (map (subject entries)) (sym (take_more trees i d h)))
+    (ap (λ (p : ℕ). map (subject entries) (take i trees) ++ base_of entries p ∷ []) is ∙ sym (map-append (subject entries) (take i trees) (get_or trees i d ∷ []))
+    ∙ ap (map (subject entries)) (sym (take_more trees i d h)))
 
 -- a tree goes to a leader where it has its subject
 lead-is : (entries : List Entry) (get : List ℕ → Option ℕ) (p place : ℕ) → get [] ≡ None → ((base : List ℕ) (q : ℕ) → get base ≡ Some q → base_of entries q ≡ base) → get (base_of entries p) ≡ Some p
     → option_map_or (λ up. up == p) (lead_of entries get place) false ≡ bytes_eq (base_of entries p) (base_of entries place)
 lead-is entries get p place empty same led =
-    ap (λ (o : Option ℕ). option_map_or (λ up. up == p) o false) (by_entry (slice_get entries place)) ∙ by_test (bytes_eq (base_of entries p) (base_of entries place)) refl (get (base_of entries place)) refl
+    ap (λ (o : Option ℕ). option_map_or (λ up. up == p) o false) (by_entry (slice_get entries place)) ∙ by_test (bytes_eq (base_of entries p) (base_of entries place)) refl
+    (get (base_of entries place)) refl
   where
     by_entry : (o : Option Entry) → option_and_then (λ (entry : Entry). get entry.base) o ≡ get (option_map_or (λ (entry : Entry). entry.base) o [])
     by_entry None = sym empty
@@ -228,7 +235,8 @@ lead-is entries get p place empty same led =
 
 -- the trees of the numbers that a leader has are those with the leader
 picked-below : (trees : List Tree) (lead : Tree → Option ℕ) (p n : ℕ) → n ≤ length trees
-    → picked trees (filter (λ child. option_map_or (λ up. up == p) ((containers_of (map lead trees) 0).parent child) false) (numbers n)) ≡ filter (λ tree. option_map_or (λ up. up == p) (lead tree) false) (take n trees)
+    → picked trees (filter (λ child. option_map_or (λ up. up == p) ((containers_of (map lead trees) 0).parent child) false) (numbers n)) ≡ filter
+    (λ tree. option_map_or (λ up. up == p) (lead tree) false) (take n trees)
 picked-below trees lead p zero h = refl
 picked-below trees lead p (suc n) h =
     ap (picked trees) (filter-append mine (numbers n) (n ∷ []))
@@ -247,7 +255,8 @@ picked-below trees lead p (suc n) h =
     tree = get_or trees n (Message 0)
 
     parent : (containers_of (map lead trees) 0).parent n ≡ lead tree
-    parent = ap (option_and_then (λ (o : Option ℕ). o)) (slice_get-get_or (map lead trees) n None (let long = length-map trees lead in omega (arith, h, long)) ∙ ap (λ (o : Option ℕ). Some o) (get_or-map lead trees n (Message 0) None less))
+    parent = ap (option_and_then (λ (o : Option ℕ). o)) (slice_get-get_or (map lead trees) n None (let long = length-map trees lead in omega (arith, h, long))
+        ∙ ap (λ (o : Option ℕ). Some o) (get_or-map lead trees n (Message 0) None less))
 
     one : (t : Bool) → picked trees (cond t (n ∷ []) []) ≡ cond t (tree ∷ []) []
     one false = refl
@@ -269,7 +278,8 @@ group-listed entries trees get leads lists p empty same led is below =
     ∙ ap (λ (k : ℕ). picked trees (filter (λ child. option_map_or (λ up. up == p) ((containers_of (map lead trees) 0).parent child) false) (numbers k))) (length-map trees lead)
     ∙ picked-below trees lead p (length trees) (omega arith)
     ∙ ap (filter (λ tree. option_map_or (λ up. up == p) (lead tree) false)) (take_all (length trees) trees (omega arith))
-    ∙ filter-same (λ tree. option_map_or (λ up. up == p) (lead tree) false) (λ tree. bytes_eq (base_of entries p) (subject entries tree)) (λ tree. lead-is entries get p (key entries tree) empty same led) trees
+    ∙ filter-same (λ tree. option_map_or (λ up. up == p) (lead tree) false) (λ tree. bytes_eq (base_of entries p) (subject entries tree))
+    (λ tree. lead-is entries get p (key entries tree) empty same led) trees
   where
     lead : Tree → Option ℕ
     lead tree = lead_of entries get (key entries tree)
@@ -287,14 +297,14 @@ groups_listed f entries trees get leads lists (p ∷ ps) empty same led is below
 pub picked_dummy : (trees : List Tree) (n : ℕ) (tree : Tree) → slice_get trees n ≡ Some tree → list_any is_dummy_tree (picked trees (n ∷ [])) ≡ is_dummy_tree tree
 picked_dummy trees n tree e = ap (λ (o : Option Tree). list_any is_dummy_tree (option_map_or (λ t. t ∷ []) o [] ++ [])) e ∙ or-false (is_dummy_tree tree)
 
-pub picked_no_dummy : (trees : List Tree) (n : ℕ) (t : Bool) → slice_get trees n ≡ None → (t || list_any is_dummy_tree (picked trees (n ∷ []))) ≡ t
-picked_no_dummy trees n t e = ap (λ (o : Option Tree). t || list_any is_dummy_tree (option_map_or (λ t. t ∷ []) o [] ++ [])) e ∙ or-false t
+pub no_dummy : (trees : List Tree) (n : ℕ) (t : Bool) → slice_get trees n ≡ None → (t || list_any is_dummy_tree (picked trees (n ∷ []))) ≡ t
+no_dummy trees n t e = ap (λ (o : Option Tree). t || list_any is_dummy_tree (option_map_or (λ t. t ∷ []) o [] ++ [])) e ∙ or-false t
 
 pub picked_messages : (trees : List Tree) (n : ℕ) (tree : Tree) → slice_get trees n ≡ Some tree → flat_map messages_of (picked trees (n ∷ [])) ≡ messages_of tree
 picked_messages trees n tree e = ap (λ (o : Option Tree). flat_map messages_of (option_map_or (λ t. t ∷ []) o [] ++ [])) e ∙ append-nil (messages_of tree)
 
-pub picked_no_messages : (trees : List Tree) (n : ℕ) → slice_get trees n ≡ None → flat_map messages_of (picked trees (n ∷ [])) ≡ []
-picked_no_messages trees n e = ap (λ (o : Option Tree). flat_map messages_of (option_map_or (λ t. t ∷ []) o [] ++ [])) e
+pub no_messages : (trees : List Tree) (n : ℕ) → slice_get trees n ≡ None → flat_map messages_of (picked trees (n ∷ [])) ≡ []
+no_messages trees n e = ap (λ (o : Option Tree). flat_map messages_of (option_map_or (λ t. t ∷ []) o [] ++ [])) e
 
 picked-more : (trees : List Tree) (places : List ℕ) (i : ℕ) → i < length places → picked trees (take (i + 1) places) ≡ picked trees (take i places) ++ picked trees (get_or places i 0 ∷ [])
 picked-more trees places i h =
@@ -325,12 +335,14 @@ listed_links entries trees lists leaders i h =
     ∙ ap (λ (ls : List Link). flat_map (λ leader. (merged_group entries (picked trees (get_or lists leader []))).links) (take i leaders) ++ ls) (append-nil _))
 
 gathered-listed : {X : Type 0} (f : MergedTop → List X) (entries : List Entry) (trees : List Tree) (leaders : List ℕ)
-    → flat_map (λ leader. f (merged_group entries (group_of entries trees (base_of entries leader)))) leaders ≡ flat_map f (map (merged_group entries) (map (group_of entries trees) (map (base_of entries) leaders)))
+    → flat_map (λ leader. f (merged_group entries (group_of entries trees (base_of entries leader)))) leaders ≡ flat_map f
+    (map (merged_group entries) (map (group_of entries trees) (map (base_of entries) leaders)))
 gathered-listed f entries trees [] = refl
 gathered-listed f entries trees (leader ∷ leaders) = ap (λ (xs : List _). f (merged_group entries (group_of entries trees (base_of entries leader))) ++ xs) (gathered-listed f entries trees leaders)
 
 -- the groups by the table are all
-pub all_listed : {X : Type 0} (f : MergedTop → List X) (entries : List Entry) (trees first second third : List Tree) (leaders places : List ℕ) (get : List ℕ → Option ℕ) (leads given : List (Option ℕ)) (lists read : List (List ℕ)) (got : List X)
+pub all_listed : {X : Type 0} (f : MergedTop → List X) (entries : List Entry) (trees first second third : List Tree) (leaders places : List ℕ) (get : List ℕ → Option ℕ)
+    (leads given : List (Option ℕ)) (lists read : List (List ℕ)) (got : List X)
     → first ≡ trees → AreLeaders entries (map (subject entries) first) leaders get
     → second ≡ trees → leads ≡ map (λ (tree : Tree). lead_of entries get (key entries tree)) second
     → given ≡ leads → AreLists (children (containers_of given 0)) lists
@@ -340,6 +352,7 @@ pub all_listed : {X : Type 0} (f : MergedTop → List X) (entries : List Entry) 
 all_listed f entries trees first second third leaders places get leads given lists read got e all h is g below k m n was =
     was
     ∙ (λ i. flat_map (λ leader. f (merged_group entries (picked (k i) (get_or (n i) leader [])))) (m i))
-    ∙ groups_listed (λ ts. f (merged_group entries ts)) entries trees get leads lists leaders all.empty all.same all.led (is ∙ ap (map (λ (tree : Tree). lead_of entries get (key entries tree))) h) (subst (λ (os : List (Option ℕ)). AreLists (children (containers_of os 0)) lists) g below)
+    ∙ groups_listed (λ ts. f (merged_group entries ts)) entries trees get leads lists leaders all.empty all.same all.led
+    (is ∙ ap (map (λ (tree : Tree). lead_of entries get (key entries tree))) h) (subst (λ (os : List (Option ℕ)). AreLists (children (containers_of os 0)) lists) g below)
     ∙ gathered-listed f entries trees leaders
     ∙ ap (λ (bs : List (List ℕ)). flat_map f (map (merged_group entries) (map (group_of entries trees) bs))) (all.bases ∙ ap (λ (ts : List Tree). distinct_subjects (map (subject entries) ts)) e)

@@ -134,7 +134,7 @@ impl Leaders {
 }
 
 /// Adds the tree of a number to a group, if there is one.
-#[tactic(auto, using(crate::proofs::SubjectLemmas::picked_dummy, crate::proofs::SubjectLemmas::picked_no_dummy, crate::proofs::SubjectLemmas::picked_messages, crate::proofs::SubjectLemmas::picked_no_messages))]
+#[tactic(auto, using(crate::proofs::SubjectLemmas::picked_dummy, crate::proofs::SubjectLemmas::no_dummy, crate::proofs::SubjectLemmas::picked_messages, crate::proofs::SubjectLemmas::no_messages))]
 fn pick_tree(group: &mut Group, trees: &[Tree], number: usize) -> Result<(), Memory>
     ensures dummy { OnOk result (group.new.dummy
         ≡ (group.old.dummy || list_any is_dummy_tree (picked trees.now (number ∷ [])))) }

@@ -1,5 +1,6 @@
 -- Ids are numbered in one pass.
-use Rattle.std.proofs.Common.{◌≡◌, ℕ, suc, ◌+◌, ◌<◌, ◌≤◌, Bool, true, false, not, cond, ◌&&◌, ◌||◌, ◌⊎◌, inl, inr, List, [], ◌∷◌, ◌++◌, length, take, take_all, get_or, filter, is_none, Option, Some, None, refl, sym, ◌∙◌, ap, subst, arith, add-one, append_assoc, length-append}
+use Rattle.std.proofs.Common.{◌≡◌, ℕ, suc, ◌+◌, ◌<◌, ◌≤◌, Bool, true, false, not, cond, ◌&&◌, ◌||◌, ◌⊎◌, inl, inr, List, [], ◌∷◌, ◌++◌, length, take, take_all}
+use Rattle.std.proofs.Common.{get_or, filter, is_none, Option, Some, None, refl, sym, ◌∙◌, ap, subst, arith, add-one, append_assoc, length-append}
 use Rattle.std.specs.List.{list_any}
 use Rattle.std.specs.Option.{option_map_or}
 use Rattle.std.proofs.lemmas.List.{append-nil, take_more}
@@ -22,7 +23,8 @@ same_id-sym a b = by_tests (same_id a b) (same_id b a) refl refl
     by_tests false true e f = let x = same_id-exact b a f in λ i. same_id (sym x i) (x i)
 
 -- the owner among one message more
-owner-last : (k : ℕ) (es : List Entry) (e : Entry) (id : Id) → place_of (owner_from k (es ++ e ∷ []) id) ≡ option_map_or (λ p. Some p) (place_of (owner_from k es id)) (cond (has_id e id) (Some (k + length es)) None)
+owner-last : (k : ℕ) (es : List Entry) (e : Entry) (id : Id) → place_of (owner_from k (es ++ e ∷ []) id) ≡ option_map_or (λ p. Some p) (place_of (owner_from k es id))
+    (cond (has_id e id) (Some (k + length es)) None)
 owner-last k [] e id = by_test (has_id e id)
   where
     by_test : (t : Bool) → place_of (cond t (real k) (dummy id)) ≡ cond t (Some (k + 0)) None
@@ -31,9 +33,11 @@ owner-last k [] e id = by_test (has_id e id)
 owner-last k (x ∷ es) e id = by_test (has_id x id) (owner-last (k + 1) es e id)
   where
     by_test : (t : Bool) → place_of (owner_from (k + 1) (es ++ e ∷ []) id) ≡ option_map_or (λ p. Some p) (place_of (owner_from (k + 1) es id)) (cond (has_id e id) (Some (k + 1 + length es)) None)
-        → place_of (cond t (real k) (owner_from (k + 1) (es ++ e ∷ []) id)) ≡ option_map_or (λ p. Some p) (place_of (cond t (real k) (owner_from (k + 1) es id))) (cond (has_id e id) (Some (k + suc (length es))) None)
+        → place_of (cond t (real k) (owner_from (k + 1) (es ++ e ∷ []) id)) ≡ option_map_or (λ p. Some p) (place_of (cond t (real k) (owner_from (k + 1) es id)))
+        (cond (has_id e id) (Some (k + suc (length es))) None)
     by_test true later = refl
-    by_test false later = later ∙ ap (λ (n : ℕ). option_map_or (λ p. Some p) (place_of (owner_from (k + 1) es id)) (cond (has_id e id) (Some n) None)) (let z : k + 1 + length es ≡ k + suc (length es) = omega arith in z)
+    by_test false later = later ∙ ap (λ (n : ℕ). option_map_or (λ p. Some p) (place_of (owner_from (k + 1) es id)) (cond (has_id e id) (Some n) None))
+        (let z : k + 1 + length es ≡ k + suc (length es) = omega arith in z)
 
 some_map : (o : Option ℕ) → option_map_or (λ p. Some p) o None ≡ o
 some_map None = refl
@@ -103,7 +107,8 @@ any-less : (r : Id) (q : Id → Bool) (ids : List Id) → list_any (same_id r) (
 any-less r q [] h = h
 any-less r q (m ∷ ids) h = by_tests (same_id r m) (q m) refl refl h (λ k. any-less r q ids k)
   where
-    by_tests : (s t : Bool) → same_id r m ≡ s → q m ≡ t → list_any (same_id r) (cond t (m ∷ filter q ids) (filter q ids)) ≡ true → (list_any (same_id r) (filter q ids) ≡ true → list_any (same_id r) ids ≡ true)
+    by_tests : (s t : Bool) → same_id r m ≡ s → q m ≡ t → list_any (same_id r) (cond t (m ∷ filter q ids) (filter q ids)) ≡ true
+        → (list_any (same_id r) (filter q ids) ≡ true → list_any (same_id r) ids ≡ true)
         → (s || list_any (same_id r) ids) ≡ true
     by_tests true t e f k later = refl
     by_tests false true e f k later = later (either-none (same_id r m) (list_any (same_id r) (filter q ids)) k e)
@@ -113,7 +118,8 @@ any-distinct-less : (r : Id) (ids : List Id) → list_any (same_id r) (distinct 
 any-distinct-less r [] h = h
 any-distinct-less r (m ∷ ids) h = by_test (same_id r m) h (λ k. any-distinct-less r ids (any-less r (λ o. not (same_id m o)) (distinct ids) k))
   where
-    by_test : (s : Bool) → (s || list_any (same_id r) (filter (λ o. not (same_id m o)) (distinct ids))) ≡ true → (list_any (same_id r) (filter (λ o. not (same_id m o)) (distinct ids)) ≡ true → list_any (same_id r) ids ≡ true)
+    by_test : (s : Bool) → (s || list_any (same_id r) (filter (λ o. not (same_id m o)) (distinct ids))) ≡ true
+        → (list_any (same_id r) (filter (λ o. not (same_id m o)) (distinct ids)) ≡ true → list_any (same_id r) ids ≡ true)
         → (s || list_any (same_id r) ids) ≡ true
     by_test true k later = refl
     by_test false k later = later k
@@ -186,7 +192,8 @@ number-new entries refs r o none h =
 
     by_test : (t : Bool) → same_id o r ≡ t
         → cond (same_id r o) (Some (length entries + length (dummies_of entries refs))) (number_among entries refs o)
-        ≡ option_map_or (λ p. Some p) (place_of (owner entries o)) (cond (list_any (same_id o) (dummies_of entries refs ++ r ∷ [])) (Some (length entries + index_of (dummies_of entries refs ++ r ∷ []) o)) None)
+        ≡ option_map_or (λ p. Some p) (place_of (owner entries o)) (cond (list_any (same_id o) (dummies_of entries refs ++ r ∷ []))
+        (Some (length entries + index_of (dummies_of entries refs ++ r ∷ []) o)) None)
     by_test true e =
         let x : o ≡ r = same_id-exact o r e in
         let lone : place_of (owner entries o) ≡ None = ap (λ (v : Id). place_of (owner entries v)) x ∙ none in
@@ -208,7 +215,8 @@ number-cases entries refs r = by_cases (place_of (owner entries r)) refl (list_a
   where
     by_cases : (o : Option ℕ) → place_of (owner entries r) ≡ o → (t : Bool) → list_any (same_id r) (dummies_of entries refs) ≡ t
         → ((option_map_or (λ p. Some p) o (cond t (Some (length entries + index_of (dummies_of entries refs) r)) None) ≡ None) × (o ≡ None) × (t ≡ false))
-        ⊎ ((is_none (option_map_or (λ p. Some p) o (cond t (Some (length entries + index_of (dummies_of entries refs) r)) None)) ≡ false) × (dummies_of entries (refs ++ r ∷ []) ≡ dummies_of entries refs))
+        ⊎ ((is_none (option_map_or (λ p. Some p) o (cond t (Some (length entries + index_of (dummies_of entries refs) r)) None)) ≡ false)
+        × (dummies_of entries (refs ++ r ∷ []) ≡ dummies_of entries refs))
     by_cases (Some p) e t f = inr (refl, dummies-owned entries refs r (owned entries r p e))
     by_cases None e true f = inr (refl, dummies-known entries refs r f)
     by_cases None e false f = inl (refl, refl, refl)
@@ -270,13 +278,16 @@ number_is entries id h = by_owner (owner_is 0 entries id)
         let held = index-least (dummies entries) id (omega (arith, k)) in
         (λ i. shape (none i) (held i)) ∙ sym (ap (λ (c : Container). Some (number entries c)) none)
 
-pub number_found : (entries : List Entry) (id : Id) (count n : ℕ) (get : Id → Option ℕ) → AreNoted entries (mentioned entries) count get → number_of_id entries id < count_of entries → get id ≡ Some n → n ≡ number_of_id entries id
+pub number_found : (entries : List Entry) (id : Id) (count n : ℕ) (get : Id → Option ℕ) → AreNoted entries (mentioned entries) count get → number_of_id entries id < count_of entries
+    → get id ≡ Some n → n ≡ number_of_id entries id
 number_found entries id count n get noted h e = let same : Some n ≡ Some (number_of_id entries id) = sym e ∙ noted.each id ∙ number_is entries id h in cc
 
-pub number_missed : (entries : List Entry) (id : Id) (count : ℕ) (get : Id → Option ℕ) → AreNoted entries (mentioned entries) count get → number_of_id entries id < count_of entries → get id ≡ None → 0 ≡ number_of_id entries id
+pub number_missed : (entries : List Entry) (id : Id) (count : ℕ) (get : Id → Option ℕ) → AreNoted entries (mentioned entries) count get → number_of_id entries id < count_of entries
+    → get id ≡ None → 0 ≡ number_of_id entries id
 number_missed entries id count get noted h e = absurd (let bad : None ≡ Some (number_of_id entries id) = sym e ∙ noted.each id ∙ number_is entries id h in cc)
 
-pub ids_noted : (entries : List Entry) (refs ids : List Id) (i : ℕ) (d : Id) (count : ℕ) (get : Id → Option ℕ) → i < length ids → AreNoted entries ((refs ++ take i ids) ++ get_or ids i d ∷ []) count get
+pub ids_noted : (entries : List Entry) (refs ids : List Id) (i : ℕ) (d : Id) (count : ℕ) (get : Id → Option ℕ) → i < length ids → AreNoted entries
+    ((refs ++ take i ids) ++ get_or ids i d ∷ []) count get
     → AreNoted entries (refs ++ take (i + 1) ids) count get
 ids_noted entries refs ids i d count get h =
     subst (λ (rs : List Id). AreNoted entries rs count get) (append_assoc refs (take i ids) (get_or ids i d ∷ []) ∙ ap (λ (xs : List Id). refs ++ xs) (sym (take_more ids i d h)))
@@ -285,7 +296,8 @@ pub entry_noted : (entries : List Entry) (i : ℕ) (d : Entry) (refs : List Id) 
     → AreNoted entries (mentioned (take i entries) ++ refs) count get → AreNoted entries (mentioned (take (i + 1) entries)) count get
 entry_noted entries i d refs count get h is =
     subst (λ (rs : List Id). AreNoted entries rs count get)
-    (ap (λ (rs : List Id). mentioned (take i entries) ++ rs) (is ∙ sym (append-nil (get_or entries i d).refs)) ∙ sym (flat_map-append (λ (entry : Entry). entry.refs) (take i entries) (get_or entries i d ∷ [])) ∙ ap mentioned (sym (take_more entries i d h)))
+    (ap (λ (rs : List Id). mentioned (take i entries) ++ rs) (is ∙ sym (append-nil (get_or entries i d).refs))
+    ∙ sym (flat_map-append (λ (entry : Entry). entry.refs) (take i entries) (get_or entries i d ∷ [])) ∙ ap mentioned (sym (take_more entries i d h)))
 
 -- one of some ids more
 pub noted_at : (entries : List Entry) (refs ids : List Id) (at : ℕ) (id : Id) (count : ℕ) (get : Id → Option ℕ) → at < length ids → ((other : Id) → id ≡ get_or ids at other)

@@ -4,7 +4,8 @@ ghost use Rattle.std.specs.Prelude.{◌≡◌, pos, ◌∷◌, [], false, Some, 
 ghost use Rattle.sqlite.specs.declared.types.Value.TheVariants.{Int};
 ghost use Rattle.sqlite.specs.State.{HasCleanDisk};
 ghost use Rattle.sqlite.specs.Held.{state};
-ghost use Rattle.archive_tables.specs.Statements.{making_version, making_lists, making_persons, making_grants, making_messages, indexing_months, indexing_authors, making_options, making_addresses, adding_version, changing_version};
+ghost use Rattle.archive_tables.specs.Statements.{making_version, making_lists, making_persons, making_grants, making_messages, indexing_months};
+ghost use Rattle.archive_tables.specs.Statements.{indexing_authors, making_options, making_addresses, adding_version, changing_version};
 ghost use Rattle.archive_tables.specs.Schema.{no_schema, with_version, with_list, with_person, with_grant, with_message, with_month_index, schema_1, schema_2, archive_schema, schema_of};
 ghost use Rattle.archive_tables.specs.Tables.{IsHeld, IsHeldAs, IsKept, IsKnown, HasForm, form_of, newest_number, archive_by, archive_of};
 ghost use Rattle.archive_machine.specs.Records.{Archive};

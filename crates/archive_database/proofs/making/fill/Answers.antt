@@ -78,7 +78,8 @@ returns-in_err-make_later-clause-crash g c = λ before making clean db may.
     let made_1 = c.in_ok-make_first.ensures.made clean_1 before making in
     let made_2 = c.in_ok-make_second.ensures.made clean_2 before made_1 in
     let made_3 = c.in_ok-make_indexes.ensures.made clean_3 before made_2 in
-    inl (c.make_first.ensures.quiet before making clean_1 db (c.make_second.ensures.quiet before made_1 clean_2 db (c.make_indexes.ensures.quiet before made_2 clean_3 db (c.make_later.ensures.quiet before made_3 clean db may))))
+    inl (c.make_first.ensures.quiet before making clean_1 db (c.make_second.ensures.quiet before made_1 clean_2 db
+    (c.make_indexes.ensures.quiet before made_2 clean_3 db (c.make_later.ensures.quiet before made_3 clean db may))))
 
 pub returns-in_err-commit-clause-crash : goal.returns-in_err-commit-clause-crash
 returns-in_err-commit-clause-crash g c = λ before making clean db may.
@@ -116,28 +117,68 @@ returns-clause-crash g c = λ before making clean db may.
 
 pub returns-in_err-make_first-clause-ends : goal.returns-in_err-make_first-clause-ends
 returns-in_err-make_first-clause-ends g c =
-    fails_first c.from_residual.result c.in_err-make_first.field-0.0 c.from_residual.ensures.1 (λ s before. IsMaking s no_schema before) first_statements (second_statements ++ index_statements ++ later_statements) c.in_err-make_first.ensures.ends
+    fails_first c.from_residual.result c.in_err-make_first.field-0.0 c.from_residual.ensures.1 (λ s before. IsMaking s no_schema before) first_statements
+    (second_statements ++ index_statements ++ later_statements) c.in_err-make_first.ensures.ends
 
 pub returns-in_err-make_second-clause-ends : goal.returns-in_err-make_second-clause-ends
 returns-in_err-make_second-clause-ends g c =
-    fails_then (λ s before. IsMaking s no_schema before) (λ s before. IsMaking s with_person before) (first_statements) second_statements c.in_ok-make_first.ensures.ends (λ clean before k. (c.in_ok-make_first.ensures.made clean before k))
+    fails_then (λ s before. IsMaking s no_schema before) (λ s before. IsMaking s with_person before) (first_statements) second_statements c.in_ok-make_first.ensures.ends
+    (λ clean before k. (c.in_ok-make_first.ensures.made clean before k))
     c.from_residual-in_err-make_second.result c.in_err-make_second.field-0.0 c.from_residual-in_err-make_second.ensures.1 (index_statements ++ later_statements) c.in_err-make_second.ensures.ends
 
 pub returns-in_err-make_indexes-clause-ends : goal.returns-in_err-make_indexes-clause-ends
 returns-in_err-make_indexes-clause-ends g c =
-    fails_then (λ s before. IsMaking s no_schema before) (λ s before. IsMaking s with_message before) (first_statements ++ second_statements) index_statements (done_then (λ s before. IsMaking s no_schema before) (λ s before. IsMaking s with_person before) (first_statements) second_statements c.in_ok-make_first.ensures.ends (λ clean before k. (c.in_ok-make_first.ensures.made clean before k)) _ (tt {0}) c.in_ok-make_second.ensures.ends) (λ clean before k. (c.in_ok-make_second.ensures.made clean before (c.in_ok-make_first.ensures.made (c.in_ok-make_second.ensures.ends.lasts.returned clean) before k)))
+    fails_then (λ s before. IsMaking s no_schema before) (λ s before. IsMaking s with_message before) (first_statements ++ second_statements) index_statements
+    (done_then (λ s before. IsMaking s no_schema before) (λ s before. IsMaking s with_person before) (first_statements) second_statements c.in_ok-make_first.ensures.ends
+    (λ clean before k. (c.in_ok-make_first.ensures.made clean before k)) _ (tt {0}) c.in_ok-make_second.ensures.ends)
+    (λ clean before k. (c.in_ok-make_second.ensures.made clean before (c.in_ok-make_first.ensures.made (c.in_ok-make_second.ensures.ends.lasts.returned clean) before k)))
     c.from_residual-in_err-make_indexes.result c.in_err-make_indexes.field-0.0 c.from_residual-in_err-make_indexes.ensures.1 (later_statements) c.in_err-make_indexes.ensures.ends
 
 pub returns-in_err-make_later-clause-ends : goal.returns-in_err-make_later-clause-ends
 returns-in_err-make_later-clause-ends g c =
-    fails_then (λ s before. IsMaking s no_schema before) (λ s before. IsMaking s schema_1 before) ((first_statements ++ second_statements) ++ index_statements) later_statements (done_then (λ s before. IsMaking s no_schema before) (λ s before. IsMaking s with_message before) (first_statements ++ second_statements) index_statements (done_then (λ s before. IsMaking s no_schema before) (λ s before. IsMaking s with_person before) (first_statements) second_statements c.in_ok-make_first.ensures.ends (λ clean before k. (c.in_ok-make_first.ensures.made clean before k)) _ (tt {0}) c.in_ok-make_second.ensures.ends) (λ clean before k. (c.in_ok-make_second.ensures.made clean before (c.in_ok-make_first.ensures.made (c.in_ok-make_second.ensures.ends.lasts.returned clean) before k))) _ (tt {0}) c.in_ok-make_indexes.ensures.ends) (λ clean before k. (c.in_ok-make_indexes.ensures.made clean before (c.in_ok-make_second.ensures.made (c.in_ok-make_indexes.ensures.ends.lasts.returned clean) before (c.in_ok-make_first.ensures.made (c.in_ok-make_second.ensures.ends.lasts.returned (c.in_ok-make_indexes.ensures.ends.lasts.returned clean)) before k))))
+    fails_then (λ s before. IsMaking s no_schema before) (λ s before. IsMaking s schema_1 before) ((first_statements ++ second_statements) ++ index_statements)
+    later_statements (done_then (λ s before. IsMaking s no_schema before) (λ s before. IsMaking s with_message before) (first_statements ++ second_statements)
+    index_statements (done_then (λ s before. IsMaking s no_schema before) (λ s before. IsMaking s with_person before) (first_statements) second_statements
+    c.in_ok-make_first.ensures.ends (λ clean before k. (c.in_ok-make_first.ensures.made clean before k)) _ (tt {0}) c.in_ok-make_second.ensures.ends)
+    (λ clean before k. (c.in_ok-make_second.ensures.made clean before (c.in_ok-make_first.ensures.made (c.in_ok-make_second.ensures.ends.lasts.returned clean) before k))) _
+    (tt {0}) c.in_ok-make_indexes.ensures.ends) (λ clean before k. (c.in_ok-make_indexes.ensures.made clean before
+    (c.in_ok-make_second.ensures.made (c.in_ok-make_indexes.ensures.ends.lasts.returned clean) before
+    (c.in_ok-make_first.ensures.made (c.in_ok-make_second.ensures.ends.lasts.returned (c.in_ok-make_indexes.ensures.ends.lasts.returned clean)) before k))))
     c.from_residual-in_err-make_later.result c.in_err-make_later.field-0.0 c.from_residual-in_err-make_later.ensures.1 ([]) c.in_err-make_later.ensures.ends
 
 pub returns-in_err-commit-clause-ends : goal.returns-in_err-commit-clause-ends
 returns-in_err-commit-clause-ends g c =
-    fails_then (λ s before. IsMaking s no_schema before) (λ s before. IsMade s before empty_archive) (((first_statements ++ second_statements) ++ index_statements) ++ later_statements) [] (done_then (λ s before. IsMaking s no_schema before) (λ s before. IsMaking s schema_1 before) ((first_statements ++ second_statements) ++ index_statements) later_statements (done_then (λ s before. IsMaking s no_schema before) (λ s before. IsMaking s with_message before) (first_statements ++ second_statements) index_statements (done_then (λ s before. IsMaking s no_schema before) (λ s before. IsMaking s with_person before) (first_statements) second_statements c.in_ok-make_first.ensures.ends (λ clean before k. (c.in_ok-make_first.ensures.made clean before k)) _ (tt {0}) c.in_ok-make_second.ensures.ends) (λ clean before k. (c.in_ok-make_second.ensures.made clean before (c.in_ok-make_first.ensures.made (c.in_ok-make_second.ensures.ends.lasts.returned clean) before k))) _ (tt {0}) c.in_ok-make_indexes.ensures.ends) (λ clean before k. (c.in_ok-make_indexes.ensures.made clean before (c.in_ok-make_second.ensures.made (c.in_ok-make_indexes.ensures.ends.lasts.returned clean) before (c.in_ok-make_first.ensures.made (c.in_ok-make_second.ensures.ends.lasts.returned (c.in_ok-make_indexes.ensures.ends.lasts.returned clean)) before k)))) _ (tt {0}) c.in_ok-make_later.ensures.ends) (λ clean before k. (c.in_ok-make_later.ensures.made clean before (c.in_ok-make_indexes.ensures.made (c.in_ok-make_later.ensures.ends.lasts.returned clean) before (c.in_ok-make_second.ensures.made (c.in_ok-make_indexes.ensures.ends.lasts.returned (c.in_ok-make_later.ensures.ends.lasts.returned clean)) before (c.in_ok-make_first.ensures.made (c.in_ok-make_second.ensures.ends.lasts.returned (c.in_ok-make_indexes.ensures.ends.lasts.returned (c.in_ok-make_later.ensures.ends.lasts.returned clean))) before k)))))
-    c.from_residual-in_err-commit.result c.in_err-commit.field-0.0 c.from_residual-in_err-commit.ensures.1 ([]) (commit_ends (λ s before. IsMade s before empty_archive) (λ before k. (k.is_open, k.within)) c.in_err-commit.ensures.ends)
+    fails_then (λ s before. IsMaking s no_schema before) (λ s before. IsMade s before empty_archive) (((first_statements ++ second_statements) ++ index_statements) ++ later_statements)
+    [] (done_then (λ s before. IsMaking s no_schema before) (λ s before. IsMaking s schema_1 before) ((first_statements ++ second_statements) ++ index_statements)
+    later_statements (done_then (λ s before. IsMaking s no_schema before) (λ s before. IsMaking s with_message before) (first_statements ++ second_statements)
+    index_statements (done_then (λ s before. IsMaking s no_schema before) (λ s before. IsMaking s with_person before) (first_statements) second_statements
+    c.in_ok-make_first.ensures.ends (λ clean before k. (c.in_ok-make_first.ensures.made clean before k)) _ (tt {0}) c.in_ok-make_second.ensures.ends)
+    (λ clean before k. (c.in_ok-make_second.ensures.made clean before (c.in_ok-make_first.ensures.made (c.in_ok-make_second.ensures.ends.lasts.returned clean) before k))) _
+    (tt {0}) c.in_ok-make_indexes.ensures.ends) (λ clean before k. (c.in_ok-make_indexes.ensures.made clean before
+    (c.in_ok-make_second.ensures.made (c.in_ok-make_indexes.ensures.ends.lasts.returned clean) before
+    (c.in_ok-make_first.ensures.made (c.in_ok-make_second.ensures.ends.lasts.returned (c.in_ok-make_indexes.ensures.ends.lasts.returned clean)) before k)))) _
+    (tt {0}) c.in_ok-make_later.ensures.ends) (λ clean before k. (c.in_ok-make_later.ensures.made clean before
+    (c.in_ok-make_indexes.ensures.made (c.in_ok-make_later.ensures.ends.lasts.returned clean) before
+    (c.in_ok-make_second.ensures.made (c.in_ok-make_indexes.ensures.ends.lasts.returned (c.in_ok-make_later.ensures.ends.lasts.returned clean)) before
+    (c.in_ok-make_first.ensures.made (c.in_ok-make_second.ensures.ends.lasts.returned (c.in_ok-make_indexes.ensures.ends.lasts.returned
+    (c.in_ok-make_later.ensures.ends.lasts.returned clean))) before k)))))
+    c.from_residual-in_err-commit.result c.in_err-commit.field-0.0 c.from_residual-in_err-commit.ensures.1 ([])
+    (commit_ends (λ s before. IsMade s before empty_archive) (λ before k. (k.is_open, k.within)) c.in_err-commit.ensures.ends)
 
 pub returns-clause-ends : goal.returns-clause-ends
 returns-clause-ends g c =
-    done_then (λ s before. IsMaking s no_schema before) (λ s before. IsMade s before empty_archive) (((first_statements ++ second_statements) ++ index_statements) ++ later_statements) [] (done_then (λ s before. IsMaking s no_schema before) (λ s before. IsMaking s schema_1 before) ((first_statements ++ second_statements) ++ index_statements) later_statements (done_then (λ s before. IsMaking s no_schema before) (λ s before. IsMaking s with_message before) (first_statements ++ second_statements) index_statements (done_then (λ s before. IsMaking s no_schema before) (λ s before. IsMaking s with_person before) (first_statements) second_statements c.in_ok-make_first.ensures.ends (λ clean before k. (c.in_ok-make_first.ensures.made clean before k)) _ (tt {0}) c.in_ok-make_second.ensures.ends) (λ clean before k. (c.in_ok-make_second.ensures.made clean before (c.in_ok-make_first.ensures.made (c.in_ok-make_second.ensures.ends.lasts.returned clean) before k))) _ (tt {0}) c.in_ok-make_indexes.ensures.ends) (λ clean before k. (c.in_ok-make_indexes.ensures.made clean before (c.in_ok-make_second.ensures.made (c.in_ok-make_indexes.ensures.ends.lasts.returned clean) before (c.in_ok-make_first.ensures.made (c.in_ok-make_second.ensures.ends.lasts.returned (c.in_ok-make_indexes.ensures.ends.lasts.returned clean)) before k)))) _ (tt {0}) c.in_ok-make_later.ensures.ends) (λ clean before k. (c.in_ok-make_later.ensures.made clean before (c.in_ok-make_indexes.ensures.made (c.in_ok-make_later.ensures.ends.lasts.returned clean) before (c.in_ok-make_second.ensures.made (c.in_ok-make_indexes.ensures.ends.lasts.returned (c.in_ok-make_later.ensures.ends.lasts.returned clean)) before (c.in_ok-make_first.ensures.made (c.in_ok-make_second.ensures.ends.lasts.returned (c.in_ok-make_indexes.ensures.ends.lasts.returned (c.in_ok-make_later.ensures.ends.lasts.returned clean))) before k))))) _ _ (commit_ends (λ s before. IsMade s before empty_archive) (λ before k. (k.is_open, k.within)) c.in_ok-commit.ensures.ends)
+    done_then (λ s before. IsMaking s no_schema before) (λ s before. IsMade s before empty_archive) (((first_statements ++ second_statements) ++ index_statements) ++ later_statements)
+    [] (done_then (λ s before. IsMaking s no_schema before) (λ s before. IsMaking s schema_1 before) ((first_statements ++ second_statements) ++ index_statements)
+    later_statements (done_then (λ s before. IsMaking s no_schema before) (λ s before. IsMaking s with_message before) (first_statements ++ second_statements)
+    index_statements (done_then (λ s before. IsMaking s no_schema before) (λ s before. IsMaking s with_person before) (first_statements) second_statements
+    c.in_ok-make_first.ensures.ends (λ clean before k. (c.in_ok-make_first.ensures.made clean before k)) _ (tt {0}) c.in_ok-make_second.ensures.ends)
+    (λ clean before k. (c.in_ok-make_second.ensures.made clean before (c.in_ok-make_first.ensures.made (c.in_ok-make_second.ensures.ends.lasts.returned clean) before k))) _
+    (tt {0}) c.in_ok-make_indexes.ensures.ends) (λ clean before k. (c.in_ok-make_indexes.ensures.made clean before
+    (c.in_ok-make_second.ensures.made (c.in_ok-make_indexes.ensures.ends.lasts.returned clean) before
+    (c.in_ok-make_first.ensures.made (c.in_ok-make_second.ensures.ends.lasts.returned (c.in_ok-make_indexes.ensures.ends.lasts.returned clean)) before k)))) _
+    (tt {0}) c.in_ok-make_later.ensures.ends) (λ clean before k. (c.in_ok-make_later.ensures.made clean before
+    (c.in_ok-make_indexes.ensures.made (c.in_ok-make_later.ensures.ends.lasts.returned clean) before
+    (c.in_ok-make_second.ensures.made (c.in_ok-make_indexes.ensures.ends.lasts.returned (c.in_ok-make_later.ensures.ends.lasts.returned clean)) before
+    (c.in_ok-make_first.ensures.made (c.in_ok-make_second.ensures.ends.lasts.returned (c.in_ok-make_indexes.ensures.ends.lasts.returned
+    (c.in_ok-make_later.ensures.ends.lasts.returned clean))) before k))))) _ _ (commit_ends (λ s before. IsMade s before empty_archive)
+    (λ before k. (k.is_open, k.within)) c.in_ok-commit.ensures.ends)

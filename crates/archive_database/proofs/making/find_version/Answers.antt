@@ -33,7 +33,8 @@ returns-in_err-rows-clause-ends g c =
     record {
       lasts = c.versions.ensures.asks.ends.lasts;
       was_open = λ clean. search rules;
-      caused = λ clean it free. blames old old new new c.from_residual.result c.in_err-rows.field-0.0 _ (¬ IsOfVersion (pos c.args.number) old.now.trees) c.from_residual.ensures.1 (lasts_same old) (lasts_same new)
+      caused = λ clean it free. blames old old new new c.from_residual.result c.in_err-rows.field-0.0 _ (¬ IsOfVersion (pos c.args.number) old.now.trees)
+          c.from_residual.ensures.1 (lasts_same old) (lasts_same new)
           (λ no. absurd no) (inl (c.in_err-rows.ensures.caused clean c.args.number it.0 it.1 free));
     }
 
@@ -54,7 +55,8 @@ returns-in_err-found-clause-ends g c =
     record {
       lasts = c.versions.ensures.asks.ends.lasts;
       was_open = λ clean. search rules;
-      caused = λ clean it free. unread old new c.from_residual-in_err-found.result c.in_err-found.field-0.0 (¬ IsOfVersion (pos c.args.number) old.now.trees) c.from_residual-in_err-found.ensures.1 (λ other of.
+      caused = λ clean it free. unread old new c.from_residual-in_err-found.result c.in_err-found.field-0.0 (¬ IsOfVersion (pos c.args.number) old.now.trees)
+          c.from_residual-in_err-found.ensures.1 (λ other of.
           let shown = version_shown (pos c.args.number) old.now.trees c.in_ok-rows.rows.items of (c.in_ok-rows.ensures.numbers clean c.args.number it.0 it.1) in
           let row : c.row-item.result ≡ Int (pos c.args.number) ∷ [] = c.row-item.is ∙ ap (λ l. get_or l 0 c.row-item.result) (c.as_slice.ensures.value ∙ shown) in
           c.in_err-found.ensures.kind other (subst (λ (l : Row). 0 < length l) (sym row) (omega arith)) (subst IsInt (sym (ap (λ r. column r 0) row)) (pos c.args.number, refl)));

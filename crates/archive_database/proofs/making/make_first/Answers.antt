@@ -38,7 +38,8 @@ pub returns-in_err-create_list-clause-quiet : goal.returns-in_err-create_list-cl
 returns-in_err-create_list-clause-quiet g c = λ before making clean db may.
     let clean_1 = c.create_list.ensures.ends.lasts.returned clean in
     let made_1 = c.in_ok-create_version.ensures.made clean_1 before making in
-    c.create_version.ensures.quiet before (making_within (state g.S.Store c.args.conn.now) before no_schema making) clean_1 db (c.create_list.ensures.quiet before (making_within (state g.S.Store c.create_version.new.conn) before with_version made_1) clean db may)
+    c.create_version.ensures.quiet before (making_within (state g.S.Store c.args.conn.now) before no_schema making) clean_1 db
+    (c.create_list.ensures.quiet before (making_within (state g.S.Store c.create_version.new.conn) before with_version made_1) clean db may)
 
 pub returns-in_err-create_person-clause-quiet : goal.returns-in_err-create_person-clause-quiet
 returns-in_err-create_person-clause-quiet g c = λ before making clean db may.
@@ -46,7 +47,9 @@ returns-in_err-create_person-clause-quiet g c = λ before making clean db may.
     let clean_1 = c.create_list.ensures.ends.lasts.returned clean_2 in
     let made_1 = c.in_ok-create_version.ensures.made clean_1 before making in
     let made_2 = c.in_ok-create_list.ensures.made clean_2 before made_1 in
-    c.create_version.ensures.quiet before (making_within (state g.S.Store c.args.conn.now) before no_schema making) clean_1 db (c.create_list.ensures.quiet before (making_within (state g.S.Store c.create_version.new.conn) before with_version made_1) clean_2 db (c.create_person.ensures.quiet before (making_within (state g.S.Store c.create_list.new.conn) before with_list made_2) clean db may))
+    c.create_version.ensures.quiet before (making_within (state g.S.Store c.args.conn.now) before no_schema making) clean_1 db
+    (c.create_list.ensures.quiet before (making_within (state g.S.Store c.create_version.new.conn) before with_version made_1) clean_2 db
+    (c.create_person.ensures.quiet before (making_within (state g.S.Store c.create_list.new.conn) before with_list made_2) clean db may))
 
 pub returns-clause-quiet : goal.returns-clause-quiet
 returns-clause-quiet g c = λ before making clean db may.
@@ -54,24 +57,39 @@ returns-clause-quiet g c = λ before making clean db may.
     let clean_1 = c.create_list.ensures.ends.lasts.returned clean_2 in
     let made_1 = c.in_ok-create_version.ensures.made clean_1 before making in
     let made_2 = c.in_ok-create_list.ensures.made clean_2 before made_1 in
-    c.create_version.ensures.quiet before (making_within (state g.S.Store c.args.conn.now) before no_schema making) clean_1 db (c.create_list.ensures.quiet before (making_within (state g.S.Store c.create_version.new.conn) before with_version made_1) clean_2 db (c.create_person.ensures.quiet before (making_within (state g.S.Store c.create_list.new.conn) before with_list made_2) clean db may))
+    c.create_version.ensures.quiet before (making_within (state g.S.Store c.args.conn.now) before no_schema making) clean_1 db
+    (c.create_list.ensures.quiet before (making_within (state g.S.Store c.create_version.new.conn) before with_version made_1) clean_2 db
+    (c.create_person.ensures.quiet before (making_within (state g.S.Store c.create_list.new.conn) before with_list made_2) clean db may))
 
 -- ---- how it ends
 
 pub returns-in_err-create_version-clause-ends : goal.returns-in_err-create_version-clause-ends
 returns-in_err-create_version-clause-ends g c =
-    fails_first c.from_residual.result c.in_err-create_version.field-0.0 c.from_residual.ensures.1 (λ s before. IsMaking s no_schema before) (making_version ∷ []) (making_lists ∷ making_persons ∷ []) (one_ends (λ s before. IsMaking s no_schema before) (λ before k. (k.is_open, k.schema_is)) c.in_err-create_version.ensures.ends)
+    fails_first c.from_residual.result c.in_err-create_version.field-0.0 c.from_residual.ensures.1 (λ s before. IsMaking s no_schema before) (making_version ∷ [])
+    (making_lists ∷ making_persons ∷ []) (one_ends (λ s before. IsMaking s no_schema before) (λ before k. (k.is_open, k.schema_is)) c.in_err-create_version.ensures.ends)
 
 pub returns-in_err-create_list-clause-ends : goal.returns-in_err-create_list-clause-ends
 returns-in_err-create_list-clause-ends g c =
-    fails_then (λ s before. IsMaking s no_schema before) (λ s before. IsMaking s with_version before) (making_version ∷ []) (making_lists ∷ []) (one_ends (λ s before. IsMaking s no_schema before) (λ before k. (k.is_open, k.schema_is)) c.in_ok-create_version.ensures.ends) c.in_ok-create_version.ensures.made
-    c.from_residual-in_err-create_list.result c.in_err-create_list.field-0.0 c.from_residual-in_err-create_list.ensures.1 (making_persons ∷ []) (one_ends (λ s before. IsMaking s with_version before) (λ before k. (k.is_open, k.schema_is)) c.in_err-create_list.ensures.ends)
+    fails_then (λ s before. IsMaking s no_schema before) (λ s before. IsMaking s with_version before) (making_version ∷ []) (making_lists ∷ [])
+    (one_ends (λ s before. IsMaking s no_schema before) (λ before k. (k.is_open, k.schema_is)) c.in_ok-create_version.ensures.ends) c.in_ok-create_version.ensures.made
+    c.from_residual-in_err-create_list.result c.in_err-create_list.field-0.0 c.from_residual-in_err-create_list.ensures.1 (making_persons ∷ [])
+    (one_ends (λ s before. IsMaking s with_version before) (λ before k. (k.is_open, k.schema_is)) c.in_err-create_list.ensures.ends)
 
 pub returns-in_err-create_person-clause-ends : goal.returns-in_err-create_person-clause-ends
 returns-in_err-create_person-clause-ends g c =
-    fails_then (λ s before. IsMaking s no_schema before) (λ s before. IsMaking s with_list before) (making_version ∷ making_lists ∷ []) (making_persons ∷ []) (done_then (λ s before. IsMaking s no_schema before) (λ s before. IsMaking s with_version before) (making_version ∷ []) (making_lists ∷ []) (one_ends (λ s before. IsMaking s no_schema before) (λ before k. (k.is_open, k.schema_is)) c.in_ok-create_version.ensures.ends) c.in_ok-create_version.ensures.made _ (tt {0}) (one_ends (λ s before. IsMaking s with_version before) (λ before k. (k.is_open, k.schema_is)) c.in_ok-create_list.ensures.ends)) (λ clean before k. c.in_ok-create_list.ensures.made clean before (c.in_ok-create_version.ensures.made (c.in_ok-create_list.ensures.ends.lasts.returned clean) before k))
-    c.from_residual-in_err-create_person.result c.in_err-create_person.field-0.0 c.from_residual-in_err-create_person.ensures.1 [] (one_ends (λ s before. IsMaking s with_list before) (λ before k. (k.is_open, k.schema_is)) c.in_err-create_person.ensures.ends)
+    fails_then (λ s before. IsMaking s no_schema before) (λ s before. IsMaking s with_list before) (making_version ∷ making_lists ∷ []) (making_persons ∷ [])
+    (done_then (λ s before. IsMaking s no_schema before) (λ s before. IsMaking s with_version before) (making_version ∷ []) (making_lists ∷ [])
+    (one_ends (λ s before. IsMaking s no_schema before) (λ before k. (k.is_open, k.schema_is)) c.in_ok-create_version.ensures.ends) c.in_ok-create_version.ensures.made _
+    (tt {0}) (one_ends (λ s before. IsMaking s with_version before) (λ before k. (k.is_open, k.schema_is)) c.in_ok-create_list.ensures.ends))
+    (λ clean before k. c.in_ok-create_list.ensures.made clean before (c.in_ok-create_version.ensures.made (c.in_ok-create_list.ensures.ends.lasts.returned clean) before k))
+    c.from_residual-in_err-create_person.result c.in_err-create_person.field-0.0 c.from_residual-in_err-create_person.ensures.1 []
+    (one_ends (λ s before. IsMaking s with_list before) (λ before k. (k.is_open, k.schema_is)) c.in_err-create_person.ensures.ends)
 
 pub returns-clause-ends : goal.returns-clause-ends
 returns-clause-ends g c =
-    done_then (λ s before. IsMaking s no_schema before) (λ s before. IsMaking s with_list before) (making_version ∷ making_lists ∷ []) (making_persons ∷ []) (done_then (λ s before. IsMaking s no_schema before) (λ s before. IsMaking s with_version before) (making_version ∷ []) (making_lists ∷ []) (one_ends (λ s before. IsMaking s no_schema before) (λ before k. (k.is_open, k.schema_is)) c.in_ok-create_version.ensures.ends) c.in_ok-create_version.ensures.made _ (tt {0}) (one_ends (λ s before. IsMaking s with_version before) (λ before k. (k.is_open, k.schema_is)) c.in_ok-create_list.ensures.ends)) (λ clean before k. c.in_ok-create_list.ensures.made clean before (c.in_ok-create_version.ensures.made (c.in_ok-create_list.ensures.ends.lasts.returned clean) before k)) _ _ (one_ends (λ s before. IsMaking s with_list before) (λ before k. (k.is_open, k.schema_is)) c.in_ok-create_person.ensures.ends)
+    done_then (λ s before. IsMaking s no_schema before) (λ s before. IsMaking s with_list before) (making_version ∷ making_lists ∷ []) (making_persons ∷ [])
+    (done_then (λ s before. IsMaking s no_schema before) (λ s before. IsMaking s with_version before) (making_version ∷ []) (making_lists ∷ [])
+    (one_ends (λ s before. IsMaking s no_schema before) (λ before k. (k.is_open, k.schema_is)) c.in_ok-create_version.ensures.ends) c.in_ok-create_version.ensures.made _
+    (tt {0}) (one_ends (λ s before. IsMaking s with_version before) (λ before k. (k.is_open, k.schema_is)) c.in_ok-create_list.ensures.ends))
+    (λ clean before k. c.in_ok-create_list.ensures.made clean before (c.in_ok-create_version.ensures.made (c.in_ok-create_list.ensures.ends.lasts.returned clean) before k)) _ _
+    (one_ends (λ s before. IsMaking s with_list before) (λ before k. (k.is_open, k.schema_is)) c.in_ok-create_person.ensures.ends)

@@ -18,7 +18,8 @@ returns-in_err-create_author_index-clause-stopped g c = λ clean before making.
     let clean_1 = c.in_err-create_author_index.ensures.ends.lasts.returned clean in
     let made = c.in_ok-create_month_index.ensures.made clean_1 before making in
     on_err c.from_residual-in_err-create_author_index.result _
-    (stopped_by (state g.S.Store c.create_month_index.new.conn) (state g.S.Store c.create_author_index.new.conn) before made.behind made.within (c.in_err-create_author_index.ensures.ends.stopped clean))
+    (stopped_by (state g.S.Store c.create_month_index.new.conn) (state g.S.Store c.create_author_index.new.conn) before made.behind made.within
+    (c.in_err-create_author_index.ensures.ends.stopped clean))
 
 -- ---- what a stop of the machine leaves
 
@@ -30,25 +31,32 @@ pub returns-in_err-create_author_index-clause-quiet : goal.returns-in_err-create
 returns-in_err-create_author_index-clause-quiet g c = λ before making clean db may.
     let clean_1 = c.create_author_index.ensures.ends.lasts.returned clean in
     let made_1 = c.in_ok-create_month_index.ensures.made clean_1 before making in
-    c.create_month_index.ensures.quiet before (making_within (state g.S.Store c.args.conn.now) before with_message making) clean_1 db (c.create_author_index.ensures.quiet before (making_within (state g.S.Store c.create_month_index.new.conn) before with_month_index made_1) clean db may)
+    c.create_month_index.ensures.quiet before (making_within (state g.S.Store c.args.conn.now) before with_message making) clean_1 db
+    (c.create_author_index.ensures.quiet before (making_within (state g.S.Store c.create_month_index.new.conn) before with_month_index made_1) clean db may)
 
 pub returns-clause-quiet : goal.returns-clause-quiet
 returns-clause-quiet g c = λ before making clean db may.
     let clean_1 = c.create_author_index.ensures.ends.lasts.returned clean in
     let made_1 = c.in_ok-create_month_index.ensures.made clean_1 before making in
-    c.create_month_index.ensures.quiet before (making_within (state g.S.Store c.args.conn.now) before with_message making) clean_1 db (c.create_author_index.ensures.quiet before (making_within (state g.S.Store c.create_month_index.new.conn) before with_month_index made_1) clean db may)
+    c.create_month_index.ensures.quiet before (making_within (state g.S.Store c.args.conn.now) before with_message making) clean_1 db
+    (c.create_author_index.ensures.quiet before (making_within (state g.S.Store c.create_month_index.new.conn) before with_month_index made_1) clean db may)
 
 -- ---- how it ends
 
 pub returns-in_err-create_month_index-clause-ends : goal.returns-in_err-create_month_index-clause-ends
 returns-in_err-create_month_index-clause-ends g c =
-    fails_first c.from_residual.result c.in_err-create_month_index.field-0.0 c.from_residual.ensures.1 (λ s before. IsMaking s with_message before) (indexing_months ∷ []) (indexing_authors ∷ []) (one_ends (λ s before. IsMaking s with_message before) (λ before k. (k.is_open, k.schema_is)) c.in_err-create_month_index.ensures.ends)
+    fails_first c.from_residual.result c.in_err-create_month_index.field-0.0 c.from_residual.ensures.1 (λ s before. IsMaking s with_message before) (indexing_months ∷ [])
+    (indexing_authors ∷ []) (one_ends (λ s before. IsMaking s with_message before) (λ before k. (k.is_open, k.schema_is)) c.in_err-create_month_index.ensures.ends)
 
 pub returns-in_err-create_author_index-clause-ends : goal.returns-in_err-create_author_index-clause-ends
 returns-in_err-create_author_index-clause-ends g c =
-    fails_then (λ s before. IsMaking s with_message before) (λ s before. IsMaking s with_month_index before) (indexing_months ∷ []) (indexing_authors ∷ []) (one_ends (λ s before. IsMaking s with_message before) (λ before k. (k.is_open, k.schema_is)) c.in_ok-create_month_index.ensures.ends) c.in_ok-create_month_index.ensures.made
-    c.from_residual-in_err-create_author_index.result c.in_err-create_author_index.field-0.0 c.from_residual-in_err-create_author_index.ensures.1 [] (one_ends (λ s before. IsMaking s with_month_index before) (λ before k. (k.is_open, k.schema_is)) c.in_err-create_author_index.ensures.ends)
+    fails_then (λ s before. IsMaking s with_message before) (λ s before. IsMaking s with_month_index before) (indexing_months ∷ []) (indexing_authors ∷ [])
+    (one_ends (λ s before. IsMaking s with_message before) (λ before k. (k.is_open, k.schema_is)) c.in_ok-create_month_index.ensures.ends) c.in_ok-create_month_index.ensures.made
+    c.from_residual-in_err-create_author_index.result c.in_err-create_author_index.field-0.0 c.from_residual-in_err-create_author_index.ensures.1 []
+    (one_ends (λ s before. IsMaking s with_month_index before) (λ before k. (k.is_open, k.schema_is)) c.in_err-create_author_index.ensures.ends)
 
 pub returns-clause-ends : goal.returns-clause-ends
 returns-clause-ends g c =
-    done_then (λ s before. IsMaking s with_message before) (λ s before. IsMaking s with_month_index before) (indexing_months ∷ []) (indexing_authors ∷ []) (one_ends (λ s before. IsMaking s with_message before) (λ before k. (k.is_open, k.schema_is)) c.in_ok-create_month_index.ensures.ends) c.in_ok-create_month_index.ensures.made _ _ (one_ends (λ s before. IsMaking s with_month_index before) (λ before k. (k.is_open, k.schema_is)) c.in_ok-create_author_index.ensures.ends)
+    done_then (λ s before. IsMaking s with_message before) (λ s before. IsMaking s with_month_index before) (indexing_months ∷ []) (indexing_authors ∷ [])
+    (one_ends (λ s before. IsMaking s with_message before) (λ before k. (k.is_open, k.schema_is)) c.in_ok-create_month_index.ensures.ends)
+    c.in_ok-create_month_index.ensures.made _ _ (one_ends (λ s before. IsMaking s with_month_index before) (λ before k. (k.is_open, k.schema_is)) c.in_ok-create_author_index.ensures.ends)

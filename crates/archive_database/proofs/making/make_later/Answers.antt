@@ -39,7 +39,8 @@ pub returns-in_err-create_address-clause-quiet : goal.returns-in_err-create_addr
 returns-in_err-create_address-clause-quiet g c = λ before making clean db may.
     let clean_1 = c.create_address.ensures.ends.lasts.returned clean in
     let made_1 = c.in_ok-create_option.ensures.made clean_1 before making in
-    c.create_option.ensures.quiet before (making_within (state g.S.Store c.args.conn.now) before schema_1 making) clean_1 db (c.create_address.ensures.quiet before (making_within (state g.S.Store c.create_option.new.conn) before schema_2 made_1) clean db may)
+    c.create_option.ensures.quiet before (making_within (state g.S.Store c.args.conn.now) before schema_1 making) clean_1 db
+    (c.create_address.ensures.quiet before (making_within (state g.S.Store c.create_option.new.conn) before schema_2 made_1) clean db may)
 
 pub returns-in_err-add_version-clause-quiet : goal.returns-in_err-add_version-clause-quiet
 returns-in_err-add_version-clause-quiet g c = λ before making clean db may.
@@ -47,7 +48,9 @@ returns-in_err-add_version-clause-quiet g c = λ before making clean db may.
     let clean_1 = c.create_address.ensures.ends.lasts.returned clean_2 in
     let made_1 = c.in_ok-create_option.ensures.made clean_1 before making in
     let made_2 = c.in_ok-create_address.ensures.made clean_2 before made_1 in
-    c.create_option.ensures.quiet before (making_within (state g.S.Store c.args.conn.now) before schema_1 making) clean_1 db (c.create_address.ensures.quiet before (making_within (state g.S.Store c.create_option.new.conn) before schema_2 made_1) clean_2 db (c.add_version.ensures.quiet before (making_within (state g.S.Store c.create_address.new.conn) before archive_schema made_2) clean db may))
+    c.create_option.ensures.quiet before (making_within (state g.S.Store c.args.conn.now) before schema_1 making) clean_1 db
+    (c.create_address.ensures.quiet before (making_within (state g.S.Store c.create_option.new.conn) before schema_2 made_1) clean_2 db
+    (c.add_version.ensures.quiet before (making_within (state g.S.Store c.create_address.new.conn) before archive_schema made_2) clean db may))
 
 pub returns-clause-quiet : goal.returns-clause-quiet
 returns-clause-quiet g c = λ before making clean db may.
@@ -55,24 +58,39 @@ returns-clause-quiet g c = λ before making clean db may.
     let clean_1 = c.create_address.ensures.ends.lasts.returned clean_2 in
     let made_1 = c.in_ok-create_option.ensures.made clean_1 before making in
     let made_2 = c.in_ok-create_address.ensures.made clean_2 before made_1 in
-    c.create_option.ensures.quiet before (making_within (state g.S.Store c.args.conn.now) before schema_1 making) clean_1 db (c.create_address.ensures.quiet before (making_within (state g.S.Store c.create_option.new.conn) before schema_2 made_1) clean_2 db (c.add_version.ensures.quiet before (making_within (state g.S.Store c.create_address.new.conn) before archive_schema made_2) clean db may))
+    c.create_option.ensures.quiet before (making_within (state g.S.Store c.args.conn.now) before schema_1 making) clean_1 db
+    (c.create_address.ensures.quiet before (making_within (state g.S.Store c.create_option.new.conn) before schema_2 made_1) clean_2 db
+    (c.add_version.ensures.quiet before (making_within (state g.S.Store c.create_address.new.conn) before archive_schema made_2) clean db may))
 
 -- ---- how it ends
 
 pub returns-in_err-create_option-clause-ends : goal.returns-in_err-create_option-clause-ends
 returns-in_err-create_option-clause-ends g c =
-    fails_first c.from_residual.result c.in_err-create_option.field-0.0 c.from_residual.ensures.1 (λ s before. IsMaking s schema_1 before) (making_options ∷ []) (making_addresses ∷ adding_version ∷ []) (one_ends (λ s before. IsMaking s schema_1 before) (λ before k. (k.is_open, k.schema_is)) c.in_err-create_option.ensures.ends)
+    fails_first c.from_residual.result c.in_err-create_option.field-0.0 c.from_residual.ensures.1 (λ s before. IsMaking s schema_1 before) (making_options ∷ [])
+    (making_addresses ∷ adding_version ∷ []) (one_ends (λ s before. IsMaking s schema_1 before) (λ before k. (k.is_open, k.schema_is)) c.in_err-create_option.ensures.ends)
 
 pub returns-in_err-create_address-clause-ends : goal.returns-in_err-create_address-clause-ends
 returns-in_err-create_address-clause-ends g c =
-    fails_then (λ s before. IsMaking s schema_1 before) (λ s before. IsMaking s schema_2 before) (making_options ∷ []) (making_addresses ∷ []) (one_ends (λ s before. IsMaking s schema_1 before) (λ before k. (k.is_open, k.schema_is)) c.in_ok-create_option.ensures.ends) c.in_ok-create_option.ensures.made
-    c.from_residual-in_err-create_address.result c.in_err-create_address.field-0.0 c.from_residual-in_err-create_address.ensures.1 (adding_version ∷ []) (one_ends (λ s before. IsMaking s schema_2 before) (λ before k. (k.is_open, k.schema_is)) c.in_err-create_address.ensures.ends)
+    fails_then (λ s before. IsMaking s schema_1 before) (λ s before. IsMaking s schema_2 before) (making_options ∷ []) (making_addresses ∷ [])
+    (one_ends (λ s before. IsMaking s schema_1 before) (λ before k. (k.is_open, k.schema_is)) c.in_ok-create_option.ensures.ends) c.in_ok-create_option.ensures.made
+    c.from_residual-in_err-create_address.result c.in_err-create_address.field-0.0 c.from_residual-in_err-create_address.ensures.1 (adding_version ∷ [])
+    (one_ends (λ s before. IsMaking s schema_2 before) (λ before k. (k.is_open, k.schema_is)) c.in_err-create_address.ensures.ends)
 
 pub returns-in_err-add_version-clause-ends : goal.returns-in_err-add_version-clause-ends
 returns-in_err-add_version-clause-ends g c =
-    fails_then (λ s before. IsMaking s schema_1 before) (λ s before. IsMaking s archive_schema before) (making_options ∷ making_addresses ∷ []) (adding_version ∷ []) (done_then (λ s before. IsMaking s schema_1 before) (λ s before. IsMaking s schema_2 before) (making_options ∷ []) (making_addresses ∷ []) (one_ends (λ s before. IsMaking s schema_1 before) (λ before k. (k.is_open, k.schema_is)) c.in_ok-create_option.ensures.ends) c.in_ok-create_option.ensures.made _ (tt {0}) (one_ends (λ s before. IsMaking s schema_2 before) (λ before k. (k.is_open, k.schema_is)) c.in_ok-create_address.ensures.ends)) (λ clean before k. c.in_ok-create_address.ensures.made clean before (c.in_ok-create_option.ensures.made (c.in_ok-create_address.ensures.ends.lasts.returned clean) before k))
-    c.from_residual-in_err-add_version.result c.in_err-add_version.field-0.0 c.from_residual-in_err-add_version.ensures.1 [] (one_ends (λ s before. IsMaking s archive_schema before) (λ before k. (k.is_open, k.schema_is)) c.in_err-add_version.ensures.ends)
+    fails_then (λ s before. IsMaking s schema_1 before) (λ s before. IsMaking s archive_schema before) (making_options ∷ making_addresses ∷ []) (adding_version ∷ [])
+    (done_then (λ s before. IsMaking s schema_1 before) (λ s before. IsMaking s schema_2 before) (making_options ∷ []) (making_addresses ∷ [])
+    (one_ends (λ s before. IsMaking s schema_1 before) (λ before k. (k.is_open, k.schema_is)) c.in_ok-create_option.ensures.ends) c.in_ok-create_option.ensures.made _
+    (tt {0}) (one_ends (λ s before. IsMaking s schema_2 before) (λ before k. (k.is_open, k.schema_is)) c.in_ok-create_address.ensures.ends))
+    (λ clean before k. c.in_ok-create_address.ensures.made clean before (c.in_ok-create_option.ensures.made (c.in_ok-create_address.ensures.ends.lasts.returned clean) before k))
+    c.from_residual-in_err-add_version.result c.in_err-add_version.field-0.0 c.from_residual-in_err-add_version.ensures.1 []
+    (one_ends (λ s before. IsMaking s archive_schema before) (λ before k. (k.is_open, k.schema_is)) c.in_err-add_version.ensures.ends)
 
 pub returns-clause-ends : goal.returns-clause-ends
 returns-clause-ends g c =
-    done_then (λ s before. IsMaking s schema_1 before) (λ s before. IsMaking s archive_schema before) (making_options ∷ making_addresses ∷ []) (adding_version ∷ []) (done_then (λ s before. IsMaking s schema_1 before) (λ s before. IsMaking s schema_2 before) (making_options ∷ []) (making_addresses ∷ []) (one_ends (λ s before. IsMaking s schema_1 before) (λ before k. (k.is_open, k.schema_is)) c.in_ok-create_option.ensures.ends) c.in_ok-create_option.ensures.made _ (tt {0}) (one_ends (λ s before. IsMaking s schema_2 before) (λ before k. (k.is_open, k.schema_is)) c.in_ok-create_address.ensures.ends)) (λ clean before k. c.in_ok-create_address.ensures.made clean before (c.in_ok-create_option.ensures.made (c.in_ok-create_address.ensures.ends.lasts.returned clean) before k)) _ _ (one_ends (λ s before. IsMaking s archive_schema before) (λ before k. (k.is_open, k.schema_is)) c.in_ok-add_version.ensures.ends)
+    done_then (λ s before. IsMaking s schema_1 before) (λ s before. IsMaking s archive_schema before) (making_options ∷ making_addresses ∷ []) (adding_version ∷ [])
+    (done_then (λ s before. IsMaking s schema_1 before) (λ s before. IsMaking s schema_2 before) (making_options ∷ []) (making_addresses ∷ [])
+    (one_ends (λ s before. IsMaking s schema_1 before) (λ before k. (k.is_open, k.schema_is)) c.in_ok-create_option.ensures.ends) c.in_ok-create_option.ensures.made _
+    (tt {0}) (one_ends (λ s before. IsMaking s schema_2 before) (λ before k. (k.is_open, k.schema_is)) c.in_ok-create_address.ensures.ends))
+    (λ clean before k. c.in_ok-create_address.ensures.made clean before (c.in_ok-create_option.ensures.made (c.in_ok-create_address.ensures.ends.lasts.returned clean) before k)) _ _
+    (one_ends (λ s before. IsMaking s archive_schema before) (λ before k. (k.is_open, k.schema_is)) c.in_ok-add_version.ensures.ends)

@@ -76,17 +76,25 @@ pub returns-in_err-create_option-clause-ends : goal.returns-in_err-create_option
 returns-in_err-create_option-clause-ends g c =
     let first : c.args.number ≡ 1 = c.if-number-ne1.false in
     subst (λ (n : ℕ). EndsSteps g.S.Store c.args.conn.now c.create_option.new.conn c.from_residual.result (λ s before. IsOlder n × IsWithin s before (schema_of n)) (option_statements n)) (sym first)
-    (fails_first c.from_residual.result c.in_err-create_option.field-0.0 c.from_residual.ensures.1 (λ s before. IsOlder 1 × IsWithin s before schema_1) (making_options ∷ []) (copying_options ∷ []) (one_ends (λ s before. IsOlder 1 × IsWithin s before schema_1) (λ before k. (k.1.is_open, k.1.schema_is)) c.in_err-create_option.ensures.ends))
+    (fails_first c.from_residual.result c.in_err-create_option.field-0.0 c.from_residual.ensures.1 (λ s before. IsOlder 1 × IsWithin s before schema_1)
+    (making_options ∷ []) (copying_options ∷ []) (one_ends (λ s before. IsOlder 1 × IsWithin s before schema_1) (λ before k. (k.1.is_open, k.1.schema_is)) c.in_err-create_option.ensures.ends))
 
 pub returns-in_err-copy_options-clause-ends : goal.returns-in_err-copy_options-clause-ends
 returns-in_err-copy_options-clause-ends g c =
     let first : c.args.number ≡ 1 = c.if-number-ne1.false in
-    subst (λ (n : ℕ). EndsSteps g.S.Store c.args.conn.now c.copy_options.new.conn c.from_residual-in_err-copy_options.result (λ s before. IsOlder n × IsWithin s before (schema_of n)) (option_statements n)) (sym first)
-    (fails_then (λ s before. IsOlder 1 × IsWithin s before schema_1) (λ s before. IsWithin s before schema_2) (making_options ∷ []) (copying_options ∷ []) (one_ends (λ s before. IsOlder 1 × IsWithin s before schema_1) (λ before k. (k.1.is_open, k.1.schema_is)) c.in_ok-create_option.ensures.ends) (λ clean before k. c.in_ok-create_option.ensures.within clean before k.1)
-    c.from_residual-in_err-copy_options.result c.in_err-copy_options.field-0.0 c.from_residual-in_err-copy_options.ensures.1 [] (one_ends (λ s before. IsWithin s before schema_2) (λ before k. (k.is_open, k.schema_is)) c.in_err-copy_options.ensures.ends))
+    subst (λ (n : ℕ). EndsSteps g.S.Store c.args.conn.now c.copy_options.new.conn c.from_residual-in_err-copy_options.result (λ s before. IsOlder n × IsWithin s before (schema_of n))
+    (option_statements n)) (sym first)
+    (fails_then (λ s before. IsOlder 1 × IsWithin s before schema_1) (λ s before. IsWithin s before schema_2) (making_options ∷ []) (copying_options ∷ [])
+    (one_ends (λ s before. IsOlder 1 × IsWithin s before schema_1) (λ before k. (k.1.is_open, k.1.schema_is)) c.in_ok-create_option.ensures.ends)
+    (λ clean before k. c.in_ok-create_option.ensures.within clean before k.1)
+    c.from_residual-in_err-copy_options.result c.in_err-copy_options.field-0.0 c.from_residual-in_err-copy_options.ensures.1 []
+    (one_ends (λ s before. IsWithin s before schema_2) (λ before k. (k.is_open, k.schema_is)) c.in_err-copy_options.ensures.ends))
 
 pub returns-clause-ends : goal.returns-clause-ends
 returns-clause-ends g c =
     let first : c.args.number ≡ 1 = c.if-number-ne1.false in
     subst (λ (n : ℕ). EndsSteps g.S.Store c.args.conn.now c.copy_options.new.conn (Ok (tt {0})) (λ s before. IsOlder n × IsWithin s before (schema_of n)) (option_statements n)) (sym first)
-    (done_then (λ s before. IsOlder 1 × IsWithin s before schema_1) (λ s before. IsWithin s before schema_2) (making_options ∷ []) (copying_options ∷ []) (one_ends (λ s before. IsOlder 1 × IsWithin s before schema_1) (λ before k. (k.1.is_open, k.1.schema_is)) c.in_ok-create_option.ensures.ends) (λ clean before k. c.in_ok-create_option.ensures.within clean before k.1) _ (tt {0}) (one_ends (λ s before. IsWithin s before schema_2) (λ before k. (k.is_open, k.schema_is)) c.in_ok-copy_options.ensures.ends))
+    (done_then (λ s before. IsOlder 1 × IsWithin s before schema_1) (λ s before. IsWithin s before schema_2) (making_options ∷ []) (copying_options ∷ [])
+    (one_ends (λ s before. IsOlder 1 × IsWithin s before schema_1) (λ before k. (k.1.is_open, k.1.schema_is)) c.in_ok-create_option.ensures.ends)
+    (λ clean before k. c.in_ok-create_option.ensures.within clean before k.1) _ (tt {0})
+    (one_ends (λ s before. IsWithin s before schema_2) (λ before k. (k.is_open, k.schema_is)) c.in_ok-copy_options.ensures.ends))

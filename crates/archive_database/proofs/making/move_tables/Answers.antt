@@ -108,29 +108,50 @@ returns-clause-crash g c = λ older before archive moving clean db may.
 
 pub returns-in_err-move_options-clause-ends : goal.returns-in_err-move_options-clause-ends
 returns-in_err-move_options-clause-ends g c =
-    fails_first c.from_residual.result c.in_err-move_options.field-0.0 c.from_residual.ensures.1 (λ s before. IsOlder c.args.number × IsWithin s before (schema_of c.args.number)) (option_statements c.args.number) (making_addresses ∷ changing_version ∷ []) c.in_err-move_options.ensures.ends
+    fails_first c.from_residual.result c.in_err-move_options.field-0.0 c.from_residual.ensures.1 (λ s before. IsOlder c.args.number × IsWithin s before (schema_of c.args.number))
+    (option_statements c.args.number) (making_addresses ∷ changing_version ∷ []) c.in_err-move_options.ensures.ends
 
 pub returns-in_err-create_address-clause-ends : goal.returns-in_err-create_address-clause-ends
 returns-in_err-create_address-clause-ends g c =
-    fails_then (λ s before. IsOlder c.args.number × IsWithin s before (schema_of c.args.number)) (λ s before. IsWithin s before schema_2) (option_statements c.args.number) (making_addresses ∷ []) c.in_ok-move_options.ensures.ends (λ clean before k. c.in_ok-move_options.ensures.within clean k.0 before k.1)
-    c.from_residual-in_err-create_address.result c.in_err-create_address.field-0.0 c.from_residual-in_err-create_address.ensures.1 (changing_version ∷ []) (one_ends (λ s before. IsWithin s before schema_2) (λ before k. (k.is_open, k.schema_is)) c.in_err-create_address.ensures.ends)
+    fails_then (λ s before. IsOlder c.args.number × IsWithin s before (schema_of c.args.number)) (λ s before. IsWithin s before schema_2) (option_statements c.args.number)
+    (making_addresses ∷ []) c.in_ok-move_options.ensures.ends (λ clean before k. c.in_ok-move_options.ensures.within clean k.0 before k.1)
+    c.from_residual-in_err-create_address.result c.in_err-create_address.field-0.0 c.from_residual-in_err-create_address.ensures.1 (changing_version ∷ [])
+    (one_ends (λ s before. IsWithin s before schema_2) (λ before k. (k.is_open, k.schema_is)) c.in_err-create_address.ensures.ends)
 
 pub returns-in_err-set_version-clause-ends : goal.returns-in_err-set_version-clause-ends
 returns-in_err-set_version-clause-ends g c =
-    let second : EndsSteps g.S.Store c.move_options.new.conn c.set_version.new.conn (failed c.in_err-set_version.field-0.0) (λ s before. IsWithin s before schema_2) (making_addresses ∷ changing_version ∷ []) =
-    fails_then (λ s before. IsWithin s before schema_2) (λ s before. IsWithin s before archive_schema) (making_addresses ∷ []) (changing_version ∷ []) (one_ends (λ s before. IsWithin s before schema_2) (λ before k. (k.is_open, k.schema_is)) c.in_ok-create_address.ensures.ends) c.in_ok-create_address.ensures.within (failed c.in_err-set_version.field-0.0) c.in_err-set_version.field-0.0 refl [] (one_ends (λ s before. IsWithin s before archive_schema) (λ before k. (k.is_open, k.schema_is)) c.in_err-set_version.ensures.ends) in
-    fails_then (λ s before. IsOlder c.args.number × IsWithin s before (schema_of c.args.number)) (λ s before. IsWithin s before schema_2) (option_statements c.args.number) (making_addresses ∷ changing_version ∷ []) c.in_ok-move_options.ensures.ends (λ clean before k. c.in_ok-move_options.ensures.within clean k.0 before k.1)
+    let second : EndsSteps g.S.Store c.move_options.new.conn c.set_version.new.conn (failed c.in_err-set_version.field-0.0) (λ s before. IsWithin s before schema_2)
+    (making_addresses ∷ changing_version ∷ []) =
+    fails_then (λ s before. IsWithin s before schema_2) (λ s before. IsWithin s before archive_schema) (making_addresses ∷ []) (changing_version ∷ [])
+    (one_ends (λ s before. IsWithin s before schema_2) (λ before k. (k.is_open, k.schema_is)) c.in_ok-create_address.ensures.ends) c.in_ok-create_address.ensures.within
+    (failed c.in_err-set_version.field-0.0) c.in_err-set_version.field-0.0 refl [] (one_ends (λ s before. IsWithin s before archive_schema)
+    (λ before k. (k.is_open, k.schema_is)) c.in_err-set_version.ensures.ends) in
+    fails_then (λ s before. IsOlder c.args.number × IsWithin s before (schema_of c.args.number)) (λ s before. IsWithin s before schema_2) (option_statements c.args.number)
+    (making_addresses ∷ changing_version ∷ []) c.in_ok-move_options.ensures.ends (λ clean before k. c.in_ok-move_options.ensures.within clean k.0 before k.1)
     c.from_residual-in_err-set_version.result c.in_err-set_version.field-0.0 c.from_residual-in_err-set_version.ensures.1 [] second
 
 pub returns-in_err-commit-clause-ends : goal.returns-in_err-commit-clause-ends
 returns-in_err-commit-clause-ends g c =
     let second : EndsSteps g.S.Store c.move_options.new.conn c.commit.new.conn (failed c.in_err-commit.field-0.0) (λ s before. IsWithin s before schema_2) (making_addresses ∷ changing_version ∷ []) =
-    fails_then (λ s before. IsWithin s before schema_2) (λ s before. IsWithin s before archive_schema) (making_addresses ∷ changing_version ∷ []) [] (done_then (λ s before. IsWithin s before schema_2) (λ s before. IsWithin s before archive_schema) (making_addresses ∷ []) (changing_version ∷ []) (one_ends (λ s before. IsWithin s before schema_2) (λ before k. (k.is_open, k.schema_is)) c.in_ok-create_address.ensures.ends) c.in_ok-create_address.ensures.within _ (tt {0}) (one_ends (λ s before. IsWithin s before archive_schema) (λ before k. (k.is_open, k.schema_is)) c.in_ok-set_version.ensures.ends)) (λ clean before k. c.in_ok-set_version.ensures.within clean before (c.in_ok-create_address.ensures.within (c.in_ok-set_version.ensures.ends.lasts.returned clean) before k)) (failed c.in_err-commit.field-0.0) c.in_err-commit.field-0.0 refl [] (commit_ends (λ s before. IsWithin s before archive_schema) (λ before k. (k.is_open, k.within)) c.in_err-commit.ensures.ends) in
-    fails_then (λ s before. IsOlder c.args.number × IsWithin s before (schema_of c.args.number)) (λ s before. IsWithin s before schema_2) (option_statements c.args.number) (making_addresses ∷ changing_version ∷ []) c.in_ok-move_options.ensures.ends (λ clean before k. c.in_ok-move_options.ensures.within clean k.0 before k.1)
+    fails_then (λ s before. IsWithin s before schema_2) (λ s before. IsWithin s before archive_schema) (making_addresses ∷ changing_version ∷ []) []
+    (done_then (λ s before. IsWithin s before schema_2) (λ s before. IsWithin s before archive_schema) (making_addresses ∷ []) (changing_version ∷ [])
+    (one_ends (λ s before. IsWithin s before schema_2) (λ before k. (k.is_open, k.schema_is)) c.in_ok-create_address.ensures.ends) c.in_ok-create_address.ensures.within _
+    (tt {0}) (one_ends (λ s before. IsWithin s before archive_schema) (λ before k. (k.is_open, k.schema_is)) c.in_ok-set_version.ensures.ends))
+    (λ clean before k. c.in_ok-set_version.ensures.within clean before (c.in_ok-create_address.ensures.within (c.in_ok-set_version.ensures.ends.lasts.returned clean) before k))
+    (failed c.in_err-commit.field-0.0) c.in_err-commit.field-0.0 refl [] (commit_ends (λ s before. IsWithin s before archive_schema)
+    (λ before k. (k.is_open, k.within)) c.in_err-commit.ensures.ends) in
+    fails_then (λ s before. IsOlder c.args.number × IsWithin s before (schema_of c.args.number)) (λ s before. IsWithin s before schema_2) (option_statements c.args.number)
+    (making_addresses ∷ changing_version ∷ []) c.in_ok-move_options.ensures.ends (λ clean before k. c.in_ok-move_options.ensures.within clean k.0 before k.1)
     c.from_residual-in_err-commit.result c.in_err-commit.field-0.0 c.from_residual-in_err-commit.ensures.1 [] second
 
 pub returns-clause-ends : goal.returns-clause-ends
 returns-clause-ends g c =
     let second : EndsSteps g.S.Store c.move_options.new.conn c.commit.new.conn done (λ s before. IsWithin s before schema_2) (making_addresses ∷ changing_version ∷ []) =
-    done_then (λ s before. IsWithin s before schema_2) (λ s before. IsWithin s before archive_schema) (making_addresses ∷ changing_version ∷ []) [] (done_then (λ s before. IsWithin s before schema_2) (λ s before. IsWithin s before archive_schema) (making_addresses ∷ []) (changing_version ∷ []) (one_ends (λ s before. IsWithin s before schema_2) (λ before k. (k.is_open, k.schema_is)) c.in_ok-create_address.ensures.ends) c.in_ok-create_address.ensures.within _ (tt {0}) (one_ends (λ s before. IsWithin s before archive_schema) (λ before k. (k.is_open, k.schema_is)) c.in_ok-set_version.ensures.ends)) (λ clean before k. c.in_ok-set_version.ensures.within clean before (c.in_ok-create_address.ensures.within (c.in_ok-set_version.ensures.ends.lasts.returned clean) before k)) _ (tt {0}) (commit_ends (λ s before. IsWithin s before archive_schema) (λ before k. (k.is_open, k.within)) c.in_ok-commit.ensures.ends) in
-    done_then (λ s before. IsOlder c.args.number × IsWithin s before (schema_of c.args.number)) (λ s before. IsWithin s before schema_2) (option_statements c.args.number) (making_addresses ∷ changing_version ∷ []) c.in_ok-move_options.ensures.ends (λ clean before k. c.in_ok-move_options.ensures.within clean k.0 before k.1) tt tt second
+    done_then (λ s before. IsWithin s before schema_2) (λ s before. IsWithin s before archive_schema) (making_addresses ∷ changing_version ∷ []) []
+    (done_then (λ s before. IsWithin s before schema_2) (λ s before. IsWithin s before archive_schema) (making_addresses ∷ []) (changing_version ∷ [])
+    (one_ends (λ s before. IsWithin s before schema_2) (λ before k. (k.is_open, k.schema_is)) c.in_ok-create_address.ensures.ends) c.in_ok-create_address.ensures.within _
+    (tt {0}) (one_ends (λ s before. IsWithin s before archive_schema) (λ before k. (k.is_open, k.schema_is)) c.in_ok-set_version.ensures.ends))
+    (λ clean before k. c.in_ok-set_version.ensures.within clean before (c.in_ok-create_address.ensures.within (c.in_ok-set_version.ensures.ends.lasts.returned clean) before k)) _
+    (tt {0}) (commit_ends (λ s before. IsWithin s before archive_schema) (λ before k. (k.is_open, k.within)) c.in_ok-commit.ensures.ends) in
+    done_then (λ s before. IsOlder c.args.number × IsWithin s before (schema_of c.args.number)) (λ s before. IsWithin s before schema_2) (option_statements c.args.number)
+    (making_addresses ∷ changing_version ∷ []) c.in_ok-move_options.ensures.ends (λ clean before k. c.in_ok-move_options.ensures.within clean k.0 before k.1) tt tt second

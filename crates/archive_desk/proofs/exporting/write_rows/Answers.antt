@@ -21,10 +21,13 @@ pub loop-walk-preserved : goal.loop-walk-preserved
 loop-walk-preserved g c =
     let so_far = c.loop-walk.invariant in
     let mid = (over c.pass_withheld.new.store c.pass_withheld.new.walk) in
-    let past = rows_past g.S.Store c.args.ask.now c.args.reader.now (over c.args.store.now c.args.walk.now) (over c.loop-walk.store c.loop-walk.walk) mid (g.W.Sink.told c.args.out.now) (g.W.Sink.told c.loop-walk.out) c.args.count.now c.loop-walk.count c.loop-walk.invariant.2 c.pass_withheld.ensures.lasts.returned c.in_ok-pass_withheld.ensures.passed in (
+    let past = rows_past g.S.Store c.args.ask.now c.args.reader.now (over c.args.store.now c.args.walk.now) (over c.loop-walk.store c.loop-walk.walk) mid
+    (g.W.Sink.told c.args.out.now) (g.W.Sink.told c.loop-walk.out) c.args.count.now c.loop-walk.count c.loop-walk.invariant.2 c.pass_withheld.ensures.lasts.returned
+    c.in_ok-pass_withheld.ensures.passed in (
       lasts_then _ _ _ (lasts_then _ _ _ so_far.0 c.pass_withheld.ensures.lasts) c.next.ensures.ends.lasts,
       c.in-Ok.ensures.quiet ∙ so_far.1,
-      rows_more g.S.Store c.args.ask.now c.args.reader.now (over c.args.store.now c.args.walk.now) mid (over c.next.new.store c.next.new.self) (g.W.Sink.told c.args.out.now) (g.W.Sink.told c.loop-walk.out) c.args.count.now c.loop-walk.count past c.next.ensures.ends.lasts.returned c.in-Some.message
+      rows_more g.S.Store c.args.ask.now c.args.reader.now (over c.args.store.now c.args.walk.now) mid (over c.next.new.store c.next.new.self) (g.W.Sink.told c.args.out.now)
+          (g.W.Sink.told c.loop-walk.out) c.args.count.now c.loop-walk.count past c.next.ensures.ends.lasts.returned c.in-Some.message
           (λ returned all a given w. rw c.in-Some.is at (c.in_ok-message.ensures.given returned c.args.ask.now.list all a given w))
           (g.W.Sink.told c.write_shown.new.out) c.in-Ok.more c.saturating_add.result c.in-Ok.ensures.ok c.in-Ok.ensures.count c.saturating_add.ensures,
       omega (arith, so_far.3, c.in_ok-pass_withheld.ensures.counted.0, c.in_ok-message.ensures.ends.counted.0),
@@ -35,41 +38,61 @@ returns-in_err-message-clause-written g c =
     let fault = c.in_err-message.field-0.0 in
     let is : c.from_residual-in_err-message.result ≡ Err (desk_fault fault) = search rules in
     let mid = (over c.pass_withheld.new.store c.pass_withheld.new.walk) in
-    let past = rows_past g.S.Store c.args.ask.now c.args.reader.now (over c.args.store.now c.args.walk.now) (over c.loop-walk.store c.loop-walk.walk) mid (g.W.Sink.told c.args.out.now) (g.W.Sink.told c.loop-walk.out) c.args.count.now c.loop-walk.count c.loop-walk.invariant.2 c.pass_withheld.ensures.lasts.returned c.in_ok-pass_withheld.ensures.passed in
-    subst (λ r. WritesRows g.S.Store (over c.args.store.now c.args.walk.now) (over c.next.new.store c.next.new.self) c.args.ask.now c.args.reader.now (g.W.Sink.told c.args.out.now) (g.W.Sink.told c.loop-walk.out) c.args.count.now c.loop-walk.count r) (sym is)
-    (rows_unread g.S.Store c.args.ask.now c.args.reader.now (over c.args.store.now c.args.walk.now) mid (over c.next.new.store c.next.new.self) (g.W.Sink.told c.args.out.now) (g.W.Sink.told c.loop-walk.out) c.args.count.now c.loop-walk.count past c.next.ensures.ends.lasts.returned (desk_fault fault) (reasoned fault ∙ ap (option_map reason_by) c.in_err-message.ensures.ends.fault)
+    let past = rows_past g.S.Store c.args.ask.now c.args.reader.now (over c.args.store.now c.args.walk.now) (over c.loop-walk.store c.loop-walk.walk) mid
+    (g.W.Sink.told c.args.out.now) (g.W.Sink.told c.loop-walk.out) c.args.count.now c.loop-walk.count c.loop-walk.invariant.2 c.pass_withheld.ensures.lasts.returned
+    c.in_ok-pass_withheld.ensures.passed in
+    subst (λ r. WritesRows g.S.Store (over c.args.store.now c.args.walk.now) (over c.next.new.store c.next.new.self) c.args.ask.now c.args.reader.now
+    (g.W.Sink.told c.args.out.now) (g.W.Sink.told c.loop-walk.out) c.args.count.now c.loop-walk.count r) (sym is)
+    (rows_unread g.S.Store c.args.ask.now c.args.reader.now (over c.args.store.now c.args.walk.now) mid (over c.next.new.store c.next.new.self) (g.W.Sink.told c.args.out.now)
+    (g.W.Sink.told c.loop-walk.out) c.args.count.now c.loop-walk.count past c.next.ensures.ends.lasts.returned (desk_fault fault)
+    (reasoned fault ∙ ap (option_map reason_by) c.in_err-message.ensures.ends.fault)
     (λ returned all a given w. c.in_err-message.ensures.given returned c.args.ask.now.list all a given w))
 
 pub returns-in_err-pass_withheld-clause-written : goal.returns-in_err-pass_withheld-clause-written
 returns-in_err-pass_withheld-clause-written g c =
     let fault = c.in_err-pass_withheld.field-0.0 in
     let is : c.from_residual.result ≡ Err (desk_fault fault) = search rules in
-    subst (λ r. WritesRows g.S.Store (over c.args.store.now c.args.walk.now) (over c.pass_withheld.new.store c.pass_withheld.new.walk) c.args.ask.now c.args.reader.now (g.W.Sink.told c.args.out.now) (g.W.Sink.told c.loop-walk.out) c.args.count.now c.loop-walk.count r) (sym is)
-    (rows_unpassed g.S.Store c.args.ask.now c.args.reader.now (over c.args.store.now c.args.walk.now) (over c.loop-walk.store c.loop-walk.walk) (over c.pass_withheld.new.store c.pass_withheld.new.walk) (g.W.Sink.told c.args.out.now) (g.W.Sink.told c.loop-walk.out) c.args.count.now c.loop-walk.count c.loop-walk.invariant.2 c.pass_withheld.ensures.lasts.returned (desk_fault fault)
+    subst (λ r. WritesRows g.S.Store (over c.args.store.now c.args.walk.now) (over c.pass_withheld.new.store c.pass_withheld.new.walk) c.args.ask.now c.args.reader.now
+    (g.W.Sink.told c.args.out.now) (g.W.Sink.told c.loop-walk.out) c.args.count.now c.loop-walk.count r) (sym is)
+    (rows_unpassed g.S.Store c.args.ask.now c.args.reader.now (over c.args.store.now c.args.walk.now) (over c.loop-walk.store c.loop-walk.walk)
+    (over c.pass_withheld.new.store c.pass_withheld.new.walk) (g.W.Sink.told c.args.out.now) (g.W.Sink.told c.loop-walk.out) c.args.count.now c.loop-walk.count
+    c.loop-walk.invariant.2 c.pass_withheld.ensures.lasts.returned (desk_fault fault)
     (reasoned fault ∙ ap (option_map reason_by) c.in_err-pass_withheld.ensures.passed.fault) fault c.in_err-pass_withheld.ensures.passed)
 
 pub returns-in_default-clause-written : goal.returns-in_default-clause-written
 returns-in_default-clause-written g c =
     let mid = (over c.pass_withheld.new.store c.pass_withheld.new.walk) in
-    let past = rows_past g.S.Store c.args.ask.now c.args.reader.now (over c.args.store.now c.args.walk.now) (over c.loop-walk.store c.loop-walk.walk) mid (g.W.Sink.told c.args.out.now) (g.W.Sink.told c.loop-walk.out) c.args.count.now c.loop-walk.count c.loop-walk.invariant.2 c.pass_withheld.ensures.lasts.returned c.in_ok-pass_withheld.ensures.passed in
-    rows_all g.S.Store c.args.ask.now c.args.reader.now (over c.args.store.now c.args.walk.now) mid (over c.next.new.store c.next.new.self) (g.W.Sink.told c.args.out.now) (g.W.Sink.told c.loop-walk.out) c.args.count.now c.loop-walk.count past c.next.ensures.ends.lasts.returned
+    let past = rows_past g.S.Store c.args.ask.now c.args.reader.now (over c.args.store.now c.args.walk.now) (over c.loop-walk.store c.loop-walk.walk) mid
+    (g.W.Sink.told c.args.out.now) (g.W.Sink.told c.loop-walk.out) c.args.count.now c.loop-walk.count c.loop-walk.invariant.2 c.pass_withheld.ensures.lasts.returned
+    c.in_ok-pass_withheld.ensures.passed in
+    rows_all g.S.Store c.args.ask.now c.args.reader.now (over c.args.store.now c.args.walk.now) mid (over c.next.new.store c.next.new.self) (g.W.Sink.told c.args.out.now)
+    (g.W.Sink.told c.loop-walk.out) c.args.count.now c.loop-walk.count past c.next.ensures.ends.lasts.returned
     (λ returned all a given w. rw c.in_default.is at (c.in_ok-message.ensures.given returned c.args.ask.now.list all a given w))
 
 pub returns-in-Err-Write-clause-written : goal.returns-in-Err-Write-clause-written
 returns-in-Err-Write-clause-written g c =
     let mid = (over c.pass_withheld.new.store c.pass_withheld.new.walk) in
-    let past = rows_past g.S.Store c.args.ask.now c.args.reader.now (over c.args.store.now c.args.walk.now) (over c.loop-walk.store c.loop-walk.walk) mid (g.W.Sink.told c.args.out.now) (g.W.Sink.told c.loop-walk.out) c.args.count.now c.loop-walk.count c.loop-walk.invariant.2 c.pass_withheld.ensures.lasts.returned c.in_ok-pass_withheld.ensures.passed in
-    rows_unwritten g.S.Store c.args.ask.now c.args.reader.now (over c.args.store.now c.args.walk.now) mid (over c.next.new.store c.next.new.self) (g.W.Sink.told c.args.out.now) (g.W.Sink.told c.loop-walk.out) c.args.count.now c.loop-walk.count past c.next.ensures.ends.lasts.returned c.in-Some.message
+    let past = rows_past g.S.Store c.args.ask.now c.args.reader.now (over c.args.store.now c.args.walk.now) (over c.loop-walk.store c.loop-walk.walk) mid
+    (g.W.Sink.told c.args.out.now) (g.W.Sink.told c.loop-walk.out) c.args.count.now c.loop-walk.count c.loop-walk.invariant.2 c.pass_withheld.ensures.lasts.returned
+    c.in_ok-pass_withheld.ensures.passed in
+    rows_unwritten g.S.Store c.args.ask.now c.args.reader.now (over c.args.store.now c.args.walk.now) mid (over c.next.new.store c.next.new.self)
+    (g.W.Sink.told c.args.out.now) (g.W.Sink.told c.loop-walk.out) c.args.count.now c.loop-walk.count past c.next.ensures.ends.lasts.returned c.in-Some.message
     (λ returned all a given w. rw c.in-Some.is at (c.in_ok-message.ensures.given returned c.args.ask.now.list all a given w))
     (g.W.Sink.told c.write_shown.new.out)
-    c.in-Err-Write.written c.saturating_add-in-Err-Write.result Write (rw c.in-Err-Write.field-0-is at c.in-Err-Write.ensures.part) (rw c.in-Err-Write.field-0-is at c.saturating_add-in-Err-Write.ensures)
+    c.in-Err-Write.written c.saturating_add-in-Err-Write.result Write (rw c.in-Err-Write.field-0-is at c.in-Err-Write.ensures.part)
+    (rw c.in-Err-Write.field-0-is at c.saturating_add-in-Err-Write.ensures)
 
 pub returns-in-Err-Refused-clause-written : goal.returns-in-Err-Refused-clause-written
 returns-in-Err-Refused-clause-written g c =
     let mid = (over c.pass_withheld.new.store c.pass_withheld.new.walk) in
-    let past = rows_past g.S.Store c.args.ask.now c.args.reader.now (over c.args.store.now c.args.walk.now) (over c.loop-walk.store c.loop-walk.walk) mid (g.W.Sink.told c.args.out.now) (g.W.Sink.told c.loop-walk.out) c.args.count.now c.loop-walk.count c.loop-walk.invariant.2 c.pass_withheld.ensures.lasts.returned c.in_ok-pass_withheld.ensures.passed in
-    rows_counted g.S.Store c.args.ask.now c.args.reader.now (over c.args.store.now c.args.walk.now) (over c.next.new.store c.next.new.self) (over (record c.next.new.store { wants = c.raise.new.self }) c.next.new.self) (g.W.Sink.told c.args.out.now) (g.W.Sink.told c.write_shown.new.out) c.args.count.now c.loop-walk.count Memory (counts_one c.next.new.store c.next.new.self c.raise.new.self c.raise.ensures)
-    (rows_refused g.S.Store c.args.ask.now c.args.reader.now (over c.args.store.now c.args.walk.now) mid (over c.next.new.store c.next.new.self) (g.W.Sink.told c.args.out.now) (g.W.Sink.told c.loop-walk.out) c.args.count.now c.loop-walk.count past c.next.ensures.ends.lasts.returned c.in-Some.message
+    let past = rows_past g.S.Store c.args.ask.now c.args.reader.now (over c.args.store.now c.args.walk.now) (over c.loop-walk.store c.loop-walk.walk) mid
+    (g.W.Sink.told c.args.out.now) (g.W.Sink.told c.loop-walk.out) c.args.count.now c.loop-walk.count c.loop-walk.invariant.2 c.pass_withheld.ensures.lasts.returned
+    c.in_ok-pass_withheld.ensures.passed in
+    rows_counted g.S.Store c.args.ask.now c.args.reader.now (over c.args.store.now c.args.walk.now) (over c.next.new.store c.next.new.self)
+    (over (record c.next.new.store { wants = c.raise.new.self }) c.next.new.self) (g.W.Sink.told c.args.out.now) (g.W.Sink.told c.write_shown.new.out)
+    c.args.count.now c.loop-walk.count Memory (counts_one c.next.new.store c.next.new.self c.raise.new.self c.raise.ensures)
+    (rows_refused g.S.Store c.args.ask.now c.args.reader.now (over c.args.store.now c.args.walk.now) mid (over c.next.new.store c.next.new.self) (g.W.Sink.told c.args.out.now)
+    (g.W.Sink.told c.loop-walk.out) c.args.count.now c.loop-walk.count past c.next.ensures.ends.lasts.returned c.in-Some.message
     (λ returned all a given w. rw c.in-Some.is at (c.in_ok-message.ensures.given returned c.args.ask.now.list all a given w))
     (g.W.Sink.told c.write_shown.new.out)
     Memory (rw c.in-Err-Refused.field-0-is at c.in-Err-Refused.ensures.part))
@@ -77,10 +100,13 @@ returns-in-Err-Refused-clause-written g c =
 pub returns-in-Err-Refused-clause-writer : goal.returns-in-Err-Refused-clause-writer
 returns-in-Err-Refused-clause-writer g c =
     let mid = (over c.pass_withheld.new.store c.pass_withheld.new.walk) in
-    let past = rows_past g.S.Store c.args.ask.now c.args.reader.now (over c.args.store.now c.args.walk.now) (over c.loop-walk.store c.loop-walk.walk) mid (g.W.Sink.told c.args.out.now) (g.W.Sink.told c.loop-walk.out) c.args.count.now c.loop-walk.count c.loop-walk.invariant.2 c.pass_withheld.ensures.lasts.returned c.in_ok-pass_withheld.ensures.passed in
+    let past = rows_past g.S.Store c.args.ask.now c.args.reader.now (over c.args.store.now c.args.walk.now) (over c.loop-walk.store c.loop-walk.walk) mid
+    (g.W.Sink.told c.args.out.now) (g.W.Sink.told c.loop-walk.out) c.args.count.now c.loop-walk.count c.loop-walk.invariant.2 c.pass_withheld.ensures.lasts.returned
+    c.in_ok-pass_withheld.ensures.passed in
     let why = rw c.in-Err-Refused.field-0-is at c.in-Err-Refused.ensures.cause in record {
       quiet = tt;
-      cause = rows_wanting g.S.Store c.args.ask.now c.args.reader.now (over c.args.store.now c.args.walk.now) mid (over c.next.new.store c.next.new.self) (g.W.Sink.told c.args.out.now) (g.W.Sink.told c.loop-walk.out) c.args.count.now c.loop-walk.count past
+      cause = rows_wanting g.S.Store c.args.ask.now c.args.reader.now (over c.args.store.now c.args.walk.now) mid (over c.next.new.store c.next.new.self)
+          (g.W.Sink.told c.args.out.now) (g.W.Sink.told c.loop-walk.out) c.args.count.now c.loop-walk.count past
           c.next.ensures.ends.lasts.returned (g.W.Sink.told c.write_shown.new.out) (g.W.Sink.failures c.args.out.now) (g.W.Sink.failures c.write_shown.new.out) why.0
           (why.1 ∙ c.loop-walk.invariant.1);
     }
@@ -107,7 +133,9 @@ returns-in_err-message-clause-ends g c =
     let fault = c.in_err-message.field-0.0 in
     let is : c.from_residual-in_err-message.result ≡ Err (desk_fault fault) = search rules in
     let before = lasts_then _ _ _ so_far.0 c.pass_withheld.ensures.lasts in
-    let past = rows_past g.S.Store c.args.ask.now c.args.reader.now (over c.args.store.now c.args.walk.now) (over c.loop-walk.store c.loop-walk.walk) mid (g.W.Sink.told c.args.out.now) (g.W.Sink.told c.loop-walk.out) c.args.count.now c.loop-walk.count c.loop-walk.invariant.2 c.pass_withheld.ensures.lasts.returned c.in_ok-pass_withheld.ensures.passed in
+    let past = rows_past g.S.Store c.args.ask.now c.args.reader.now (over c.args.store.now c.args.walk.now) (over c.loop-walk.store c.loop-walk.walk) mid
+    (g.W.Sink.told c.args.out.now) (g.W.Sink.told c.loop-walk.out) c.args.count.now c.loop-walk.count c.loop-walk.invariant.2 c.pass_withheld.ensures.lasts.returned
+    c.in_ok-pass_withheld.ensures.passed in
     subst (λ r. EndsWalk g.S.Store old new c.args.ask.now (λ fault. fault) r) (sym is)
     (walk_stops g.S.Store c.args.ask.now (Unit {0}) old mid new before c.next.ensures.ends.lasts (omega (arith, so_far.3, c.in_ok-pass_withheld.ensures.counted.0)) fault
     (next_cause g.S.Store c.args.ask.now old mid new (λ returned all a w. let so = past.walked returned all a w in (so.0, so.1)) before c.next.ensures.ends.lasts fault

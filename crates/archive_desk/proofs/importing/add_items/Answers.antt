@@ -35,6 +35,7 @@ returns-in-Err g c =
           (added_first g.S.Store old new list items c.add_all.ensures.ends.lasts c.in-Err.stop c.in-Err.ensures.bound c.in-Err.ensures.step);
       crash = stopped_crash g.S.Store old new list items c.in-Err.stop c.stop_of.result (ap (λ (s : ImportStop). s.done) c.stop_of.ensures) c.in-Err.ensures.crash;
       ends = import_stopped g.S.Store (HoldsTables g.S.Store) IsImportWant old new AddReport Report (λ a done db. StopsAmong list (drop done items) db) (λ store held. held) wanted_by
-          (HasFailed g.S.Store old new ⊎ StopsAmong list (drop c.in-Err.stop.done items) (state g.S.Store (held_of new)).now) c.in-Err.stop.fault (no_list ∷ list_full ∷ []) c.in-Err.stop.done c.stop_of.result
+          (HasFailed g.S.Store old new ⊎ StopsAmong list (drop c.in-Err.stop.done items) (state g.S.Store (held_of new)).now) c.in-Err.stop.fault
+          (no_list ∷ list_full ∷ []) c.in-Err.stop.done c.stop_of.result
           c.stop_of.ensures (λ why. elim why [ inl more ↦ inl more | inr stops ↦ inr (λ a. stops) ]) c.in-Err.ensures.ends;
     }

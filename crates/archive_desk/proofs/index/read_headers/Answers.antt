@@ -29,7 +29,8 @@ returns-clause-held g c =
     subst (λ l. MatchOption (refusal fault) (GoesInIfOpen g.S.Store (HoldsTables g.S.Store) mid last (λ a b. b ≡ a))
     (λ why. GoesIn g.S.Store (HoldsTables g.S.Store) mid last (λ a b. (b ≡ a) × (list_refusal a l ≡ Some why)))) is
     c.in-Err-each_row.ensures.refused.0 in
-    subst (λ f. AsksIn g.S.Store (HoldsTables g.S.Store) old last reason (Err f) (λ a. ask_reason a ask) (λ a (headers : Vec Header Global). IsIndexOf (filter (is_shown ask (reader_marks a ask)) (which a)) headers.items)) (sym c.from.ensures)
+    subst (λ f. AsksIn g.S.Store (HoldsTables g.S.Store) old last reason (Err f) (λ a. ask_reason a ask)
+    (λ a (headers : Vec Header Global). IsIndexOf (filter (is_shown ask (reader_marks a ask)) (which a)) headers.items)) (sym c.from.ensures)
     (not_listed (map header_of) g.S.Store old mid ask which (λ a. IsEnough a ask c.in-Ok.reader) c.in-Ok.ensures.found last fault refused)
 
 pub returns-in-Ok-each_row-clause-held : goal.returns-in-Ok-each_row-clause-held

@@ -35,7 +35,8 @@ returns-clause-filed g c =
     subst (λ l. MatchOption (refusal fault) (GoesInIfOpen g.S.Store (HoldsTables g.S.Store) mid last (λ a b. b ≡ a))
     (λ why. GoesIn g.S.Store (HoldsTables g.S.Store) mid last (λ a b. (b ≡ a) × (list_refusal a l ≡ Some why)))) is
     c.in-Err-each_by_author.ensures.refused.0 in
-    subst (λ f. AsksIn g.S.Store (HoldsTables g.S.Store) old last reason (Err f) (λ a. ask_reason a ask) (λ a (lines : Vec Line Global). lines.items ≡ filed_author_lines a ask c.args.key.now)) (sym c.from.ensures)
+    subst (λ f. AsksIn g.S.Store (HoldsTables g.S.Store) old last reason (Err f) (λ a. ask_reason a ask)
+    (λ a (lines : Vec Line Global). lines.items ≡ filed_author_lines a ask c.args.key.now)) (sym c.from.ensures)
     (not_listed lines_shown g.S.Store old mid ask which (λ a. IsEnough a ask c.in-Ok.reader) c.in-Ok.ensures.found last fault refused)
 
 pub returns-in-Ok-each_by_author-clause-filed : goal.returns-in-Ok-each_by_author-clause-filed
@@ -60,14 +61,16 @@ pub returns-clause-listed : goal.returns-clause-listed
 returns-clause-listed g c =
     let ask = c.args.ask.now in
     asks_right g.S.Store c.args.store.now c.each_by_author.new.self reason (λ a. ask_reason a ask) (λ a (lines : Vec Line Global). lines.items ≡ filed_author_lines a ask c.args.key.now)
-    (λ a (lines : Vec Line Global). lines.items ≡ author_lines c.args.key.now (map shown_of (view_of a ask))) (λ a (lines : Vec Line Global) right is. is ∙ author_is_filed a ask c.args.key.now right) (Err c.from.result)
+    (λ a (lines : Vec Line Global). lines.items ≡ author_lines c.args.key.now (map shown_of (view_of a ask)))
+    (λ a (lines : Vec Line Global) right is. is ∙ author_is_filed a ask c.args.key.now right) (Err c.from.result)
     (returns-clause-filed g c)
 
 pub returns-in-Ok-each_by_author-clause-listed : goal.returns-in-Ok-each_by_author-clause-listed
 returns-in-Ok-each_by_author-clause-listed g c =
     let ask = c.args.ask.now in
     asks_right g.S.Store c.args.store.now c.walk_lines.new.store reason (λ a. ask_reason a ask) (λ a (lines : Vec Line Global). lines.items ≡ filed_author_lines a ask c.args.key.now)
-    (λ a (lines : Vec Line Global). lines.items ≡ author_lines c.args.key.now (map shown_of (view_of a ask))) (λ a (lines : Vec Line Global) right is. is ∙ author_is_filed a ask c.args.key.now right) c.walk_lines.result
+    (λ a (lines : Vec Line Global). lines.items ≡ author_lines c.args.key.now (map shown_of (view_of a ask)))
+    (λ a (lines : Vec Line Global) right is. is ∙ author_is_filed a ask c.args.key.now right) c.walk_lines.result
     (returns-in-Ok-each_by_author-clause-filed g c)
 
 pub returns-in-Err-clause-ends : goal.returns-in-Err-clause-ends

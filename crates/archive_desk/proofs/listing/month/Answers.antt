@@ -35,7 +35,8 @@ returns-clause-filed g c =
     subst (λ l. MatchOption (refusal fault) (GoesInIfOpen g.S.Store (HoldsTables g.S.Store) mid last (λ a b. b ≡ a))
     (λ why. GoesIn g.S.Store (HoldsTables g.S.Store) mid last (λ a b. (b ≡ a) × (list_refusal a l ≡ Some why)))) is
     c.in-Err-each_in_month.ensures.refused.0 in
-    subst (λ f. AsksIn g.S.Store (HoldsTables g.S.Store) old last reason (Err f) (λ a. ask_reason a ask) (λ a (lines : Vec Line Global). lines.items ≡ filed_month_lines a ask (pos c.args.month))) (sym c.from.ensures)
+    subst (λ f. AsksIn g.S.Store (HoldsTables g.S.Store) old last reason (Err f) (λ a. ask_reason a ask)
+    (λ a (lines : Vec Line Global). lines.items ≡ filed_month_lines a ask (pos c.args.month))) (sym c.from.ensures)
     (not_listed lines_shown g.S.Store old mid ask which (λ a. IsEnough a ask c.in-Ok.reader) c.in-Ok.ensures.found last fault refused)
 
 pub returns-in-Ok-each_in_month-clause-filed : goal.returns-in-Ok-each_in_month-clause-filed
@@ -60,14 +61,16 @@ pub returns-clause-listed : goal.returns-clause-listed
 returns-clause-listed g c =
     let ask = c.args.ask.now in
     asks_right g.S.Store c.args.store.now c.each_in_month.new.self reason (λ a. ask_reason a ask) (λ a (lines : Vec Line Global). lines.items ≡ filed_month_lines a ask (pos c.args.month))
-    (λ a (lines : Vec Line Global). lines.items ≡ month_lines c.args.month (map shown_of (view_of a ask))) (λ a (lines : Vec Line Global) right is. is ∙ month_is_filed a ask c.args.month right) (Err c.from.result)
+    (λ a (lines : Vec Line Global). lines.items ≡ month_lines c.args.month (map shown_of (view_of a ask)))
+    (λ a (lines : Vec Line Global) right is. is ∙ month_is_filed a ask c.args.month right) (Err c.from.result)
     (returns-clause-filed g c)
 
 pub returns-in-Ok-each_in_month-clause-listed : goal.returns-in-Ok-each_in_month-clause-listed
 returns-in-Ok-each_in_month-clause-listed g c =
     let ask = c.args.ask.now in
     asks_right g.S.Store c.args.store.now c.walk_lines.new.store reason (λ a. ask_reason a ask) (λ a (lines : Vec Line Global). lines.items ≡ filed_month_lines a ask (pos c.args.month))
-    (λ a (lines : Vec Line Global). lines.items ≡ month_lines c.args.month (map shown_of (view_of a ask))) (λ a (lines : Vec Line Global) right is. is ∙ month_is_filed a ask c.args.month right) c.walk_lines.result
+    (λ a (lines : Vec Line Global). lines.items ≡ month_lines c.args.month (map shown_of (view_of a ask)))
+    (λ a (lines : Vec Line Global) right is. is ∙ month_is_filed a ask c.args.month right) c.walk_lines.result
     (returns-in-Ok-each_in_month-clause-filed g c)
 
 pub returns-in-Err-clause-ends : goal.returns-in-Err-clause-ends

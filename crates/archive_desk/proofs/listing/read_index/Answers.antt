@@ -10,11 +10,13 @@ use Rattle.archive_desk.proofs.listing.read_index.Goals as goal
 
 pub returns-in-Ok-find_merge-clause-held : goal.returns-in-Ok-find_merge-clause-held
 returns-in-Ok-find_merge-clause-held g c =
-    index_after g.S.Store c.args.ask.now c.args.store.now c.read_headers.new.store c.find_merge.new.store c.in-Ok.headers.items (Ok c.in-Ok-find_merge.merge) c.in-Ok.ensures.held c.in-Ok-find_merge.ensures.found
+    index_after g.S.Store c.args.ask.now c.args.store.now c.read_headers.new.store c.find_merge.new.store c.in-Ok.headers.items (Ok c.in-Ok-find_merge.merge)
+    c.in-Ok.ensures.held c.in-Ok-find_merge.ensures.found
 
 pub returns-in-Err-find_merge-clause-held : goal.returns-in-Err-find_merge-clause-held
 returns-in-Err-find_merge-clause-held g c =
-    index_after g.S.Store c.args.ask.now c.args.store.now c.read_headers.new.store c.find_merge.new.store c.in-Ok.headers.items (Err c.in-Err-find_merge.fault) c.in-Ok.ensures.held c.in-Err-find_merge.ensures.found
+    index_after g.S.Store c.args.ask.now c.args.store.now c.read_headers.new.store c.find_merge.new.store c.in-Ok.headers.items (Err c.in-Err-find_merge.fault)
+    c.in-Ok.ensures.held c.in-Err-find_merge.ensures.found
 
 pub returns-in-Ok-find_merge-clause-ends : goal.returns-in-Ok-find_merge-clause-ends
 returns-in-Ok-find_merge-clause-ends g c =

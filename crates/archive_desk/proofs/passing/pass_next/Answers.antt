@@ -10,7 +10,8 @@ returns-then-asks_author-clause-passed g c =
 
 pub returns-in_err-marks-clause-passed : goal.returns-in_err-marks-clause-passed
 returns-in_err-marks-clause-passed g c =
-    none_seen g.S.Store c.args.ask.now c.args.reader.now (over c.args.store.now c.args.walk.now) (over c.next_marks.new.store c.args.walk.now) c.in_err-marks.field-0.0 c.from_residual.result c.from_residual.ensures.1
+    none_seen g.S.Store c.args.ask.now c.args.reader.now (over c.args.store.now c.args.walk.now) (over c.next_marks.new.store c.args.walk.now) c.in_err-marks.field-0.0
+    c.from_residual.result c.from_residual.ensures.1
     c.in_err-marks.ensures.shown
 
 pub returns-in_err-marks-clause-caused : goal.returns-in_err-marks-clause-caused

@@ -18,7 +18,8 @@ loop-init g c = (
 pub loop-preserved : goal.loop-preserved
 loop-preserved g c = (
   lasts_then _ _ _ c.loop.invariant.0 c.pass_next.ensures.lasts,
-  passed_further g.S.Store c.args.ask.now c.args.reader.now (over c.args.store.now c.args.walk.now) (over c.loop.store c.loop.walk) (over c.pass_next.new.store c.pass_next.new.walk) c.in_ok-pass_next.field-0 c.loop.invariant.1 c.pass_next.ensures.lasts.returned
+  passed_further g.S.Store c.args.ask.now c.args.reader.now (over c.args.store.now c.args.walk.now) (over c.loop.store c.loop.walk)
+      (over c.pass_next.new.store c.pass_next.new.walk) c.in_ok-pass_next.field-0 c.loop.invariant.1 c.pass_next.ensures.lasts.returned
       c.in_ok-pass_next.ensures.passed.passes,
   omega (arith, c.loop.invariant.2, c.in_ok-pass_next.ensures.passed.passes.left),
   omega (arith, c.loop.invariant.3, c.in_ok-pass_next.ensures.counted.0),
@@ -26,7 +27,8 @@ loop-preserved g c = (
 
 pub returns-clause-passed : goal.returns-clause-passed
 returns-clause-passed g c = record {
-  passed = passed_further g.S.Store c.args.ask.now c.args.reader.now (over c.args.store.now c.args.walk.now) (over c.loop.store c.loop.walk) (over c.pass_next.new.store c.pass_next.new.walk) c.in_ok-pass_next.field-0 c.loop.invariant.1 c.pass_next.ensures.lasts.returned
+  passed = passed_further g.S.Store c.args.ask.now c.args.reader.now (over c.args.store.now c.args.walk.now) (over c.loop.store c.loop.walk)
+      (over c.pass_next.new.store c.pass_next.new.walk) c.in_ok-pass_next.field-0 c.loop.invariant.1 c.pass_next.ensures.lasts.returned
       c.in_ok-pass_next.ensures.passed.passes;
   left = omega (arith, c.loop.invariant.2, c.in_ok-pass_next.ensures.passed.passes.left);
   fault = tt;
@@ -34,7 +36,8 @@ returns-clause-passed g c = record {
 
 pub returns-in_err-pass_next-clause-passed : goal.returns-in_err-pass_next-clause-passed
 returns-in_err-pass_next-clause-passed g c =
-    stopped_further g.S.Store c.args.ask.now c.args.reader.now (over c.args.store.now c.args.walk.now) (over c.loop.store c.loop.walk) (over c.pass_next.new.store c.pass_next.new.walk) c.in_err-pass_next.field-0.0 c.from_residual.result c.from_residual.ensures.1
+    stopped_further g.S.Store c.args.ask.now c.args.reader.now (over c.args.store.now c.args.walk.now) (over c.loop.store c.loop.walk)
+    (over c.pass_next.new.store c.pass_next.new.walk) c.in_err-pass_next.field-0.0 c.from_residual.result c.from_residual.ensures.1
     c.loop.invariant.1 c.pass_next.ensures.lasts.returned c.loop.invariant.2 c.in_err-pass_next.ensures.passed.passes
 
 pub returns-in_err-pass_next-clause-caused : goal.returns-in_err-pass_next-clause-caused

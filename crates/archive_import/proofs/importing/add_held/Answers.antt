@@ -33,7 +33,8 @@ returns-in-Err-add_owned-clause-adds g c =
 
 pub returns-in-Err-clause-ends : goal.returns-in-Err-clause-ends
 returns-in-Err-clause-ends g c =
-    import_unbroken g.S.Store (HoldsTables g.S.Store) IsWanting c.args.store.now _ (Unit {0}) (Unit {0}) (StopsAmid c.args.list.now c.args.intake.now) _ (Stored Memory) c.stop.result (λ bad. absurd (cc)) c.stop.ensures
+    import_unbroken g.S.Store (HoldsTables g.S.Store) IsWanting c.args.store.now _ (Unit {0}) (Unit {0}) (StopsAmid c.args.list.now c.args.intake.now) _
+    (Stored Memory) c.stop.result (λ bad. absurd (cc)) c.stop.ensures
     (omega (arith, c.raise.ensures), (λ want. omega (arith, c.raise.ensures)))
 
 pub returns-in-Ok-add_owned-clause-ends : goal.returns-in-Ok-add_owned-clause-ends

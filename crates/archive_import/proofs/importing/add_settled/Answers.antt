@@ -46,7 +46,8 @@ returns-in-Err-Preamble-clause-adds g c =
     let cutter = c.loop.cutter in
     let r = c.read_from.ensures.read in
     preamble_stopped g.S.Store c.args.store.now c.loop.store c.args.list.now [] cutter.taken c.args.intake.now c.loop.intake i.adds
-    cutter.stream c.read_from.new.self.stream r.0 0 (settled_taken cutter i.given i.goes_on i.none_waits) r.2 c.in-Err-Preamble.at c.stop_uncut.result (rw c.in-Err-Preamble.field-0-is at c.stop_uncut.ensures.stop)
+    cutter.stream c.read_from.new.self.stream r.0 0 (settled_taken cutter i.given i.goes_on i.none_waits) r.2 c.in-Err-Preamble.at c.stop_uncut.result
+    (rw c.in-Err-Preamble.field-0-is at c.stop_uncut.ensures.stop)
     (rw c.in-Err-Preamble.field-0-is at c.in-Err-Preamble.ensures.fault.0)
 
 pub returns-in-Err-Memory-clause-adds : goal.returns-in-Err-Memory-clause-adds
@@ -96,17 +97,20 @@ returns-in-Err-Preamble-clause-ends g c =
 pub returns-in-Err-Memory-clause-ends : goal.returns-in-Err-Memory-clause-ends
 returns-in-Err-Memory-clause-ends g c =
     uncut_ends g.S.Store c.args.store.now _ (StopsRead c.args.list.now c.read_from.new.self.stream 0 [] c.args.intake.now) _ _ c.stop_uncut-in-Err-Memory.result c.stop_uncut-in-Err-Memory.ensures.stop
-    (raises_after {A = Unit {0}} IsStopWanting (wants_of c.args.store.now) (wants_of c.loop.store) c.stop_uncut-in-Err-Memory.new.wants (Err c.stop_uncut-in-Err-Memory.result) c.loop.invariant.grows c.stop_uncut-in-Err-Memory.ensures.counted)
+    (raises_after {A = Unit {0}} IsStopWanting (wants_of c.args.store.now) (wants_of c.loop.store) c.stop_uncut-in-Err-Memory.new.wants
+    (Err c.stop_uncut-in-Err-Memory.result) c.loop.invariant.grows c.stop_uncut-in-Err-Memory.ensures.counted)
 
 pub returns-in-Err-Failed-clause-ends : goal.returns-in-Err-Failed-clause-ends
 returns-in-Err-Failed-clause-ends g c =
     uncut_ends g.S.Store c.args.store.now _ (StopsRead c.args.list.now c.read_from.new.self.stream 0 [] c.args.intake.now) _ _ c.stop_uncut-in-Err-Failed.result c.stop_uncut-in-Err-Failed.ensures.stop
-    (raises_after {A = Unit {0}} IsStopWanting (wants_of c.args.store.now) (wants_of c.loop.store) c.stop_uncut-in-Err-Failed.new.wants (Err c.stop_uncut-in-Err-Failed.result) c.loop.invariant.grows c.stop_uncut-in-Err-Failed.ensures.counted)
+    (raises_after {A = Unit {0}} IsStopWanting (wants_of c.args.store.now) (wants_of c.loop.store) c.stop_uncut-in-Err-Failed.new.wants
+    (Err c.stop_uncut-in-Err-Failed.result) c.loop.invariant.grows c.stop_uncut-in-Err-Failed.ensures.counted)
 
 pub returns-clause-ends : goal.returns-clause-ends
 returns-clause-ends g c =
     uncut_ends g.S.Store c.args.store.now _ (StopsRead c.args.list.now c.loop.cutter.stream 0 [] c.args.intake.now) _ _ c.stop_uncut-2.result c.stop_uncut-2.ensures.stop
-    (raises_after {A = Unit {0}} IsStopWanting (wants_of c.args.store.now) (wants_of c.loop.store) c.stop_uncut-2.new.wants (Err c.stop_uncut-2.result) c.loop.invariant.grows c.stop_uncut-2.ensures.counted)
+    (raises_after {A = Unit {0}} IsStopWanting (wants_of c.args.store.now) (wants_of c.loop.store) c.stop_uncut-2.new.wants (Err c.stop_uncut-2.result)
+    c.loop.invariant.grows c.stop_uncut-2.ensures.counted)
 
 pub returns-in-Err-clause-ends : goal.returns-in-Err-clause-ends
 returns-in-Err-clause-ends g c =

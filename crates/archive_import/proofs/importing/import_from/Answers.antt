@@ -113,7 +113,8 @@ returns-clause-ends g c =
     read_ends g.S.Store store later new list cutter.stream 1 cutter.taken intake (λ a c. IsUnderWay list a c cutter.taken intake) (λ a b it. it)
     (found_begun g.S.Store store mid later list c.new-intake.result c.new-intake.ensures c.in_default.ensures.found
     cutter.taken intake c.in-Ok.ensures.adds)
-    (read_lasts g.S.Store later new list cutter.stream 1 cutter.taken intake (λ b d _. (a : Archive) → IsUnderWay list a b cutter.taken intake → IsReadIn list cutter.stream 1 a d c.add_last.new.intake.report)
+    (read_lasts g.S.Store later new list cutter.stream 1 cutter.taken intake (λ b d _. (a : Archive) → IsUnderWay list a b cutter.taken intake
+    → IsReadIn list cutter.stream 1 a d c.add_last.new.intake.report)
     stop c.in-Err-add_last.ensures.adds)
     (omega (arith, c.in_default.ensures.ends.counted.0, c.in-Ok.ensures.ends.counted.0)) _ stop
     (λ a db stops text ends told ended. subst (λ n. StopsReading list text n stop.done db) (omega (arith, ended, c.in-Ok.ensures.read.end))
@@ -172,7 +173,8 @@ returns-clause-crash g c = λ text ends told ended.
     c.in-Ok.ensures.crash in
     ended_crash g.S.Store store later new list cutter.taken intake safe
     (found_begun g.S.Store store mid later list c.new-intake.result c.new-intake.ensures found cutter.taken intake c.in-Ok.ensures.adds)
-    (read_lasts g.S.Store later new list cutter.stream 1 cutter.taken intake (λ b d _. (a : Archive) → IsUnderWay list a b cutter.taken intake → IsReadIn list cutter.stream 1 a d c.add_last.new.intake.report)
+    (read_lasts g.S.Store later new list cutter.stream 1 cutter.taken intake (λ b d _. (a : Archive) → IsUnderWay list a b cutter.taken intake
+    → IsReadIn list cutter.stream 1 a d c.add_last.new.intake.report)
     stop c.in-Err-add_last.ensures.adds) text ends stop
     (subst (λ n. CrashesHeld g.S.Store later new {A = Unit {0}} (Err stop) (LeavesRead list text n cutter.taken intake)) (omega (arith, ended, c.in-Ok.ensures.read.end))
     (subst (λ t. CrashesHeld g.S.Store later new {A = Unit {0}} (Err stop) (LeavesRead list t 1 cutter.taken intake)) (read_all _ cutter.stream text _ c.add_settled.ensures.read.told told)

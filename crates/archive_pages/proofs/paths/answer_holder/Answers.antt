@@ -49,7 +49,8 @@ returns-in-Ok-Some-clause-ends g c =
         same = c.answer_path.ensures.ends.keeps.same;
         keeps = keeps_after g.S.Store c.args.pages.now.policy.now c.args.pages.now.day c.args.store.now c.find_person.new.store c.answer_path.new.store
             c.args.pages.now.kept c.answer_path.new.pages.kept
-            (goes_in_as g.S.Store (HoldsTables g.S.Store) c.args.store.now c.find_person.new.store (λ a b. (b ≡ a) × (option_map string_bytes c.in-Ok-Some.field-0 ≡ person_of_token a c.args.token.now))
+            (goes_in_as g.S.Store (HoldsTables g.S.Store) c.args.store.now c.find_person.new.store
+            (λ a b. (b ≡ a) × (option_map string_bytes c.in-Ok-Some.field-0 ≡ person_of_token a c.args.token.now))
             (λ a b. b ≡ a) (λ a b h. h.0) c.in-Ok-Some.ensures.found.0)
             (lasts_kept g.S.Store (g.W.Sink.told c.args.output.now) (g.W.Sink.told c.answer_path.new.output) c.answer_path.result
             c.find_person.new.store c.answer_path.new.store (λ a. AreOf a c.args.pages.now.policy.now c.args.pages.now.day c.args.pages.now.kept)

@@ -20,7 +20,8 @@ returns-in-Write-clause-sent g c =
 pub returns-in-Store-clause-sent : goal.returns-in-Store-clause-sent
 returns-in-Store-clause-sent g c =
     exported_broken g.S.Store c.args.store.now c.export_after.new.store c.args.ask.now (g.W.Sink.told c.args.output.now) (g.W.Sink.told c.export_after.new.out)
-    c.in-Err.stop c.in-Err.ensures.exported c.in-Err.ensures.stopped.part c.in-Err.ensures.stopped.begun (omega (arith, c.if-written-gt0.true)) (c.in-Err.ensures.stopped.out_open (omega (arith, c.if-written-gt0.true)))
+    c.in-Err.stop c.in-Err.ensures.exported c.in-Err.ensures.stopped.part c.in-Err.ensures.stopped.begun (omega (arith, c.if-written-gt0.true))
+    (c.in-Err.ensures.stopped.out_open (omega (arith, c.if-written-gt0.true)))
 
 pub returns-in-Store-2-clause-sent : goal.returns-in-Store-2-clause-sent
 returns-in-Store-2-clause-sent g c =
@@ -47,7 +48,8 @@ returns-in-NoPerson-clause-sent g c =
 pub returns-in-Memory-clause-sent : goal.returns-in-Memory-clause-sent
 returns-in-Memory-clause-sent g c =
     exported_broken g.S.Store c.args.store.now c.export_after.new.store c.args.ask.now (g.W.Sink.told c.args.output.now) (g.W.Sink.told c.export_after.new.out)
-    c.in-Err.stop c.in-Err.ensures.exported c.in-Err.ensures.stopped.part c.in-Err.ensures.stopped.begun (omega (arith, c.if-written-gt0-2.true)) (c.in-Err.ensures.stopped.out_open (omega (arith, c.if-written-gt0-2.true)))
+    c.in-Err.stop c.in-Err.ensures.exported c.in-Err.ensures.stopped.part c.in-Err.ensures.stopped.begun (omega (arith, c.if-written-gt0-2.true))
+    (c.in-Err.ensures.stopped.out_open (omega (arith, c.if-written-gt0-2.true)))
 
 pub returns-in-Memory-2-clause-sent : goal.returns-in-Memory-2-clause-sent
 returns-in-Memory-2-clause-sent g c =

@@ -17,7 +17,8 @@ returns-in-Lists-clause-found g c = rw c.in-Lists.is (
 pub returns-in-Message-clause-found : goal.returns-in-Message-clause-found
 returns-in-Message-clause-found g c = rw c.in-Message.is (
     found_for g.S.Store c.args.store.now c.find_message.new.store c.find_message.result c.ask_of-ask.ensures c.args.pages.now.kept (λ q. message_for q c.in-Message.key.now)
-    (found_whatever g.S.Store c.args.store.now c.find_message.new.store c.find_message.result (AreFor c.ask_of-ask.result c.args.pages.now.kept) (message_for c.ask_of-ask.result c.in-Message.key.now) c.find_message.ensures.found))
+    (found_whatever g.S.Store c.args.store.now c.find_message.new.store c.find_message.result (AreFor c.ask_of-ask.result c.args.pages.now.kept)
+    (message_for c.ask_of-ask.result c.in-Message.key.now) c.find_message.ensures.found))
 
 pub returns-in-Month-clause-found : goal.returns-in-Month-clause-found
 returns-in-Month-clause-found g c = rw c.in-Month.is (
@@ -79,7 +80,8 @@ returns-in-Month-clause-keeps g c = record {
 pub returns-in-Threads-clause-keeps : goal.returns-in-Threads-clause-keeps
 returns-in-Threads-clause-keeps g c = record {
   same = refl;
-  keeps = keeps_for g.S.Store c.args.store.now c.find_threads.new.store c.find_threads.result c.ask_of-ask-in-Threads.ensures c.args.pages.now.kept c.find_threads.new.kept c.find_threads.ensures.keeps;
+  keeps = keeps_for g.S.Store c.args.store.now c.find_threads.new.store c.find_threads.result c.ask_of-ask-in-Threads.ensures c.args.pages.now.kept c.find_threads.new.kept
+      c.find_threads.ensures.keeps;
 }
 
 pub returns-in-Thread-clause-keeps : goal.returns-in-Thread-clause-keeps

@@ -13,6 +13,7 @@ pub returns-clause-sent : goal.returns-clause-sent
 returns-clause-sent g c = rw c.from.ensures (
   sized c.args.status c.args.content_type.now c.args.body.now,
   inl refl,
-  λ low. subst (λ (h : List ℕ). (c.in-Err-write_two.fault.written ≤ length (h ++ c.args.body.now)) × (g.W.Sink.told c.write_two.new.out ≡ g.W.Sink.told c.args.output.now ++ take c.in-Err-write_two.fault.written (h ++ c.args.body.now)))
+  λ low. subst (λ (h : List ℕ). (c.in-Err-write_two.fault.written ≤ length (h ++ c.args.body.now))
+      × (g.W.Sink.told c.write_two.new.out ≡ g.W.Sink.told c.args.output.now ++ take c.in-Err-write_two.fault.written (h ++ c.args.body.now)))
       (c.as_bytes.ensures.value ∙ c.in-Ok.ensures) c.in-Err-write_two.ensures.fault,
 )

@@ -18,7 +18,8 @@ loop-field-preserved c =
     elim c.if-is_authorization.branch [
       | then-is_authorization+else-is_some w ↦
           let named = ap (λ n. str_eq_ignore_ascii_case n (codes "authorization")) (sym c.of.ensures) ∙ sym c.is_authorization.ensures ∙ w.if-is_authorization.true in
-          let found = IsFound-first c.args.bytes.now c.args.fields.now c.loop-field.field-index nowhere c.loop-field.found lt named inside (sym w.is_some.ensures ∙ w.if-is_some.false) c.loop-field.invariant in
+          let found = IsFound-first c.args.bytes.now c.args.fields.now c.loop-field.field-index nowhere c.loop-field.found lt named inside
+          (sym w.is_some.ensures ∙ w.if-is_some.false) c.loop-field.invariant in
           rw w.found-is found
       | else-is_authorization w ↦
           let named = ap (λ n. str_eq_ignore_ascii_case n (codes "authorization")) (sym c.of.ensures) ∙ sym c.is_authorization.ensures ∙ w.if-is_authorization.false in

@@ -23,7 +23,8 @@ returns-in-Ok-pass-clause-step g c = λ clean a t.
     let there = stays_taken None (Some first.now) first (state g.S.Store c.begin-begun.new.conn) a list (take c.args.from items) c.args.count.now c.args.report.now t begun in
     let added = c.in-Ok.ensures.step clean_2 first.now a there in
     let kept = rw c.in-Ok-pass.ensures.passed at c.commit-committed.ensures.held in (
-      stays_taken (Some first.now) None (state g.S.Store c.add_some.new.store.conn) (state g.S.Store c.commit-committed.new.conn) a list (take c.in-Ok.at items) c.add_some.new.count c.add_some.new.report added.0
+      stays_taken (Some first.now) None (state g.S.Store c.add_some.new.store.conn) (state g.S.Store c.commit-committed.new.conn) a list (take c.in-Ok.at items)
+          c.add_some.new.count c.add_some.new.report added.0
           (kept clean first.now added.0.held),
       added.1,
     )
@@ -34,7 +35,8 @@ returns-in-Err-pass-clause-step g c = λ clean a t up.
     let clean_3 = c.rollback-undone.ensures.lasts.returned clean in
     let clean_2 = c.commit-committed.ensures.ends.lasts.returned clean_3 in
     let begun = (rw c.in_ok-pass.ensures.passed at c.begin-begun.ensures.held) (c.add_some.ensures.ends.lasts.returned clean_2) t.held in
-    let there = stays_taken None (Some first.now) first (state g.S.Store c.begin-begun.new.conn) a c.args.additions.now.list.now (take c.args.from c.args.additions.now.items.now) c.args.count.now c.args.report.now t begun in
+    let there = stays_taken None (Some first.now) first (state g.S.Store c.begin-begun.new.conn) a c.args.additions.now.list.now (take c.args.from c.args.additions.now.items.now)
+    c.args.count.now c.args.report.now t begun in
     let added = c.in-Ok.ensures.step clean_2 first.now a there in
     let error = err_from_is_err_and c.commit-committed.result c.in-Err-pass.ensures.passed in
     let failed = rw error.1 at c.commit-committed.ensures.held in
@@ -47,7 +49,8 @@ returns-in-Err-clause-step g c = λ clean a t up.
     let first = state g.S.Store c.args.store.now.conn in
     let clean_2 = c.rollback-undone-in-Err.ensures.lasts.returned clean in
     let begun = (rw c.in_ok-pass.ensures.passed at c.begin-begun.ensures.held) (c.add_some.ensures.ends.lasts.returned clean_2) t.held in
-    let there = stays_taken None (Some first.now) first (state g.S.Store c.begin-begun.new.conn) a c.args.additions.now.list.now (take c.args.from c.args.additions.now.items.now) c.args.count.now c.args.report.now t begun in
+    let there = stays_taken None (Some first.now) first (state g.S.Store c.begin-begun.new.conn) a c.args.additions.now.list.now (take c.args.from c.args.additions.now.items.now)
+    c.args.count.now c.args.report.now t begun in
     let back = c.rollback-undone-in-Err.ensures.left clean first.now (c.in-Err.ensures.step clean_2 first.now a there) up in
     (back.0, archive_stays back.1 ∙ t.archive_is)
 
@@ -125,7 +128,8 @@ returns-in-Ok-pass-clause-crash g c = λ a t clean db may.
     let first = state g.S.Store c.args.store.now.conn in
     let begun = (rw c.in_ok-pass.ensures.passed at c.begin-begun.ensures.held) (c.add_some.ensures.ends.lasts.returned clean_2) t.held in
     let there = stays_taken None (Some first.now) first (state g.S.Store c.begin-begun.new.conn) a list (take c.args.from items) c.args.count.now c.args.report.now t begun in
-    let quiet = quiet_then g.S.Store c.args.store.now.conn c.begin-begun.new.conn c.add_some.new.store.conn c.begin-begun.ensures.ends.quiet c.add_some.ensures.ends.lasts.returned (c.add_some.ensures.quiet first.now a there) in
+    let quiet = quiet_then g.S.Store c.args.store.now.conn c.begin-begun.new.conn c.add_some.new.store.conn c.begin-begun.ensures.ends.quiet c.add_some.ensures.ends.lasts.returned
+    (c.add_some.ensures.quiet first.now a there) in
     let added = c.in-Ok.ensures.step clean_2 first.now a there in
     elim (commit_over g.S.Store c.add_some.new.store.conn c.commit-committed.new.conn first.now added.0.held c.commit-committed.ensures.ends.crash clean db may) [
       | inl earlier ↦ inl (quiet clean_2 db earlier)
@@ -140,9 +144,11 @@ returns-in-Err-pass-clause-crash g c = λ a t clean db may.
     let first = state g.S.Store c.args.store.now.conn in
     let begun = (rw c.in_ok-pass.ensures.passed at c.begin-begun.ensures.held) (c.add_some.ensures.ends.lasts.returned clean_2) t.held in
     let there = stays_taken None (Some first.now) first (state g.S.Store c.begin-begun.new.conn) a list (take c.args.from items) c.args.count.now c.args.report.now t begun in
-    let quiet = quiet_then g.S.Store c.args.store.now.conn c.begin-begun.new.conn c.add_some.new.store.conn c.begin-begun.ensures.ends.quiet c.add_some.ensures.ends.lasts.returned (c.add_some.ensures.quiet first.now a there) in
+    let quiet = quiet_then g.S.Store c.args.store.now.conn c.begin-begun.new.conn c.add_some.new.store.conn c.begin-begun.ensures.ends.quiet c.add_some.ensures.ends.lasts.returned
+    (c.add_some.ensures.quiet first.now a there) in
     let added = c.in-Ok.ensures.step clean_2 first.now a there in
-    elim (commit_over g.S.Store c.add_some.new.store.conn c.commit-committed.new.conn first.now added.0.held c.commit-committed.ensures.ends.crash (c.rollback-undone.ensures.lasts.returned clean) db (c.rollback-undone.ensures.ends.quiet clean db may)) [
+    elim (commit_over g.S.Store c.add_some.new.store.conn c.commit-committed.new.conn first.now added.0.held c.commit-committed.ensures.ends.crash
+    (c.rollback-undone.ensures.lasts.returned clean) db (c.rollback-undone.ensures.ends.quiet clean db may)) [
       | inl earlier ↦ inl (quiet clean_2 db earlier)
       | inr it ↦ inr (c.in-Ok.at, record { least = c.in-Ok.ensures.came.1; most = c.in-Ok.ensures.came.2; whole = added.1 }, subst (λ x. IsStored x db) added.0.archive_is it)
     ]
@@ -155,5 +161,6 @@ returns-in-Err-clause-crash g c = λ a t clean db may.
     let first = state g.S.Store c.args.store.now.conn in
     let begun = (rw c.in_ok-pass.ensures.passed at c.begin-begun.ensures.held) (c.add_some.ensures.ends.lasts.returned clean_2) t.held in
     let there = stays_taken None (Some first.now) first (state g.S.Store c.begin-begun.new.conn) a list (take c.args.from items) c.args.count.now c.args.report.now t begun in
-    let quiet = quiet_then g.S.Store c.args.store.now.conn c.begin-begun.new.conn c.add_some.new.store.conn c.begin-begun.ensures.ends.quiet c.add_some.ensures.ends.lasts.returned (c.add_some.ensures.quiet first.now a there) in
+    let quiet = quiet_then g.S.Store c.args.store.now.conn c.begin-begun.new.conn c.add_some.new.store.conn c.begin-begun.ensures.ends.quiet c.add_some.ensures.ends.lasts.returned
+    (c.add_some.ensures.quiet first.now a there) in
     inl (quiet clean_2 db (c.rollback-undone-in-Err.ensures.ends.quiet clean db may))

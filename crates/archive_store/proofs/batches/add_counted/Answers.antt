@@ -25,13 +25,15 @@ returns-in_err-pass-clause-step g c = λ clean behind k n.
 pub returns-then-branch-clause-step : goal.returns-then-branch-clause-step
 returns-then-branch-clause-step g c = λ clean behind k n.
     let asked = rw c.in_ok-pass.ensures.passed at (c.has_message-known.ensures.over clean behind k) in
-    known_over behind (state g.S.Store c.args.store.now.conn) (state g.S.Store c.has_message-known.new.conn) c.args.list.now c.args.item.now c.args.count.now n c.as_str.result.now c.if-is_too_large.ensures
+    known_over behind (state g.S.Store c.args.store.now.conn) (state g.S.Store c.has_message-known.new.conn) c.args.list.now c.args.item.now c.args.count.now n
+    c.as_str.result.now c.if-is_too_large.ensures
     (c.as_str.ensures ∙ c.of-key.ensures) (sym c.if-branch.true ∙ asked.0) asked.1
 
 pub returns-then-count-clause-step : goal.returns-then-count-clause-step
 returns-then-count-clause-step g c = λ clean behind k n.
     let asked = rw c.in_ok-pass.ensures.passed at (c.has_message-known.ensures.over clean behind k) in
-    full_over behind (state g.S.Store c.args.store.now.conn) (state g.S.Store c.has_message-known.new.conn) c.args.list.now c.args.item.now c.args.count.now n c.as_str.result.now c.if-is_too_large.ensures
+    full_over behind (state g.S.Store c.args.store.now.conn) (state g.S.Store c.has_message-known.new.conn) c.args.list.now c.args.item.now c.args.count.now n
+    c.as_str.result.now c.if-is_too_large.ensures
     (c.as_str.ensures ∙ c.of-key.ensures) (sym c.if-branch.false ∙ asked.0) c.if-count.true asked.1
 
 pub returns-in_err-pass_fault-clause-step : goal.returns-in_err-pass_fault-clause-step
@@ -49,7 +51,8 @@ returns-clause-step g c = λ clean behind k n.
     let mid = state g.S.Store c.has_message-known.new.conn in
     let asked = rw c.in_ok-pass.ensures.passed at (c.has_message-known.ensures.over (c.take_in-taken.ensures.ends.lasts.returned clean) behind k) in
     let none = sym c.if-branch.false ∙ asked.0 in
-    let written = (rw c.in_ok-pass_fault.ensures.passed at (c.take_in-taken.ensures.taken clean behind asked.1.0)) (none_of old mid list c.as_str.result.now c.of-key.result c.as_str.ensures none asked.1.1) in
+    let written = (rw c.in_ok-pass_fault.ensures.passed at (c.take_in-taken.ensures.taken clean behind asked.1.0))
+    (none_of old mid list c.as_str.result.now c.of-key.result c.as_str.ensures none asked.1.1) in
     new_over behind old (state g.S.Store c.take_in-taken.new.conn) list c.args.item.now c.args.count.now n c.as_str.result.now c.if-is_too_large.ensures
     c.of-key.result mid c.as_str.ensures c.of-key.ensures none c.if-count.false asked.1 written
 
@@ -132,7 +135,8 @@ returns-in_err-pass_fault-clause-crash g c = λ behind held n clean db may.
     let asked = rw c.in_ok-pass.ensures.passed at (c.has_message-known.ensures.over (c.take_in-taken.ensures.ends.lasts.returned clean) behind held) in
     let none = sym c.if-branch.false ∙ asked.0 in
     let absent = none_of old mid list k c.of-key.result c.as_str.ensures none asked.1.1 in
-    let is = new_is behind old (state g.S.Store c.take_in-taken.new.conn) list item c.args.count.now n k c.if-is_too_large.ensures c.of-key.result c.as_str.ensures c.of-key.ensures none c.if-count.false in
+    let is = new_is behind old (state g.S.Store c.take_in-taken.new.conn) list item c.args.count.now n k c.if-is_too_large.ensures c.of-key.result c.as_str.ensures
+    c.of-key.ensures none c.if-count.false in
     let made = ap (λ a. with_keyed a list c.of-key.result item) (archive_stays asked.1.1) ∙ ap (λ (o : Outcome). o.0) (sym is) in
     elim (c.take_in-taken.ensures.crash behind asked.1.0 absent clean db may) [
       | inl earlier ↦ inl (c.has_message-known.ensures.quiet (c.take_in-taken.ensures.ends.lasts.returned clean) db earlier)
@@ -149,7 +153,8 @@ returns-clause-crash g c = λ behind held n clean db may.
     let asked = rw c.in_ok-pass.ensures.passed at (c.has_message-known.ensures.over (c.take_in-taken.ensures.ends.lasts.returned clean) behind held) in
     let none = sym c.if-branch.false ∙ asked.0 in
     let absent = none_of old mid list k c.of-key.result c.as_str.ensures none asked.1.1 in
-    let is = new_is behind old (state g.S.Store c.take_in-taken.new.conn) list item c.args.count.now n k c.if-is_too_large.ensures c.of-key.result c.as_str.ensures c.of-key.ensures none c.if-count.false in
+    let is = new_is behind old (state g.S.Store c.take_in-taken.new.conn) list item c.args.count.now n k c.if-is_too_large.ensures c.of-key.result c.as_str.ensures
+    c.of-key.ensures none c.if-count.false in
     let made = ap (λ a. with_keyed a list c.of-key.result item) (archive_stays asked.1.1) ∙ ap (λ (o : Outcome). o.0) (sym is) in
     elim (c.take_in-taken.ensures.crash behind asked.1.0 absent clean db may) [
       | inl earlier ↦ inl (c.has_message-known.ensures.quiet (c.take_in-taken.ensures.ends.lasts.returned clean) db earlier)

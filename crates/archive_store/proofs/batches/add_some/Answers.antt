@@ -21,8 +21,10 @@ returns-in-Full-clause-step g c = λ clean db a from.
     let so_far = c.loop-at.invariant.4 (c.add_counted.ensures.ends.lasts.returned clean) db a from in
     let items = c.args.additions.now.items.now in
     let within : c.loop-at.at < length items = omega (arith, c.loop-at-test.true, c.requires.begins.place) in
-    let it = none_taken (Some db) (state g.S.Store c.loop-at.store.conn) (state g.S.Store c.add_counted.new.store.conn) a c.args.additions.now.list.now items c.loop-at.at c.loop-at.count c.add_counted.new.count
-    (get_or items c.loop-at.at c.index-additions-at.result) c.loop-at.report so_far within (ap (get_or items c.loop-at.at) c.index-additions-at.is) (rw c.in-Full.is at (c.in_ok-add_counted.ensures.step clean (Some db) so_far.held so_far.counted)) in
+    let it = none_taken (Some db) (state g.S.Store c.loop-at.store.conn) (state g.S.Store c.add_counted.new.store.conn) a c.args.additions.now.list.now items
+    c.loop-at.at c.loop-at.count c.add_counted.new.count
+    (get_or items c.loop-at.at c.index-additions-at.result) c.loop-at.report so_far within (ap (get_or items c.loop-at.at) c.index-additions-at.is)
+    (rw c.in-Full.is at (c.in_ok-add_counted.ensures.step clean (Some db) so_far.held so_far.counted)) in
     (it.0, inr it.1)
 
 pub returns-in_err-add_counted-clause-step : goal.returns-in_err-add_counted-clause-step
@@ -45,7 +47,8 @@ loop-at-preserved g c = (
       let so_far = c.loop-at.invariant.4 (c.add_counted.ensures.ends.lasts.returned clean) db a from in
       let items = c.args.additions.now.items.now in
       let within : c.loop-at.at < length items = omega (arith, c.loop-at-test.true, c.requires.begins.place) in
-      let more = one_taken (Some db) (state g.S.Store c.loop-at.store.conn) (state g.S.Store c.add_counted.new.store.conn) a c.args.additions.now.list.now items c.loop-at.at c.loop-at.count c.add_counted.new.count
+      let more = one_taken (Some db) (state g.S.Store c.loop-at.store.conn) (state g.S.Store c.add_counted.new.store.conn) a c.args.additions.now.list.now items
+      c.loop-at.at c.loop-at.count c.add_counted.new.count
       (get_or items c.loop-at.at c.index-additions-at.result) c.loop-at.report so_far within (ap (get_or items c.loop-at.at) c.index-additions-at.is) in
       let adds = c.in_ok-add_counted.ensures.step clean (Some db) so_far.held so_far.counted in
       let replies = (taken a c.args.additions.now.list.now (take c.loop-at.at items)).replies in

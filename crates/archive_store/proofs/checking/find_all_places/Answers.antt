@@ -17,7 +17,8 @@ returns-clause-found g c = λ returned held.
 pub returns-in_err-shown-clause-caused : goal.returns-in_err-shown-clause-caused
 returns-in_err-shown-clause-caused g c = λ returned held free.
     passed_on c.from_residual.result c.in_err-shown.field-0.0 _ c.from_residual.ensures.1
-    (blames_disk g.S.Store c.args.store.now.conn c.all_places-shown.new.conn c.all_places-shown.result (Err c.in_err-shown.field-0.0) c.in_err-shown.ensures.passed c.all_places-shown.ensures.caused returned held free)
+    (blames_disk g.S.Store c.args.store.now.conn c.all_places-shown.new.conn c.all_places-shown.result (Err c.in_err-shown.field-0.0) c.in_err-shown.ensures.passed
+    c.all_places-shown.ensures.caused returned held free)
 
 pub returns-clause-caused : goal.returns-clause-caused
 returns-clause-caused g c = λ returned held free.

@@ -78,7 +78,8 @@ returns-in_err-shown-clause-ends g c = record {
       let has = c.in_ok-has_list.ensures.answer (c.show_places.ensures.ends.lasts.returned returned) kept in
       passed_on c.from_residual-in_err-shown.result c.in_err-shown.field-0.0 _ c.from_residual-in_err-shown.ensures.1
       (λ it. more_since (state g.S.Store c.args.store.now.conn) (state g.S.Store c.has_list.new.self.conn) (state g.S.Store c.show_places.new.conn) c.has_list.ensures.ends.lasts
-      (blames_disk g.S.Store c.has_list.new.self.conn c.show_places.new.conn c.show_places.result (Err c.in_err-shown.field-0.0) c.in_err-shown.ensures.passed c.show_places.ensures.caused returned has.0.0 (c.has_list.ensures.ends.lasts.limit ∙ free) it));
+      (blames_disk g.S.Store c.has_list.new.self.conn c.show_places.new.conn c.show_places.result (Err c.in_err-shown.field-0.0) c.in_err-shown.ensures.passed
+      c.show_places.ensures.caused returned has.0.0 (c.has_list.ensures.ends.lasts.limit ∙ free) it));
 }
 
 pub returns-clause-ends : goal.returns-clause-ends

@@ -25,7 +25,11 @@ returns-clause-stands c =
     let m = c.line_len-blank.result in
     let e : length item.text ≡ c.len_and_arrival-text.result.0 = sym c.len_and_arrival-text.ensures.len in
     let len : IsLineLen bytes at n = record { within = c.line_len-heading.ensures.within; line = c.line_len-heading.ensures.line; end = c.line_len-heading.ensures.end } in
-    let here : IsLineLen bytes (at + n + c.len_and_arrival-text.result.0) m = record { within = c.line_len-blank.ensures.within; line = c.line_len-blank.ensures.line; end = c.line_len-blank.ensures.end } in
+    let here : IsLineLen bytes (at + n + c.len_and_arrival-text.result.0) m = record {
+      within = c.line_len-blank.ensures.within;
+      line = c.line_len-blank.ensures.line;
+      end = c.line_len-blank.ensures.end;
+    } in
     let p = placed bytes at n item c.requires.blocks.0 len c.requires.blocks.1 m (subst (λ (t : ℕ). IsLineLen bytes (at + n + t) m) (sym e) here) in
     let fits : FitsSigned w64 c.len_and_arrival-text.result.1 = search rules in
     let kept : to_z w64 (of_z w64 c.len_and_arrival-text.result.1) ≡ c.len_and_arrival-text.result.1 = to_z-of_z w64 c.len_and_arrival-text.result.1 fits in
@@ -42,7 +46,11 @@ returns-clause-later c = λ rest block.
     let m = c.line_len-blank.result in
     let e : length item.text ≡ c.len_and_arrival-text.result.0 = sym c.len_and_arrival-text.ensures.len in
     let len : IsLineLen bytes at n = record { within = c.line_len-heading.ensures.within; line = c.line_len-heading.ensures.line; end = c.line_len-heading.ensures.end } in
-    let here : IsLineLen bytes (at + n + c.len_and_arrival-text.result.0) m = record { within = c.line_len-blank.ensures.within; line = c.line_len-blank.ensures.line; end = c.line_len-blank.ensures.end } in
+    let here : IsLineLen bytes (at + n + c.len_and_arrival-text.result.0) m = record {
+      within = c.line_len-blank.ensures.within;
+      line = c.line_len-blank.ensures.line;
+      end = c.line_len-blank.ensures.end;
+    } in
     let p = placed bytes at n item rest len block m (subst (λ (t : ℕ). IsLineLen bytes (at + n + t) m) (sym e) here) in
     subst (λ (t : ℕ). AreBlocks rest (lines (drop (at + n + t + m) bytes))) e p.later
 

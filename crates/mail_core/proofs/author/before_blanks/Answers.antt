@@ -14,5 +14,6 @@ returns c =
     c.split_at.ensures.front
     ∙ sym (c.loop-len.invariant.same ∙ elim c.loop-len-test.branch [
       | else-loop-len-test w ↦ trim-nothing c.args.text.now c.loop-len.len (let h = w.loop-len-test.false in omega (arith, h))
-      | then-loop-len-test+then-not-is_blank_byte w ↦ let h = w.loop-len-test.true in trim-done c.args.text.now c.loop-len.len (c.loop-len.len - 1) (omega (arith, h)) c.loop-len.invariant.within (sym w.if-not-is_blank_byte.ensures)
+      | then-loop-len-test+then-not-is_blank_byte w ↦ let h = w.loop-len-test.true in trim-done c.args.text.now c.loop-len.len (c.loop-len.len - 1)
+          (omega (arith, h)) c.loop-len.invariant.within (sym w.if-not-is_blank_byte.ensures)
     ])

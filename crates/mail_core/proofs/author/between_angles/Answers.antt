@@ -23,5 +23,6 @@ returns c =
     let g = c.in_ok-close.ensures in
     let text : List ℕ = c.args.text.now in
     let behind : after_last 60 text ≡ Some (drop (c.in_ok-open.open + 1) text) = after_last-at 60 text c.in_ok-open.open h.0.high h.1 (λ j low lt e. h.0.after j low lt e) in
-    let some : before_byte 62 c.split_at.result.1.now ≡ Some (take c.in_ok-close.close c.split_at.result.1.now) = before_byte-at 62 c.split_at.result.1.now c.in_ok-close.close g.0.high g.1 (λ j lt e. g.0.before j (omega arith) lt e) in
+    let some : before_byte 62 c.split_at.result.1.now ≡ Some (take c.in_ok-close.close c.split_at.result.1.now) =
+    before_byte-at 62 c.split_at.result.1.now c.in_ok-close.close g.0.high g.1 (λ j lt e. g.0.before j (omega arith) lt e) in
     ap (option_and_then (before_byte 62)) behind ∙ ap (before_byte 62) (sym c.split_at.ensures.back) ∙ some ∙ ap (λ (l : List ℕ). Some l) (sym c.split_at-2.ensures.front)

@@ -9,7 +9,8 @@ loop-at-preserved-then-quoted c = record {
   place = omega arith;
   open_still = omega arith;
   shallow = omega arith;
-  same = sym (count-quoted c.args.text.now c.loop-at.at c.loop-at.depth c.loop-at.invariant.open_still c.loop-at-test.true) ∙ at-flag c.loop-at.quoted true c.loop-at.depth (drop c.loop-at.at c.args.text.now) (closing_rest false 1 (drop c.args.from c.args.text.now)) c.if-quoted.true c.loop-at.invariant.same;
+  same = sym (count-quoted c.args.text.now c.loop-at.at c.loop-at.depth c.loop-at.invariant.open_still c.loop-at-test.true) ∙ at-flag c.loop-at.quoted true c.loop-at.depth
+      (drop c.loop-at.at c.args.text.now) (closing_rest false 1 (drop c.args.from c.args.text.now)) c.if-quoted.true c.loop-at.invariant.same;
 }
 
 pub loop-at-preserved-then-byte-eq92 : goal.loop-at-preserved-then-byte-eq92
@@ -18,7 +19,8 @@ loop-at-preserved-then-byte-eq92 c = record {
   place = omega arith;
   open_still = omega arith;
   shallow = omega arith;
-  same = sym (count-backslash c.args.text.now c.loop-at.at c.loop-at.depth c.loop-at.invariant.open_still c.loop-at-test.true c.if-byte-eq92.true) ∙ at-flag c.loop-at.quoted false c.loop-at.depth (drop c.loop-at.at c.args.text.now) (closing_rest false 1 (drop c.args.from c.args.text.now)) c.if-quoted.false c.loop-at.invariant.same;
+  same = sym (count-backslash c.args.text.now c.loop-at.at c.loop-at.depth c.loop-at.invariant.open_still c.loop-at-test.true c.if-byte-eq92.true)
+      ∙ at-flag c.loop-at.quoted false c.loop-at.depth (drop c.loop-at.at c.args.text.now) (closing_rest false 1 (drop c.args.from c.args.text.now)) c.if-quoted.false c.loop-at.invariant.same;
 }
 
 pub loop-at-preserved-then-byte-eq40 : goal.loop-at-preserved-then-byte-eq40
@@ -27,7 +29,9 @@ loop-at-preserved-then-byte-eq40 c = record {
   place = omega arith;
   open_still = omega arith;
   shallow = omega arith;
-  same = at-flag false c.loop-at.quoted (c.loop-at.depth + 1) (drop (c.loop-at.at + 1) c.args.text.now) (closing_rest false 1 (drop c.args.from c.args.text.now)) (sym c.if-quoted.false) (sym (count-opening c.args.text.now c.loop-at.at c.loop-at.depth c.loop-at.invariant.open_still c.loop-at-test.true c.if-byte-eq40.true) ∙ at-flag c.loop-at.quoted false c.loop-at.depth (drop c.loop-at.at c.args.text.now) (closing_rest false 1 (drop c.args.from c.args.text.now)) c.if-quoted.false c.loop-at.invariant.same);
+  same = at-flag false c.loop-at.quoted (c.loop-at.depth + 1) (drop (c.loop-at.at + 1) c.args.text.now) (closing_rest false 1 (drop c.args.from c.args.text.now))
+      (sym c.if-quoted.false) (sym (count-opening c.args.text.now c.loop-at.at c.loop-at.depth c.loop-at.invariant.open_still c.loop-at-test.true c.if-byte-eq40.true)
+      ∙ at-flag c.loop-at.quoted false c.loop-at.depth (drop c.loop-at.at c.args.text.now) (closing_rest false 1 (drop c.args.from c.args.text.now)) c.if-quoted.false c.loop-at.invariant.same);
 }
 
 pub loop-at-preserved-then-byte-eq41 : goal.loop-at-preserved-then-byte-eq41
@@ -36,7 +40,9 @@ loop-at-preserved-then-byte-eq41 c = record {
   place = omega arith;
   open_still = omega arith;
   shallow = omega arith;
-  same = at-flag false c.loop-at.quoted (c.loop-at.depth - 1) (drop (c.loop-at.at + 1) c.args.text.now) (closing_rest false 1 (drop c.args.from c.args.text.now)) (sym c.if-quoted.false) (sym (count-closing c.args.text.now c.loop-at.at c.loop-at.depth c.loop-at.invariant.open_still c.loop-at-test.true c.if-byte-eq41.true) ∙ at-flag c.loop-at.quoted false c.loop-at.depth (drop c.loop-at.at c.args.text.now) (closing_rest false 1 (drop c.args.from c.args.text.now)) c.if-quoted.false c.loop-at.invariant.same);
+  same = at-flag false c.loop-at.quoted (c.loop-at.depth - 1) (drop (c.loop-at.at + 1) c.args.text.now) (closing_rest false 1 (drop c.args.from c.args.text.now))
+      (sym c.if-quoted.false) (sym (count-closing c.args.text.now c.loop-at.at c.loop-at.depth c.loop-at.invariant.open_still c.loop-at-test.true c.if-byte-eq41.true)
+      ∙ at-flag c.loop-at.quoted false c.loop-at.depth (drop c.loop-at.at c.args.text.now) (closing_rest false 1 (drop c.args.from c.args.text.now)) c.if-quoted.false c.loop-at.invariant.same);
 }
 
 pub loop-at-preserved : goal.loop-at-preserved
@@ -45,14 +51,19 @@ loop-at-preserved c = record {
   place = omega arith;
   open_still = omega arith;
   shallow = omega arith;
-  same = at-flag false c.loop-at.quoted c.loop-at.depth (drop (c.loop-at.at + 1) c.args.text.now) (closing_rest false 1 (drop c.args.from c.args.text.now)) (sym c.if-quoted.false) (sym (count-ordinary c.args.text.now c.loop-at.at c.loop-at.depth c.loop-at.invariant.open_still c.loop-at-test.true c.if-byte-eq40.false c.if-byte-eq41.false c.if-byte-eq92.false) ∙ at-flag c.loop-at.quoted false c.loop-at.depth (drop c.loop-at.at c.args.text.now) (closing_rest false 1 (drop c.args.from c.args.text.now)) c.if-quoted.false c.loop-at.invariant.same);
+  same = at-flag false c.loop-at.quoted c.loop-at.depth (drop (c.loop-at.at + 1) c.args.text.now) (closing_rest false 1 (drop c.args.from c.args.text.now))
+      (sym c.if-quoted.false) (sym (count-ordinary c.args.text.now c.loop-at.at c.loop-at.depth c.loop-at.invariant.open_still c.loop-at-test.true c.if-byte-eq40.false
+      c.if-byte-eq41.false c.if-byte-eq92.false) ∙ at-flag c.loop-at.quoted false c.loop-at.depth (drop c.loop-at.at c.args.text.now)
+      (closing_rest false 1 (drop c.args.from c.args.text.now)) c.if-quoted.false c.loop-at.invariant.same);
 }
 
 pub returns-then-depth-eq1 : goal.returns-then-depth-eq1
 returns-then-depth-eq1 c = (
   omega arith,
   omega arith,
-  sym (at-flag c.loop-at.quoted false c.loop-at.depth (drop c.loop-at.at c.args.text.now) (closing_rest false 1 (drop c.args.from c.args.text.now)) c.if-quoted.false c.loop-at.invariant.same) ∙ count-closing c.args.text.now c.loop-at.at c.loop-at.depth c.loop-at.invariant.open_still c.loop-at-test.true c.if-byte-eq41.true ∙ count-done c.args.text.now (c.loop-at.at + 1) c.loop-at.depth c.if-depth-eq1.true,
+  sym (at-flag c.loop-at.quoted false c.loop-at.depth (drop c.loop-at.at c.args.text.now) (closing_rest false 1 (drop c.args.from c.args.text.now)) c.if-quoted.false
+      c.loop-at.invariant.same) ∙ count-closing c.args.text.now c.loop-at.at c.loop-at.depth c.loop-at.invariant.open_still c.loop-at-test.true c.if-byte-eq41.true
+      ∙ count-done c.args.text.now (c.loop-at.at + 1) c.loop-at.depth c.if-depth-eq1.true,
 )
 
 pub returns : goal.returns

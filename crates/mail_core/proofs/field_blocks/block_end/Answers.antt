@@ -8,7 +8,8 @@ loop-end-preserved c =
     let rest = take_rest c.args.text.now c.loop-end.end in record {
       begun = omega arith;
       place = omega arith;
-      same = c.loop-end.invariant.same ∙ block-grows c.args.text.now c.loop-end.end c.line_end-end.result c.line_end-end.ensures.some (sym (rw rest at c.loop-end-test.ensures)) (rw rest at c.line_end-end.ensures.cuts);
+      same = c.loop-end.invariant.same ∙ block-grows c.args.text.now c.loop-end.end c.line_end-end.result c.line_end-end.ensures.some (sym (rw rest at c.loop-end-test.ensures))
+          (rw rest at c.line_end-end.ensures.cuts);
     }
 
 pub returns-clause-cuts : goal.returns-clause-cuts

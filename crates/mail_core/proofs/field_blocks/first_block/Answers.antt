@@ -14,5 +14,6 @@ returns-then-has_no_content c = blocks-over c.args.text.now c.line_end-first.res
 pub returns : goal.returns
 returns c = (
   omega arith,
-  rw (c.split_at.ensures.back, c.split_at.ensures.front) (blocks-begin c.args.text.now c.line_end-first.result c.line_end-first.ensures.cuts (sym c.if-has_no_content.ensures) ∙ c.block_end.ensures.cuts),
+  rw (c.split_at.ensures.back, c.split_at.ensures.front) (blocks-begin c.args.text.now c.line_end-first.result c.line_end-first.ensures.cuts (sym c.if-has_no_content.ensures)
+      ∙ c.block_end.ensures.cuts),
 )

@@ -36,7 +36,8 @@ loop-at-preserved-in-Some-quote_end c =
       place = omega (arith, x.1);
       few = v.few;
       comments = v.comments;
-      told = ap (λ (l : List Id). c.loop-at.found ++ l) (sym (scan_quote c.args.text.now c.loop-at.at c.in-Some-quote_end.end c.loop-at-test.true c.if-byte-eq34.true (omega (arith, x.0)) x.1 x.2)) ∙ v.told;
+      told = ap (λ (l : List Id). c.loop-at.found ++ l) (sym (scan_quote c.args.text.now c.loop-at.at c.in-Some-quote_end.end c.loop-at-test.true c.if-byte-eq34.true
+          (omega (arith, x.0)) x.1 x.2)) ∙ v.told;
       open_quote = λ q. let w = v.open_quote q in (w.0, omega (arith, w.1, x.0), w.2);
     }
 

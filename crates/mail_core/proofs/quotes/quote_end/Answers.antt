@@ -14,14 +14,16 @@ pub returns-then-byte-eq34 : goal.returns-then-byte-eq34
 returns-then-byte-eq34 c = (
   omega arith,
   omega arith,
-  sym c.loop-at.invariant.same ∙ ap (λ (q : Bool). after_quote q (drop c.loop-at.at c.args.text.now)) c.if-quoted.false ∙ at-ending c.args.text.now c.loop-at.at c.loop-at-test.true c.if-byte-eq34.true,
+  sym c.loop-at.invariant.same ∙ ap (λ (q : Bool). after_quote q (drop c.loop-at.at c.args.text.now)) c.if-quoted.false ∙ at-ending c.args.text.now c.loop-at.at
+      c.loop-at-test.true c.if-byte-eq34.true,
 )
 
 pub loop-at-preserved-then-byte-eq92 : goal.loop-at-preserved-then-byte-eq92
 loop-at-preserved-then-byte-eq92 c = record {
   begun = omega arith;
   place = omega arith;
-  same = sym (at-escape c.args.text.now c.loop-at.at c.loop-at-test.true c.if-byte-eq92.true) ∙ ap (λ (q : Bool). after_quote q (drop c.loop-at.at c.args.text.now)) (sym c.if-quoted.false) ∙ c.loop-at.invariant.same;
+  same = sym (at-escape c.args.text.now c.loop-at.at c.loop-at-test.true c.if-byte-eq92.true) ∙ ap (λ (q : Bool). after_quote q (drop c.loop-at.at c.args.text.now))
+      (sym c.if-quoted.false) ∙ c.loop-at.invariant.same;
 }
 
 pub loop-at-preserved : goal.loop-at-preserved

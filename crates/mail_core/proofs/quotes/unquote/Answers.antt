@@ -26,4 +26,5 @@ loop-byte-preserved-then-byte-eq92 c =
     ap (λ (l : List ℕ). c.loop-byte.value.items ++ l) (sym (unquoted-at_escape c.args.inside.now c.loop-byte.byte-index c.loop-byte-test.true c.if-byte-eq92.true)) ∙ h
 
 pub returns : goal.returns
-returns c = sym (append-nil c.loop-byte.value.items) ∙ ap (λ (l : List ℕ). c.loop-byte.value.items ++ l) (sym (unquoted-past c.loop-byte.quoted c.args.inside.now c.loop-byte.byte-index c.loop-byte-test.false)) ∙ c.loop-byte.invariant
+returns c = sym (append-nil c.loop-byte.value.items) ∙ ap (λ (l : List ℕ). c.loop-byte.value.items ++ l)
+    (sym (unquoted-past c.loop-byte.quoted c.args.inside.now c.loop-byte.byte-index c.loop-byte-test.false)) ∙ c.loop-byte.invariant

@@ -40,7 +40,8 @@ returns-then-is_ascii_alphabetic c =
 pub returns-then-first-ne40 : goal.returns-then-first-ne40
 returns-then-first-ne40 c =
     c.loop-first.invariant ∙ ap tokens_of c.in-Some.ensures.cases.0
-    ∙ tokens-sign c.in-Some.first.now c.in-Some.behind.now (sym c.if-is_white_byte.ensures) (sym c.if-is_ascii_digit.ensures.value) (sym c.if-is_ascii_alphabetic.ensures.value) (not_equal c.in-Some.first.now 40 c.if-first-ne40.true)
+    ∙ tokens-sign c.in-Some.first.now c.in-Some.behind.now (sym c.if-is_white_byte.ensures) (sym c.if-is_ascii_digit.ensures.value) (sym c.if-is_ascii_alphabetic.ensures.value)
+    (not_equal c.in-Some.first.now 40 c.if-first-ne40.true)
 
 pub returns-in_default-comment_end : goal.returns-in_default-comment_end
 returns-in_default-comment_end c =

@@ -69,7 +69,8 @@ returns-in-Some-separator-clause-text c =
     let low : c.last_line-last.result ≤ at = omega (arith, c.last_line-last.ensures.within, c.split_at-in-loop-at.ensures.front_len) in
     let s = found_state bytes line at c.last_line-last.result (front_on bytes c.loop-at.at c.in-Some.lf c.loop-at.invariant.1 f.fits f.here_lf f.none) e blank low in
     let rest = c.split_at-in-loop-at.ensures.back in
-    let says : separator_of (content c.split_at-then-is_empty.result.0.now) ≡ Some c.in-Some-separator.envelope = ap separator_of (sym c.line_content-content.ensures) ∙ sym c.in-Some-separator.ensures.value in
+    let says : separator_of (content c.split_at-then-is_empty.result.0.now) ≡ Some c.in-Some-separator.envelope = ap separator_of (sym c.line_content-content.ensures)
+    ∙ sym c.in-Some-separator.ensures.value in
     c.split_at-in-loop-at-2.ensures.front ∙ ap (take c.last_line-last.result) c.split_at-in-loop-at.ensures.front ∙ take-take c.last_line-last.result at bytes low
     ∙ text_here bytes at c.line_end-len.result c.split_at-then-is_empty.result.0.now (rw rest at c.split_at-then-is_empty.ensures.front)
     (omega (arith, c.line_end-len.ensures.within, c.split_at-in-loop-at.ensures.back_len)) (rw rest at c.line_end-len.ensures.cuts)
@@ -86,7 +87,8 @@ returns-in-Some-separator-clause-items c =
     let low : c.last_line-last.result ≤ at = omega (arith, c.last_line-last.ensures.within, c.split_at-in-loop-at.ensures.front_len) in
     let s = found_state bytes line at c.last_line-last.result (front_on bytes c.loop-at.at c.in-Some.lf c.loop-at.invariant.1 f.fits f.here_lf f.none) e blank low in
     let rest = c.split_at-in-loop-at.ensures.back in
-    let says : separator_of (content c.split_at-then-is_empty.result.0.now) ≡ Some c.in-Some-separator.envelope = ap separator_of (sym c.line_content-content.ensures) ∙ sym c.in-Some-separator.ensures.value in
+    let says : separator_of (content c.split_at-then-is_empty.result.0.now) ≡ Some c.in-Some-separator.envelope = ap separator_of (sym c.line_content-content.ensures)
+    ∙ sym c.in-Some-separator.ensures.value in
     let h = items_here bytes at c.line_end-len.result c.split_at-then-is_empty.result.0.now (rw rest at c.split_at-then-is_empty.ensures.front)
     (omega (arith, c.line_end-len.ensures.within, c.split_at-in-loop-at.ensures.back_len)) (rw rest at c.line_end-len.ensures.cuts)
     c.last_line-last.result c.in-Some-separator.envelope s says in

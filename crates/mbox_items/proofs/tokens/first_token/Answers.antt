@@ -32,6 +32,7 @@ returns c =
     ]) in
     c.loop-at.invariant.1 ∙ ap tokens (sym c.split_at.ensures.back) ∙ rw (c.split_at-2.ensures.front, c.split_at-2.ensures.back)
     (elim c.match-memchr.branch [
-      | in-Some w ↦ let h = w.in-Some.ensures in rw w.end-is (tokens-cut xs w.in-Some.end (some_first xs w.in-Some.end first h.1) (omega (arith, h.0.high)) (λ k lt e. h.0.before k (omega arith) lt e) (λ lt. h.1))
+      | in-Some w ↦ let h = w.in-Some.ensures in rw w.end-is (tokens-cut xs w.in-Some.end (some_first xs w.in-Some.end first h.1) (omega (arith, h.0.high))
+          (λ k lt e. h.0.before k (omega arith) lt e) (λ lt. h.1))
       | in-None w ↦ rw w.end-is (tokens-cut xs (length xs) (omega (arith, some)) (omega arith) (λ k lt e. w.in-None.ensures k (omega arith) lt e) (λ lt. absurd (omega (arith, lt))))
     ])

@@ -8,12 +8,14 @@ returns-in_default c = sym c.loop-letter.invariant ∙ letter-past c.args.litera
 pub returns-then-to_ascii_lowercase-letter : goal.returns-then-to_ascii_lowercase-letter
 returns-then-to_ascii_lowercase-letter c =
     sym c.loop-letter.invariant
-    ∙ letter-other c.args.literal.now c.loop-letter.rest.now c.in-Some.others.now c.loop-letter.letter-index c.in-Some.first.now (get_or c.args.literal.now c.loop-letter.letter-index 0) c.loop-letter-test.true (λ i. get_or c.args.literal.now c.loop-letter.letter-index 0) c.in-Some.ensures.cases.0
+    ∙ letter-other c.args.literal.now c.loop-letter.rest.now c.in-Some.others.now c.loop-letter.letter-index c.in-Some.first.now
+    (get_or c.args.literal.now c.loop-letter.letter-index 0) c.loop-letter-test.true (λ i. get_or c.args.literal.now c.loop-letter.letter-index 0) c.in-Some.ensures.cases.0
     (λ h. c.if-to_ascii_lowercase-letter.true (c.to_ascii_lowercase.ensures.value ∙ h))
 
 pub loop-letter-preserved : goal.loop-letter-preserved
 loop-letter-preserved c =
-    sym (letter-same c.args.literal.now c.loop-letter.rest.now c.in-Some.others.now c.loop-letter.letter-index c.in-Some.first.now (get_or c.args.literal.now c.loop-letter.letter-index 0) c.loop-letter-test.true (λ i. get_or c.args.literal.now c.loop-letter.letter-index 0) c.in-Some.ensures.cases.0
+    sym (letter-same c.args.literal.now c.loop-letter.rest.now c.in-Some.others.now c.loop-letter.letter-index c.in-Some.first.now
+    (get_or c.args.literal.now c.loop-letter.letter-index 0) c.loop-letter-test.true (λ i. get_or c.args.literal.now c.loop-letter.letter-index 0) c.in-Some.ensures.cases.0
     (sym c.to_ascii_lowercase.ensures.value ∙ c.if-to_ascii_lowercase-letter.false))
     ∙ c.loop-letter.invariant
 

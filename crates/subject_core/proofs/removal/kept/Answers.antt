@@ -19,7 +19,8 @@ returns-in_default-clause-same c =
     let m = c.loop-inner.reply || (p || q) in
     turn_done t begun m (turn_same t rest ended begun c.loop-inner.reply p q c.loop-inner.invariant.same c.without_trailers-ended.ensures c.without_fronts-begun.ensures)
     c.without_fronts-begun.ensures.no_trailer c.without_fronts-begun.ensures.none c.in_default.ensures
-    ∙ ap (left m) (sym (part_is t begun (c.loop-inner.from + (length ended - length begun)) (turn_part t rest ended begun c.loop-inner.from p q c.loop-inner.invariant.part c.without_trailers-ended.ensures c.without_fronts-begun.ensures)))
+    ∙ ap (left m) (sym (part_is t begun (c.loop-inner.from + (length ended - length begun))
+    (turn_part t rest ended begun c.loop-inner.from p q c.loop-inner.invariant.part c.without_trailers-ended.ensures c.without_fronts-begun.ensures)))
 
 pub loop-inner-smaller : goal.loop-inner-smaller
 loop-inner-smaller c =
@@ -27,7 +28,8 @@ loop-inner-smaller c =
     let ended = c.without_trailers-ended.result.text.now in
     let begun = c.without_fronts-begun.result.text.now in
     let l : length c.in-Some.inner.now < length begun = pair_less begun c.in-Some.inner.now c.in-Some.ensures in
-    let k : length begun ≤ length rest = turn_less rest ended begun c.without_trailers-ended.result.reply c.without_fronts-begun.result.reply c.without_trailers-ended.ensures c.without_fronts-begun.ensures in
+    let k : length begun ≤ length rest = turn_less rest ended begun c.without_trailers-ended.result.reply c.without_fronts-begun.result.reply c.without_trailers-ended.ensures
+    c.without_fronts-begun.ensures in
     omega (arith, l, k)
 
 pub loop-inner-preserved : goal.loop-inner-preserved

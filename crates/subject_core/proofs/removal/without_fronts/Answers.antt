@@ -7,7 +7,9 @@ loop-shorter-smaller c = front_less c.loop-shorter.rest.now (left c.in-Some.shor
 
 pub loop-shorter-preserved : goal.loop-shorter-preserved
 loop-shorter-preserved c = record {
-  same = front_same c.args.text.now c.loop-shorter.rest.now c.loop-shorter.reply (left c.in-Some.shorter.reply c.in-Some.shorter.text.now) c.loop-shorter.invariant.same c.loop-shorter.invariant.no_trailer c.in-Some.ensures;
-  within = front_within c.args.text.now c.loop-shorter.rest.now (left c.in-Some.shorter.reply c.in-Some.shorter.text.now) c.loop-shorter.invariant.within c.loop-shorter.invariant.no_trailer c.in-Some.ensures;
+  same = front_same c.args.text.now c.loop-shorter.rest.now c.loop-shorter.reply (left c.in-Some.shorter.reply c.in-Some.shorter.text.now) c.loop-shorter.invariant.same
+      c.loop-shorter.invariant.no_trailer c.in-Some.ensures;
+  within = front_within c.args.text.now c.loop-shorter.rest.now (left c.in-Some.shorter.reply c.in-Some.shorter.text.now) c.loop-shorter.invariant.within
+      c.loop-shorter.invariant.no_trailer c.in-Some.ensures;
   no_trailer = front_none c.loop-shorter.rest.now (left c.in-Some.shorter.reply c.in-Some.shorter.text.now) c.loop-shorter.invariant.no_trailer c.in-Some.ensures;
 }

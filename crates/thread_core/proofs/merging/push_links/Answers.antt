@@ -10,7 +10,8 @@ returns c =
     let plain_group : c.args.group.now.dummy ≡ false = search rules in
     let some : 1 < length c.args.plain.now = search rules in
     let all : map (λ (p : ℕ). (p, get_or c.args.plain.now 0 0)) (filter (λ (p : ℕ). not (p == get_or c.args.plain.now 0 0)) c.before-2.result.now)
-    ≡ map (λ (p : ℕ). (p, get_or c.args.plain.now 0 0)) (filter (λ (p : ℕ). not (p == get_or c.args.plain.now 0 0)) (before_first (λ (p : ℕ). p == get_or c.args.plain.now 1 0) c.args.group.now.messages.items))
+    ≡ map (λ (p : ℕ). (p, get_or c.args.plain.now 0 0)) (filter (λ (p : ℕ). not (p == get_or c.args.plain.now 0 0))
+    (before_first (λ (p : ℕ). p == get_or c.args.plain.now 1 0) c.args.group.now.messages.items))
     = ap (λ (ps : List ℕ). map (λ (p : ℕ). (p, get_or c.args.plain.now 0 0)) (filter (λ (p : ℕ). not (p == get_or c.args.plain.now 0 0)) ps))
     (c.before-2.ensures ∙ (λ i. before_first (λ (p : ℕ). p == get_or c.args.plain.now 1 0) (c.deref-2.ensures.value i))) in
     subst (λ (ls : List Link). OnOk c.link_under-2.result (c.link_under-2.new.links.items ≡ c.args.links.now.items ++ ls))

@@ -8,10 +8,12 @@ pub returns-clause-trees : goal.returns-clause-trees
 returns-clause-trees c =
     c.in_ok-keep_without_subject.ensures
     ∙ ap (λ (ts : List Tree). without_subject c.args.entries.now c.args.trees.items ++ ts)
-    (all_listed (λ (m : MergedTop). m.trees) c.args.entries.now c.args.trees.items _ _ _ _ _ _ _ _ _ _ _ c.deref.ensures.value c.in_ok-leaders.ensures c.deref-2.ensures.value c.in_ok-leads.ensures c.deref-3.ensures.value
+    (all_listed (λ (m : MergedTop). m.trees) c.args.entries.now c.args.trees.items _ _ _ _ _ _ _ _ _ _ _ c.deref.ensures.value c.in_ok-leaders.ensures
+    c.deref-2.ensures.value c.in_ok-leads.ensures c.deref-3.ensures.value
     c.in_ok-lists.ensures c.deref-4.ensures.value c.deref-5.ensures.value c.deref-6.ensures.value c.in_ok-merged.ensures.trees)
 
 pub returns-clause-links : goal.returns-clause-links
 returns-clause-links c =
-    all_listed (λ (m : MergedTop). m.links) c.args.entries.now c.args.trees.items _ _ _ _ _ _ _ _ _ _ _ c.deref.ensures.value c.in_ok-leaders.ensures c.deref-2.ensures.value c.in_ok-leads.ensures c.deref-3.ensures.value
+    all_listed (λ (m : MergedTop). m.links) c.args.entries.now c.args.trees.items _ _ _ _ _ _ _ _ _ _ _ c.deref.ensures.value c.in_ok-leaders.ensures
+    c.deref-2.ensures.value c.in_ok-leads.ensures c.deref-3.ensures.value
     c.in_ok-lists.ensures c.deref-4.ensures.value c.deref-5.ensures.value c.deref-6.ensures.value c.in_ok-merged.ensures.links

@@ -4,10 +4,13 @@ use Rattle.archive_store.proofs.CarryLemmas.{called, added_is}
 use Rattle.archive_store.proofs.store.Store.add.Goals as goal
 
 pub returns-clause-step : goal.returns-clause-step
-returns-clause-step g c = (called g.S.Store _ _ (add c.args.list.now c.args.item.now) (λ found. added_if found.message) added_reply c.carry.result c.added.result c.added.ensures (λ found. added_is found.message) c.carry.ensures).step
+returns-clause-step g c = (called g.S.Store _ _ (add c.args.list.now c.args.item.now) (λ found. added_if found.message) added_reply c.carry.result c.added.result
+    c.added.ensures (λ found. added_is found.message) c.carry.ensures).step
 
 pub returns-clause-crash : goal.returns-clause-crash
-returns-clause-crash g c = (called g.S.Store _ _ (add c.args.list.now c.args.item.now) (λ found. added_if found.message) added_reply c.carry.result c.added.result c.added.ensures (λ found. added_is found.message) c.carry.ensures).crash
+returns-clause-crash g c = (called g.S.Store _ _ (add c.args.list.now c.args.item.now) (λ found. added_if found.message) added_reply c.carry.result c.added.result
+    c.added.ensures (λ found. added_is found.message) c.carry.ensures).crash
 
 pub returns-clause-ends : goal.returns-clause-ends
-returns-clause-ends g c = (called g.S.Store _ _ (add c.args.list.now c.args.item.now) (λ found. added_if found.message) added_reply c.carry.result c.added.result c.added.ensures (λ found. added_is found.message) c.carry.ensures).ends
+returns-clause-ends g c = (called g.S.Store _ _ (add c.args.list.now c.args.item.now) (λ found. added_if found.message) added_reply c.carry.result c.added.result
+    c.added.ensures (λ found. added_is found.message) c.carry.ensures).ends

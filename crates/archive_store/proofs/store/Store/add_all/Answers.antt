@@ -16,7 +16,8 @@ pub returns-in-Err-clause-step : goal.returns-in-Err-clause-step
 returns-in-Err-clause-step g c = λ clean kept.
     let first = state g.S.Store c.args.self.now.conn in
     let now = state g.S.Store c.count.new.self.conn in
-    none_added (refusal c.in-Err.fault) first now c.args.list.now c.args.items.now (not_counted first first now c.args.list.now (refusal c.in-Err.fault) refl (c.in-Err.ensures.same clean kept) (c.in-Err.ensures.answer clean kept))
+    none_added (refusal c.in-Err.fault) first now c.args.list.now c.args.items.now (not_counted first first now c.args.list.now (refusal c.in-Err.fault) refl
+    (c.in-Err.ensures.same clean kept) (c.in-Err.ensures.answer clean kept))
 
 pub loop-done-init : goal.loop-done-init
 loop-done-init g c = (
@@ -53,7 +54,8 @@ loop-done-preserved g c = (
       let so_far = c.loop-done.invariant.3 was kept in
       let first = archive_of (state g.S.Store c.args.self.now.conn) in
       let step = c.in-Ok-add_batch.ensures.step clean first so_far in
-      stays_safe g.S.Store c.loop-done.self.conn c.add_batch.new.store.conn (λ db up may. g.met.S.Store.settled c.add_batch.new.store.conn.store db up may) step.0.held _ (λ db it. ((taken first c.args.list.now (take it.0 c.args.items.now)).archive, it.2))
+      stays_safe g.S.Store c.loop-done.self.conn c.add_batch.new.store.conn (λ db up may. g.met.S.Store.settled c.add_batch.new.store.conn.store db up may) step.0.held _
+      (λ db it. ((taken first c.args.list.now (take it.0 c.args.items.now)).archive, it.2))
       (c.add_batch.ensures.crash first so_far) clean (c.loop-done.invariant.7 was kept safe)),
 )
 
@@ -80,7 +82,10 @@ returns-in-Err-add_batch-clause-ends g c = record {
   lasts = lasts_then _ _ _ c.loop-done.invariant.4 c.add_batch.ensures.ends.lasts;
   was_open = λ clean. tt;
   kind = search rules;
-  counted = (omega (arith, c.loop-done.invariant.6, c.in-Err-add_batch.ensures.ends.counted.0), (λ want. let more = c.in-Err-add_batch.ensures.ends.counted.1 want in omega (arith, c.loop-done.invariant.6, more)));
+  counted = (
+    omega (arith, c.loop-done.invariant.6, c.in-Err-add_batch.ensures.ends.counted.0),
+    (λ want. let more = c.in-Err-add_batch.ensures.ends.counted.1 want in omega (arith, c.loop-done.invariant.6, more)),
+  );
   caused = λ clean kept free it.
       let was = c.add_batch.ensures.ends.lasts.returned clean in
       let so_far = c.loop-done.invariant.3 was kept in
@@ -113,9 +118,19 @@ returns-then-at-to-clause-crash g c = λ clean kept safe.
     let so_far = c.loop-done.invariant.3 was kept in
     let first = archive_of (state g.S.Store c.args.self.now.conn) in
     let step = c.in-Ok-add_batch.ensures.step clean first so_far in
-    let last = stays_safe g.S.Store c.loop-done.self.conn c.add_batch.new.store.conn (λ db up may. g.met.S.Store.settled c.add_batch.new.store.conn.store db up may) step.0.held _ (λ db it. ((taken first c.args.list.now (take it.0 c.args.items.now)).archive, it.2))
+    let last = stays_safe g.S.Store c.loop-done.self.conn c.add_batch.new.store.conn (λ db up may. g.met.S.Store.settled c.add_batch.new.store.conn.store db up may)
+    step.0.held _ (λ db it. ((taken first c.args.list.now (take it.0 c.args.items.now)).archive, it.2))
     (c.add_batch.ensures.crash first so_far) clean (c.loop-done.invariant.7 was kept safe) in
-    λ db may. (archive_of (state g.S.Store c.add_batch.new.store.conn), (c.in-Ok-add_batch.at, omega arith, omega (arith, c.in-Ok-add_batch.ensures.came.2, c.batch_end-to.ensures.within), step.0.archive_is), last db may)
+    λ db may. (
+      archive_of (state g.S.Store c.add_batch.new.store.conn),
+      (
+        c.in-Ok-add_batch.at,
+        omega arith,
+        omega (arith, c.in-Ok-add_batch.ensures.came.2, c.batch_end-to.ensures.within),
+        step.0.archive_is,
+      ),
+      last db may,
+    )
 
 pub returns-in-Err-add_batch-clause-crash : goal.returns-in-Err-add_batch-clause-crash
 returns-in-Err-add_batch-clause-crash g c = λ clean kept safe db may.

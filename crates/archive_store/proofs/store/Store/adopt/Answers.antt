@@ -23,7 +23,11 @@ returns-in-Ok-clause-adopted g c =
         rows = search rules;
         returned = search rules;
         crash = adopts_as g.S.Store c.args.connection w.make_tables-done.new.conn c.if-has_nothing.conn c.set_step_limit.new.self None w.conn-is c.set_step_limit.ensures
-            (record { made = w.make_tables-done.ensures.crash; brought = λ number known held. absurd (none_held number (state g.S.Store c.args.connection) (c.has_nothing.ensures.0 w.if-has_nothing.true) held) });
+            (record {
+              made = w.make_tables-done.ensures.crash;
+              brought = λ number known held. absurd
+                  (none_held number (state g.S.Store c.args.connection) (c.has_nothing.ensures.0 w.if-has_nothing.true) held);
+            });
         lasts = search rules;
         unlimited = search rules;
       }
@@ -55,12 +59,17 @@ returns-in-Err-clause-refused g c =
             let old = state g.S.Store c.args.connection in
             let clean_1 = subst (λ h. HasCleanDisk (state g.S.Store h)) w.conn-is clean in
             let premise = c.has_nothing.ensures.0 w.if-has_nothing.true in
-            let why = refused_by old (state g.S.Store w.make_tables-done.new.conn) _ c.in-Err.fault _ (sym w.done-is ∙ c.in-Err.is) (w.make_tables-done.ensures.ends.caused clean_1 (idle, premise) free) (is_database _ (search rules)) in
+            let why = refused_by old (state g.S.Store w.make_tables-done.new.conn) _ c.in-Err.fault _ (sym w.done-is ∙ c.in-Err.is)
+            (w.make_tables-done.ensures.ends.caused clean_1 (idle, premise) free) (is_database _ (search rules)) in
             subst (λ h. MoreFaults old.faults (state g.S.Store h).faults ⊎ IsNotTaken old.now) (sym w.conn-is) (elim why [ inl more ↦ inl more | inr refused ↦ absurd refused ]);
         fault = search rules;
         returned = search rules;
         crash = adopts_at g.S.Store c.args.connection w.make_tables-done.new.conn c.if-has_nothing.conn w.conn-is
-            (record { made = w.make_tables-done.ensures.crash; brought = λ number known held. absurd (none_held number (state g.S.Store c.args.connection) (c.has_nothing.ensures.0 w.if-has_nothing.true) held) });
+            (record {
+              made = w.make_tables-done.ensures.crash;
+              brought = λ number known held. absurd
+                  (none_held number (state g.S.Store c.args.connection) (c.has_nothing.ensures.0 w.if-has_nothing.true) held);
+            });
         lasts = search rules;
       }
       | else-has_nothing w ↦ record {
@@ -73,7 +82,8 @@ returns-in-Err-clause-refused g c =
             let old = state g.S.Store c.args.connection in
             let clean_1 = subst (λ h. HasCleanDisk (state g.S.Store h)) w.conn-is clean in
             let premise = has_version (λ empty. let is = c.has_nothing.ensures.1 empty in let none = w.if-has_nothing.false in cc) understood in
-            let why = refused_by old (state g.S.Store w.take_over-done.new.conn) _ c.in-Err.fault _ (sym w.done-is ∙ c.in-Err.is) (w.take_over-done.ensures.ends.caused clean_1 (idle, premise) free) (is_database _ (search rules)) in
+            let why = refused_by old (state g.S.Store w.take_over-done.new.conn) _ c.in-Err.fault _ (sym w.done-is ∙ c.in-Err.is)
+            (w.take_over-done.ensures.ends.caused clean_1 (idle, premise) free) (is_database _ (search rules)) in
             subst (λ h. MoreFaults old.faults (state g.S.Store h).faults ⊎ IsNotTaken old.now) (sym w.conn-is) why;
         fault = search rules;
         returned = search rules;

@@ -11,7 +11,8 @@ pub returns-in-Some : goal.returns-in-Some
 returns-in-Some g c = refused_at_once g.S.Store c.args.self.now (command_of c.args.command.now) c.in-Some.fault c.in-Some.ensures
 
 pub returns-in-Some-Refused : goal.returns-in-Some-Refused
-returns-in-Some-Refused g c = refused_by g.S.Store _ _ (command_of c.args.command.now) _ c.in-Some-Refused.fault c.settle.result c.in_ok-found.ensures (c.in-Some-Refused.is ∙ ap Some c.in-Some-Refused.field-0-is) c.settle.ensures
+returns-in-Some-Refused g c = refused_by g.S.Store _ _ (command_of c.args.command.now) _ c.in-Some-Refused.fault c.settle.result c.in_ok-found.ensures
+    (c.in-Some-Refused.is ∙ ap Some c.in-Some-Refused.field-0-is) c.settle.ensures
 
 pub returns-in_ok-write-in-None : goal.returns-in_ok-write-in-None
 returns-in_ok-write-in-None g c = carried_out g.S.Store _ _ _ _ (command_of c.args.command.now) _ c.in_ok-found.ensures
@@ -23,4 +24,5 @@ returns-in_err-write-in-None g c = unwritten g.S.Store _ _ _ _ (command_of c.arg
     c.in_err-write-in-None.ensures c.from_residual-in_err-write-in-None.ensures.1
 
 pub returns-in-Some-Known : goal.returns-in-Some-Known
-returns-in-Some-Known g c = already_there g.S.Store _ _ (command_of c.args.command.now) _ c.settle.result c.in_ok-found.ensures (c.in-Some-Known.is ∙ ap Some c.in-Some-Known.field-0-is) c.settle.ensures
+returns-in-Some-Known g c = already_there g.S.Store _ _ (command_of c.args.command.now) _ c.settle.result c.in_ok-found.ensures
+    (c.in-Some-Known.is ∙ ap Some c.in-Some-Known.field-0-is) c.settle.ensures

@@ -23,7 +23,8 @@ loop-place-preserved g c =
       (λ returned. c.loop-place.invariant.0 (c.damage_at.ensures.ends.lasts.returned returned)),
       (λ returned held.
           let so_far = c.loop-place.invariant.1 (c.damage_at.ensures.ends.lasts.returned returned) held in
-          let next = looks_next g.S.Store c.args.self.now now c.deref-place-items.result.now c.loop-place.place-index (to_z w64 (of_z w64 (get_or c.deref-place-items.result.now c.loop-place.place-index (pos 0)))) (pos 0) so_far (omega (arith, c.loop-place-test.true)) it in
+          let next = looks_next g.S.Store c.args.self.now now c.deref-place-items.result.now c.loop-place.place-index
+          (to_z w64 (of_z w64 (get_or c.deref-place-items.result.now c.loop-place.place-index (pos 0)))) (pos 0) so_far (omega (arith, c.loop-place-test.true)) it in
           let looked = rw c.in_default.is at (c.in_ok-list.ensures.looked returned so_far.stays.1 next.it next.found) in
           next.goes_on c.damage_at.new.store looked.0 looked.1),
       lasts_then _ _ _ c.loop-place.invariant.2 c.damage_at.ensures.ends.lasts,
@@ -39,7 +40,8 @@ returns-in_err-list-clause-checked g c =
     (lasts_then _ _ _ c.loop-place.invariant.2 c.damage_at.ensures.ends.lasts)
     (λ returned held up.
     let so_far = c.loop-place.invariant.1 (c.damage_at.ensures.ends.lasts.returned returned) held in
-    let next = looks_next g.S.Store c.args.self.now now c.deref-place-items.result.now c.loop-place.place-index (to_z w64 (of_z w64 (get_or c.deref-place-items.result.now c.loop-place.place-index (pos 0)))) (pos 0) so_far (omega (arith, c.loop-place-test.true)) it in
+    let next = looks_next g.S.Store c.args.self.now now c.deref-place-items.result.now c.loop-place.place-index
+    (to_z w64 (of_z w64 (get_or c.deref-place-items.result.now c.loop-place.place-index (pos 0)))) (pos 0) so_far (omega (arith, c.loop-place-test.true)) it in
     both_stay g.S.Store c.args.self.now now c.damage_at.new.store so_far.stays (c.in_err-list.ensures.looked returned so_far.stays.1 next.it next.found up))
 
 pub returns-in-Some-clause-checked : goal.returns-in-Some-clause-checked
@@ -49,7 +51,8 @@ returns-in-Some-clause-checked g c =
       lasts_then _ _ _ c.loop-place.invariant.2 c.damage_at.ensures.ends.lasts,
       (λ returned held.
           let so_far = c.loop-place.invariant.1 (c.damage_at.ensures.ends.lasts.returned returned) held in
-          let next = looks_next g.S.Store c.args.self.now now c.deref-place-items.result.now c.loop-place.place-index (to_z w64 (of_z w64 (get_or c.deref-place-items.result.now c.loop-place.place-index (pos 0)))) (pos 0) so_far (omega (arith, c.loop-place-test.true)) it in
+          let next = looks_next g.S.Store c.args.self.now now c.deref-place-items.result.now c.loop-place.place-index
+          (to_z w64 (of_z w64 (get_or c.deref-place-items.result.now c.loop-place.place-index (pos 0)))) (pos 0) so_far (omega (arith, c.loop-place-test.true)) it in
           let looked = rw c.in-Some.is at (c.in_ok-list.ensures.looked returned so_far.stays.1 next.it next.found) in
           let stays = both_stay g.S.Store c.args.self.now now c.damage_at.new.store so_far.stays looked.1 in
           (stays.1, (same_archive g.S.Store c.args.self.now c.damage_at.new.store stays, next.stops _ _ looked.0.0 looked.0.1 looked.0.2))),
@@ -61,7 +64,11 @@ returns-clause-checked g c = (
   (λ returned held.
       let so_far = c.loop-place.invariant.1 returned held in (
         so_far.stays.1,
-        (same_archive g.S.Store c.args.self.now c.loop-place.self so_far.stays, looked_all g.S.Store c.args.self.now c.loop-place.self c.deref-place-items.result.now c.loop-place.place-index so_far (search rules)),
+        (
+          same_archive g.S.Store c.args.self.now c.loop-place.self so_far.stays,
+          looked_all g.S.Store c.args.self.now c.loop-place.self c.deref-place-items.result.now
+              c.loop-place.place-index so_far (search rules),
+        ),
       )),
 )
 
@@ -74,7 +81,8 @@ returns-in_err-list-clause-caused g c = λ returned held free.
     let it : to_z w64 (of_z w64 (get_or c.deref-place-items.result.now c.loop-place.place-index (pos 0))) ≡ get_or c.deref-place-items.result.now c.loop-place.place-index (pos 0) = search rules in
     let now = c.loop-place.self in
     let so_far = c.loop-place.invariant.1 (c.damage_at.ensures.ends.lasts.returned returned) held in
-    let next = looks_next g.S.Store c.args.self.now now c.deref-place-items.result.now c.loop-place.place-index (to_z w64 (of_z w64 (get_or c.deref-place-items.result.now c.loop-place.place-index (pos 0)))) (pos 0) so_far (omega (arith, c.loop-place-test.true)) it in
+    let next = looks_next g.S.Store c.args.self.now now c.deref-place-items.result.now c.loop-place.place-index
+    (to_z w64 (of_z w64 (get_or c.deref-place-items.result.now c.loop-place.place-index (pos 0)))) (pos 0) so_far (omega (arith, c.loop-place-test.true)) it in
     check_failed c.from_residual-in_err-list.result c.in_err-list.field-0.0 _ c.from_residual-in_err-list.ensures.1
     (λ is. more_since (state g.S.Store c.args.self.now.conn) (state g.S.Store now.conn) (state g.S.Store c.damage_at.new.store.conn) c.loop-place.invariant.2
     (c.in_err-list.ensures.caused returned so_far.stays.1 (c.loop-place.invariant.2.limit ∙ free) next.it next.found is))

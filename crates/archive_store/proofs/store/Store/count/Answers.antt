@@ -46,7 +46,8 @@ returns-clause-ends g c = record {
       let old = state g.S.Store c.args.self.now.conn in
       let mid = state g.S.Store c.has_list.new.self.conn in
       blames c.pass.result (more_since old mid (state g.S.Store c.count_messages-count.new.conn) c.has_list.ensures.ends.lasts)
-      (blames_disk g.S.Store c.has_list.new.self.conn c.count_messages-count.new.conn c.count_messages-count.result c.pass.result c.pass.ensures.passed c.count_messages-count.ensures.caused clean has.0.0 (c.has_list.ensures.ends.lasts.limit ∙ free));
+      (blames_disk g.S.Store c.has_list.new.self.conn c.count_messages-count.new.conn c.count_messages-count.result c.pass.result c.pass.ensures.passed
+      c.count_messages-count.ensures.caused clean has.0.0 (c.has_list.ensures.ends.lasts.limit ∙ free));
 }
 
 -- ---- who is answered sees what was seen before

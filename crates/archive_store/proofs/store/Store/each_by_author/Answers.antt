@@ -9,5 +9,6 @@ pub returns-clause-begun : goal.returns-clause-begun
 returns-clause-begun g c =
     let list = c.args.list.now in
     let key = c.args.key.now in
-    begins_walk g.S.Store c.args.self.now c.find_places.new.store list (λ trees. author_places trees list key) (λ a. by_author a list key) (λ trees k. walked_author trees list key k) (author_of_list list key)
+    begins_walk g.S.Store c.args.self.now c.find_places.new.store list (λ trees. author_places trees list key) (λ a. by_author a list key)
+    (λ trees k. walked_author trees list key k) (author_of_list list key)
     (record { places = c.in_ok-places.places; at = 0 }) refl c.in_ok-places.ensures.ends c.in_ok-places.ensures.found

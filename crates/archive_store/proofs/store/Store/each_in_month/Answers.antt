@@ -9,5 +9,6 @@ pub returns-clause-begun : goal.returns-clause-begun
 returns-clause-begun g c =
     let list = c.args.list.now in
     let month = pos c.args.month in
-    begins_walk g.S.Store c.args.self.now c.find_places.new.store list (λ trees. month_places trees list month) (λ a. in_month a list month) (λ trees k. walked_month trees list month k) (month_of_list list month)
+    begins_walk g.S.Store c.args.self.now c.find_places.new.store list (λ trees. month_places trees list month) (λ a. in_month a list month)
+    (λ trees k. walked_month trees list month k) (month_of_list list month)
     (record { places = c.in_ok-places.places; at = 0 }) refl c.in_ok-places.ensures.ends c.in_ok-places.ensures.found

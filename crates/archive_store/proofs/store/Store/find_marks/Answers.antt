@@ -7,5 +7,6 @@ use Rattle.archive_store.proofs.CarryLemmas.{looks_passed}
 use Rattle.archive_store.proofs.store.Store.find_marks.Goals as goal
 
 pub returns : goal.returns
-returns g c = subst (λ key. Looks g.S.Store c.args.self.now (record { conn = c.marks-found.new.conn; wants = c.pass.new.self }) c.pass.result (λ a marks. marks ≡ option_map marks_of (message_of a c.args.list.now key)))
+returns g c = subst (λ key. Looks g.S.Store c.args.self.now (record { conn = c.marks-found.new.conn; wants = c.pass.new.self }) c.pass.result
+    (λ a marks. marks ≡ option_map marks_of (message_of a c.args.list.now key)))
     c.as_str.ensures (looks_passed g.S.Store c.pass.ensures.passed c.pass.ensures.kind c.pass.ensures.counted.0 c.marks-found.ensures)

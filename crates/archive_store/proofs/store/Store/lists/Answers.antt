@@ -34,7 +34,8 @@ returns-in_err-shown-clause-ends g c = record {
   counted = search rules;
   caused = λ clean kept free.
       passed_on c.from_residual.result c.in_err-shown.field-0.0 _ c.from_residual.ensures.1
-      (λ it. inl (blames_disk g.S.Store c.args.self.now.conn c.list_names.new.conn c.list_names.result (Err c.in_err-shown.field-0.0) c.in_err-shown.ensures.passed c.list_names.ensures.caused clean kept free it));
+      (λ it. inl (blames_disk g.S.Store c.args.self.now.conn c.list_names.new.conn c.list_names.result (Err c.in_err-shown.field-0.0) c.in_err-shown.ensures.passed
+      c.list_names.ensures.caused clean kept free it));
 }
 
 pub returns-clause-ends : goal.returns-clause-ends

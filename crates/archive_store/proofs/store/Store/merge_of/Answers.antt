@@ -18,7 +18,8 @@ returns-clause-answer g c =
     let one = asks g.S.Store c.args.self.now.conn c.args.self.now.conn c.has_list-listed.new.conn (λ _. ⊤) (λ a. true ≡ has_list a list)
     (begins g.S.Store c.args.self.now.conn) c.has_list-listed.ensures.ends.lasts.returned
     (λ clean kept. let it = passed_over c.has_list-listed.ensures c.in_ok-pass.ensures.passed clean kept in (sym c.if-not-branch.false ∙ it.0, it.1)) in
-    let two = asks g.S.Store c.args.self.now.conn c.has_list-listed.new.conn c.find_option-found.new.conn (λ a. ⊤ × (true ≡ has_list a list)) (λ a. found ≡ option_map (λ (o : ListOption). o.merge) (find (is_option_of list) a.options))
+    let two = asks g.S.Store c.args.self.now.conn c.has_list-listed.new.conn c.find_option-found.new.conn (λ a. ⊤ × (true ≡ has_list a list))
+    (λ a. found ≡ option_map (λ (o : ListOption). o.merge) (find (is_option_of list) a.options))
     one c.find_option-found.ensures.ends.lasts.returned
     (λ clean kept. passed_over c.find_option-found.ensures c.in_ok-pass-2.ensures.passed clean kept) in
     λ clean kept.

@@ -10,7 +10,8 @@ use Rattle.archive_store.proofs.store.Store.person_of_token.Goals as goal
 
 pub returns-clause-answer : goal.returns-clause-answer
 returns-clause-answer g c =
-    answers_passed g.S.Store c.args.self.now.conn c.person_of_token-name.new.conn c.person_of_token-name.result c.pass.result _ _ c.pass.ensures.passed c.pass.ensures.kind c.person_of_token-name.ensures
+    answers_passed g.S.Store c.args.self.now.conn c.person_of_token-name.new.conn c.person_of_token-name.result c.pass.result _ _ c.pass.ensures.passed
+    c.pass.ensures.kind c.person_of_token-name.ensures
 
 pub returns-clause-ends : goal.returns-clause-ends
 returns-clause-ends g c = record {
@@ -21,5 +22,6 @@ returns-clause-ends g c = record {
   counted = search rules;
   caused = λ clean kept free.
       blames_person _ c.pass.result (find (λ (p : Person). bytes_eq p.token c.args.token.now) (archive_of (state g.S.Store c.args.self.now.conn)).persons)
-      (blames_passed g.S.Store c.args.self.now.conn c.person_of_token-name.new.conn c.person_of_token-name.result c.pass.result _ c.pass.ensures.passed c.person_of_token-name.ensures.caused clean kept free);
+      (blames_passed g.S.Store c.args.self.now.conn c.person_of_token-name.new.conn c.person_of_token-name.result c.pass.result _ c.pass.ensures.passed
+      c.person_of_token-name.ensures.caused clean kept free);
 }

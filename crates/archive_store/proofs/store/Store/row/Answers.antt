@@ -75,7 +75,8 @@ returns-in_err-row-clause-ends g c = record {
       let has = c.in_ok-has_list.ensures.answer (c.message-found.ensures.ends.lasts.returned clean) kept in
       passed_on c.from_residual-in_err-row.result c.in_err-row.field-0.0 _ c.from_residual-in_err-row.ensures.1
       (λ it. inl (more_since (state g.S.Store c.args.self.now.conn) (state g.S.Store c.has_list.new.self.conn) (state g.S.Store c.message-found.new.conn) c.has_list.ensures.ends.lasts
-      (blames_disk g.S.Store c.has_list.new.self.conn c.message-found.new.conn c.message-found.result (Err c.in_err-row.field-0.0) c.in_err-row.ensures.passed c.message-found.ensures.caused clean has.0.0 (c.has_list.ensures.ends.lasts.limit ∙ free) it)));
+      (blames_disk g.S.Store c.has_list.new.self.conn c.message-found.new.conn c.message-found.result (Err c.in_err-row.field-0.0) c.in_err-row.ensures.passed
+      c.message-found.ensures.caused clean has.0.0 (c.has_list.ensures.ends.lasts.limit ∙ free) it)));
 }
 
 pub returns-in_err-pass_fault-in-Some-clause-ends : goal.returns-in_err-pass_fault-in-Some-clause-ends

@@ -82,8 +82,11 @@ returns-in-Err-push-clause-step g c = λ clean kept up.
     let before = c.loop-command.invariant.2 (c.carry_out.ensures.ends.lasts.returned clean) kept in
     let ran = ran_next first (state g.S.Store c.loop-command.self.conn) (state g.S.Store c.carry_out.new.self.conn) c.args.commands.now at c.command-item.result outcomes (outcomes ++ o ∷ []) o before
     c.in-Ok-carry_out.ensures.told (c.in-Ok-carry_out.ensures.step clean before.0) (omega (arith, c.loop-command-test.true)) c.command-item.is refl in
-    let len : vec_len c.loop-command.outcomes ≡ length outcomes = search rules in
-    (ran.0, ran.1 ∙ ap (λ commands. (run (archive_of first) commands).archive) (sym (first_commands c.args.commands.now (c.len-done.result + 1) (at + 1) (ap (λ n. n + 1) (c.len-done.ensures ∙ len ∙ c.loop-command.invariant.0)))))
+    let len : vec_len c.loop-command.outcomes ≡ length outcomes = search rules in (
+      ran.0,
+      ran.1 ∙ ap (λ commands. (run (archive_of first) commands).archive) (sym (first_commands c.args.commands.now (c.len-done.result + 1) (at + 1)
+          (ap (λ n. n + 1) (c.len-done.ensures ∙ len ∙ c.loop-command.invariant.0)))),
+    )
 
 pub returns-in-Err-carry_out-clause-bound : goal.returns-in-Err-carry_out-clause-bound
 returns-in-Err-carry_out-clause-bound g c =
@@ -195,6 +198,7 @@ returns-in-Err-push-clause-crash g c = λ clean kept safe db may.
     (λ a. step a (command_of c.command-item.result)) (answer_of o) c.in-Ok-carry_out.ensures.told steps
     (c.carry_out.ensures.crash before.0) clean (c.loop-command.invariant.5 was kept safe) in (
       archive_of new,
-      inl (ran.1 ∙ ap (λ commands. (run (archive_of first) commands).archive) (sym (first_commands c.args.commands.now (c.len-done.result + 1) (at + 1) (ap (λ n. n + 1) (c.len-done.ensures ∙ len ∙ c.loop-command.invariant.0))))),
+      inl (ran.1 ∙ ap (λ commands. (run (archive_of first) commands).archive) (sym (first_commands c.args.commands.now (c.len-done.result + 1) (at + 1)
+          (ap (λ n. n + 1) (c.len-done.ensures ∙ len ∙ c.loop-command.invariant.0))))),
       last db may,
     )

@@ -42,7 +42,8 @@ returns-then-not-branch-2-clause-answer g c = λ clean kept.
     let known = passed_answer c.has_person-known.ensures c.in_ok-pass.ensures.passed (c.has_list.ensures.ends.lasts.returned clean) kept in
     let has = c.in_ok-has_list.ensures.answer clean known.1 in (
       (has.0.0, has.0.1 ∙ known.2),
-      no_such_list c.args.person.now list (archive_of (state g.S.Store c.args.self.now.conn)) (sym c.if-not-branch.false ∙ known.0) (sym c.if-not-branch-2.true ∙ has.2 ∙ ap (λ a. has_list a list) known.2),
+      no_such_list c.args.person.now list (archive_of (state g.S.Store c.args.self.now.conn)) (sym c.if-not-branch.false ∙ known.0)
+          (sym c.if-not-branch-2.true ∙ has.2 ∙ ap (λ a. has_list a list) known.2),
     )
 
 pub returns-in_err-grants-clause-answer : goal.returns-in_err-grants-clause-answer
@@ -101,14 +102,16 @@ returns-in_err-pass-clause-ends g c = record {
   counted = search rules;
   caused = λ clean kept free.
       passed_on c.from_residual.result c.in_err-pass.field-0.0 _ c.from_residual.ensures.1
-      (λ it. inl (blames_disk g.S.Store c.args.self.now.conn c.has_person-known.new.conn c.has_person-known.result (Err c.in_err-pass.field-0.0) c.in_err-pass.ensures.passed c.has_person-known.ensures.caused clean kept free it));
+      (λ it. inl (blames_disk g.S.Store c.args.self.now.conn c.has_person-known.new.conn c.has_person-known.result (Err c.in_err-pass.field-0.0) c.in_err-pass.ensures.passed
+      c.has_person-known.ensures.caused clean kept free it));
 }
 
 pub returns-in_err-has_list-clause-ends : goal.returns-in_err-has_list-clause-ends
 returns-in_err-has_list-clause-ends g c = record {
   lasts = search rules;
   was_open = search rules;
-  kind = stops_for c.from_residual-in_err-has_list.result c.in_err-has_list.field-0.0 c.from_residual-in_err-has_list.ensures.1 (no_reason_of c.in_err-has_list.field-0.0 c.in_err-has_list.ensures.ends.kind) (no_person ∷ no_list ∷ []);
+  kind = stops_for c.from_residual-in_err-has_list.result c.in_err-has_list.field-0.0 c.from_residual-in_err-has_list.ensures.1
+      (no_reason_of c.in_err-has_list.field-0.0 c.in_err-has_list.ensures.ends.kind) (no_person ∷ no_list ∷ []);
   counted = search rules;
   caused = λ clean kept free.
       let known = passed_answer c.has_person-known.ensures c.in_ok-pass.ensures.passed (c.has_list.ensures.ends.lasts.returned clean) kept in
@@ -130,7 +133,8 @@ returns-in_err-grants-clause-ends g c = record {
       let lasts = lasts_then _ _ _ c.has_person-known.ensures.ends.lasts c.has_list.ensures.ends.lasts in
       passed_on c.from_residual-in_err-grants.result c.in_err-grants.field-0.0 _ c.from_residual-in_err-grants.ensures.1
       (λ it. inl (more_since (state g.S.Store c.args.self.now.conn) (state g.S.Store c.has_list.new.self.conn) (state g.S.Store c.grants_of-grants.new.conn) lasts
-      (blames_disk g.S.Store c.has_list.new.self.conn c.grants_of-grants.new.conn c.grants_of-grants.result (Err c.in_err-grants.field-0.0) c.in_err-grants.ensures.passed c.grants_of-grants.ensures.caused clean has.0.0 (lasts.limit ∙ free) it)));
+      (blames_disk g.S.Store c.has_list.new.self.conn c.grants_of-grants.new.conn c.grants_of-grants.result (Err c.in_err-grants.field-0.0) c.in_err-grants.ensures.passed
+      c.grants_of-grants.ensures.caused clean has.0.0 (lasts.limit ∙ free) it)));
 }
 
 pub returns-in_err-rank-clause-ends : goal.returns-in_err-rank-clause-ends
@@ -149,7 +153,8 @@ returns-in_err-rank-clause-ends g c = record {
       let a = archive_of (state g.S.Store c.args.self.now.conn) in
       passed_on c.from_residual-in_err-rank.result c.in_err-rank.field-0.0 _ c.from_residual-in_err-rank.ensures.1
       (blamed_last c.highest_rank.result (Err c.in_err-rank.field-0.0) _ _ c.in_err-rank.ensures.passed c.highest_rank.ensures.fault
-      (λ e wants it. want_is_not e (wants (filter (is_grant_of person list) a.grants) (c.deref.ensures.value ∙ found.0 ∙ ap (λ (a : Archive). map grant_shown (filter (is_grant_of person list) a.grants)) (has.0.1 ∙ known.2))) it));
+      (λ e wants it. want_is_not e (wants (filter (is_grant_of person list) a.grants) (c.deref.ensures.value ∙ found.0
+      ∙ ap (λ (a : Archive). map grant_shown (filter (is_grant_of person list) a.grants)) (has.0.1 ∙ known.2))) it));
 }
 
 pub returns-clause-ends : goal.returns-clause-ends
@@ -169,7 +174,8 @@ returns-clause-ends g c = record {
       let fits = rw c.in_ok-rank.ensures.passed at c.highest_rank.type_inv in
       let ranked = rw c.in_ok-rank.ensures.passed at c.highest_rank.ensures.found in
       let day = to_z w64 (of_z w64 c.day_number.result) in
-      inr (λ standing same. c.in-None.ensures.none refl standing (same ∙ sym (to_z-of_z w64 c.in_ok-rank.rank (record { sfits = assumption fits }) ∙ standing_is person list c.args.day day c.in_ok-rank.rank a
+      inr (λ standing same. c.in-None.ensures.none refl standing (same ∙ sym (to_z-of_z w64 c.in_ok-rank.rank (record { sfits = assumption fits })
+      ∙ standing_is person list c.args.day day c.in_ok-rank.rank a
       (to_z-of_z w64 c.day_number.result (record { sfits = c.day_number.type_inv }) ∙ c.day_number.ensures)
       (ranked (filter (is_grant_of person list) a.grants) (c.deref.ensures.value ∙ found.0 ∙ ap (λ (a : Archive). map grant_shown (filter (is_grant_of person list) a.grants)) (has.0.1 ∙ known.2))))));
 }

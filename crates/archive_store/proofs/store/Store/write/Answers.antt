@@ -20,7 +20,8 @@ returns-in-MergeSet g c =
 pub returns-in-PersonAdd : goal.returns-in-PersonAdd
 returns-in-PersonAdd g c =
     puts_as g.S.Store c.args.found.now c.in-PersonAdd.is
-    (puts_passed g.S.Store c.add_person-added.ensures c.pass-in-PersonAdd.ensures.passed c.pass-in-PersonAdd.ensures.kind c.pass-in-PersonAdd.ensures.counted.0 (λ a need. (tt, refl)) (λ db need refused. refused))
+    (puts_passed g.S.Store c.add_person-added.ensures c.pass-in-PersonAdd.ensures.passed c.pass-in-PersonAdd.ensures.kind c.pass-in-PersonAdd.ensures.counted.0
+    (λ a need. (tt, refl)) (λ db need refused. refused))
 
 pub returns-then-found : goal.returns-then-found
 returns-then-found g c =

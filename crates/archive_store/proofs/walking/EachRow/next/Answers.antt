@@ -37,7 +37,8 @@ returns-clause-given g c = λ returned list all a given w.
     let itself = to_z-of_z w64 place (record { sfits = assumption fits }) in
     let some : slice_get walk.places.items walk.at ≡ Some place = ap (λ l. slice_get l walk.at) (sym c.deref.ensures.value) ∙ sym c.place_at.ensures ∙ c.in-Some.is in
     let shown = rw itself at (c.in_ok-message.ensures.shown returned w.held) in
-    further g.S.Store list all a given (over c.args.store.now walk) c.message_at.new.store (walk.at + 1) walk.places.items place c.in_ok-message.message w (slice_get_within walk.places.items walk.at place some) refl refl shown.1 shown.2
+    further g.S.Store list all a given (over c.args.store.now walk) c.message_at.new.store (walk.at + 1) walk.places.items place c.in_ok-message.message w
+    (slice_get_within walk.places.items walk.at place some) refl refl shown.1 shown.2
     (shown.0.0, ap (message_at (rows_of g.S.Store c.args.store.now)) (get_or_from_slice_get walk.places.items walk.at place place some) ∙ shown.0.1, shown.0.2)
 
 pub returns-clause-left : goal.returns-clause-left

@@ -28,7 +28,8 @@ returns-clause-shown g c = record {
       let itself = to_z-of_z w64 place (record { sfits = assumption fits }) in
       let some : slice_get walk.places.items walk.at ≡ Some place = ap (λ l. slice_get l walk.at) (sym c.deref.ensures.value) ∙ sym c.place_at.ensures ∙ c.in-Some.is in
       let shown = rw itself at (c.in_ok-marks_at.ensures.shown returned w.held) in
-      seen_next g.S.Store list all a given (over c.args.store.now walk) c.marks_at.new.store walk.at walk.places.items place c.in_ok-marks_at.field-0 w (slice_get_within walk.places.items walk.at place some) refl refl shown.1 shown.2
+      seen_next g.S.Store list all a given (over c.args.store.now walk) c.marks_at.new.store walk.at walk.places.items place c.in_ok-marks_at.field-0 w
+      (slice_get_within walk.places.items walk.at place some) refl refl shown.1 shown.2
       (shown.0.0, ap (message_at (rows_of g.S.Store c.args.store.now)) (get_or_from_slice_get walk.places.items walk.at place place some) ∙ shown.0.1, shown.0.2);
   left = refl;
   ahead =

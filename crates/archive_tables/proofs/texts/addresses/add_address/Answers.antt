@@ -21,6 +21,8 @@ ours a = tt
 
 pub returns : goal.returns
 returns g c =
-    write_freely (adding_address (record { person = c.args.person.now; address = c.args.address.now })) (λ a. record a { addresses = a.addresses ++ record { person = c.args.person.now; address = c.args.address.now } ∷ [] }) (knows (record { person = c.args.person.now; address = c.args.address.now })) (ours (record { person = c.args.person.now; address = c.args.address.now }))
+    write_freely (adding_address (record { person = c.args.person.now; address = c.args.address.now }))
+    (λ a. record a { addresses = a.addresses ++ record { person = c.args.person.now; address = c.args.address.now } ∷ [] })
+    (knows (record { person = c.args.person.now; address = c.args.address.now })) (ours (record { person = c.args.person.now; address = c.args.address.now }))
     (λ behind old new r. tries_to_add behind old new (record { person = c.args.person.now; address = c.args.address.now }) r) c.execute.result
     (rw (c.params-to_sql.ensures, c.params-to_sql-2.ensures) at c.execute.ensures.survives) (λ clean. rw (c.params-to_sql.ensures, c.params-to_sql-2.ensures) at (c.execute.ensures.runs clean))

@@ -22,6 +22,8 @@ ours a = tt
 
 pub returns : goal.returns
 returns g c =
-    write_freely (changing_address (record { person = c.args.person.now; address = c.args.address.now })) (λ a. record a { addresses = map (readdressed (record { person = c.args.person.now; address = c.args.address.now })) a.addresses }) (knows (record { person = c.args.person.now; address = c.args.address.now })) (ours (record { person = c.args.person.now; address = c.args.address.now }))
+    write_freely (changing_address (record { person = c.args.person.now; address = c.args.address.now }))
+    (λ a. record a { addresses = map (readdressed (record { person = c.args.person.now; address = c.args.address.now })) a.addresses })
+    (knows (record { person = c.args.person.now; address = c.args.address.now })) (ours (record { person = c.args.person.now; address = c.args.address.now }))
     (tries_to_change c.args.person.now c.args.address.now) c.execute.result
     (rw (c.params-to_sql.ensures, c.params-to_sql-2.ensures) at c.execute.ensures.survives) (λ clean. rw (c.params-to_sql.ensures, c.params-to_sql-2.ensures) at (c.execute.ensures.runs clean))

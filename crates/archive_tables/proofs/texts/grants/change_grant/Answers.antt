@@ -27,6 +27,12 @@ returns g c =
     let rank = c.params-to_sql-3.ensures ∙ ap Int (to_z-of_z w64 c.args.rank c.ranges.rank) in
     let from = c.params-to_sql-4.ensures ∙ ap Int (to_z-of_z w64 c.args.from_day c.ranges.from_day) in
     let until = c.params-to_sql-5.ensures ∙ ap Int (to_z-of_z w64 c.args.until_day c.ranges.until_day) in
-    write_freely (changing_grant (record { person = c.args.person.now; list = c.args.list.now; rank = c.args.rank; from_day = c.args.from_day; until_day = c.args.until_day })) (λ a. record a { grants = map (λ g. if is_grant c.args.person.now c.args.list.now c.args.rank g then record g { from_day = c.args.from_day; until_day = c.args.until_day } else g) a.grants }) (knows (record { person = c.args.person.now; list = c.args.list.now; rank = c.args.rank; from_day = c.args.from_day; until_day = c.args.until_day })) (ours (record { person = c.args.person.now; list = c.args.list.now; rank = c.args.rank; from_day = c.args.from_day; until_day = c.args.until_day }))
+    write_freely (changing_grant (record { person = c.args.person.now; list = c.args.list.now; rank = c.args.rank; from_day = c.args.from_day; until_day = c.args.until_day }))
+    (λ a. record a {
+      grants = map (λ g. if is_grant c.args.person.now c.args.list.now c.args.rank g then record g { from_day = c.args.from_day; until_day = c.args.until_day }
+          else g) a.grants;
+    }) (knows (record { person = c.args.person.now; list = c.args.list.now; rank = c.args.rank; from_day = c.args.from_day; until_day = c.args.until_day }))
+    (ours (record { person = c.args.person.now; list = c.args.list.now; rank = c.args.rank; from_day = c.args.from_day; until_day = c.args.until_day }))
     (tries_to_change c.args.person.now c.args.list.now c.args.rank c.args.from_day c.args.until_day) c.execute.result
-    (rw (c.params-to_sql.ensures, c.params-to_sql-2.ensures, rank, from, until) at c.execute.ensures.survives) (λ clean. rw (c.params-to_sql.ensures, c.params-to_sql-2.ensures, rank, from, until) at (c.execute.ensures.runs clean))
+    (rw (c.params-to_sql.ensures, c.params-to_sql-2.ensures, rank, from, until) at c.execute.ensures.survives)
+    (λ clean. rw (c.params-to_sql.ensures, c.params-to_sql-2.ensures, rank, from, until) at (c.execute.ensures.runs clean))

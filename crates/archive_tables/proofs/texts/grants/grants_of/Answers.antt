@@ -24,7 +24,8 @@ asks = tt
 
 asked : (behind : Option Database) (old new : State) (person list : List ℕ) (r : Result (Vec Row Global) Error) → IsHeld behind old
     → IfOk r (λ rows. Shown both_text (Text person ∷ Text list ∷ []) old new rows.items) → IfErr r (FailsToQuery both_text (Text person ∷ Text list ∷ []) old new)
-    → MatchResult r (λ rows. (rows.items ≡ map grant_shown (filter (λ g. bytes_eq g.person person && bytes_eq g.list list) (archive_of old).grants)) × StaysOver behind old new) (λ _. RestsOver behind old new)
+    → MatchResult r (λ rows. (rows.items ≡ map grant_shown (filter (λ g. bytes_eq g.person person && bytes_eq g.list list) (archive_of old).grants)) × StaysOver behind old new)
+    (λ _. RestsOver behind old new)
 asked behind old new person list (Ok rows) k ok err = of_person old new person list k rows.items ok
 asked behind old new person list (Err e) k ok err = not_of_person old new person list k e err
 
@@ -38,5 +39,6 @@ returns g c =
     let old = state g.S.Store c.args.conn.now in
     let new = state g.S.Store c.query_all.new.self in
     asks_shows _ _ asks c.query_all.result c.query_all.ensures.survives c.query_all.ensures.ok c.query_all.ensures.err
-    (λ clean behind k. asked behind old new c.args.person.now c.args.list.now c.query_all.result k (rw (c.params-to_sql.ensures, c.params-to_sql-2.ensures) at (c.query_all.ensures.ok clean)) (rw (c.params-to_sql.ensures, c.params-to_sql-2.ensures) at (c.query_all.ensures.err clean)))
+    (λ clean behind k. asked behind old new c.args.person.now c.args.list.now c.query_all.result k
+    (rw (c.params-to_sql.ensures, c.params-to_sql-2.ensures) at (c.query_all.ensures.ok clean)) (rw (c.params-to_sql.ensures, c.params-to_sql-2.ensures) at (c.query_all.ensures.err clean)))
     (λ clean k free. why old new c.args.person.now c.args.list.now c.query_all.result k free (rw (c.params-to_sql.ensures, c.params-to_sql-2.ensures) at (c.query_all.ensures.err clean)))

@@ -24,7 +24,12 @@ returns g c =
     let len : vec_len c.in_ok-rows.rows ≡ length rows = search rules in
     asks_answers _ _ asks c.query_all.result c.query_all.ensures.survives c.query_all.ensures.ok c.query_all.ensures.err _ rows c.in_ok-rows.ensures.ok
     (λ clean behind k.
-    let it = has old new c.args.person.now c.args.list.now k c.args.rank rows (rw (c.params-to_sql.ensures, c.params-to_sql-2.ensures, c.params-to_sql-3.ensures ∙ ap Int (to_z-of_z w64 c.args.rank c.ranges.rank)) at (c.in_ok-rows.ensures.ok clean)) in
+    let it = has old new c.args.person.now c.args.list.now k c.args.rank rows (rw (
+      c.params-to_sql.ensures,
+      c.params-to_sql-2.ensures,
+      c.params-to_sql-3.ensures
+          ∙ ap Int (to_z-of_z w64 c.args.rank c.ranges.rank),
+    ) at (c.in_ok-rows.ensures.ok clean)) in
     (ap not c.is_empty.ensures ∙ ap (λ n. not (n == 0)) len ∙ it.0, it.1))
 
 pub returns-in_err-rows : goal.returns-in_err-rows
@@ -33,5 +38,7 @@ returns-in_err-rows g c =
     let new = state g.S.Store c.query_all.new.self in
     let error = c.in_err-rows.field-0.0 in
     asks_fails _ _ asks c.query_all.result c.query_all.ensures.survives c.query_all.ensures.ok c.query_all.ensures.err c.from_residual.result error c.from_residual.ensures.1
-    (λ clean behind k. has_not old new c.args.person.now c.args.list.now k c.args.rank error (rw (c.params-to_sql.ensures, c.params-to_sql-2.ensures, c.params-to_sql-3.ensures ∙ ap Int (to_z-of_z w64 c.args.rank c.ranges.rank)) at (c.in_err-rows.ensures.err clean)))
-    (λ clean k free. inl (has_not_caused old new c.args.person.now c.args.list.now k c.args.rank error (rw (c.params-to_sql.ensures, c.params-to_sql-2.ensures, c.params-to_sql-3.ensures ∙ ap Int (to_z-of_z w64 c.args.rank c.ranges.rank)) at (c.in_err-rows.ensures.err clean)) free))
+    (λ clean behind k. has_not old new c.args.person.now c.args.list.now k c.args.rank error
+    (rw (c.params-to_sql.ensures, c.params-to_sql-2.ensures, c.params-to_sql-3.ensures ∙ ap Int (to_z-of_z w64 c.args.rank c.ranges.rank)) at (c.in_err-rows.ensures.err clean)))
+    (λ clean k free. inl (has_not_caused old new c.args.person.now c.args.list.now k c.args.rank error
+    (rw (c.params-to_sql.ensures, c.params-to_sql-2.ensures, c.params-to_sql-3.ensures ∙ ap Int (to_z-of_z w64 c.args.rank c.ranges.rank)) at (c.in_err-rows.ensures.err clean)) free))

@@ -24,6 +24,10 @@ ours person list rank = tt
 pub returns : goal.returns
 returns g c =
     let rank = c.params-to_sql-3.ensures ∙ ap Int (to_z-of_z w64 c.args.rank c.ranges.rank) in
-    write_freely (removing_grant c.args.person.now c.args.list.now c.args.rank) (λ a. record a { grants = filter (λ g. not (is_grant c.args.person.now c.args.list.now c.args.rank g)) a.grants }) (knows c.args.person.now c.args.list.now c.args.rank) (ours c.args.person.now c.args.list.now c.args.rank)
+    write_freely (removing_grant c.args.person.now c.args.list.now c.args.rank) (λ a. record a {
+      grants = filter (λ g. not (is_grant c.args.person.now c.args.list.now c.args.rank g))
+          a.grants;
+    }) (knows c.args.person.now c.args.list.now c.args.rank) (ours c.args.person.now c.args.list.now c.args.rank)
     (tries_to_remove c.args.person.now c.args.list.now c.args.rank) c.execute.result
-    (rw (c.params-to_sql.ensures, c.params-to_sql-2.ensures, rank) at c.execute.ensures.survives) (λ clean. rw (c.params-to_sql.ensures, c.params-to_sql-2.ensures, rank) at (c.execute.ensures.runs clean))
+    (rw (c.params-to_sql.ensures, c.params-to_sql-2.ensures, rank) at c.execute.ensures.survives)
+    (λ clean. rw (c.params-to_sql.ensures, c.params-to_sql-2.ensures, rank) at (c.execute.ensures.runs clean))

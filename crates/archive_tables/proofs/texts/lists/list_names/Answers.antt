@@ -26,7 +26,8 @@ asks = tt
 
 asked : (behind : Option Database) (old new : State) (r : Result (Vec Row Global) Error) → IsHeld behind old
     → IfOk r (λ rows. Shown names_text [] old new rows.items) → IfErr r (FailsToQuery names_text [] old new)
-    → MatchResult r (λ rows. ((names : List (List ℕ)) × (rows.items ≡ map name_shown names) × IsPermutation (archive_of old).lists names × IsSorted (slice_cmp nat_cmp) names) × StaysOver behind old new) (λ _. RestsOver behind old new)
+    → MatchResult r (λ rows. ((names : List (List ℕ)) × (rows.items ≡ map name_shown names) × IsPermutation (archive_of old).lists names × IsSorted (slice_cmp nat_cmp) names)
+    × StaysOver behind old new) (λ _. RestsOver behind old new)
 asked behind old new (Ok rows) k ok err = names_found old new k rows.items ok
 asked behind old new (Err e) k ok err = names_not_found old new k e err
 

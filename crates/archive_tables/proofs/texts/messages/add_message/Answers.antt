@@ -26,6 +26,20 @@ returns g c =
     let number = c.params-to_sql-4.ensures ∙ ap Int (to_z-of_z w64 c.args.arrival c.ranges.arrival) in
     let date = c.params-to_sql-6.ensures ∙ ap Int (to_z-of_z w64 c.args.sent c.ranges.sent) in
     let month = c.params-to_sql-7.ensures ∙ ap Int (to_z-of_z w64 c.args.month c.ranges.month) in
-    write_whole (adding_message (new_message c.args.list.now c.args.key.now c.args.sender.now c.args.arrival c.args.text.now) (record { sent = c.args.sent; month = c.args.month; author = c.args.author.now })) _ _ (knows (new_message c.args.list.now c.args.key.now c.args.sender.now c.args.arrival c.args.text.now) (record { sent = c.args.sent; month = c.args.month; author = c.args.author.now })) (ours (new_message c.args.list.now c.args.key.now c.args.sender.now c.args.arrival c.args.text.now) (record { sent = c.args.sent; month = c.args.month; author = c.args.author.now }))
+    write_whole (adding_message (new_message c.args.list.now c.args.key.now c.args.sender.now c.args.arrival c.args.text.now)
+    (record { sent = c.args.sent; month = c.args.month; author = c.args.author.now })) _ _
+    (knows (new_message c.args.list.now c.args.key.now c.args.sender.now c.args.arrival c.args.text.now)
+    (record { sent = c.args.sent; month = c.args.month; author = c.args.author.now }))
+    (ours (new_message c.args.list.now c.args.key.now c.args.sender.now c.args.arrival c.args.text.now) (record { sent = c.args.sent; month = c.args.month; author = c.args.author.now }))
     (tries_to_add c.args.list.now c.args.key.now c.args.sender.now c.args.arrival c.args.text.now (record { sent = c.args.sent; month = c.args.month; author = c.args.author.now })) c.execute.result
-    (rw (c.params-to_sql.ensures, c.params-to_sql-2.ensures, c.params-to_sql-3.ensures, number, c.params-to_sql-5.ensures, date, month, c.params-to_sql-8.ensures) at c.execute.ensures.survives) (λ clean. rw (c.params-to_sql.ensures, c.params-to_sql-2.ensures, c.params-to_sql-3.ensures, number, c.params-to_sql-5.ensures, date, month, c.params-to_sql-8.ensures) at (c.execute.ensures.runs clean))
+    (rw (c.params-to_sql.ensures, c.params-to_sql-2.ensures, c.params-to_sql-3.ensures, number, c.params-to_sql-5.ensures, date, month, c.params-to_sql-8.ensures)
+    at c.execute.ensures.survives) (λ clean. rw (
+      c.params-to_sql.ensures,
+      c.params-to_sql-2.ensures,
+      c.params-to_sql-3.ensures,
+      number,
+      c.params-to_sql-5.ensures,
+      date,
+      month,
+      c.params-to_sql-8.ensures,
+    ) at (c.execute.ensures.runs clean))

@@ -21,6 +21,9 @@ ours list key = tt
 
 pub returns : goal.returns
 returns g c =
-    write_freely (freeing c.args.list.now c.args.key.now) (λ a. record a { messages = map (λ m. if is_message c.args.list.now c.args.key.now m then record m { embargo = None } else m) a.messages }) (knows c.args.list.now c.args.key.now) (ours c.args.list.now c.args.key.now)
+    write_freely (freeing c.args.list.now c.args.key.now) (λ a. record a {
+      messages = map (λ m. if is_message c.args.list.now c.args.key.now m then record m { embargo = None } else m)
+          a.messages;
+    }) (knows c.args.list.now c.args.key.now) (ours c.args.list.now c.args.key.now)
     (tries_to_clear c.args.list.now c.args.key.now) c.execute.result
     (rw (c.params-to_sql.ensures, c.params-to_sql-2.ensures) at c.execute.ensures.survives) (λ clean. rw (c.params-to_sql.ensures, c.params-to_sql-2.ensures) at (c.execute.ensures.runs clean))

@@ -67,5 +67,8 @@ returns g c =
     let number = c.params-to_sql.ensures ∙ ap Int (to_z-of_z w64 c.args.place c.ranges.place) in
     asks_rows_answers _ _ asks c.query_all.result c.query_all.ensures.survives c.query_all.ensures.ok c.query_all.ensures.err _ rows c.in_ok-rows.ensures.ok
     (λ clean behind k.
-    let found = marks_found old new k c.args.place rows (rw number at (c.in_ok-rows.ensures.ok clean)) in
-    (sym (ap (λ o. option_map dated_marks_of (option_map (λ (r : Numbered Filed). r.it.0) o)) (none_found (is_at c.args.place) (λ (r : Numbered Filed). dated_marks_shown r.it.0) _ rows found.0 first)), found.1))
+    let found = marks_found old new k c.args.place rows (rw number at (c.in_ok-rows.ensures.ok clean)) in (
+      sym (ap (λ o. option_map dated_marks_of (option_map (λ (r : Numbered Filed). r.it.0) o))
+          (none_found (is_at c.args.place) (λ (r : Numbered Filed). dated_marks_shown r.it.0) _ rows found.0 first)),
+      found.1,
+    ))

@@ -38,5 +38,6 @@ returns g c =
     let old = state g.S.Store c.args.conn.now in
     let new = state g.S.Store c.query_all.new.self in
     asks_rows_shows _ _ asks c.query_all.result c.query_all.ensures.survives c.query_all.ensures.ok c.query_all.ensures.err
-    (λ clean behind k. found behind old new c.args.list.now c.query_all.result k (rw c.params-to_sql.ensures at (c.query_all.ensures.ok clean)) (rw c.params-to_sql.ensures at (c.query_all.ensures.err clean)))
+    (λ clean behind k. found behind old new c.args.list.now c.query_all.result k (rw c.params-to_sql.ensures at (c.query_all.ensures.ok clean))
+    (rw c.params-to_sql.ensures at (c.query_all.ensures.err clean)))
     (λ clean k free. why old new c.args.list.now c.query_all.result k free (rw c.params-to_sql.ensures at (c.query_all.ensures.err clean)))

@@ -30,7 +30,8 @@ returns-clause-asks g c =
 
 pub returns-clause-number : goal.returns-clause-number
 returns-clause-number g c clean k =
-    let it = reached_number (state g.S.Store c.args.conn.now) (state g.S.Store c.query_all.new.self) c.args.limit k c.in_ok-rows.rows.items (rw c.params-to_sql.ensures at (c.in_ok-rows.ensures.ok clean)) in
+    let it = reached_number (state g.S.Store c.args.conn.now) (state g.S.Store c.query_all.new.self) c.args.limit k c.in_ok-rows.rows.items
+    (rw c.params-to_sql.ensures at (c.in_ok-rows.ensures.ok clean)) in
     let len : vec_len c.in_ok-rows.rows ≡ length c.in_ok-rows.rows.items = search rules in
     ap not c.is_empty.ensures ∙ ap (λ n. not (n == 0)) len ∙ it
 

@@ -24,6 +24,11 @@ ours list key until = tt
 pub returns : goal.returns
 returns g c =
     let number = c.params-to_sql-3.ensures ∙ ap Int (to_z-of_z w64 c.args.until c.ranges.until) in
-    write_freely (holding_back c.args.list.now c.args.key.now c.args.until) (λ a. record a { messages = map (λ m. if is_message c.args.list.now c.args.key.now m then record m { embargo = Some c.args.until } else m) a.messages }) (knows c.args.list.now c.args.key.now c.args.until) (ours c.args.list.now c.args.key.now c.args.until)
+    write_freely (holding_back c.args.list.now c.args.key.now c.args.until) (λ a. record a {
+      messages = map
+          (λ m. if is_message c.args.list.now c.args.key.now m then record m { embargo = Some c.args.until } else m) a.messages;
+    }) (knows c.args.list.now c.args.key.now c.args.until)
+    (ours c.args.list.now c.args.key.now c.args.until)
     (tries_embargo c.args.list.now c.args.key.now c.args.until) c.execute.result
-    (rw (c.params-to_sql.ensures, c.params-to_sql-2.ensures, number) at c.execute.ensures.survives) (λ clean. rw (c.params-to_sql.ensures, c.params-to_sql-2.ensures, number) at (c.execute.ensures.runs clean))
+    (rw (c.params-to_sql.ensures, c.params-to_sql-2.ensures, number) at c.execute.ensures.survives)
+    (λ clean. rw (c.params-to_sql.ensures, c.params-to_sql-2.ensures, number) at (c.execute.ensures.runs clean))

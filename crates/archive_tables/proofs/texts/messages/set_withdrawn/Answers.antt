@@ -24,6 +24,11 @@ ours list key by = tt
 pub returns : goal.returns
 returns g c =
     let number = c.params-to_sql-3.ensures ∙ ap Int (to_z-of_z w64 c.args.by c.ranges.by) in
-    write_freely (withdrawing c.args.list.now c.args.key.now c.args.by) (λ a. record a { messages = map (λ m. if is_message c.args.list.now c.args.key.now m then record m { withdrawn = c.args.by } else m) a.messages }) (knows c.args.list.now c.args.key.now c.args.by) (ours c.args.list.now c.args.key.now c.args.by)
+    write_freely (withdrawing c.args.list.now c.args.key.now c.args.by) (λ a. record a {
+      messages = map
+          (λ m. if is_message c.args.list.now c.args.key.now m then record m { withdrawn = c.args.by } else m) a.messages;
+    }) (knows c.args.list.now c.args.key.now c.args.by)
+    (ours c.args.list.now c.args.key.now c.args.by)
     (tries_withdrawn c.args.list.now c.args.key.now c.args.by) c.execute.result
-    (rw (c.params-to_sql.ensures, c.params-to_sql-2.ensures, number) at c.execute.ensures.survives) (λ clean. rw (c.params-to_sql.ensures, c.params-to_sql-2.ensures, number) at (c.execute.ensures.runs clean))
+    (rw (c.params-to_sql.ensures, c.params-to_sql-2.ensures, number) at c.execute.ensures.survives)
+    (λ clean. rw (c.params-to_sql.ensures, c.params-to_sql-2.ensures, number) at (c.execute.ensures.runs clean))

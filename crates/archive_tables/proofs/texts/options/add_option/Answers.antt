@@ -24,6 +24,8 @@ ours o = tt
 pub returns : goal.returns
 returns g c =
     let number = c.params-to_sql-2.ensures ∙ ap Int (ap (λ n. cast_signed w64 (cast_unsigned w64 n)) c.merge_number-number.ensures ∙ number_is c.args.merge) in
-    write_freely (adding_option (record { list = c.args.list.now; merge = c.args.merge })) (λ a. record a { options = a.options ++ record { list = c.args.list.now; merge = c.args.merge } ∷ [] }) (knows (record { list = c.args.list.now; merge = c.args.merge })) (ours (record { list = c.args.list.now; merge = c.args.merge }))
+    write_freely (adding_option (record { list = c.args.list.now; merge = c.args.merge }))
+    (λ a. record a { options = a.options ++ record { list = c.args.list.now; merge = c.args.merge } ∷ [] }) (knows (record { list = c.args.list.now; merge = c.args.merge }))
+    (ours (record { list = c.args.list.now; merge = c.args.merge }))
     (λ behind old new r. tries_to_add behind old new (record { list = c.args.list.now; merge = c.args.merge }) r) c.execute.result
     (rw (c.params-to_sql.ensures, number) at c.execute.ensures.survives) (λ clean. rw (c.params-to_sql.ensures, number) at (c.execute.ensures.runs clean))

@@ -24,7 +24,8 @@ moves old new before said archive k empty (Ok count) h = copies old new before s
 moves old new before said archive k empty (Err e) h = tt
 
 pub returns-clause-moved : goal.returns-clause-moved
-returns-clause-moved g c clean before said archive k empty = moves (state g.S.Store c.args.conn.now) (state g.S.Store c.execute.new.self) before said archive k empty c.execute.result (c.execute.ensures.runs clean)
+returns-clause-moved g c clean before said archive k empty = moves (state g.S.Store c.args.conn.now) (state g.S.Store c.execute.new.self) before said archive k
+    empty c.execute.result (c.execute.ensures.runs clean)
 
 stays : (old new : State) (before : Database) → IsWithin old before schema_2 → (r : Result ℕ Error) → Executes copy_text [] old new r → OnOk r (IsWithin new before schema_2)
 stays old new before k (Ok count) h = copy_within old new before count k h

@@ -25,6 +25,7 @@ ours o = tt
 pub returns : goal.returns
 returns g c =
     let number = c.params-to_sql-2.ensures ∙ ap Int (ap (λ n. cast_signed w64 (cast_unsigned w64 n)) c.merge_number-number.ensures ∙ number_is c.args.merge) in
-    write_freely (changing_option (record { list = c.args.list.now; merge = c.args.merge })) (λ a. record a { options = map (with_merge c.args.list.now c.args.merge) a.options }) (knows (record { list = c.args.list.now; merge = c.args.merge })) (ours (record { list = c.args.list.now; merge = c.args.merge }))
+    write_freely (changing_option (record { list = c.args.list.now; merge = c.args.merge })) (λ a. record a { options = map (with_merge c.args.list.now c.args.merge) a.options })
+    (knows (record { list = c.args.list.now; merge = c.args.merge })) (ours (record { list = c.args.list.now; merge = c.args.merge }))
     (tries_to_change c.args.list.now c.args.merge) c.execute.result
     (rw (c.params-to_sql.ensures, number) at c.execute.ensures.survives) (λ clean. rw (c.params-to_sql.ensures, number) at (c.execute.ensures.runs clean))

@@ -21,6 +21,8 @@ ours p = tt
 
 pub returns : goal.returns
 returns g c =
-    write_freely (adding_person (record { name = c.args.name.now; token = c.args.token.now })) (λ a. record a { persons = a.persons ++ record { name = c.args.name.now; token = c.args.token.now } ∷ [] }) (knows (record { name = c.args.name.now; token = c.args.token.now })) (ours (record { name = c.args.name.now; token = c.args.token.now }))
+    write_freely (adding_person (record { name = c.args.name.now; token = c.args.token.now }))
+    (λ a. record a { persons = a.persons ++ record { name = c.args.name.now; token = c.args.token.now } ∷ [] }) (knows (record { name = c.args.name.now; token = c.args.token.now }))
+    (ours (record { name = c.args.name.now; token = c.args.token.now }))
     (λ behind old new r. tries_to_add behind old new (record { name = c.args.name.now; token = c.args.token.now }) r) c.execute.result
     (rw (c.params-to_sql.ensures, c.params-to_sql-2.ensures) at c.execute.ensures.survives) (λ clean. rw (c.params-to_sql.ensures, c.params-to_sql-2.ensures) at (c.execute.ensures.runs clean))

@@ -24,7 +24,8 @@ done old new before k (Ok count) h = makes_whole old new before count k h
 done old new before k (Err e) h = tt
 
 pub returns-clause-made : goal.returns-clause-made
-returns-clause-made g c clean before k = done (state g.S.Store c.args.conn.now) (state g.S.Store c.execute.new.self) before k c.execute.result (rw c.params-to_sql.ensures at (c.execute.ensures.runs clean))
+returns-clause-made g c clean before k = done (state g.S.Store c.args.conn.now) (state g.S.Store c.execute.new.self) before k c.execute.result
+    (rw c.params-to_sql.ensures at (c.execute.ensures.runs clean))
 
 ours : IsOurText (first version_text)
 unfolding first everything
@@ -35,7 +36,8 @@ unfolding understood everything
 knows = record { fits = (refl, refl); plain = (refl, refl); writes = tt }
 
 pub returns-clause-ends : goal.returns-clause-ends
-returns-clause-ends g c = step_ends archive_schema adding_version _ c.execute.result knows ours (rw c.params-to_sql.ensures at c.execute.ensures.survives) (λ clean. rw c.params-to_sql.ensures at (c.execute.ensures.runs clean))
+returns-clause-ends g c = step_ends archive_schema adding_version _ c.execute.result knows ours (rw c.params-to_sql.ensures at c.execute.ensures.survives)
+    (λ clean. rw c.params-to_sql.ensures at (c.execute.ensures.runs clean))
 
 goes_on : EndsNothing (command_of (understood archive_schema version_text))
 unfolding understood everything

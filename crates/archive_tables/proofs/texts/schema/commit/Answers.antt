@@ -22,7 +22,8 @@ use Rattle.archive_tables.proofs.CrashLemmas.{commit_adds}
 use Rattle.sqlite.proofs.Callers.{IsPlain, command_of, runs_as}
 use Rattle.archive_tables.proofs.texts.schema.commit.Goals as goal
 
-done : (old new : State) (before : Database) (archive : Archive) → IsMade old before archive → (r : Result ℕ Error) → Executes commit_text [] old new r → OnOk r (IsKept new × (archive_of new ≡ archive))
+done : (old new : State) (before : Database) (archive : Archive) → IsMade old before archive → (r : Result ℕ Error) → Executes commit_text [] old new r
+    → OnOk r (IsKept new × (archive_of new ≡ archive))
 done old new before archive k (Ok count) h = commits old new before archive count k h
 done old new before archive k (Err e) h = tt
 

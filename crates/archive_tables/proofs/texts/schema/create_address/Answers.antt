@@ -33,7 +33,8 @@ pub returns-clause-made : goal.returns-clause-made
 returns-clause-made g c clean before k = done (state g.S.Store c.args.conn.now) (state g.S.Store c.execute.new.self) before k c.execute.result (c.execute.ensures.runs clean)
 
 pub returns-clause-moved : goal.returns-clause-moved
-returns-clause-moved g c clean before said archive k = moves (state g.S.Store c.args.conn.now) (state g.S.Store c.execute.new.self) before said archive k c.execute.result (c.execute.ensures.runs clean)
+returns-clause-moved g c clean before said archive k = moves (state g.S.Store c.args.conn.now) (state g.S.Store c.execute.new.self) before said archive k c.execute.result
+    (c.execute.ensures.runs clean)
 
 stays : (old new : State) (before : Database) → IsWithin old before schema_2 → (r : Result ℕ Error) → Executes create_address [] old new r → OnOk r (IsWithin new before archive_schema)
 stays old new before k (Ok count) h = address_within old new before count k h

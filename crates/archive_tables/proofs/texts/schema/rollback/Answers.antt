@@ -16,7 +16,8 @@ use Rattle.archive_tables.proofs.CrashLemmas.{transaction_adds}
 use Rattle.sqlite_tied.specs.Compute.{everything}
 use Rattle.archive_tables.proofs.texts.schema.rollback.Goals as goal
 
-done : (old new : State) → (r : Result ℕ Error) → Executes rollback_text [] old new r → OnOk r (IsTrue new.is_open → IsTrue old.is_open × (new.now ≡ old.committed) × (new.committed ≡ old.committed) × (new.in_transaction ≡ false))
+done : (old new : State) → (r : Result ℕ Error) → Executes rollback_text [] old new r → OnOk r
+    (IsTrue new.is_open → IsTrue old.is_open × (new.now ≡ old.committed) × (new.committed ≡ old.committed) × (new.in_transaction ≡ false))
 done old new (Ok count) h = undoes old new count h
 done old new (Err e) h = tt
 

@@ -27,14 +27,17 @@ moves old new before said archive k (Ok count) h = moves_version old new before 
 moves old new before said archive k (Err e) h = tt
 
 pub returns-clause-moved : goal.returns-clause-moved
-returns-clause-moved g c clean before said archive k = moves (state g.S.Store c.args.conn.now) (state g.S.Store c.execute.new.self) before said archive k c.execute.result (rw c.params-to_sql.ensures at (c.execute.ensures.runs clean))
+returns-clause-moved g c clean before said archive k = moves (state g.S.Store c.args.conn.now) (state g.S.Store c.execute.new.self) before said archive k c.execute.result
+    (rw c.params-to_sql.ensures at (c.execute.ensures.runs clean))
 
-stays : (old new : State) (before : Database) → IsWithin old before archive_schema → (r : Result ℕ Error) → Executes number_text (Int VERSION ∷ []) old new r → OnOk r (IsWithin new before archive_schema)
+stays : (old new : State) (before : Database) → IsWithin old before archive_schema → (r : Result ℕ Error) → Executes number_text (Int VERSION ∷ []) old new r
+    → OnOk r (IsWithin new before archive_schema)
 stays old new before k (Ok count) h = number_within old new before count k h
 stays old new before k (Err e) h = tt
 
 pub returns-clause-within : goal.returns-clause-within
-returns-clause-within g c clean before k = stays (state g.S.Store c.args.conn.now) (state g.S.Store c.execute.new.self) before k c.execute.result (rw c.params-to_sql.ensures at (c.execute.ensures.runs clean))
+returns-clause-within g c clean before k = stays (state g.S.Store c.args.conn.now) (state g.S.Store c.execute.new.self) before k c.execute.result
+    (rw c.params-to_sql.ensures at (c.execute.ensures.runs clean))
 
 ours : IsOurText (first number_text)
 unfolding first everything
@@ -45,7 +48,8 @@ unfolding understood everything
 knows = record { fits = (refl, refl); plain = (refl, refl); writes = tt }
 
 pub returns-clause-ends : goal.returns-clause-ends
-returns-clause-ends g c = step_ends archive_schema changing_version _ c.execute.result knows ours (rw c.params-to_sql.ensures at c.execute.ensures.survives) (λ clean. rw c.params-to_sql.ensures at (c.execute.ensures.runs clean))
+returns-clause-ends g c = step_ends archive_schema changing_version _ c.execute.result knows ours (rw c.params-to_sql.ensures at c.execute.ensures.survives)
+    (λ clean. rw c.params-to_sql.ensures at (c.execute.ensures.runs clean))
 
 goes_on : EndsNothing (command_of (understood archive_schema number_text))
 unfolding understood everything

@@ -13,7 +13,8 @@ use Rattle.archive_tables.specs.Rows.{versions_shown}
 use Rattle.archive_tables.specs.Making.{IsBackTo}
 use Rattle.archive_tables.specs.declared.texts.schema.TheConstants.{VERSION}
 use Rattle.archive_tables.specs.Calls.{StaysOver, RestsOver, IsCaused}
-use Rattle.archive_tables.proofs.VersionLemmas.{number_text, numbers_found, numbers_leave, no_numbers_leave, no_numbers_caused, numbers_open, version_found, version_not_found, version_not_found_caused}
+use Rattle.archive_tables.proofs.VersionLemmas.{number_text, numbers_found, numbers_leave, no_numbers_leave, no_numbers_caused}
+use Rattle.archive_tables.proofs.VersionLemmas.{numbers_open, version_found, version_not_found, version_not_found_caused}
 use Rattle.archive_tables.proofs.EndLemmas.{asks_shows}
 use Rattle.sqlite_tied.specs.Compute.{everything}
 use Rattle.sqlite_resolve.specs.Compile.{first}

@@ -4,7 +4,8 @@ use Rattle.mbox_items.proofs.items.Item.new.Goals as goal
 
 pub returns-then-is_some-clause-none : goal.returns-then-is_some-clause-none
 returns-then-is_some-clause-none c =
-    λ h. some_after c.next_part-part.result.next c.next_part-part.result.rest.now c.args.text.now c.next_part-part.ensures.items (sym c.is_some.ensures ∙ c.if-is_some.true) (none_whole c.args.text.now h)
+    λ h. some_after c.next_part-part.result.next c.next_part-part.result.rest.now c.args.text.now c.next_part-part.ensures.items (sym c.is_some.ensures ∙ c.if-is_some.true)
+    (none_whole c.args.text.now h)
 
 pub invariant_of-result : goal.invariant_of-result
 invariant_of-result c = (

@@ -5,5 +5,6 @@ use Rattle.thread_core.proofs.subjects.Leaders.new.Goals as goal
 
 pub loop-tree-preserved : goal.loop-tree-preserved
 loop-tree-preserved c =
-    tree_noted c.args.entries.now c.args.trees.now c.loop-tree.tree-index c.tree-item.result c.find_key.result _ _ c.loop-tree-test.true (c.find_key.ensures ∙ ap (key c.args.entries.now) c.tree-item.is)
+    tree_noted c.args.entries.now c.args.trees.now c.loop-tree.tree-index c.tree-item.result c.find_key.result _ _ c.loop-tree-test.true
+    (c.find_key.ensures ∙ ap (key c.args.entries.now) c.tree-item.is)
     (c.in_ok-note.ensures _ c.loop-tree.invariant)
