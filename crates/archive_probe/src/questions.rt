@@ -5,7 +5,7 @@ use anyhow::bail;
 use archive_desk::{Report, author, export, import, message, month, thread, threads};
 use archive_html::{RowTexts, threads_page};
 use archive_pages::answer;
-use archive_results::{Ask, Asked, Line, Reader, TreeLine, entry_of, line_of};
+use archive_results::{Ask, Asked, Line, Reader, TreeLine, header_of, line_of};
 use archive_store::{Key, Store, StoreFault};
 use civil_time::{Day, Month};
 use mbox_core::device::Counted;
@@ -276,10 +276,10 @@ fn time_both<S: Alter>(
 fn entries<S: Alter>(alloc: Global, store: &mut Store<S>) -> anyhow::Result<Vec<Entry>> {
     let mut all = Vec::new(alloc);
     for message in store.rows(alloc, LIST)? {
-        let Ok(entry) = entry_of(alloc, &message.item.as_item()) else {
+        let Ok(header) = header_of(alloc, &message) else {
             bail!("no memory");
         };
-        all.push(entry)?;
+        all.push(header.entry)?;
     }
     Ok(all)
 }

@@ -3,7 +3,7 @@ ghost use Rattle.std.specs.Prelude.{◌≡◌, IfOk};
 ghost use Rattle.mail_core.specs.Author.{key_of_body, trimmed};
 ghost use Rattle.mail_core.specs.Headers.{own_id_in, references_in};
 ghost use Rattle.subject_core.specs.BaseSubject.{base_of, is_reply};
-ghost use Rattle.archive_results.specs.Shown.{entry_of, line_of};
+ghost use Rattle.archive_results.specs.Shown.{line_of};
 
 use crate::lines::Line;
 use archive_machine::Key;
@@ -64,17 +64,6 @@ pub(crate) fn line_in(
         author,
         subject,
     })
-}
-
-/// What a message says about threads: its id, its references, its sent date and its base subject. `Memory` where no memory
-/// is left. No byte behind the header is read.
-pub fn entry_of(alloc: Global, item: &Item<'_>) -> Result<Entry, Memory>
-    ensures { IfOk result (λ entry. entry ≡ entry_of item.now) }
-{
-    let fields = Fields::of(item.text);
-    let subject = fields.unfolded_subject(alloc)?;
-    let sent = fields.sent(item.envelope.arrival);
-    entry_in(alloc, &fields, sent, &subject)
 }
 
 /// The line of a message of this key. `Memory` where no memory is left. No byte behind the header is read.

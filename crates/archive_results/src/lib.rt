@@ -12,7 +12,7 @@ mod threads;
 
 pub use access::{Marks, ReaderMarks, asked, asks_author, is_shown, is_withheld, marks_of};
 pub use asking::{Ask, Asked, Reader};
-pub use entries::{entry_of, line_of};
+pub use entries::line_of;
 pub use headers::{Header, header_of};
 pub use lines::{Line, TreeLine};
 pub use threads::{thread_lines, tree_lines};

@@ -45,28 +45,6 @@ all_cells = col 1 3 ∷ col 1 4 ∷ col 1 5 ∷ col 1 6 ∷ col 1 7 ∷ col 1 8 
 abbrev all_names : List (List ℕ)
 all_names = codes "key" ∷ codes "sender" ∷ codes "arrival" ∷ codes "text" ∷ codes "withdrawn" ∷ codes "embargo" ∷ []
 
--- ---- the messages of a list
-
-abbrev pub list_text : List ℕ
-list_text = codes "SELECT key, sender, arrival, text, withdrawn, embargo FROM message WHERE list = ?1 ORDER BY pos"
-
-list_is : (command_of (understood archive_schema list_text) ≡ Select (record { lets = []; body = plain_query 8 of_list all_cells by_number }) all_names)
-    × (reads_listing archive_schema list_text ≡ false)
-unfolding understood everything
-list_is = (refl, refl)
-
-list_plain : IsPlain (understood archive_schema list_text)
-unfolding understood everything
-list_plain = (refl, refl)
-
-list_fit : Fits list_text 1 (understood archive_schema list_text)
-unfolding understood everything
-list_fit = (refl, refl)
-
-list_typed : (list : List ℕ) → accepts_program archive_schema [] (plain_query 8 of_list all_cells by_number) (Text list ∷ []) ≡ true
-unfolding everything
-list_typed list = refl
-
 -- ---- the message of a key
 
 abbrev pub one_text : List ℕ
@@ -161,21 +139,6 @@ unfolding everything
 count_typed list = refl
 
 module _ (old new : State) (list : List ℕ) {behind : Option Database} (k : IsHeld behind old) where
-  pub in_list : (rows : List Row) → Shown list_text (Text list ∷ []) old new rows
-      → (rows ≡ map message_shown (filter (λ m. bytes_eq m.list list) (archive_of old).messages)) × StaysOver behind old new
-  in_list rows h =
-      let params = Text list ∷ [] in
-      let picks = asked list_text 8 of_list all_cells by_number _ list_is.0 list_plain list_is.1 (λ t. refl) params old new k rows h in (
-        shows_messages of_list all_cells params (λ m. bytes_eq m.list list) (has_list list) message_shown (λ n m. refl) (old.now.trees 8) rows k.tables.messages picks,
-        asked_stays list_text 8 of_list all_cells by_number _ list_is.0 list_plain list_is.1 (λ t. refl) params old new k rows h,
-      )
-
-  pub not_in_list : (e : Error) → FailsToQuery list_text (Text list ∷ []) old new e → RestsOver behind old new
-  not_in_list e h = refused_rests list_text 8 of_list all_cells by_number _ list_is.0 list_plain list_is.1 (λ t. refl) (Text list ∷ []) old new k e h
-
-  pub not_in_list_caused : (e : Error) → FailsToQuery list_text (Text list ∷ []) old new e → old.step_limit ≡ None → IsCaused old new e
-  not_in_list_caused e h free = question_fails_by list_text 8 of_list all_cells by_number _ list_is.0 list_plain list_is.1 (Text list ∷ []) list_fit (list_typed list) old new k free e h
-
   pub count : (rows : List Row) → Shown count_text (Text list ∷ []) old new rows
       → (length rows ≡ length (filter (λ m. bytes_eq m.list list) (archive_of old).messages)) × StaysOver behind old new
   count rows h =

@@ -1,10 +1,10 @@
 -- Worked examples of texts, of names and of times of day.
 use Rattle.std.proofs.Common.{◌≡◌, pos, negsuc, neg_ℤ, refl, codes, map, [], ◌∷◌, true, false, Some, None}
-use Rattle.civil_time.specs.Clock.{clock_seconds}
+use Rattle.civil_time.specs.Clock.{clock_seconds, second_of_day}
 use Rattle.civil_time.specs.Dates.{year_after, month_after, date_after}
 use Rattle.civil_time.specs.Digits.{one_or_two, just_two, just_four}
 use Rattle.civil_time.specs.Names.{month_of, is_weekday}
-use Rattle.civil_time.specs.Texts.{day_text, time_of_day_text, instant_text, instant_month_text, month_text}
+use Rattle.civil_time.specs.Texts.{day_text, hour_minute_text, instant_text, instant_month_text, month_text}
 
 -- ---- texts
 
@@ -50,7 +50,7 @@ the_last_day : day_text (pos 2932531) ≡ codes "9998-12-31"
 unfolding date_after year_after month_after
 the_last_day = refl
 
-times_of_day : map time_of_day_text (pos 0 ∷ pos 59 ∷ pos 60 ∷ pos 3599 ∷ pos 3600 ∷ pos 86399 ∷ negsuc 0 ∷ [])
+times_of_day : map (λ instant. hour_minute_text (second_of_day instant)) (pos 0 ∷ pos 59 ∷ pos 60 ∷ pos 3599 ∷ pos 3600 ∷ pos 86399 ∷ negsuc 0 ∷ [])
     ≡ codes "00:00" ∷ codes "00:00" ∷ codes "00:01" ∷ codes "00:59" ∷ codes "01:00" ∷ codes "23:59" ∷ codes "23:59" ∷ []
 times_of_day = refl
 

@@ -21,10 +21,6 @@ day_text day = full_date_text (date_of_day day)
 abbrev pub hour_minute_text : ℕ → List ℕ
 hour_minute_text seconds = as_two_digits (seconds / 3600) ++ 58 ∷ as_two_digits (seconds / 60 % 60)
 
--- `hh:mm`, of an instant
-abbrev pub time_of_day_text : ℤ → List ℕ
-time_of_day_text instant = hour_minute_text (second_of_day instant)
-
 -- `yyyy-mm-dd hh:mm`, of an instant
 unfoldable pub instant_text : ℤ → List ℕ
 instant_text instant = full_date_text (date_of_instant instant) ++ 32 ∷ hour_minute_text (second_of_day instant)

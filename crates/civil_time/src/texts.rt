@@ -1,7 +1,7 @@
 //! Texts of the calendar, in UTC (RFC 3339 section 5.6 for days).
 ghost use Rattle.std.specs.Prelude.{◌≡◌, ◌<◌, ◌++◌, ◌∷◌};
 ghost use Rattle.civil_time.specs.Clock.{second_of_day};
-ghost use Rattle.civil_time.specs.Texts.{year_month_text, full_date_text, day_text, hour_minute_text, time_of_day_text, instant_text, month_text};
+ghost use Rattle.civil_time.specs.Texts.{year_month_text, full_date_text, day_text, hour_minute_text, instant_text, month_text};
 
 use crate::days::Day;
 use crate::digits::digit_pair;
@@ -86,13 +86,6 @@ impl Instant {
         ensures small { result < 86400 }
     {
         self.seconds().rem_euclid(86_400) as u32
-    }
-
-    /// `hh:mm`, in UTC.
-    pub fn time_of_day_text(self) -> [u8; 5]
-        ensures { result ≡ time_of_day_text self }
-    {
-        clock_text(self.second_of_day())
     }
 
     /// `yyyy-mm-dd hh:mm`, in UTC. Its first seven bytes are its month.

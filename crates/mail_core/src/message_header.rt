@@ -3,10 +3,10 @@ ghost use Rattle.std.specs.Prelude.{◌≡◌, IfOk};
 ghost use Rattle.std.specs.Option.{option_copied};
 ghost use Rattle.mail_core.specs.Fields.{unfolded};
 ghost use Rattle.mail_core.specs.Author.{key_of_body};
-ghost use Rattle.mail_core.specs.Headers.{header_of, or_empty, ids_in_field, first_of, own_id_in, references_in, sent_date_in, unfolded_subject_in, subject_line_in};
+ghost use Rattle.mail_core.specs.Headers.{header_of, or_empty, ids_in_field, first_of, own_id_in, references_in, sent_date_in, unfolded_subject_in};
 ghost use Rattle.mail_core.specs.Gathering.{or_field, with_field};
 
-use crate::author::{key_of_field, trimmed};
+use crate::author::key_of_field;
 use crate::field_reading::{Field, next_field};
 use crate::header::is_named;
 use crate::id_scan::{first_id, ids};
@@ -132,14 +132,6 @@ impl<'a> Header<'a> {
         ensures { IfOk result (λ subject. subject.items ≡ unfolded_subject_in self.now) }
     {
         unfold_field(alloc, self.subject)
-    }
-
-    /// The subject on one line, without the spaces and tabs at its ends. `Memory` where no memory is left.
-    pub fn subject_line(&self, alloc: Global) -> Result<Vec<u8>, Memory>
-        ensures { IfOk result (λ subject. subject.items ≡ subject_line_in self.now) }
-    {
-        let subject = self.unfolded_subject(alloc)?;
-        Ok(trimmed(subject.as_slice()).to_vec(alloc)?)
     }
 
     /// The author's key, as `author_key` makes it. `Memory` where no memory is left.

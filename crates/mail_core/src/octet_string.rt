@@ -39,14 +39,6 @@ impl Octets {
         self.bytes.as_slice()
     }
 
-    /// The vector that holds them, which takes no memory.
-    pub fn into_vec(self) -> Vec<u8>
-        ensures { result.items ≡ self }
-    {
-        let Octets { bytes } = self;
-        bytes
-    }
-
     /// The same bytes once more. `Memory` where no memory is left.
     pub fn try_copy(&self, alloc: Global) -> Result<Octets, Memory>
         ensures { IfOk result (λ copy. copy ≡ self.now) }

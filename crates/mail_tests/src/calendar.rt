@@ -144,10 +144,7 @@ fn what_is_written_of_an_instant_is_read_again(rt: HostRuntime) -> Result<(), Fa
     for (seconds, day, time) in &WRITTEN {
         let instant = Instant::new(*seconds).ok_or("no instant")?;
         let text = instant.text();
-        assert_eq!(rt;
-            (instant.day().text(), instant.time_of_day_text()),
-            (**day, **time)
-        );
+        assert_eq!(rt; instant.day().text(), **day);
         assert_eq!(rt;
             (&text[..10], text[10], &text[11..]),
             (&day[..], b' ', &time[..])

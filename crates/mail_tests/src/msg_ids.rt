@@ -174,6 +174,6 @@ fn octets_give_their_bytes_back(rt: HostRuntime) -> Result<(), Fail> {
     let octets = Octets::new(Vec::from_slice(rt.alloc(), b"xyz")?);
     let copy = octets.try_copy(rt.alloc())?;
     assert!(rt; octets == copy);
-    assert_eq!(rt; copy.into_vec().as_slice(), b"xyz".as_slice());
+    assert_eq!(rt; copy.as_slice(), b"xyz".as_slice());
     Ok(())
 }

@@ -1,5 +1,5 @@
 //! A message of an mbox: an envelope and a text.
-ghost use Rattle.std.specs.Prelude.{◌≡◌, ◌≤◌, ◌++◌, length, IfSome, IfNone};
+ghost use Rattle.std.specs.Prelude.{◌≡◌, IfSome, IfNone};
 ghost use Rattle.mail_core.specs.Lines.{lines};
 ghost use Rattle.mbox_items.specs.Division.{NoneSeparates, is_whole, whole};
 
@@ -50,21 +50,6 @@ impl<'a> Item<'a> {
             text,
             complete,
         })
-    }
-
-    /// What the whole text adds to the text: LF, or nothing where the text is complete.
-    pub fn line_end(&self) -> &'static [u8]
-        ensures value { self.now.text ++ result.now ≡ whole self.now.text }
-        ensures short { length result.now ≤ 1 }
-    {
-        if self.complete { b"" } else { b"\n" }
-    }
-
-    /// The length of the whole text, in bytes.
-    pub fn whole_len(&self) -> usize
-        ensures { result ≡ length (whole self.now.text) }
-    {
-        self.text.len() + self.line_end().len()
     }
 }
 

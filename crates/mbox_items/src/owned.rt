@@ -82,13 +82,6 @@ impl OwnedItem {
         self.arrival
     }
 
-    /// The vector that holds its text, which takes no memory.
-    pub fn into_text(self) -> Vec<u8>
-        ensures { result.items ≡ self.text }
-    {
-        self.text
-    }
-
     /// The message, with its bytes lent.
     pub fn as_item(&self) -> Item<'_>
         ensures { result ≡ self.now }

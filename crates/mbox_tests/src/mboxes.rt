@@ -131,8 +131,6 @@ fn is_message(bytes: &[u8], text: &[u8], complete: bool) -> bool {
     };
     item.text == text
         && item.complete == complete
-        && item.line_end().len() == usize::from(!complete)
-        && item.whole_len() == text.len() + usize::from(!complete)
         && item.envelope.arrival.seconds() == 1046772000
         && items.next().is_none()
 }

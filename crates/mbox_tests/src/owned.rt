@@ -24,8 +24,7 @@ fn is_copied(alloc: Global, bytes: &[u8], complete: bool) -> Result<bool, Fail> 
 fn gives_its_parts(alloc: Global, bytes: &[u8]) -> Result<bool, Fail> {
     let item = cut(bytes)?.next().ok_or("no message")?;
     let owned = OwnedItem::of(alloc, &item)?;
-    let same = owned.text() == item.text && owned.arrival() == item.envelope.arrival;
-    Ok(same && owned.into_text().as_slice() == item.text)
+    Ok(owned.text() == item.text && owned.arrival() == item.envelope.arrival)
 }
 
 #[test]

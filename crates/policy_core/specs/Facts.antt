@@ -1,5 +1,5 @@
 -- What is asked of a policy: may this reader read this message on this day. (profile: the archive's own rules of access)
-use Rattle.std.specs.Prelude.{ℕ, ℤ, List, Bool, true, false, int_lt, nat_le, ◌-ℤ◌, Option, Some, None}
+use Rattle.std.specs.Prelude.{ℕ, ℤ, List, Bool, true, false, int_lt, ◌-ℤ◌, Option, Some, None}
 use Rattle.policy_core.specs.declared.access.Standing.{Standing}
 use Rattle.policy_core.specs.declared.access.Standing.TheVariants.{Public, Member, Subscriber, Moderator}
 use Rattle.policy_core.specs.declared.access.Withdrawn.{Withdrawn}
@@ -39,10 +39,6 @@ rank_of Public = 0
 rank_of Member = 1
 rank_of Subscriber = 2
 rank_of Moderator = 3
-
--- Profile: the second standing is the first or above it, from public over member and subscriber up to moderator
-abbrev pub is_at_least : Standing → Standing → Bool
-is_at_least least standing = nat_le (rank_of least) (rank_of standing)
 
 abbrev pub same_standing : Standing → Standing → Bool
 same_standing Public Public = true

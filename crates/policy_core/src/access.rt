@@ -1,6 +1,6 @@
 //! What is asked of a policy, and what it answers.
 ghost use Rattle.std.specs.Prelude.{◌≡◌};
-ghost use Rattle.policy_core.specs.Facts.{is_embargoed, age, rank_of, is_at_least};
+ghost use Rattle.policy_core.specs.Facts.{is_embargoed, age, rank_of};
 ghost use Rattle.policy_core.specs.Numbers.{kind_rank, party_number};
 ghost use Rattle.policy_core.specs.Written.{standing_named};
 
@@ -38,13 +38,6 @@ impl Standing {
             Standing::Subscriber => 2,
             Standing::Moderator => 3,
         }
-    }
-
-    /// Whether it is this standing or a higher one: the order of the type is that of the ranks.
-    pub fn is_at_least(self, least: Standing) -> bool
-        ensures { result ≡ is_at_least least self }
-    {
-        self >= least
     }
 }
 

@@ -403,7 +403,7 @@ fn standings_have_words_and_ranks(rt: HostRuntime) {
         assert!(rt; standing == *wanted, "{word}");
         if let Some(standing) = standing {
             assert_eq!(rt; standing.rank(), *rank);
-            assert_eq!(rt; standing.is_at_least(Standing::Subscriber), *rank >= 2);
+            assert_eq!(rt; standing >= Standing::Subscriber, *rank >= 2);
         }
     }
 }

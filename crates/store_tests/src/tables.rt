@@ -258,16 +258,17 @@ fn messages_come_in_the_order_of_the_mailbox<S: Alter>(
     let added = messages::add_message(conn, "soc", KEY, b"-", 1, b"", 1, EPOCH, b"");
     assert!(rt; is_constraint(added));
     assert_eq!(rt; messages::count_messages(conn, "soc")?, 2);
-    let rows = messages::messages(conn, "soc")?;
-    assert_eq!(rt; rows.len(), 2);
-    let first = read_message(&rows[0])?;
+    let places = messages::places(conn, "soc")?;
+    assert_eq!(rt; places.len(), 2);
+    let first = messages::message_at(conn, read_place(&places[0])?)?.ok_or("no message")?;
     assert_eq!(rt; first.key.as_str(), KEY);
     assert_eq!(rt; first.sender.as_slice(), b"anna@example.org".as_slice());
     assert_eq!(rt; first.arrival, 1046772000);
     assert_eq!(rt; first.text.as_slice(), b"hello\n".as_slice());
     assert_eq!(rt; first.withdrawn, 0);
     assert_eq!(rt; first.embargo, None);
-    assert_eq!(rt; read_message(&rows[1])?.key.as_str(), OTHER);
+    let second = messages::message_at(conn, read_place(&places[1])?)?.ok_or("no message")?;
+    assert_eq!(rt; second.key.as_str(), OTHER);
     Ok(())
 }
 
@@ -330,11 +331,7 @@ fn a_message_is_withdrawn_and_held_back<S: Alter>(
     fill(conn)?;
     messages::set_withdrawn(conn, "soc", OTHER, 2)?;
     messages::set_embargo(conn, "soc", OTHER, 12131)?;
-    let rows = messages::messages(conn, "soc")?;
-    let first = match rows.first() {
-        Some(row) => read_message(row)?,
-        None => return Err(Fail::from("a message")),
-    };
+    let first = messages::message(conn, "soc", KEY)?.ok_or("no message")?;
     assert_eq!(rt; (first.withdrawn, first.embargo), (0, None));
     let held = messages::message(conn, "soc", OTHER)?;
     assert_eq!(rt;

@@ -7,7 +7,7 @@ ghost use Rattle.archive_machine.specs.Questions.{is_message};
 ghost use Rattle.sqlite.specs.Held.{state};
 ghost use Rattle.sqlite.specs.State.{HasCleanDisk};
 ghost use Rattle.archive_tables.specs.Tables.{IsKept, reaches_number};
-ghost use Rattle.archive_tables.specs.Rows.{new_message, message_shown, message_in, marks_of, dated_marks_of, places_in, month_places, author_places, message_at, place_shown};
+ghost use Rattle.archive_tables.specs.Rows.{new_message, message_in, marks_of, dated_marks_of, places_in, month_places, author_places, message_at, place_shown};
 ghost use Rattle.archive_tables.specs.Statements.{adding_message, withdrawing, holding_back, freeing};
 ghost use Rattle.archive_tables.specs.Calls.{Asks, AsksAnywhere, AsksRows, Writes};
 
@@ -93,18 +93,6 @@ pub fn marks<S: Alter>(
         Some(row) => Ok(Some(read_marks(row)?)),
         None => Ok(None),
     }
-}
-
-/// The messages of the list in mailbox order. `read_message` reads a row.
-pub fn messages<S: Alter>(conn: &mut Connection<S>, list: &str) -> Result<Vec<Row>, Error>
-    ensures { Asks S.Store conn.old conn.new result
-        (λ a rows. rows.items
-        ≡ map message_shown (filter (λ m. bytes_eq m.list list.now) a.messages)) ⊥ }
-{
-    conn.query_all(
-        "SELECT key, sender, arrival, text, withdrawn, embargo FROM message WHERE list = ?1 ORDER BY pos",
-        params![list],
-    )
 }
 
 /// The numbers of the list's messages, in mailbox order. `read_place` reads a row.
