@@ -94,13 +94,14 @@ put_program() {
   put "$work/proof" "$owners/PROOF"
 }
 
-# the samples' scripts, which call the program by the name that it has there, and name the pages where they lie
+# the samples' scripts, which call the program and units by the names that they have there, and name the pages where they lie
 put_scripts() {
   git -C "$root/samples" ls-files -- '*.sh' '*.py' > "$work/list"
   while read -r it; do
     # shellcheck disable=SC2016
     sed -E -e 's|\$\{ARCHIVE:-[^}]*\}|${ARCHIVE:-/usr/bin/luvazhimba}|' -e 's|([ (=])samples/|\1/usr/libexec/luvazhimba/|g' \
-      -e 's|/opt/archive/samples/|/usr/libexec/luvazhimba/|g; s|\bdocs/([A-Z-]+\.md)|/usr/share/doc/luvazhimba/\1|g' -- "$root/samples/$it" |
+      -e 's|/opt/archive/samples/|/usr/libexec/luvazhimba/|g; s|\bdocs/([A-Z-]+\.md)|/usr/share/doc/luvazhimba/\1|g' \
+      -e 's#\barchive(-copy@|-look\.service)#luvazhimba\1#g' -- "$root/samples/$it" |
       put_text "usr/libexec/luvazhimba/$it" "$([ -x "$root/samples/$it" ] && echo 755 || echo 644)"
   done < "$work/list"
   ! grep -rE '/\.\./archive|/opt/archive' -- "$top/usr/libexec/luvazhimba" || fail "a script has a place of a clone"
