@@ -104,7 +104,7 @@ put_scripts() {
       -e 's#\barchive(-copy@|-look\.service)#luvazhimba\1#g' -- "$root/samples/$it" |
       put_text "usr/libexec/luvazhimba/$it" "$([ -x "$root/samples/$it" ] && echo 755 || echo 644)"
   done < "$work/list"
-  ! grep -rE '/\.\./archive|/opt/archive' -- "$top/usr/libexec/luvazhimba" || fail "a script has a place of a clone"
+  ! grep -rE '/\.\./archive|/opt/archive|\barchive(-[a-z]+)?@' -- "$top/usr/libexec/luvazhimba" || fail "a script has a place or a unit of a clone"
   sed -e 's/^complete .*/complete -o filenames -F _archive luvazhimba/' -e '/^# Completion/s/: .*/./' -- "$root/samples/archive.bash" |
     put_text usr/share/bash-completion/completions/luvazhimba
 }
