@@ -14,7 +14,7 @@ Build the programs first: ./archive --version, (cd crates/listen_probe && rt run
 """
 import argparse, statistics, tempfile, threading, time
 
-from serving import ROOT, Bare, Server, get, heard, make_archive
+from serving import ROOT, Bare, Server, get, heard, make_archive, stop_unless_built
 
 PATH = "/l/seeds/threads"
 
@@ -67,6 +67,7 @@ def main():
     words.add_argument("--requests", type=int, default=2000)
     words.add_argument("--rounds", type=int, default=51)
     given = words.parse_args()
+    stop_unless_built(given.archive, given.probe)
     with tempfile.TemporaryDirectory() as folder:
         server = Server(given.archive, make_archive(given.archive, folder), 1_000_000)
         with server.connect() as peer:

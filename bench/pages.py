@@ -15,7 +15,7 @@ Build the programs first: ./archive --version, (cd crates/listen_probe && rt run
 """
 import argparse, pathlib, re, subprocess, sys, tempfile, time
 
-from serving import ROOT, Server, get, heard, make_archive
+from serving import ROOT, Server, get, heard, make_archive, stop_unless_built
 
 MESSAGE = "42878bd42d7da5eafb1b26a55e1c580b1b633248c93a5927c5f4467c406221ec"
 PAGES = {"message": f"/l/seeds/m/{MESSAGE}", "threads": "/l/seeds/threads"}
@@ -119,6 +119,7 @@ def main():
     words.add_argument("--seconds", type=int, default=5)
     words.add_argument("--rounds", type=int, default=3)
     asked = words.parse_args()
+    stop_unless_built(asked.archive, asked.probe)
     rounds = []
     for _ in range(asked.rounds):
         with tempfile.TemporaryDirectory() as folder:

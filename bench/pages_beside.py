@@ -15,7 +15,7 @@ import argparse, collections, hashlib, os, pathlib, random, re, shutil, socket, 
 
 from forms import SEPARATOR, mid
 from mails import POLICY, processor
-from serving import ROOT, Bare, Server, get, heard, make_archive
+from serving import ROOT, Bare, Server, get, heard, make_archive, stop_unless_built
 
 LONG = 2_000
 MONTH = 500
@@ -206,6 +206,7 @@ def main():
     words.add_argument("--requests", type=int, default=500)
     words.add_argument("--folder", help="make files in this folder")
     given = words.parse_args()
+    stop_unless_built(given.archive, given.probe)
     with tempfile.TemporaryDirectory(dir=given.folder) as folder:
         pathlib.Path(folder).chmod(0o755)
         print(f"{given.messages} mails, {given.rounds} rounds, load {os.getloadavg()[0]:.0f}; microseconds of a processor a page (milliseconds by the clock)")

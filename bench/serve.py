@@ -14,7 +14,7 @@ Build the programs first: ./archive --version, (cd crates/listen_probe && rt run
 """
 import argparse, pathlib, re, subprocess, sys, tempfile, time
 
-from serving import ROOT, Bare, Server, get, heard, make_archive
+from serving import ROOT, Bare, Server, get, heard, make_archive, stop_unless_built
 
 OPEN = '[[rule]]\nname = "all"\neffect = "allow"\n'
 
@@ -70,6 +70,7 @@ def main():
     words.add_argument("--messages", type=int, nargs="+", default=[5_000, 50_000])
     words.add_argument("--rounds", type=int, default=5)
     given = words.parse_args()
+    stop_unless_built(given.archive, given.probe)
     for messages in given.messages:
         with tempfile.TemporaryDirectory() as folder:
             measure(given, messages, folder)

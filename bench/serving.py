@@ -1,9 +1,18 @@
 """serving.py: a started server for the scripts beside this one."""
-import pathlib, re, socket, subprocess, tempfile
+import pathlib, re, socket, subprocess, sys, tempfile
 
 ROOT = pathlib.Path(__file__).resolve().parent.parent
 SAMPLES = ROOT / "samples"
 DAY = "2024-03-20"
+# What builds a program.
+BUILDS = {"archive": "./archive --version", "listen_probe": "(cd crates/listen_probe && rt run)"}
+
+
+def stop_unless_built(*programs):
+    """Ends if one of these programs is not there, and says what builds it."""
+    for it in map(pathlib.Path, programs):
+        if not it.is_file():
+            sys.exit(f"{it} is not there" + (f": {BUILDS[it.name]} builds it" if it.name in BUILDS else ""))
 
 
 def archive(program, *words):
