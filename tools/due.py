@@ -1,12 +1,12 @@
-"""Which crates' wrong bodies are due: those of each crate whose text differs from the one over which they were last all refused,
-and of every tenth other crate, picked by the commit, so that no record is believed for long.
+"""Which crates' wrong bodies are due: those of each crate whose text, or what it reads of those below it, differs from what it was when they
+were last all refused, and of every tenth other crate, picked by the commit, so that no record is believed for long.
 
-The record stands in `tools/refused.txt`, a line for each crate: its name, and the digest of its text, less the lines that are
-comments, and of the toolchain's version.
+The record stands in `tools/refused.txt`, a line for each crate: its name, and the digest of its text, of the definitions and clauses of the
+crates below, each less the lines that are comments, and of the toolchain's version.
 """
-import hashlib, subprocess
+import functools, hashlib, subprocess
 
-import part
+import clauses, part
 
 RECORD = part.ROOT / "tools" / "refused.txt"
 PARTS = ("src", "specs", "proofs", "must-fail")
@@ -21,11 +21,26 @@ def without_comments(file):
     return text if mark is None else b"".join(it for it in text.splitlines(keepends=True) if not it.lstrip().startswith(mark))
 
 
+@functools.cache
+def statements(name):
+    """Returns the digest of what the crates above one read of it: its definitions, the clauses of its functions, and the ghost items of its types."""
+    own, folder = hashlib.sha256(), part.CRATES / name
+    for file in sorted((folder / "specs").rglob("*.antt")):
+        own.update(repr((str(file.relative_to(folder)), without_comments(file))).encode())
+    for file in sorted((folder / "src").rglob("*.rt")):
+        text = without_comments(file).decode()
+        found = [(it[1], made) for it in clauses.FUNCTION.finditer(text) if (made := clauses.clauses_at(text, it.end()))]
+        ghosts = [it.strip() for it in text.splitlines() if it.lstrip().startswith("ghost ")]
+        own.update(repr((str(file.relative_to(folder)), found, ghosts)).encode())
+    return own.hexdigest()
+
+
 def digest(name, version):
-    """Returns the digest of a crate's text, by the toolchain of this version."""
+    """Returns the digest of a crate's text and of the statements of those below it, by the toolchain of this version."""
     own, folder = hashlib.sha256(version.encode()), part.CRATES / name
     for file in sorted(it for of in PARTS for it in (folder / of).rglob("*") if it.is_file()):
         own.update(repr((str(file.relative_to(folder)), without_comments(file))).encode())
+    own.update(repr([(it, statements(it)) for it in part.with_those_below(name) if it != name]).encode())
     return own.hexdigest()
 
 

@@ -1,10 +1,11 @@
 #!/usr/bin/env python3
-"""The gate: the toolchain's own `rt ci`, on a copy of the repository that lacks the wrong bodies that are not due (`due.py`).
+"""The gate: the toolchain's own `rt ci`, on a copy of the repository without wrong bodies; then those that are due (`due.py`), as many in one
+check as can be (`joined.py`), and each other one by `rt ci`.
 
   gate.py [--all] [--anew] [--record]
 
   --all      every wrong body is due
-  --anew     nothing counts that an earlier run on this machine passed
+  --anew     nothing counts that an earlier run on this machine passed, and each wrong body is tried by itself
   --record   writes tools/refused.txt: of which crates all wrong bodies were refused, over which text; and tools/minutes.txt: how long each
              crate took that was proved from nothing, with the tables of docs/GATE.md that are made of it
 
@@ -14,7 +15,7 @@ library (callers.py). Where something failed, the lines that say why stand toget
 """
 import filecmp, re, resource, subprocess, sys, tempfile, time
 
-import build, callers, due, minutes, part, refused, why
+import build, callers, due, joined, minutes, part, refused, why
 
 COUNT = re.compile(r"(\d+) passed, (\d+) failed")
 EDIT = re.compile(r"rt: must-fail (\w+)/(\S+\.edit): (refused, as it must be.*|[A-Z]+.*)")
@@ -46,6 +47,12 @@ class Heard:
             self.passed, self.failed = int(found[1]), max(int(found[2]), status != 0)
         elif self.last is not None:
             print(self.last)
+
+    def add(self, other):
+        """Adds what came of the wrong bodies of another run, and what failed there."""
+        self.edits |= other.edits
+        self.failed += other.failed
+        self.why.lines += other.why.lines
 
     def count(self, is_right, what):
         """Counts a step of our own."""
@@ -93,6 +100,24 @@ def callers_answered(top):
     return bool(passed) and not failed
 
 
+def try_wrong_bodies(top, names, heard):
+    """Tries the wrong bodies of these crates of a copy that passed: many in one check where that can be, and each other one by `rt ci`."""
+    for name, found in joined.refused_in(top, names).items():
+        print(f"check: {len(found)} of the {len(edits_of(name))} wrong bodies of {name} were refused, many in one check", flush=True)
+        heard.edits |= {(name, edit): f"refused: {why}" for edit, why in found.items()}
+    rest = {it: [edit for edit in edits_of(it) if (it, edit.name) not in heard.edits] for it in names}
+    below = [it for it in part.lines() if any(it in part.with_those_below(name) for name in rest if rest[name])]
+    if below:
+        with part.copied(below, {*rest}) as other:
+            for name, edits in rest.items():
+                for it in (other / "crates" / name / "must-fail").glob("*.edit"):
+                    if it.name not in {edit.name for edit in edits}:
+                        it.unlink()
+            alone = Heard(below)
+            alone.end(part.run_ci(other, [], alone.hear))
+        heard.add(alone)
+
+
 def tell(heard, left, due_count):
     """Says what was tried and left, what it took, and the count."""
     for name, count in left.items():
@@ -119,7 +144,9 @@ def main(words):
     heard = Heard(names)
     counts = {it: len(edits_of(it)) for it in names if edits_of(it)}
     left = {} if "--all" in words else {it: count for it, count in counts.items() if not record.is_due(it)}
-    with part.copied(names, {*counts} - {*left}) as top:
+    tried = [it for it in counts if it not in left]
+    by_rounds = "--anew" not in words and joined.toolchain()
+    with part.copied(names, () if by_rounds else tried) as top:
         if wanting := out_of_layout(top, names):
             print(f"check: run rt fmt in {', '.join(wanting)}\n0 passed, {len(wanting)} failed")
             return 1
@@ -127,8 +154,10 @@ def main(words):
         if callers.CRATE in names:
             heard.count(callers_answered(top), "callers of the library in C, Python and Rust did not get what they have to, or it was not built")
         heard.count(rows_hold(top), "worked calls under refused growths of memory: refused_rows was not built, or did not come to its answers")
+        if by_rounds and not heard.failed:
+            try_wrong_bodies(top, tried, heard)
     if "--record" in words:
-        for name in {*counts} - {*left}:
+        for name in tried:
             record.note(name, heard.refused_of(name) == counts[name])
         record.write()
         minutes.write(heard.work.proved())

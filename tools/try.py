@@ -11,7 +11,7 @@ import concurrent.futures, contextlib, hashlib, importlib.util, os, pathlib, re,
 TOOLS = pathlib.Path(__file__).resolve().parent
 
 # The stand-in of the toolchain's command: `ci` notes its words and the files that it was given, builds what `builds` names out of
-# `program`, says what `says` holds, and ends with the number of `status`; `fmt` lays out by taking double spaces away; beside the
+# `program`, says what `says` holds (of wrong bodies only if it was given one), and ends with the number of `status`; `fmt` lays out by taking double spaces away; beside the
 # page that `doc` names lies a compiler, which makes an empty file. `try` notes its words, its input and the file of `--data`, writes
 # what `writes` holds, says what `tells` holds, and ends with the number of `ends`.
 STAND_IN = r'''#!/bin/sh
@@ -23,7 +23,7 @@ case $1 in
     for name in $(cat "$STAND_IN/builds"); do
       mkdir -p "crates/$name/out"; cp "$STAND_IN/program" "crates/$name/out/$name"; chmod +x "crates/$name/out/$name"
     done
-    cat "$STAND_IN/says"
+    if [ -n "$(find crates -name '*.edit')" ]; then cat "$STAND_IN/says"; else grep -v '^rt: must-fail' "$STAND_IN/says"; fi
     exit "$(cat "$STAND_IN/status")";;
   doc) echo "$STAND_IN/page.md";;
   try) shift
@@ -267,6 +267,9 @@ def recorded(names, version="kit of today", **changed):
         for file in sorted(it for it in WITH_EDITS if it.startswith(folder)):
             text = "".join(it for it in WITH_EDITS[file].splitlines(keepends=True) if not (file.endswith(".rt") and it.startswith("//")))
             own.update(repr((file.removeprefix(folder), text.encode())).encode())
+        # (its source is a comment, so it has no statement)
+        low = hashlib.sha256(repr(("src/lib.rt", [], [])).encode()).hexdigest()
+        own.update(repr([("low", low)] if name == "middle" else []).encode())
         lines.append(f"{name} {own.hexdigest()}\n")
     return {**WITH_EDITS, "tools/refused.txt": "".join(lines), **changed}
 
@@ -319,6 +322,7 @@ def ends(script, files, wanted, edits=0, **told):
 
 
 EDITS = ["crates/low/must-fail/f.turns_it.edit", "crates/low/must-fail/g.drops_it.edit"]
+OTHER_EDIT = "crates/middle/must-fail/h.counts_one_more.edit"
 LITTLE = "rt: must-fail low/f.turns_it.edit: refused, as it must be, but it says little of the contract\n"
 GATE = {
     "all passes": says("gate.py", [], WITH_EDITS, 0, "10 passed, 0 failed", "check: 3 wrong bodies tried or kept; 0 processor minutes",
@@ -367,6 +371,9 @@ GATE = {
         *([] if picked(["low"]) else ["check: left the 2 wrong bodies of low, whose text is as recorded"])),
     "--all leaves nothing": asks("gate.py", ["--all"], recorded(["low", "middle"]), EDITS, []),
     "a crate whose code changed is due": asks("gate.py", [], recorded(["low"], **{"crates/low/src/lib.rt": "// low\nfn f() {}\n"}), EDITS, []),
+    "a clause of a crate below makes a crate due": asks("gate.py", [], recorded(["low", "middle"], **{"crates/low/src/lib.rt": "fn f()\n ensures { IsOne result }\n{\n}\n"}), [*EDITS, OTHER_EDIT], []),
+    "a definition of one does": asks("gate.py", [], recorded(["low", "middle"], **{"crates/low/specs/A.antt": "is_one = refl\n"}), [*EDITS, OTHER_EDIT], []),
+    "a body of one does not": asks("gate.py", [], recorded(["low", "middle"], **{"crates/low/src/lib.rt": "fn f() {\n 1\n}\n"}), EDITS, [] if picked(["middle"]) else [OTHER_EDIT]),
     "a comment makes nothing due": asks("gate.py", [], recorded(["low"], **{"crates/low/src/lib.rt": "// low\n/// new\n"}),
         EDITS if picked(["low"]) else [], [] if picked(["low"]) else EDITS),
     "one behind code does": asks("gate.py", [], recorded(["low"], **{"crates/low/src/lib.rt": "use low; // new\n"}), EDITS, []),
@@ -385,6 +392,70 @@ GATE = {
         recorded(["low"], **{"crates/low/src/lib.rt": "fn f() {}\n"})),
     "the record's digest": record_is_believed,
     "the minutes": records_minutes,
+}
+
+
+# ---- joined.py, as gate.py calls it
+
+# A module on crates beside the stand-in, and a prover that notes the source that it gets and says what `proves` holds.
+CRATES_MODULE = """import os
+RATTLE = os.environ["STAND_IN"] + "/rattle"
+class Crate:
+    def __init__(self, folder, root, known): pass
+    def words(self, flags, keeps): return flags
+"""
+PROVER = """#!/bin/sh
+{ echo ==; cat src/lib.rt; } >> "$STAND_IN/tried"
+cat "$STAND_IN/proves"
+"""
+BODIES = {
+    **CHAIN,
+    "crates/low/src/lib.rt": "fn f() -> u8\n ensures { IsOne result }\n{\n 1\n}\n\npub fn g() -> u8 {\n f() + 2\n}\n\nconst MOST: u8 = 9;\n",
+    "crates/low/must-fail/f.is_three.edit": "file: src/lib.rt\nold:  1\nnew:  3\n",
+    "crates/low/must-fail/g.adds_four.edit": "file: src/lib.rt\nold: f() + 2\nnew: f() + 4\n",
+}
+F_FAILS = "fn low::f: no proof: expected answers in ./proofs/lib/f/Answers.antt; `search` did not prove `returns`\n"
+G_FAILS = "./proofs/g/Answers.antt:3:1: error: `returns`: expected type\nfn low::g: not proved; it calls `low::f`, which is not proved\n"
+
+
+def tries(proves, refused_together, alone, files=BODIES, words=(), sources=None):
+    """A case of wrong bodies in one check, in which the prover says this: how many count as refused, and which `rt ci` is given; and what the
+    prover got of the source, if that is told."""
+    def holds():
+        says_of = "".join(REFUSED.format(f"low/{it}") for it in alone)
+        with repository(files, says=f"{says_of}9 passed, 0 failed\n", **{"rtlib.py": CRATES_MODULE, "rattle": PROVER, "proves": proves}) as (top, stand_in):
+            _, output, _ = run(top, stand_in, "gate.py", words)
+            asked = (stand_in / "asked").read_text(encoding="utf-8").splitlines()
+            given = sorted(it.rpartition("/")[2] for it in asked if it.endswith(".edit"))
+            found = re.findall(r"check: (\d+) of the \d+ wrong bodies of low", output)
+            got = (stand_in / "tried").read_text(encoding="utf-8").split("==\n")[1:] if sources is not None else None
+            return equal((found, given, got), ([str(refused_together)] if found else [], sorted(alone), sources))
+    return holds
+
+
+def with_mistakes(**mistakes):
+    """The source of these bodies with some of its lines changed."""
+    text = BODIES["crates/low/src/lib.rt"]
+    for old, new in mistakes.values():
+        text = text.replace(old, new)
+    return text
+
+
+F_EDIT, G_EDIT = "f.is_three.edit", "g.adds_four.edit"
+TOO_HIGH = {**BODIES, "crates/low/must-fail/MOST.is_ten.edit": "file: src/lib.rt\nold: = 9;\nnew: = 10;\n"}
+TWICE_F = {**BODIES, "crates/low/must-fail/f.is_zero.edit": "file: src/lib.rt\nold:  1\nnew:  0\n"}
+IN_ONE_CHECK = {
+    "two functions are tried in one check": tries(F_FAILS + G_FAILS, 2, [], sources=[with_mistakes(f=("\n 1\n", "\n 3\n"), g=("+ 2", "+ 4"))]),
+    "one that is proved is tried by itself": tries(F_FAILS + "fn low::g: proved\n", 1, [G_EDIT]),
+    "so is one that only calls what is not proved": tries(F_FAILS + "fn low::g: no proof: it calls `low::f`, which is not proved\n", 1, [G_EDIT]),
+    "a function without a mistake that fails": tries(F_FAILS + G_FAILS + F_FAILS.replace("::f", "::h"), 0, [F_EDIT, G_EDIT]),
+    "a check that says nothing of functions": tries("error[x]: no such thing\nlogic=not-proved\n", 0, [F_EDIT, G_EDIT]),
+    "a proof that names what was taken away": tries(F_FAILS + G_FAILS.replace("expected type", "`c.f` has no field 0"), 1, [G_EDIT]),
+    "a limit of the prover": tries(F_FAILS + G_FAILS.replace("expected type", "antt ran out of memory"), 1, [G_EDIT]),
+    "a constant is tried by itself": tries(F_FAILS + G_FAILS, 2, ["MOST.is_ten.edit"], files=TOO_HIGH),
+    "two mistakes of one function take two checks": tries(F_FAILS, 2, [G_EDIT], files=TWICE_F,
+        sources=[with_mistakes(f=("\n 1\n", "\n 3\n"), g=("+ 2", "+ 4")), with_mistakes(f=("\n 1\n", "\n 0\n"))]),
+    "--anew tries each by itself": tries(F_FAILS + G_FAILS, 0, [F_EDIT, G_EDIT], words=["--anew"]),
 }
 
 
@@ -1202,7 +1273,7 @@ WORDS = {
     "other words": says("words.py", ["--page"], WORDS_FILES, 1, faults="words.py --pages"),
 }
 
-TABLES = {"manual.py": MANUAL, "words.py": WORDS, "part.py": PART, "build.py": BUILD, "gate.py": GATE, "trial.py": TRIAL, "quick.py": QUICK, "check": CHECK, "edits.py": FITS, "refused.py": ROWS_CASES, "cases.py": CASES,
+TABLES = {"manual.py": MANUAL, "words.py": WORDS, "part.py": PART, "build.py": BUILD, "gate.py": GATE, "joined.py": IN_ONE_CHECK, "trial.py": TRIAL, "quick.py": QUICK, "check": CHECK, "edits.py": FITS, "refused.py": ROWS_CASES, "cases.py": CASES,
           "definitions.py": DEFINITIONS, "pages.py": PAGES, "identity.py": IDENTITY, "twice.py": TWICE, "owner_page.py": OWNER_PAGE, "clauses.py": CLAUSES, "wants.py": WANTS, "reached.py": REACHED, "minutes.py": MINUTES}
 
 
