@@ -160,10 +160,6 @@ module _ {S : Type 0} (g : Ghosts S) where
 
 -- ---- what is left of the store
 
-pub ok_as : (result : Result ℕ ServeFault) {P Q : ℕ → Type 0} → ((n : ℕ) → P n → Q n) → IfOk result P → IfOk result Q
-ok_as (Ok n) weaker it = weaker n it
-ok_as (Err e) weaker it = tt
-
 module _ {S : Type 0} (g : Ghosts S) where
   ready_at : (store : Store S) (result : Result ℕ ServeFault) → IfOk result (λ status. status ≢ 503 → GoesHeld g store store (λ a b. b ≡ a))
   ready_at store (Ok status) = λ other. stays_there_in g (HoldsTables g) store
@@ -202,13 +198,3 @@ module _ {S : Type 0} (g : Ghosts S) where
         let here = second.1 returned there.0 up in
         (here.0, here.1 ∙ there.1),
   )
-
-  -- the same, behind a reply after which the store is ready
-  pub stays_after : (old mid new : Store S) (result : Result ℕ ServeFault) → GoesHeld g old mid (λ a b. b ≡ a) → Stays g mid new result → Stays g old new result
-  stays_after old mid new result first second = record {
-    same = goes_in_as_if_open g (HoldsTables g) old new (λ a c. (b : Archive) × (b ≡ a) × (c ≡ b)) (λ a c. c ≡ a) (λ a c (b, h, k). k ∙ h)
-        (goes_on_in_if_open g (HoldsTables g) old mid new (λ a b. b ≡ a) (λ b c. c ≡ b) first second.same);
-    ready = ok_as result (λ status then other.
-        goes_in_as g (HoldsTables g) old new (λ a c. (b : Archive) × (b ≡ a) × (c ≡ b)) (λ a c. c ≡ a) (λ a c (b, h, k). k ∙ h)
-        (goes_on_in g (HoldsTables g) old mid new (λ a b. b ≡ a) (λ b c. c ≡ b) first (then other))) second.ready;
-  }

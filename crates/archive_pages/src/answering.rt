@@ -54,7 +54,7 @@ fn answer_read<T: Threader, S: Alter, W: Sink>(
 
 /// Answers one request as `answer` does, out of what is kept where it can, and keeps the outline of a list that it reads for
 /// threads, of a month and of an author. What is kept has to be of what the store remembers, this policy and this day: then the reply is the one of `answer`,
-/// and what is kept stays so. Nothing is kept at first (`Pages::new`), and only this call may change it. With routes a head without
+/// and what is kept stays so. Nothing is kept at first (`Kept::new`), and only this call may change it. With routes a head without
 /// a token that asks for a path that no route fits gets 404 and nothing else; without them a router is made where the path is looked
 /// at, which is 503 where there is no memory for it.
 pub fn answer_kept<T: Threader, S: Alter, R: Source, W: Sink>(

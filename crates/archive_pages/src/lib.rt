@@ -4,7 +4,6 @@
 mod answering;
 mod faults;
 mod finding;
-mod following;
 pub mod laws;
 mod listing;
 mod pages;
@@ -16,6 +15,5 @@ mod writing;
 
 pub use answering::{answer, answer_kept};
 pub use faults::ServeFault;
-pub use following::answer_two;
 pub use pages::{Pages, Peer};
 pub use running::{run_and_answer, run_and_answer_in_memory};

@@ -1,7 +1,4 @@
 //! What requests are answered by, and who makes one.
-ghost use Rattle.std.specs.Prelude.{◌≡◌};
-ghost use Rattle.archive_kept.specs.Views.{nothing_kept};
-
 use archive_kept::Kept;
 use archive_requests::Routes;
 use civil_time::Day;
@@ -24,31 +21,6 @@ pub struct Pages<'a, T> {
     pub routes: Option<Routes>,
     /// The outlines of lists that were read for their threads, and of months and authors.
     pub kept: Kept,
-}
-
-impl<'a, T> Pages<'a, T> {
-    /// Nothing is kept yet, and at most so many bytes will be, or one list, month or author alone. Where there is no memory for the routes now, they
-    /// are made for each path.
-    pub fn new(
-        alloc: Global,
-        policy: &'a Policy,
-        threader: &'a T,
-        day: Day,
-        most: usize,
-    ) -> Pages<'a, T>
-        ensures policy { result.policy.now ≡ policy.now }
-        ensures day { result.day ≡ day }
-        ensures kept { result.kept ≡ nothing_kept most }
-    {
-        Pages {
-            alloc,
-            policy,
-            threader,
-            day,
-            routes: Routes::new(alloc).ok(),
-            kept: Kept::new(alloc, most),
-        }
-    }
 }
 
 /// Who makes one request: what is read of it, and what is written to it.

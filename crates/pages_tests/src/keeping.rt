@@ -48,6 +48,23 @@ fn paths(alloc: Global) -> Result<Vec<Vec<u8>>, Fail> {
     Ok(paths)
 }
 
+/// By what these requests are answered today: nothing is kept yet, and so many bytes at most will be.
+pub fn pages_for<'a, T>(
+    alloc: Global,
+    policy: &'a Policy,
+    threader: &'a T,
+    most: usize,
+) -> Result<Pages<'a, T>, Fail> {
+    Ok(Pages {
+        alloc,
+        policy,
+        threader,
+        day: today()?,
+        routes: Some(Routes::new(alloc)?),
+        kept: Kept::new(alloc, most),
+    })
+}
+
 /// The reply to a request for a path, out of what is kept.
 pub fn kept_reply<T: Threader, S: Alter>(
     store: &mut Store<S>,
@@ -165,7 +182,7 @@ fn steps(
     let mut store = Store::open_in_memory(alloc)?;
     store.list_add("soc")?;
     import(&mut store, alloc, "soc", TWO)?;
-    let mut pages = Pages::new(alloc, &policy, &PlainThreader, today()?, most);
+    let mut pages = pages_for(alloc, &policy, &PlainThreader, most)?;
     for path in before {
         kept_reply(&mut store, &mut pages, None, path)?;
     }
@@ -218,7 +235,7 @@ fn months_and_authors_go_by_the_texts(rt: HostRuntime) -> Result<(), Fail> {
     let alloc = rt.alloc();
     let mut store = filed_otherwise(alloc)?;
     let policy = Policy::open();
-    let mut pages = Pages::new(alloc, &policy, &PlainThreader, today()?, 1 << 20);
+    let mut pages = pages_for(alloc, &policy, &PlainThreader, 1 << 20)?;
     for _ in 0..2 {
         for (path, rows) in [(MARCH, 2), (APRIL, 0), (ANNA, 1)] {
             let wanted = reply(alloc, &mut store, &policy, &PlainThreader, None, path)?;

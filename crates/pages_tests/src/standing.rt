@@ -1,12 +1,11 @@
 //! Threads that are kept while the store fails between two requests: over disks that stop, and where a message of another list
 //! cannot be read.
 use crate::breaking::{Step, UNAVAILABLE, empty, last_shut, one_page, over_files, stopping};
-use crate::cases::{TWO, today};
+use crate::cases::TWO;
 use crate::damaged::damaged;
-use crate::keeping::kept_reply;
+use crate::keeping::{kept_reply, pages_for};
 use crate::links::reply;
 use archive_desk::import;
-use archive_pages::Pages;
 use archive_store::Store;
 use desk_tests::noting::Noting;
 use policy_core::Policy;
@@ -38,7 +37,7 @@ fn stand_in(rt: &impl Abort, alloc: Global, paths: &[&[u8]]) -> Result<(), Fail>
     let policy = Policy::open();
     let noting = Noting::new(alloc);
     {
-        let mut pages = Pages::new(alloc, &policy, &noting, today()?, MOST);
+        let mut pages = pages_for(alloc, &policy, &noting, MOST)?;
         for path in paths {
             let wanted = reply(alloc, &mut store, &policy, &PlainThreader, None, path)?;
             let got = kept_reply(&mut store, &mut pages, None, path)?;
@@ -100,7 +99,7 @@ fn count_pages<S: Alter>(
     pages: &[Vec<u8>],
 ) -> Result<usize, Fail> {
     let policy = Policy::open();
-    let mut kept = Pages::new(alloc, &policy, &PlainThreader, today()?, MOST);
+    let mut kept = pages_for(alloc, &policy, &PlainThreader, MOST)?;
     let mut count: usize = 0;
     let mut stopped = false;
     for (path, page) in paths.iter().zip(pages.iter()) {
