@@ -7,16 +7,14 @@ ghost use Rattle.archive_tables.specs.Crashes.{AddsNothing};
 ghost use Rattle.archive_store.specs.Held.{held_of};
 ghost use Rattle.archive_store.specs.Refusals.{StopsAmong};
 ghost use Rattle.archive_store.specs.Replies.{refusal};
-ghost use Rattle.archive_store.specs.Batches.{tally_of as store_tally};
 ghost use Rattle.archive_store.specs.Told.{AsksIn, EndsAsk, HoldsTables, WasOpen};
 ghost use Rattle.archive_desk.specs.Crashes.{CrashesHeld, HasAddedAtLeast, HasImportedAtLeast};
 ghost use Rattle.archive_desk.specs.Ending.{EndsImport};
 ghost use Rattle.archive_desk.specs.Holding.{CallsHeld};
 ghost use Rattle.archive_desk.specs.Importing.{HasAdded, IsBrokenAdd, IsBrokenImport, IsImportWant, IsUncut};
-ghost use Rattle.archive_desk.specs.Importing.{IsImported, IsRefusedAdd, IsRefusedImport, StopsImport, stop_reason, tally_of};
-ghost use Rattle.archive_desk.specs.declared.importing.ImportFault.TheVariants.{Store as Stored};
+ghost use Rattle.archive_desk.specs.Importing.{IsImported, IsRefusedAdd, IsRefusedImport, StopsImport, stop_reason};
 
-use archive_store::{AddReport, AddStop, Store, StoreFault};
+use archive_store::{Store, StoreFault};
 use mbox_core::{Item, MboxFault, cut};
 use sqlite::Alter;
 use std::alloc::{AllocError, Global};
@@ -161,26 +159,14 @@ fn add_items<S: Alter>(
         (λ _ done db. StopsAmong list.now (drop done items.entry.now) db) }
 {
     match store.add_all(alloc, list, items) {
-        Ok(counts) => Ok(report_of(counts)),
-        Err(stop) => Err(stop_of(stop)),
-    }
-}
-
-fn report_of(counts: AddReport) -> Report
-    ensures { tally_of result ≡ store_tally counts }
-{
-    Report {
-        new: counts.new as u64,
-        known: counts.known as u64,
-        too_large: counts.too_large as u64,
-    }
-}
-
-fn stop_of(stop: AddStop) -> ImportStop
-    ensures { result ≡ record { done = stop.done; fault = Stored stop.fault } }
-{
-    ImportStop {
-        done: stop.done as u64,
-        fault: ImportFault::Store(stop.fault),
+        Ok(counts) => Ok(Report {
+            new: counts.new as u64,
+            known: counts.known as u64,
+            too_large: counts.too_large as u64,
+        }),
+        Err(stop) => Err(ImportStop {
+            done: stop.done as u64,
+            fault: ImportFault::Store(stop.fault),
+        }),
     }
 }

@@ -1,14 +1,13 @@
-use Rattle.std.proofs.Common.{◌⊎◌, [], ◌∷◌, ap, drop, inl, inr, sym, subst, Err}
+use Rattle.std.proofs.Common.{◌⊎◌, [], ◌∷◌, drop, inl, inr, refl, rules}
 use Rattle.sqlite.specs.Held.{state}
 use Rattle.archive_machine.specs.Commands.{list_full, no_list}
 use Rattle.archive_store.specs.Held.{held_of}
 use Rattle.archive_store.specs.Refusals.{StopsAmong}
 use Rattle.archive_store.specs.Told.{HasFailed, HoldsTables}
 use Rattle.archive_store.specs.declared.batches.AddReport.{AddReport}
-use Rattle.archive_desk.specs.Holding.{CallsHeld}
-use Rattle.archive_desk.specs.Importing.{HasAdded, IsBrokenAdd, IsImportWant, IsRefusedAdd, stop_reason}
+use Rattle.archive_desk.specs.Importing.{IsImportWant}
+use Rattle.archive_desk.specs.declared.importing.ImportFault.TheVariants.{Store as Stored}
 use Rattle.archive_desk.specs.declared.importing.Report.{Report}
-use Rattle.archive_desk.specs.declared.importing.ImportStop.{ImportStop}
 use Rattle.archive_desk.proofs.CrashLemmas.{stopped_crash}
 use Rattle.archive_desk.proofs.ImportEnds.{import_stopped, wanted_by}
 use Rattle.archive_desk.proofs.ImportLemmas.{added_all, added_first}
@@ -16,8 +15,8 @@ use Rattle.archive_desk.proofs.importing.add_items.Goals as goal
 
 pub returns-in-Ok : goal.returns-in-Ok
 returns-in-Ok g c = record {
-  added = added_all g.S.Store c.args.store.now c.add_all.new.self c.args.list.now c.args.items.now c.add_all.ensures.ends.lasts c.in-Ok.counts c.report_of.result
-      c.report_of.ensures c.in-Ok.ensures.step;
+  added = added_all g.S.Store c.args.store.now c.add_all.new.self c.args.list.now c.args.items.now c.add_all.ensures.ends.lasts c.in-Ok.counts _
+      (search rules) c.in-Ok.ensures.step;
   crash = c.in-Ok.ensures.crash;
   ends = record { caused = tt; counted = (c.in-Ok.ensures.ends.counted.0, tt) };
 }
@@ -29,13 +28,10 @@ returns-in-Err g c =
     let old = c.args.store.now in
     let new = c.add_all.new.self in
     record {
-      added = subst
-          (λ s. CallsHeld g.S.Store old new {A = Report} stop_reason (Err s) (λ a b report. HasAdded list items a b report)
-          (λ a b why. IsRefusedAdd list items a b why.0 why.1) (λ a b stop. IsBrokenAdd list items a b stop.done stop.fault)) (sym c.stop_of.ensures)
-          (added_first g.S.Store old new list items c.add_all.ensures.ends.lasts c.in-Err.stop c.in-Err.ensures.bound c.in-Err.ensures.step);
-      crash = stopped_crash g.S.Store old new list items c.in-Err.stop c.stop_of.result (ap (λ (s : ImportStop). s.done) c.stop_of.ensures) c.in-Err.ensures.crash;
+      added = added_first g.S.Store old new list items c.add_all.ensures.ends.lasts c.in-Err.stop c.in-Err.ensures.bound c.in-Err.ensures.step;
+      crash = stopped_crash g.S.Store old new list items c.in-Err.stop (record { done = c.in-Err.stop.done; fault = Stored c.in-Err.stop.fault }) refl c.in-Err.ensures.crash;
       ends = import_stopped g.S.Store (HoldsTables g.S.Store) IsImportWant old new AddReport Report (λ a done db. StopsAmong list (drop done items) db) (λ store held. held) wanted_by
           (HasFailed g.S.Store old new ⊎ StopsAmong list (drop c.in-Err.stop.done items) (state g.S.Store (held_of new)).now) c.in-Err.stop.fault
-          (no_list ∷ list_full ∷ []) c.in-Err.stop.done c.stop_of.result
-          c.stop_of.ensures (λ why. elim why [ inl more ↦ inl more | inr stops ↦ inr (λ a. stops) ]) c.in-Err.ensures.ends;
+          (no_list ∷ list_full ∷ []) c.in-Err.stop.done (record { done = c.in-Err.stop.done; fault = Stored c.in-Err.stop.fault })
+          refl (λ why. elim why [ inl more ↦ inl more | inr stops ↦ inr (λ a. stops) ]) c.in-Err.ensures.ends;
     }
