@@ -1,19 +1,21 @@
 -- What a stop of the machine leaves, from call to call.
-use Rattle.std.proofs.Common.{◌≡◌, inl, inr, refl, sym, subst, ℕ, true, List, None, Result, Ok, Err}
+use Rattle.std.proofs.Common.{◌≡◌, ◌∙◌, ap, inl, inr, refl, sym, subst, arith, ℕ, true, List, length, None, Result, Ok, Err}
+use Rattle.std.proofs.lemmas.List.{take_all}
 use Rattle.sqlite.specs.Store.{Ghosts}
 use Rattle.mbox_core.specs.Division.{Item, Divides}
 use Rattle.archive_machine.specs.Records.{Archive}
 use Rattle.archive_machine.specs.Questions.{has_list, list_refusal}
 use Rattle.archive_tables.specs.Crashes.{AddsNothing}
-use Rattle.archive_store.specs.Crashes.{CrashAll}
+use Rattle.archive_machine.specs.Runs.{taken}
+use Rattle.archive_store.specs.Crashes.{CrashAll, Crashes, HasAddedAtLeast}
 use Rattle.archive_store.specs.Held.{held_of}
 use Rattle.archive_store.specs.Told.{GoesIn, HasReturned, HoldsTables, Lasts, archive_in}
 use Rattle.archive_store.specs.declared.batches.AddStop.{AddStop}
 use Rattle.archive_store.specs.declared.store.Store.{Store}
-use Rattle.archive_store.proofs.CrashLemmas.{asked_safe}
-use Rattle.archive_desk.specs.Crashes.{CrashesIn, CrashesHeld, HasAddedAtLeast, HasImportedAtLeast, IsSafeStore}
+use Rattle.archive_store.proofs.CrashLemmas.{asked_safe, leaves_as, leaves_now}
+use Rattle.archive_desk.specs.Crashes.{CrashesIn, CrashesHeld, HasImportedAtLeast, IsSafeStore}
 use Rattle.archive_desk.specs.Holding.{CallsHeld}
-use Rattle.archive_desk.specs.Importing.{HasAdded, IsBrokenAdd, IsRefusedAdd, stop_reason}
+use Rattle.archive_desk.specs.Importing.{HasAdded, IsBrokenAdd, IsBrokenImport, IsImported, IsRefusedAdd, IsRefusedImport, stop_reason}
 use Rattle.archive_desk.specs.declared.importing.Report.{Report}
 use Rattle.archive_desk.specs.declared.importing.ImportStop.{ImportStop}
 use Rattle.archive_desk.proofs.CallLemmas.{calls_last}
@@ -61,11 +63,25 @@ module _ {S : Type 0} (g : Ghosts S) where
   question_safe old new Says same goes quiet = λ returned held was.
       asked_safe g (held_of old) (held_of new) quiet (same _ _ (goes.1 returned held).1) returned was
 
+  -- ---- an import stops: it left so many first messages at whatever moment, since it does behind the call
+
+  some_more : (list text : List ℕ) (done : ℕ) (a b : Archive) → HasImportedAtLeast list text done a b → HasImportedAtLeast list text 0 a b
+  some_more list text done a b (inl none) = inl (refl, none.1)
+  some_more list text done a b (inr some) = inr (some.0, some.1, (some.2.0, omega arith, some.2.2))
+
+  stops_import : (old new : Store S) (list text : List ℕ) (stop : ImportStop) → CrashesHeld g old new {A = Report} (Err stop) (λ a stop b. HasImportedAtLeast list text stop.done a b)
+      → Crashes g (held_of old) (held_of new) (HasImportedAtLeast list text 0) {A = Report} (Err stop) (λ stop. HasImportedAtLeast list text stop.done)
+  stops_import old new list text stop crash = record {
+    within = leaves_as g (held_of old) (held_of new) (HasImportedAtLeast list text stop.done) (HasImportedAtLeast list text 0) (some_more list text stop.done) crash;
+    stopped = crash;
+  }
+
   -- ---- the file is not taken in
 
   pub none_imported : (old new : Store S) (list text : List ℕ) (stop : ImportStop) → stop.done ≡ 0 → AddsNothing g (held_of old) (held_of new)
-      → CrashesHeld g old new {A = Report} (Err stop) (λ a stop b. HasImportedAtLeast list text stop.done a b)
-  none_imported old new list text stop none quiet = λ returned held was db may. (archive_in g old, inl (none, refl), was db (quiet returned db may))
+      → Crashes g (held_of old) (held_of new) (HasImportedAtLeast list text 0) {A = Report} (Err stop) (λ stop. HasImportedAtLeast list text stop.done)
+  none_imported old new list text stop none quiet =
+      stops_import old new list text stop (λ returned held was db may. (archive_in g old, inl (none, refl), was db (quiet returned db may)))
 
   -- ---- its messages are added
 
@@ -79,8 +95,8 @@ module _ {S : Type 0} (g : Ghosts S) where
       → CrashAll g (held_of old) (held_of new) list items (Err stop)
       → CrashesHeld g old new {A = Report} (Err told) (λ a s b. HasAddedAtLeast list items s.done a b)
   stopped_crash old new list items stop told same crash = λ returned held was db may.
-      let it = crash returned held was db may in
-      (it.0, subst (λ n. HasAddedAtLeast list items n (archive_in g old) it.0) (sym same) (it.1.0, it.1.1, (it.1.2, it.1.3)), it.2)
+      let it = crash.stopped returned held was db may in
+      (it.0, subst (λ n. HasAddedAtLeast list items n (archive_in g old) it.0) (sym same) it.1, it.2)
 
   -- the list is there
   abbrev pub IsThere : List ℕ → Archive → Archive → Type 0
@@ -94,3 +110,21 @@ module _ {S : Type 0} (g : Ghosts S) where
     some_imported (Err stop) crash = crash_after g (HoldsTables g) old mid new (IsThere list) (question_safe old mid (IsThere list) (λ a b it. it.0) goes quiet) goes Report Report stop stop
         (λ a stop b. HasAddedAtLeast list items stop.done a b) (λ a stop b. HasImportedAtLeast list text stop.done a b)
         (λ a b c said it. inr (items, divided, subst (λ x. HasAddedAtLeast list items stop.done x c) said.0 it)) lasts crash
+
+  -- where all were added, what is remembered is left, and they are so many first ones
+  all_imported : (list text : List ℕ) (a b : Archive) (report : Report) → IsImported list text a b report → HasImportedAtLeast list text 0 a b
+  all_imported list text a b report it =
+      let all = length it.items in
+      let same = it.added.archive_is ∙ ap (λ (xs : List Item). (taken a list xs).archive) (sym (take_all all it.items (omega arith))) in
+      inr (it.items, it.divided, (all, omega arith, (omega arith, same)))
+
+  pub import_crash : (old new : Store S) (list text : List ℕ) (result : Result Report ImportStop)
+      → CallsHeld g old new stop_reason result (λ a b report. IsImported list text a b report) (λ a b why. IsRefusedImport list text a b why.0 why.1)
+      (λ a b stop. IsBrokenImport list text a b stop.done stop.fault) → CrashesHeld g old new result (λ a stop b. HasImportedAtLeast list text stop.done a b)
+      → Crashes g (held_of old) (held_of new) (HasImportedAtLeast list text 0) result (λ stop. HasImportedAtLeast list text stop.done)
+  import_crash old new list text (Ok report) call crash = record {
+    within = leaves_now g (held_of old) (held_of new) (HasImportedAtLeast list text 0)
+        (λ returned held. all_imported list text (archive_in g old) (archive_in g new) report (call.1 returned held).1) crash;
+    stopped = tt;
+  }
+  import_crash old new list text (Err stop) call crash = stops_import old new list text stop crash

@@ -1,5 +1,5 @@
 -- What becomes of the messages of a file that are added to a list.
-use Rattle.std.specs.Prelude.{◌≡◌, ◌⊎◌, ◌≤◌, ℕ, ⊤, true, false, List, length, take, drop, Option, Some, None, option_map}
+use Rattle.std.specs.Prelude.{◌≡◌, ◌⊎◌, ℕ, ⊤, true, false, List, drop, Option, Some, None, option_map}
 use Rattle.sqlite.specs.Effect.{Database}
 use Rattle.mbox_core.specs.Division.{Item, Divides, IsPreamble}
 use Rattle.mbox_core.specs.Faults.{IsCutFault}
@@ -8,7 +8,7 @@ use Rattle.archive_machine.specs.Records.{Archive}
 use Rattle.archive_machine.specs.Commands.{Refusal, no_list, list_full}
 use Rattle.archive_machine.specs.Questions.{has_list}
 use Rattle.archive_machine.specs.Runs.{taken, Tally, tally}
-use Rattle.archive_store.specs.Batches.{IsFullAt, IsRefusedAt}
+use Rattle.archive_store.specs.Batches.{HasAddedFirst, IsFullAt, IsRefusedAt}
 use Rattle.archive_store.specs.Refusals.{StopsAmong}
 use Rattle.archive_store.specs.Replies.{refusal}
 use Rattle.archive_store.specs.declared.faults.StoreFault.TheVariants.{Memory as NoMemory, Store as Broken}
@@ -55,10 +55,6 @@ IsImportBroken fault = fault ≡ Store Broken
 pub record HasAdded (list : List ℕ) (items : List Item) (a b : Archive) (report : Report) : Type 0 where
   pub archive_is : b ≡ (taken a list items).archive
   pub told : tally_of report ≡ tally (taken a list items).replies
-
--- the first `done` of them
-abbrev pub HasAddedFirst : List ℕ → List Item → ℕ → Archive → Archive → Type 0
-HasAddedFirst list items done a b = (done ≤ length items) × (b ≡ (taken a list (take done items)).archive)
 
 -- the list was refused from this place on
 abbrev pub IsRefusedAdd : List ℕ → List Item → Archive → Archive → ℕ → Cause → Type 0

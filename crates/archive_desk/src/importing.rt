@@ -8,7 +8,8 @@ ghost use Rattle.archive_store.specs.Held.{held_of};
 ghost use Rattle.archive_store.specs.Refusals.{StopsAmong};
 ghost use Rattle.archive_store.specs.Replies.{refusal};
 ghost use Rattle.archive_store.specs.Told.{AsksIn, EndsAsk, HoldsTables, WasOpen};
-ghost use Rattle.archive_desk.specs.Crashes.{CrashesHeld, HasAddedAtLeast, HasImportedAtLeast};
+ghost use Rattle.archive_store.specs.Crashes.{Crashes, HasAddedAtLeast};
+ghost use Rattle.archive_desk.specs.Crashes.{CrashesHeld, HasImportedAtLeast};
 ghost use Rattle.archive_desk.specs.Ending.{EndsImport};
 ghost use Rattle.archive_desk.specs.Holding.{CallsHeld};
 ghost use Rattle.archive_desk.specs.Importing.{HasAdded, IsBrokenAdd, IsBrokenImport, IsImportWant, IsUncut};
@@ -66,8 +67,8 @@ impl Error for ImportFault {}
 /// changes nothing, one that is too large is passed over. The list is looked up before the file is cut: E4 where there
 /// is no such list, M1 where the file's first line that is not empty is no separator line, E12 where the list holds
 /// 50,000 messages and the next is not on it, E14 where no memory is left, E15 where the database fails. After a stop the
-/// same file can be imported again. Wherever the machine stops, an open finds so many first messages of the file, at least
-/// those that were told, and no other: what is repeated then is known.
+/// same file can be imported again. Wherever the machine stops, an open finds so many first messages of the file, and no
+/// other, and once the call has returned an error at least those that it told: what is repeated then is known.
 pub fn import<S: Alter>(
     store: &mut Store<S>,
     alloc: Global,
@@ -78,8 +79,9 @@ pub fn import<S: Alter>(
         (λ a b report. IsImported list.now mbox.now a b report)
         (λ a b why. IsRefusedImport list.now mbox.now a b why.0 why.1)
         (λ a b stop. IsBrokenImport list.now mbox.now a b stop.done stop.fault) }
-    ensures crash { CrashesHeld S.Store store.old store.new result
-        (λ a stop b. HasImportedAtLeast list.now mbox.now stop.done a b) }
+    ensures crash { Crashes S.Store (held_of store.old) (held_of store.new)
+        (HasImportedAtLeast list.now mbox.now 0) result
+        (λ stop. HasImportedAtLeast list.now mbox.now stop.done) }
     ensures ends { EndsImport S.Store store.old store.new (HoldsTables S.Store) IsImportWant result
         (λ _ done db. StopsImport list.now mbox.now done db) }
 {

@@ -1,14 +1,17 @@
 -- What a stop of the machine leaves of messages that are read piece by piece, from call to call.
-use Rattle.std.proofs.Common.{◌≡◌, ◌+◌, inl, refl, ap, sym, subst, ◌∙◌, arith, append_assoc, ℕ, List, [], ◌∷◌, ◌++◌, length, drop, Result, Ok, Err}
+use Rattle.std.proofs.Common.{◌≡◌, ◌+◌, inl, inr, refl, ap, sym, subst, ◌∙◌, arith, append_assoc, append-nil, ℕ, List, [], ◌∷◌, ◌++◌, length, drop, Result, Ok, Err}
 use Rattle.std.proofs.Math.Seq.{drop-append_seam}
+use Rattle.std.proofs.lemmas.List.{take_all}
 use Rattle.std.specs.Prelude.{IfErr}
 use Rattle.sqlite.specs.Store.{Ghosts}
-use Rattle.mbox_core.specs.Division.{Item}
+use Rattle.mbox_core.specs.Division.{Item, Divides}
 use Rattle.mbox_core.specs.declared.faults.MboxFault.TheVariants.{Memory as NoRoom}
 use Rattle.mbox_stream.specs.Stream.{settled_items}
 use Rattle.archive_machine.specs.Records.{Archive}
+use Rattle.archive_machine.specs.Runs.{taken}
 use Rattle.archive_tables.specs.Crashes.{AddsNothing}
-use Rattle.archive_store.specs.Crashes.{CrashAll}
+use Rattle.archive_store.specs.Batches.{AddsAll, HasAddedFirst}
+use Rattle.archive_store.specs.Crashes.{CrashAll, HasAddedAtLeast}
 use Rattle.archive_store.specs.Held.{held_of}
 use Rattle.archive_store.specs.Told.{GoesIn, HoldsTables, Lasts, archive_in}
 use Rattle.archive_desk.specs.Holding.{CallsHeld, GoesHeld}
@@ -16,16 +19,16 @@ use Rattle.archive_store.specs.declared.batches.AddReport.{AddReport}
 use Rattle.archive_store.specs.declared.batches.AddStop.{AddStop}
 use Rattle.archive_store.specs.declared.faults.StoreFault.{StoreFault}
 use Rattle.archive_store.specs.declared.store.Store.{Store}
+use Rattle.archive_store.proofs.CrashLemmas.{KeepsCommit, all_safe, leaves_as, leaves_now}
 use Rattle.archive_store.proofs.RunLemmas.{run_nothing}
-use Rattle.archive_desk.specs.Crashes.{CrashesHeld, HasAddedAtLeast}
-use Rattle.archive_desk.specs.Importing.{HasAddedFirst}
+use Rattle.archive_desk.specs.Crashes.{CrashesHeld}
 use Rattle.archive_desk.specs.declared.importing.Report.{Report}
 use Rattle.archive_desk.specs.declared.importing.ImportStop.{ImportStop}
 use Rattle.archive_desk.specs.declared.importing.ImportFault.{ImportFault}
 use Rattle.archive_desk.specs.declared.importing.ImportFault.TheVariants.{Mbox, Store as Stored}
 use Rattle.archive_desk.proofs.CallLemmas.{calls_last}
 use Rattle.archive_desk.proofs.CrashLemmas.{StaysSafe, crash_after, crash_as, crash_between, question_safe, stays_safe_then}
-use Rattle.archive_import.specs.Streaming.{AreRead, HasReadAtLeast, halt_reason}
+use Rattle.archive_import.specs.Streaming.{AreRead, CrashReads, HasReadAtLeast, IsReadIn, halt_reason}
 use Rattle.archive_import.specs.Intake.{IntakeState, IsUnderWay}
 use Rattle.archive_import.proofs.IntakeLemmas.{first_done, first_longer, some_added, under_way_first}
 use Rattle.archive_import.proofs.StopLemmas.{Breaks, BreaksAmid, Grows, Halts, HaltsAmid, Keeps}
@@ -93,18 +96,19 @@ module _ {S : Type 0} (g : Ghosts S) where
   -- ---- what is held is added
 
   module _ (old new : Store S) (list : List ℕ) (i : IntakeState) where
-    pub safe_added : (counts : AddReport) → CrashAll g (held_of old) (held_of new) list i.held (Ok counts) → KeepsSafe old new
-    safe_added counts crash = λ returned held was. crash returned held was
+    pub safe_added : KeepsCommit g (held_of new) → (counts : AddReport) → AddsAll g (held_of old) (held_of new) (Ok counts) list i.held
+        → CrashAll g (held_of old) (held_of new) list i.held (Ok counts) → KeepsSafe old new
+    safe_added settled counts step crash = all_safe g (held_of old) (held_of new) list i.held settled counts step crash
 
     pub held_crash : (stop : AddStop) (at : ImportStop) → at ≡ record { done = i.done + stop.done; fault = Stored stop.fault }
         → CrashAll g (held_of old) (held_of new) list i.held (Err stop) → CrashesHeld g old new {A = Unit {0}} (Err at) (LeavesAmid list i)
     held_crash stop at is crash = λ returned held was db may.
-        let it = crash returned held was db may in (
+        let it = crash.stopped returned held was db may in (
           it.0,
           λ a items w. (
             i.done + it.1.0,
             omega (arith, ap (λ (s : ImportStop). s.done) is, it.1.1),
-            some_added list a (archive_in g old) items i w it.0 it.1.0 it.1.2 it.1.3,
+            some_added list a (archive_in g old) items i w it.0 it.1.0 it.1.2.0 it.1.2.1,
           ),
           it.2,
         )
@@ -202,3 +206,48 @@ module _ {S : Type 0} (g : Ghosts S) where
   ended_crash old mid new list items j safe before lasts text ends stop crash =
       crash_after g (HoldsTables g) old mid new (λ a c. IsUnderWay list a c items j) safe before (Unit {0}) Report stop stop (LeavesRead list text ends items j) (LeavesFile list text ends)
       (λ a b c it leaves. leaves a it) lasts crash
+
+  -- ---- at whatever moment: of all bytes that the input has
+
+  reads_more : (list text rest : List ℕ) (ends done : ℕ) (a b : Archive) → (ends ≡ 1 → rest ≡ []) → HasReadAtLeast list text ends done a b
+      → HasReadAtLeast list (text ++ rest) 1 0 a b
+  reads_more list text rest ends done a b last it = by_read it.1
+    where
+      by_read : AreRead text ends it.0 → HasReadAtLeast list (text ++ rest) 1 0 a b
+      by_read (inl are) = (
+        settled_items (text ++ rest),
+        inl refl,
+        (
+          it.2.0,
+          omega arith,
+          first_of list (settled_items text) (settled_items (text ++ rest)) it.2.0 a b (settled_beginning text (text ++ rest) rest refl)
+              (subst (λ is. HasAddedFirst list is it.2.0 a b) are it.2.2),
+        ),
+      )
+      by_read (inr ended) =
+          let whole : text ++ rest ≡ text = ap (λ x. text ++ x) (last ended.0) ∙ append-nil text in
+          (it.0, inr (refl, subst (λ t. Divides t it.0) (sym whole) ended.1), (it.2.0, omega arith, it.2.2))
+
+  pub stops_reading : (old new : Store S) (list text : List ℕ) (ends : ℕ) (stop : ImportStop) → CrashesHeld g old new {A = Report} (Err stop) (LeavesFile list text ends)
+      → CrashReads g old new list text ends (Err stop)
+  stops_reading old new list text ends stop crash = record {
+    within = λ rest last. leaves_as g (held_of old) (held_of new) (HasReadAtLeast list text ends stop.done) (HasReadAtLeast list (text ++ rest) 1 0)
+        (λ a b it. reads_more list text rest ends stop.done a b last it) crash;
+    stopped = crash;
+  }
+
+  all_read : (list text : List ℕ) (ends : ℕ) (a b : Archive) (report : Report) → IsReadIn list text ends a b report → HasReadAtLeast list text ends 0 a b
+  all_read list text ends a b report it =
+      let items = it.1.items in
+      let all = length items in
+      let same = it.1.added.archive_is ∙ ap (λ (xs : List Item). (taken a list xs).archive) (sym (take_all all items (omega arith))) in
+      (items, inr (it.0, it.1.divided), (all, omega arith, (omega arith, same)))
+
+  pub ends_reading : (old new : Store S) (list text : List ℕ) (ends : ℕ) (report : Report) → GoesHeld g old new (λ a b. IsReadIn list text ends a b report) → KeepsSafe old new
+      → CrashReads g old new list text ends (Ok report)
+  ends_reading old new list text ends report goes safe = record {
+    within = λ rest last. leaves_now g (held_of old) (held_of new) (HasReadAtLeast list (text ++ rest) 1 0)
+        (λ returned held. reads_more list text rest ends 0 (archive_in g old) (archive_in g new) last
+        (all_read list text ends (archive_in g old) (archive_in g new) report (goes.1 returned held).1)) safe;
+    stopped = tt;
+  }

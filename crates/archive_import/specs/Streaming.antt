@@ -11,15 +11,16 @@ use Rattle.archive_machine.specs.Records.{Archive}
 use Rattle.archive_machine.specs.Commands.{Refusal, no_list, list_full}
 use Rattle.archive_machine.specs.Questions.{has_list}
 use Rattle.archive_machine.specs.Runs.{taken}
-use Rattle.archive_store.specs.Batches.{IsFullAt}
+use Rattle.archive_store.specs.Batches.{HasAddedFirst, IsFullAt}
+use Rattle.archive_store.specs.Crashes.{HasAddedAtLeast, LeavesOne}
+use Rattle.archive_store.specs.Held.{held_of}
 use Rattle.archive_store.specs.Refusals.{StopsAmong}
 use Rattle.archive_store.specs.Replies.{refusal}
 use Rattle.archive_store.specs.Told.{HoldsTables}
 use Rattle.archive_desk.specs.Holding.{CallsHeld}
 use Rattle.archive_store.specs.declared.store.Store.{Store as Open}
-use Rattle.archive_desk.specs.Crashes.{HasAddedAtLeast}
 use Rattle.archive_desk.specs.Ending.{EndsImport}
-use Rattle.archive_desk.specs.Importing.{HasAddedFirst, IsImported, IsImportWant}
+use Rattle.archive_desk.specs.Importing.{IsImported, IsImportWant}
 use Rattle.archive_desk.specs.declared.importing.Report.{Report}
 use Rattle.archive_desk.specs.declared.importing.ImportStop.{ImportStop}
 use Rattle.archive_desk.specs.declared.importing.ImportFault.{ImportFault}
@@ -99,7 +100,7 @@ abbrev pub IsBroken : (list text : List ℕ) → (ends : ℕ) → (a b : Archive
 IsBroken list text ends a b done (Mbox fault) = ⊥
 IsBroken list text ends a b done (Store fault) = (items : List Item) × AreRead text ends items × HasAddedFirst list items done a b
 
--- A stop of the machine: so many first of the messages read were added, at least `done`.
+-- So many first of the messages read were added, at least `done`.
 abbrev pub HasReadAtLeast : (list text : List ℕ) → (ends : ℕ) → (done : ℕ) → (a b : Archive) → Type 0
 HasReadAtLeast list text ends done a b = (items : List Item) × AreRead text ends items × HasAddedAtLeast list items done a b
 
@@ -153,3 +154,11 @@ Imports g old new list text ends result = CallsHeld g old new halt_reason result
 -- How it ends, and each call of it: why E15 comes, where the tables are an archive's, and that want of memory is counted.
 abbrev pub EndsReading : {S : Type 0} → Ghosts S → (old new : Open S) → {A : Type 0} → Result A ImportStop → (Archive → ℕ → Database → Type 0) → Type 0
 EndsReading g old new result Stops = EndsImport g old new (HoldsTables g) IsWanting result Stops
+
+-- What a stop of the machine leaves of an import of this text, which was read of an input that met its end so often.
+pub record CrashReads {S : Type 0} (g : Ghosts S) (old new : Open S) (list text : List ℕ) (ends : ℕ) (result : Result Report ImportStop) : Type 0 where
+  -- Within the call: so many first messages of all bytes that the input has, whichever they are. They begin with what was read, and are that where
+  -- the end was met; so it is in each run over the input, and else nothing is named but the archive before.
+  pub within : (rest : List ℕ) → (ends ≡ 1 → rest ≡ []) → LeavesOne g (held_of old) (held_of new) (HasReadAtLeast list (text ++ rest) 1 0)
+  -- once it has stopped: at least those that it told, of what was read
+  pub stopped : IfErr result (λ stop. LeavesOne g (held_of old) (held_of new) (HasReadAtLeast list text ends stop.done))

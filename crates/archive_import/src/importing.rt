@@ -5,15 +5,15 @@ ghost use Rattle.mbox_stream.specs.Cutter.{IsCutter};
 ghost use Rattle.archive_machine.specs.Commands.{list_full, no_list};
 ghost use Rattle.archive_machine.specs.Records.{Archive};
 ghost use Rattle.archive_store.specs.Batches.{AddsAll};
-ghost use Rattle.archive_store.specs.Crashes.{CrashAll};
+ghost use Rattle.archive_store.specs.Crashes.{CrashAll, HasAddedAtLeast};
 ghost use Rattle.archive_store.specs.Held.{held_of};
 ghost use Rattle.archive_store.specs.Refusals.{StopsAmong};
 ghost use Rattle.archive_store.specs.Replies.{done_in, with_fault};
 ghost use Rattle.archive_store.specs.Told.{EndsBehind};
-ghost use Rattle.archive_desk.specs.Crashes.{CrashesHeld, HasAddedAtLeast};
+ghost use Rattle.archive_desk.specs.Crashes.{CrashesHeld};
 ghost use Rattle.archive_desk.specs.Holding.{CallsHeld};
 ghost use Rattle.archive_desk.specs.Importing.{IsBrokenAdd};
-ghost use Rattle.archive_import.specs.Streaming.{EndsReading, Imports, halt_reason, HasFailed, FailedBy, IsFresh, IsHalted, IsBroken, IsReadIn, HasReadAtLeast};
+ghost use Rattle.archive_import.specs.Streaming.{CrashReads, EndsReading, Imports, halt_reason, HasFailed, FailedBy, IsFresh, IsHalted, IsBroken, IsReadIn, HasReadAtLeast};
 ghost use Rattle.archive_import.specs.Streaming.{IsSettled, ReadsIn, StopsReading, TakesWaiting};
 ghost use Rattle.archive_import.specs.Intake.{IsUnderWay, IsHaltedAdd, IsUnread, IsOfStore, StopsAmid, StopsMore, StopsRead, TellsWithin};
 
@@ -32,8 +32,8 @@ use std::alloc::{AllocError, Global};
 /// and all messages that were settled before it were done. M3: no memory was left to hold a message, or there were 2^64
 /// reads. E12, E14 (also after 2^64 messages), E15 as of `import`. After each stop the first `done` messages were taken in,
 /// known or too large, and no other was taken in (after E14 and E15 that is so if the connection is still open); the same
-/// input can be imported again. Wherever the machine stops, an
-/// open finds so many first messages of what was read, at least those that were told, and no other.
+/// input can be imported again. Wherever the machine stops, an open finds so many first messages of the input, and no other;
+/// once the call has returned an error, at least those that it told.
 pub fn import_from<S: Alter, R: Source>(
     store: &mut Store<S>,
     alloc: Global,
@@ -45,8 +45,7 @@ pub fn import_from<S: Alter, R: Source>(
         × Imports S.Store store.old store.new list.now text ends result }
     ensures crash { (text : List ℕ) (ends : ℕ) → R.told input.new ≡ R.told input.old ++ text
         → R.ends input.new ≡ R.ends input.old + ends
-        → CrashesHeld S.Store store.old store.new result
-        (λ a stop b. HasReadAtLeast list.now text ends stop.done a b) }
+        → CrashReads S.Store store.old store.new list.now text ends result }
     ensures failures { (failed : ℕ) × (R.failures input.new ≡ R.failures input.old + failed)
         × HasFailed result failed }
     ensures end { OnOk result (R.ends input.new ≡ R.ends input.old + 1) }

@@ -1,5 +1,6 @@
 -- What a stop of the machine leaves in a command and behind it.
-use Rattle.std.proofs.Common.{◌≡◌, inl, inr, refl, sym, ap, subst, ◌∙◌, ℕ, Option, Some, None, Result, Ok}
+use Rattle.std.proofs.Common.{◌≡◌, ◌≤◌, inl, inr, refl, sym, ap, subst, ◌∙◌, arith, ℕ, ◌+◌, List, length, Option, Some, None, Result, Ok, Err}
+use Rattle.std.proofs.lemmas.List.{take_all}
 use Rattle.std.specs.Prelude.{⊤, IsTrue, Bool, true, false, is_some, ◌==◌, if◌then◌else◌}
 use Rattle.sqlite_trees.specs.Objects.{catalog_tree}
 use Rattle.sqlite_catalog.specs.Listing.{Lists}
@@ -11,14 +12,23 @@ use Rattle.sqlite.specs.Held.{Held, state}
 use Rattle.sqlite.specs.State.{State, HasCleanDisk, IsLive}
 use Rattle.sqlite.specs.declared.error.Error.{Error}
 use Rattle.archive_machine.specs.Records.{Archive}
-use Rattle.archive_machine.specs.Commands.{Reply}
+use Rattle.archive_machine.specs.Commands.{Command, Reply}
 use Rattle.archive_machine.specs.Machine.{Outcome}
+use Rattle.archive_machine.specs.Runs.{run}
+use Rattle.mbox_items.specs.Division.{Item}
 use Rattle.archive_tables.specs.Schema.{archive_schema, no_schema, schema_1, schema_2, schema_3}
 use Rattle.archive_tables.specs.Tables.{IsHeldAs, IsKept, AreTables, form_of, archive_in, archive_of}
 use Rattle.archive_tables.specs.Calls.{Asks}
-use Rattle.archive_tables.specs.Crashes.{IsStored, IsSafe, AddsNothing, AddsOnly}
+use Rattle.archive_tables.specs.Crashes.{IsStored, IsSafe, AddsNothing, AddsOnly, CrashLeaves}
 use Rattle.archive_store.specs.Replies.{Does, Steps}
-use Rattle.archive_store.specs.Crashes.{CrashSteps, CrashAdopts, StopsIn}
+use Rattle.archive_store.specs.Batches.{AddsAll}
+use Rattle.archive_store.specs.Crashes.{CrashAll, CrashRuns, CrashSteps, CrashAdopts, HasAddedAtLeast, HasRun, LeavesOne, StopsIn}
+use Rattle.archive_store.specs.declared.batches.AddReport.{AddReport}
+use Rattle.archive_store.specs.declared.batches.AddStop.{AddStop}
+use Rattle.archive_store.specs.declared.running.Outcome.{Outcome as Answered}
+use Rattle.archive_store.specs.declared.running.RunStop.{RunStop}
+use Rattle.std.specs.Prelude.{Vec}
+use Rattle.std.specs.declared.alloc.Global.{Global}
 use Rattle.archive_store.proofs.StepLemmas.{Learns, begins, asks}
 use Rattle.archive_store.proofs.PassLemmas.{passed_over}
 
@@ -79,6 +89,10 @@ module _ {S : Type 0} (g : Ghosts S) where
   answered_safe old new settled step (Some reply) told steps crash clean safe =
       stays_safe old new settled steps.0 (IsStored (step (archive_of (state g old))).0) (λ db it. ((step (archive_of (state g old))).0, it)) crash clean safe
 
+  -- whatever archive a stop leaves, of an open one it is what is remembered
+  pub left_safe : (c : Held S) → KeepsCommit c → IsKept (state g c) → (Is : Archive → Type 0) → CrashLeaves (state g c) Is → IsSafe (state g c)
+  left_safe c settled kept Is left = λ db may. let it = left db may in safe_by c settled kept db may it.0 it.2
+
   -- behind a question
   pub asked_safe : (old new : Held S) → AddsNothing g old new → archive_of (state g new) ≡ archive_of (state g old) → HasCleanDisk (state g new) → IsSafe (state g old) → IsSafe (state g new)
   asked_safe old new quiet same clean safe = λ db may. subst (λ a. IsStored a db) (sym same) (safe db (quiet clean db may))
@@ -94,6 +108,57 @@ module _ {S : Type 0} (g : Ghosts S) where
   stops_in old new settled step (Some reply) does crash = λ clean kept safe.
       let it = does clean kept in
       (ap (λ (o : Outcome). o.0) it.1, answered_safe old new settled step (Some reply) refl it (crash kept) clean safe)
+
+  -- ---- commands or messages, one after the other
+
+  -- what is open is left, and nothing else, and it is this of the archive before
+  pub leaves_now : (old new : Held S) (Is : Archive → Archive → Type 0) → (HasCleanDisk (state g new) → IsKept (state g old) → Is (archive_of (state g old)) (archive_of (state g new)))
+      → (HasCleanDisk (state g new) → IsKept (state g old) → IsSafe (state g old) → IsSafe (state g new)) → LeavesOne g old new Is
+  leaves_now old new Is is safe = λ clean kept was db may. (archive_of (state g new), is clean kept, safe clean kept was db may)
+
+  -- the same in weaker words
+  pub leaves_as : (old new : Held S) (Is Also : Archive → Archive → Type 0) → ((a b : Archive) → Is a b → Also a b) → LeavesOne g old new Is → LeavesOne g old new Also
+  leaves_as old new Is Also also leaves = λ clean kept safe db may. let it = leaves clean kept safe db may in (it.0, also (archive_of (state g old)) it.0 it.1, it.2)
+
+  module _ (old new : Held S) (commands : List Command) where
+    pub ran_crash : (outcomes : Vec Answered Global)
+        → (HasCleanDisk (state g new) → IsKept (state g old) → archive_of (state g new) ≡ (run (archive_of (state g old)) commands).archive)
+        → (HasCleanDisk (state g new) → IsKept (state g old) → IsSafe (state g old) → IsSafe (state g new)) → CrashRuns g old new commands (Ok outcomes)
+    ran_crash outcomes is safe = record {
+      within = leaves_now old new (HasRun commands 0 (length commands)) (λ clean kept. (
+        length commands,
+        omega arith,
+        omega arith,
+        is clean kept ∙ ap (λ cs. (run (archive_of (state g old)) cs).archive) (sym (take_all (length commands) commands (omega arith))),
+      )) safe;
+      stopped = tt;
+    }
+
+    -- those up to where it stopped, or the next, too
+    pub broken_run : (stop : RunStop) (most : ℕ) → most ≤ stop.done + 1 → most ≤ length commands → LeavesOne g old new (HasRun commands stop.done most)
+        → CrashRuns g old new commands (Err stop)
+    broken_run stop most next all leaves = record {
+      within = leaves_as old new (HasRun commands stop.done most) (HasRun commands 0 (length commands)) (λ a b it. (it.0, omega arith, omega (arith, it.2, all), it.3)) leaves;
+      stopped = leaves_as old new (HasRun commands stop.done most) (HasRun commands stop.done (stop.done + 1)) (λ a b it. (it.0, it.1, omega (arith, it.2, next), it.3)) leaves;
+    }
+
+  module _ (old new : Held S) (list : List ℕ) (items : List Item) where
+    pub added_crash : (report : AddReport)
+        → (HasCleanDisk (state g new) → IsKept (state g old) → HasAddedAtLeast list items 0 (archive_of (state g old)) (archive_of (state g new)))
+        → (HasCleanDisk (state g new) → IsKept (state g old) → IsSafe (state g old) → IsSafe (state g new)) → CrashAll g old new list items (Ok report)
+    added_crash report is safe = record { within = leaves_now old new (HasAddedAtLeast list items 0) is safe; stopped = tt }
+
+    pub broken_crash : (stop : AddStop) → LeavesOne g old new (HasAddedAtLeast list items stop.done) → CrashAll g old new list items (Err stop)
+    broken_crash stop leaves = record {
+      within = leaves_as old new (HasAddedAtLeast list items stop.done) (HasAddedAtLeast list items 0) (λ a b it. (it.0, omega arith, it.2)) leaves;
+      stopped = leaves;
+    }
+
+    -- where all were added, what is remembered
+    pub all_safe : KeepsCommit new → (report : AddReport) → AddsAll g old new (Ok report) list items → CrashAll g old new list items (Ok report) → HasCleanDisk (state g new)
+        → IsKept (state g old) → IsSafe (state g old) → IsSafe (state g new)
+    all_safe settled report step crash clean kept safe =
+        left_safe new settled (step clean kept).0 (HasAddedAtLeast list items 0 (archive_of (state g old))) (crash.within clean kept safe)
 
   -- ---- a database that is taken over
 

@@ -15,6 +15,7 @@ pub mod FollowLemmas
 pub mod CauseLemmas
 pub mod WantLemmas
 pub mod CrashLemmas
+mod CrashExamples
 mod PutLemmas
 mod AskLemmas
 mod PassLemmas

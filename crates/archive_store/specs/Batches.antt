@@ -59,6 +59,10 @@ pub record HasTaken (behind : Option Database) (s : State) (a : Archive) (list :
   pub counted : IsCounted (archive_of s) list count
   pub told : tally_of report ≡ tally (taken a list items).replies
 
+-- the first `done` items were added, and no other
+abbrev pub HasAddedFirst : List ℕ → List Item → ℕ → Archive → Archive → Type 0
+HasAddedFirst list items done a b = (done ≤ length items) × (b ≡ (taken a list (take done items)).archive)
+
 -- the archive is what these items make of that one, if the connection is open
 abbrev pub IsAfter : State → Archive → List ℕ → List Item → Type 0
 IsAfter s a list items = IsTrue s.is_open → IsKept s × (archive_of s ≡ (taken a list items).archive)

@@ -1,8 +1,8 @@
 -- What a stop of the machine leaves of a store: of a command, or of a database that is taken over, the archive before or after it; of
 -- many commands or messages, what so many of them made.
--- To the right of an arrow stands nothing of the state behind the call but what a stop leaves of it (`CrashSteps`,
--- `CrashAdopts`, `CrashAddsOver`, `CrashBatch`): so they speak of each moment within the call, too.
-use Rattle.std.specs.Prelude.{◌≡◌, ◌⊎◌, ℕ, ◌+◌, ◌≤◌, List, length, take, Option, Some, None, Result, Vec, MatchOption, MatchResult}
+-- What speaks of each moment within a call names nothing of the state behind it but what a stop leaves of it, and nothing of what it
+-- answers: `CrashSteps`, `CrashAdopts`, `CrashAddsOver`, `CrashBatch`, and of `Crashes` the field `within`.
+use Rattle.std.specs.Prelude.{◌≡◌, ◌⊎◌, ℕ, ◌+◌, ◌≤◌, List, length, take, Option, Some, None, Result, IfErr, Vec, MatchOption}
 use Rattle.std.specs.declared.alloc.Global.{Global}
 use Rattle.mbox_items.specs.Division.{Item}
 use Rattle.sqlite.specs.Effect.{Database}
@@ -17,7 +17,7 @@ use Rattle.archive_tables.specs.Schema.{no_schema}
 use Rattle.archive_tables.specs.Tables.{IsHeld, IsHeldAs, IsKept, IsKnown, form_of, archive_by, archive_of}
 use Rattle.archive_tables.specs.Making.{empty_archive}
 use Rattle.archive_tables.specs.Crashes.{IsStored, IsSafe, CrashLeaves, AddsNothing, AddsOnly}
-use Rattle.archive_store.specs.Batches.{IsCounted, HasTaken, IsFullAt}
+use Rattle.archive_store.specs.Batches.{HasAddedFirst, IsCounted, HasTaken, IsFullAt}
 use Rattle.archive_store.specs.declared.batches.AddReport.{AddReport}
 use Rattle.archive_store.specs.declared.batches.AddStop.{AddStop}
 use Rattle.archive_store.specs.declared.running.Outcome.{Outcome as Answered}
@@ -29,14 +29,33 @@ pub record IsWholeBatch (a : Archive) (list : List ℕ) (items : List Item) (fro
   pub most : at ≤ to
   pub whole : (at ≡ to) ⊎ IsFullAt a list items at
 
+-- so many first commands were carried out: at least and at most this many
+abbrev pub HasRun : List Command → (least most : ℕ) → Archive → Archive → Type 0
+HasRun commands least most a b = (n : ℕ) × (least ≤ n) × (n ≤ most) × (b ≡ (run a (take n commands)).archive)
+
+-- so many first messages were added, at least `done`
+abbrev pub HasAddedAtLeast : List ℕ → List Item → ℕ → Archive → Archive → Type 0
+HasAddedAtLeast list items done a b = (at : ℕ) × (done ≤ at) × HasAddedFirst list items at a b
+
 module _ {S : Type 0} (g : Ghosts S) (old new : Held S) where
+  -- ---- any call
+
+  -- Where before a call a stop left what was remembered, and nothing else, an open after it finds an archive that is this of the one before.
+  abbrev pub LeavesOne : (Archive → Archive → Type 0) → Type 0
+  LeavesOne Is = HasCleanDisk (state g new) → IsKept (state g old) → IsSafe (state g old) → CrashLeaves (state g new) (Is (archive_of (state g old)))
+
+  -- What a stop leaves within a call, whatever it answers; and what it leaves once the call has stopped for a fault and returned.
+  pub record Crashes (Within : Archive → Archive → Type 0) {A F : Type 0} (result : Result A F) (Stops : F → Archive → Archive → Type 0) : Type 0 where
+    pub within : LeavesOne Within
+    pub stopped : IfErr result (λ fault. LeavesOne (Stops fault))
+
   -- ---- a command
 
   -- What a stop leaves after a command it left before, or it is the archive that the machine makes.
   abbrev pub CrashSteps : (Archive → Outcome) → Type 0
   CrashSteps step = IsKept (state g old) → AddsOnly g old new (IsStored (step (archive_of (state g old))).0)
 
-  -- A command, and a stop in it or behind it. Where the command was answered, an open finds what the machine makes of the archive, and
+  -- A command that has returned, and a stop behind it. Where it was answered, an open finds what the machine makes of the archive, and
   -- nothing else; where memory or the database was at fault, the archive before it or that.
   abbrev pub StopsIn : (Archive → Outcome) → Option Reply → Type 0
   StopsIn step reply = HasCleanDisk (state g new) → IsKept (state g old) → IsSafe (state g old) →
@@ -44,12 +63,9 @@ module _ {S : Type 0} (g : Ghosts S) (old new : Held S) where
       let after = (step before).0 in
       MatchOption reply (CrashLeaves (state g new) (λ a. (a ≡ before) ⊎ (a ≡ after))) (λ _. (archive_of (state g new) ≡ after) × IsSafe (state g new))
 
-  -- Commands one after the other, and a stop in one of them or behind them. Where all were carried out, an open finds what they made, and
-  -- nothing else; and else what the first `done` made, or those and the next.
+  -- Commands one after the other: so many first ones; once the run has stopped, the first `done`, or those and the next.
   abbrev pub CrashRuns : List Command → Result (Vec Answered Global) RunStop → Type 0
-  CrashRuns commands result = HasCleanDisk (state g new) → IsKept (state g old) → IsSafe (state g old) →
-      let made : ℕ → Archive = λ n. (run (archive_of (state g old)) (take n commands)).archive in
-      MatchResult result (λ _. IsSafe (state g new)) (λ stop. CrashLeaves (state g new) (λ a. (a ≡ made stop.done) ⊎ (a ≡ made (stop.done + 1))))
+  CrashRuns commands result = Crashes (HasRun commands 0 (length commands)) result (λ stop. HasRun commands stop.done (stop.done + 1))
 
   -- ---- a database that is taken over
 
@@ -76,8 +92,6 @@ module _ {S : Type 0} (g : Ghosts S) (old new : Held S) where
   CrashBatch list items from to count told = (a : Archive) → HasTaken None (state g old) a list (take from items) count told
       → AddsOnly g old new (λ db. (at : ℕ) × IsWholeBatch a list items from to at × IsStored (taken a list (take at items)).archive db)
 
-  -- Many batches, and a stop in one of them or behind them. Where all messages were seen to, an open finds them, and nothing else; and
-  -- else the first so many, at least those that are told.
+  -- Many batches: so many first messages; once the call has stopped, at least those that it told.
   abbrev pub CrashAll : List ℕ → List Item → Result AddReport AddStop → Type 0
-  CrashAll list items result = HasCleanDisk (state g new) → IsKept (state g old) → IsSafe (state g old) → MatchResult result (λ _. IsSafe (state g new))
-      (λ stop. CrashLeaves (state g new) (λ b. (at : ℕ) × (stop.done ≤ at) × (at ≤ length items) × (b ≡ (taken (archive_of (state g old)) list (take at items)).archive)))
+  CrashAll list items result = Crashes (HasAddedAtLeast list items 0) result (λ stop. HasAddedAtLeast list items stop.done)

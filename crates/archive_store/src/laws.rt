@@ -10,10 +10,10 @@ ghost use Rattle.archive_machine.specs.Records.{Archive};
 ghost use Rattle.archive_machine.specs.Commands.{Reply};
 ghost use Rattle.archive_machine.specs.Machine.{Outcome};
 ghost use Rattle.archive_tables.specs.Tables.{IsKept};
-ghost use Rattle.archive_tables.specs.Crashes.{IsSafe};
+ghost use Rattle.archive_tables.specs.Crashes.{CrashLeaves, IsSafe};
 ghost use Rattle.archive_store.specs.Crashes.{CrashSteps, StopsIn};
 ghost use Rattle.archive_store.specs.Replies.{Does};
-ghost use Rattle.std.specs.Prelude.{◌⊎◌, Option};
+ghost use Rattle.std.specs.Prelude.{◌⊎◌, ⊤, Option};
 ghost use Rattle.sqlite.specs.Steps.{over_memory};
 ghost use Rattle.sqlite_trees.specs.declared.memory.MemStore.{MemStore};
 ghost use Rattle.sqlite_disk.specs.Disk.{MoreFaults};
@@ -47,10 +47,13 @@ pub fn an_open_store_stays_open_unless_its_disk_fails<S: Alter>()
 {}
 
 /// A stop of the machine between two calls leaves what an open archive remembers, and nothing else: so whatever was answered is
-/// there. `open_files` says that what it opens is live, and each call hands that on (`StopsIn`, `CrashRuns`, `CrashAll`).
+/// there. `open_files` says that what it opens is live; and where a call left an archive open, each clause on what a stop leaves
+/// (`StopsIn`, `CrashRuns`, `CrashAll`) says enough.
 pub fn a_crash_between_calls_leaves_what_is_remembered<S: Alter>()
-    ensures { (connection : Held S) → IsKept (state S.Store connection)
+    ensures opened { (connection : Held S) → IsKept (state S.Store connection)
         → IsLive (state S.Store connection) → IsSafe (state S.Store connection) }
+    ensures called { (connection : Held S) → IsKept (state S.Store connection)
+        → CrashLeaves (state S.Store connection) (λ _. ⊤) → IsSafe (state S.Store connection) }
 {}
 
 /// A stop in a command leaves the archive before it or the one that the machine makes, and behind a command that was answered

@@ -8,6 +8,7 @@ use Rattle.archive_store.specs.declared.batches.AddReport.{AddReport}
 use Rattle.archive_desk.specs.Importing.{IsImportWant}
 use Rattle.archive_desk.specs.declared.importing.ImportFault.TheVariants.{Store as Stored}
 use Rattle.archive_desk.specs.declared.importing.Report.{Report}
+use Rattle.archive_store.proofs.CrashLemmas.{all_safe}
 use Rattle.archive_desk.proofs.CrashLemmas.{stopped_crash}
 use Rattle.archive_desk.proofs.ImportEnds.{import_stopped, wanted_by}
 use Rattle.archive_desk.proofs.ImportLemmas.{added_all, added_first}
@@ -17,7 +18,8 @@ pub returns-in-Ok : goal.returns-in-Ok
 returns-in-Ok g c = record {
   added = added_all g.S.Store c.args.store.now c.add_all.new.self c.args.list.now c.args.items.now c.add_all.ensures.ends.lasts c.in-Ok.counts _
       (search rules) c.in-Ok.ensures.step;
-  crash = c.in-Ok.ensures.crash;
+  crash = all_safe g.S.Store (held_of c.args.store.now) (held_of c.add_all.new.self) c.args.list.now c.args.items.now
+      (λ db up may. g.met.S.Store.settled (held_of c.add_all.new.self).store db up may) c.in-Ok.counts c.in-Ok.ensures.step c.in-Ok.ensures.crash;
   ends = record { caused = tt; counted = (c.in-Ok.ensures.ends.counted.0, tt) };
 }
 

@@ -7,26 +7,31 @@ use Rattle.archive_desk.specs.Importing.{IsImportWant, StopsImport}
 use Rattle.archive_desk.specs.declared.importing.ImportFault.TheVariants.{Mbox, Store as Stored}
 use Rattle.archive_desk.specs.declared.importing.Report.{Report}
 use Rattle.mbox_core.specs.Division.{Divides}
-use Rattle.archive_desk.proofs.CrashLemmas.{IsThere, added_lasts, none_imported, some_imported}
+use Rattle.archive_desk.proofs.CrashLemmas.{IsThere, added_lasts, import_crash, none_imported, some_imported}
 use Rattle.archive_desk.proofs.ImportEnds.{import_ends_after, import_stopped, import_unbroken, wanted_by}
 use Rattle.archive_desk.proofs.ImportLemmas.{import_after, list_not_found, no_room_to_cut, not_mbox}
 use Rattle.archive_desk.proofs.importing.import.Goals as goal
 
 pub returns-in-Ok : goal.returns-in-Ok
-returns-in-Ok g c = record {
-  imports = import_after g.S.Store c.args.store.now c.find_list.new.store c.add_items.new.store c.args.list.now c.args.mbox.now c.deref.result.now
-      (subst (λ items. Divides c.args.mbox.now items) (sym c.deref.ensures.value) c.in-Ok.ensures.divided) c.add_items.result
-      c.in_default.ensures.found c.add_items.ensures.added;
-  crash = some_imported g.S.Store c.args.store.now c.find_list.new.store c.add_items.new.store c.args.list.now c.args.mbox.now c.in_default.ensures.found c.in_default.ensures.quiet
-      c.deref.result.now (subst (λ items. Divides c.args.mbox.now items) (sym c.deref.ensures.value) c.in-Ok.ensures.divided)
-      (added_lasts g.S.Store c.find_list.new.store c.add_items.new.store c.args.list.now c.deref.result.now c.add_items.result c.add_items.ensures.added)
-      c.add_items.result c.add_items.ensures.crash;
-  ends = import_ends_after g.S.Store (HoldsTables g.S.Store) IsImportWant c.args.store.now c.find_list.new.store c.add_items.new.store (IsThere g.S.Store c.args.list.now) c.in_default.ensures.found
-      (added_lasts g.S.Store c.find_list.new.store c.add_items.new.store c.args.list.now c.deref.result.now c.add_items.result c.add_items.ensures.added)
-      c.in_default.ensures.ends.counted.0 (λ a done db. StopsAmong c.args.list.now (drop done c.deref.result.now) db) (λ a done db. StopsImport c.args.list.now c.args.mbox.now done db)
-      (λ a b done db there stops. (c.deref.result.now, subst (λ items. Divides c.args.mbox.now items) (sym c.deref.ensures.value) c.in-Ok.ensures.divided, stops))
-      c.add_items.result c.add_items.ensures.ends;
-}
+returns-in-Ok g c =
+    let store = c.args.store.now in
+    let mid = c.find_list.new.store in
+    let new = c.add_items.new.store in
+    let list = c.args.list.now in
+    let mbox = c.args.mbox.now in
+    let items = c.deref.result.now in
+    let divided = subst (λ items. Divides mbox items) (sym c.deref.ensures.value) c.in-Ok.ensures.divided in
+    let found = c.in_default.ensures.found in
+    let lasts = added_lasts g.S.Store mid new list items c.add_items.result c.add_items.ensures.added in
+    let imports = import_after g.S.Store store mid new list mbox items divided c.add_items.result found c.add_items.ensures.added in
+    record {
+      imports = imports;
+      crash = import_crash g.S.Store store new list mbox c.add_items.result imports
+          (some_imported g.S.Store store mid new list mbox found c.in_default.ensures.quiet items divided lasts c.add_items.result c.add_items.ensures.crash);
+      ends = import_ends_after g.S.Store (HoldsTables g.S.Store) IsImportWant store mid new (IsThere g.S.Store list) found lasts c.in_default.ensures.ends.counted.0
+          (λ a done db. StopsAmong list (drop done items) db) (λ a done db. StopsImport list mbox done db) (λ a b done db there stops. (items, divided, stops))
+          c.add_items.result c.add_items.ensures.ends;
+    }
 
 pub returns-in-Err-Mbox-clause-imports : goal.returns-in-Err-Mbox-clause-imports
 returns-in-Err-Mbox-clause-imports g c =

@@ -58,7 +58,9 @@ returns-in-Err-clause-crash g c =
 
 pub returns-in-Ok-add_owned-clause-crash : goal.returns-in-Ok-add_owned-clause-crash
 returns-in-Ok-add_owned-clause-crash g c =
-    safe_added g.S.Store c.args.store.now c.add_owned.new.store c.args.list.now c.args.intake.now c.in-Ok-add_owned.counts
+    safe_added g.S.Store c.args.store.now c.add_owned.new.store c.args.list.now c.args.intake.now
+    (λ db up may. g.met.S.Store.settled (held_of c.add_owned.new.store).store db up may) c.in-Ok-add_owned.counts
+    (subst (λ is. AddsAll g.S.Store (held_of c.args.store.now) (held_of c.add_owned.new.store) (Ok c.in-Ok-add_owned.counts) c.args.list.now is) c.held.ensures c.in-Ok-add_owned.ensures.step)
     (subst (λ is. CrashAll g.S.Store (held_of c.args.store.now) (held_of c.add_owned.new.store) c.args.list.now is (Ok c.in-Ok-add_owned.counts)) c.held.ensures c.in-Ok-add_owned.ensures.crash)
 
 pub returns-in-Err-add_owned-clause-crash : goal.returns-in-Err-add_owned-clause-crash

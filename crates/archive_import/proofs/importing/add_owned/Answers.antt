@@ -7,6 +7,7 @@ use Rattle.archive_store.specs.Refusals.{StopsAmong}
 use Rattle.archive_store.specs.Replies.{done_in, with_fault}
 use Rattle.archive_store.specs.Told.{EndsBehind}
 use Rattle.archive_store.specs.declared.batches.AddStop.{AddStop}
+use Rattle.archive_store.proofs.CrashLemmas.{broken_crash}
 use Rattle.archive_store.proofs.RunLemmas.{run_nothing}
 use Rattle.archive_import.proofs.importing.add_owned.Goals as goal
 
@@ -23,9 +24,9 @@ returns-in-Err-clause-ends g c = record {
 }
 
 pub returns-in-Err-clause-crash : goal.returns-in-Err-clause-crash
-returns-in-Err-clause-crash g c = λ returned kept was db may.
+returns-in-Err-clause-crash g c = broken_crash g.S.Store c.args.store.now.conn c.args.store.now.conn c.args.list.now c.args.items.now _ (λ returned kept was db may.
     let before = archive_of (state g.S.Store c.args.store.now.conn) in
-    (before, (0, omega arith, omega arith, run_nothing before), was db may)
+    (before, (0, omega arith, (omega arith, run_nothing before)), was db may))
 
 pub returns-in-Ok-clause-ends : goal.returns-in-Ok-clause-ends
 returns-in-Ok-clause-ends g c =

@@ -1,13 +1,13 @@
-use Rattle.std.proofs.Common.{[], ◌∷◌, inl, refl, sym, subst, append-nil, arith, Err}
+use Rattle.std.proofs.Common.{[], ◌∷◌, inl, refl, sym, subst, append-nil, arith, Ok, Err}
 use Rattle.archive_machine.specs.Commands.{no_list}
 use Rattle.archive_machine.specs.Records.{Archive}
 use Rattle.archive_store.specs.Told.{HasFailed, HoldsTables}
 use Rattle.archive_desk.specs.Holding.{GoesHeld}
-use Rattle.archive_import.specs.Streaming.{IsReadIn, IsWanting, StopsReading}
+use Rattle.archive_import.specs.Streaming.{CrashReads, IsReadIn, IsWanting, StopsReading}
 use Rattle.archive_import.specs.Intake.{IsUnderWay}
 use Rattle.archive_import.proofs.ReadLemmas.{Begun, IsFound, not_found, found_begun, settled_stopped, last_stopped, read_in}
 use Rattle.archive_desk.specs.Crashes.{CrashesHeld}
-use Rattle.archive_import.proofs.CrashLemmas.{LeavesRead, begun_crash, ended_crash, found_crash, found_safe, read_all, read_lasts, safe_then}
+use Rattle.archive_import.proofs.CrashLemmas.{LeavesRead, begun_crash, ended_crash, ends_reading, found_crash, found_safe, read_all, read_lasts, safe_then, stops_reading}
 use Rattle.archive_desk.specs.declared.importing.Report.{Report}
 use Rattle.archive_desk.specs.declared.importing.ImportFault.TheVariants.{Store as Stored}
 use Rattle.archive_desk.proofs.ImportEnds.{import_stopped}
@@ -124,7 +124,11 @@ returns-clause-ends g c =
 -- ---- what a stop of the machine leaves
 
 pub returns-in-Err-clause-crash : goal.returns-in-Err-clause-crash
-returns-in-Err-clause-crash g c = λ text ends told ended. found_crash g.S.Store c.args.store.now c.find_list.new.store c.args.list.now text ends c.in-Err.fault c.in-Err.ensures.quiet
+returns-in-Err-clause-crash g c = λ text ends told ended.
+    let store = c.args.store.now in
+    let mid = c.find_list.new.store in
+    stops_reading g.S.Store store mid c.args.list.now text ends (record { done = 0; fault = Stored c.in-Err.fault })
+    (found_crash g.S.Store store mid c.args.list.now text ends c.in-Err.fault c.in-Err.ensures.quiet)
 
 pub returns-in-Err-add_settled-clause-crash : goal.returns-in-Err-add_settled-clause-crash
 returns-in-Err-add_settled-clause-crash g c = λ text ends told ended.
@@ -135,13 +139,14 @@ returns-in-Err-add_settled-clause-crash g c = λ text ends told ended.
     let stop = c.in-Err-add_settled.stop in
     let stream = c.add_settled.new.cutter.stream in
     let found = c.in_default.ensures.found in
-    begun_crash g.S.Store store mid new list c.new-intake.result c.new-intake.ensures (found_safe g.S.Store store mid list c.in_default.ensures.found c.in_default.ensures.quiet) found
+    stops_reading g.S.Store store new list text ends stop
+    (begun_crash g.S.Store store mid new list c.new-intake.result c.new-intake.ensures (found_safe g.S.Store store mid list c.in_default.ensures.found c.in_default.ensures.quiet) found
     (read_lasts g.S.Store mid new list stream 0 [] c.new-intake.result (λ b d _. Begun list [] c.add_settled.new.cutter.taken c.new-intake.result c.add_settled.new.intake b d) stop
     c.in-Err-add_settled.ensures.adds)
     text ends stop
     (subst (λ n. CrashesHeld g.S.Store mid new {A = Unit {0}} (Err stop) (LeavesRead list text n [] c.new-intake.result)) (omega (arith, ended, c.in-Err-add_settled.ensures.read.no_end))
     (subst (λ t. CrashesHeld g.S.Store mid new {A = Unit {0}} (Err stop) (LeavesRead list t 0 [] c.new-intake.result)) (read_all _ stream text _ c.add_settled.ensures.read.told told)
-    c.in-Err-add_settled.ensures.crash))
+    c.in-Err-add_settled.ensures.crash)))
 
 pub returns-in-Ok-add_last-clause-crash : goal.returns-in-Ok-add_last-clause-crash
 returns-in-Ok-add_last-clause-crash g c = λ text ends told ended.
@@ -151,12 +156,18 @@ returns-in-Ok-add_last-clause-crash g c = λ text ends told ended.
     let store = c.args.store.now in
     let mid = c.find_list.new.store in
     let later = c.add_settled.new.store in
+    let new = c.add_last.new.store in
     let found = c.in_default.ensures.found in
+    let begun = found_begun g.S.Store store mid later list c.new-intake.result c.new-intake.ensures found cutter.taken intake c.in-Ok.ensures.adds in
     let safe = safe_then g.S.Store store mid later (IsFound list) (found_safe g.S.Store store mid list c.in_default.ensures.found c.in_default.ensures.quiet) found c.in-Ok.ensures.adds.0
     c.in-Ok.ensures.crash in
-    safe_then g.S.Store store later c.add_last.new.store (λ a c. IsUnderWay list a c cutter.taken intake) safe
-    (found_begun g.S.Store store mid later list c.new-intake.result c.new-intake.ensures found cutter.taken intake c.in-Ok.ensures.adds)
-    c.in-Ok-add_last.ensures.adds.0 c.in-Ok-add_last.ensures.crash
+    subst (λ n. CrashReads g.S.Store store new list text n (Ok c.report.result)) (omega (arith, ended, c.in-Ok.ensures.read.end))
+    (subst (λ t. CrashReads g.S.Store store new list t 1 (Ok c.report.result)) (read_all _ cutter.stream text _ c.add_settled.ensures.read.told told)
+    (ends_reading g.S.Store store new list cutter.stream 1 c.report.result
+    (read_in g.S.Store store later new list cutter.stream cutter.taken intake begun c.report.result
+    (subst (λ r. GoesHeld g.S.Store later new (λ b c. (a : Archive) → IsUnderWay list a b cutter.taken intake → IsReadIn list cutter.stream 1 a c r)) (sym c.report.ensures)
+    c.in-Ok-add_last.ensures.adds))
+    (safe_then g.S.Store store later new (λ a c. IsUnderWay list a c cutter.taken intake) safe begun c.in-Ok-add_last.ensures.adds.0 c.in-Ok-add_last.ensures.crash)))
 
 pub returns-clause-crash : goal.returns-clause-crash
 returns-clause-crash g c = λ text ends told ended.
@@ -171,11 +182,12 @@ returns-clause-crash g c = λ text ends told ended.
     let found = c.in_default.ensures.found in
     let safe = safe_then g.S.Store store mid later (IsFound list) (found_safe g.S.Store store mid list c.in_default.ensures.found c.in_default.ensures.quiet) found c.in-Ok.ensures.adds.0
     c.in-Ok.ensures.crash in
-    ended_crash g.S.Store store later new list cutter.taken intake safe
+    stops_reading g.S.Store store new list text ends stop
+    (ended_crash g.S.Store store later new list cutter.taken intake safe
     (found_begun g.S.Store store mid later list c.new-intake.result c.new-intake.ensures found cutter.taken intake c.in-Ok.ensures.adds)
     (read_lasts g.S.Store later new list cutter.stream 1 cutter.taken intake (λ b d _. (a : Archive) → IsUnderWay list a b cutter.taken intake
     → IsReadIn list cutter.stream 1 a d c.add_last.new.intake.report)
     stop c.in-Err-add_last.ensures.adds) text ends stop
     (subst (λ n. CrashesHeld g.S.Store later new {A = Unit {0}} (Err stop) (LeavesRead list text n cutter.taken intake)) (omega (arith, ended, c.in-Ok.ensures.read.end))
     (subst (λ t. CrashesHeld g.S.Store later new {A = Unit {0}} (Err stop) (LeavesRead list t 1 cutter.taken intake)) (read_all _ cutter.stream text _ c.add_settled.ensures.read.told told)
-    c.in-Err-add_last.ensures.crash))
+    c.in-Err-add_last.ensures.crash)))

@@ -8,7 +8,8 @@ use Rattle.archive_tables.proofs.LastLemmas.{lasts_then}
 use Rattle.std.proofs.Common.{inl, inr, take}
 use Rattle.archive_machine.specs.Runs.{taken}
 use Rattle.archive_store.proofs.RunLemmas.{run_nothing}
-use Rattle.archive_store.proofs.CrashLemmas.{asked_safe, stays_safe}
+use Rattle.archive_store.proofs.CrashLemmas.{added_crash, asked_safe, broken_crash, stays_safe}
+use Rattle.archive_store.specs.declared.faults.StoreFault.TheVariants as faults
 use Rattle.archive_store.proofs.CauseLemmas.{more_since}
 use Rattle.archive_store.proofs.store.Store.add_all.Goals as goal
 
@@ -108,12 +109,14 @@ returns-clause-ends g c = record {
 -- ---- what a stop leaves
 
 pub returns-in-Err-clause-crash : goal.returns-in-Err-clause-crash
-returns-in-Err-clause-crash g c = λ clean kept safe db may.
+returns-in-Err-clause-crash g c = broken_crash g.S.Store c.args.self.now.conn c.count.new.self.conn c.args.list.now c.args.items.now (record { done = 0; fault = c.in-Err.fault })
+    (λ clean kept safe db may.
     let first = archive_of (state g.S.Store c.args.self.now.conn) in
-    (first, (0, omega arith, omega arith, run_nothing first), safe db (c.count.ensures.quiet clean db may))
+    (first, (0, omega arith, (omega arith, run_nothing first)), safe db (c.count.ensures.quiet clean db may)))
 
 pub returns-then-at-to-clause-crash : goal.returns-then-at-to-clause-crash
-returns-then-at-to-clause-crash g c = λ clean kept safe.
+returns-then-at-to-clause-crash g c = broken_crash g.S.Store c.args.self.now.conn c.add_batch.new.store.conn c.args.list.now c.args.items.now
+    (record { done = c.in-Ok-add_batch.at; fault = faults.ListFull }) (λ clean kept safe.
     let was = c.add_batch.ensures.ends.lasts.returned clean in
     let so_far = c.loop-done.invariant.3 was kept in
     let first = archive_of (state g.S.Store c.args.self.now.conn) in
@@ -126,21 +129,26 @@ returns-then-at-to-clause-crash g c = λ clean kept safe.
       (
         c.in-Ok-add_batch.at,
         omega arith,
-        omega (arith, c.in-Ok-add_batch.ensures.came.2, c.batch_end-to.ensures.within),
-        step.0.archive_is,
+        (omega (arith, c.in-Ok-add_batch.ensures.came.2, c.batch_end-to.ensures.within), step.0.archive_is),
       ),
       last db may,
-    )
+    ))
 
 pub returns-in-Err-add_batch-clause-crash : goal.returns-in-Err-add_batch-clause-crash
-returns-in-Err-add_batch-clause-crash g c = λ clean kept safe db may.
+returns-in-Err-add_batch-clause-crash g c = broken_crash g.S.Store c.args.self.now.conn c.add_batch.new.store.conn c.args.list.now c.args.items.now
+    (record { done = c.loop-done.done; fault = c.in-Err-add_batch.fault }) (λ clean kept safe db may.
     let was = c.add_batch.ensures.ends.lasts.returned clean in
     let so_far = c.loop-done.invariant.3 was kept in
     let first = archive_of (state g.S.Store c.args.self.now.conn) in
     elim (c.add_batch.ensures.crash first so_far clean db may) [
-      | inl before ↦ (archive_of (state g.S.Store c.loop-done.self.conn), (c.loop-done.done, omega arith, c.loop-done.invariant.0, so_far.archive_is), c.loop-done.invariant.7 was kept safe db before)
-      | inr it ↦ ((taken first c.args.list.now (take it.0 c.args.items.now)).archive, (it.0, it.1.least, omega (arith, it.1.most, c.batch_end-to.ensures.within), refl), it.2)
-    ]
+      | inl before ↦ (
+        archive_of (state g.S.Store c.loop-done.self.conn),
+        (c.loop-done.done, omega arith, (c.loop-done.invariant.0, so_far.archive_is)),
+        c.loop-done.invariant.7 was kept safe db before,
+      )
+      | inr it ↦ ((taken first c.args.list.now (take it.0 c.args.items.now)).archive, (it.0, it.1.least, (omega (arith, it.1.most, c.batch_end-to.ensures.within), refl)), it.2)
+    ])
 
 pub returns-clause-crash : goal.returns-clause-crash
-returns-clause-crash g c = c.loop-done.invariant.7
+returns-clause-crash g c = added_crash g.S.Store c.args.self.now.conn c.loop-done.self.conn c.args.list.now c.args.items.now c.loop-done.report
+    (λ clean kept. (c.loop-done.done, omega arith, (c.loop-done.invariant.0, (c.loop-done.invariant.3 clean kept).archive_is))) c.loop-done.invariant.7

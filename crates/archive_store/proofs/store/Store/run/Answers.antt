@@ -1,5 +1,5 @@
 use Rattle.std.proofs.Common.{rules, vec_len, ◌≡◌, ◌++◌, ◌∷◌, [], ◌+◌, map, length, length-append, take, refl, ap, sym, subst, ◌∙◌, arith}
-use Rattle.std.proofs.lemmas.List.{take_all}
+use Rattle.std.proofs.lemmas.List.{length-map, take_all}
 use Rattle.sqlite.specs.Held.{state}
 use Rattle.archive_machine.specs.Runs.{run}
 use Rattle.archive_tables.specs.Tables.{archive_of}
@@ -15,7 +15,7 @@ use Rattle.archive_store.proofs.CauseLemmas.{more_since}
 use Rattle.archive_store.proofs.StopLemmas.{left_or_failed}
 use Rattle.archive_machine.specs.Machine.{step}
 use Rattle.archive_store.proofs.RunLemmas.{next_archive}
-use Rattle.archive_store.proofs.CrashLemmas.{answered_safe}
+use Rattle.archive_store.proofs.CrashLemmas.{answered_safe, broken_run, ran_crash}
 use Rattle.archive_store.specs.declared.faults.StoreFault.TheVariants as faults
 use Rattle.archive_store.proofs.store.Store.run.Goals as goal
 
@@ -149,56 +149,80 @@ returns-in-Err-carry_out-clause-ends g c = record {
 -- ---- what a stop leaves
 
 pub returns-in-Err-clause-crash : goal.returns-in-Err-clause-crash
-returns-in-Err-clause-crash g c = λ clean kept safe db may.
+returns-in-Err-clause-crash g c = broken_run g.S.Store c.args.self.now.conn c.args.self.now.conn (map command_of c.args.commands.now) _ 0 (omega arith) (omega arith)
+    (λ clean kept safe db may.
     let first = state g.S.Store c.args.self.now.conn in
-    (archive_of first, inl (run_nothing (archive_of first)), safe db may)
+    (archive_of first, (0, omega arith, omega arith, run_nothing (archive_of first)), safe db may))
 
 pub returns-clause-crash : goal.returns-clause-crash
-returns-clause-crash g c = c.loop-command.invariant.5
+returns-clause-crash g c = ran_crash g.S.Store c.args.self.now.conn c.loop-command.self.conn (map command_of c.args.commands.now) c.loop-command.outcomes
+    (λ clean kept.
+    let first = state g.S.Store c.args.self.now.conn in
+    (subst (λ commands. RanAll first (run (archive_of first) (map command_of commands)) (state g.S.Store c.loop-command.self.conn) c.loop-command.outcomes.items)
+    (take_all c.loop-command.command-index c.args.commands.now c.loop-command-test.false) (c.loop-command.invariant.2 clean kept)).1)
+    c.loop-command.invariant.5
 
 pub returns-in-Err-carry_out-clause-crash : goal.returns-in-Err-carry_out-clause-crash
-returns-in-Err-carry_out-clause-crash g c = λ clean kept safe db may.
+returns-in-Err-carry_out-clause-crash g c =
     let first = state g.S.Store c.args.self.now.conn in
     let mid = state g.S.Store c.loop-command.self.conn in
-    let was = c.carry_out.ensures.ends.lasts.returned clean in
-    let before = c.loop-command.invariant.2 was kept in
     let at = c.loop-command.command-index in
     let d = c.command-item.result in
+    let done = c.len.result in
     let len : vec_len c.loop-command.outcomes ≡ length c.loop-command.outcomes.items = search rules in
-    let done_is : c.len.result ≡ at = c.len.ensures ∙ len ∙ c.loop-command.invariant.0 in
+    let done_is : done ≡ at = c.len.ensures ∙ len ∙ c.loop-command.invariant.0 in
+    let told = length-map c.args.commands.now command_of in
+    broken_run g.S.Store c.args.self.now.conn c.carry_out.new.self.conn (map command_of c.args.commands.now) _ (done + 1) (omega arith)
+    (omega (arith, done_is, told, c.loop-command-test.true)) (λ clean kept safe db may.
+    let was = c.carry_out.ensures.ends.lasts.returned clean in
+    let before = c.loop-command.invariant.2 was kept in
     elim (c.carry_out.ensures.crash before.0 clean db may) [
       | inl earlier ↦ (
         archive_of mid,
-        inl (before.1 ∙ ap (λ commands. (run (archive_of first) commands).archive) (sym (first_commands c.args.commands.now c.len.result at done_is))),
+        (done, omega arith, omega arith, before.1 ∙ ap (λ commands. (run (archive_of first) commands).archive) (sym (first_commands c.args.commands.now done at done_is))),
         c.loop-command.invariant.5 was kept safe db earlier,
       )
       | inr next ↦ (
         (step (archive_of mid) (command_of d)).0,
-        inr (next_archive (archive_of first) (archive_of mid) c.args.commands.now at d before.1 (omega (arith, c.loop-command-test.true)) c.command-item.is
-            ∙ ap (λ commands. (run (archive_of first) commands).archive) (sym (first_commands c.args.commands.now (c.len.result + 1) (at + 1) (ap (λ n. n + 1) done_is)))),
+        (
+          done + 1,
+          omega arith,
+          omega arith,
+          next_archive (archive_of first) (archive_of mid) c.args.commands.now at d before.1 (omega (arith, c.loop-command-test.true)) c.command-item.is
+              ∙ ap (λ commands. (run (archive_of first) commands).archive) (sym (first_commands c.args.commands.now (done + 1) (at + 1) (ap (λ n. n + 1) done_is))),
+        ),
         next,
       )
-    ]
+    ])
 
 pub returns-in-Err-push-clause-crash : goal.returns-in-Err-push-clause-crash
-returns-in-Err-push-clause-crash g c = λ clean kept safe db may.
+returns-in-Err-push-clause-crash g c =
     let first = state g.S.Store c.args.self.now.conn in
     let mid = state g.S.Store c.loop-command.self.conn in
     let new = state g.S.Store c.carry_out.new.self.conn in
     let at = c.loop-command.command-index in
     let o = c.in-Ok-carry_out.outcome in
     let outcomes = c.loop-command.outcomes.items in
+    let done = c.len-done.result + 1 in
+    let len : vec_len c.loop-command.outcomes ≡ length outcomes = search rules in
+    let done_is : c.len-done.result ≡ at = c.len-done.ensures ∙ len ∙ c.loop-command.invariant.0 in
+    let told = length-map c.args.commands.now command_of in
+    broken_run g.S.Store c.args.self.now.conn c.carry_out.new.self.conn (map command_of c.args.commands.now) _ done (omega arith)
+    (omega (arith, done_is, told, c.loop-command-test.true)) (λ clean kept safe db may.
     let was = c.carry_out.ensures.ends.lasts.returned clean in
     let before = c.loop-command.invariant.2 was kept in
     let steps = c.in-Ok-carry_out.ensures.step clean before.0 in
     let ran = ran_next first mid new c.args.commands.now at c.command-item.result outcomes (outcomes ++ o ∷ []) o before
     c.in-Ok-carry_out.ensures.told steps (omega (arith, c.loop-command-test.true)) c.command-item.is refl in
-    let len : vec_len c.loop-command.outcomes ≡ length outcomes = search rules in
     let last = answered_safe g.S.Store c.loop-command.self.conn c.carry_out.new.self.conn (λ db up may. g.met.S.Store.settled c.carry_out.new.self.conn.store db up may)
     (λ a. step a (command_of c.command-item.result)) (answer_of o) c.in-Ok-carry_out.ensures.told steps
     (c.carry_out.ensures.crash before.0) clean (c.loop-command.invariant.5 was kept safe) in (
       archive_of new,
-      inl (ran.1 ∙ ap (λ commands. (run (archive_of first) commands).archive) (sym (first_commands c.args.commands.now (c.len-done.result + 1) (at + 1)
-          (ap (λ n. n + 1) (c.len-done.ensures ∙ len ∙ c.loop-command.invariant.0))))),
+      (
+        done,
+        omega arith,
+        omega arith,
+        ran.1 ∙ ap (λ commands. (run (archive_of first) commands).archive) (sym (first_commands c.args.commands.now done (at + 1) (ap (λ n. n + 1) done_is))),
+      ),
       last db may,
-    )
+    ))
