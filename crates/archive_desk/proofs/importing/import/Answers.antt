@@ -41,7 +41,8 @@ returns-in-Err-Mbox-clause-imports g c =
 
 pub returns-in-Err-Mbox-clause-crash : goal.returns-in-Err-Mbox-clause-crash
 returns-in-Err-Mbox-clause-crash g c =
-    none_imported g.S.Store c.args.store.now c.find_list.new.store c.args.list.now c.args.mbox.now (record { done = 0; fault = Mbox c.in-Err-Mbox.fault }) refl c.in_default.ensures.quiet
+    rw c.in-Err-Mbox.field-0-is
+    (none_imported g.S.Store c.args.store.now c.find_list.new.store c.args.list.now c.args.mbox.now (record { done = 0; fault = Mbox c.in-Err-Mbox.fault }) refl c.in_default.ensures.quiet)
 
 pub returns-in-Err-Mbox-clause-ends : goal.returns-in-Err-Mbox-clause-ends
 returns-in-Err-Mbox-clause-ends g c =
