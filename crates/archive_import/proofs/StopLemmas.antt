@@ -12,12 +12,10 @@ use Rattle.archive_machine.specs.Commands.{no_message, already_withdrawn, not_wi
 use Rattle.archive_machine.specs.Runs.{taken}
 use Rattle.archive_tables.specs.Tables.{IsKept, archive_of}
 use Rattle.archive_store.specs.Batches.{AddsAll, IsAfter, IsRefusedAt, tally_of}
-use Rattle.archive_tables.proofs.LastLemmas.{lasts_same}
 use Rattle.archive_store.specs.Held.{held_of}
 use Rattle.archive_store.specs.Replies.{refusal}
 use Rattle.archive_store.specs.Told.{Lasts, HoldsTables}
 use Rattle.archive_store.specs.declared.store.Store.{Store}
-use Rattle.archive_store.specs.declared.faults.StoreFault.TheVariants.{Memory as NoMemory}
 use Rattle.archive_store.specs.declared.batches.AddStop.{AddStop}
 use Rattle.archive_store.specs.declared.batches.AddReport.{AddReport}
 use Rattle.archive_store.proofs.Joins.{goes_on_in, goes_on_in_if_open, goes_in_as, goes_in_as_if_open, stays_there_in}
