@@ -1,5 +1,6 @@
 pub mod Connections
 pub mod Serving
 pub mod Gathering
+pub mod Streams
 pub mod Waits
 pub mod Sockets

@@ -1,4 +1,5 @@
 -- Sockets of the loopback interface, and the times that a peer has.
+use Rattle.std.proofs.Common.{ap}
 use Rattle.std.specs.Prelude.{◌≡◌, ◌<◌, ◌+◌, ◌*◌, ◌/◌, ◌⊎◌, ◌≤◌, ◌++◌, ℕ, length, Bool, true, false, List, [], ◌∷◌, Option}
 use Rattle.std.specs.Duration.{as_nanos}
 use Rattle.std.specs.Net.Addr.{ipv4_octets}
@@ -75,6 +76,10 @@ pub record ListensOn (asked : ℕ) (listening : Listening LoopbackState) : Type 
 abbrev pub Accepted : (before after : LoopbackState) → Option AcceptFault → Type 0
 Accepted before after fault = after ≡ record before { asked = before.asked + 1 }
 
+-- what stood written down stands
+pub accepted_none : (before after : LoopbackState) (fault : Option AcceptFault) → Accepted before after fault → after.exchanges ≡ before.exchanges
+accepted_none before after fault accepted = ap (λ (l : LoopbackState). l.exchanges) accepted
+
 -- one more that is ended in order, unless its reply broke off
 abbrev pub ended_after : (broke_off : Bool) → ℕ → ℕ
 ended_after true ended = ended
@@ -97,6 +102,10 @@ pub record IsInTime (sent : ℕ) (waited : Waited) : Type 0 where
 pub record Closed (before after : LoopbackState) (over : Exchange) (broke_off : Bool) : Type 0 where
   pub noted : after ≡ record before { exchanges = before.exchanges ++ over ∷ []; ended = ended_after broke_off before.ended; waited = after.waited }
   pub waited : IsInTime (length over.sent) after.waited
+
+pub closed_one : (before after : LoopbackState) (over : Exchange) (broke_off : Bool) → Closed before after over broke_off
+    → after.exchanges ≡ before.exchanges ++ over ∷ []
+closed_one before after over broke_off closed = ap (λ (l : LoopbackState). l.exchanges) closed.noted
 
 -- ---- who is at fault, and how long a peer is waited for
 

@@ -11,11 +11,10 @@ use Rattle.archive_store.specs.declared.store.Store.{Store as Open}
 use Rattle.archive_desk.specs.Exporting.{exported}
 use Rattle.archive_desk.specs.Importing.{IsImported}
 use Rattle.archive_desk.specs.declared.importing.Report.{Report}
-use Rattle.archive_listen.specs.Connections.{AreTold, Outcome, noted}
-use Rattle.archive_listen.specs.Serving.{ServesEach, served}
+use Rattle.archive_listen.specs.Connections.{AreTold, Exchange, Outcome, noted}
 use Rattle.archive_listen.specs.declared.connections.Listening.{Listening}
 use Rattle.archive_serve.specs.Announced.{IsAnnounced}
-use Rattle.archive_serve.specs.Runs.{AnswersIn}
+use Rattle.archive_serve.specs.Runs.{AreReplied}
 use Rattle.archive_words.specs.Values.{AskValues, CheckValues, GetValues, ImportValues, ServeValues, TableValues}
 use Rattle.archive_words.specs.declared.orders.Order.{Order}
 use Rattle.archive_words.specs.declared.orders.Order.TheVariants.{Sift, Table, Import, Get, Export, Check, Serve}
@@ -81,9 +80,10 @@ module _ {Y S F D C P T R O E I L K A B M : Type 0} (dev : Devices S F I D C P L
       LeadsIn order.file (λ a b. (b ≡ a) × (after.written ≡ before.written ++ exported a (ask_by order rules day))))) (Ok tt)
 
   -- The archive was served: by the rules that the policy writes, on the day that was given or that the clock told, once, so many
-  -- connections were answered one after the other, and each fault was told in its line. Where the disk of the store has returned what
-  -- was written to it, and the database held an archive, what each peer got is of that archive alone, and the database holds the same
-  -- when it is closed, unless its store was shut, as only a fault of the disk does.
+  -- connections were answered one after the other, and each fault was told in its line. These bytes went over them. Where the disk of
+  -- the store has returned what was written to it, and the database held an archive, what went to each peer is the reply of the
+  -- definition, of that archive, to what came of this peer, or 503, or a beginning of it; and the database holds the same archive when it
+  -- is closed, unless its store was shut, as only a fault of the disk does.
   pub record IsServed (order : ServeValues) : Type 0 where
     pub rules : List Rule
     pub is_policy : IsPolicyOf dev.gives old.files (Some order.policy) rules
@@ -91,7 +91,8 @@ module _ {Y S F D C P T R O E I L K A B M : Type 0} (dev : Devices S F I D C P L
     pub day : ℤ
     pub is_day : IsDayBy dev.clock order.day true old.clock clock (Some day)
     pub listening : Listening L
-    pub had : dev.listens old.ports new.ports order.port (Ok listening)
+    pub ports : P
+    pub had : dev.listens old.ports ports order.port (Ok listening)
     pub said : IsAnnounced listening.port before.written after.written after.passed
     pub outcomes : List Outcome
     pub count : length outcomes ≡ order.count
@@ -101,10 +102,10 @@ module _ {Y S F D C P T R O E I L K A B M : Type 0} (dev : Devices S F I D C P L
     pub later : Open S
     pub opened : dev.databases.opens old.databases device order.file (Ok store)
     pub closed : dev.databases.closes device new.databases later
-    pub end : L
+    pub all : List Exchange
+    pub went : dev.went new.ports ≡ dev.went old.ports ++ all
     pub of_held : HasReturned dev.pages later → (archive : Archive) → dev.databases.holds old.databases order.file archive
-        → ServesEach (AnswersIn dev.pages ⊤ archive rules day) dev.accepts dev.shuts outcomes (served listening.listener store) (served end later)
-        × (IsOpen dev.pages later → dev.databases.holds new.databases order.file archive)
+        → AreReplied archive rules day outcomes all × (IsOpen dev.pages later → dev.databases.holds new.databases order.file archive)
 
   -- What becomes of the archive that the database of an order holds, where the order is carried out.
   abbrev pub RunsOver : Order → Type 0

@@ -24,7 +24,7 @@ module _ {Y S F D C P T R O E I L K A B M : Type 0} (dev : Devices S F I D C P L
   Runs old new (Export order) = RunsExport old new dev.takes dev.passes dev.pages dev.databases dev.clock dev.gives order
   Runs old new (Check order) = RunsCheck old new dev.takes dev.passes dev.pages dev.databases order
   Runs old new (Serve order) =
-      RunsServe old new dev.takes dev.passes dev.notes dev.pages dev.listens dev.accepts dev.shuts dev.databases dev.clock dev.gives dev.makes order
+      RunsServe old new dev.takes dev.passes dev.notes dev.pages dev.listens dev.accepts dev.shuts dev.over dev.went dev.databases dev.clock dev.gives dev.makes order
 
   -- One line told the refusal, and nothing else was touched.
   abbrev pub TellsLast : (old new : World Y S F D C P T R O E I L K A B M) → Refusal → Type 0

@@ -1,5 +1,5 @@
 -- What a run of an order to serve does, and why it is refused.
-use Rattle.std.specs.Prelude.{◌≡◌, ◌⊎◌, ◌<◌, ◌≤◌, ℕ, ℤ, Bool, true, false, List, Option, Some, Result, Ok, Err, ⊤, MatchResult}
+use Rattle.std.specs.Prelude.{◌≡◌, ◌⊎◌, ◌<◌, ◌≤◌, ◌++◌, ℕ, ℤ, Bool, true, false, List, Option, Some, Result, Ok, Err, ⊤, MatchResult}
 use Rattle.sqlite.specs.Store.{Ghosts}
 use Rattle.byte_device.specs.declared.devices.Sink.{Ghosts as Takes}
 use Rattle.policy_core.specs.Rules.{Rule}
@@ -37,19 +37,26 @@ said takes passes notes output faults = record { output = sent takes passes outp
 abbrev pub most_kept : ℕ
 most_kept = 268_435_456
 
--- ---- an open store, and a listener that listens already
+-- ---- an open store, and a listener that listens already, which is ended behind its last connection
 
--- `accepts` and `shuts` are what a listener says of a connection that it gives, or does not, and of one that it takes back.
-module _ {S L : Type 0} (g : Ghosts S) (accepts : L → L → Option AcceptFault → Type 0) (shuts : L → L → Exchange → Bool → Type 0)
+-- `accepts` and `shuts` are what a listener says of a connection that it gives, or does not, and of one that it takes back; `over` is what
+-- went over those that it took back, and `went` over those of all listeners that were ended on a device of ports.
+module _ {S L P : Type 0} (g : Ghosts S) (accepts : L → L → Option AcceptFault → Type 0) (shuts : L → L → Exchange → Bool → Type 0)
+    (over : L → List Exchange) (went : P → List Exchange) (ports_old ports_new : P)
     (rules : List Rule) (day : ℤ) (listening : Listening L) (old new : Open S) (before after : Said) where
   -- how each connection is answered, where the tables were an archive's and the disk has returned what was written
   abbrev pub AnswersEach : (first last : Open S) → (before after : Telling) → Outcome → Type 0
   AnswersEach = RunLaw g rules day old new
 
+  -- The listener was ended so.
+  abbrev pub IsEnded : L → Type 0
+  IsEnded end = went ports_new ≡ went ports_old ++ over end
+
   -- The line that says where the archive listens went out, and then this is so of a run of connections, by how each is answered, where
   -- it begins, and what was told of faults; and of what listens and the store at its end.
   abbrev pub AnnouncesAnd : (Served L (Open S) → Type 0) → Type 0
-  AnnouncesAnd Serves = IsAnnounced listening.port before.output.written after.output.written after.output.passed × (end : L) × Serves (served end new)
+  AnnouncesAnd Serves = IsAnnounced listening.port before.output.written after.output.written after.output.passed
+      × (end : L) × IsEnded end × Serves (served end new)
 
   -- as many connections as were ordered
   abbrev pub AnswersAll : (count : ℕ) → Type 0
@@ -61,7 +68,7 @@ module _ {S L : Type 0} (g : Ghosts S) (accepts : L → L → Option AcceptFault
 
   -- none: the store is as before, and no fault was told
   abbrev pub ServesNone : Type 0
-  ServesNone = (new ≡ old) × (after.faults ≡ before.faults)
+  ServesNone = (new ≡ old) × (after.faults ≡ before.faults) × IsEnded listening.listener
 
   -- Why it was refused: no more connections came (F4), or it could not be said where it listens (F2, F5).
   abbrev pub ServesNot : (count : ℕ) → Refusal → Type 0
@@ -74,26 +81,27 @@ module _ {S L : Type 0} (g : Ghosts S) (accepts : L → L → Option AcceptFault
 
 -- `listens` holds of a device before it is asked for a port and after, of its number, and of what is given.
 module _ {S L P : Type 0} (g : Ghosts S) (accepts : L → L → Option AcceptFault → Type 0) (shuts : L → L → Exchange → Bool → Type 0)
+    (over : L → List Exchange) (went : P → List Exchange)
     (listens : P → P → ℕ → Result (Listening L) ListenFault → Type 0) (ports_old ports_new : P) (port count : ℕ)
     (rules : List Rule) (day : ℤ) (old new : Open S) (before after : Said) where
-  -- The port of the order was had, and so many connections were served.
+  -- The port of the order was had, so many connections were served, and the listener was ended.
   abbrev pub PortServes : Type 0
-  PortServes = (listening : Listening L) × listens ports_old ports_new port (Ok listening)
-      × AnswersAll g accepts shuts rules day listening old new before after count
+  PortServes = (listening : Listening L) × (ports : P) × listens ports_old ports port (Ok listening)
+      × AnswersAll g accepts shuts over went ports ports_new rules day listening old new before after count
 
   -- It was not had (F4), and nothing else was touched; or it was, and serving was refused.
   abbrev pub PortServesNot : Refusal → Type 0
   PortServesNot refusal =
       ((refusal ≡ Net) × (fault : ListenFault) × listens ports_old ports_new port (Err fault) × (new ≡ old) × (after ≡ before))
-      ⊎ ((listening : Listening L) × listens ports_old ports_new port (Ok listening)
-      × ServesNot g accepts shuts rules day listening old new before after count refusal)
+      ⊎ ((listening : Listening L) × (ports : P) × listens ports_old ports port (Ok listening)
+      × ServesNot g accepts shuts over went ports ports_new rules day listening old new before after count refusal)
 
 -- ---- an order
 
 -- What a run is over before and after, and what the traits of its devices say.
 module _ {Y S F D C P T R O E I L K A B M : Type 0} (old new : World Y S F D C P T R O E I L K A B M) (takes : Takes O) (passes : Passes O) (notes : Takes E)
     (pages : Ghosts S) (listens : P → P → ℕ → Result (Listening L) ListenFault → Type 0)
-    (accepts : L → L → Option AcceptFault → Type 0) (shuts : L → L → Exchange → Bool → Type 0) where
+    (accepts : L → L → Option AcceptFault → Type 0) (shuts : L → L → Exchange → Bool → Type 0) (over : L → List Exchange) (went : P → List Exchange) where
   -- what was said before and after
   abbrev pub before : Said
   before = said takes passes notes old.output old.faults
@@ -105,8 +113,8 @@ module _ {Y S F D C P T R O E I L K A B M : Type 0} (old new : World Y S F D C P
   -- stream of faults.
   abbrev pub ServesOpen : (store_old store_new : Open S) → ServeValues → List Rule → ℤ → Result ⊤ Refusal → Type 0
   ServesOpen store_old store_new order rules day result = MatchResult result
-      (λ _. PortServes pages accepts shuts listens old.ports new.ports order.port order.count rules day store_old store_new before after)
-      (PortServesNot pages accepts shuts listens old.ports new.ports order.port order.count rules day store_old store_new before after)
+      (λ _. PortServes pages accepts shuts over went listens old.ports new.ports order.port order.count rules day store_old store_new before after)
+      (PortServesNot pages accepts shuts over went listens old.ports new.ports order.port order.count rules day store_old store_new before after)
       × (new ≡ record old { ports = new.ports; output = new.output; faults = new.faults })
 
   module _ (keeps : Keeps D (Open S)) where
@@ -114,21 +122,22 @@ module _ {Y S F D C P T R O E I L K A B M : Type 0} (old new : World Y S F D C P
     -- it was not opened (E14, E15); or it was, and this came of it.
     abbrev pub ServesIn : ServeValues → List Rule → ℤ → Result ⊤ Refusal → Type 0
     ServesIn order rules day (Ok done) = Works keeps old.databases new.databases order.file
-        (λ o c. PortServes pages accepts shuts listens old.ports new.ports order.port order.count rules day o c before after)
+        (λ o c. PortServes pages accepts shuts over went listens old.ports new.ports order.port order.count rules day o c before after)
         × (new ≡ record old { databases = new.databases; ports = new.ports; output = new.output; faults = new.faults })
     ServesIn order rules day (Err refusal) =
         (NotOpened keeps old.databases new.databases order.file refusal × (new ≡ record old { databases = new.databases }))
         ⊎ (Works keeps old.databases new.databases order.file
-        (λ o c. PortServesNot pages accepts shuts listens old.ports new.ports order.port order.count rules day o c before after refusal)
+        (λ o c. PortServesNot pages accepts shuts over went listens old.ports new.ports order.port order.count rules day o c before after refusal)
         × (new ≡ record old { databases = new.databases; ports = new.ports; output = new.output; faults = new.faults }))
 
 module _ {Y S F D C P T R O E I L K A B M : Type 0} (old new : World Y S F D C P T R O E I L K A B M) (takes : Takes O) (passes : Passes O) (notes : Takes E)
     (pages : Ghosts S) (listens : P → P → ℕ → Result (Listening L) ListenFault → Type 0)
-    (accepts : L → L → Option AcceptFault → Type 0) (shuts : L → L → Exchange → Bool → Type 0) (keeps : Keeps D (Open S)) (tells : Tells C) where
+    (accepts : L → L → Option AcceptFault → Type 0) (shuts : L → L → Exchange → Bool → Type 0) (over : L → List Exchange) (went : P → List Exchange)
+    (keeps : Keeps D (Open S)) (tells : Tells C) where
   -- on the day of the order
   abbrev pub ServesUnder : ServeValues → List Rule → Result ⊤ Refusal → Type 0
   ServesUnder order rules = OnDay old new tells order.day
-      (λ asked day. ServesIn asked new takes passes notes pages listens accepts shuts keeps order rules day)
+      (λ asked day. ServesIn asked new takes passes notes pages listens accepts shuts over went keeps order rules day)
 
   -- By the rules of the named policy, where there is what threads messages; the stream of faults may have failed more often by then.
   -- Or there is none (F1), and nothing was touched. `makes` holds of whoever makes one, and of whether it was made.

@@ -1,5 +1,5 @@
 -- What the traits of all devices of a run say.
-use Rattle.std.specs.Prelude.{ℕ, Bool, Option, Result}
+use Rattle.std.specs.Prelude.{ℕ, Bool, List, Option, Result}
 use Rattle.sqlite.specs.Store.{Ghosts as Pages}
 use Rattle.byte_device.specs.declared.devices.Source.{Ghosts as Reads}
 use Rattle.byte_device.specs.declared.devices.Sink.{Ghosts as Takes}
@@ -25,6 +25,9 @@ pub record Devices (S F I D C P L T R O E : Type 0) : Type 1 where
   pub listens : P → P → ℕ → Result (Listening L) ListenFault → Type 0
   pub accepts : L → L → Option AcceptFault → Type 0
   pub shuts : L → L → Exchange → Bool → Type 0
+  -- what went over the connections that a listener took back, and over those of all listeners that were ended
+  pub over : L → List Exchange
+  pub went : P → List Exchange
   -- of whoever makes what threads messages, and of whether it was made
   pub makes : T → Bool → Type 0
   pub reads : Reads R
@@ -35,9 +38,9 @@ pub record Devices (S F I D C P L T R O E : Type 0) : Type 1 where
 module _ {S F I D C P L T R O E : Type 0} where
   -- what each device of a run may do, as one value: database pages, files, clock, ports, threaders and the three streams
   abbrev pub devices : Pages S → Gives F → Opens F I → Reads I → Keeps D (Store S) → Tells C → (P → P → ℕ → Result (Listening L) ListenFault → Type 0)
-      → (L → L → Option AcceptFault → Type 0) → (L → L → Exchange → Bool → Type 0) → (T → Bool → Type 0) → Reads R → Takes O → Passes O → Takes E
-      → Devices S F I D C P L T R O E
-  devices pages gives opens input_of databases clock listens accepts shuts makes reads takes passes notes = record {
+      → (L → L → Option AcceptFault → Type 0) → (L → L → Exchange → Bool → Type 0) → (L → List Exchange) → (P → List Exchange) → (T → Bool → Type 0)
+      → Reads R → Takes O → Passes O → Takes E → Devices S F I D C P L T R O E
+  devices pages gives opens input_of databases clock listens accepts shuts over went makes reads takes passes notes = record {
     pages = pages;
     gives = gives;
     opens = opens;
@@ -47,6 +50,8 @@ module _ {S F I D C P L T R O E : Type 0} where
     listens = listens;
     accepts = accepts;
     shuts = shuts;
+    over = over;
+    went = went;
     makes = makes;
     reads = reads;
     takes = takes;

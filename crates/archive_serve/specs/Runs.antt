@@ -12,7 +12,6 @@ use Rattle.archive_listen.specs.Connections.{Telling, Outcome, Exchange, Reaches
 use Rattle.archive_listen.specs.declared.faults.AcceptFault.{AcceptFault}
 use Rattle.archive_listen.specs.declared.faults.ConnectionFault.TheVariants.{Read, Write, Broken}
 use Rattle.archive_listen.specs.Serving.{ServesEach, served}
-use Rattle.archive_listen.specs.Sockets.{Accepted, Closed, LoopbackState}
 use Rattle.archive_serve.specs.Pages.{EndsAs, TellsUnrouted, outcome_of}
 
 -- a reply other than 503 went out whole, or no request came
@@ -54,7 +53,7 @@ LeaveItReady {S} {L} g accepts closes = (rules : List Rule) (day : ℤ) (outcome
     → ServesEach (RunLaw g rules day old new) accepts closes outcomes (served listener old) (served later new) → CanServe g old new
     → AllByRecursion IsSteady outcomes → HoldsTables g new × (archive_in g new ≡ archive_in g old)
 
--- ---- over sockets
+-- ---- what went over each connection
 
 -- By these rules, on this day and out of this archive: to what was read of one peer its reply was made, or 503, or a beginning of it; and
 -- that is what was sent to this peer, as far as it could be passed on.
@@ -77,8 +76,9 @@ AreReplied archive rules day (outcome ∷ outcomes) (over ∷ others) =
     (IsReplied archive rules day outcome over × AreReplied archive rules day outcomes others)
     ⊎ ((outcome ≡ Err Read) × AreReplied archive rules day outcomes (over ∷ others))
 
--- What a listener on the loopback interface has written down of such a run, behind what stood there: each peer's own bytes, and its own reply.
-abbrev pub EachGetsItsReply : {S : Type 0} → Ghosts S → Type 0
-EachGetsItsReply {S} g = (rules : List Rule) (day : ℤ) (outcomes : List Outcome) (first last : LoopbackState) (old new : Store S)
-    → ServesEach (RunLaw g rules day old new) Accepted Closed outcomes (served first old) (served last new) → CanServe g old new
-    → (all : List Exchange) × (last.exchanges ≡ first.exchanges ++ all) × AreReplied (archive_in g old) rules day outcomes all
+-- What went over the connections that a listener took back in such a run, behind what went before: each peer's own bytes, and its own reply.
+abbrev pub EachGetsItsReply : {S L : Type 0} → Ghosts S → (over : L → List Exchange) → (accepts : L → L → Option AcceptFault → Type 0)
+    → (closes : L → L → Exchange → Bool → Type 0) → Type 0
+EachGetsItsReply {S} {L} g over accepts closes = (rules : List Rule) (day : ℤ) (outcomes : List Outcome) (first last : L) (old new : Store S)
+    → ServesEach (RunLaw g rules day old new) accepts closes outcomes (served first old) (served last new) → CanServe g old new
+    → (all : List Exchange) × (over last ≡ over first ++ all) × AreReplied (archive_in g old) rules day outcomes all

@@ -1,5 +1,5 @@
 -- Three orders over one database, one behind the other: an mbox is imported, a message is withdrawn, and so many peers are served.
-use Rattle.std.specs.Prelude.{◌≡◌, ◌⊎◌, ℕ, ℤ, true, List, [], ◌∷◌, Option, Some, Ok, ⊤}
+use Rattle.std.specs.Prelude.{◌≡◌, ◌⊎◌, ℕ, ℤ, true, List, [], ◌∷◌, Option, Some, Ok}
 use Rattle.policy_core.specs.Numbers.{party_number}
 use Rattle.policy_core.specs.declared.access.Party.{Party}
 use Rattle.archive_machine.specs.Records.{Archive}
@@ -9,8 +9,7 @@ use Rattle.archive_machine.specs.Sound.{IsFiledRight}
 use Rattle.archive_store.specs.Told.{HasReturned, IsOpen}
 use Rattle.archive_desk.specs.Importing.{IsImported}
 use Rattle.archive_desk.specs.declared.importing.Report.{Report}
-use Rattle.archive_listen.specs.Serving.{ServesEach, served as served_with}
-use Rattle.archive_serve.specs.Runs.{AnswersIn}
+use Rattle.archive_serve.specs.Runs.{AreReplied}
 use Rattle.archive_words.specs.Orders.{IsStopOf}
 use Rattle.archive_words.specs.Values.{ImportValues, ServeValues, TableValues, withdraw}
 use Rattle.archive_words.specs.declared.orders.Order.{Order}
@@ -69,21 +68,22 @@ module _ {Y S F D C P T R O E I L K A B M : Type 0} (dev : Devices S F I D C P L
     -- All three were carried out, each in the world that the one before it had left. The peers were served by the rules that the policy
     -- writes, on the day that was given or that the clock told. Where the database held an archive before, in which what is filed of each
     -- message is what its text says, and the disk has returned what was written to it, there is one archive, which the import and the
-    -- withdrawal made of that: each peer was sent the reply of the definition, of this archive, to the head that its own bytes begin
-    -- with, or 503 with its cause; and the database holds this archive behind it all, unless a fault of the disk had shut it.
+    -- withdrawal made of that: what went to each peer is the reply of the definition, of this archive, to the head that its own bytes
+    -- begin with, or 503, which has its cause (`ran`), or a beginning of it; and the database holds this archive behind it all, unless a
+    -- fault of the disk had shut it.
     pub record IsPublished : Type 0 where
       pub first : World Y S F D C P T R O E I L K A B M
       pub second : World Y S F D C P T R O E I L K A B M
       pub taken : HasTaken dev old first (import_of it)
       pub stepped : HasStepped dev first second (withdrawal_of it)
+      pub ran : Runs dev second new (Serve (service_of it)) (Ok tt)
       pub served : IsServed dev second new (service_of it)
       pub by_policy : IsPolicyOf dev.gives old.files (Some it.policy) served.rules
       pub on_day : IsDayBy dev.clock it.day true old.clock served.clock (Some served.day)
       pub of_one : HasReturned dev.pages taken.2.after → HasReturned dev.pages stepped.2.after → HasReturned dev.pages served.later
           → (before : Archive) → dev.databases.holds old.databases it.file before → IsFiledRight before
           → (archive : Archive) × Makes before archive
-          × ServesEach (AnswersIn dev.pages ⊤ archive served.rules served.day) dev.accepts dev.shuts served.outcomes
-          (served_with served.listening.listener served.store) (served_with served.end served.later)
+          × AreReplied archive served.rules served.day served.outcomes served.all
           × (IsOpen dev.pages served.later → dev.databases.holds new.databases it.file archive)
 
   -- ---- where one of them was not carried out
