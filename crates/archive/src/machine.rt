@@ -58,10 +58,7 @@ pub fn make_world<'a, S: Start, I: Source + Drop, O: Outgoing + Drop, E: Sink + 
             left: None,
         },
         clock: SystemDay { rt },
-        ports: LoopbackPorts {
-            rt,
-            alloc: rt.alloc(),
-        },
+        ports: LoopbackPorts::new(rt, rt.alloc()),
         threaders: SystemThreaders { rt },
         input,
         output,

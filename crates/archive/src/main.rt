@@ -26,7 +26,7 @@ use std::process::ExitCode;
 /// Carries out what these words order. What an order that is refused left in the output is passed on here.
 fn run_words<Y: System>(alloc: Global, world: &mut World<Y>, words: &[String]) -> u8
     ensures { RunsWhole (devices Y.Storage.Store Y.Files.ReadFiles Y.Files.OpenFiles Y.Files.Input.Source Y.Databases.Databases Y.Clock.DayClock
-        Y.Ports.listens Y.Ports.Listener.accepts Y.Ports.Listener.closes Y.Threaders.makes Y.Input.Source Y.Output.Sink Y.Output.Outgoing.own Y.Faults.Sink)
+        Y.Ports.listens Y.Ports.Listener.accepts Y.Ports.Listener.closes Y.Ports.Listener.over Y.Ports.went Y.Threaders.makes Y.Input.Source Y.Output.Sink Y.Output.Outgoing.own Y.Faults.Sink)
         world.old (map string_bytes words.now) world.new result }
 {
     let Ok(words) = borrowed(alloc, words) else {
@@ -40,7 +40,7 @@ fn run_words<Y: System>(alloc: Global, world: &mut World<Y>, words: &[String]) -
 /// Carries out what the command line orders.
 fn run_line<R: HasWords + AllocGlobal, Y: System>(rt: &R, world: &mut World<Y>) -> u8
     ensures { IsProgram (devices Y.Storage.Store Y.Files.ReadFiles Y.Files.OpenFiles Y.Files.Input.Source Y.Databases.Databases Y.Clock.DayClock
-        Y.Ports.listens Y.Ports.Listener.accepts Y.Ports.Listener.closes Y.Threaders.makes Y.Input.Source Y.Output.Sink Y.Output.Outgoing.own Y.Faults.Sink)
+        Y.Ports.listens Y.Ports.Listener.accepts Y.Ports.Listener.closes Y.Ports.Listener.over Y.Ports.went Y.Threaders.makes Y.Input.Source Y.Output.Sink Y.Output.Outgoing.own Y.Faults.Sink)
         world.old R.gave rt.now world.new result }
 {
     match command_words(rt) {
@@ -52,7 +52,7 @@ fn run_line<R: HasWords + AllocGlobal, Y: System>(rt: &R, world: &mut World<Y>) 
 /// Carries out what the command line orders, over these devices, and ends with its status.
 fn carry_out<R: HasWords + AllocGlobal, Y: System>(rt: &R, world: &mut World<Y>) -> ExitCode
     ensures { IsProgram (devices Y.Storage.Store Y.Files.ReadFiles Y.Files.OpenFiles Y.Files.Input.Source Y.Databases.Databases Y.Clock.DayClock
-        Y.Ports.listens Y.Ports.Listener.accepts Y.Ports.Listener.closes Y.Threaders.makes Y.Input.Source Y.Output.Sink Y.Output.Outgoing.own Y.Faults.Sink)
+        Y.Ports.listens Y.Ports.Listener.accepts Y.Ports.Listener.closes Y.Ports.Listener.over Y.Ports.went Y.Threaders.makes Y.Input.Source Y.Output.Sink Y.Output.Outgoing.own Y.Faults.Sink)
         world.old R.gave rt.now world.new (exit_status result) }
 {
     ExitCode::from(run_line(rt, world))

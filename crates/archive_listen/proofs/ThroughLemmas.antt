@@ -1,6 +1,5 @@
 -- A run of connections over a state that holds more than what is said of it, as of a service and what it answers out of.
 use Rattle.std.proofs.Common.{sym, ap, subst, inl, inr, Bool, List, [], ◌∷◌, Option}
-use Rattle.std.specs.Prelude.{⊤}
 use Rattle.archive_listen.specs.Connections.{Telling, Exchange, Outcome, untold}
 use Rattle.archive_listen.specs.Serving.{Served, ServesOne, ServesEach, served}
 use Rattle.archive_listen.specs.declared.faults.AcceptFault.{AcceptFault}
@@ -60,14 +59,3 @@ module _ {Whole Part L : Type 0} (whole : Whole → Whole → Telling → Tellin
         let one = one_through outcome before between (had_each outcomes between after rest had) holds first in
         let others = each_had_through outcomes between after had one.1 rest in
         ((part_of between, one.0, others.0), others.1)
-
-  -- the same with `Holds` alone, an invariant of the whole state
-  module _ (Holds : Whole → Type 0)
-      (step : (old new : Whole) (before after : Telling) (outcome : Outcome) → Holds old → whole old new before after outcome
-      → some (part old) (part new) before after outcome × Holds new) where
-    pub each_through : (outcomes : List Outcome) (before after : Served L Whole) → Holds before.state
-        → ServesEach whole accepts closes outcomes before after
-        → ServesEach some accepts closes outcomes (part_of before) (part_of after) × Holds after.state
-    each_through outcomes before after holds each =
-        each_had_through (λ _. ⊤) Holds (λ old new first last outcome answers had. had)
-        (λ old new first last outcome had held answers. step old new first last outcome held answers) outcomes before after tt holds each

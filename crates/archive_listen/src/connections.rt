@@ -32,7 +32,7 @@ pub struct Connection<I, O> {
 
 /// Whatever connections come from, one after the other.
 pub trait Listener {
-    ghost use Rattle.std.specs.Prelude.{◌≡◌, Bool, Option, Some, None, IfOk, MatchResult, ⊤};
+    ghost use Rattle.std.specs.Prelude.{◌≡◌, ◌++◌, List, [], ◌∷◌, Bool, Option, Some, None, IfOk, MatchResult};
     ghost use Rattle.archive_listen.specs.declared.faults.AcceptFault.{AcceptFault};
     ghost use Rattle.archive_listen.specs.Connections.{Exchange, exchange, telling, untold};
 
@@ -40,11 +40,14 @@ pub trait Listener {
 
     type Output: Outgoing + Drop;
 
+    // What went over each connection that it took back, in their order.
+    ghost over: { Self → List Exchange };
+
     // Holds of a listener before it is asked for a connection and after, and of why it gave none.
-    ghost accepts: { Self → Self → Option AcceptFault → Type 0 } = { λ _ _ _. ⊤ };
+    ghost accepts: { Self → Self → Option AcceptFault → Type 0 };
 
     // Holds of a listener before it takes a connection back and after, of what went over it, and of whether its reply broke off.
-    ghost closes: { Self → Self → Exchange → Bool → Type 0 } = { λ _ _ _ _. ⊤ };
+    ghost closes: { Self → Self → Exchange → Bool → Type 0 };
 
     /// The next connection, over which nothing went yet.
     fn accept(&mut self) -> Result<Connection<Self::Input, Self::Output>, AcceptFault>
@@ -60,6 +63,12 @@ pub trait Listener {
         ensures closes { closes self.old self.new
             (exchange (Self.Input.told connection.input)
             (Self.Output.sent connection.output)) breaks_off };
+
+    // A connection that is given was not taken back yet.
+    ghost accepts_none: { (old new : Self) (fault : Option AcceptFault) → accepts old new fault → over new ≡ over old };
+
+    // What went over one that is taken back stands last.
+    ghost closes_one: { (old new : Self) (went : Exchange) (broke_off : Bool) → closes old new went broke_off → over new ≡ over old ++ went ∷ [] };
 }
 
 /// A listener, and the port that it listens on.
@@ -73,18 +82,30 @@ pub struct Listening<L> {
 
 /// Whoever can listen.
 pub trait Ports {
-    ghost use Rattle.std.specs.Prelude.{ℕ, Result, ⊤};
+    ghost use Rattle.std.specs.Prelude.{◌≡◌, ◌++◌, ℕ, List, [], Result, Ok};
+    ghost use Rattle.archive_listen.specs.Connections.{Exchange};
     ghost use Rattle.archive_listen.specs.declared.connections.Listening.{Listening};
     ghost use Rattle.archive_listen.specs.declared.faults.ListenFault.{ListenFault};
 
     type Listener: Listener + Drop;
 
+    // What went over each connection of the listeners that were ended, in their order.
+    ghost went: { Self → List Exchange };
+
     // Holds of the ports before one is asked for and after, of its number, and of what is given.
-    ghost listens: { Self → Self → ℕ → Result (Listening Self.Listener) ListenFault → Type 0 } = { λ _ _ _ _. ⊤ };
+    ghost listens: { Self → Self → ℕ → Result (Listening Self.Listener) ListenFault → Type 0 };
 
     /// Listens on a port; 0 stands for one that the system picks. F4: the port is taken, or may not be used.
     fn listen(&mut self, port: u16) -> Result<Listening<Self::Listener>, ListenFault>
         ensures { listens self.old self.new port result };
+
+    /// Ends a listener, which gives no more connections.
+    fn end(&mut self, listener: Self::Listener)
+        ensures { went self.new ≡ went self.old ++ Self.Listener.over listener };
+
+    // A listener that is given took no connection back yet, and no other was ended meanwhile.
+    ghost listens_none: { (old new : Self) (port : ℕ) (listening : Listening Self.Listener) → listens old new port (Ok listening)
+        → (went new ≡ went old) × (Self.Listener.over listening.listener ≡ []) };
 }
 
 /// Whatever answers what comes over a connection, out of a state; what it keeps itself may change with each answer.

@@ -36,4 +36,13 @@ impl Exchanges {
             marker: PhantomData,
         }
     }
+
+    /// Those of one list, and then those of another.
+    pub(crate) fn and(_before: &Exchanges, _more: &Exchanges) -> Exchanges
+        ensures { result.all ≡ _before.now.all ++ _more.now.all }
+    {
+        Exchanges {
+            marker: PhantomData,
+        }
+    }
 }

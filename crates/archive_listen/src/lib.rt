@@ -9,6 +9,7 @@ mod open;
 mod peeked;
 mod serving;
 mod sockets;
+mod streams;
 mod waiting;
 
 pub use connections::{Connection, Listener, Listening, Outgoing, Ports, Service};

@@ -1,9 +1,11 @@
 //! A socket in which the bytes that were read last stay until they are taken.
-ghost use Rattle.std.specs.Prelude.{◌≡◌, ◌≤◌, ◌+◌, length, IfOk, OnOk};
+ghost use Rattle.std.specs.Prelude.{◌≡◌, ◌≤◌, ◌+◌, length, take, IfOk, OnOk, MatchResult};
 ghost use Rattle.std.specs.Duration.{as_nanos};
+ghost use Rattle.archive_listen.specs.Streams.{seen_by};
 ghost use Rattle.archive_listen.specs.Waits.{WaitsWithin};
 
-use crate::waiting::{Reading, Span, Timed};
+use crate::streams::Reading;
+use crate::waiting::{Span, Timed};
 use byte_device::{DeviceFailure, Told};
 use std::io::Read;
 use std::net::OpenStream;
@@ -40,6 +42,8 @@ impl<'a, R: Clock, S: Read + OpenStream> Peeked<'a, R, S> {
         ensures waits { WaitsWithin (as_nanos span.whole) self.old.stream self.new.stream }
         ensures taken { OnOk result (length self.new.taken.bytes ≡ length self.old.taken.bytes + self.old.unread) }
         ensures unread { IfOk result (λ n. self.new.unread ≡ n) }
+        ensures given { MatchResult result (λ n. self.new.stream.stream ≡ seen_by (take n buffer.new) self.old.stream.stream)
+            (λ _. self.new.stream.stream ≡ self.old.stream.stream) }
     {
         self.take_seen()?;
         let count = self.stream.read_within(span, Reading::Looks, buffer)?;
@@ -86,6 +90,13 @@ impl<'a, R: Clock, S: Read + OpenStream> Peeked<'a, R, S> {
         ensures { as_nanos result ≡ self.now.stream.latest }
     {
         self.stream.latest()
+    }
+
+    /// What looks at it gave.
+    pub(crate) fn given(&self) -> &Told
+        ensures { result.now.bytes ≡ self.now.stream.stream.given }
+    {
+        self.stream.given()
     }
 
     /// The socket.

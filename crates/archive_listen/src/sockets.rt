@@ -12,7 +12,8 @@ use crate::faults::{AcceptFault, ListenFault};
 use crate::gathered::{Gathered, ROOM};
 use crate::open::StillOpen;
 use crate::peeked::Peeked;
-use crate::waiting::{Reading, Span, Timed, Waited};
+use crate::streams::Reading;
+use crate::waiting::{Span, Timed, Waited};
 use byte_device::{DeviceFailure, Sink, Source, Told};
 use std::alloc::Global;
 use std::io::{ErrorKind, Read, Write};
@@ -51,7 +52,6 @@ const LINGER_BYTES: usize = 1_048_576;
 pub struct SocketInput<'a, R, S> {
     stream: Peeked<'a, R, S>,
     begun: bool,
-    told: Told,
     ends: Told,
     faults: Told,
 }
@@ -63,7 +63,7 @@ impl<'a, R, S> Model for SocketInput<'a, R, S> {
     ghost Value = { InputState };
 
     ghost view = { λ i. record {
-      told = i.told.bytes;
+      told = i.stream.stream.stream.given;
       failures = length i.faults.bytes;
       ends = length i.ends.bytes;
       latest = i.stream.stream.latest;
@@ -80,7 +80,6 @@ impl<'a, R: Clock, S: Read + OpenStream> SocketInput<'a, R, S> {
         SocketInput {
             stream: Peeked::new(Timed::new(clock, stream, Some(since))),
             begun: false,
-            told: Told::new(),
             ends: Told::new(),
             faults: Told::new(),
         }
@@ -112,7 +111,6 @@ impl<'a, R: Clock, S: Read + OpenStream> Source for SocketInput<'a, R, S> {
                 if count == 0 && !buffer.is_empty() {
                     self.ends.note(&[0]);
                 }
-                self.told.note(&buffer[..count]);
                 Ok(count)
             }
             Err(failure) => {
@@ -139,7 +137,6 @@ fn reply_span(written: u64) -> Span
 pub struct SocketOutput<'a, R, S> {
     stream: Timed<'a, R, S>,
     written: u64,
-    told: Told,
     faults: Told,
 }
 
@@ -150,12 +147,12 @@ impl<'a, R, S> Model for SocketOutput<'a, R, S> {
     ghost Value = { OutputState };
 
     ghost view = { λ o. record {
-      told = o.told.bytes;
+      told = o.stream.stream.took;
       failures = length o.faults.bytes;
       latest = o.stream.latest;
     } };
 
-    ghost invariant = { λ o. (o.written ≤ length o.told.bytes)
+    ghost invariant = { λ o. (o.written ≤ length o.stream.stream.took)
         × (o.stream.latest ≤ reply_seconds o.written * 1_000_000_000) };
 }
 
@@ -167,7 +164,6 @@ impl<'a, R: Clock, S: Write + OpenStream> SocketOutput<'a, R, S> {
         SocketOutput {
             stream: Timed::new(clock, stream, None),
             written: 0,
-            told: Told::new(),
             faults: Told::new(),
         }
     }
@@ -184,7 +180,6 @@ impl<'a, R: Clock, S: Write + OpenStream> Sink for SocketOutput<'a, R, S> {
                 if count == 0 && !bytes.is_empty() {
                     self.faults.note(&[0]);
                 }
-                self.told.note(&bytes[..count]);
                 self.written = self.written.saturating_add(count as u64);
                 Ok(count)
             }
@@ -310,13 +305,34 @@ impl<'a, R: Net> Loopback<'a, R> {
     }
 }
 
-/// The ports of 127.0.0.1.
+/// The ports of 127.0.0.1. Contracts see what went over the connections of the listeners that were ended.
 #[derive(Drop)]
 pub struct LoopbackPorts<'a, R> {
-    /// The system whose ports they are.
-    pub rt: &'a R,
-    /// The memory for connections that stay open.
-    pub alloc: Global,
+    rt: &'a R,
+    alloc: Global,
+    went: Exchanges,
+}
+
+impl<'a, R> Model for LoopbackPorts<'a, R> {
+    ghost use Rattle.std.specs.Prelude.{List};
+    ghost use Rattle.archive_listen.specs.Connections.{Exchange};
+
+    ghost Value = { List Exchange };
+
+    ghost view = { λ p. p.went.all };
+}
+
+impl<'a, R> LoopbackPorts<'a, R> {
+    /// Those of a system, where no listener was ended yet. The memory is for connections that stay open.
+    pub fn new(rt: &'a R, alloc: Global) -> LoopbackPorts<'a, R>
+        ensures { result ≡ [] }
+    {
+        LoopbackPorts {
+            rt,
+            alloc,
+            went: Exchanges::new(),
+        }
+    }
 }
 
 impl<'a, R: Net + Clock> Ports for LoopbackPorts<'a, R> {
@@ -325,12 +341,20 @@ impl<'a, R: Net + Clock> Ports for LoopbackPorts<'a, R> {
 
     type Listener = Loopback<'a, R>;
 
+    ghost went = { λ ports. ports };
+
     ghost listens = { λ old new port result. (new ≡ old) × IfOk result (ListensOn port) };
+
+    ghost listens_none = { λ old new port listening given. (given.0, given.1.listens.fresh) };
 
     fn listen(&mut self, port: u16) -> Result<Listening<Loopback<'a, R>>, ListenFault> {
         let listener = Loopback::bind(self.rt, self.alloc, port)?;
         let port = listener.port();
         Ok(Listening { listener, port })
+    }
+
+    fn end(&mut self, listener: Loopback<'a, R>) {
+        self.went = Exchanges::and(&self.went, &listener.exchanges);
     }
 }
 
@@ -394,15 +418,21 @@ fn ask<L: OpenListener>(listener: &L, asked: &mut Told) -> Result<L::Stream, Acc
 }
 
 impl<'a, R: Net + Clock> Listener for Loopback<'a, R> {
-    ghost use Rattle.archive_listen.specs.Sockets.{Accepted, Closed};
+    ghost use Rattle.archive_listen.specs.Sockets.{Accepted, Closed, accepted_none, closed_one};
 
     type Input = SocketInput<'a, R, R::Stream>;
 
     type Output = Gathered<SocketOutput<'a, R, R::Stream>, ROOM>;
 
+    ghost over = { λ l. l.exchanges };
+
     ghost accepts = { Accepted };
 
+    ghost accepts_none = { accepted_none };
+
     ghost closes = { Closed };
+
+    ghost closes_one = { closed_one };
 
     fn accept(
         &mut self,
@@ -429,7 +459,7 @@ impl<'a, R: Net + Clock> Listener for Loopback<'a, R> {
     {
         let Connection { input, output } = connection;
         let output = output.into_inner();
-        self.exchanges = Exchanges::with(&self.exchanges, &input.told, &output.told);
+        self.exchanges = Exchanges::with(&self.exchanges, input.stream.given(), output.stream.took());
         let head = input.stream.latest();
         let reply = output.stream.latest();
         let rest = end(

@@ -1,12 +1,14 @@
 //! How long reads may wait.
-ghost use Rattle.std.specs.Prelude.{◌≡◌, ◌≤◌, ◌+◌, ◌-◌, max, min, length, Some, IfOk, IfSome, IsNone, ◌↔◌};
+ghost use Rattle.std.specs.Prelude.{◌≡◌, ◌≤◌, ◌+◌, ◌-◌, max, min, length, take, Some, IfOk, IfSome, IsNone, MatchResult, ◌↔◌};
+ghost use Rattle.archive_listen.specs.Streams.{nothing_went, read_by, written_by};
 ghost use Rattle.archive_listen.specs.Waits.{WaitsWithin};
 ghost use Rattle.std.specs.Duration.{as_nanos};
 
-use byte_device::DeviceFailure;
+use crate::streams::{Reading, Stream};
+use byte_device::{DeviceFailure, Told};
 use std::io::{self, ErrorKind, Read, Write};
 use std::marker::Model;
-use std::net::{OpenStream, Shutdown};
+use std::net::OpenStream;
 use std::rt::Clock;
 use std::time::{Duration, Instant};
 
@@ -48,35 +50,12 @@ fn wait_after(most: Duration, whole: Duration, passed: Duration) -> Option<Durat
     }
 }
 
-/// Whether what is read leaves the socket.
-#[derive(Clone, Copy, Drop)]
-pub(crate) enum Reading {
-    /// It does.
-    Takes,
-    /// It stays, and the next read gives it again.
-    Looks,
-}
-
-/// One read, or one look.
-fn read_by<S: Read + OpenStream>(
-    stream: &mut S,
-    reading: Reading,
-    buffer: &mut [u8],
-) -> io::Result<usize>
-    ensures count { IfOk result (λ n. n ≤ length buffer.old) }
-{
-    match reading {
-        Reading::Takes => stream.read(buffer),
-        Reading::Looks => stream.peek(buffer),
-    }
-}
-
-/// A stream whose waits lie in spans of time, which begin when it is made or at its first wait. Contracts see when that is, and
-/// how long after it the last wait could end that the system was asked for, in nanoseconds.
+/// A stream whose waits lie in spans of time, which begin when it is made or at its first wait. Contracts see when that is,
+/// how long after it the last wait could end that the system was asked for, in nanoseconds, and what went over the stream.
 #[derive(Drop)]
 pub(crate) struct Timed<'a, R, S> {
     clock: &'a R,
-    stream: S,
+    stream: Stream<S>,
     since: Option<Instant>,
     latest: Duration,
 }
@@ -87,17 +66,17 @@ impl<'a, R, S> Model for Timed<'a, R, S> {
 
     ghost Value = { TimedState };
 
-    ghost view = { λ t. record { since = t.since; latest = as_nanos t.latest } };
+    ghost view = { λ t. record { since = t.since; latest = as_nanos t.latest; stream = t.stream } };
 }
 
 impl<'a, R: Clock, S> Timed<'a, R, S> {
     /// Nothing was waited for yet.
     pub(crate) fn new(clock: &'a R, stream: S, since: Option<Instant>) -> Timed<'a, R, S>
-        ensures { result ≡ record { since = since; latest = 0 } }
+        ensures { result ≡ record { since = since; latest = 0; stream = nothing_went } }
     {
         Timed {
             clock,
-            stream,
+            stream: Stream::new(stream),
             since,
             latest: Duration::ZERO,
         }
@@ -110,9 +89,23 @@ impl<'a, R: Clock, S> Timed<'a, R, S> {
         self.latest
     }
 
+    /// What looks at the stream gave.
+    pub(crate) fn given(&self) -> &Told
+        ensures { result.now.bytes ≡ self.now.stream.given }
+    {
+        self.stream.given()
+    }
+
+    /// What the stream took.
+    pub(crate) fn took(&self) -> &Told
+        ensures { result.now.bytes ≡ self.now.stream.took }
+    {
+        self.stream.took()
+    }
+
     /// The stream.
     pub(crate) fn into_stream(self) -> S {
-        self.stream
+        self.stream.into_inner()
     }
 
     /// How long the next call may wait, which is written down. An error: the span has passed, or the clock failed.
@@ -121,6 +114,7 @@ impl<'a, R: Clock, S> Timed<'a, R, S> {
         ensures waits { WaitsWithin (as_nanos span.whole) self.old self.new }
         ensures most { IfOk result (λ d. as_nanos d ≤ as_nanos span.most) }
         ensures noted { IfOk result (λ d. as_nanos d ≤ self.new.latest) }
+        ensures same { self.new.stream ≡ self.old.stream }
     {
         let Ok(now) = Instant::now(self.clock) else {
             return Err(DeviceFailure);
@@ -171,13 +165,12 @@ impl<'a, R: Clock, S: Read + OpenStream> Timed<'a, R, S> {
     ) -> Result<usize, DeviceFailure>
         ensures count { IfOk result (λ n. n ≤ length buffer.old) }
         ensures waits { WaitsWithin (as_nanos span.whole) self.old self.new }
+        ensures given { MatchResult result (λ n. self.new.stream ≡ read_by reading (take n buffer.new) self.old.stream)
+            (λ _. self.new.stream ≡ self.old.stream) }
     {
         for _ in 0..u64::MAX {
             let wait = self.next_wait(span)?;
-            if self.stream.set_read_timeout(Some(wait)).is_err() {
-                return Err(DeviceFailure);
-            }
-            match read_by(&mut self.stream, reading, buffer) {
+            match self.stream.read(reading, wait, buffer) {
                 Ok(count) => return Ok(count),
                 Err(error) if error.kind() == ErrorKind::Interrupted => {}
                 Err(_) => return Err(DeviceFailure),
@@ -191,12 +184,12 @@ impl<'a, R: Clock, S: Read + OpenStream> Timed<'a, R, S> {
         ensures count { IfOk result (λ n. n ≤ length buffer.old) }
         ensures same { self.new ≡ self.old }
     {
-        read_by(&mut self.stream, Reading::Takes, buffer)
+        self.stream.take(buffer)
     }
 
     /// Ends what is written. None: the stream failed.
     pub(crate) fn end(&self) -> Option<()> {
-        self.stream.shutdown(Shutdown::Write).ok()
+        self.stream.end().ok()
     }
 }
 
@@ -206,13 +199,12 @@ impl<'a, R: Clock, S: Write + OpenStream> Timed<'a, R, S> {
     pub(crate) fn write_within(&mut self, span: Span, bytes: &[u8]) -> Result<usize, DeviceFailure>
         ensures count { IfOk result (λ n. n ≤ length bytes.now) }
         ensures waits { WaitsWithin (as_nanos span.whole) self.old self.new }
+        ensures took { MatchResult result (λ n. self.new.stream ≡ written_by (take n bytes.now) self.old.stream)
+            (λ _. self.new.stream ≡ self.old.stream) }
     {
         for _ in 0..u64::MAX {
             let wait = self.next_wait(span)?;
-            if self.stream.set_write_timeout(Some(wait)).is_err() {
-                return Err(DeviceFailure);
-            }
-            match self.stream.write(bytes) {
+            match self.stream.write(wait, bytes) {
                 Ok(count) => return Ok(count),
                 Err(error) if error.kind() == ErrorKind::Interrupted => {}
                 Err(_) => return Err(DeviceFailure),

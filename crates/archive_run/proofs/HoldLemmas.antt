@@ -1,6 +1,5 @@
 -- From what became of a store to what becomes of the archive that its database holds.
-use Rattle.std.proofs.Common.{◌≡◌, ◌∙◌, inl, inr, subst, sym, refl, ℕ, ℤ, Bool, List, [], ◌∷◌, Option, Ok}
-use Rattle.std.specs.Prelude.{⊤}
+use Rattle.std.proofs.Common.{◌≡◌, ◌∙◌, inl, inr, ap, subst, sym, refl, ℕ, ℤ, Bool, List, [], ◌∷◌, ◌++◌, Option, Ok}
 use Rattle.sqlite.specs.Store.{Ghosts}
 use Rattle.policy_core.specs.Rules.{Rule}
 use Rattle.archive_machine.specs.Records.{Archive}
@@ -12,8 +11,7 @@ use Rattle.archive_store.proofs.Joins.{ready_with}
 use Rattle.archive_listen.specs.Connections.{Exchange, Outcome}
 use Rattle.archive_listen.specs.Serving.{Served, ServesEach, ServesOne}
 use Rattle.archive_listen.specs.declared.faults.AcceptFault.{AcceptFault}
-use Rattle.archive_listen.proofs.ThroughLemmas.{each_through}
-use Rattle.archive_serve.specs.Runs.{AnswersIn}
+use Rattle.archive_serve.specs.Runs.{AnswersIn, AreReplied, CanServe, EachGetsItsReply, RunLaw}
 use Rattle.archive_run.specs.Databases.{Works}
 use Rattle.archive_run.specs.Holding.{Leads}
 use Rattle.archive_run.specs.Remembering.{ClosesHeld, OpensHeld}
@@ -80,46 +78,39 @@ module _ {S L : Type 0} (g : Ghosts S) (accepts : L → L → Option AcceptFault
   had_before (outcome ∷ outcomes) before after (between, first, rest) returned =
       had_one outcome before between first (had_before outcomes between after rest returned)
 
-  -- where its premise holds, each connection is answered out of this archive, and the store remembers it behind the last, if it is
-  -- still open
-  pub each_held : If → (outcomes : List Outcome) (before after : Served L (Open S))
+  -- where its premise holds, the store remembers this archive behind the last connection, if it is still open
+  remembers_one : If → (outcome : Outcome) (before after : Served L (Open S)) → ServesOne (AnswersIn g If archive rules day) accepts closes outcome before after
       → (IsOpen g before.state → HoldsTables g before.state × (archive_in g before.state ≡ archive))
-      → ServesEach (AnswersIn g If archive rules day) accepts closes outcomes before after
-      → ServesEach (AnswersIn g ⊤ archive rules day) accepts closes outcomes before after
-      × (IsOpen g after.state → HoldsTables g after.state × (archive_in g after.state ≡ archive))
-  each_held so outcomes before after holds each =
-      each_through (AnswersIn g If archive rules day) (AnswersIn g ⊤ archive rules day) (λ (s : Open S). s) accepts closes
-      (λ (s : Open S). IsOpen g s → HoldsTables g s × (archive_in g s ≡ archive))
-      (λ old new first last outcome held it. (
-        record {
-          result = it.result;
-          is = it.is;
-          ends = it.ends;
-          unrouted = it.unrouted;
-          reply = λ _. it.reply so;
-          left = λ _. it.left so;
-          stays_open = λ _. it.stays_open so;
-        },
-        λ up. it.left so up,
-      ))
-      outcomes before after holds each
+      → IsOpen g after.state → HoldsTables g after.state × (archive_in g after.state ≡ archive)
+  remembers_one so outcome before after (inl takes) holds = takes.answered.answered.left so
+  remembers_one so outcome before after (inr misses) holds =
+      subst (λ (s : Open S). IsOpen g s → HoldsTables g s × (archive_in g s ≡ archive)) (sym misses.unanswered) holds
 
--- what was served, of the archive that its database held
-pub serves_held : {S L D : Type 0} (g : Ghosts S) (accepts : L → L → Option AcceptFault → Type 0) (closes : L → L → Exchange → Bool → Type 0)
-    (keeps : Keeps D (Open S)) (opened : OpensHeld g keeps) (closed : ClosesHeld g keeps) (old device new : D) (file : List ℕ)
-    (rules : List Rule) (day : ℤ) (outcomes : List Outcome) (first last : Served L (Open S)) (archive : Archive)
-    → keeps.opens old device file (Ok first.state) → keeps.closes device new last.state
-    → ServesEach (AnswersIn g (HasReturned g last.state × HoldsTables g first.state) (archive_in g first.state) rules day) accepts closes outcomes first last
-    → HasReturned g last.state → keeps.holds old file archive
-    → ServesEach (AnswersIn g ⊤ archive rules day) accepts closes outcomes first last × (IsOpen g last.state → keeps.holds new file archive)
-serves_held g accepts closes keeps opened closed old device new file rules day outcomes first last archive opens shuts each returned held =
-    let If = HasReturned g last.state × HoldsTables g first.state in
-    let was = opened old device file first.state archive held opens
-    (had_before g accepts closes If (archive_in g first.state) rules day outcomes first last each returned) in
-    let so : If = (returned, was.0) in
-    let it = each_held g accepts closes If (archive_in g first.state) rules day so outcomes first last (λ up. (was.0, refl)) each in (
-      subst (λ a. ServesEach (AnswersIn g ⊤ a rules day) accepts closes outcomes first last) was.1 it.0,
-      λ up.
-          let left = it.1 up in
-          subst (λ a. keeps.holds new file a) (left.1 ∙ was.1) (closed old device new file first.state last.state archive held opens shuts returned left.0),
-    )
+  pub remembers_each : If → (outcomes : List Outcome) (before after : Served L (Open S)) → ServesEach (AnswersIn g If archive rules day) accepts closes outcomes before after
+      → (IsOpen g before.state → HoldsTables g before.state × (archive_in g before.state ≡ archive))
+      → IsOpen g after.state → HoldsTables g after.state × (archive_in g after.state ≡ archive)
+  remembers_each so [] before after same holds =
+      subst (λ (s : Served L (Open S)). IsOpen g s.state → HoldsTables g s.state × (archive_in g s.state ≡ archive)) (sym same) holds
+  remembers_each so (outcome ∷ outcomes) before after (between, first, rest) holds =
+      remembers_each so outcomes between after rest (remembers_one so outcome before between first holds)
+
+-- what was served, of the archive that its database held, over a listener that had taken no connection back
+module _ {S L D : Type 0} (g : Ghosts S) (over : L → List Exchange) (accepts : L → L → Option AcceptFault → Type 0) (closes : L → L → Exchange → Bool → Type 0)
+    (gets : EachGetsItsReply g over accepts closes) (keeps : Keeps D (Open S)) (opened : OpensHeld g keeps) (closed : ClosesHeld g keeps) where
+  pub serves_held : (old device new : D) (file : List ℕ) (rules : List Rule) (day : ℤ) (outcomes : List Outcome) (first last : Served L (Open S)) (archive : Archive)
+      → over first.listener ≡ [] → keeps.opens old device file (Ok first.state) → keeps.closes device new last.state
+      → ServesEach (RunLaw g rules day first.state last.state) accepts closes outcomes first last
+      → HasReturned g last.state → keeps.holds old file archive
+      → AreReplied archive rules day outcomes (over last.listener) × (IsOpen g last.state → keeps.holds new file archive)
+  serves_held old device new file rules day outcomes first last archive fresh opens shuts each returned held =
+      let If = CanServe g first.state last.state in
+      let was = opened old device file first.state archive held opens
+      (had_before g accepts closes If (archive_in g first.state) rules day outcomes first last each returned) in
+      let so : If = (returned, was.0) in
+      let it = gets rules day outcomes first.listener last.listener first.state last.state each so in
+      let is_all : it.0 ≡ over last.listener = sym (it.1 ∙ ap (λ (before : List Exchange). before ++ it.0) fresh) in (
+        subst (λ all. AreReplied archive rules day outcomes all) is_all (subst (λ a. AreReplied a rules day outcomes it.0) was.1 it.2),
+        λ up.
+            let left = remembers_each g accepts closes If (archive_in g first.state) rules day so outcomes first last each (λ was_up. (was.0, refl)) up in
+            subst (λ a. keeps.holds new file a) (left.1 ∙ was.1) (closed old device new file first.state last.state archive held opens shuts returned left.0),
+      )

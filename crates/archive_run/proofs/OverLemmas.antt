@@ -1,5 +1,5 @@
 -- From an order that was carried out to what becomes of the archive that its database holds.
-use Rattle.std.proofs.Common.{◌≡◌, ◌++◌, inl, inr, Some, Ok}
+use Rattle.std.proofs.Common.{◌≡◌, ◌∙◌, ◌++◌, ap, inl, inr, ℕ, Bool, List, [], ◌∷◌, Option, Some, Ok}
 use Rattle.archive_machine.specs.Runs.{taken}
 use Rattle.archive_store.proofs.Joins.{ready_with, sound_too}
 use Rattle.archive_store.proofs.RightLemmas.{taken_right}
@@ -7,7 +7,11 @@ use Rattle.archive_store.specs.Told.{archive_in}
 use Rattle.archive_store.specs.Checking.{Checks, IsFoundWhole}
 use Rattle.archive_desk.specs.Exporting.{exported}
 use Rattle.archive_desk.specs.Importing.{IsImported}
+use Rattle.archive_listen.specs.Connections.{Exchange}
 use Rattle.archive_listen.specs.Serving.{served}
+use Rattle.archive_listen.specs.declared.connections.Listening.{Listening}
+use Rattle.archive_listen.specs.declared.faults.AcceptFault.{AcceptFault}
+use Rattle.archive_serve.proofs.PeerLemmas.{each_gets}
 use Rattle.archive_words.specs.declared.orders.Order.{Order}
 use Rattle.archive_words.specs.declared.orders.Order.TheVariants.{Sift, Table, Import, Get, Export, Check, Serve}
 use Rattle.archive_work.specs.Commands.{answer_to, stepped}
@@ -24,7 +28,12 @@ use Rattle.archive_run.specs.declared.world.World.{World}
 use Rattle.archive_run.proofs.HoldLemmas.{leads_by, leads_held, serves_held}
 
 module _ {Y S F D C P T R O E I L K A B M : Type 0} (dev : Devices S F I D C P L T R O E) (opens : OpensHeld dev.pages dev.databases)
-    (closes : ClosesHeld dev.pages dev.databases) (old new : World Y S F D C P T R O E I L K A B M) where
+    (closes : ClosesHeld dev.pages dev.databases)
+    (accepts_none : (before after : L) (fault : Option AcceptFault) → dev.accepts before after fault → dev.over after ≡ dev.over before)
+    (shuts_one : (before after : L) (went : Exchange) (broke_off : Bool) → dev.shuts before after went broke_off → dev.over after ≡ dev.over before ++ went ∷ [])
+    (listens_none : (before after : P) (port : ℕ) (listening : Listening L) → dev.listens before after port (Ok listening)
+    → (dev.went after ≡ dev.went before) × (dev.over listening.listener ≡ []))
+    (old new : World Y S F D C P T R O E I L K A B M) where
   pub runs_over : (order : Order) → Runs dev old new order (Ok tt) → RunsOver dev old new order
   runs_over (Sift order) it = tt
   runs_over (Table order) (answer, works, sends) = (
@@ -104,8 +113,11 @@ module _ {Y S F D C P T R O E I L K A B M : Type 0} (dev : Devices S F I D C P L
   runs_over (Serve order) (inr (made, e, same)) = cc
   runs_over (Serve order) (inl (made, (rules, is, (clock, day, given, (works, same))), more)) =
       let it = works.becomes in
-      let all = it.2 in
-      let run = all.2 in
+      let all = it.3 in
+      let end = all.1 in
+      let run = all.3 in
+      let none = listens_none old.ports it.1 order.port it.0 it.2 in
+      let gets = each_gets dev.pages dev.over dev.accepts dev.shuts accepts_none shuts_one in
       record {
         rules = rules;
         is_policy = is;
@@ -113,7 +125,8 @@ module _ {Y S F D C P T R O E I L K A B M : Type 0} (dev : Devices S F I D C P L
         day = day;
         is_day = given;
         listening = it.0;
-        had = it.1;
+        ports = it.1;
+        had = it.2;
         said = all.0;
         outcomes = run.0;
         count = run.1;
@@ -123,8 +136,9 @@ module _ {Y S F D C P T R O E I L K A B M : Type 0} (dev : Devices S F I D C P L
         later = works.after;
         opened = works.opened;
         closed = works.closed;
-        end = all.1;
+        all = dev.over end;
+        went = all.2 ∙ ap (λ (before : List Exchange). before ++ dev.over end) none.0;
         of_held = λ returned archive held.
-            serves_held dev.pages dev.accepts dev.shuts dev.databases opens closes old.databases works.device new.databases order.file rules day run.0
-            (served it.0.listener works.before) (served all.1 works.after) archive works.opened works.closed run.2.each returned held;
+            serves_held dev.pages dev.over dev.accepts dev.shuts gets dev.databases opens closes old.databases works.device new.databases order.file rules day run.0
+            (served it.0.listener works.before) (served end works.after) archive none.1 works.opened works.closed run.2.each returned held;
       }

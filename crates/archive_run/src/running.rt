@@ -48,7 +48,7 @@ fn run_order<Y: System>(
     asked: &Order<'_>,
 ) -> Result<(), Refusal>
     ensures { Runs (devices Y.Storage.Store Y.Files.ReadFiles Y.Files.OpenFiles Y.Files.Input.Source Y.Databases.Databases Y.Clock.DayClock
-        Y.Ports.listens Y.Ports.Listener.accepts Y.Ports.Listener.closes Y.Threaders.makes Y.Input.Source Y.Output.Sink Y.Output.Outgoing.own Y.Faults.Sink)
+        Y.Ports.listens Y.Ports.Listener.accepts Y.Ports.Listener.closes Y.Ports.Listener.over Y.Ports.went Y.Threaders.makes Y.Input.Source Y.Output.Sink Y.Output.Outgoing.own Y.Faults.Sink)
         world.old world.new asked.now result }
 {
     match asked {
@@ -70,19 +70,19 @@ pub fn run<Y: System>(alloc: Global, world: &mut World<Y>, words: &[&str]) -> u8
     // At 0 an order is carried out, whole.
     ensures done { (order : Order) → GiveOrder (map (λ w. w.now) words.now) order → result ≡ 0
         → Runs (devices Y.Storage.Store Y.Files.ReadFiles Y.Files.OpenFiles Y.Files.Input.Source Y.Databases.Databases Y.Clock.DayClock
-        Y.Ports.listens Y.Ports.Listener.accepts Y.Ports.Listener.closes Y.Threaders.makes Y.Input.Source Y.Output.Sink Y.Output.Outgoing.own Y.Faults.Sink)
+        Y.Ports.listens Y.Ports.Listener.accepts Y.Ports.Listener.closes Y.Ports.Listener.over Y.Ports.went Y.Threaders.makes Y.Input.Source Y.Output.Sink Y.Output.Outgoing.own Y.Faults.Sink)
         world.old world.new order (Ok tt) }
 
     // At 0 the database of the order holds what the order makes of the archive that it held, and what went out is of that archive.
     ensures holds { (order : Order) → GiveOrder (map (λ w. w.now) words.now) order → result ≡ 0
         → RunsOver (devices Y.Storage.Store Y.Files.ReadFiles Y.Files.OpenFiles Y.Files.Input.Source Y.Databases.Databases Y.Clock.DayClock
-        Y.Ports.listens Y.Ports.Listener.accepts Y.Ports.Listener.closes Y.Threaders.makes Y.Input.Source Y.Output.Sink Y.Output.Outgoing.own Y.Faults.Sink)
+        Y.Ports.listens Y.Ports.Listener.accepts Y.Ports.Listener.closes Y.Ports.Listener.over Y.Ports.went Y.Threaders.makes Y.Input.Source Y.Output.Sink Y.Output.Outgoing.own Y.Faults.Sink)
         world.old world.new order }
 
     // At 1 it is refused: for a reason that holds, or for want of memory to read the words. One line tells the refusal.
     ensures refused { (order : Order) → GiveOrder (map (λ w. w.now) words.now) order → result ≡ 1
         → IsRefused (devices Y.Storage.Store Y.Files.ReadFiles Y.Files.OpenFiles Y.Files.Input.Source Y.Databases.Databases Y.Clock.DayClock
-        Y.Ports.listens Y.Ports.Listener.accepts Y.Ports.Listener.closes Y.Threaders.makes Y.Input.Source Y.Output.Sink Y.Output.Outgoing.own Y.Faults.Sink)
+        Y.Ports.listens Y.Ports.Listener.accepts Y.Ports.Listener.closes Y.Ports.Listener.over Y.Ports.went Y.Threaders.makes Y.Input.Source Y.Output.Sink Y.Output.Outgoing.own Y.Faults.Sink)
         world.old world.new order }
 
     // At 2 the words order nothing, for they are bad.
@@ -96,7 +96,7 @@ pub fn run<Y: System>(alloc: Global, world: &mut World<Y>, words: &[&str]) -> u8
         × (result ≤ 1))
         ⊎ ((stop : OrderStop) × IsStopOf (map (λ w. w.now) words.now) stop
         × RunSaysStop (devices Y.Storage.Store Y.Files.ReadFiles Y.Files.OpenFiles Y.Files.Input.Source Y.Databases.Databases Y.Clock.DayClock
-        Y.Ports.listens Y.Ports.Listener.accepts Y.Ports.Listener.closes Y.Threaders.makes Y.Input.Source Y.Output.Sink Y.Output.Outgoing.own Y.Faults.Sink)
+        Y.Ports.listens Y.Ports.Listener.accepts Y.Ports.Listener.closes Y.Ports.Listener.over Y.Ports.went Y.Threaders.makes Y.Input.Source Y.Output.Sink Y.Output.Outgoing.own Y.Faults.Sink)
         world.old world.new stop result) }
 {
     match order(alloc, words) {

@@ -8,7 +8,7 @@ use crate::faults::Refusal;
 use crate::ordering::{asking_day, named_policy};
 use crate::threaders::Threaders;
 use crate::world::{System, World};
-use archive_listen::{Listener, Listening, Outgoing, Ports};
+use archive_listen::{Listening, Outgoing, Ports};
 use archive_serve::{ServeStop, Terms, serve};
 use archive_store::Store;
 use archive_words::ServeOrder;
@@ -55,24 +55,27 @@ fn serving_terms<'a, T>(
     }
 }
 
-/// Says where a listener listens, and answers so many of its connections out of an open store. F4: no more connections come.
+/// Says where a listener listens, answers so many of its connections out of an open store, and ends it. F4: no more connections come.
 /// F2: it could not be said where. F5: there was no memory for the routes of the pages.
-fn serve_listening<T: Threader, S: Alter, L: Listener + Drop, O: Outgoing, E: Sink>(
+fn serve_listening<T: Threader, S: Alter, P: Ports, O: Outgoing, E: Sink>(
     alloc: Global,
     store: &mut Store<S>,
     policy: &Policy,
     threader: &T,
     day: Day,
-    listening: Listening<L>,
+    ports: &mut P,
+    listening: Listening<P::Listener>,
     count: u32,
     output: &mut O,
     faults: &mut E,
 ) -> Result<(), Refusal>
     ensures served { MatchResult result
-        (λ _. AnswersAll S.Store L.accepts L.closes policy.now day listening store.old store.new
+        (λ _. AnswersAll S.Store P.Listener.accepts P.Listener.closes P.Listener.over P.went ports.old ports.new policy.now day listening
+        store.old store.new
         (said O.Sink O.Outgoing.own E.Sink output.old faults.old)
         (said O.Sink O.Outgoing.own E.Sink output.new faults.new) count)
-        (ServesNot S.Store L.accepts L.closes policy.now day listening store.old store.new
+        (ServesNot S.Store P.Listener.accepts P.Listener.closes P.Listener.over P.went ports.old ports.new policy.now day listening
+        store.old store.new
         (said O.Sink O.Outgoing.own E.Sink output.old faults.old)
         (said O.Sink O.Outgoing.own E.Sink output.new faults.new) count) }
     ensures failures { E.failures faults.old ≤ E.failures faults.new }
@@ -80,7 +83,9 @@ fn serve_listening<T: Threader, S: Alter, L: Listener + Drop, O: Outgoing, E: Si
     let Listening { listener, port } = listening;
     let mut listener = listener;
     let terms = serving_terms(alloc, policy, threader, day);
-    match serve(store, &terms, &mut listener, port, count, output, faults) {
+    let served = serve(store, &terms, &mut listener, port, count, output, faults);
+    ports.end(listener);
+    match served {
         Ok(()) => Ok(()),
         Err(ServeStop::Listen) => Err(Refusal::Net),
         Err(ServeStop::Write) => Err(Refusal::Run(RunFault::Write)),
@@ -88,7 +93,7 @@ fn serve_listening<T: Threader, S: Alter, L: Listener + Drop, O: Outgoing, E: Si
     }
 }
 
-/// Listens on the port of an order, and serves so many connections out of an open store.
+/// Listens on the port of an order, serves so many connections out of an open store, and ends the listener.
 fn serve_store<Y: System, T: Threader>(
     alloc: Global,
     world: &mut World<Y>,
@@ -99,7 +104,7 @@ fn serve_store<Y: System, T: Threader>(
     order: &ServeOrder<'_>,
 ) -> Result<(), Refusal>
     ensures served { ServesOpen world.old world.new Y.Output.Sink Y.Output.Outgoing.own Y.Faults.Sink Y.Storage.Store
-        Y.Ports.listens Y.Ports.Listener.accepts Y.Ports.Listener.closes store.old store.new order.now policy.now day result }
+        Y.Ports.listens Y.Ports.Listener.accepts Y.Ports.Listener.closes Y.Ports.Listener.over Y.Ports.went store.old store.new order.now policy.now day result }
     ensures failures { Y.Faults.failures world.old.faults ≤ Y.Faults.failures world.new.faults }
 {
     let listening = listen_on(&mut world.ports, order.port)?;
@@ -109,6 +114,7 @@ fn serve_store<Y: System, T: Threader>(
         policy,
         threader,
         day,
+        &mut world.ports,
         listening,
         order.count,
         &mut world.output,
@@ -126,7 +132,7 @@ fn work_serve<Y: System, T: Threader>(
     order: &ServeOrder<'_>,
 ) -> Result<(), Refusal>
     ensures served { ServesIn world.old world.new Y.Output.Sink Y.Output.Outgoing.own Y.Faults.Sink Y.Storage.Store
-        Y.Ports.listens Y.Ports.Listener.accepts Y.Ports.Listener.closes Y.Databases.Databases order.now policy.now day result }
+        Y.Ports.listens Y.Ports.Listener.accepts Y.Ports.Listener.closes Y.Ports.Listener.over Y.Ports.went Y.Databases.Databases order.now policy.now day result }
     ensures failures { Y.Faults.failures world.old.faults ≤ Y.Faults.failures world.new.faults }
 {
     let mut store = match world.databases.open(alloc, order.file) {
@@ -147,7 +153,7 @@ fn serve_by<Y: System, T: Threader>(
     order: &ServeOrder<'_>,
 ) -> Result<(), Refusal>
     ensures served { ServesUnder world.old world.new Y.Output.Sink Y.Output.Outgoing.own Y.Faults.Sink Y.Storage.Store Y.Ports.listens
-        Y.Ports.Listener.accepts Y.Ports.Listener.closes Y.Databases.Databases Y.Clock.DayClock order.now policy.now result }
+        Y.Ports.Listener.accepts Y.Ports.Listener.closes Y.Ports.Listener.over Y.Ports.went Y.Databases.Databases Y.Clock.DayClock order.now policy.now result }
     ensures failures { Y.Faults.failures world.old.faults ≤ Y.Faults.failures world.new.faults }
 {
     let Some(day) = asking_day(order.day, &mut world.clock) else {
@@ -164,7 +170,7 @@ pub(crate) fn run_serve<Y: System>(
     order: &ServeOrder<'_>,
 ) -> Result<(), Refusal>
     ensures { RunsServe world.old world.new Y.Output.Sink Y.Output.Outgoing.own Y.Faults.Sink Y.Storage.Store Y.Ports.listens
-        Y.Ports.Listener.accepts Y.Ports.Listener.closes Y.Databases.Databases Y.Clock.DayClock Y.Files.ReadFiles Y.Threaders.makes order.now result }
+        Y.Ports.Listener.accepts Y.Ports.Listener.closes Y.Ports.Listener.over Y.Ports.went Y.Databases.Databases Y.Clock.DayClock Y.Files.ReadFiles Y.Threaders.makes order.now result }
 {
     let Some(threader) = world.threaders.threader() else {
         return Err(Refusal::Run(RunFault::Read));

@@ -1,3 +1,3 @@
 mod SteadyLemmas
-mod SocketLemmas
+pub mod PeerLemmas
 mod KeptLemmas

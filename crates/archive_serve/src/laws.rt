@@ -9,8 +9,8 @@ pub fn whole_replies_leave_the_store_ready<S: Alter, L: Listener>()
     ensures { LeaveItReady S.Store L.accepts L.closes }
 {}
 
-/// Over the loopback interface each peer is sent its own reply: what was read of it, and what was sent to it, stand together in what
-/// the listener wrote down for contracts (`Loopback`).
-pub fn each_peer_gets_its_reply<S: Alter>()
-    ensures { EachGetsItsReply S.Store }
+/// Each peer is sent its own reply: what was read of it, and what was sent to it, stand together in what went over the connections that
+/// the listener took back.
+pub fn each_peer_gets_its_reply<S: Alter, L: Listener>()
+    ensures { EachGetsItsReply S.Store L.over L.accepts L.closes }
 {}

@@ -48,8 +48,8 @@ module _ {Y S F D C P T R O E I L K A B M : Type 0} (dev : Devices S F I D C P L
   pub published : (old first second new : World Y S F D C P T R O E I L K A B M) (it : Publishing)
       → Runs dev old first (Import (import_of it)) (Ok tt) → RunsOver dev old first (Import (import_of it))
       → Runs dev first second (Table (withdrawal_of it)) (Ok tt) → RunsOver dev first second (Table (withdrawal_of it))
-      → RunsOver dev second new (Serve (service_of it)) → IsPublished dev old new it
-  published old first second new it ran_first taken ran_second stepped served =
+      → Runs dev second new (Serve (service_of it)) (Ok tt) → RunsOver dev second new (Serve (service_of it)) → IsPublished dev old new it
+  published old first second new it ran_first taken ran_second stepped ran served =
       let same_first : first ≡ record old { databases = first.databases; output = first.output } = ran_first.2.1 in
       let same_second : second ≡ record first { databases = second.databases; output = second.output } = ran_second.2.1 in
       let files : second.files ≡ old.files =
@@ -61,6 +61,7 @@ module _ {Y S F D C P T R O E I L K A B M : Type 0} (dev : Devices S F I D C P L
         second = second;
         taken = taken;
         stepped = stepped;
+        ran = ran;
         served = served;
         by_policy = subst (λ (f : F). IsPolicyOf dev.gives f (Some it.policy) served.rules) files served.is_policy;
         on_day = subst (λ (c : C). IsDayBy dev.clock it.day true c served.clock (Some served.day)) clock served.is_day;

@@ -19,13 +19,13 @@ pub fn import_withdraw_and_serve<Y: System>(
     ensures published { result ≡ 0 → (it : Publishing)
         → AreWordsOf (map (λ w. w.now) import.now) (map (λ w. w.now) withdrawal.now) (map (λ w. w.now) service.now) it
         → IsPublished (devices Y.Storage.Store Y.Files.ReadFiles Y.Files.OpenFiles Y.Files.Input.Source Y.Databases.Databases Y.Clock.DayClock
-        Y.Ports.listens Y.Ports.Listener.accepts Y.Ports.Listener.closes Y.Threaders.makes Y.Input.Source Y.Output.Sink Y.Output.Outgoing.own Y.Faults.Sink)
+        Y.Ports.listens Y.Ports.Listener.accepts Y.Ports.Listener.closes Y.Ports.Listener.over Y.Ports.went Y.Threaders.makes Y.Input.Source Y.Output.Sink Y.Output.Outgoing.own Y.Faults.Sink)
         world.old world.new it }
 
     // Whatever they order: at another status one of them was refused, or orders nothing.
     ensures stopped { result ≢ 0
         → StopsAt (devices Y.Storage.Store Y.Files.ReadFiles Y.Files.OpenFiles Y.Files.Input.Source Y.Databases.Databases Y.Clock.DayClock
-        Y.Ports.listens Y.Ports.Listener.accepts Y.Ports.Listener.closes Y.Threaders.makes Y.Input.Source Y.Output.Sink Y.Output.Outgoing.own Y.Faults.Sink)
+        Y.Ports.listens Y.Ports.Listener.accepts Y.Ports.Listener.closes Y.Ports.Listener.over Y.Ports.went Y.Threaders.makes Y.Input.Source Y.Output.Sink Y.Output.Outgoing.own Y.Faults.Sink)
         world.old world.new
         (map (λ w. w.now) import.now ∷ map (λ w. w.now) withdrawal.now ∷ map (λ w. w.now) service.now ∷ []) result }
 {

@@ -1,8 +1,11 @@
 //! Peers of memory, some of which fail.
-ghost use Rattle.std.specs.Prelude.{⊤};
+ghost use Rattle.std.specs.Prelude.{◌≡◌, ◌++◌, [], ◌∷◌};
+ghost use Rattle.archive_listen.specs.Connections.{exchange};
+ghost use Rattle.listen_tests.specs.Taps.{over_taps};
 
 use crate::words::Words;
 use archive_listen::{AcceptFault, Connection, Gathered, ListenFault, Listener, ROOM, serve_each};
+use http_server::Log;
 use mbox_core::device::Tap;
 use std::alloc::Global;
 use std::process::Abort;
@@ -56,12 +59,26 @@ struct Peers<'a> {
     peers: &'a [Peer],
     at: usize,
     got: Vec<u8>,
+    taken: Log<Tap, Gathered<Tap, ROOM>>,
 }
 
 impl<'a> Listener for Peers<'a> {
+    ghost use Rattle.std.specs.Prelude.{◌≡◌, ◌++◌, [], ◌∷◌};
+    ghost use Rattle.listen_tests.specs.Taps.{over_taps};
+
     type Input = Tap;
 
     type Output = Gathered<Tap, ROOM>;
+
+    ghost over = { λ p. over_taps p.taken.items };
+
+    ghost accepts = { λ old new fault. over_taps new.taken.items ≡ over_taps old.taken.items };
+
+    ghost closes = { λ old new went broke_off. over_taps new.taken.items ≡ over_taps old.taken.items ++ went ∷ [] };
+
+    ghost accepts_none = { λ old new fault same. same };
+
+    ghost closes_one = { λ old new went broke_off more. more };
 
     fn accept(&mut self) -> Result<Connection<Tap, Gathered<Tap, ROOM>>, AcceptFault> {
         let Some(peer) = self.peers.get(self.at) else {
@@ -89,8 +106,10 @@ impl<'a> Listener for Peers<'a> {
     }
 
     fn close(&mut self, connection: Connection<Tap, Gathered<Tap, ROOM>>, breaks_off: bool)
-        ensures closes { ⊤ }
+        ensures closes { over_taps self.new.taken.items ≡ over_taps self.old.taken.items
+            ++ exchange connection.input.read connection.output.inner.written ∷ [] }
     {
+        self.taken = self.taken.and(&connection.input, &connection.output);
         let output = connection.output.into_inner();
         let _ = self.got.extend_from_slice(output.bytes());
         if breaks_off {
@@ -196,6 +215,7 @@ fn comes(rt: &impl Abort, alloc: Global, case: &Case) -> Result<(), Fail> {
         peers: case.peers,
         at: 0,
         got: Vec::new(alloc),
+        taken: Log::new(),
     };
     let mut faults = Tap::new(alloc, b"", 1000)?;
     let outcome = serve_each(

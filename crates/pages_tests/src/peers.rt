@@ -1,7 +1,10 @@
 //! Peers of memory, which say something and whose directions pass so many bytes.
-ghost use Rattle.std.specs.Prelude.{⊤};
+ghost use Rattle.std.specs.Prelude.{◌≡◌, ◌++◌, [], ◌∷◌};
+ghost use Rattle.archive_listen.specs.Connections.{exchange};
+ghost use Rattle.pages_tests.specs.Taps.{over_taps};
 
 use archive_listen::{AcceptFault, Connection, Gathered, Listener, ROOM};
+use http_server::Log;
 use mbox_core::device::Tap;
 use std::alloc::Global;
 
@@ -30,6 +33,7 @@ pub struct Peers<'a> {
     pub peers: &'a [Peer],
     /// What all of them got.
     pub got: Vec<u8>,
+    taken: Log<Tap, Gathered<Tap, ROOM>>,
 }
 
 impl<'a> Peers<'a> {
@@ -39,14 +43,28 @@ impl<'a> Peers<'a> {
             alloc,
             peers,
             got: Vec::new(alloc),
+            taken: Log::new(),
         }
     }
 }
 
 impl<'a> Listener for Peers<'a> {
+    ghost use Rattle.std.specs.Prelude.{◌≡◌, ◌++◌, [], ◌∷◌};
+    ghost use Rattle.pages_tests.specs.Taps.{over_taps};
+
     type Input = Tap;
 
     type Output = Gathered<Tap, ROOM>;
+
+    ghost over = { λ p. over_taps p.taken.items };
+
+    ghost accepts = { λ old new fault. over_taps new.taken.items ≡ over_taps old.taken.items };
+
+    ghost closes = { λ old new went broke_off. over_taps new.taken.items ≡ over_taps old.taken.items ++ went ∷ [] };
+
+    ghost accepts_none = { λ old new fault same. same };
+
+    ghost closes_one = { λ old new went broke_off more. more };
 
     fn accept(&mut self) -> Result<Connection<Tap, Gathered<Tap, ROOM>>, AcceptFault> {
         let Some((first, rest)) = self.peers.split_first() else {
@@ -74,8 +92,10 @@ impl<'a> Listener for Peers<'a> {
     }
 
     fn close(&mut self, connection: Connection<Tap, Gathered<Tap, ROOM>>, breaks_off: bool)
-        ensures closes { ⊤ }
+        ensures closes { over_taps self.new.taken.items ≡ over_taps self.old.taken.items
+            ++ exchange connection.input.read connection.output.inner.written ∷ [] }
     {
+        self.taken = self.taken.and(&connection.input, &connection.output);
         let output = connection.output.into_inner();
         let _ = self.got.extend_from_slice(output.bytes());
         if breaks_off {

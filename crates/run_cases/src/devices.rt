@@ -1,5 +1,7 @@
 //! Devices that the runs are over.
-ghost use Rattle.std.specs.Prelude.{⊤};
+ghost use Rattle.std.specs.Prelude.{◌≡◌, ◌++◌, [], ◌∷◌};
+ghost use Rattle.archive_listen.specs.Connections.{exchange};
+ghost use Rattle.run_cases.specs.Taps.{over_taps};
 
 use crate::shelf::Shelf;
 use crate::short_files::ShortFiles;
@@ -8,6 +10,7 @@ use archive_listen::{
 };
 use archive_run::{System, Threaders};
 use civil_time::Day;
+use http_server::Log;
 use mbox_core::device::Tap;
 use sift_run::DayClock;
 use sqlite::FileStore;
@@ -39,36 +42,74 @@ impl Threaders for NoThreaders {
     }
 }
 
-/// Ports that cannot be had.
-#[derive(Drop)]
-pub struct NoPorts;
-
 /// A listener that gives no connection.
 #[derive(Drop)]
-pub struct NoListener;
+pub struct NoListener {
+    taken: Log<Tap, Gathered<Tap, ROOM>>,
+}
 
 impl Listener for NoListener {
+    ghost use Rattle.std.specs.Prelude.{◌≡◌, ◌++◌, [], ◌∷◌};
+    ghost use Rattle.run_cases.specs.Taps.{over_taps};
+
     type Input = Tap;
 
     type Output = Gathered<Tap, ROOM>;
+
+    ghost over = { λ l. over_taps l.taken.items };
+
+    ghost accepts = { λ old new fault. over_taps new.taken.items ≡ over_taps old.taken.items };
+
+    ghost closes = { λ old new went broke_off. over_taps new.taken.items ≡ over_taps old.taken.items ++ went ∷ [] };
+
+    ghost accepts_none = { λ old new fault same. same };
+
+    ghost closes_one = { λ old new went broke_off more. more };
 
     fn accept(&mut self) -> Result<Connection<Tap, Gathered<Tap, ROOM>>, AcceptFault> {
         Err(AcceptFault::Listener)
     }
 
     fn close(&mut self, connection: Connection<Tap, Gathered<Tap, ROOM>>, breaks_off: bool)
-        ensures closes { ⊤ }
+        ensures closes { over_taps self.new.taken.items ≡ over_taps self.old.taken.items
+            ++ exchange connection.input.read connection.output.inner.written ∷ [] }
     {
-        let _connection = connection;
+        self.taken = self.taken.and(&connection.input, &connection.output);
         let _breaks_off = breaks_off;
     }
 }
 
+/// Ports that cannot be had.
+#[derive(Drop)]
+pub struct NoPorts {
+    ended: Log<NoListener, ()>,
+}
+
+impl NoPorts {
+    /// No listener was ended yet.
+    pub fn new() -> NoPorts {
+        NoPorts { ended: Log::new() }
+    }
+}
+
 impl Ports for NoPorts {
+    ghost use Rattle.std.specs.Prelude.{IfOk, flat_map};
+    ghost use Rattle.run_cases.specs.Taps.{over_taps};
+
     type Listener = NoListener;
+
+    ghost went = { λ p. flat_map (λ e. over_taps e.0.taken.items) p.ended.items };
+
+    ghost listens = { λ old new port result. IfOk result (λ _. ⊥) };
+
+    ghost listens_none = { λ old new port listening given. absurd given };
 
     fn listen(&mut self, _port: u16) -> Result<Listening<NoListener>, ListenFault> {
         Err(ListenFault)
+    }
+
+    fn end(&mut self, listener: NoListener) {
+        self.ended = self.ended.and(&listener, &());
     }
 }
 

@@ -81,7 +81,7 @@ impl Stage {
             },
             databases,
             clock: Still(self.today),
-            ports: NoPorts,
+            ports: NoPorts::new(),
             threaders: NoThreaders,
             input,
             output,

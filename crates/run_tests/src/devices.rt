@@ -1,5 +1,7 @@
 //! Files, databases, a clock, ports and threaders of memory.
-ghost use Rattle.std.specs.Prelude.{⊤};
+ghost use Rattle.std.specs.Prelude.{◌≡◌, ◌++◌, [], ◌∷◌};
+ghost use Rattle.archive_listen.specs.Connections.{exchange};
+ghost use Rattle.run_tests.specs.Taps.{over_taps};
 
 use archive_listen::{
     AcceptFault, Connection, Gathered, ListenFault, Listener, Listening, Ports, ROOM,
@@ -7,10 +9,11 @@ use archive_listen::{
 use archive_run::{Databases, System, Threaders};
 use archive_store::{Store, StoreFault};
 use civil_time::Day;
+use http_server::Log;
 use mbox_core::device::Tap;
 use sift_run::{DayClock, FileFault, OpenFiles, ReadFiles};
 use sqlite::MemStore;
-use std::alloc::Global;
+use std::alloc::{AllocError, Global};
 use thread_core::NodeThreader;
 
 /// A file that writes a policy.
@@ -164,40 +167,46 @@ impl Threaders for Nodes {
 pub enum Peer {
     /// It is gone before it is taken.
     Gone,
-    /// It asks for all lists.
-    Asks,
-    /// It says this, and waits for this reply.
-    Waits {
-        text: &'static [u8],
-        reply: &'static [u8],
-    },
+    /// It says this.
+    Says(&'static [u8]),
 }
 
-/// Gives these peers, and then no more; nor any behind one that was sent another reply than it waits for.
+/// Gives these peers, and then no more. What each of them was sent is kept.
 #[derive(Drop)]
 pub struct Peers {
     alloc: Global,
     peers: &'static [Peer],
-    // What the last one waits for.
-    reply: Option<&'static [u8]>,
+    /// What each was sent.
+    pub sent: Vec<Tap>,
+    taken: Log<Tap, Gathered<Tap, ROOM>>,
 }
 
 impl Listener for Peers {
+    ghost use Rattle.std.specs.Prelude.{◌≡◌, ◌++◌, [], ◌∷◌};
+    ghost use Rattle.run_tests.specs.Taps.{over_taps};
+
     type Input = Tap;
 
     type Output = Gathered<Tap, ROOM>;
+
+    ghost over = { λ p. over_taps p.taken.items };
+
+    ghost accepts = { λ old new fault. over_taps new.taken.items ≡ over_taps old.taken.items };
+
+    ghost closes = { λ old new went broke_off. over_taps new.taken.items ≡ over_taps old.taken.items ++ went ∷ [] };
+
+    ghost accepts_none = { λ old new fault same. same };
+
+    ghost closes_one = { λ old new went broke_off more. more };
 
     fn accept(&mut self) -> Result<Connection<Tap, Gathered<Tap, ROOM>>, AcceptFault> {
         let Some((first, rest)) = self.peers.split_first() else {
             return Err(AcceptFault::Listener);
         };
         self.peers = rest;
-        let (text, reply): (&[u8], Option<&'static [u8]>) = match *first {
-            Peer::Gone => return Err(AcceptFault::Peer),
-            Peer::Asks => (b"GET / HTTP/1.1\r\n\r\n", None),
-            Peer::Waits { text, reply } => (text, Some(reply)),
+        let Peer::Says(text) = *first else {
+            return Err(AcceptFault::Peer);
         };
-        self.reply = reply;
         let Ok(input) = Tap::new(self.alloc, text, 1000) else {
             return Err(AcceptFault::Listener);
         };
@@ -211,29 +220,60 @@ impl Listener for Peers {
     }
 
     fn close(&mut self, connection: Connection<Tap, Gathered<Tap, ROOM>>, breaks_off: bool)
-        ensures closes { ⊤ }
+        ensures closes { over_taps self.new.taken.items ≡ over_taps self.old.taken.items
+            ++ exchange connection.input.read connection.output.inner.written ∷ [] }
     {
-        let output = connection.output.into_inner();
+        self.taken = self.taken.and(&connection.input, &connection.output);
         let _breaks_off = breaks_off;
-        if let Some(reply) = self.reply {
-            if output.bytes() != reply {
-                self.peers = &[];
-            }
-        }
+        let _ = self.sent.push(connection.output.into_inner());
     }
 }
 
-/// Ports, at all of which the same peers come, but the one that is taken.
+/// Ports, at all of which the same peers come, but the one that is taken. The last listener that was ended is kept.
 #[derive(Drop)]
 pub struct Quay {
-    /// Where what they get is kept.
-    pub alloc: Global,
-    /// The peers of each port.
-    pub peers: &'static [Peer],
+    alloc: Global,
+    peers: &'static [Peer],
+    /// The last listener that was ended.
+    pub last: Option<Peers>,
+    ended: Log<Peers, ()>,
+}
+
+impl Quay {
+    /// No listener was ended yet.
+    pub fn new(alloc: Global, peers: &'static [Peer]) -> Quay {
+        Quay {
+            alloc,
+            peers,
+            last: None,
+            ended: Log::new(),
+        }
+    }
+
+    /// What the peers of the last listener were sent, one behind the other.
+    pub fn sent(&self) -> Result<Vec<u8>, AllocError> {
+        let mut all = Vec::new(self.alloc);
+        if let Some(peers) = &self.last {
+            for sent in &peers.sent {
+                all.extend_from_slice(sent.bytes())?;
+            }
+        }
+        Ok(all)
+    }
 }
 
 impl Ports for Quay {
+    ghost use Rattle.std.specs.Prelude.{◌≡◌, [], IfOk, flat_map};
+    ghost use Rattle.run_tests.specs.Taps.{listens_none, over_taps};
+
     type Listener = Peers;
+
+    ghost went = { λ q. flat_map (λ e. over_taps e.0.taken.items) q.ended.items };
+
+    ghost listens = { λ old new port result. (new ≡ old) × IfOk result (λ it. it.listener.taken.items ≡ []) };
+
+    ghost listens_none = { λ old new port listening given.
+        listens_none (λ q. flat_map (λ e. over_taps e.0.taken.items) q.ended.items) old new listening.listener.taken.items given.0 given.1 };
 
     fn listen(&mut self, port: u16) -> Result<Listening<Peers>, ListenFault> {
         if port == TAKEN {
@@ -243,10 +283,16 @@ impl Ports for Quay {
             listener: Peers {
                 alloc: self.alloc,
                 peers: self.peers,
-                reply: None,
+                sent: Vec::new(self.alloc),
+                taken: Log::new(),
             },
             port: if port == 0 { PICKED } else { port },
         })
+    }
+
+    fn end(&mut self, listener: Peers) {
+        self.ended = self.ended.and(&listener, &());
+        self.last = Some(listener);
     }
 }
 

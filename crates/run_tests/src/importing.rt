@@ -76,7 +76,7 @@ fn comes(
         files: KnownFiles,
         databases,
         clock: Still(None),
-        ports: Quay { alloc, peers: &[] },
+        ports: Quay::new(alloc, &[]),
         threaders: Nodes(None),
         input: Tap::new(alloc, b"", 0)?,
         output: Gathered::new(Tap::new(alloc, b"", 100)?),

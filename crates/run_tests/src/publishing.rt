@@ -21,6 +21,8 @@ struct Case {
     status: u8,
     said: &'static [u8],
     told: &'static [u8],
+    /// What the peers were sent.
+    sent: [&'static [u8]; 2],
 }
 
 /// The second message of the mbox, an answer to the first.
@@ -34,16 +36,30 @@ const THREADS: &[u8] =
 const REFUSAL: &[u8] =
     b"HTTP/1.1 403 Forbidden\r\nContent-Type: text/plain; charset=us-ascii\r\nContent-Length: 25\r\nConnection: close\r\n\r\n403 Forbidden: withdrawn\n";
 
-/// One asks for the threads, one for the answer, and one is gone, which is told where both were sent what they wait for.
+/// The threads of the list where all is shown.
+const ALL_THREADS: &[u8] =
+    b"HTTP/1.1 200 OK\r\nContent-Type: text/html; charset=us-ascii\r\nContent-Length: 703\r\nConnection: close\r\n\r\n\
+      <!DOCTYPE html>\n<html><head><title>soc: threads</title></head><body>\n<h1>soc: threads</h1>\n\
+      <div class=\"d0\"><a href=\"/l/soc/month/2003-03\">2003-03-04 10:00</a> \
+      <a href=\"/l/soc/by/anna%40example.org\">anna@example.org</a> \
+      <a href=\"/l/soc/m/a9fda901d43094a70ddaab56f97a3ed4ab7d9e3f14e4c1717930bee493395661\">Hello</a> \
+      <a href=\"/l/soc/t/a9fda901d43094a70ddaab56f97a3ed4ab7d9e3f14e4c1717930bee493395661\">thread</a></div>\n\
+      <div class=\"d1\"><a href=\"/l/soc/month/2003-03\">2003-03-12 10:30</a> (none) \
+      <a href=\"/l/soc/m/d41bdfeadb4b458370ddcfa1a3a8aa91197973a0a547288c06ee2a2ae4dbf327\">Re: Hello</a> \
+      <a href=\"/l/soc/t/d41bdfeadb4b458370ddcfa1a3a8aa91197973a0a547288c06ee2a2ae4dbf327\">thread</a></div>\n\
+      </body></html>\n";
+
+/// The message that was withdrawn, where it is shown.
+const SHOWN: &[u8] =
+    b"HTTP/1.1 200 OK\r\nContent-Type: message/rfc822\r\nContent-Length: 25\r\nConnection: close\r\n\r\n\
+      Subject: Re: Hello\n\nTwo.\n";
+
+/// One asks for the threads, one for the answer, and one is gone.
 const PEERS: [Peer; 3] = [
-    Peer::Waits {
-        text: b"GET /l/soc/threads HTTP/1.1\r\n\r\n",
-        reply: THREADS,
-    },
-    Peer::Waits {
-        text: b"GET /l/soc/m/d41bdfeadb4b458370ddcfa1a3a8aa91197973a0a547288c06ee2a2ae4dbf327 HTTP/1.1\r\n\r\n",
-        reply: REFUSAL,
-    },
+    Peer::Says(b"GET /l/soc/threads HTTP/1.1\r\n\r\n"),
+    Peer::Says(
+        b"GET /l/soc/m/d41bdfeadb4b458370ddcfa1a3a8aa91197973a0a547288c06ee2a2ae4dbf327 HTTP/1.1\r\n\r\n",
+    ),
     Peer::Gone,
 ];
 
@@ -55,15 +71,15 @@ const WELL: Case = Case {
     status: 0,
     said: b"added\nnew 2 known 0 too-large 0\nwithdrawn\nlistening on 127.0.0.1:8080\n",
     told: b"archive: S1 Read\n",
+    sent: [THREADS, REFUSAL],
 };
 
-/// Then: a policy that shows all, by which the first peer is sent another reply; no such message; and an mbox that fails.
+/// Then: a policy that shows all; no such message; and an mbox that fails.
 const CASES: [Case; 4] = [
     WELL,
     Case {
         policy: POLICY,
-        status: 1,
-        told: b"archive: F4 Net\n",
+        sent: [ALL_THREADS, SHOWN],
         ..WELL
     },
     Case {
@@ -71,6 +87,7 @@ const CASES: [Case; 4] = [
         status: 1,
         said: b"added\nnew 2 known 0 too-large 0\n",
         told: b"archive: E8 NoMessage\n",
+        sent: [b"", b""],
         ..WELL
     },
     Case {
@@ -78,6 +95,7 @@ const CASES: [Case; 4] = [
         status: 1,
         said: b"added\n",
         told: b"archive: M2 Read after 1\n",
+        sent: [b"", b""],
         ..WELL
     },
 ];
@@ -88,10 +106,7 @@ fn world_of(alloc: Global, threader: NodeThreader) -> Result<World<Desk>, Fail> 
         files: KnownFiles,
         databases: Shelf::new(),
         clock: Still(None),
-        ports: Quay {
-            alloc,
-            peers: &PEERS,
-        },
+        ports: Quay::new(alloc, &PEERS),
         threaders: Nodes(Some(threader)),
         input: Tap::new(alloc, b"", 0)?,
         output: Gathered::new(Tap::new(alloc, b"", 100)?),
@@ -122,6 +137,10 @@ fn comes(rt: &impl Abort, alloc: Global, threader: NodeThreader, case: &Case) ->
     assert_eq!(rt; world.faults.bytes(), case.told);
     assert_eq!(rt; world.output.into_inner().bytes(), case.said);
     assert_eq!(rt; status, case.status);
+    assert_eq!(rt;
+        world.ports.sent()?.as_slice(),
+        case.sent.concat(alloc)?.as_slice()
+    );
     Ok(())
 }
 

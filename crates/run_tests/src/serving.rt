@@ -26,10 +26,20 @@ struct Case {
     said: &'static [u8],
     told: &'static [u8],
     opened: u32,
+    /// How many peers were sent the page.
+    sent: usize,
 }
 
+/// Asks for all lists.
+const ASKS: Peer = Peer::Says(b"GET / HTTP/1.1\r\n\r\n");
+
+/// The page of all lists, of which there is none.
+const NO_LISTS: &[u8] =
+    b"HTTP/1.1 200 OK\r\nContent-Type: text/html; charset=us-ascii\r\nContent-Length: 92\r\nConnection: close\r\n\r\n\
+      <!DOCTYPE html>\n<html><head><title>Lists</title></head><body>\n<h1>Lists</h1>\n</body></html>\n";
+
 /// Those who come to each port.
-const PEERS: [Peer; 3] = [Peer::Asks, Peer::Gone, Peer::Asks];
+const PEERS: [Peer; 3] = [ASKS, Peer::Gone, ASKS];
 
 /// Three connections are ordered, and all that they need is there.
 const WELL: Case = Case {
@@ -44,6 +54,7 @@ const WELL: Case = Case {
     said: b"listening on 127.0.0.1:8080\n",
     told: b"archive: S1 Read\n",
     opened: 1,
+    sent: 2,
 };
 
 const CASES: [Case; 12] = [
@@ -51,6 +62,7 @@ const CASES: [Case; 12] = [
     Case {
         count: "0",
         told: b"",
+        sent: 0,
         ..WELL
     },
     Case {
@@ -58,6 +70,7 @@ const CASES: [Case; 12] = [
         port: "0",
         said: b"listening on 127.0.0.1:49152\n",
         told: b"",
+        sent: 1,
         ..WELL
     },
     Case {
@@ -72,6 +85,7 @@ const CASES: [Case; 12] = [
         said: b"",
         told: b"archive: F1 Read\n",
         opened: 0,
+        sent: 0,
         ..WELL
     },
     Case {
@@ -80,6 +94,7 @@ const CASES: [Case; 12] = [
         said: b"",
         told: b"archive: F1 Read\n",
         opened: 0,
+        sent: 0,
         ..WELL
     },
     Case {
@@ -88,6 +103,7 @@ const CASES: [Case; 12] = [
         said: b"",
         told: b"archive: P1 NotToml\n",
         opened: 0,
+        sent: 0,
         ..WELL
     },
     Case {
@@ -96,6 +112,7 @@ const CASES: [Case; 12] = [
         said: b"",
         told: b"archive: F3 Clock\n",
         opened: 0,
+        sent: 0,
         ..WELL
     },
     Case {
@@ -104,6 +121,7 @@ const CASES: [Case; 12] = [
         said: b"",
         told: b"archive: E15 Store\n",
         opened: 0,
+        sent: 0,
         ..WELL
     },
     Case {
@@ -111,6 +129,7 @@ const CASES: [Case; 12] = [
         status: 1,
         said: b"",
         told: b"archive: F4 Net\n",
+        sent: 0,
         ..WELL
     },
     Case {
@@ -118,6 +137,7 @@ const CASES: [Case; 12] = [
         status: 1,
         said: b"listening",
         told: b"archive: F2 Write\n",
+        sent: 0,
         ..WELL
     },
     Case {
@@ -126,6 +146,7 @@ const CASES: [Case; 12] = [
         status: 1,
         said: b"",
         told: b"archive: F2 Write\n",
+        sent: 0,
         ..WELL
     },
 ];
@@ -138,15 +159,11 @@ fn world_of(alloc: Global, threader: NodeThreader, case: &Case) -> Result<World<
         None
     };
     let threader = if case.threads { Some(threader) } else { None };
-    let ports = Quay {
-        alloc,
-        peers: &PEERS,
-    };
     Ok(World {
         files: KnownFiles,
         databases: Shelf::new(),
         clock: Still(today),
-        ports,
+        ports: Quay::new(alloc, &PEERS),
         threaders: Nodes(threader),
         input: Tap::new(alloc, b"", 0)?,
         output: Gathered::new(Tap::new(alloc, b"", case.room)?),
@@ -173,6 +190,10 @@ fn comes(rt: &impl Abort, alloc: Global, threader: NodeThreader, case: &Case) ->
     assert_eq!(rt; world.faults.bytes(), case.told);
     assert_eq!(rt; world.databases.opened, case.opened);
     assert_eq!(rt; world.databases.closed, case.opened);
+    assert_eq!(rt;
+        world.ports.sent()?.as_slice(),
+        NO_LISTS.repeat(alloc, case.sent)?.as_slice()
+    );
     Ok(())
 }
 

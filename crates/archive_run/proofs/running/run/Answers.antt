@@ -13,7 +13,8 @@ pub returns-in-Ok-clause-done : goal.returns-in-Ok-clause-done
 returns-in-Ok-clause-done g c =
     λ order given zero.
     let dev = devices g.Y.Storage.Store g.Y.Files.ReadFiles g.Y.Files.OpenFiles g.Y.Files.Input.Source g.Y-Databases-Databases g.Y.Clock.DayClock
-    g.Y.Ports.Ports.listens g.Y.Ports.Listener.Listener.accepts g.Y.Ports.Listener.Listener.closes g.Y.Threaders.Threaders.makes g.Y.Input.Source g.Y.Output.Sink g.Y.Output.Outgoing g.Y.Faults.Sink in
+    g.Y.Ports.Ports.listens g.Y.Ports.Listener.Listener.accepts g.Y.Ports.Listener.Listener.closes g.Y.Ports.Listener.Listener.over g.Y.Ports.Ports.went
+    g.Y.Threaders.Threaders.makes g.Y.Input.Source g.Y.Output.Sink g.Y.Output.Outgoing g.Y.Faults.Sink in
     let old = c.args.world.now in
     let mid = c.run_order-done.new.world in
     let it = at_zero _ _ (Runs dev old mid c.in-Ok.asked) c.run_order-done.result c.finish.result c.finish.ensures c.run_order-done.ensures zero in
@@ -25,7 +26,8 @@ pub returns-in-Ok-clause-refused : goal.returns-in-Ok-clause-refused
 returns-in-Ok-clause-refused g c =
     λ order given one.
     let dev = devices g.Y.Storage.Store g.Y.Files.ReadFiles g.Y.Files.OpenFiles g.Y.Files.Input.Source g.Y-Databases-Databases g.Y.Clock.DayClock
-    g.Y.Ports.Ports.listens g.Y.Ports.Listener.Listener.accepts g.Y.Ports.Listener.Listener.closes g.Y.Threaders.Threaders.makes g.Y.Input.Source g.Y.Output.Sink g.Y.Output.Outgoing g.Y.Faults.Sink in
+    g.Y.Ports.Ports.listens g.Y.Ports.Listener.Listener.accepts g.Y.Ports.Listener.Listener.closes g.Y.Ports.Listener.Listener.over g.Y.Ports.Ports.went
+    g.Y.Threaders.Threaders.makes g.Y.Input.Source g.Y.Output.Sink g.Y.Output.Outgoing g.Y.Faults.Sink in
     let old = c.args.world.now in
     let mid = c.run_order-done.new.world in
     let it = at_one _ _ (Runs dev old mid c.in-Ok.asked) c.run_order-done.result c.finish.result c.finish.ensures c.run_order-done.ensures one in
@@ -36,8 +38,11 @@ pub returns-in-Ok-clause-holds : goal.returns-in-Ok-clause-holds
 returns-in-Ok-clause-holds g c =
     λ order given zero.
     let dev = devices g.Y.Storage.Store g.Y.Files.ReadFiles g.Y.Files.OpenFiles g.Y.Files.Input.Source g.Y-Databases-Databases g.Y.Clock.DayClock
-    g.Y.Ports.Ports.listens g.Y.Ports.Listener.Listener.accepts g.Y.Ports.Listener.Listener.closes g.Y.Threaders.Threaders.makes g.Y.Input.Source g.Y.Output.Sink g.Y.Output.Outgoing g.Y.Faults.Sink in
-    runs_over dev g.met.Y.System.opens_held g.met.Y.System.closes_held c.args.world.now (record c.run_order-done.new.world { faults = c.finish.new.faults }) order
+    g.Y.Ports.Ports.listens g.Y.Ports.Listener.Listener.accepts g.Y.Ports.Listener.Listener.closes g.Y.Ports.Listener.Listener.over g.Y.Ports.Ports.went
+    g.Y.Threaders.Threaders.makes g.Y.Input.Source g.Y.Output.Sink g.Y.Output.Outgoing g.Y.Faults.Sink in
+    runs_over dev g.met.Y.System.opens_held g.met.Y.System.closes_held
+    g.met.Y.Ports.Listener.Listener.accepts_none g.met.Y.Ports.Listener.Listener.closes_one g.met.Y.Ports.Ports.listens_none
+    c.args.world.now (record c.run_order-done.new.world { faults = c.finish.new.faults }) order
     (returns-in-Ok-clause-done g c order given zero)
 
 pub returns-in-Ok-clause-bad : goal.returns-in-Ok-clause-bad
@@ -72,9 +77,12 @@ pub returns-in-Err-clause-holds : goal.returns-in-Err-clause-holds
 returns-in-Err-clause-holds g c =
     λ order given zero.
     let dev = devices g.Y.Storage.Store g.Y.Files.ReadFiles g.Y.Files.OpenFiles g.Y.Files.Input.Source g.Y-Databases-Databases g.Y.Clock.DayClock
-    g.Y.Ports.Ports.listens g.Y.Ports.Listener.Listener.accepts g.Y.Ports.Listener.Listener.closes g.Y.Threaders.Threaders.makes g.Y.Input.Source g.Y.Output.Sink g.Y.Output.Outgoing g.Y.Faults.Sink in
+    g.Y.Ports.Ports.listens g.Y.Ports.Listener.Listener.accepts g.Y.Ports.Listener.Listener.closes g.Y.Ports.Listener.Listener.over g.Y.Ports.Ports.went
+    g.Y.Threaders.Threaders.makes g.Y.Input.Source g.Y.Output.Sink g.Y.Output.Outgoing g.Y.Faults.Sink in
     let old = c.args.world.now in
-    runs_over dev g.met.Y.System.opens_held g.met.Y.System.closes_held old (record old { output = c.say_stop.new.output; faults = c.say_stop.new.faults }) order
+    runs_over dev g.met.Y.System.opens_held g.met.Y.System.closes_held
+    g.met.Y.Ports.Listener.Listener.accepts_none g.met.Y.Ports.Listener.Listener.closes_one g.met.Y.Ports.Ports.listens_none
+    old (record old { output = c.say_stop.new.output; faults = c.say_stop.new.faults }) order
     (returns-in-Err-clause-done g c order given zero)
 
 pub returns-in-Err-clause-bad : goal.returns-in-Err-clause-bad

@@ -14,7 +14,7 @@ returns-in_err-policy g c =
     let refusal = c.in_err-policy.field-0.0 in
     let P : List ℕ → Type 0 = λ p. OfRun (IsPolicyCause g.Y.Files.ReadFiles old.files (Some p)) refusal in
     err_at (RunsServe old old g.Y.Output.Sink g.Y.Output.Outgoing g.Y.Faults.Sink g.Y.Storage.Store g.Y.Ports.Ports.listens g.Y.Ports.Listener.Listener.accepts
-    g.Y.Ports.Listener.Listener.closes g.Y-Databases-Databases g.Y.Clock.DayClock g.Y.Files.ReadFiles g.Y.Threaders.Threaders.makes order)
+    g.Y.Ports.Listener.Listener.closes g.Y.Ports.Listener.Listener.over g.Y.Ports.Ports.went g.Y-Databases-Databases g.Y.Clock.DayClock g.Y.Files.ReadFiles g.Y.Threaders.Threaders.makes order)
     c.from_residual.result refusal c.from_residual.ensures.1
     (inl (c.in-Some.ensures, inl (subst P (ap (λ (o : ServeValues). o.policy) c.order.view_is) c.in_err-policy.ensures.refused, refl), omega arith))
 
@@ -29,7 +29,7 @@ returns g c =
       c.in-Some.ensures,
       by_policy old new g.Y.Files.ReadFiles (Some order.policy)
           (ServesUnder old new g.Y.Output.Sink g.Y.Output.Outgoing g.Y.Faults.Sink g.Y.Storage.Store g.Y.Ports.Ports.listens g.Y.Ports.Listener.Listener.accepts
-          g.Y.Ports.Listener.Listener.closes g.Y-Databases-Databases g.Y.Clock.DayClock order)
+          g.Y.Ports.Listener.Listener.closes g.Y.Ports.Listener.Listener.over g.Y.Ports.Ports.went g.Y-Databases-Databases g.Y.Clock.DayClock order)
           rules (subst P (ap (λ (o : ServeValues). o.policy) c.order.view_is) c.in_ok-policy.ensures.ok) c.serve_by.result c.serve_by.ensures.served,
       c.serve_by.ensures.failures,
     )

@@ -1,5 +1,6 @@
-use Rattle.archive_serve.proofs.SocketLemmas.{each_gets}
+use Rattle.archive_serve.proofs.PeerLemmas.{each_gets}
 use Rattle.archive_serve.proofs.laws.each_peer_gets_its_reply.Goals as goal
 
 pub returns : goal.returns
-returns g c = each_gets g.S.Store
+returns g c =
+    each_gets g.S.Store g.L.Listener.over g.L.Listener.accepts g.L.Listener.closes g.met.L.Listener.accepts_none g.met.L.Listener.closes_one

@@ -1,0 +1,120 @@
+//! A stream of the system, and what its calls gave. No clause says what the toolchain's own calls give, so the bodies here only call them
+//! and write down what came of it.
+ghost use Rattle.std.specs.Prelude.{◌≡◌, ◌≤◌, length, take, IfOk, MatchResult};
+ghost use Rattle.archive_listen.specs.Streams.{nothing_went, read_by, written_by};
+
+use byte_device::Told;
+use std::io::{self, Read, Write};
+use std::marker::Model;
+use std::net::{OpenStream, Shutdown};
+use std::time::Duration;
+
+/// Whether what is read leaves the socket.
+#[derive(Clone, Copy, Drop)]
+pub(crate) enum Reading {
+    /// It does.
+    Takes,
+    /// It stays, and the next read gives it again.
+    Looks,
+}
+
+/// A stream of the system. Contracts see the bytes that looks at it gave, and those that it took.
+#[derive(Drop)]
+pub(crate) struct Stream<S> {
+    inner: S,
+    given: Told,
+    took: Told,
+}
+
+impl<S> Model for Stream<S> {
+    ghost use Rattle.archive_listen.specs.Streams.{StreamState};
+
+    ghost Value = { StreamState };
+
+    ghost view = { λ s. record { given = s.given.bytes; took = s.took.bytes } };
+}
+
+impl<S> Stream<S> {
+    /// Nothing went over it yet.
+    pub(crate) fn new(inner: S) -> Stream<S>
+        ensures { result ≡ nothing_went }
+    {
+        Stream {
+            inner,
+            given: Told::new(),
+            took: Told::new(),
+        }
+    }
+
+    /// What looks at it gave.
+    pub(crate) fn given(&self) -> &Told
+        ensures { result.now.bytes ≡ self.now.given }
+    {
+        &self.given
+    }
+
+    /// What it took.
+    pub(crate) fn took(&self) -> &Told
+        ensures { result.now.bytes ≡ self.now.took }
+    {
+        &self.took
+    }
+
+    /// The stream of the system.
+    pub(crate) fn into_inner(self) -> S {
+        self.inner
+    }
+}
+
+impl<S: Read + OpenStream> Stream<S> {
+    /// One read, or one look, which may wait so long.
+    pub(crate) fn read(
+        &mut self,
+        reading: Reading,
+        wait: Duration,
+        buffer: &mut [u8],
+    ) -> io::Result<usize>
+        ensures count { IfOk result (λ n. n ≤ length buffer.old) }
+        ensures given { MatchResult result (λ n. self.new ≡ read_by reading (take n buffer.new) self.old)
+            (λ _. self.new ≡ self.old) }
+    {
+        self.inner.set_read_timeout(Some(wait))?;
+        match reading {
+            Reading::Takes => self.inner.read(buffer),
+            Reading::Looks => {
+                let count = self.inner.peek(buffer)?;
+                self.given.note(&buffer[..count]);
+                Ok(count)
+            }
+        }
+    }
+
+    /// Takes what has come. No wait.
+    pub(crate) fn take(&mut self, buffer: &mut [u8]) -> io::Result<usize>
+        ensures count { IfOk result (λ n. n ≤ length buffer.old) }
+        ensures same { self.new ≡ self.old }
+    {
+        self.inner.read(buffer)
+    }
+}
+
+impl<S: Write + OpenStream> Stream<S> {
+    /// One write, which may wait so long.
+    pub(crate) fn write(&mut self, wait: Duration, bytes: &[u8]) -> io::Result<usize>
+        ensures count { IfOk result (λ n. n ≤ length bytes.now) }
+        ensures took { MatchResult result (λ n. self.new ≡ written_by (take n bytes.now) self.old)
+            (λ _. self.new ≡ self.old) }
+    {
+        self.inner.set_write_timeout(Some(wait))?;
+        let count = self.inner.write(bytes)?;
+        self.took.note(&bytes[..count]);
+        Ok(count)
+    }
+}
+
+impl<S: OpenStream> Stream<S> {
+    /// Ends what is written.
+    pub(crate) fn end(&self) -> io::Result<()> {
+        self.inner.shutdown(Shutdown::Write)
+    }
+}
