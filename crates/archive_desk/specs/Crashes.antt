@@ -19,7 +19,7 @@ module _ {S : Type 0} (g : Ghosts S) where
   abbrev pub IsSafeStore : Store S → Type 0
   IsSafeStore store = IsSafe (state g (held_of store))
 
-  -- A call, and a stop of the machine behind it, once it has returned, where before it a stop left what was remembered, and nothing else.
+  -- A call that has returned, and a stop of the machine behind it, where before it a stop left what was remembered, and nothing else.
   -- Behind a call that was answered it is so again; and else an open finds an archive of which this holds, by the one before the call.
   abbrev pub CrashesIn : (Store S → Type 0) → Store S → Store S → {A F : Type 0} → Result A F → (Archive → F → Archive → Type 0) → Type 0
   CrashesIn Premise old new result Leaves = HasReturned g new → Premise old → IsSafeStore old

@@ -157,8 +157,8 @@ EndsReading g old new result Stops = EndsImport g old new (HoldsTables g) IsWant
 
 -- What a stop of the machine leaves of an import of this text, which was read of an input that met its end so often.
 pub record CrashReads {S : Type 0} (g : Ghosts S) (old new : Open S) (list text : List ℕ) (ends : ℕ) (result : Result Report ImportStop) : Type 0 where
-  -- Within the call: so many first messages of all bytes that the input has, whichever they are. They begin with what was read, and are that where
-  -- the end was met; so it is in each run over the input, and else nothing is named but the archive before.
+  -- Within the call: so many first messages of the bytes that the input has. They begin with what was read, and are what was read where the
+  -- end was met, as in each run over these bytes. Nothing else is named but the archive before.
   pub within : (rest : List ℕ) → (ends ≡ 1 → rest ≡ []) → LeavesOne g (held_of old) (held_of new) (HasReadAtLeast list (text ++ rest) 1 0)
   -- once it has stopped: at least those that it told, of what was read
   pub stopped : IfErr result (λ stop. LeavesOne g (held_of old) (held_of new) (HasReadAtLeast list text ends stop.done))
