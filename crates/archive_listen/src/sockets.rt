@@ -459,7 +459,11 @@ impl<'a, R: Net + Clock> Listener for Loopback<'a, R> {
     {
         let Connection { input, output } = connection;
         let output = output.into_inner();
-        self.exchanges = Exchanges::with(&self.exchanges, input.stream.given(), output.stream.took());
+        self.exchanges = Exchanges::with(
+            &self.exchanges,
+            input.stream.given(),
+            output.stream.took(),
+        );
         let head = input.stream.latest();
         let reply = output.stream.latest();
         let rest = end(
