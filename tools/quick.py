@@ -166,6 +166,9 @@ def lanes():
 
 
 def main(words):
+    if {*words} & {"-h", "--help"}:
+        print(__doc__.strip())
+        return 0
     if unknown := {*words} - {*part.lines()}:
         sys.exit(f"quick: crates.txt has no crate {' '.join(sorted(unknown))}")
     trials = trials_of([it for it in part.lines() if it in words or not words])

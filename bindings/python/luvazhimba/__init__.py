@@ -111,7 +111,14 @@ def _library() -> str:
     return os.environ.get("LUVAZHIMBA_LIB") or str(built if built.is_file() and not packaged.is_file() else packaged)
 
 
-_LIBRARY = ctypes.CDLL(_library())
+def _load(path: str) -> ctypes.CDLL:
+    try:
+        return ctypes.CDLL(path)
+    except OSError as error:
+        raise ImportError(f"{error}: bindings/build.sh makes the library, and LUVAZHIMBA_LIB names another one") from error
+
+
+_LIBRARY = _load(_library())
 
 
 def _export(name: str, *words: type) -> Callable[..., int]:
