@@ -1,19 +1,20 @@
 -- What is kept is of an archive, for one policy and one day.
-use Rattle.std.specs.Prelude.{◌≡◌, ⊤, ℕ, ℤ, List, [], ◌∷◌, Some, Result}
+use Rattle.std.specs.Prelude.{◌≡◌, ⊤, ℕ, ℤ, List, [], ◌∷◌, None, Some, Result}
 use Rattle.sqlite.specs.Store.{Ghosts}
 use Rattle.policy_core.specs.Rules.{Rule}
-use Rattle.archive_machine.specs.Records.{Archive}
+use Rattle.archive_machine.specs.Records.{Archive, Message}
+use Rattle.archive_machine.specs.Questions.{message_of}
 use Rattle.archive_store.specs.Uncounted.{uncounted}
 use Rattle.archive_store.specs.Told.{HasReturned, HoldsTables, IsShut, archive_in}
 use Rattle.archive_store.specs.declared.store.Store.{Store}
-use Rattle.archive_results.specs.Access.{Ask, ReaderMarks}
+use Rattle.archive_results.specs.Access.{Ask, ReaderMarks, marks_of}
 use Rattle.archive_desk.specs.Asking.{IsEnough}
 use Rattle.archive_desk.specs.Faults.{ask_reason, reason}
 use Rattle.archive_desk.specs.Holding.{CallsHeld}
 use Rattle.archive_desk.specs.declared.faults.DeskFault.{DeskFault}
 use Rattle.archive_kept.specs.Outlines.{outline_for}
 use Rattle.archive_kept.specs.Parts.{Part}
-use Rattle.archive_kept.specs.Views.{IsBounded, KeptView, Keeping, outline_at}
+use Rattle.archive_kept.specs.Views.{IsBounded, KeptView, Keeping, Withheld, outline_at}
 
 -- It is of this archive, by these rules, on this day: whoever asks of its list, of whom its marks are enough to know, is shown this.
 abbrev pub IsOf : Archive → List Rule → ℤ → KeptView → Type 0
@@ -24,9 +25,17 @@ abbrev pub EachIsOf : Archive → List Rule → ℤ → List KeptView → Type 0
 EachIsOf archive rules day [] = ⊤
 EachIsOf archive rules day (view ∷ views) = IsOf archive rules day view × EachIsOf archive rules day views
 
+-- its list holds the message, and these are its marks
+abbrev pub IsMarked : Archive → Withheld → Type 0
+IsMarked archive it = (m : Message) × (message_of archive it.list it.key ≡ Some m) × (it.marks ≡ marks_of None m)
+
+abbrev pub EachIsMarked : Archive → List Withheld → Type 0
+EachIsMarked archive [] = ⊤
+EachIsMarked archive (it ∷ rest) = IsMarked archive it × EachIsMarked archive rest
+
 -- all that is kept
 abbrev pub AreOf : Archive → List Rule → ℤ → Keeping → Type 0
-AreOf archive rules day kept = EachIsOf archive rules day kept.views
+AreOf archive rules day kept = EachIsOf archive rules day kept.views × EachIsMarked archive kept.withheld
 
 -- What a call does to what is kept: it stays of the archive that a store remembers; a store that is shut adds nothing; and whatever the
 -- store is, it weighs no more than it may.

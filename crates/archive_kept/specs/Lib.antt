@@ -4,3 +4,4 @@ pub mod Keyed
 pub mod Threaded
 pub mod Views
 pub mod Kept
+pub mod Sending

@@ -1,9 +1,10 @@
--- What is kept of views: the outlines, how one is looked for, and how many bytes they take, about.
-use Rattle.std.specs.Prelude.{◌≡◌, ◌==◌, ◌&&◌, ◌⊎◌, ◌+◌, ◌*◌, ◌≤◌, ℕ, Bool, true, false, List, [], length, drop, insert, position}
-use Rattle.std.specs.Prelude.{sum_by, slice_get, bytes_eq, Option, None, Some, option_map, Result, MatchResult}
+-- What is kept of views: the outlines, how one is looked for, and how many bytes they take, about. And what is kept of messages that
+-- were withheld.
+use Rattle.std.specs.Prelude.{◌≡◌, ◌==◌, ◌&&◌, ◌⊎◌, ◌+◌, ◌*◌, ◌≤◌, ◌++◌, ◌∷◌, ℕ, Bool, true, false, List, [], length, drop, find, insert}
+use Rattle.std.specs.Prelude.{position, sum_by, slice_get, bytes_eq, Option, None, Some, option_map, Result, MatchResult}
 use Rattle.std.specs.Option.{option_map_or}
 use Rattle.policy_core.specs.Facts.{rank_of}
-use Rattle.archive_results.specs.Access.{ReaderMarks}
+use Rattle.archive_results.specs.Access.{Marks, ReaderMarks}
 use Rattle.archive_results.specs.Shown.{Line}
 use Rattle.archive_kept.specs.Outlines.{Outline, text_of}
 use Rattle.archive_kept.specs.Parts.{Part, whole, month, author, part_weight, same_part}
@@ -15,14 +16,21 @@ pub record KeptView : Type 0 where
   pub part : Part
   pub outline : Outline
 
--- all that is kept, and how many bytes that may be
+-- What a policy weighs of a message of a list that was withheld, where it is not the reader's own.
+pub record Withheld : Type 0 where
+  pub list : List ℕ
+  pub key : List ℕ
+  pub marks : Marks
+
+-- all that is kept, and how many bytes the views may be
 pub record Keeping : Type 0 where
   pub most : ℕ
   pub views : List KeptView
+  pub withheld : List Withheld
 
 -- nothing is kept, of at most so many bytes
 abbrev pub nothing_kept : (most : ℕ) → Keeping
-nothing_kept most = record { most = most; views = [] }
+nothing_kept most = record { most = most; views = []; withheld = [] }
 
 -- ---- looking for a view
 
@@ -42,6 +50,14 @@ is_view_of list reader part view = same_part view.part part && (bytes_eq view.li
 abbrev pub outline_at : Keeping → (place : ℕ) → Option Outline
 outline_at kept place = option_map (λ v. v.outline) (slice_get kept.views place)
 
+-- the message of this list and key
+abbrev pub is_withheld_of : (list key : List ℕ) → Withheld → Bool
+is_withheld_of list key it = bytes_eq it.key key && bytes_eq it.list list
+
+-- the marks that are kept of the message of this list and key
+abbrev pub marks_kept : Keeping → (list key : List ℕ) → Option Marks
+marks_kept kept list key = option_map (λ (w : Withheld). w.marks) (find (is_withheld_of list key) kept.withheld)
+
 -- ---- how much it is
 
 -- A line counts the bytes of its author key and subject, and 192 for all else that it takes, with the two numbers by which it and its
@@ -60,9 +76,9 @@ view_weight view = 16384 + length view.list + option_map_or length view.reader.a
 abbrev pub weight_of : List KeptView → ℕ
 weight_of views = sum_by view_weight views
 
--- all of it weighs what it may, or it is one view alone
+-- the views weigh what they may, or it is one view alone; and 256 messages at most have their marks kept
 abbrev pub IsBounded : Keeping → Type 0
-IsBounded kept = (weight_of kept.views ≤ kept.most) ⊎ (length kept.views ≡ 1)
+IsBounded kept = ((weight_of kept.views ≤ kept.most) ⊎ (length kept.views ≡ 1)) × (length kept.withheld ≤ 256)
 
 -- ---- in which order
 
@@ -89,3 +105,7 @@ DropsOldest old new = (n : ℕ) × (new ≡ drop n old)
 abbrev pub PutsView : {F : Type 0} (old new : List KeptView) → KeptView → Result ℕ F → Type 0
 PutsView old new view result = (rest : List KeptView) × DropsOldest old rest
     × MatchResult result (λ place. (place ≡ put_place view.part rest) × (new ≡ insert rest place view)) (λ _. new ≡ rest)
+
+-- The marks of one message more are kept behind the others, the oldest of which may be let go for it; or they are not, for want of memory.
+abbrev pub KeepsMarks : (old new : List Withheld) → Withheld → Type 0
+KeepsMarks old new it = (n : ℕ) × ((new ≡ drop n old ++ it ∷ []) ⊎ (new ≡ drop n old))
