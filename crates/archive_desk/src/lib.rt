@@ -15,5 +15,5 @@ pub use exporting::{ExportStop, export, export_after};
 pub use faults::DeskFault;
 pub use importing::{ImportFault, ImportStop, Report, find_list, import};
 pub use listing::{Index, author, month, read_index, thread, threads};
-pub use messages::message;
+pub use messages::{find_row, message};
 pub use viewing::{find_reader, view};

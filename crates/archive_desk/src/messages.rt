@@ -38,8 +38,8 @@ pub fn message<'p, S: Alter>(
     }
 }
 
-/// The message of a key, if the list holds it.
-fn find_row<S: Alter>(
+/// The message of a key, if the list holds it. G1 where there is no such list; G4 where the store has no memory or fails.
+pub fn find_row<S: Alter>(
     store: &mut Store<S>,
     ask: &Ask<'_>,
     key: &Key,

@@ -19,8 +19,8 @@ use Rattle.archive_desk.proofs.CallLemmas.{calls_after, calls_last}
 use Rattle.archive_desk.proofs.EndLemmas.{ask_after}
 use Rattle.archive_kept.specs.Outlines.{Outline, outline_for, outline_under}
 use Rattle.archive_kept.specs.Parts.{Part, whole, month, author, same_part}
-use Rattle.archive_kept.specs.Views.{KeptView, Keeping, DropsOldest, IsBounded, is_view_of, outline_at, put_place}
-use Rattle.archive_kept.specs.Kept.{AreOf, EachIsOf, Finds, Keeps}
+use Rattle.archive_kept.specs.Views.{KeptView, Keeping, Withheld, DropsOldest, IsBounded, is_view_of, outline_at, put_place}
+use Rattle.archive_kept.specs.Kept.{AreOf, EachIsMarked, EachIsOf, Finds, Keeps}
 use Rattle.archive_kept.proofs.ViewLemmas.{Found, found_view, outline_put, put_within, some_is}
 use Rattle.archive_kept.proofs.KeepLemmas.{of_asked, of_at, of_dropped, of_more}
 
@@ -29,7 +29,7 @@ outline_found : (a : Archive) (ask : Ask) (reader : ReaderMarks) (part : Part) (
     → AreOf a ask.rules ask.day kept → outline_at kept place ≡ Some (outline_for a ask part)
 outline_found a ask reader part kept place found enough are =
     ap (option_map (λ (v : KeptView). v.outline)) found.there
-    ∙ ap (λ (o : Outline). Some o) (of_at a ask.rules ask.day kept.views place found.view are found.there ask refl refl (sym found.list_is)
+    ∙ ap (λ (o : Outline). Some o) (of_at a ask.rules ask.day kept.views place found.view are.0 found.there ask refl refl (sym found.list_is)
     (subst (λ r. IsEnough a ask r) (sym found.reader_is) enough) ∙ ap (outline_for a ask) found.part_is)
 
 -- a month or an author out of the whole
@@ -74,7 +74,7 @@ module _ {S : Type 0} (g : Ghosts S) (ask : Ask) (reader : ReaderMarks) where
 
     -- it is put, or it is not, where so much was kept before
     module _ (old new : Store S) (kept mid later : Keeping) (outline : Outline) (made : GoesHeld g old new (IsMade part kept outline)) (so_far : Stays old new kept mid)
-        (same_most : later.most ≡ kept.most) (within : IsBounded later) (rest : List KeptView) (dropped : DropsOldest mid.views rest) where
+        (same_most : later.most ≡ kept.most) (same_marks : later.withheld ≡ mid.withheld) (within : IsBounded later) (rest : List KeptView) (dropped : DropsOldest mid.views rest) where
       abbrev view : KeptView
       view = record { list = ask.list; reader = reader; part = part; outline = outline }
 
@@ -86,9 +86,11 @@ module _ {S : Type 0} (g : Ghosts S) (ask : Ask) (reader : ReaderMarks) where
         stays returned held enough are =
             let a = archive_in g old in
             let is = (made.1 returned held).1.1 enough are in
-            subst (λ (vs : List KeptView). EachIsOf a ask.rules ask.day vs) (sym put)
-            (of_more a ask.rules ask.day rest place view (of_dropped a ask.rules ask.day mid.views rest dropped (so_far returned held enough are))
-            (of_asked a ask reader part outline enough is))
+            let was = so_far returned held enough are in (
+              subst (λ (vs : List KeptView). EachIsOf a ask.rules ask.day vs) (sym put)
+                  (of_more a ask.rules ask.day rest place view (of_dropped a ask.rules ask.day mid.views rest dropped was.0) (of_asked a ask reader part outline enough is)),
+              subst (λ (ws : List Withheld). EachIsMarked a ws) (sym same_marks) was.1,
+            )
 
         pub finds_put : Finds g old new ask reader part kept later (Ok place)
         finds_put = record {
@@ -102,8 +104,12 @@ module _ {S : Type 0} (g : Ghosts S) (ask : Ask) (reader : ReaderMarks) where
       pub finds_no_room : (fault : DeskFault) → reason fault ≡ None → later.views ≡ rest → Finds g old new ask reader part kept later (Err fault)
       finds_no_room fault none left = record {
         found = rw none (made.0, (λ returned held up. let it = made.1 returned held in (it.0, it.1.0)));
-        held = λ returned held enough are. let a = archive_in g old in
-            subst (λ (vs : List KeptView). EachIsOf a ask.rules ask.day vs) (sym left) (of_dropped a ask.rules ask.day mid.views rest dropped (so_far returned held enough are));
+        held = λ returned held enough are.
+            let a = archive_in g old in
+            let was = so_far returned held enough are in (
+              subst (λ (vs : List KeptView). EachIsOf a ask.rules ask.day vs) (sym left) (of_dropped a ask.rules ask.day mid.views rest dropped was.0),
+              subst (λ (ws : List Withheld). EachIsMarked a ws) (sym same_marks) was.1,
+            );
         most = same_most;
         bounded = λ was. within;
       }

@@ -5,3 +5,5 @@ pub mod ViewLemmas
 pub mod KeepLemmas
 pub mod SentLemmas
 pub mod FindLemmas
+pub mod MarkLemmas
+pub mod SendLemmas

@@ -14,7 +14,7 @@ use Rattle.policy_core.specs.Facts.{rank_of}
 use Rattle.archive_results.specs.Access.{ReaderMarks}
 use Rattle.archive_kept.specs.Outlines.{Outline}
 use Rattle.archive_kept.specs.Parts.{Part, whole, month, author, same_part}
-use Rattle.archive_kept.specs.Views.{KeptView, Keeping, IsBounded, first_whole, is_view_of, is_whole, outline_at, put_place, same_address, same_reader, view_weight, weight_of}
+use Rattle.archive_kept.specs.Views.{KeptView, Keeping, first_whole, is_view_of, is_whole, outline_at, put_place, same_address, same_reader, view_weight, weight_of}
 
 -- ---- readers
 
@@ -145,7 +145,7 @@ alone (suc n) v = refl
 module _ (most weight place : ℕ) (rest views : List KeptView) (v : KeptView) (fits : most < 2 ^ 64) (weighs : weight ≡ min (view_weight v) (2 ^ 64 - 1))
     (put : views ≡ insert rest place v) where
   -- it has room beside the others, or it is alone
-  pub bounded_put : (weight_of rest + weight < most) ⊎ (rest ≡ []) → IsBounded (record { most = most; views = views })
+  pub bounded_put : (weight_of rest + weight < most) ⊎ (rest ≡ []) → (weight_of views ≤ most) ⊎ (length views ≡ 1)
   bounded_put (inl room) =
       let sum = ap weight_of put ∙ sum_by-insert view_weight rest place v in
       inl (omega (arith, sum, room, weighs, fits))

@@ -1,15 +1,18 @@
-//! Views that are kept.
+//! Views that are kept, and marks of messages.
 ghost use Rattle.std.specs.Prelude.{◌≡◌, ◌⊎◌, ◌<◌, ◌≤◌, ◌+◌, ◌-◌, ◌^◌, ℕ, drop, List, [], length, min, position, string_bytes, option_copied, option_map, IfOk, Some};
 ghost use Rattle.std.specs.Option.{option_map_or};
 ghost use Rattle.archive_kept.specs.Parts.{part_named};
 ghost use Rattle.archive_kept.specs.Outlines.{Outline as Whole, outline_under};
-ghost use Rattle.archive_kept.specs.Views.{DropsOldest, IsBounded, PutsView, first_whole, is_view_of, is_whole, nothing_kept, outline_at, put_place, same_address, same_reader, view_weight, weight_of};
+ghost use Rattle.archive_kept.specs.Views.{DropsOldest, IsBounded, KeepsMarks, PutsView, first_whole, is_view_of, is_whole};
+ghost use Rattle.archive_kept.specs.Views.{marks_kept, nothing_kept, outline_at, put_place, same_address, same_reader, view_weight, weight_of};
 
 use crate::dividing::lines_under;
 use crate::outlines::{Outline, outline_by};
 use crate::parts::{OwnPart, Part, is_same_part, own_part, part_weight};
 use crate::weights::outline_weight;
-use archive_results::ReaderMarks;
+use crate::withheld::{KeptMarks, find_marks, put_marks};
+use archive_machine::Key;
+use archive_results::{Marks, ReaderMarks};
 use mail_core::Memory;
 use std::alloc::Global;
 use std::marker::Model;
@@ -34,11 +37,13 @@ impl Model for KeptView {
 }
 
 /// Outlines of views, one of a part of a list and the marks of a reader: at most so many bytes, or one view alone. Months and authors
-/// stand before whole lists, and each of the two in the order in which they came.
+/// stand before whole lists, and each of the two in the order in which they came. Beside them the marks of messages that were withheld,
+/// 256 at most.
 #[derive(Drop)]
 pub struct Kept {
     views: Vec<KeptView>,
     most: usize,
+    withheld: Vec<KeptMarks>,
 }
 
 impl Model for Kept {
@@ -46,9 +51,9 @@ impl Model for Kept {
 
     ghost Value = { Keeping };
 
-    ghost view = { λ k. record { most = k.most; views = k.views.items } };
+    ghost view = { λ k. record { most = k.most; views = k.views.items; withheld = k.withheld.items } };
 
-    ghost invariant = { λ k. IsBounded (record { most = k.most; views = k.views.items }) };
+    ghost invariant = { λ k. IsBounded (record { most = k.most; views = k.views.items; withheld = k.withheld.items }) };
 }
 
 fn is_same_address(one: &Option<String>, other: &Option<String>) -> bool
@@ -189,6 +194,7 @@ impl Kept {
         Kept {
             views: Vec::new(alloc),
             most,
+            withheld: Vec::new(alloc),
         }
     }
 
@@ -225,7 +231,7 @@ impl Kept {
     ) -> Result<usize, Memory>
         ensures kept { PutsView self.old.views self.new.views
             (record { list = list.now; reader = reader.now; part = part_named part.now; outline = outline }) result }
-        ensures most { self.new.most ≡ self.old.most }
+        ensures rest { self.new ≡ record self.old { views = self.new.views } }
         ensures bounded { IsBounded self.new }
     {
         let most = self.most;
@@ -254,12 +260,29 @@ impl Kept {
         ensures kept { (of : Whole) → outline_at self.old whole ≡ Some of
             → PutsView self.old.views self.new.views
             (record { list = list.now; reader = reader.now; part = part_named part.now; outline = outline_under (part_named part.now) of }) result }
-        ensures most { self.new.most ≡ self.old.most }
+        ensures rest { self.new ≡ record self.old { views = self.new.views } }
         ensures bounded { IsBounded self.new }
     {
         let of = &self.views[whole].outline;
         let lines = lines_under(alloc, of.lines(), part)?;
         let outline = outline_by(alloc, of.list(), lines)?;
         self.put(alloc, list, reader, part, outline)
+    }
+
+    /// The marks that are kept of the message of a list and key, where it is not the reader's own.
+    pub(crate) fn marks(&self, list: &str, key: &Key) -> Option<Marks>
+        ensures { result ≡ marks_kept self.now list.now key.now }
+    {
+        find_marks(&self.withheld, list, key)
+    }
+
+    /// Keeps the marks of a message that was withheld. The oldest are let go for them; where memory is refused, they are not kept.
+    pub(crate) fn put_marks(&mut self, alloc: Global, list: &str, key: &Key, marks: Marks)
+        ensures kept { KeepsMarks self.old.withheld self.new.withheld
+            (record { list = list.now; key = key.now; marks = marks }) }
+        ensures rest { self.new ≡ record self.old { withheld = self.new.withheld } }
+        ensures bounded { IsBounded self.new }
+    {
+        put_marks(&mut self.withheld, alloc, list, key, marks);
     }
 }

@@ -25,8 +25,8 @@ use Rattle.archive_store.specs.declared.faults.StoreFault.{StoreFault}
 use Rattle.archive_store.specs.declared.faults.StoreFault.TheVariants as faults
 use Rattle.archive_results.specs.Access.{Ask, no_list, no_person}
 use Rattle.archive_desk.specs.Causes.{HasCause, IsBroken, IsWanting}
-use Rattle.archive_desk.specs.Exporting.{Exports, IsExportRefused}
-use Rattle.archive_desk.specs.Faults.{IsAskFault, Reason, ask_reason, declined, reason, refused}
+use Rattle.archive_desk.specs.Walking.{IsWalkStop}
+use Rattle.archive_desk.specs.Faults.{IsAskFault, ask_reason, reason, refused}
 use Rattle.archive_desk.specs.Readable.{CanBeRead}
 use Rattle.archive_desk.proofs.UnbrokenLemmas.{holder_read, list_read, lists_read, message_or_reader_read}
 use Rattle.archive_desk.specs.declared.faults.DeskFault.{DeskFault}
@@ -212,23 +212,15 @@ module _ {S : Type 0} (g : Ghosts S) where
       desk_unfound desk.Memory other kind counts why asks = inl (counts (inl refl))
       desk_unfound (desk.Store fault) other kind counts why asks = by_store fault kind counts why
 
-      -- an export that stopped for no unknown list, and for no writer
-      pub mbox_unserved : (before after : List ℕ) (text : Archive → List ℕ) (written : ℕ) (fault : DeskFault) → fault ≢ desk.NoList → fault ≢ desk.Write
-          → (IsWanting fault → WasRefused old new) → (IsBroken fault → HasCause g old new Unread)
-          → Exports g old new (Err (record { written = written; fault = fault })) ask before after text → HasServeCause g old new (IsUnreadBy Unread ask.reader)
-      mbox_unserved before after text written desk.NoList other unwritten counts why exports = absurd (other refl)
-      mbox_unserved before after text written desk.Write other unwritten counts why exports = absurd (unwritten refl)
-      mbox_unserved before after text written desk.NoPerson other unwritten counts why exports = unasked exports
-      mbox_unserved before after text written desk.NotInView other unwritten counts why exports = inr (λ returned held free. absurd (exports.1 returned held).1.1)
-      mbox_unserved before after text written desk.Memory other unwritten counts why exports = inl (counts (inl refl))
-      mbox_unserved before after text written (desk.Store fault) other unwritten counts why exports = cases (refusal fault) refl exports
-        where
-          cases : (o : Option Refusal) → refusal fault ≡ o
-              → MatchOption {T = ℕ × Reason} (option_map (λ why. (written, why)) (option_map declined o)) (GoesHeldIfOpen g old new (λ a b. b ≡ a))
-              (λ why. GoesHeld g old new (λ a b. (b ≡ a) × IsExportRefused (ask_reason a ask) before after (text a) why.0 why.1))
-              → HasServeCause g old new (IsUnreadBy Unread ask.reader)
-          cases None none it = by_store fault none counts why
-          cases (Some r) some it = inr (λ returned held free. absurd (it.1 returned held).1.1)
+      -- an mbox that stopped for no writer
+      pub mbox_unserved : (before after : List ℕ) (failed fails written : ℕ) (fault : DeskFault) → fault ≢ desk.Write → IsWalkStop before after failed fails written fault
+          → (IsWanting fault → WasRefused old new) → (IsBroken fault → HasCause g old new Unread) → HasServeCause g old new (IsUnreadBy Unread ask.reader)
+      mbox_unserved before after failed fails written desk.NoList other stop counts why = absurd stop
+      mbox_unserved before after failed fails written desk.NoPerson other stop counts why = absurd stop
+      mbox_unserved before after failed fails written desk.NotInView other stop counts why = absurd stop
+      mbox_unserved before after failed fails written desk.Write other stop counts why = absurd (other refl)
+      mbox_unserved before after failed fails written desk.Memory other stop counts why = inl (counts (inl refl))
+      mbox_unserved before after failed fails written (desk.Store fault) other stop counts why = by_store fault stop.0 counts why
 
   -- ---- a reply of what was found
 

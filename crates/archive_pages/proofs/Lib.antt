@@ -11,6 +11,7 @@ mod DeskLemmas
 mod PlaceLemmas
 pub mod CauseLemmas
 mod RouteLemmas
+mod MboxLemmas
 pub mod AnswerExamples
 pub mod RunningLemmas
 mod StopLemmas

@@ -3,13 +3,15 @@ ghost use Rattle.std.specs.Prelude.{◌≡◌, option_map, string_bytes};
 ghost use Rattle.archive_machine.specs.Questions.{person_of_token};
 ghost use Rattle.archive_desk.specs.Readable.{AreListsUnreadable, IsHolderUnreadable};
 ghost use Rattle.archive_pages.specs.Answers.{lists_reply, message_for};
-ghost use Rattle.archive_pages.specs.Calls.{FindsMade, FindsReply};
+ghost use Rattle.archive_kept.specs.Kept.{Keeps};
+ghost use Rattle.archive_pages.specs.Calls.{AreFor, FindsMade, FindsReply, FindsReplyIf};
 ghost use Rattle.archive_pages.specs.Causes.{FindsOr, IsMessageUnread, IsUnreadBy};
 ghost use Rattle.archive_pages.specs.Serving.{Finds};
 
 use crate::replies::{Failure, Reply, Unavailable};
-use archive_desk::{DeskFault, message};
+use archive_desk::DeskFault;
 use archive_html::lists_page;
+use archive_kept::Kept;
 use archive_results::{Ask, Asked};
 use archive_store::{Key, Store};
 use sqlite::Alter;
@@ -52,22 +54,24 @@ pub(crate) fn find_lists<S: Alter>(
     }
 }
 
-/// What a reader gets who asks for a message by its key.
+/// What a reader gets who asks for a message by its key: a denial out of what is kept of it, or what the store holds.
 pub(crate) fn find_message<'p, S: Alter>(
     store: &mut Store<S>,
+    kept: &mut Kept,
     alloc: Global,
     ask: &Ask<'p>,
     key: &str,
 ) -> Result<Reply<'p>, Unavailable>
-    ensures found { FindsReply S.Store store.old store.new result
+    ensures found { FindsReplyIf S.Store store.old store.new result (AreFor ask.entry.now kept.old)
         (message_for ask.entry.now key.now) }
+    ensures keeps { Keeps S.Store store.old store.new ask.entry.now.rules ask.entry.now.day kept.old kept.new }
     ensures why { FindsMade S.Store store.old store.new result
         (IsUnreadBy (IsMessageUnread ask.entry.now key.now) ask.entry.now.reader) }
 {
     let Some(key) = Key::read(key) else {
         return Ok(Reply::Failed(Failure::NotFound));
     };
-    match message(store, alloc, ask, &key) {
+    match archive_kept::find_message(store, kept, alloc, ask, &key) {
         Ok(Asked::Served(text)) => Ok(Reply::Message(text)),
         Ok(Asked::Denied(rule)) => Ok(Reply::Forbidden(rule)),
         Ok(Asked::Absent) => Ok(Reply::Failed(Failure::NotFound)),

@@ -22,7 +22,7 @@ use std::alloc::Global;
 use thread_core::Threader;
 
 /// The place of the outline of what is asked for, which is kept, or is read and kept. `None`: there is no such list.
-fn find_place<T: Threader, S: Alter>(
+pub(crate) fn find_place<T: Threader, S: Alter>(
     store: &mut Store<S>,
     kept: &mut Kept,
     alloc: Global,

@@ -3,21 +3,26 @@ ghost use Rattle.std.specs.Prelude.{◌≡◌, ◌≤◌, MatchResult};
 ghost use Rattle.archive_requests.specs.Routes.{mbox};
 ghost use Rattle.archive_requests.specs.Routing.{named_route};
 ghost use Rattle.archive_results.specs.Access.{name_of};
+ghost use Rattle.archive_store.specs.Told.{Lasts};
+ghost use Rattle.archive_kept.specs.Kept.{Keeps};
+ghost use Rattle.archive_kept.specs.Sending.{lines_text};
 ghost use Rattle.archive_pages.specs.Answers.{asking, list_reply, made_reply, route_reply};
-ghost use Rattle.archive_pages.specs.Calls.{AreKept, EndsPages, EndsReply, FindsMade, FindsReplyIf, KeepsOn, ServesReply, ServesReplyIf, Writes};
+ghost use Rattle.archive_pages.specs.Calls.{AreFor, AreKept, EndsPages, EndsReply, FindsMade, FindsReplyIf, KeepsOn, ServesReplyIf, Writes};
 ghost use Rattle.archive_pages.specs.Causes.{IsListUnread, IsRouteUnread, IsUnreadBy, SendsOr, ServesOr};
-ghost use Rattle.archive_pages.specs.Replies.{Is, unavailable};
+ghost use Rattle.archive_pages.specs.Replies.{Is, mbox_reply, unavailable};
 ghost use Rattle.archive_pages.specs.Seen.{reply_made};
+ghost use Rattle.archive_pages.specs.Serving.{Sent};
 
 use crate::faults::ServeFault;
 use crate::finding::{find_lists, find_message};
-use crate::listing::{find_author, find_month, find_thread, find_threads};
+use crate::listing::{find_author, find_month, find_place, find_thread, find_threads};
 use crate::pages::Pages;
 use crate::replies::{Failure, Reply, Unavailable};
 use crate::writing::{write_failure, write_reply};
-use archive_desk::{DeskFault, export_after};
+use archive_desk::DeskFault;
+use archive_kept::{Kept, Part, export_lines};
 use archive_requests::Route;
-use archive_results::{Ask, Reader};
+use archive_results::{Ask, Line, Reader};
 use archive_store::{Store, Wants};
 use civil_time::Day;
 use http::StatusCode;
@@ -67,7 +72,7 @@ fn find_page<'a: 'p, 'p, T: Threader, S: Alter>(
         Route::Lists => find_lists(store, alloc),
         Route::Message { list, key } => {
             let ask = ask_of(policy, reader, day, list);
-            find_message(store, alloc, &ask, key)
+            find_message(store, &mut pages.kept, alloc, &ask, key)
         }
         Route::Month { list, month } => {
             let ask = ask_of(policy, reader, day, list);
@@ -109,34 +114,60 @@ fn write_found<W: Sink>(
     }
 }
 
-/// Answers the messages of a list, as an mbox, one message after the other. No reply but this one ends with the connection,
-/// and no other breaks off: S3 where the store refuses or memory is wanting behind the first byte, and 503 before it.
-fn answer_mbox<S: Alter, W: Sink>(
+/// Answers the messages of a list, as an mbox, one message after the other, by the outline that is kept, or by one that is read and kept:
+/// no other message is asked for than those that the reader is shown. No reply but this one ends with the connection, and no other breaks
+/// off: S3 where the store refuses behind the first byte, and 503 before it.
+fn answer_mbox<T: Threader, S: Alter, W: Sink>(
     store: &mut Store<S>,
+    kept: &mut Kept,
     alloc: Global,
     ask: &Ask<'_>,
+    threader: &T,
     output: &mut W,
 ) -> Result<StatusCode, ServeFault>
-    ensures sent { ServesReply S.Store W.Sink store.old store.new output.old output.new result
+    ensures sent { ServesReplyIf S.Store W.Sink store.old store.new output.old output.new result
+        (AreFor ask.now kept.old)
         (λ a. list_reply a ask.now (mbox ask.now.list)) }
     ensures ends { EndsReply W.Sink output.old output.new result }
     ensures caused { ServesOr S.Store store.old store.new result
         (IsUnreadBy (IsListUnread ask.now) ask.now.reader) }
+    ensures keeps { Keeps S.Store store.old store.new ask.now.rules ask.now.day kept.old kept.new }
 {
-    let stop = match export_after(store, alloc, ask, MBOX_HEAD, output) {
+    let place = match find_place(store, kept, alloc, ask, &Part::Whole, threader) {
+        Ok(Some(place)) => place,
+        Ok(None) => return write_failure(output, Failure::NotFound),
+        Err(_) => return write_failure(output, Failure::Unavailable),
+    };
+    let Some(outline) = kept.outline(place) else {
+        return write_failure(output, Failure::Unavailable);
+    };
+    write_mbox(store, ask, outline.lines(), output)
+}
+
+/// Writes the messages of a list by the keys of lines, as an mbox; 503 where the store refuses before the first byte.
+fn write_mbox<S: Alter, W: Sink>(
+    store: &mut Store<S>,
+    ask: &Ask<'_>,
+    lines: &[Line],
+    output: &mut W,
+) -> Result<StatusCode, ServeFault>
+    ensures sent { Sent S.Store store.old store.new
+        (λ a reply. reply ≡ mbox_reply (lines_text a ask.now.list lines.now))
+        (W.told output.old) (W.told output.new) result }
+    ensures lasts { Lasts S.Store store.old store.new }
+    ensures ends { EndsReply W.Sink output.old output.new result }
+    ensures caused { ServesOr S.Store store.old store.new result
+        (IsUnreadBy (IsListUnread ask.now) ask.now.reader) }
+{
+    let stop = match export_lines(store, ask.list, lines, MBOX_HEAD, output) {
         Ok(_) => return Ok(StatusCode::OK),
         Err(stop) => stop,
     };
     let written = stop.written;
     match stop.fault {
         DeskFault::Write => Err(ServeFault::Write { written }),
-        DeskFault::Store(_) if written > 0 => Err(ServeFault::Broken { written }),
-        DeskFault::Memory if written > 0 => Err(ServeFault::Broken { written }),
-        DeskFault::NoList => write_failure(output, Failure::NotFound),
-        DeskFault::NoPerson => write_failure(output, Failure::Unavailable),
-        DeskFault::NotInView => write_failure(output, Failure::Unavailable),
-        DeskFault::Store(_) => write_failure(output, Failure::Unavailable),
-        DeskFault::Memory => write_failure(output, Failure::Unavailable),
+        _ if written > 0 => Err(ServeFault::Broken { written }),
+        _ => write_failure(output, Failure::Unavailable),
     }
 }
 
@@ -162,7 +193,8 @@ pub(crate) fn answer_route<T: Threader, S: Alter, W: Sink>(
     match route {
         Route::Mbox { list } => {
             let ask = ask_of(pages.policy, reader, pages.day, list);
-            answer_mbox(store, alloc, &ask, output)
+            let threader = pages.threader;
+            answer_mbox(store, &mut pages.kept, alloc, &ask, threader, output)
         }
         _ => {
             let found = find_page(store, pages, reader, route);

@@ -95,9 +95,9 @@ pub fn marks_of(alloc: Global, address: &Option<String>, message: &Message) -> R
     Ok(marks_with(own, message))
 }
 
-/// What the policy says of a message of these marks to a reader of these.
+/// What the policy says of a message of these marks to a reader of these. It takes no memory.
 #[tactic(auto, unfolding(crate::specs::Access::ruling_on))]
-fn verdict<'a>(ask: &Ask<'a>, reader: &ReaderMarks, marks: Marks) -> Verdict<'a>
+pub fn verdict<'a>(ask: &Ask<'a>, reader: &ReaderMarks, marks: Marks) -> Verdict<'a>
     ensures { ruling result ≡ ruling_on ask.now reader.now marks }
 {
     let facts = Facts {

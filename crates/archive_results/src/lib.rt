@@ -10,7 +10,9 @@ pub mod laws;
 mod lines;
 mod threads;
 
-pub use access::{Marks, ReaderMarks, asked, asks_author, is_shown, is_withheld, marks_of};
+pub use access::{
+    Marks, ReaderMarks, asked, asks_author, is_shown, is_withheld, marks_of, verdict,
+};
 pub use asking::{Ask, Asked, Reader};
 pub use entries::line_of;
 pub use headers::{Header, header_of};

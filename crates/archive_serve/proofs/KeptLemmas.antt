@@ -179,7 +179,7 @@ module _ {S L : Type 0} (g : Ghosts S) (accepts : L → L → Option AcceptFault
       (record {
         same = (ap (λ (k : Keeper). k.rules) fresh, ap (λ (k : Keeper). k.day) fresh, ap (λ (k : Keeper). k.routes) fresh);
         sound = λ i. record {
-          kept = subst (λ (k : Keeper). AreOf (archive_in g store) rules day k.kept) (sym fresh) tt;
+          kept = subst (λ (k : Keeper). AreOf (archive_in g store) rules day k.kept) (sym fresh) (tt, tt);
           left = λ up. (i.1, refl);
         };
       }) each in

@@ -1,9 +1,9 @@
-use Rattle.std.proofs.Common.{◌≡◌, ◌∙◌, refl, rules, false, Some, subst}
+use Rattle.std.proofs.Common.{◌≡◌, ◌∙◌, ap, refl, rules, false, Some, subst}
 use Rattle.std.specs.Prelude.{insert, position}
 use Rattle.archive_desk.specs.declared.faults.DeskFault.TheVariants.{Memory}
 use Rattle.archive_kept.specs.Outlines.{outline_under}
 use Rattle.archive_kept.specs.Parts.{part_named, same_part, whole}
-use Rattle.archive_kept.specs.Views.{is_view_of}
+use Rattle.archive_kept.specs.Views.{Keeping, is_view_of}
 use Rattle.archive_kept.proofs.FindLemmas.{finds_kept, finds_no_room, finds_no_whole, finds_put, made_of_whole}
 use Rattle.archive_kept.proofs.ViewLemmas.{put_there, stands_at}
 use Rattle.archive_kept.proofs.finding.find_part.Goals as goal
@@ -36,7 +36,8 @@ returns-in-Ok-put_part-clause-finds g c =
     let put = c.in-Ok-put_part.ensures.kept stands.0 stands.1 in
     finds_put g.S.Store ask reader part c.args.store.now c.find_whole.new.store kept mid c.put_part.new.self outline
     (made_of_whole g.S.Store ask reader part c.args.store.now c.find_whole.new.store kept mid c.in-Ok.place c.in-Ok.ensures.finds other stands.0 stands.1)
-    c.in-Ok.ensures.finds.held (c.in-Ok-put_part.ensures.most ∙ c.in-Ok.ensures.finds.most) c.in-Ok-put_part.ensures.bounded put.0 put.1 c.in-Ok-put_part.place put.2.0
+    c.in-Ok.ensures.finds.held (ap (λ (k : Keeping). k.most) c.in-Ok-put_part.ensures.rest ∙ c.in-Ok.ensures.finds.most)
+    (ap (λ (k : Keeping). k.withheld) c.in-Ok-put_part.ensures.rest) c.in-Ok-put_part.ensures.bounded put.0 put.1 c.in-Ok-put_part.place put.2.0
     (subst (λ l. c.put_part.new.self.views ≡ insert put.0 c.in-Ok-put_part.place (record { list = l; reader = reader; part = part; outline = outline })) list put.2.1)
 
 pub returns-in-Err-put_part-clause-finds : goal.returns-in-Err-put_part-clause-finds
@@ -52,7 +53,8 @@ returns-in-Err-put_part-clause-finds g c =
     let put = c.in-Err-put_part.ensures.kept stands.0 stands.1 in
     finds_no_room g.S.Store ask reader part c.args.store.now c.find_whole.new.store kept mid c.put_part.new.self outline
     (made_of_whole g.S.Store ask reader part c.args.store.now c.find_whole.new.store kept mid c.in-Ok.place c.in-Ok.ensures.finds other stands.0 stands.1)
-    c.in-Ok.ensures.finds.held (c.in-Err-put_part.ensures.most ∙ c.in-Ok.ensures.finds.most) c.in-Err-put_part.ensures.bounded put.0 put.1 Memory refl put.2
+    c.in-Ok.ensures.finds.held (ap (λ (k : Keeping). k.most) c.in-Err-put_part.ensures.rest ∙ c.in-Ok.ensures.finds.most)
+    (ap (λ (k : Keeping). k.withheld) c.in-Err-put_part.ensures.rest) c.in-Err-put_part.ensures.bounded put.0 put.1 Memory refl put.2
 
 pub returns-in-Ok-put_part-clause-there : goal.returns-in-Ok-put_part-clause-there
 returns-in-Ok-put_part-clause-there g c =

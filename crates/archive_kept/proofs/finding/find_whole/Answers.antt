@@ -1,4 +1,4 @@
-use Rattle.std.proofs.Common.{◌≡◌, refl, rules, None, Some, subst}
+use Rattle.std.proofs.Common.{◌≡◌, ap, refl, rules, None, Some, subst}
 use Rattle.std.specs.Prelude.{insert, position}
 use Rattle.archive_store.specs.Told.{HoldsTables}
 use Rattle.archive_store.proofs.Joins.{goes_in_as}
@@ -6,7 +6,7 @@ use Rattle.archive_desk.specs.Faults.{ask_reason}
 use Rattle.archive_desk.specs.declared.faults.DeskFault.TheVariants.{Memory}
 use Rattle.archive_kept.specs.Outlines.{Outline, outline_for}
 use Rattle.archive_kept.specs.Parts.{whole}
-use Rattle.archive_kept.specs.Views.{is_view_of}
+use Rattle.archive_kept.specs.Views.{Keeping, is_view_of}
 use Rattle.archive_kept.proofs.FindLemmas.{IsMade, finds_kept, finds_no_room, finds_none, finds_put}
 use Rattle.archive_kept.proofs.ViewLemmas.{put_there}
 use Rattle.archive_kept.proofs.finding.find_whole.Goals as goal
@@ -35,7 +35,8 @@ returns-in-Ok-put-clause-finds g c =
     finds_put g.S.Store ask reader whole c.args.store.now c.read_threads.new.store kept kept c.put.new.self outline
     (goes_in_as g.S.Store (HoldsTables g.S.Store) c.args.store.now c.read_threads.new.store (λ a b. (b ≡ a) × (ask_reason a ask ≡ None) × (outline ≡ outline_for a ask whole))
     (IsMade g.S.Store ask reader whole kept outline) (λ a b h. (h.0, (λ enough are. h.2))) c.in-Ok.ensures.made)
-    (λ returned held enough are. are) c.in-Ok-put.ensures.most c.in-Ok-put.ensures.bounded put.0 put.1 c.in-Ok-put.place put.2.0
+    (λ returned held enough are. are) (ap (λ (k : Keeping). k.most) c.in-Ok-put.ensures.rest)
+    (ap (λ (k : Keeping). k.withheld) c.in-Ok-put.ensures.rest) c.in-Ok-put.ensures.bounded put.0 put.1 c.in-Ok-put.place put.2.0
     (subst (λ l. c.put.new.self.views ≡ insert put.0 c.in-Ok-put.place (record { list = l; reader = reader; part = whole; outline = outline })) list put.2.1)
 
 pub returns-in-Err-put-clause-finds : goal.returns-in-Err-put-clause-finds
@@ -48,7 +49,8 @@ returns-in-Err-put-clause-finds g c =
     finds_no_room g.S.Store ask reader whole c.args.store.now c.read_threads.new.store kept kept c.put.new.self outline
     (goes_in_as g.S.Store (HoldsTables g.S.Store) c.args.store.now c.read_threads.new.store (λ a b. (b ≡ a) × (ask_reason a ask ≡ None) × (outline ≡ outline_for a ask whole))
     (IsMade g.S.Store ask reader whole kept outline) (λ a b h. (h.0, (λ enough are. h.2))) c.in-Ok.ensures.made)
-    (λ returned held enough are. are) c.in-Err-put.ensures.most c.in-Err-put.ensures.bounded put.0 put.1 Memory refl put.2
+    (λ returned held enough are. are) (ap (λ (k : Keeping). k.most) c.in-Err-put.ensures.rest)
+    (ap (λ (k : Keeping). k.withheld) c.in-Err-put.ensures.rest) c.in-Err-put.ensures.bounded put.0 put.1 Memory refl put.2
 
 pub returns-in-Ok-put-clause-there : goal.returns-in-Ok-put-clause-there
 returns-in-Ok-put-clause-there g c =

@@ -5,4 +5,4 @@ use Rattle.archive_pages.proofs.answering.answer.Goals as goal
 
 pub returns-clause-answered : goal.returns-clause-answered
 returns-clause-answered g c = c.answer_kept.ensures.answered (λ returned held.
-    subst (AreOf (archive_in g.S.Store c.args.store.now) c.args.policy.now c.args.day) (sym c.new.ensures) tt)
+    subst (AreOf (archive_in g.S.Store c.args.store.now) c.args.policy.now c.args.day) (sym c.new.ensures) (tt, tt))

@@ -7,7 +7,7 @@ pub returns-in_default-fault-clause-why : goal.returns-in_default-fault-clause-w
 returns-in_default-fault-clause-why g c =
     let ask = c.args.ask.now in
     let old = c.args.store.now in
-    let new = c.message.new.store in record {
+    let new = c.find_message.new.store in record {
       caused = (
         c.in-Err.ensures.ends.counted.0,
         subst (λ (key : List ℕ). HasServeCause g.S.Store old new (IsUnreadBy (IsMessageUnread ask key) ask.reader)) c.in-Some.ensures.some

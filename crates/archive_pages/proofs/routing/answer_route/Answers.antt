@@ -4,24 +4,23 @@ use Rattle.archive_requests.specs.Routing.{named_route}
 use Rattle.archive_requests.specs.declared.routes.Route.{Route}
 use Rattle.archive_requests.specs.declared.routes.Route.TheVariants.{Lists, Message, Month, Threads, Thread, Author, Mbox}
 use Rattle.archive_results.specs.Access.{Ask, name_of}
+use Rattle.archive_kept.specs.Kept.{Keeps}
 use Rattle.archive_pages.specs.Answers.{asking, is_mbox, list_reply, made_reply, route_reply}
-use Rattle.archive_pages.specs.Calls.{AreKept}
+use Rattle.archive_pages.specs.Calls.{AreFor, AreKept}
 use Rattle.archive_pages.specs.Causes.{IsListUnread, IsRouteUnread, IsUnreadBy, ServesOr}
 use Rattle.archive_pages.specs.KeptServing.{ServesIf}
 use Rattle.archive_pages.specs.Seen.{reply_made}
 use Rattle.archive_pages.proofs.CauseLemmas.{found_served}
-use Rattle.archive_pages.proofs.KeptLemmas.{finds_serves, keeps_still, serves_whatever}
+use Rattle.archive_pages.proofs.KeptLemmas.{finds_serves}
 use Rattle.archive_pages.proofs.RouteLemmas.{other_route}
 use Rattle.archive_pages.proofs.routing.answer_route.Goals as goal
 
 pub returns-in-Mbox-clause-sent : goal.returns-in-Mbox-clause-sent
 returns-in-Mbox-clause-sent g c = rw c.in-Mbox.is (
     subst
-    (λ (q : Ask). ServesIf g.S.Store c.args.store.now c.answer_mbox.new.store (AreKept c.args.pages.now) (λ a reply. reply ≡ list_reply a q (mbox q.list))
+    (λ (q : Ask). ServesIf g.S.Store c.args.store.now c.answer_mbox.new.store (AreFor q c.args.pages.now.kept) (λ a reply. reply ≡ list_reply a q (mbox q.list))
     (g.W.Sink.told c.args.output.now) (g.W.Sink.told c.answer_mbox.new.output) c.answer_mbox.result)
-    c.ask_of-ask.ensures
-    (serves_whatever g.S.Store (g.W.Sink.told c.args.output.now) (g.W.Sink.told c.answer_mbox.new.output) c.answer_mbox.result
-    c.args.store.now c.answer_mbox.new.store (AreKept c.args.pages.now) _ c.answer_mbox.ensures.sent))
+    c.ask_of-ask.ensures c.answer_mbox.ensures.sent)
 
 pub returns-in-Mbox-clause-ends : goal.returns-in-Mbox-clause-ends
 returns-in-Mbox-clause-ends g c = rw c.in-Mbox.is (
@@ -29,7 +28,11 @@ returns-in-Mbox-clause-ends g c = rw c.in-Mbox.is (
       reply = c.answer_mbox.ensures.ends;
       caused = subst (λ (q : Ask). ServesOr g.S.Store c.args.store.now c.answer_mbox.new.store c.answer_mbox.result (IsUnreadBy (IsListUnread q) q.reader)) c.ask_of-ask.ensures
           c.answer_mbox.ensures.caused;
-      keeps = keeps_still g.S.Store c.args.store.now c.answer_mbox.new.store c.args.pages.now;
+      keeps = record {
+        same = refl;
+        keeps = subst (λ (q : Ask). Keeps g.S.Store c.args.store.now c.answer_mbox.new.store q.rules q.day c.args.pages.now.kept c.answer_mbox.new.kept) c.ask_of-ask.ensures
+            c.answer_mbox.ensures.keeps;
+      };
     })
 
 pub returns-in_default-clause-sent : goal.returns-in_default-clause-sent

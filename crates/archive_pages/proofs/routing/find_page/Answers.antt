@@ -4,7 +4,7 @@ use Rattle.archive_requests.specs.Routes.{author, month, thread, threads}
 use Rattle.archive_results.specs.Access.{name_of}
 use Rattle.archive_desk.specs.Readable.{AreListsUnreadable}
 use Rattle.archive_pages.specs.Answers.{list_reply, lists_reply, message_for}
-use Rattle.archive_pages.specs.Calls.{AreFor, AreKept}
+use Rattle.archive_pages.specs.Calls.{AreKept}
 use Rattle.archive_pages.specs.Causes.{IsListUnread, IsMessageUnread, IsUnreadBy}
 use Rattle.archive_pages.proofs.KeptLemmas.{keeps_still}
 use Rattle.archive_pages.proofs.RouteLemmas.{found_for, found_whatever, keeps_for, why_as, why_for}
@@ -16,9 +16,8 @@ returns-in-Lists-clause-found g c = rw c.in-Lists.is (
 
 pub returns-in-Message-clause-found : goal.returns-in-Message-clause-found
 returns-in-Message-clause-found g c = rw c.in-Message.is (
-    found_for g.S.Store c.args.store.now c.find_message.new.store c.find_message.result c.ask_of-ask.ensures c.args.pages.now.kept (λ q. message_for q c.in-Message.key.now)
-    (found_whatever g.S.Store c.args.store.now c.find_message.new.store c.find_message.result (AreFor c.ask_of-ask.result c.args.pages.now.kept)
-    (message_for c.ask_of-ask.result c.in-Message.key.now) c.find_message.ensures.found))
+    found_for g.S.Store c.args.store.now c.find_message.new.store c.find_message.result c.ask_of-ask.ensures c.args.pages.now.kept
+    (λ q. message_for q c.in-Message.key.now) c.find_message.ensures.found)
 
 pub returns-in-Month-clause-found : goal.returns-in-Month-clause-found
 returns-in-Month-clause-found g c = rw c.in-Month.is (
@@ -69,7 +68,11 @@ pub returns-in-Lists-clause-keeps : goal.returns-in-Lists-clause-keeps
 returns-in-Lists-clause-keeps g c = keeps_still g.S.Store c.args.store.now c.find_lists.new.store c.args.pages.now
 
 pub returns-in-Message-clause-keeps : goal.returns-in-Message-clause-keeps
-returns-in-Message-clause-keeps g c = keeps_still g.S.Store c.args.store.now c.find_message.new.store c.args.pages.now
+returns-in-Message-clause-keeps g c = record {
+  same = refl;
+  keeps = keeps_for g.S.Store c.args.store.now c.find_message.new.store c.find_message.result c.ask_of-ask.ensures c.args.pages.now.kept c.find_message.new.kept
+      c.find_message.ensures.keeps;
+}
 
 pub returns-in-Month-clause-keeps : goal.returns-in-Month-clause-keeps
 returns-in-Month-clause-keeps g c = record {

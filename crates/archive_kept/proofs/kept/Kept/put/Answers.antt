@@ -6,15 +6,19 @@ use Rattle.archive_kept.proofs.kept.Kept.put.Goals as goal
 
 pub invariant_of-self-2 : goal.invariant_of-self-2
 invariant_of-self-2 c =
-    let fits : c.self.inside.most < 2 ^ 64 = search rules in
-    bounded_put c.self.inside.most c.view_weight.result c.put_place-place.result c.make_room.new.views.items c.insert.new.self.items _ fits c.view_weight.ensures c.in_ok-insert.ensures.items
-    c.make_room.ensures.room
+    let fits : c.self.inside.most < 2 ^ 64 = search rules in (
+      bounded_put c.self.inside.most c.view_weight.result c.put_place-place.result c.make_room.new.views.items c.insert.new.self.items _ fits c.view_weight.ensures c.in_ok-insert.ensures.items
+          c.make_room.ensures.room,
+      search rules,
+    )
 
 pub returns-clause-bounded : goal.returns-clause-bounded
 returns-clause-bounded c =
-    let fits : c.self.inside.most < 2 ^ 64 = search rules in
-    bounded_put c.self.inside.most c.view_weight.result c.put_place-place.result c.make_room.new.views.items c.insert.new.self.items _ fits c.view_weight.ensures c.in_ok-insert.ensures.items
-    c.make_room.ensures.room
+    let fits : c.self.inside.most < 2 ^ 64 = search rules in (
+      bounded_put c.self.inside.most c.view_weight.result c.put_place-place.result c.make_room.new.views.items c.insert.new.self.items _ fits c.view_weight.ensures c.in_ok-insert.ensures.items
+          c.make_room.ensures.room,
+      search rules,
+    )
 
 on_err : {A E : Type 0} (P : A → Type 0) (Q : E → Type 0) (result : Result A E) → IsErr result → ((e : E) → Q e) → MatchResult result P Q
 on_err P Q (Ok x) failed says = absurd (let bad : false ≡ true = failed in cc)
