@@ -16,8 +16,7 @@ FIRST, LAST = "<!-- by tools/minutes.py -->\n", "<!-- end of what tools/minutes.
 PROGRAMS = ("sift", "archive")
 LANES = (1, 2, 4, 8)
 DEAR = 6.0
-HEAD = """# The minutes of each crate, as ./check --prove --record found them, and the day (tools/minutes.py). A line without a day is older: of 27 and 28
-# November 2026, written down by hand.
+HEAD = """# The minutes of each crate, as a run of the gate or a first build found them, and the day (tools/minutes.py).
 """
 
 
