@@ -4,5 +4,6 @@ pub mod Numbers
 pub mod Reading
 pub mod Rules
 pub mod Seen
+pub mod Stated
 pub mod Verdict
 pub mod Written

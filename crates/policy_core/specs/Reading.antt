@@ -1,13 +1,12 @@
 -- What a reader of a key's value answers, beside the definitions of `Written`.
-use Rattle.std.specs.Prelude.{◌≡◌, ◌≢◌, ℕ, List, Bool, not, map, option_map, filter_map, Option, Some, None, Result, MatchResult}
-use Rattle.std.specs.List.{list_all}
+use Rattle.std.specs.Prelude.{◌≡◌, ◌≢◌, ℕ, List, not, [], ◌∷◌, map, filter_map, Option, Some, None, Result, MatchResult}
 use Rattle.toml.specs.Data.{Data, Members, as_str, as_table}
 use Rattle.toml.specs.View.{view}
 use Rattle.toml.specs.declared.value.Value.{Value}
 use Rattle.policy_core.specs.declared.faults.PolicyFault.{PolicyFault}
-use Rattle.policy_core.specs.declared.faults.PolicyFault.TheVariants.{BadValue, Memory}
+use Rattle.policy_core.specs.declared.faults.PolicyFault.TheVariants.{WrongType, BadValue, Memory}
 use Rattle.policy_core.specs.Rules.{Rule}
-use Rattle.policy_core.specs.Written.{texts_in, texts_refusal, refuse}
+use Rattle.policy_core.specs.Written.{has_member, values_in, is_texts, refuse, first_of}
 
 -- the value where nothing is refused, else the refusal
 abbrev pub Reads : {T : Type 0} → Result T PolicyFault → Option PolicyFault → (T → Type 0) → Type 0
@@ -29,7 +28,9 @@ tables values = filter_map as_table (map view values)
 abbrev pub names_of : List Rule → List (List ℕ)
 names_of rules = map (λ r. r.name) rules
 
--- At a key stands an array of one text or more. Where the test fails of one of them it is refused.
-pub record IsTextArray (number : ℕ) (texts : List (List ℕ)) (given : Option Data) : Type 0 where
-  pub value : option_map texts_in given ≡ Some texts
-  pub refused : (test : List ℕ → Bool) → texts_refusal number test given ≡ refuse (BadValue number) (not (list_all test texts))
+-- what is wrong with a value that is to be an array of one text or more
+abbrev pub array_refusal : ℕ → Data → Option PolicyFault
+array_refusal n d = first_of (
+    refuse (WrongType n) (not (is_texts d))
+    ∷ refuse (BadValue n) (not (has_member (values_in d)))
+    ∷ [])

@@ -3,9 +3,8 @@ use Rattle.std.specs.Prelude.{◌≡◌, ℕ, pos, ◌≤ℤ◌, Contains, ◌++
 use Rattle.policy_core.specs.declared.access.Verdict.{Verdict}
 use Rattle.policy_core.specs.declared.access.Verdict.TheVariants.{Allowed, Denied}
 use Rattle.std.specs.List.{AllByRecursion}
-use Rattle.std.specs.Option.{ForSome}
 use Rattle.policy_core.specs.Facts.{Facts, is_embargoed, age}
-use Rattle.policy_core.specs.Rules.{Rule, fits}
+use Rattle.policy_core.specs.Rules.{Condition, lists, standings, withdrawn, embargo, age_min, from, until, own, Rule, fits}
 
 -- Profile: a verdict, allowed or denied, with the name of the rule that decided; a denial because none fits has the name `default`
 pub data Ruling : Type 0 where
@@ -32,16 +31,20 @@ verdict_of rules f = ruling_of_head (filter (λ r. fits r f) rules)
 
 -- ---- the same in words: which rule decides
 
+-- A condition holds.
+abbrev pub Holds : Condition → Facts → Type 0
+Holds (lists names) f = Contains names f.list
+Holds (standings among) f = Contains among f.standing
+Holds (withdrawn among) f = Contains among f.withdrawn
+Holds (embargo on) f = on ≡ is_embargoed f
+Holds (age_min least) f = pos least ≤ℤ age f
+Holds (from first) f = first ≤ℤ f.day
+Holds (until last) f = f.day ≤ℤ last
+Holds (own stated) f = stated ≡ f.own
+
 -- A rule fits: each condition that it states holds.
-pub record Fits (r : Rule) (f : Facts) : Type 0 where
-  pub list : ForSome r.lists (λ names. Contains names f.list)
-  pub standing : ForSome r.standings (λ standings. Contains standings f.standing)
-  pub withdrawal : ForSome r.withdrawn (λ withdrawals. Contains withdrawals f.withdrawn)
-  pub embargo : ForSome r.embargo (λ on. on ≡ is_embargoed f)
-  pub age : ForSome r.age_min (λ least. pos least ≤ℤ age f)
-  pub from : ForSome r.from (λ first. first ≤ℤ f.day)
-  pub until : ForSome r.until (λ last. f.day ≤ℤ last)
-  pub own : ForSome r.own (λ own. own ≡ f.own)
+abbrev pub Fits : Rule → Facts → Type 0
+Fits r f = AllByRecursion (λ condition. Holds condition f) r.conditions
 
 -- A rule decides: it fits, and no rule before it does.
 pub record IsDecidedBy (rules : List Rule) (f : Facts) (r : Rule) : Type 0 where

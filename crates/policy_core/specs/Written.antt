@@ -8,13 +8,15 @@ use Rattle.toml.specs.Parse.{parse_document}
 use Rattle.civil_time.specs.Calendar.{day_of_text}
 use Rattle.policy_core.specs.declared.access.Standing.{Standing}
 use Rattle.policy_core.specs.declared.access.Standing.TheVariants.{Public, Member, Subscriber, Moderator}
-use Rattle.policy_core.specs.declared.access.Withdrawn.{Withdrawn}
+use Rattle.policy_core.specs.declared.access.Withdrawn.{Withdrawn as Withdrawal}
 use Rattle.policy_core.specs.declared.access.Withdrawn.TheVariants.{No, Author, Board}
 use Rattle.policy_core.specs.declared.faults.PolicyFault.{PolicyFault}
 use Rattle.policy_core.specs.declared.faults.PolicyFault.TheVariants.{NotToml, UnknownKey, WrongType, BadName, DuplicateName, BadValue, TooManyRules}
 use Rattle.policy_core.specs.Facts.{most_days}
 use Rattle.policy_core.specs.Names.{is_name}
-use Rattle.policy_core.specs.Rules.{Rule}
+use Rattle.policy_core.specs.declared.keys.Key.{Key}
+use Rattle.policy_core.specs.declared.keys.Key.TheVariants.{Lists, Standings, Withdrawn, Embargo, AgeMin, From, Until, Own}
+use Rattle.policy_core.specs.Rules.{Condition, lists, standings, withdrawn, embargo, age_min, from, until, own, Rule}
 
 -- ---- the tree
 
@@ -46,7 +48,7 @@ standing_named word =
     else if bytes_eq word (codes "moderator") then Some Moderator
     else None
 
-abbrev pub withdrawal_named : List ℕ → Option Withdrawn
+abbrev pub withdrawal_named : List ℕ → Option Withdrawal
 withdrawal_named word =
     if bytes_eq word (codes "no") then Some No
     else if bytes_eq word (codes "author") then Some Author
@@ -57,13 +59,6 @@ withdrawal_named word =
 abbrev pub effect_named : List ℕ → Option Bool
 effect_named word =
     if bytes_eq word (codes "allow") then Some true else if bytes_eq word (codes "deny") then Some false else None
-
-abbrev pub is_rule_key : List ℕ → Bool
-is_rule_key key =
-    bytes_eq key (codes "name") || bytes_eq key (codes "effect") || bytes_eq key (codes "lists")
-    || bytes_eq key (codes "standings") || bytes_eq key (codes "withdrawn") || bytes_eq key (codes "embargo")
-    || bytes_eq key (codes "age_min") || bytes_eq key (codes "from") || bytes_eq key (codes "until")
-    || bytes_eq key (codes "own")
 
 -- ---- refusals: each with what brings it about, in the order in which they are tested
 
@@ -119,55 +114,116 @@ effect_refusal n given = first_of (
     ∷ refuse (BadValue n) (fails (λ d. some_that (λ word. is_some (effect_named word)) (as_str d)) given)
     ∷ [])
 
--- an array of one text or more, each of which passes the test
-unfoldable pub texts_refusal : ℕ → (List ℕ → Bool) → Option Data → Option PolicyFault
-texts_refusal n test given = first_of (
-    refuse (WrongType n) (fails (is_array_of is_text) given)
-    ∷ refuse (BadValue n) (fails (are_some test) given)
-    ∷ [])
+-- ---- the keys of conditions
 
-unfoldable pub flag_refusal : ℕ → Option Data → Option PolicyFault
-flag_refusal n given = refuse (WrongType n) (fails (λ d. is_some (as_bool d)) given)
+-- what is made of the texts in an array of one or more, where each passes the test
+abbrev pub some_texts : {A : Type 0} → (List ℕ → Bool) → (List (List ℕ) → A) → Data → Option A
+some_texts test made d = if are_some test d then Some (made (texts_in d)) else None
+
+-- names
+abbrev pub names_in : Data → Option (List (List ℕ))
+names_in d = some_texts is_name (λ names. names) d
+
+-- what words mean
+abbrev pub words_in : {A : Type 0} → (List ℕ → Option A) → Data → Option (List A)
+words_in named d = some_texts (λ word. is_some (named word)) (filter_map named) d
 
 -- whole days, from 0 to the longest age
 abbrev pub is_age : ℤ → Bool
 is_age z = int_le (pos 0) z && int_le z (pos most_days)
 
-unfoldable pub age_refusal : ℕ → Option Data → Option PolicyFault
-age_refusal n given = first_of (
-    refuse (WrongType n) (fails (λ d. is_some (as_integer d)) given)
-    ∷ refuse (BadValue n) (fails (λ d. some_that is_age (as_integer d)) given)
+abbrev pub age_of : ℤ → Option ℕ
+age_of z = if is_age z then Some (unsigned_abs z) else None
+
+abbrev pub age_in : Data → Option ℕ
+age_in d = option_and_then age_of (as_integer d)
+
+abbrev pub day_in : Data → Option ℤ
+day_in d = option_and_then day_of_text (as_str d)
+
+abbrev pub is_flag : Data → Bool
+is_flag d = is_some (as_bool d)
+
+abbrev pub is_number : Data → Bool
+is_number d = is_some (as_integer d)
+
+abbrev pub is_texts : Data → Bool
+is_texts d = is_array_of is_text d
+
+-- A row of the table of keys: the word, the type of its values, what they mean, and the condition that they state.
+-- A value of the type that means nothing is none that the key has.
+pub record Row : Type 1 where
+  pub Meaning : Type 0
+  pub word : List ℕ
+  pub is_typed : Data → Bool
+  pub read : Data → Option Meaning
+  pub condition : Meaning → Condition
+
+abbrev pub states : {A : Type 0} → List ℕ → (Data → Bool) → (Data → Option A) → (A → Condition) → Row
+states {A = A} word is_typed read condition = record { Meaning = A; word = word; is_typed = is_typed; read = read; condition = condition }
+
+-- Profile: the table of keys
+abbrev pub row : Key → Row
+row Lists = states (codes "lists") is_texts names_in lists
+row Standings = states (codes "standings") is_texts (words_in standing_named) standings
+row Withdrawn = states (codes "withdrawn") is_texts (words_in withdrawal_named) withdrawn
+row Embargo = states (codes "embargo") is_flag as_bool embargo
+row AgeMin = states (codes "age_min") is_number age_in age_min
+row From = states (codes "from") is_text day_in from
+row Until = states (codes "until") is_text day_in until
+row Own = states (codes "own") is_flag as_bool own
+
+-- the keys of conditions, in the order in which they are tested
+abbrev pub all_keys : List Key
+all_keys = Lists ∷ Standings ∷ Withdrawn ∷ Embargo ∷ AgeMin ∷ From ∷ Until ∷ Own ∷ []
+
+-- the key of a condition
+abbrev pub is_condition_key : List ℕ → Bool
+is_condition_key word = list_any (λ key. bytes_eq word (row key).word) all_keys
+
+-- a key that a rule has
+abbrev pub is_rule_key : List ℕ → Bool
+is_rule_key word = bytes_eq word (codes "name") || bytes_eq word (codes "effect") || is_condition_key word
+
+-- what is wrong with a value: it is of another type, or it says nothing
+unfoldable pub value_refusal : {A : Type 0} → ℕ → (Data → Bool) → (Data → Option A) → Data → Option PolicyFault
+value_refusal n is_typed read d = first_of (
+    refuse (WrongType n) (not (is_typed d))
+    ∷ refuse (BadValue n) (is_none (read d))
     ∷ [])
 
-unfoldable pub day_refusal : ℕ → Option Data → Option PolicyFault
-day_refusal n given = first_of (
-    refuse (WrongType n) (fails is_text given)
-    ∷ refuse (BadValue n) (fails (λ d. some_that (λ text. is_some (day_of_text text)) (as_str d)) given)
-    ∷ [])
+-- what is wrong with the value at a key, where there is one, and the condition that it states
+abbrev pub key_refusal : ℕ → Members → Key → Option PolicyFault
+key_refusal n rule key = option_and_then (value_refusal n (row key).is_typed (row key).read) (get_member (row key).word rule)
 
--- the day that stands at a key
-abbrev pub day_in : Option Data → Option ℤ
-day_in given = option_and_then day_of_text (option_and_then as_str given)
+abbrev pub condition_in : Key → Data → Option Condition
+condition_in key d = option_map (row key).condition ((row key).read d)
 
--- both days stand there, and the first is after the second
-abbrev pub is_after : Option ℤ → Option ℤ → Bool
-is_after (Some from) (Some until) = int_lt until from
+abbrev pub condition_at : Members → Key → Option Condition
+condition_at rule key = option_and_then (condition_in key) (get_member (row key).word rule)
+
+unfoldable pub conditions_refusal : ℕ → Members → List Key → Option PolicyFault
+conditions_refusal n rule keys = first_of (map (key_refusal n rule) keys)
+
+unfoldable pub conditions_of : Members → List Key → List Condition
+conditions_of rule keys = filter_map (condition_at rule) keys
+
+-- the one condition begins after the day on which the other ends
+abbrev pub is_after : Condition → Condition → Bool
+is_after (from first) (until last) = int_lt last first
 is_after _ _ = false
+
+-- no day is within all of these conditions
+abbrev pub has_no_day : List Condition → Bool
+has_no_day conditions = list_any (λ first. list_any (is_after first) conditions) conditions
 
 unfoldable pub rule_refusal : ℕ → List (List ℕ) → Members → Option PolicyFault
 rule_refusal n earlier rule = first_of (
     refuse (UnknownKey n) (not (list_all is_rule_key (keys_of rule)))
     ∷ name_refusal n earlier (get_member (codes "name") rule)
     ∷ effect_refusal n (get_member (codes "effect") rule)
-    ∷ texts_refusal n is_name (get_member (codes "lists") rule)
-    ∷ texts_refusal n (λ word. is_some (standing_named word)) (get_member (codes "standings") rule)
-    ∷ texts_refusal n (λ word. is_some (withdrawal_named word)) (get_member (codes "withdrawn") rule)
-    ∷ flag_refusal n (get_member (codes "embargo") rule)
-    ∷ age_refusal n (get_member (codes "age_min") rule)
-    ∷ day_refusal n (get_member (codes "from") rule)
-    ∷ day_refusal n (get_member (codes "until") rule)
-    ∷ flag_refusal n (get_member (codes "own") rule)
-    ∷ refuse (BadValue n) (is_after (day_in (get_member (codes "from") rule)) (day_in (get_member (codes "until") rule)))
+    ∷ conditions_refusal n rule all_keys
+    ∷ refuse (BadValue n) (has_no_day (conditions_of rule all_keys))
     ∷ [])
 
 -- ---- the rules
@@ -181,18 +237,7 @@ abbrev pub allows_at : Members → Bool
 allows_at rule = some_that (λ allows. allows) (effect_named (text_at (codes "effect") rule))
 
 unfoldable pub rule_of : Members → Rule
-rule_of rule = record {
-  name = text_at (codes "name") rule;
-  allows = allows_at rule;
-  lists = option_map texts_in (get_member (codes "lists") rule);
-  standings = option_map (λ d. filter_map standing_named (texts_in d)) (get_member (codes "standings") rule);
-  withdrawn = option_map (λ d. filter_map withdrawal_named (texts_in d)) (get_member (codes "withdrawn") rule);
-  embargo = option_and_then as_bool (get_member (codes "embargo") rule);
-  age_min = option_map unsigned_abs (option_and_then as_integer (get_member (codes "age_min") rule));
-  from = day_in (get_member (codes "from") rule);
-  until = day_in (get_member (codes "until") rule);
-  own = option_and_then as_bool (get_member (codes "own") rule);
-}
+rule_of rule = record { name = text_at (codes "name") rule; allows = allows_at rule; conditions = conditions_of rule all_keys }
 
 -- ---- the policy
 
