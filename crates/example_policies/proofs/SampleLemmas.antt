@@ -1,6 +1,6 @@
 -- The rules of the sample policies, as their texts write them, and whom they deny what is withheld.
 use Rattle.std.proofs.Common.{◌≡◌, ◌≢◌, ℕ, ℤ, List, [], ◌∷◌, Some, Result, Ok, Err, true, false, refl, sym, ap, ◌∙◌, codes, subst}
-use Rattle.std.specs.Prelude.{⊤, int_lt}
+use Rattle.std.specs.Prelude.{int_lt}
 use Rattle.toml.proofs.OnLiterals.{toml_on_literals}
 use Rattle.policy_core.specs.declared.access.Standing.{Standing}
 use Rattle.policy_core.specs.declared.access.Standing.TheVariants.{Public, Member, Subscriber, Moderator}
@@ -8,24 +8,20 @@ use Rattle.policy_core.specs.declared.access.Withdrawn.{Withdrawn}
 use Rattle.policy_core.specs.declared.access.Withdrawn.TheVariants.{No, Author, Board}
 use Rattle.policy_core.specs.declared.faults.PolicyFault.{PolicyFault}
 use Rattle.policy_core.specs.Facts.{Facts, is_before_until, is_embargoed}
-use Rattle.policy_core.specs.Rules.{Rule, open_rule}
+use Rattle.policy_core.specs.Rules.{standings, withdrawn, embargo, age_min, Rule, open_rule}
 use Rattle.policy_core.specs.Verdict.{verdict_of}
-use Rattle.policy_core.specs.Written.{name_refusal, effect_refusal, texts_refusal, flag_refusal, age_refusal, day_refusal, rule_refusal, rule_of, rules_refusal, tree_refusal, written_policy}
+use Rattle.policy_core.specs.Written.{written_policy}
+use Rattle.policy_core.proofs.OnTrees.{on_trees}
 use Rattle.archive_results.specs.Access.{Ask, ReaderMarks, facts_of, is_allowance, ruling_on}
 use Rattle.archive_results.specs.Promise.{DeniesWithdrawn, DeniesHeldBack}
 use Rattle.example_policies.specs.Samples.{HidesFromAllButModerators, members_text, seeds_text}
 
--- what computes a policy of a tree
-unfoldable on_trees : ⊤
-unfolding name_refusal effect_refusal texts_refusal flag_refusal age_refusal day_refusal rule_refusal rule_of rules_refusal tree_refusal
-on_trees = tt
-
 -- these rules behind those that let moderators read all, and nobody else what is withheld
 abbrev hiding : List Rule → List Rule
 hiding rest =
-    record open_rule { name = codes "moderators"; standings = Some (Moderator ∷ []) }
-    ∷ record open_rule { name = codes "withdrawn"; allows = false; withdrawn = Some (Author ∷ Board ∷ []) }
-    ∷ record open_rule { name = codes "embargo"; allows = false; embargo = Some true }
+    record open_rule { name = codes "moderators"; conditions = standings (Moderator ∷ []) ∷ [] }
+    ∷ record open_rule { name = codes "withdrawn"; allows = false; conditions = withdrawn (Author ∷ Board ∷ []) ∷ [] }
+    ∷ record open_rule { name = codes "embargo"; allows = false; conditions = embargo true ∷ [] }
     ∷ rest
 
 -- ---- whom they deny what is withheld
@@ -82,8 +78,8 @@ seeds = hides (open_rule ∷ []) seeds_text refl
 pub members : HidesFromAllButModerators members_text
 unfolding toml_on_literals on_trees
 members = hides
-    (record open_rule { name = codes "members"; standings = Some (Member ∷ Subscriber ∷ []) }
-    ∷ record open_rule { name = codes "public-later"; age_min = Some 10 } ∷ [])
+    (record open_rule { name = codes "members"; conditions = standings (Member ∷ Subscriber ∷ []) ∷ [] }
+    ∷ record open_rule { name = codes "public-later"; conditions = age_min 10 ∷ [] } ∷ [])
     members_text refl
 
 abbrev rules_in : Result (List Rule) PolicyFault → List Rule

@@ -1,18 +1,18 @@
 -- No tree is refused as no TOML.
 use Rattle.std.proofs.Common.{◌≡◌, ◌≢◌, ℕ, suc, Bool, true, false, ◌&&◌, List, [], ◌∷◌, ◌++◌, Option, Some, None, Err, refl, codes}
-use Rattle.std.specs.Prelude.{not, length, bytes_eq, nat_lt, is_some, is_none}
+use Rattle.std.specs.Prelude.{not, length, map, bytes_eq, nat_lt, is_some, is_none, option_and_then}
 use Rattle.std.specs.List.{list_all, list_any}
-use Rattle.toml.specs.Data.{Data, Members, get_member, as_str, as_integer, as_bool}
+use Rattle.toml.specs.Data.{Data, Members, get_member, as_str}
 use Rattle.toml.specs.Parse.{parse_document}
 use Rattle.policy_core.specs.declared.faults.PolicyFault.{PolicyFault}
 use Rattle.policy_core.specs.declared.faults.PolicyFault.TheVariants.{NotToml, UnknownKey, WrongType, BadName, DuplicateName, BadValue, TooManyRules, Memory}
 use Rattle.std.proofs.lemmas.Bool.{false≢true}
 use Rattle.policy_core.specs.Rules.{Rule}
-use Rattle.civil_time.specs.Calendar.{day_of_text}
+use Rattle.policy_core.specs.declared.keys.Key.{Key}
 use Rattle.policy_core.specs.Names.{is_name}
-use Rattle.policy_core.specs.Written.{refuse, first_of, fails, some_that, is_text, is_table, is_array_of, are_some, is_age, is_after, is_rule_key, keys_of, day_in}
-use Rattle.policy_core.specs.Written.{effect_named, standing_named, withdrawal_named, rule_values, tables_of, name_refusal, effect_refusal, texts_refusal, flag_refusal}
-use Rattle.policy_core.specs.Written.{age_refusal, day_refusal, rule_refusal, rules_refusal, text_at, tree_refusal, unless_refused, policy_in, written_policy}
+use Rattle.policy_core.specs.Written.{refuse, first_of, fails, some_that, is_text, is_table, is_array_of, is_rule_key, keys_of, effect_named, rule_values, tables_of}
+use Rattle.policy_core.specs.Written.{name_refusal, effect_refusal, row, all_keys, value_refusal, key_refusal, conditions_refusal, conditions_of, has_no_day}
+use Rattle.policy_core.specs.Written.{rule_refusal, rules_refusal, text_at, tree_refusal, unless_refused, policy_in, written_policy}
 
 -- nothing, or the refusal of a tree
 is_tree_fault : Option PolicyFault → Bool
@@ -89,33 +89,22 @@ effect-fault n given =
     ∷ [])
     (both _ _ (typed n _) (both _ _ (valued n _) (both _ _ (valued n _) refl)))
 
-texts-fault : (n : ℕ) (test : List ℕ → Bool) (given : Option Data) → is_tree_fault (texts_refusal n test given) ≡ true
-unfolding texts_refusal
-texts-fault n test given =
-    first (refuse (WrongType n) (fails (is_array_of is_text) given) ∷ refuse (BadValue n) (fails (are_some test) given) ∷ [])
+value-fault : {A : Type 0} (n : ℕ) (is_typed : Data → Bool) (read : Data → Option A) (given : Option Data)
+    → is_tree_fault (option_and_then (value_refusal n is_typed read) given) ≡ true
+unfolding value_refusal
+value-fault n is_typed read None = nothing
+value-fault n is_typed read (Some d) =
+    first (refuse (WrongType n) (not (is_typed d)) ∷ refuse (BadValue n) (is_none (read d)) ∷ [])
     (both _ _ (typed n _) (both _ _ (valued n _) refl))
 
-flag-fault : (n : ℕ) (given : Option Data) → is_tree_fault (flag_refusal n given) ≡ true
-unfolding flag_refusal
-flag-fault n given = typed n (fails (λ d. is_some (as_bool d)) given)
+key-faults : (n : ℕ) (rule : Members) (keys : List Key) → list_all is_tree_fault (map (key_refusal n rule) keys) ≡ true
+key-faults n rule [] = refl
+key-faults n rule (key ∷ keys) =
+    both _ _ (value-fault n (row key).is_typed (row key).read (get_member (row key).word rule)) (key-faults n rule keys)
 
-age-fault : (n : ℕ) (given : Option Data) → is_tree_fault (age_refusal n given) ≡ true
-unfolding age_refusal
-age-fault n given =
-    first (
-    refuse (WrongType n) (fails (λ d. is_some (as_integer d)) given)
-    ∷ refuse (BadValue n) (fails (λ d. some_that is_age (as_integer d)) given)
-    ∷ [])
-    (both _ _ (typed n _) (both _ _ (valued n _) refl))
-
-day-fault : (n : ℕ) (given : Option Data) → is_tree_fault (day_refusal n given) ≡ true
-unfolding day_refusal
-day-fault n given =
-    first (
-    refuse (WrongType n) (fails is_text given)
-    ∷ refuse (BadValue n) (fails (λ d. some_that (λ text. is_some (day_of_text text)) (as_str d)) given)
-    ∷ [])
-    (both _ _ (typed n _) (both _ _ (valued n _) refl))
+conditions-fault : (n : ℕ) (rule : Members) (keys : List Key) → is_tree_fault (conditions_refusal n rule keys) ≡ true
+unfolding conditions_refusal
+conditions-fault n rule keys = first (map (key_refusal n rule) keys) (key-faults n rule keys)
 
 rule-fault : (n : ℕ) (earlier : List (List ℕ)) (rule : Members) → is_tree_fault (rule_refusal n earlier rule) ≡ true
 unfolding rule_refusal
@@ -124,28 +113,14 @@ rule-fault n earlier rule =
     refuse (UnknownKey n) (not (list_all is_rule_key (keys_of rule)))
     ∷ name_refusal n earlier (get_member (codes "name") rule)
     ∷ effect_refusal n (get_member (codes "effect") rule)
-    ∷ texts_refusal n is_name (get_member (codes "lists") rule)
-    ∷ texts_refusal n (λ word. is_some (standing_named word)) (get_member (codes "standings") rule)
-    ∷ texts_refusal n (λ word. is_some (withdrawal_named word)) (get_member (codes "withdrawn") rule)
-    ∷ flag_refusal n (get_member (codes "embargo") rule)
-    ∷ age_refusal n (get_member (codes "age_min") rule)
-    ∷ day_refusal n (get_member (codes "from") rule)
-    ∷ day_refusal n (get_member (codes "until") rule)
-    ∷ flag_refusal n (get_member (codes "own") rule)
-    ∷ refuse (BadValue n) (is_after (day_in (get_member (codes "from") rule)) (day_in (get_member (codes "until") rule)))
+    ∷ conditions_refusal n rule all_keys
+    ∷ refuse (BadValue n) (has_no_day (conditions_of rule all_keys))
     ∷ [])
     (both _ _ (unknown n _)
     (both _ _ (name-fault n earlier (get_member (codes "name") rule))
     (both _ _ (effect-fault n (get_member (codes "effect") rule))
-    (both _ _ (texts-fault n is_name (get_member (codes "lists") rule))
-    (both _ _ (texts-fault n (λ word. is_some (standing_named word)) (get_member (codes "standings") rule))
-    (both _ _ (texts-fault n (λ word. is_some (withdrawal_named word)) (get_member (codes "withdrawn") rule))
-    (both _ _ (flag-fault n (get_member (codes "embargo") rule))
-    (both _ _ (age-fault n (get_member (codes "age_min") rule))
-    (both _ _ (day-fault n (get_member (codes "from") rule))
-    (both _ _ (day-fault n (get_member (codes "until") rule))
-    (both _ _ (flag-fault n (get_member (codes "own") rule))
-    (both _ _ (valued n _) refl))))))))))))
+    (both _ _ (conditions-fault n rule all_keys)
+    (both _ _ (valued n _) refl)))))
 
 rules-fault : (n : ℕ) (earlier : List (List ℕ)) (rules : List Members) → is_tree_fault (rules_refusal n earlier rules) ≡ true
 unfolding rules_refusal

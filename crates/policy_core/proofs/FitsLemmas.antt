@@ -1,8 +1,7 @@
 -- The test of a rule and what it says in words.
-use Rattle.std.proofs.Common.{◌≡◌, ◌∙◌, ℕ, ℤ, pos, Bool, true, false, cond, ◌&&◌, ◌||◌, T, List, [], ◌∷◌, ◌++◌, Option, Some, None, refl, sym, ap, subst, arith}
-use Rattle.std.specs.Prelude.{codes, filter, is_some, bytes_eq, Contains, int_le, ◌≤ℤ◌}
-use Rattle.std.specs.List.{list_any, slice_index_or, AllByRecursion}
-use Rattle.std.specs.Option.{ForSome}
+use Rattle.std.proofs.Common.{◌≡◌, ◌∙◌, ℕ, ℤ, pos, Bool, true, false, cond, ◌||◌, T, List, [], ◌∷◌, ◌++◌, refl, sym, ap, subst, arith}
+use Rattle.std.specs.Prelude.{codes, filter, bytes_eq, Contains, int_le, ◌≤ℤ◌}
+use Rattle.std.specs.List.{list_all, list_any, slice_index_or, AllByRecursion}
 use Rattle.std.specs.Int.Signed.{le_z_yes}
 use Rattle.std.proofs.lemmas.Bool.{and_parts}
 use Rattle.std.proofs.lemmas.Slice.Eq.{bytes_eq-Decides}
@@ -12,18 +11,10 @@ use Rattle.policy_core.specs.declared.access.Standing.TheVariants.{Public, Membe
 use Rattle.policy_core.specs.declared.access.Withdrawn.{Withdrawn}
 use Rattle.policy_core.specs.declared.access.Withdrawn.TheVariants.{No, Author, Board}
 use Rattle.policy_core.specs.Facts.{Facts, is_embargoed, age, same_standing, same_withdrawal}
-use Rattle.policy_core.specs.Rules.{Rule, open_rule, asks_own, holds, same_bool, fits}
-use Rattle.policy_core.specs.Verdict.{Fits, IsDecidedBy, allowed, denied, ruling_by, ruling_of_head, verdict_of}
+use Rattle.policy_core.specs.Rules.{Condition, lists, standings, withdrawn, embargo, age_min, from, until, own, Rule, open_rule, asks_own, is_about_own, holds, same_bool, fits}
+use Rattle.policy_core.specs.Verdict.{Holds, Fits, IsDecidedBy, allowed, denied, ruling_by, ruling_of_head, verdict_of}
 
 -- ---- one condition
-
-pub ForSome-from_holds : {A : Type 0} (test : A → Bool) (P : A → Type 0) → ((a : A) → test a ≡ true → P a) → (o : Option A) → holds o test ≡ true → ForSome o P
-ForSome-from_holds test P says None h = λ x is. absurd (cc)
-ForSome-from_holds test P says (Some a) h = λ x is. let same : a ≡ x = cc in subst P same (says a h)
-
-pub holds-from_ForSome : {A : Type 0} (test : A → Bool) (P : A → Type 0) → ((a : A) → P a → test a ≡ true) → (o : Option A) → ForSome o P → holds o test ≡ true
-holds-from_ForSome test P says None h = refl
-holds-from_ForSome test P says (Some a) h = says a (h a refl)
 
 pub Contains-from_any : {X : Type 0} (eq : X → X → Bool) → ((a b : X) → eq a b ≡ true → a ≡ b) → (x : X) (xs : List X) → list_any (λ y. eq y x) xs ≡ true → Contains xs x
 Contains-from_any eq sound x xs h =
@@ -101,48 +92,41 @@ bytes_eq-is a b h = grind (arith, bytes_eq-Decides)
 bytes_eq-itself : (a : List ℕ) → bytes_eq a a ≡ true
 bytes_eq-itself a = grind (arith, bytes_eq-Decides)
 
+Holds-from_holds : (condition : Condition) (f : Facts) → holds condition f ≡ true → Holds condition f
+Holds-from_holds (lists names) f h = Contains-from_any bytes_eq bytes_eq-is f.list names h
+Holds-from_holds (standings among) f h = Contains-from_any same_standing same_standing-is f.standing among h
+Holds-from_holds (withdrawn among) f h = Contains-from_any same_withdrawal same_withdrawal-is f.withdrawn among h
+Holds-from_holds (embargo on) f h = same_bool-is on (is_embargoed f) h
+Holds-from_holds (age_min least) f h = le-from_int_le (pos least) (age f) h
+Holds-from_holds (from first) f h = le-from_int_le first f.day h
+Holds-from_holds (until last) f h = le-from_int_le f.day last h
+Holds-from_holds (own stated) f h = same_bool-is stated f.own h
+
+holds-from_Holds : (condition : Condition) (f : Facts) → Holds condition f → holds condition f ≡ true
+holds-from_Holds (lists names) f h = any-from_Contains bytes_eq bytes_eq-itself f.list names h
+holds-from_Holds (standings among) f h = any-from_Contains same_standing same_standing-itself f.standing among h
+holds-from_Holds (withdrawn among) f h = any-from_Contains same_withdrawal same_withdrawal-itself f.withdrawn among h
+holds-from_Holds (embargo on) f h = same_bool-itself on (is_embargoed f) h
+holds-from_Holds (age_min least) f h = int_le-from_le (pos least) (age f) h
+holds-from_Holds (from first) f h = int_le-from_le first f.day h
+holds-from_Holds (until last) f h = int_le-from_le f.day last h
+holds-from_Holds (own stated) f h = same_bool-itself stated f.own h
+
 -- ---- all conditions
 
 pub Fits-from_fits : (r : Rule) (f : Facts) → fits r f ≡ true → Fits r f
-Fits-from_fits r f h =
-    let parts = and_parts _ _ h in
-    let front = and_parts _ _ parts.0 in
-    let reader = and_parts _ _ front.0 in
-    let message = and_parts _ _ front.1 in
-    let timed = and_parts _ _ message.0 in
-    let state = and_parts _ _ timed.0 in
-    let day = and_parts _ _ parts.1 in
-    record {
-      list = ForSome-from_holds _ _ (λ names. Contains-from_any bytes_eq bytes_eq-is f.list names) r.lists reader.0;
-      standing = ForSome-from_holds _ _ (λ standings. Contains-from_any same_standing same_standing-is f.standing standings) r.standings reader.1;
-      withdrawal = ForSome-from_holds _ _ (λ withdrawals. Contains-from_any same_withdrawal same_withdrawal-is f.withdrawn withdrawals) r.withdrawn state.0;
-      embargo = ForSome-from_holds _ _ (λ on. same_bool-is on (is_embargoed f)) r.embargo state.1;
-      age = ForSome-from_holds _ _ (λ least. le-from_int_le (pos least) (age f)) r.age_min timed.1;
-      from = ForSome-from_holds _ _ (λ first. le-from_int_le first f.day) r.from day.0;
-      until = ForSome-from_holds _ _ (λ last. le-from_int_le f.day last) r.until day.1;
-      own = ForSome-from_holds _ _ (λ own. same_bool-is own f.own) r.own message.1;
-    }
-
-both : (a b : Bool) → a ≡ true → b ≡ true → (a && b) ≡ true
-both a b h k = rw (h, k) refl
+Fits-from_fits r f h = each r.conditions h
+  where
+    each : (conditions : List Condition) → list_all (λ condition. holds condition f) conditions ≡ true → AllByRecursion (λ condition. Holds condition f) conditions
+    each [] h = tt
+    each (condition ∷ conditions) h = let both = and_parts _ _ h in (Holds-from_holds condition f both.0, each conditions both.1)
 
 pub fits-from_Fits : (r : Rule) (f : Facts) → Fits r f → fits r f ≡ true
-fits-from_Fits r f h =
-    both _ _
-    (both _ _
-    (both _ _
-    (holds-from_ForSome _ _ (λ names. any-from_Contains bytes_eq bytes_eq-itself f.list names) r.lists h.list)
-    (holds-from_ForSome _ _ (λ standings. any-from_Contains same_standing same_standing-itself f.standing standings) r.standings h.standing))
-    (both _ _
-    (both _ _
-    (both _ _
-    (holds-from_ForSome _ _ (λ withdrawals. any-from_Contains same_withdrawal same_withdrawal-itself f.withdrawn withdrawals) r.withdrawn h.withdrawal)
-    (holds-from_ForSome _ _ (λ on. same_bool-itself on (is_embargoed f)) r.embargo h.embargo))
-    (holds-from_ForSome _ _ (λ least. int_le-from_le (pos least) (age f)) r.age_min h.age))
-    (holds-from_ForSome _ _ (λ own. same_bool-itself own f.own) r.own h.own)))
-    (both _ _
-    (holds-from_ForSome _ _ (λ first. int_le-from_le first f.day) r.from h.from)
-    (holds-from_ForSome _ _ (λ last. int_le-from_le f.day last) r.until h.until))
+fits-from_Fits r f h = each r.conditions h
+  where
+    each : (conditions : List Condition) → AllByRecursion (λ condition. Holds condition f) conditions → list_all (λ condition. holds condition f) conditions ≡ true
+    each [] h = refl
+    each (condition ∷ conditions) h = rw (holds-from_Holds condition f h.0) (each conditions h.1)
 
 misfit : (r : Rule) (f : Facts) → ¬ Fits r f → (b : Bool) → fits r f ≡ b → fits r f ≡ false
 misfit r f none true is = absurd (none (Fits-from_fits r f is))
@@ -150,27 +134,40 @@ misfit r f none false is = is
 
 -- ---- whether a message is the reader's own
 
-unasked_fit : (r : Rule) (f : Facts) (own : Bool) → is_some r.own ≡ false → fits r (record f { own = own }) ≡ fits r f
-unasked_fit r f own none = by_stated r.own refl
-  where
-    by_stated : (o : Option Bool) → r.own ≡ o → fits r (record f { own = own }) ≡ fits r f
-    by_stated None is = rw is refl
-    by_stated (Some b) is = absurd (let bad : true ≡ false = sym (ap is_some is) ∙ none in cc)
+or_false : (a b : Bool) → (a || b) ≡ false → (a ≡ false) × (b ≡ false)
+or_false false b is = (refl, is)
+or_false true b is = absurd (cc)
 
-pub unasked : (rules : List Rule) (f : Facts) (own : Bool) → asks_own rules ≡ false → verdict_of rules (record f { own = own }) ≡ verdict_of rules f
-unasked rules f own none = ap ruling_of_head (alike rules none)
-  where
-    or_false : (a b : Bool) → (a || b) ≡ false → (a ≡ false) × (b ≡ false)
-    or_false false b is = (refl, is)
-    or_false true b is = absurd (cc)
+unasked_condition : (condition : Condition) (f : Facts) (o : Bool) → is_about_own condition ≡ false → holds condition (record f { own = o }) ≡ holds condition f
+unasked_condition (lists names) f o none = refl
+unasked_condition (standings among) f o none = refl
+unasked_condition (withdrawn among) f o none = refl
+unasked_condition (embargo on) f o none = refl
+unasked_condition (age_min least) f o none = refl
+unasked_condition (from first) f o none = refl
+unasked_condition (until last) f o none = refl
+unasked_condition (own stated) f o none = absurd (cc)
 
-    alike : (rules : List Rule) → asks_own rules ≡ false → filter (λ r. fits r (record f { own = own })) rules ≡ filter (λ r. fits r f) rules
+unasked_fit : (r : Rule) (f : Facts) (o : Bool) → list_any is_about_own r.conditions ≡ false → fits r (record f { own = o }) ≡ fits r f
+unasked_fit r f o none = each r.conditions none
+  where
+    each : (conditions : List Condition) → list_any is_about_own conditions ≡ false
+        → list_all (λ condition. holds condition (record f { own = o })) conditions ≡ list_all (λ condition. holds condition f) conditions
+    each [] none = refl
+    each (condition ∷ conditions) none =
+        let parts = or_false (is_about_own condition) (list_any is_about_own conditions) none in
+        rw (unasked_condition condition f o parts.0, each conditions parts.1) refl
+
+pub unasked : (rules : List Rule) (f : Facts) (o : Bool) → asks_own rules ≡ false → verdict_of rules (record f { own = o }) ≡ verdict_of rules f
+unasked rules f o none = ap ruling_of_head (alike rules none)
+  where
+    alike : (rules : List Rule) → asks_own rules ≡ false → filter (λ r. fits r (record f { own = o })) rules ≡ filter (λ r. fits r f) rules
     alike [] is = refl
     alike (r ∷ rules) is =
-        let both = or_false (is_some r.own) (asks_own rules) is in
-        rw (unasked_fit r f own both.0) (ap (λ (rest : List Rule). cond (fits r f) (r ∷ rest) rest) (alike rules both.1))
+        let both = or_false (list_any is_about_own r.conditions) (asks_own rules) is in
+        rw (unasked_fit r f o both.0) (ap (λ (rest : List Rule). cond (fits r f) (r ∷ rest) rest) (alike rules both.1))
 
-pub unasked_by : (rules : List Rule) (result : Bool) → result ≡ asks_own rules → result ≡ false → (f : Facts) (own : Bool) → verdict_of rules (record f { own = own }) ≡ verdict_of rules f
+pub unasked_by : (rules : List Rule) (result : Bool) → result ≡ asks_own rules → result ≡ false → (f : Facts) (o : Bool) → verdict_of rules (record f { own = o }) ≡ verdict_of rules f
 unasked_by rules result value none = λ f own. unasked rules f own (sym value ∙ none)
 
 -- ---- which rule decides

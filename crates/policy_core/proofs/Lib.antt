@@ -1,3 +1,4 @@
+pub mod OnTrees
 mod FaultLemmas
 mod FitsLemmas
 mod ListLemmas

@@ -1,10 +1,10 @@
 -- A tree's values beside those of the program.
 use Rattle.std.proofs.Common.{◌≡◌, ℕ, suc, ◌+◌, ◌<◌, ◌≤◌, ◌++◌, get_or, drop, append_assoc, arith, Bool, true, false, not, ◌&&◌, List, []}
-use Rattle.std.proofs.Common.{◌∷◌, Option, Some, None, String, Global, refl, sym, ◌∙◌, ap, map, length, string_bytes}
+use Rattle.std.proofs.Common.{◌∷◌, Option, Some, None, Result, Ok, Err, String, Global, refl, sym, ◌∙◌, ap, map, length, string_bytes}
 use Rattle.std.proofs.lemmas.Bool.{lt-ltb}
 use Rattle.std.proofs.lemmas.Bool.Decides.{nat_tests}
 use Rattle.std.proofs.lemmas.List.{drop_more, length-map, length-append, map-append}
-use Rattle.std.specs.Prelude.{codes, bytes_eq, nat_lt, ◌||◌}
+use Rattle.std.specs.Prelude.{codes, bytes_eq, nat_lt, ◌||◌, if◌then◌else◌, is_none, option_map}
 use Rattle.std.specs.List.{list_all, list_any}
 use Rattle.policy_core.specs.Names.{is_name}
 use Rattle.toml.specs.Data.{Data, Members, string, integer, float, boolean, datetime, array, table, Items, get_member, as_array, as_str, as_table}
@@ -12,10 +12,14 @@ use Rattle.toml.specs.View.{view, items_view, members_view}
 use Rattle.toml.specs.declared.value.Value.{Value}
 use Rattle.policy_core.specs.declared.faults.PolicyFault.{PolicyFault}
 use Rattle.policy_core.specs.declared.faults.PolicyFault.TheVariants.{WrongType, BadName, DuplicateName, BadValue, TooManyRules}
-use Rattle.policy_core.specs.Reading.{IsTextArray, texts, tables, names_of}
-use Rattle.policy_core.specs.Rules.{Rule}
+use Rattle.policy_core.specs.declared.keys.Key.{Key}
+use Rattle.policy_core.specs.Reading.{ReadsInMemory, array_refusal, texts, tables, names_of}
+use Rattle.policy_core.specs.Rules.{Condition, Rule}
+use Rattle.policy_core.specs.declared.conditions.Condition.{Condition as Held}
+use Rattle.policy_core.specs.Stated.{stated}
 use Rattle.policy_core.specs.Written.{keys_of, values_of, rule_values, tables_of, is_text, is_table, is_array_of, refuse, fails, first_of}
-use Rattle.policy_core.specs.Written.{name_refusal, texts_refusal, text_at, rule_refusal, rules_refusal, rule_of, tree_refusal}
+use Rattle.policy_core.specs.Written.{name_refusal, effect_refusal, is_rule_key, all_keys, has_no_day, has_member, values_in, texts_in, is_texts, some_texts, value_refusal, row}
+use Rattle.policy_core.specs.Written.{condition_in, conditions_refusal, conditions_of, text_at, rule_refusal, rules_refusal, rule_of, tree_refusal}
 
 -- the keys of a map, and those of its tree
 pub keys_of-view : (test : List ℕ → Bool) (es : List (String Global × Value))
@@ -40,36 +44,113 @@ pub first_of-one : (refusal : Option PolicyFault) → first_of (refusal ∷ []) 
 first_of-one None = refl
 first_of-one (Some fault) = refl
 
--- ---- an array of texts at a key
+-- ---- an array of texts
 
-pub text_array : (n : ℕ) (given : Option Data) (vs : List Value) → given ≡ Some (array (items_view vs))
-    → list_all is_text (map view vs) ≡ true → 0 < length vs → IsTextArray n (texts vs) given
-unfolding texts_refusal
-text_array n given [] is all some = absurd (omega arith)
-text_array n given (v ∷ vs) is all some = record {
-  value = rw (is, values_of-view vs) refl;
-  refused = λ test. rw (is, values_of-view vs, all) (first_of-one _);
-}
+pub no_array : (n : ℕ) (d : Data) → as_array d ≡ None → array_refusal n d ≡ Some (WrongType n)
+no_array n d none = rw none refl
 
-pub no_texts : (n : ℕ) (given : Option Data) (vs : List Value) → given ≡ Some (array (items_view vs))
-    → list_all is_text (map view vs) ≡ false → (test : List ℕ → Bool) → texts_refusal n test given ≡ Some (WrongType n)
-unfolding texts_refusal
-no_texts n given vs is none test = rw (is, values_of-view vs, none) refl
+pub no_texts : (n : ℕ) (d : Data) (vs : List Value) → d ≡ array (items_view vs) → list_all is_text (map view vs) ≡ false → array_refusal n d ≡ Some (WrongType n)
+no_texts n d vs is none = rw (is, values_of-view vs, none) refl
 
-pub empty_texts : (n : ℕ) (given : Option Data) (vs : List Value) → given ≡ Some (array (items_view vs))
-    → length vs ≡ 0 → (test : List ℕ → Bool) → texts_refusal n test given ≡ Some (BadValue n)
-unfolding texts_refusal
-empty_texts n given [] is none test = rw is refl
-empty_texts n given (v ∷ vs) is none test = absurd (omega arith)
+pub empty_texts : (n : ℕ) (d : Data) (vs : List Value) → d ≡ array (items_view vs) → length vs ≡ 0 → array_refusal n d ≡ Some (BadValue n)
+empty_texts n d [] is none = rw is refl
+empty_texts n d (v ∷ vs) is none = absurd (omega arith)
 
-pub no_array : (n : ℕ) (given : Option Data) (d : Data) → given ≡ Some d → as_array d ≡ None
-    → (test : List ℕ → Bool) → texts_refusal n test given ≡ Some (WrongType n)
-unfolding texts_refusal
-no_array n given d is none test = rw (is, none) refl
+pub text_array : (n : ℕ) (d : Data) (vs : List Value) → d ≡ array (items_view vs) → list_all is_text (map view vs) ≡ true → 0 < length vs
+    → (array_refusal n d ≡ None) × (texts vs ≡ texts_in d)
+text_array n d [] is all some = absurd (omega arith)
+text_array n d (v ∷ vs) is all some = (rw (is, values_of-view vs, all) refl, rw (is, values_of-view vs) refl)
 
-pub nothing : (n : ℕ) (given : Option Data) → given ≡ None → (test : List ℕ → Bool) → texts_refusal n test given ≡ None
-unfolding texts_refusal
-nothing n given is test = rw is refl
+-- what is refused of an array of texts, and what is made of it
+pub array_refused : {A : Type 0} (n : ℕ) (test : List ℕ → Bool) (made : List (List ℕ) → A) (d : Data) (fault : PolicyFault) → array_refusal n d ≡ Some fault
+    → value_refusal n is_texts (some_texts test made) d ≡ Some fault
+unfolding value_refusal
+array_refused {A = A} n test made d fault = by (is_texts d) (has_member (values_in d)) (list_all test (texts_in d))
+  where
+    by : (typed some all : Bool) → first_of (refuse (WrongType n) (not typed) ∷ refuse (BadValue n) (not some) ∷ []) ≡ Some fault
+        → first_of (refuse (WrongType n) (not typed) ∷ refuse (BadValue n) (is_none (if some && all then Some (made (texts_in d)) else None)) ∷ []) ≡ Some fault
+    by false some all is = is
+    by true false all is = is
+    by true true all is = absurd (cc)
+
+pub texts_refused : {A : Type 0} (n : ℕ) (test : List ℕ → Bool) (made : List (List ℕ) → A) (d : Data) → array_refusal n d ≡ None
+    → value_refusal n is_texts (some_texts test made) d ≡ refuse (BadValue n) (not (list_all test (texts_in d)))
+unfolding value_refusal
+texts_refused {A = A} n test made d = by (is_texts d) (has_member (values_in d)) (list_all test (texts_in d))
+  where
+    by : (typed some all : Bool) → first_of (refuse (WrongType n) (not typed) ∷ refuse (BadValue n) (not some) ∷ []) ≡ None
+        → first_of (refuse (WrongType n) (not typed) ∷ refuse (BadValue n) (is_none (if some && all then Some (made (texts_in d)) else None)) ∷ [])
+        ≡ refuse (BadValue n) (not all)
+    by false some all is = absurd (cc)
+    by true false all is = absurd (cc)
+    by true true true is = refl
+    by true true false is = refl
+
+pub texts_made : {A : Type 0} (n : ℕ) (test : List ℕ → Bool) (made : List (List ℕ) → A) (d : Data) → array_refusal n d ≡ None
+    → refuse (BadValue n) (not (list_all test (texts_in d))) ≡ None → some_texts test made d ≡ Some (made (texts_in d))
+texts_made {A = A} n test made d = by (is_texts d) (has_member (values_in d)) (list_all test (texts_in d))
+  where
+    by : (typed some all : Bool) → first_of (refuse (WrongType n) (not typed) ∷ refuse (BadValue n) (not some) ∷ []) ≡ None
+        → refuse (BadValue n) (not all) ≡ None → (if some && all then Some (made (texts_in d)) else None) ≡ Some (made (texts_in d))
+    by false some all is none = absurd (cc)
+    by true false all is none = absurd (cc)
+    by true true true is none = refl
+    by true true false is none = absurd (cc)
+
+-- what is read of the texts of an array
+pub texts_read : {A T : Type 0} (n : ℕ) (test : List ℕ → Bool) (made : List (List ℕ) → A) (d : Data) (result : Result T PolicyFault) (texts : List (List ℕ)) (seen : T → A)
+    → (array_refusal n d ≡ None) × (texts ≡ texts_in d)
+    → ReadsInMemory result (refuse (BadValue n) (not (list_all test texts))) (λ t. seen t ≡ made texts)
+    → ReadsInMemory result (value_refusal n is_texts (some_texts test made) d) (λ t. some_texts test made d ≡ Some (seen t))
+texts_read n test made d (Ok t) texts seen is reads =
+    let none : refuse (BadValue n) (not (list_all test (texts_in d))) ≡ None = rw (← is.1) reads.0 in
+    (texts_refused n test made d is.0 ∙ none, texts_made n test made d is.0 none ∙ ap (λ texts. Some (made texts)) (sym is.1) ∙ ap Some (sym reads.1))
+texts_read n test made d (Err fault) texts seen is reads = λ memory. texts_refused n test made d is.0 ∙ rw (← is.1) (reads memory)
+
+-- ---- the keys of conditions
+
+-- what a value means, and the condition that it states
+pub as_stated : {A : Type 0} {read : Option A} {refusal : Option PolicyFault} {meaning : A} (condition : A → Condition)
+    → (refusal ≡ None) × (read ≡ Some meaning) → (refusal ≡ None) × (option_map condition read ≡ Some (condition meaning))
+as_stated condition is = (is.0, ap (option_map condition) is.1)
+
+-- one more key is looked up
+pub key_missing : (n : ℕ) (rule : Members) (keys : List Key) (i : ℕ) (key : Key) (word : List ℕ) → i < length keys → word ≡ (row (get_or keys i key)).word
+    → None ≡ get_member word rule
+    → (conditions_refusal n rule (drop i keys) ≡ conditions_refusal n rule (drop (i + 1) keys)) × (conditions_of rule (drop i keys) ≡ conditions_of rule (drop (i + 1) keys))
+unfolding conditions_refusal conditions_of
+key_missing n rule keys i key word within is none = rw (drop_more keys i key within, ← is, ← none) (refl, refl)
+
+pub key_refused : (n : ℕ) (rule : Members) (keys : List Key) (i : ℕ) (key : Key) (word : List ℕ) (d : Data) (fault : PolicyFault) → i < length keys
+    → word ≡ (row (get_or keys i key)).word → Some d ≡ get_member word rule
+    → value_refusal n (row (get_or keys i key)).is_typed (row (get_or keys i key)).read d ≡ Some fault → conditions_refusal n rule (drop i keys) ≡ Some fault
+unfolding conditions_refusal
+key_refused n rule keys i key word d fault within is there some = rw (drop_more keys i key within, ← is, ← there, some) refl
+
+pub key_read : (n : ℕ) (rule : Members) (keys : List Key) (i : ℕ) (key : Key) (word : List ℕ) (d : Data) (condition : Condition) → i < length keys
+    → word ≡ (row (get_or keys i key)).word → Some d ≡ get_member word rule
+    → (value_refusal n (row (get_or keys i key)).is_typed (row (get_or keys i key)).read d ≡ None) × (condition_in (get_or keys i key) d ≡ Some condition)
+    → (conditions_refusal n rule (drop i keys) ≡ conditions_refusal n rule (drop (i + 1) keys))
+    × (conditions_of rule (drop i keys) ≡ condition ∷ conditions_of rule (drop (i + 1) keys))
+unfolding conditions_refusal conditions_of
+key_read n rule keys i key word d condition within is there reads =
+    (rw (drop_more keys i key within, ← is, ← there, reads.0) refl, rw (drop_more keys i key within, ← is, ← there, reads.1) refl)
+
+-- one more condition is read
+pub more_conditions : (all : List Condition) (conditions : List Held) (condition : Held) (rest : List Condition) (after : List Held)
+    → all ≡ map stated conditions ++ stated condition ∷ rest → after ≡ conditions ++ condition ∷ [] → all ≡ map stated after ++ rest
+more_conditions all conditions condition rest after before more =
+    rw (more, map-append stated conditions (condition ∷ [])) (before ∙ sym (append_assoc (map stated conditions) (stated condition ∷ []) rest))
+
+-- a rule whose keys are read, but for the days of its conditions
+pub rule_rest : (n : ℕ) (earlier : List (List ℕ)) (rule : Members) (conditions : List Condition) (found : Bool) → list_all is_rule_key (keys_of rule) ≡ true
+    → name_refusal n earlier (get_member (codes "name") rule) ≡ None → effect_refusal n (get_member (codes "effect") rule) ≡ None
+    → (conditions_refusal n rule all_keys ≡ None) × (conditions ≡ conditions_of rule all_keys) → found ≡ has_no_day conditions
+    → rule_refusal n earlier rule ≡ refuse (BadValue n) found
+unfolding rule_refusal
+rule_rest n earlier rule conditions found keys name effect read is =
+    let last : has_no_day (conditions_of rule all_keys) ≡ found = ap has_no_day (sym read.1) ∙ sym is in
+    rw (keys, name, effect, read.0, last) (first_of-one _)
 
 -- ---- a rule's name
 

@@ -3,7 +3,7 @@ use Rattle.std.proofs.Common.{◌≡◌, ℕ, pos, negsuc, List, [], ◌∷◌, 
 use Rattle.policy_core.specs.declared.access.Standing.TheVariants.{Public, Member, Subscriber, Moderator}
 use Rattle.policy_core.specs.declared.access.Withdrawn.TheVariants.{No, Author, Board}
 use Rattle.policy_core.specs.Facts.{Facts, is_embargoed, age}
-use Rattle.policy_core.specs.Rules.{Rule, fits, asks_own, open_rule}
+use Rattle.policy_core.specs.Rules.{lists, standings, withdrawn, embargo, age_min, from, until, own, Rule, fits, asks_own, open_rule}
 use Rattle.policy_core.specs.Verdict.{allowed, denied, verdict_of}
 
 -- a message of the list `soc` that arrived on 2003-03-04, asked for by the public on 2003-03-20
@@ -23,7 +23,7 @@ abbrev denies : List ℕ → Rule
 denies name = record open_rule { name = name; allows = false }
 
 abbrev withdrawn_rule : Rule
-withdrawn_rule = record (denies (codes "withdrawn")) { standings = Some (Public ∷ []); withdrawn = Some (Author ∷ Board ∷ []) }
+withdrawn_rule = record (denies (codes "withdrawn")) { conditions = standings (Public ∷ []) ∷ withdrawn (Author ∷ Board ∷ []) ∷ [] }
 
 abbrev all_rule : Rule
 all_rule = record open_rule { name = codes "all" }
@@ -59,58 +59,58 @@ on_the_day_before = refl
 off_on_its_day : is_embargoed (record asked { day = pos 12143; embargo_until = Some (pos 12143) }) ≡ false
 off_on_its_day = refl
 
-embargo_denies : verdict_of (record (denies (codes "embargo")) { embargo = Some true } ∷ all_rule ∷ [])
+embargo_denies : verdict_of (record (denies (codes "embargo")) { conditions = embargo true ∷ [] } ∷ all_rule ∷ [])
     (record asked { day = pos 12142; embargo_until = Some (pos 12143) }) ≡ denied (codes "embargo")
 embargo_denies = refl
 
-embargo_over : verdict_of (record (denies (codes "embargo")) { embargo = Some true } ∷ all_rule ∷ [])
+embargo_over : verdict_of (record (denies (codes "embargo")) { conditions = embargo true ∷ [] } ∷ all_rule ∷ [])
     (record asked { day = pos 12143; embargo_until = Some (pos 12143) }) ≡ allowed (codes "all")
 embargo_over = refl
 
-without_embargo : fits (record all_rule { embargo = Some false }) asked ≡ true
+without_embargo : fits (record all_rule { conditions = embargo false ∷ [] }) asked ≡ true
 without_embargo = refl
 
 -- the age is 16 days
-old_enough : fits (record all_rule { age_min = Some 16 }) asked ≡ true
+old_enough : fits (record all_rule { conditions = age_min 16 ∷ [] }) asked ≡ true
 old_enough = refl
 
-too_young : fits (record all_rule { age_min = Some 17 }) asked ≡ false
+too_young : fits (record all_rule { conditions = age_min 17 ∷ [] }) asked ≡ false
 too_young = refl
 
 -- a message that arrives after the reading day has a negative age
 before_its_arrival : age (record asked { day = pos 12114 }) ≡ negsuc 0
 before_its_arrival = refl
 
-not_yet : fits (record all_rule { age_min = Some 0 }) (record asked { day = pos 12114 }) ≡ false
+not_yet : fits (record all_rule { conditions = age_min 0 ∷ [] }) (record asked { day = pos 12114 }) ≡ false
 not_yet = refl
 
 -- `from` and `until` are both within
-on_the_first_day : fits (record all_rule { from = Some (pos 12131) }) asked ≡ true
+on_the_first_day : fits (record all_rule { conditions = from (pos 12131) ∷ [] }) asked ≡ true
 on_the_first_day = refl
 
-before_the_first_day : fits (record all_rule { from = Some (pos 12132) }) asked ≡ false
+before_the_first_day : fits (record all_rule { conditions = from (pos 12132) ∷ [] }) asked ≡ false
 before_the_first_day = refl
 
-on_the_last_day : fits (record all_rule { until = Some (pos 12131) }) asked ≡ true
+on_the_last_day : fits (record all_rule { conditions = until (pos 12131) ∷ [] }) asked ≡ true
 on_the_last_day = refl
 
-after_the_last_day : fits (record all_rule { until = Some (pos 12130) }) asked ≡ false
+after_the_last_day : fits (record all_rule { conditions = until (pos 12130) ∷ [] }) asked ≡ false
 after_the_last_day = refl
 
 -- a rule for some lists and standings
-for_this_list : fits (record all_rule { lists = Some (codes "dev" ∷ codes "soc" ∷ []) }) asked ≡ true
+for_this_list : fits (record all_rule { conditions = lists (codes "dev" ∷ codes "soc" ∷ []) ∷ [] }) asked ≡ true
 for_this_list = refl
 
-for_other_lists : fits (record all_rule { lists = Some (codes "dev" ∷ codes "so" ∷ []) }) asked ≡ false
+for_other_lists : fits (record all_rule { conditions = lists (codes "dev" ∷ codes "so" ∷ []) ∷ [] }) asked ≡ false
 for_other_lists = refl
 
-for_others : fits (record all_rule { standings = Some (Member ∷ Subscriber ∷ Moderator ∷ []) }) asked ≡ false
+for_others : fits (record all_rule { conditions = standings (Member ∷ Subscriber ∷ Moderator ∷ []) ∷ [] }) asked ≡ false
 for_others = refl
 
 -- ---- own messages
 
 abbrev mine_rule : Rule
-mine_rule = record open_rule { name = codes "mine"; own = Some true }
+mine_rule = record open_rule { name = codes "mine"; conditions = own true ∷ [] }
 
 -- a message that the board withdrew: its author sees it by a first rule, nobody else does
 abbrev withdrawn_asked : Facts
@@ -123,14 +123,14 @@ another : verdict_of (mine_rule ∷ withdrawn_rule ∷ all_rule ∷ []) withdraw
 another = refl
 
 -- a rule for what is not the reader's own
-not_own : fits (record all_rule { own = Some false }) asked ≡ true
+not_own : fits (record all_rule { conditions = own false ∷ [] }) asked ≡ true
 not_own = refl
 
-not_of_its_author : fits (record all_rule { own = Some false }) (record asked { own = true }) ≡ false
+not_of_its_author : fits (record all_rule { conditions = own false ∷ [] }) (record asked { own = true }) ≡ false
 not_of_its_author = refl
 
 -- a rule for what is not the reader's own asks too
-asked_by_either : (asks_own (all_rule ∷ mine_rule ∷ []) ≡ true) × (asks_own (record all_rule { own = Some false } ∷ []) ≡ true)
+asked_by_either : (asks_own (all_rule ∷ mine_rule ∷ []) ≡ true) × (asks_own (record all_rule { conditions = own false ∷ [] } ∷ []) ≡ true)
 asked_by_either = (refl, refl)
 
 asked_by_none : asks_own (withdrawn_rule ∷ all_rule ∷ []) ≡ false

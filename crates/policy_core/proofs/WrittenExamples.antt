@@ -1,21 +1,15 @@
 -- Worked examples of written policies, as trees and as texts.
-use Rattle.std.proofs.Common.{◌≡◌, ℕ, zero, suc, pos, [], ◌∷◌, Some, Ok, Err, true, false, refl, codes}
+use Rattle.std.proofs.Common.{◌≡◌, ℕ, zero, suc, pos, [], ◌∷◌, Ok, Err, true, false, refl, codes}
 use Rattle.toml.specs.Data.{string, integer, array, table, Items, no_items, item, Members, no_members, member}
 use Rattle.toml.proofs.OnLiterals.{toml_on_literals}
 use Rattle.policy_core.specs.declared.access.Standing.TheVariants.{Public}
 use Rattle.policy_core.specs.declared.access.Withdrawn.TheVariants.{Author, Board}
 use Rattle.policy_core.specs.declared.faults.PolicyFault.TheVariants.{NotToml, UnknownKey, WrongType, BadName, DuplicateName, BadValue, TooManyRules}
 use Rattle.policy_core.specs.Names.{is_name}
-use Rattle.policy_core.specs.Rules.{open_rule}
-use Rattle.policy_core.specs.Written.{name_refusal, effect_refusal, texts_refusal, flag_refusal, age_refusal, day_refusal}
-use Rattle.policy_core.specs.Written.{rule_refusal, rule_of, rules_refusal, tree_refusal, policy_of, written_policy}
-use Rattle.std.specs.Prelude.{⊤}
+use Rattle.policy_core.specs.Rules.{lists, standings, withdrawn, embargo, age_min, own, open_rule}
+use Rattle.policy_core.specs.Written.{policy_of, written_policy}
+use Rattle.policy_core.proofs.OnTrees.{on_trees}
 use Rattle.civil_time.specs.Calendar.{days_before_year, days_of_months}
-
--- what computes a policy of a tree
-unfoldable on_trees : ⊤
-unfolding name_refusal effect_refusal texts_refusal flag_refusal age_refusal day_refusal rule_refusal rule_of rules_refusal tree_refusal
-on_trees = tt
 
 -- the tree of one rule with these keys
 abbrev one : Members → Members
@@ -60,7 +54,7 @@ unfolding toml_on_literals on_trees
 text_empty = refl
 
 text_of_one_rule : written_policy (codes "[[rule]]\nname = 'a'\neffect = 'allow'\nage_min = 30\nembargo = false")
-    ≡ Ok (record open_rule { name = codes "a"; age_min = Some 30; embargo = Some false } ∷ [])
+    ≡ Ok (record open_rule { name = codes "a"; conditions = embargo false ∷ age_min 30 ∷ [] } ∷ [])
 unfolding toml_on_literals on_trees
 text_of_one_rule = refl
 
@@ -68,9 +62,7 @@ text_with_arrays : written_policy (codes "[[rule]]\nname = 'a'\neffect = 'deny'\
     ≡ Ok (record open_rule {
       name = codes "a";
       allows = false;
-      lists = Some (codes "soc" ∷ codes "dev" ∷ []);
-      standings = Some (Public ∷ []);
-      withdrawn = Some (Author ∷ Board ∷ []);
+      conditions = lists (codes "soc" ∷ codes "dev" ∷ []) ∷ standings (Public ∷ []) ∷ withdrawn (Author ∷ Board ∷ []) ∷ [];
     } ∷ [])
 unfolding toml_on_literals on_trees
 text_with_arrays = refl
@@ -115,7 +107,7 @@ text_backwards : written_policy (codes "[[rule]]\nname = 'a'\neffect = 'deny'\nf
 unfolding toml_on_literals on_trees days_before_year days_of_months
 text_backwards = refl
 
-text_own : written_policy (codes "[[rule]]\nname = 'a'\neffect = 'allow'\nown = true") ≡ Ok (record open_rule { name = codes "a"; own = Some true } ∷ [])
+text_own : written_policy (codes "[[rule]]\nname = 'a'\neffect = 'allow'\nown = true") ≡ Ok (record open_rule { name = codes "a"; conditions = own true ∷ [] } ∷ [])
 unfolding toml_on_literals on_trees
 text_own = refl
 

@@ -2,7 +2,9 @@
 #![tactic(auto)]
 
 mod access;
+mod conditions;
 mod faults;
+mod keys;
 mod names;
 mod reading;
 mod rule_reading;

@@ -1,19 +1,21 @@
 //! Reading a rule: its keys, in the order in which they are tested.
-ghost use Rattle.std.specs.Prelude.{◌≡◌, ℕ, List, Bool, Some, None, Ok, Err, IfOk, IfErr, MatchOption, map, not, filter_map};
-ghost use Rattle.std.specs.Prelude.{option_map, option_and_then, unsigned_abs, is_some, bytes_eq, codes, string_bytes};
+ghost use Rattle.std.specs.Prelude.{◌≡◌, ℕ, List, Bool, Some, None, Ok, Err, IfOk, IfErr, map, not, filter_map, option_map, is_some, bytes_eq, codes, string_bytes};
 ghost use Rattle.std.specs.List.{list_all, list_any};
-ghost use Rattle.toml.specs.Data.{get_member, as_str, as_integer, as_bool};
+ghost use Rattle.toml.specs.Data.{get_member, as_str, as_bool};
 ghost use Rattle.toml.specs.View.{view, table_view};
 ghost use Rattle.policy_core.specs.Names.{is_name};
-ghost use Rattle.policy_core.specs.Reading.{Reads, ReadsInMemory, IsTextArray, texts, names_of};
-ghost use Rattle.policy_core.specs.Written.{allows_at, is_rule_key, keys_of, texts_in, text_at, day_in, refuse, is_text, name_refusal};
-ghost use Rattle.policy_core.specs.Written.{effect_refusal, texts_refusal, flag_refusal, age_refusal, day_refusal, rule_refusal, rule_of};
+ghost use Rattle.policy_core.specs.Reading.{Reads, ReadsInMemory, array_refusal, texts, names_of};
+ghost use Rattle.policy_core.specs.Stated.{stated};
+ghost use Rattle.policy_core.specs.Written.{allows_at, is_rule_key, keys_of, texts_in, text_at, refuse, is_text, name_refusal, effect_refusal, rule_refusal, rule_of};
+ghost use Rattle.policy_core.specs.Written.{row, condition_in, all_keys, value_refusal, conditions_refusal, conditions_of, is_texts, is_flag, is_number, names_in, words_in, age_in, day_in};
 
 use crate::access::MOST_DAYS;
+use crate::conditions::{Condition, has_no_day};
 use crate::faults::PolicyFault;
+use crate::keys::{KEYS, Key, is_rule_key};
 use crate::names::is_name;
 use crate::rules::Rule;
-use crate::words::{Word, effect_named, is_rule_key};
+use crate::words::{Word, effect_named};
 use civil_time::Day;
 use std::alloc::Global;
 use toml::{Table, Value};
@@ -34,30 +36,15 @@ pub(crate) fn read_rule(
     }
     let name = read_name(alloc, number, earlier, keys)?;
     let allows = read_effect(number, keys)?;
-    let lists = read_lists(alloc, number, keys)?;
-    let standings = read_words(alloc, number, keys, "standings")?;
-    let withdrawn = read_words(alloc, number, keys, "withdrawn")?;
-    let embargo = read_flag(number, keys, "embargo")?;
-    let age_min = read_age(number, keys)?;
-    let from = read_day(number, keys, "from")?;
-    let until = read_day(number, keys, "until")?;
-    let own = read_flag(number, keys, "own")?;
-    let rule = Rule {
-        name,
-        allows,
-        lists,
-        standings,
-        withdrawn,
-        embargo,
-        age_min,
-        from,
-        until,
-        own,
-    };
-    if rule.ends_before_it_begins() {
+    let conditions = read_conditions(alloc, number, keys)?;
+    if has_no_day(&conditions) {
         return Err(PolicyFault::BadValue(number));
     }
-    Ok(rule)
+    Ok(Rule {
+        name,
+        allows,
+        conditions,
+    })
 }
 
 /// Whether each key is one that a rule has.
@@ -131,20 +118,55 @@ fn read_effect(number: usize, keys: &Table) -> Result<bool, PolicyFault>
     }
 }
 
-/// The members of an array of one text or more, if there is one at the key.
-fn read_texts<'t>(
+/// The conditions of a rule, in the order of their keys.
+fn read_conditions(
+    alloc: Global,
     number: usize,
-    keys: &'t Table,
-    key: &str,
-) -> Result<Option<&'t [Value]>, PolicyFault>
-    ensures ok { IfOk result
-        (λ found. MatchOption found (get_member key.now (table_view keys.entry.now) ≡ None) (λ values. IsTextArray number (texts values.now) (get_member key.now (table_view keys.entry.now)))) }
-    ensures refused { IfErr result
-        (λ fault. (test : List ℕ → Bool) → texts_refusal number test (get_member key.now (table_view keys.entry.now)) ≡ Some fault) }
+    keys: &Table,
+) -> Result<Vec<Condition>, PolicyFault>
+    ensures { ReadsInMemory result
+        (conditions_refusal number (table_view keys.now) all_keys)
+        (λ conditions. map stated conditions.items ≡ conditions_of (table_view keys.now) all_keys) }
 {
-    let Some(value) = at(keys, key) else {
-        return Ok(None);
-    };
+    let mut conditions = Vec::new(alloc);
+    for key in &KEYS {
+        if let Some(value) = at(keys, key.word()) {
+            let condition = read_condition(alloc, number, *key, value)?;
+            conditions.push(condition)?;
+        }
+    }
+    Ok(conditions)
+}
+
+/// The condition that a value states at a key.
+fn read_condition(
+    alloc: Global,
+    number: usize,
+    key: Key,
+    value: &Value,
+) -> Result<Condition, PolicyFault>
+    ensures { ReadsInMemory result
+        (value_refusal number (row key).is_typed (row key).read (view value.now))
+        (λ condition. condition_in key (view value.now) ≡ Some (stated condition)) }
+{
+    match key {
+        Key::Lists => Ok(Condition::Lists(read_names(alloc, number, value)?)),
+        Key::Standings => Ok(Condition::Standings(read_words(alloc, number, value)?)),
+        Key::Withdrawn => Ok(Condition::Withdrawn(read_words(alloc, number, value)?)),
+        Key::Embargo => Ok(Condition::Embargo(read_flag(number, value)?)),
+        Key::AgeMin => Ok(Condition::AgeMin(read_age(number, value)?)),
+        Key::From => Ok(Condition::From(read_day(number, value)?)),
+        Key::Until => Ok(Condition::Until(read_day(number, value)?)),
+        Key::Own => Ok(Condition::Own(read_flag(number, value)?)),
+    }
+}
+
+/// The members of an array of one text or more.
+fn read_texts(number: usize, value: &Value) -> Result<&[Value], PolicyFault>
+    ensures { Reads result
+        (array_refusal number (view value.entry.now))
+        (λ values. texts values.now ≡ texts_in (view value.entry.now)) }
+{
     let Some(values) = value.as_array() else {
         return Err(PolicyFault::WrongType(number));
     };
@@ -154,7 +176,7 @@ fn read_texts<'t>(
     if values.is_empty() {
         return Err(PolicyFault::BadValue(number));
     }
-    Ok(Some(values))
+    Ok(values)
 }
 
 fn are_texts(values: &[Value]) -> bool
@@ -163,19 +185,12 @@ fn are_texts(values: &[Value]) -> bool
     values.iter().all(|value| value.is_str())
 }
 
-fn read_lists(
-    alloc: Global,
-    number: usize,
-    keys: &Table,
-) -> Result<Option<Vec<String>>, PolicyFault>
+fn read_names(alloc: Global, number: usize, value: &Value) -> Result<Vec<String>, PolicyFault>
     ensures { ReadsInMemory result
-        (texts_refusal number is_name (get_member (codes "lists") (table_view keys.now)))
-        (λ lists. option_map (λ v. map string_bytes v.items) lists ≡ option_map texts_in (get_member (codes "lists") (table_view keys.now))) }
+        (value_refusal number is_texts names_in (view value.now))
+        (λ names. names_in (view value.now) ≡ Some (map string_bytes names.items)) }
 {
-    match read_texts(number, keys, "lists")? {
-        Some(values) => Ok(Some(names_among(alloc, number, values)?)),
-        None => Ok(None),
-    }
+    names_among(alloc, number, read_texts(number, value)?)
 }
 
 /// The texts among some values, each of which is to be a name.
@@ -196,20 +211,12 @@ fn names_among(alloc: Global, number: usize, values: &[Value]) -> Result<Vec<Str
     Ok(names)
 }
 
-fn read_words<W: Word>(
-    alloc: Global,
-    number: usize,
-    keys: &Table,
-    key: &str,
-) -> Result<Option<Vec<W>>, PolicyFault>
+fn read_words<W: Word>(alloc: Global, number: usize, value: &Value) -> Result<Vec<W>, PolicyFault>
     ensures { ReadsInMemory result
-        (texts_refusal number (λ word. is_some (W.named word)) (get_member key.now (table_view keys.now)))
-        (λ words. option_map (λ v. v.items) words ≡ option_map (λ d. filter_map W.named (texts_in d)) (get_member key.now (table_view keys.now))) }
+        (value_refusal number is_texts (words_in W.named) (view value.now))
+        (λ words. words_in W.named (view value.now) ≡ Some words.items) }
 {
-    match read_texts(number, keys, key)? {
-        Some(values) => Ok(Some(words_among(alloc, number, values)?)),
-        None => Ok(None),
-    }
+    words_among(alloc, number, read_texts(number, value)?)
 }
 
 /// What the texts among some values mean, each of which is to be a word.
@@ -234,45 +241,36 @@ fn words_among<W: Word>(
     Ok(words)
 }
 
-fn read_flag(number: usize, keys: &Table, key: &str) -> Result<Option<bool>, PolicyFault>
+fn read_flag(number: usize, value: &Value) -> Result<bool, PolicyFault>
     ensures { Reads result
-        (flag_refusal number (get_member key.now (table_view keys.now)))
-        (λ on. on ≡ option_and_then as_bool (get_member key.now (table_view keys.now))) }
+        (value_refusal number is_flag as_bool (view value.now))
+        (λ on. as_bool (view value.now) ≡ Some on) }
 {
-    let Some(value) = at(keys, key) else {
-        return Ok(None);
-    };
     match value.as_bool() {
-        Some(on) => Ok(Some(on)),
+        Some(on) => Ok(on),
         None => Err(PolicyFault::WrongType(number)),
     }
 }
 
-fn read_age(number: usize, keys: &Table) -> Result<Option<u16>, PolicyFault>
+fn read_age(number: usize, value: &Value) -> Result<u16, PolicyFault>
     ensures { Reads result
-        (age_refusal number (get_member (codes "age_min") (table_view keys.now)))
-        (λ days. days ≡ option_map unsigned_abs (option_and_then as_integer (get_member (codes "age_min") (table_view keys.now)))) }
+        (value_refusal number is_number age_in (view value.now))
+        (λ days. age_in (view value.now) ≡ Some days) }
 {
-    let Some(value) = at(keys, "age_min") else {
-        return Ok(None);
-    };
     match value.as_integer() {
-        Some(days) if 0 <= days && days <= MOST_DAYS => Ok(Some(days as u16)),
+        Some(days) if 0 <= days && days <= MOST_DAYS => Ok(days as u16),
         Some(_) => Err(PolicyFault::BadValue(number)),
         None => Err(PolicyFault::WrongType(number)),
     }
 }
 
-fn read_day(number: usize, keys: &Table, key: &str) -> Result<Option<Day>, PolicyFault>
+fn read_day(number: usize, value: &Value) -> Result<Day, PolicyFault>
     ensures { Reads result
-        (day_refusal number (get_member key.now (table_view keys.now)))
-        (λ day. day ≡ day_in (get_member key.now (table_view keys.now))) }
+        (value_refusal number is_text day_in (view value.now))
+        (λ day. day_in (view value.now) ≡ Some day) }
 {
-    let Some(value) = at(keys, key) else {
-        return Ok(None);
-    };
     match Day::read(read_text(number, value)?.as_bytes()) {
-        Some(day) => Ok(Some(day)),
+        Some(day) => Ok(day),
         None => Err(PolicyFault::BadValue(number)),
     }
 }

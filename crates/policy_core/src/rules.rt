@@ -1,52 +1,35 @@
 //! Policies, and what their rules say of a reader and a message.
-ghost use Rattle.std.specs.Prelude.{◌≡◌, ◌≢◌, ◌∷◌, [], ◌&&◌, pos, int_le, bytes_eq, codes, Bool, false, Ok, Err, None, is_some, IfOk, IfErr, IsErr};
+ghost use Rattle.std.specs.Prelude.{◌≡◌, ◌≢◌, ◌∷◌, [], bytes_eq, codes, Bool, false, Ok, Err, None, IfOk, IfErr, IsErr};
 ghost use Rattle.std.specs.List.{list_any, AllByRecursion};
 ghost use Rattle.toml.specs.Parse.{parse_document};
-ghost use Rattle.policy_core.specs.Facts.{Facts as Question, is_embargoed, age, same_standing, same_withdrawal};
-ghost use Rattle.policy_core.specs.Rules.{Rule as Stated, open_rule, asks_own, fits, fits_reader, fits_message, holds, same_bool};
-ghost use Rattle.policy_core.specs.Written.{written_policy, is_after};
+ghost use Rattle.policy_core.specs.Facts.{Facts as Question};
+ghost use Rattle.policy_core.specs.Rules.{Rule as Stated, open_rule, asks_own, fits, is_about_own};
+ghost use Rattle.policy_core.specs.Written.{written_policy};
 ghost use Rattle.policy_core.specs.Verdict.{Fits, IsDecidedBy, denied, ruling, ruling_by, verdict_of};
 
-use crate::access::{Facts, Standing, Verdict, Withdrawn};
+use crate::access::{Facts, Verdict};
+use crate::conditions::Condition;
 use crate::faults::PolicyFault;
 use crate::reading::read_policy;
-use civil_time::Day;
 use std::alloc::Global;
 use std::marker::Model;
 
-/// A rule with the conditions that it states. `None` is no condition.
+/// A rule with the conditions that it states.
 #[derive(Debug, Drop)]
 pub(crate) struct Rule {
     pub(crate) name: String,
     pub(crate) allows: bool,
-    pub(crate) lists: Option<Vec<String>>,
-    pub(crate) standings: Option<Vec<Standing>>,
-    pub(crate) withdrawn: Option<Vec<Withdrawn>>,
-    pub(crate) embargo: Option<bool>,
-    pub(crate) age_min: Option<u16>,
-    pub(crate) from: Option<Day>,
-    pub(crate) until: Option<Day>,
-    pub(crate) own: Option<bool>,
+    pub(crate) conditions: Vec<Condition>,
 }
 
 impl Model for Rule {
-    ghost use Rattle.std.specs.Prelude.{map, option_map, string_bytes};
+    ghost use Rattle.std.specs.Prelude.{map, string_bytes};
     ghost use Rattle.policy_core.specs.Rules.{Rule as Stated};
+    ghost use Rattle.policy_core.specs.Stated.{stated};
 
     ghost Value = { Stated };
 
-    ghost view = { λ r. record {
-      name = string_bytes r.name;
-      allows = r.allows;
-      lists = option_map (λ v. map string_bytes v.items) r.lists;
-      standings = option_map (λ v. v.items) r.standings;
-      withdrawn = option_map (λ v. v.items) r.withdrawn;
-      embargo = r.embargo;
-      age_min = r.age_min;
-      from = r.from;
-      until = r.until;
-      own = r.own;
-    } };
+    ghost view = { λ r. record { name = string_bytes r.name; allows = r.allows; conditions = map stated r.conditions.items } };
 }
 
 /// The rules of a policy.
@@ -121,7 +104,7 @@ impl Policy {
     {
         match &self.rules {
             Rules::Open => false,
-            Rules::Written(rules) => rules.iter().any(|rule| rule.own.is_some()),
+            Rules::Written(rules) => rules.iter().any(|rule| rule.asks_own()),
         }
     }
 }
@@ -131,116 +114,24 @@ impl Rule {
     fn fits(&self, facts: &Facts) -> bool
         ensures { result ≡ fits self.now facts.now }
     {
-        self.fits_reader(facts) && self.fits_message(facts) && self.fits_day(facts.day)
+        self.conditions
+            .iter()
+            .all(|condition| condition.holds(facts))
     }
 
-    /// Whether the rule states a first and a last day, and the first is after the last.
-    pub(crate) fn ends_before_it_begins(&self) -> bool
-        ensures { result ≡ is_after self.now.from self.now.until }
+    /// Whether the rule asks if a message is the reader's own.
+    fn asks_own(&self) -> bool
+        ensures { result ≡ list_any is_about_own self.now.conditions }
     {
-        match (self.from, self.until) {
-            (Some(from), Some(until)) => until < from,
-            _ => false,
-        }
+        self.conditions
+            .iter()
+            .any(|condition| condition.is_about_own())
     }
 
     pub(crate) fn is_named(&self, name: &str) -> bool
         ensures { result ≡ bytes_eq name.now self.now.name }
     {
         name == self.name.as_str()
-    }
-
-    fn fits_reader(&self, facts: &Facts) -> bool
-        ensures { result ≡ fits_reader self.now facts.now }
-    {
-        self.fits_list(facts.list) && self.fits_standing(facts.standing)
-    }
-
-    fn fits_message(&self, facts: &Facts) -> bool
-        ensures { result ≡ fits_message self.now facts.now }
-    {
-        self.fits_withdrawal(facts.withdrawn)
-            && self.fits_embargo(facts)
-            && self.fits_age(facts)
-            && self.fits_own(facts.own)
-    }
-
-    fn fits_day(&self, day: Day) -> bool
-        ensures { result ≡ (holds self.now.from (λ first. int_le first day) && holds self.now.until (λ last. int_le day last)) }
-    {
-        self.fits_from(day) && self.fits_until(day)
-    }
-
-    fn fits_list(&self, list: &str) -> bool
-        ensures { result ≡ holds self.now.lists (list_any (λ name. bytes_eq name list.now)) }
-    {
-        match &self.lists {
-            Some(names) => names.iter().any(|name| name.as_str() == list),
-            None => true,
-        }
-    }
-
-    fn fits_standing(&self, standing: Standing) -> bool
-        ensures { result ≡ holds self.now.standings (list_any (λ s. same_standing s standing)) }
-    {
-        match &self.standings {
-            Some(standings) => standings.iter().any(|s| *s == standing),
-            None => true,
-        }
-    }
-
-    fn fits_withdrawal(&self, withdrawn: Withdrawn) -> bool
-        ensures { result ≡ holds self.now.withdrawn (list_any (λ w. same_withdrawal w withdrawn)) }
-    {
-        match &self.withdrawn {
-            Some(withdrawals) => withdrawals.iter().any(|w| *w == withdrawn),
-            None => true,
-        }
-    }
-
-    fn fits_embargo(&self, facts: &Facts) -> bool
-        ensures { result ≡ holds self.now.embargo (λ on. same_bool on (is_embargoed facts.now)) }
-    {
-        match self.embargo {
-            Some(on) => on == facts.is_embargoed(),
-            None => true,
-        }
-    }
-
-    fn fits_age(&self, facts: &Facts) -> bool
-        ensures { result ≡ holds self.now.age_min (λ least. int_le (pos least) (age facts.now)) }
-    {
-        match self.age_min {
-            Some(least) => i64::from(least) <= facts.age(),
-            None => true,
-        }
-    }
-
-    fn fits_own(&self, own: bool) -> bool
-        ensures { result ≡ holds self.now.own (λ stated. same_bool stated own) }
-    {
-        match self.own {
-            Some(stated) => stated == own,
-            None => true,
-        }
-    }
-
-    fn fits_from(&self, day: Day) -> bool
-        ensures { result ≡ holds self.now.from (λ first. int_le first day) }
-    {
-        match self.from {
-            Some(first) => first <= day,
-            None => true,
-        }
-    }
-
-    fn fits_until(&self, day: Day) -> bool
-        ensures { result ≡ holds self.now.until (λ last. int_le day last) }
-    {
-        match self.until {
-            Some(last) => day <= last,
-            None => true,
-        }
     }
 
     fn verdict(&self) -> Verdict<'_>

@@ -1,6 +1,6 @@
 //! The words of a policy.
 ghost use Rattle.std.specs.Prelude.{◌≡◌};
-ghost use Rattle.policy_core.specs.Written.{standing_named, withdrawal_named, effect_named, is_rule_key};
+ghost use Rattle.policy_core.specs.Written.{standing_named, withdrawal_named, effect_named};
 
 use crate::access::{Standing, Withdrawn};
 
@@ -51,23 +51,4 @@ pub(crate) fn effect_named(word: &str) -> Option<bool>
         "deny" => Some(false),
         _ => None,
     }
-}
-
-/// Whether a rule has this key.
-pub(crate) fn is_rule_key(key: &str) -> bool
-    ensures { result ≡ is_rule_key key.now }
-{
-    matches!(
-        key,
-        "name"
-            | "effect"
-            | "lists"
-            | "standings"
-            | "withdrawn"
-            | "embargo"
-            | "age_min"
-            | "from"
-            | "until"
-            | "own"
-    )
 }
