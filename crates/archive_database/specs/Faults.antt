@@ -11,11 +11,18 @@ use Rattle.sqlite.specs.declared.error.ErrorCode.TheVariants.{OutOfMemory}
 use Rattle.archive_tables.specs.Calls.{Lasts, AnswersOpen}
 use Rattle.archive_database.specs.declared.faults.Fault.{Fault}
 use Rattle.archive_database.specs.declared.faults.Fault.TheVariants.{Memory, Database}
+use Rattle.archive_port.specs.declared.faults.StoreFault.{StoreFault}
+use Rattle.archive_port.specs.declared.faults.StoreFault.TheVariants as faults
 
 -- want of memory in the database, or any other failure of it
 abbrev pub fault_of : Error → Fault
 fault_of (SqliteFailure OutOfMemory) = Memory
 fault_of _ = Database
+
+-- E14 where no memory was left, E15 where anything else went wrong
+abbrev pub fault_in : Fault → StoreFault
+fault_in Memory = faults.Memory
+fault_in Database = faults.Store
 
 -- Where it is not memory that was wanted, the disk failed or refused once more than before, or the rows refused the change.
 abbrev pub FailsByDiskOr : {A : Type 0} → State → State → Result A Fault → Type 0 → Type 0

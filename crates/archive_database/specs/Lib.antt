@@ -1,7 +1,6 @@
 pub mod Adopting
 pub mod Faults
 pub mod Lists
-pub mod Messages
 pub mod Ranks
 pub mod Taking
 pub mod Filed

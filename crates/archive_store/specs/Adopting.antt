@@ -11,11 +11,11 @@ use Rattle.archive_tables.specs.Making.{IsUndone, IsIdle, IsBackTo, empty_archiv
 use Rattle.archive_database.specs.Adopting.{MayBeTaken, IsUnderstood, IsNotTaken}
 use Rattle.archive_store.specs.Crashes.{CrashAdopts}
 use Rattle.archive_store.specs.Held.{held_of}
-use Rattle.archive_store.specs.Replies.{refusal}
+use Rattle.archive_port.specs.Replies.{refusal}
 use Rattle.archive_store.specs.Told.{HasNoLimit, LastsButLimit}
 use Rattle.archive_store.specs.declared.store.Store.{Store}
 use Rattle.archive_store.specs.declared.adopting.AdoptStop.{AdoptStop}
-use Rattle.archive_store.specs.declared.faults.StoreFault.TheVariants as faults
+use Rattle.archive_port.specs.declared.faults.StoreFault.TheVariants as faults
 
 module _ {S : Type 0} (g : Ghosts S) (connection : Held S) where
   -- A store that this connection became. An empty database became the empty archive, an archive's is as it was, and one of an older

@@ -1,40 +1,29 @@
 -- Messages added to one list, many in one transaction.
-use Rattle.std.specs.Prelude.{◌≡◌, ◌⊎◌, ℕ, ◌+◌, ◌<◌, ◌≤◌, true, false, IsTrue, List, [], ◌∷◌, ◌++◌, length, take, drop, Option, Some, None, Result, IfErr, MatchResult, MatchOption}
-use Rattle.std.specs.List.{sum_by}
+use Rattle.std.specs.Prelude.{◌≡◌, ◌⊎◌, ℕ, ◌≤◌, true, IsTrue, List, length, take, drop, Option, Some, None, Result, IfErr, MatchResult, MatchOption}
 use Rattle.sqlite.specs.Effect.{Database}
 use Rattle.sqlite.specs.Store.{Ghosts}
 use Rattle.sqlite.specs.Held.{Held, state}
 use Rattle.sqlite.specs.State.{State, HasCleanDisk}
 use Rattle.mbox_items.specs.Division.{Item}
 use Rattle.archive_machine.specs.Records.{Archive}
-use Rattle.archive_machine.specs.Commands.{Refusal, no_list, list_full, too_large, Reply, taken_in, already_known, refused}
+use Rattle.archive_machine.specs.Commands.{list_full, too_large, Reply, taken_in, already_known, refused}
 use Rattle.archive_machine.specs.Questions.{has_list, messages_in}
 use Rattle.archive_machine.specs.Machine.{added_within, message_limit}
-use Rattle.archive_machine.specs.Runs.{taken, Tally, tally}
+use Rattle.archive_machine.specs.Runs.{taken, tally}
 use Rattle.archive_tables.specs.Tables.{IsHeld, IsKept, archive_of}
 use Rattle.archive_tables.specs.Calls.{RestsOver, IsHeldOrBack}
 use Rattle.archive_store.specs.Held.{held_of}
-use Rattle.archive_store.specs.Replies.{refusal}
+use Rattle.archive_port.specs.Replies.{refusal}
 use Rattle.archive_store.specs.Refusals.{IsCarried, IsMessageRefused, WritesFor, StopsAmong}
 use Rattle.archive_store.specs.Told.{HasFailed, HasReturned, HasNoLimit}
 use Rattle.archive_store.specs.declared.store.Store.{Store}
-use Rattle.archive_store.specs.declared.batches.AddReport.{AddReport}
+use Rattle.archive_port.specs.declared.reports.AddReport.{AddReport}
 use Rattle.archive_store.specs.declared.batches.Taken.{Taken}
 use Rattle.archive_store.specs.declared.batches.Taken.TheVariants.{New, Known, TooLarge, Full}
-use Rattle.archive_store.specs.declared.batches.AddStop.{AddStop}
-use Rattle.archive_store.specs.declared.faults.StoreFault.{StoreFault}
-use Rattle.archive_store.specs.declared.faults.StoreFault.TheVariants as faults
-
-abbrev pub tally_of : AddReport → Tally
-tally_of r = record { new = r.new; known = r.known; too_large = r.too_large }
-
--- how many messages a report tells of
-abbrev pub told_in : AddReport → ℕ
-told_in r = r.new + r.known + r.too_large
-
--- the bytes of their texts, as they stand in a file
-abbrev pub text_bytes : List Item → ℕ
-text_bytes = sum_by (λ (item : Item). length item.text)
+use Rattle.archive_port.specs.declared.reports.AddStop.{AddStop}
+use Rattle.archive_port.specs.declared.faults.StoreFault.{StoreFault}
+use Rattle.archive_port.specs.declared.faults.StoreFault.TheVariants as faults
+use Rattle.archive_port.specs.Adding.{tally_of, told_in, IsFullAt, IsRefusedAt}
 
 abbrev pub taken_reply : Taken → Reply
 taken_reply New = taken_in
@@ -59,25 +48,9 @@ pub record HasTaken (behind : Option Database) (s : State) (a : Archive) (list :
   pub counted : IsCounted (archive_of s) list count
   pub told : tally_of report ≡ tally (taken a list items).replies
 
--- the first `done` items were added, and no other
-abbrev pub HasAddedFirst : List ℕ → List Item → ℕ → Archive → Archive → Type 0
-HasAddedFirst list items done a b = (done ≤ length items) × (b ≡ (taken a list (take done items)).archive)
-
 -- the archive is what these items make of that one, if the connection is open
 abbrev pub IsAfter : State → Archive → List ℕ → List Item → Type 0
 IsAfter s a list items = IsTrue s.is_open → IsKept s × (archive_of s ≡ (taken a list items).archive)
-
--- after the items before this place the list holds 50,000 messages, and the machine refuses the next for that
-pub record IsFullAt (a : Archive) (list : List ℕ) (items : List Item) (at : ℕ) : Type 0 where
-  pub within : at < length items
-  pub full : 50000 ≤ length (messages_in (taken a list (take at items)).archive list)
-  pub refuses : (taken a list (take (at + 1) items)).replies ≡ (taken a list (take at items)).replies ++ refused list_full ∷ []
-
--- why items are refused from this place on
-abbrev pub IsRefusedAt : Archive → List ℕ → List Item → ℕ → Refusal → Type 0
-IsRefusedAt a list items at no_list = (at ≡ 0) × (has_list a list ≡ false)
-IsRefusedAt a list items at list_full = IsFullAt a list items at
-IsRefusedAt a list items at _ = ⊥
 
 -- Items from one place to another of a list of them, and the report tells of all before.
 pub record BeginsAt (items : List Item) (from to : ℕ) (telling : AddReport) : Type 0 where

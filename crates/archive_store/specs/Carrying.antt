@@ -5,41 +5,26 @@ use Rattle.sqlite.specs.Effect.{Database}
 use Rattle.sqlite.specs.Store.{Ghosts}
 use Rattle.sqlite.specs.Held.{state}
 use Rattle.archive_machine.specs.Records.{Archive}
-use Rattle.archive_machine.specs.Commands.{Command as Told, list_add, merge_set, person_add, address_set, grant, revoke, add, withdraw}
-use Rattle.archive_machine.specs.Commands.{restore, embargo, lift, Refusal, Reply, refused, taken_in, already_known}
-use Rattle.archive_machine.specs.Machine.{Test, nothing, found_within, tests_of, changed_by, reply_to, message_limit, step_within}
+use Rattle.archive_machine.specs.Commands.{Command as Told, Reply, done, refused, already_known}
+use Rattle.archive_machine.specs.Machine.{Test, nothing, found_within, tests_of, changed_by, message_limit, step_within}
 use Rattle.archive_machine.specs.declared.found.Found.{Found}
 use Rattle.archive_tables.specs.Calls.{Changes, Rests, StaysOver}
 use Rattle.archive_tables.specs.Crashes.{IsStored, AddsNothing, AddsOnly}
 use Rattle.archive_tables.specs.declared.rows.MarksRow.{MarksRow}
-use Rattle.policy_core.specs.Numbers.{kind_rank, party_number}
 use Rattle.archive_store.specs.Held.{held_of}
-use Rattle.archive_store.specs.Wanting.{IsWant}
-use Rattle.archive_store.specs.Replies.{refusal, reply_of, Does}
+use Rattle.archive_port.specs.Wanting.{IsWant}
+use Rattle.archive_port.specs.Replies.{refusal, reply_of}
+use Rattle.archive_store.specs.Replies.{Does}
 use Rattle.archive_store.specs.Crashes.{CrashSteps}
 use Rattle.archive_store.specs.Refusals.{IsWriteRefused, IsRefusedWithin}
 use Rattle.archive_store.specs.Told.{HasReturned, HoldsTables, HasNoLimit, HasFailed, IsOpen, Lasts, Counts, Caused, EndsOr, archive_in}
 use Rattle.archive_store.specs.declared.store.Store.{Store}
-use Rattle.archive_store.specs.declared.faults.StoreFault.{StoreFault}
-use Rattle.archive_store.specs.declared.faults.StoreFault.TheVariants as faults
+use Rattle.archive_port.specs.declared.faults.StoreFault.{StoreFault}
+use Rattle.archive_port.specs.declared.faults.StoreFault.TheVariants as faults
 use Rattle.archive_store.specs.declared.deciding.Settled.{Settled}
 use Rattle.archive_store.specs.declared.deciding.Settled.TheVariants.{Refused, Known}
-use Rattle.archive_store.specs.declared.commands.Command.{Command}
-use Rattle.archive_store.specs.declared.commands.Command.TheVariants.{ListAdd, MergeSet, PersonAdd, AddressSet, Grant, Revoke, Add, Withdraw, Restore, Embargo, Lift}
-
--- a command of the code, as one of the machine
-abbrev pub command_of : Command → Told
-command_of (ListAdd name) = list_add name.now
-command_of (MergeSet list merge) = merge_set list.now merge
-command_of (PersonAdd name token) = person_add name.now token.now
-command_of (AddressSet alloc person address) = address_set person.now address.now
-command_of (Grant person list kind from until) = grant person.now list.now (kind_rank kind) from until
-command_of (Revoke person list kind) = revoke person.now list.now (kind_rank kind)
-command_of (Add alloc list item) = add list.now item.now
-command_of (Withdraw list key by) = withdraw list.now key.now (party_number by)
-command_of (Restore list key) = restore list.now key.now
-command_of (Embargo list key until) = embargo list.now key.now until
-command_of (Lift list key) = lift list.now key.now
+use Rattle.archive_port.specs.declared.commands.Command.{Command}
+use Rattle.archive_port.specs.Commands.{command_of, reasons_of, answer_by}
 
 -- ---- what answers it at once
 
@@ -52,25 +37,11 @@ abbrev pub reply_settled : Settled → Option Reply
 reply_settled (Refused fault) = option_map refused (refusal fault)
 reply_settled Known = Some already_known
 
--- the refusals among tests, in their order
-abbrev pub with_reason : Reply → List Refusal → List Refusal
-with_reason (refused why) rest = why ∷ rest
-with_reason _ rest = rest
-
-abbrev pub reasons_among : List Test → List Refusal
-reasons_among [] = []
-reasons_among (test ∷ tests) = with_reason test.1 (reasons_among tests)
-
--- the refusals of a command, whatever is found
-abbrev pub reasons_of : Told → List Refusal
-reasons_of command = reasons_among (tests_of command nothing)
-
 -- ---- what it answers
 
--- what a command answers of which this was found, unless it is refused
-abbrev pub answer_by : Told → Found → Reply
-answer_by (add list item) found = if found.message then already_known else taken_in
-answer_by command found = reply_to command found
+-- it has nothing to say but that it is done
+abbrev pub SaysDone : Told → Type 0
+SaysDone command = (found : Found) → done ≡ answer_by command found
 
 -- An archive in which this was found of a command, under some limit of messages that a list holds, and in which no test answers it.
 abbrev pub IsToWrite : Told → Found → Archive → Type 0

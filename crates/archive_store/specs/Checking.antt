@@ -1,33 +1,19 @@
 -- Whether a store is whole: what `check` answers, and what it does message by message.
-use Rattle.std.specs.Prelude.{◌≡◌, ℕ, ℤ, List, Option, None, Some, Result, Vec, IfErr, MatchResult}
+use Rattle.std.specs.Prelude.{◌≡◌, ℤ, Option, Some, Result, Vec, IfErr, MatchResult}
 use Rattle.std.specs.declared.alloc.Global.{Global}
 use Rattle.sqlite.specs.Store.{Ghosts}
 use Rattle.archive_machine.specs.Filing.{Filed}
-use Rattle.archive_machine.specs.Damage.{IsWhole, IsFirstDamaged}
-use Rattle.archive_machine.specs.Records.{Archive}
-use Rattle.archive_machine.specs.Sound.{IsFiledRight, IsSound}
+use Rattle.archive_machine.specs.Damage.{IsFirstDamaged}
 use Rattle.archive_tables.specs.Listed.{all_places, filed_at}
 use Rattle.archive_database.specs.Checking.{SaysOf}
 use Rattle.archive_database.specs.declared.checking.Damage.{Damage}
 use Rattle.archive_store.specs.Told.{HoldsTables, IsOpen, HasReturned, HasNoLimit, HasFailed, CallsIn}
 use Rattle.archive_store.specs.Walking.{now_in, rows_of}
 use Rattle.archive_store.specs.declared.store.Store.{Store}
-use Rattle.archive_store.specs.declared.faults.StoreFault.{StoreFault}
-use Rattle.archive_store.specs.declared.faults.StoreFault.TheVariants as faults
-use Rattle.archive_store.specs.declared.checking.CheckStop.{CheckStop}
-use Rattle.archive_store.specs.declared.checking.CheckStop.TheVariants.{Damaged, Failed}
-
--- the list and the key of a message that is not sound; none where memory or the database was at fault
-abbrev pub damage : CheckStop → Option (List ℕ × List ℕ)
-damage (Damaged list key) = Some (list.items, key.items)
-damage (Failed fault) = None
-
--- What Ok says of an archive: every message is undamaged. So each can be written to an mbox as it is, under the key of its text, and
--- what is filed of each is what its text says: a store that holds these tables is ready.
-pub record IsFoundWhole (archive : Archive) : Type 0 where
-  pub whole : IsWhole archive
-  pub sound : IsSound archive
-  pub filed_right : IsFiledRight archive
+use Rattle.archive_port.specs.declared.faults.StoreFault.{StoreFault}
+use Rattle.archive_port.specs.declared.faults.StoreFault.TheVariants as faults
+use Rattle.archive_port.specs.declared.checking.CheckStop.{CheckStop}
+use Rattle.archive_port.specs.Checking.{damage, IsFoundWhole}
 
 module _ {S : Type 0} (g : Ghosts S) (old new : Store S) where
   -- It changes nothing. Ok where all messages are sound; else the list and the key of the first that is not, lists by name and then

@@ -17,11 +17,13 @@ use Rattle.archive_tables.specs.Schema.{no_schema}
 use Rattle.archive_tables.specs.Tables.{IsHeld, IsHeldAs, IsKept, IsKnown, form_of, archive_by, archive_of}
 use Rattle.archive_tables.specs.Making.{empty_archive}
 use Rattle.archive_tables.specs.Crashes.{IsStored, IsSafe, CrashLeaves, AddsNothing, AddsOnly}
-use Rattle.archive_store.specs.Batches.{HasAddedFirst, IsCounted, HasTaken, IsFullAt}
-use Rattle.archive_store.specs.declared.batches.AddReport.{AddReport}
-use Rattle.archive_store.specs.declared.batches.AddStop.{AddStop}
+use Rattle.archive_store.specs.Batches.{IsCounted, HasTaken}
+use Rattle.archive_port.specs.Adding.{IsFullAt}
+use Rattle.archive_port.specs.declared.reports.AddReport.{AddReport}
+use Rattle.archive_port.specs.declared.reports.AddStop.{AddStop}
 use Rattle.archive_store.specs.declared.running.Outcome.{Outcome as Answered}
 use Rattle.archive_store.specs.declared.running.RunStop.{RunStop}
+use Rattle.archive_port.specs.Adding.{HasAddedAtLeast}
 
 -- A batch of messages from one place to another is taken in up to here: to its end, or to where the list is full.
 pub record IsWholeBatch (a : Archive) (list : List ℕ) (items : List Item) (from to at : ℕ) : Type 0 where
@@ -32,10 +34,6 @@ pub record IsWholeBatch (a : Archive) (list : List ℕ) (items : List Item) (fro
 -- so many first commands were carried out: at least and at most this many
 abbrev pub HasRun : List Command → (least most : ℕ) → Archive → Archive → Type 0
 HasRun commands least most a b = (n : ℕ) × (least ≤ n) × (n ≤ most) × (b ≡ (run a (take n commands)).archive)
-
--- so many first messages were added, at least `done`
-abbrev pub HasAddedAtLeast : List ℕ → List Item → ℕ → Archive → Archive → Type 0
-HasAddedAtLeast list items done a b = (at : ℕ) × (done ≤ at) × HasAddedFirst list items at a b
 
 module _ {S : Type 0} (g : Ghosts S) (old new : Held S) where
   -- ---- any call

@@ -1,8 +1,6 @@
 pub mod Held
-pub mod Wanting
 pub mod Replies
 pub mod Refusals
-pub mod Words
 pub mod Running
 pub mod Batches
 pub mod Told
@@ -10,6 +8,5 @@ pub mod Adopting
 pub mod Walking
 pub mod Checking
 pub mod Uncounted
-pub mod Names
 pub mod Crashes
 pub mod Carrying

@@ -7,13 +7,13 @@ use Rattle.sqlite.specs.State.{State, HasCleanDisk}
 use Rattle.archive_machine.specs.Commands.{Command as Told, Reply, done, was_there, refused}
 use Rattle.archive_machine.specs.Runs.{Run, run}
 use Rattle.archive_tables.specs.Tables.{IsKept, archive_of}
-use Rattle.archive_store.specs.Words.{added_reply}
-use Rattle.archive_store.specs.Replies.{refusal}
+use Rattle.archive_port.specs.Words.{added_reply}
+use Rattle.archive_port.specs.Replies.{refusal}
 use Rattle.archive_store.specs.Refusals.{IsCommandRefused}
 use Rattle.archive_store.specs.Told.{CausedBy, EndsPart, HasFailed}
 use Rattle.archive_store.specs.Held.{held_of}
 use Rattle.archive_store.specs.declared.store.Store.{Store}
-use Rattle.archive_store.specs.declared.faults.StoreFault.{StoreFault}
+use Rattle.archive_port.specs.declared.faults.StoreFault.{StoreFault}
 use Rattle.archive_store.specs.declared.running.Outcome.{Outcome}
 use Rattle.archive_store.specs.declared.running.Outcome.TheVariants.{Done, WasThere, Added, Refused}
 use Rattle.archive_store.specs.declared.running.RunStop.{RunStop}

@@ -11,11 +11,11 @@ use Rattle.archive_machine.specs.Sound.{IsFiledRight}
 use Rattle.archive_tables.specs.Tables.{IsKept, archive_of}
 use Rattle.archive_tables.specs.Calls.{Lasts as LastsOpen, Rests}
 use Rattle.archive_store.specs.Held.{held_of, wants_of}
-use Rattle.archive_store.specs.Replies.{refusal, RefusedFor}
-use Rattle.archive_store.specs.Wanting.{IsWant, Raises}
+use Rattle.archive_port.specs.Replies.{refusal, RefusedFor}
+use Rattle.archive_port.specs.Wanting.{IsWant, Raises}
 use Rattle.archive_store.specs.declared.store.Store.{Store}
-use Rattle.archive_store.specs.declared.faults.StoreFault.{StoreFault}
-use Rattle.archive_store.specs.declared.faults.StoreFault.TheVariants as faults
+use Rattle.archive_port.specs.declared.faults.StoreFault.{StoreFault}
+use Rattle.archive_port.specs.declared.faults.StoreFault.TheVariants as faults
 
 -- in a call memory was refused once more
 abbrev pub WasRefused : {S : Type 0} → Store S → Store S → Type 0

@@ -10,19 +10,20 @@ use Rattle.sqlite.specs.Store.{Ghosts}
 use Rattle.sqlite.specs.Held.{Held, state}
 use Rattle.archive_machine.specs.Records.{Message as Remembered, Archive}
 use Rattle.archive_machine.specs.Questions.{list_refusal, messages_in}
+use Rattle.archive_machine.specs.Filing.{in_month, by_author}
 use Rattle.archive_machine.specs.Messages.{remembered}
 use Rattle.archive_machine.specs.declared.messages.Message.{Message}
 use Rattle.archive_tables.specs.Rows.{message_at, places_in, month_places, author_places}
 use Rattle.archive_tables.specs.Tables.{IsKept, archive_of}
-use Rattle.archive_database.specs.Messages.{IsReadable, AreMarksOf}
+use Rattle.archive_port.specs.Messages.{IsReadable, AreMarksOf}
 use Rattle.archive_store.specs.Held.{held_of, wants_of}
-use Rattle.archive_database.specs.declared.reading.DatedMarks.{DatedMarks}
-use Rattle.archive_store.specs.Replies.{refusal}
-use Rattle.archive_store.specs.Wanting.{IsWant}
+use Rattle.archive_port.specs.declared.marks.DatedMarks.{DatedMarks}
+use Rattle.archive_port.specs.Replies.{refusal}
+use Rattle.archive_port.specs.Wanting.{IsWant}
 use Rattle.archive_store.specs.Told.{HoldsTables, IsOpen, HasReturned, HasNoLimit, HasFailed, Lasts, Caused, Counts, archive_in, GoesIn, GoesInIfOpen}
 use Rattle.archive_store.specs.declared.store.Store.{Store}
-use Rattle.archive_store.specs.declared.faults.StoreFault.{StoreFault}
-use Rattle.archive_store.specs.declared.faults.StoreFault.TheVariants as faults
+use Rattle.archive_port.specs.declared.faults.StoreFault.{StoreFault}
+use Rattle.archive_port.specs.declared.faults.StoreFault.TheVariants as faults
 use Rattle.archive_store.specs.declared.walking.EachRow.{EachRow}
 use Rattle.archive_store.specs.declared.walking.Selection.{Selection}
 use Rattle.archive_store.specs.declared.walking.Selection.TheVariants.{Every, InMonth, ByAuthor}
@@ -34,6 +35,12 @@ pub record Walk (S : Type 0) : Type 0 where
 
 abbrev pub over : {S : Type 0} → Store S → EachRow → Walk S
 over store walk = record { store = store; walk = walk }
+
+-- these of a list's messages: all in mailbox order, or those that are filed under a month or an author key
+abbrev pub selected : Archive → List ℕ → Selection → List Remembered
+selected a list Every = messages_in a list
+selected a list (InMonth month) = in_month a list (pos month)
+selected a list (ByAuthor key) = by_author a list key.now
 
 -- the numbers of these of a list's messages
 abbrev pub selected_places : Trees → List ℕ → Selection → List ℤ

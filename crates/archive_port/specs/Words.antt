@@ -3,8 +3,8 @@ use Rattle.std.specs.Prelude.{ℤ, pos, Bool, true, false}
 use Rattle.policy_core.specs.declared.access.Standing.{Standing}
 use Rattle.policy_core.specs.declared.access.Standing.TheVariants.{Public, Member, Subscriber, Moderator}
 use Rattle.archive_machine.specs.Commands.{Reply, taken_in, already_known}
-use Rattle.archive_store.specs.declared.words.Added.{Added}
-use Rattle.archive_store.specs.declared.words.Added.TheVariants.{New, Known}
+use Rattle.archive_port.specs.declared.words.Added.{Added}
+use Rattle.archive_port.specs.declared.words.Added.TheVariants.{New, Known}
 
 -- the rank of a standing: that of its grant, and 0 for the public
 abbrev pub standing_rank : Standing → ℤ

@@ -1,9 +1,9 @@
 -- How faults are named.
 use Rattle.std.specs.Prelude.{ℕ, List, codes}
-use Rattle.archive_store.specs.declared.faults.StoreFault.{StoreFault}
-use Rattle.archive_store.specs.declared.faults.StoreFault.TheVariants as store
+use Rattle.archive_port.specs.declared.faults.StoreFault.{StoreFault}
+use Rattle.archive_port.specs.declared.faults.StoreFault.TheVariants as store
 
--- the number and the name of a refusal of the store, as it is told
+-- the number and the name of a refusal, as it is told
 abbrev pub store_text : StoreFault → List ℕ
 store_text store.BadName = codes "E1 BadName"
 store_text store.BadText = codes "E2 BadText"
