@@ -1,7 +1,9 @@
 //! Why a database was not made, read or written.
-ghost use Rattle.archive_database.specs.Faults.{fault_of};
+ghost use Rattle.archive_database.specs.Faults.{fault_of, fault_in};
+ghost use Rattle.archive_port.specs.Replies.{refusal};
 ghost use Rattle.archive_database.specs.declared.faults.Fault.TheVariants.{Memory};
 
+use archive_port::StoreFault;
 use std::alloc::{AllocError, AllocFailed};
 
 /// Why a database was not made, read or written.
@@ -53,5 +55,18 @@ impl<T: Drop> From<AllocFailed<T>> for Fault {
 
     fn from(_error: AllocFailed<T>) -> Fault {
         Fault::Memory
+    }
+}
+
+impl From<Fault> for StoreFault {
+    ghost use Rattle.std.specs.Prelude.{◌≡◌, None};
+
+    ghost from_gives = { λ error fault. (fault ≡ fault_in error) × (refusal fault ≡ None) };
+
+    fn from(fault: Fault) -> StoreFault {
+        match fault {
+            Fault::Memory => StoreFault::Memory,
+            Fault::Database => StoreFault::Store,
+        }
     }
 }

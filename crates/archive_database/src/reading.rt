@@ -5,27 +5,17 @@ ghost use Rattle.civil_time.specs.Calendar.{is_day};
 ghost use Rattle.archive_machine.specs.Messages.{remembered, number_of};
 ghost use Rattle.archive_machine.specs.Records.{Message as Remembered};
 ghost use Rattle.archive_tables.specs.Rows.{name_shown, place_shown, message_in, dated_marks_of};
-ghost use Rattle.archive_database.specs.Messages.{AreMarksOf, IsReadable};
+ghost use Rattle.archive_port.specs.Messages.{AreMarksOf, IsReadable};
 
 use crate::faults::Fault;
 use archive_machine::{Key, Message};
+use archive_port::DatedMarks;
 use archive_tables::rows::{DatedMarksRow, MessageRow, read_name, read_place};
 use civil_time::{Day, Instant};
 use mbox_items::OwnedItem;
 use policy_core::Withdrawn;
 use sqlite::Row;
 use std::alloc::Global;
-
-/// What is known of a message without its text: when it came, who withdrew it, and the day up to which it is held back.
-#[derive(Clone, Copy)]
-pub struct DatedMarks {
-    /// When it came.
-    pub arrival: Instant,
-    /// Who withdrew it.
-    pub withdrawn: Withdrawn,
-    /// The day up to which it is held back.
-    pub embargo_until: Option<Day>,
-}
 
 /// The names that rows show.
 pub fn read_names(alloc: Global, rows: &[Row]) -> Result<Vec<String>, Fault>

@@ -13,10 +13,10 @@ use Rattle.archive_tables.specs.Tables.{IsKnown}
 use Rattle.archive_tables.specs.Making.{IsIdle}
 use Rattle.archive_database.specs.Adopting.{HasVersion, IsUnderstood, IsOlder, IsNotTaken}
 use Rattle.archive_store.specs.Adopting.{IsLeft}
-use Rattle.archive_store.specs.Replies.{refusal}
-use Rattle.archive_store.specs.declared.faults.StoreFault.{StoreFault}
+use Rattle.archive_port.specs.Replies.{refusal}
+use Rattle.archive_port.specs.declared.faults.StoreFault.{StoreFault}
 use Rattle.archive_store.specs.declared.adopting.AdoptStop.{AdoptStop}
-use Rattle.archive_store.specs.declared.faults.StoreFault.TheVariants as faults
+use Rattle.archive_port.specs.declared.faults.StoreFault.TheVariants as faults
 use Rattle.archive_database.specs.Faults.{FailsByDiskOr}
 use Rattle.archive_database.specs.declared.faults.Fault.{Fault}
 use Rattle.archive_database.specs.declared.faults.Fault.TheVariants as inner

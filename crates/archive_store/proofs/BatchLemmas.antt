@@ -20,11 +20,13 @@ use Rattle.archive_machine.specs.Runs.{taken, run, Tally, tally, is_new, is_know
 use Rattle.archive_tables.specs.Tables.{IsHeld, IsKept, archive_of}
 use Rattle.archive_tables.specs.Calls.{ChangesOver, Rests, RestsOver, StaysOver, IsHeldOrBack}
 use Rattle.archive_tables.proofs.EndLemmas.{archive_stays}
-use Rattle.archive_store.specs.Batches.{IsCounted, AddsTo, HasTaken, IsAfter, IsFullAt, IsRefusedAt, text_bytes, tally_of}
-use Rattle.archive_store.specs.Replies.{refusal, Steps, says_added}
-use Rattle.archive_store.specs.declared.batches.AddReport.{AddReport}
-use Rattle.archive_store.specs.declared.faults.StoreFault.{StoreFault}
-use Rattle.archive_store.specs.declared.words.Added.{Added}
+use Rattle.archive_store.specs.Batches.{IsCounted, AddsTo, HasTaken, IsAfter}
+use Rattle.archive_port.specs.Adding.{IsFullAt, IsRefusedAt, text_bytes, tally_of}
+use Rattle.archive_port.specs.Replies.{refusal, says_added}
+use Rattle.archive_store.specs.Replies.{Steps}
+use Rattle.archive_port.specs.declared.reports.AddReport.{AddReport}
+use Rattle.archive_port.specs.declared.faults.StoreFault.{StoreFault}
+use Rattle.archive_port.specs.declared.words.Added.{Added}
 use Rattle.archive_store.proofs.StepEquations.{add_known, add_full, add_new}
 use Rattle.archive_store.proofs.RunLemmas.{run_archive, run_replies, run_nothing}
 

@@ -29,22 +29,24 @@ use Rattle.archive_tables.specs.Crashes.{IsStored}
 use Rattle.archive_tables.proofs.EndLemmas.{archive_stays, stays_then, rests_behind}
 use Rattle.archive_tables.proofs.LastLemmas.{lasts_then}
 use Rattle.archive_store.specs.Held.{held_of, wants_of}
-use Rattle.archive_store.specs.Words.{added_if, added_reply}
-use Rattle.archive_store.specs.Wanting.{IsWant, Raises}
-use Rattle.archive_store.specs.Replies.{refusal, Does, Steps, IsOneOf, reply_of}
+use Rattle.archive_port.specs.Words.{added_if, added_reply}
+use Rattle.archive_port.specs.Wanting.{IsWant, Raises}
+use Rattle.archive_port.specs.Replies.{refusal, IsOneOf, reply_of}
+use Rattle.archive_store.specs.Replies.{Does, Steps}
 use Rattle.archive_store.specs.Refusals.{IsCarried, IsWriteRefused}
 use Rattle.archive_store.specs.Told.{Lasts, HasReturned, HoldsTables, archive_in}
 use Rattle.archive_store.specs.Crashes.{CrashSteps}
-use Rattle.archive_store.specs.Carrying.{Looks, Puts, PutsDown, Commands, CarriesWithin, IsToWrite, found_marks, first_so, reply_settled, with_reason, reasons_among, reasons_of, answer_by, said}
+use Rattle.archive_store.specs.Carrying.{Looks, Puts, PutsDown, Commands, CarriesWithin, IsToWrite, found_marks, first_so, reply_settled, said}
+use Rattle.archive_port.specs.Commands.{with_reason, reasons_among, reasons_of, answer_by}
 use Rattle.archive_store.specs.declared.store.Store.{Store}
-use Rattle.archive_store.specs.declared.faults.StoreFault.{StoreFault}
+use Rattle.archive_port.specs.declared.faults.StoreFault.{StoreFault}
 use Rattle.archive_store.specs.declared.deciding.Settled.{Settled}
 use Rattle.archive_store.specs.declared.deciding.Settled.TheVariants as settled_as
-use Rattle.archive_store.specs.declared.commands.Command.{Command as Given}
+use Rattle.archive_port.specs.declared.commands.Command.{Command as Given}
 use Rattle.archive_store.proofs.CauseLemmas.{more_since, is_database}
 use Rattle.archive_store.proofs.PassLemmas.{Passes}
 use Rattle.archive_store.proofs.FindLemmas.{PassesFault, blames, blames_disk, blames_passed}
-use Rattle.archive_store.proofs.WantLemmas.{raises_after}
+use Rattle.archive_port.proofs.WantLemmas.{raises_after}
 use Rattle.archive_store.proofs.EndLemmas.{refuses}
 use Rattle.archive_tables.specs.Crashes.{AddsNothing}
 use Rattle.archive_tables.proofs.LastLemmas.{lasts_same}

@@ -11,12 +11,13 @@ use Rattle.archive_machine.specs.Records.{Message, Address}
 use Rattle.archive_machine.proofs.KeyLemmas.{IsUtf8-key}
 use Rattle.archive_tables.specs.Calls.{Lasts, IsCaused}
 use Rattle.archive_tables.specs.Rows.{no_memory}
-use Rattle.archive_database.specs.Messages.{IsReadable}
+use Rattle.archive_port.specs.Messages.{IsReadable}
 use Rattle.archive_database.specs.declared.faults.Fault.{Fault}
 use Rattle.archive_database.specs.declared.faults.Fault.TheVariants as inner
-use Rattle.archive_store.specs.Replies.{fault_of, fault_in}
-use Rattle.archive_store.specs.declared.faults.StoreFault.{StoreFault}
-use Rattle.archive_store.specs.declared.faults.StoreFault.TheVariants as faults
+use Rattle.archive_store.specs.Replies.{fault_of}
+use Rattle.archive_database.specs.Faults.{fault_in}
+use Rattle.archive_port.specs.declared.faults.StoreFault.{StoreFault}
+use Rattle.archive_port.specs.declared.faults.StoreFault.TheVariants as faults
 
 -- ---- the exit of a `?`
 

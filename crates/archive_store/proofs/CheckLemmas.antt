@@ -18,11 +18,12 @@ use Rattle.archive_tables.specs.Listed.{all_places, filed_at}
 use Rattle.archive_tables.proofs.ListedLemmas.{walked_all}
 use Rattle.archive_store.specs.Told.{HoldsTables, IsOpen, HasReturned, Lasts, archive_in as now_holds}
 use Rattle.archive_store.specs.Walking.{rows_of}
-use Rattle.archive_store.specs.Checking.{Checks, IsFoundWhole, RowsStay}
-use Rattle.archive_store.specs.declared.checking.CheckStop.{CheckStop}
-use Rattle.archive_store.specs.declared.checking.CheckStop.TheVariants.{Failed}
-use Rattle.archive_store.specs.declared.faults.StoreFault.{StoreFault}
-use Rattle.archive_store.specs.declared.faults.StoreFault.TheVariants as faults
+use Rattle.archive_store.specs.Checking.{Checks, RowsStay}
+use Rattle.archive_port.specs.Checking.{IsFoundWhole}
+use Rattle.archive_port.specs.declared.checking.CheckStop.{CheckStop}
+use Rattle.archive_port.specs.declared.checking.CheckStop.TheVariants.{Failed}
+use Rattle.archive_port.specs.declared.faults.StoreFault.{StoreFault}
+use Rattle.archive_port.specs.declared.faults.StoreFault.TheVariants as faults
 use Rattle.archive_store.specs.declared.store.Store.{Store}
 
 -- the next number is that of the next message

@@ -6,7 +6,8 @@ use Rattle.archive_machine.specs.Commands.{Command, add, list_add}
 use Rattle.archive_machine.specs.Machine.{step}
 use Rattle.archive_machine.specs.Runs.{run}
 use Rattle.archive_tables.specs.Making.{empty_archive}
-use Rattle.archive_store.specs.Crashes.{HasAddedAtLeast, HasRun}
+use Rattle.archive_port.specs.Adding.{HasAddedAtLeast}
+use Rattle.archive_store.specs.Crashes.{HasRun}
 
 -- ---- commands
 

@@ -22,9 +22,10 @@ use Rattle.archive_tables.specs.Calls.{Asks}
 use Rattle.archive_tables.specs.Crashes.{IsStored, IsSafe, AddsNothing, AddsOnly, CrashLeaves}
 use Rattle.archive_store.specs.Replies.{Does, Steps}
 use Rattle.archive_store.specs.Batches.{AddsAll}
-use Rattle.archive_store.specs.Crashes.{CrashAll, CrashRuns, CrashSteps, CrashAdopts, HasAddedAtLeast, HasRun, LeavesOne, StopsIn}
-use Rattle.archive_store.specs.declared.batches.AddReport.{AddReport}
-use Rattle.archive_store.specs.declared.batches.AddStop.{AddStop}
+use Rattle.archive_store.specs.Crashes.{CrashAll, CrashRuns, CrashSteps, CrashAdopts, HasRun, LeavesOne, StopsIn}
+use Rattle.archive_port.specs.Adding.{HasAddedAtLeast}
+use Rattle.archive_port.specs.declared.reports.AddReport.{AddReport}
+use Rattle.archive_port.specs.declared.reports.AddStop.{AddStop}
 use Rattle.archive_store.specs.declared.running.Outcome.{Outcome as Answered}
 use Rattle.archive_store.specs.declared.running.RunStop.{RunStop}
 use Rattle.std.specs.Prelude.{Vec}

@@ -17,12 +17,14 @@ use Rattle.archive_tables.proofs.LastLemmas.{lasts_then, lasts_same}
 use Rattle.archive_database.specs.Faults.{FailsByDiskOr}
 use Rattle.archive_database.specs.declared.faults.Fault.{Fault}
 use Rattle.archive_store.specs.Held.{held_of, wants_of}
-use Rattle.archive_store.specs.Replies.{fault_of, fault_in, refusal, IsOneOf}
-use Rattle.archive_store.specs.Wanting.{IsWant}
+use Rattle.archive_store.specs.Replies.{fault_of}
+use Rattle.archive_database.specs.Faults.{fault_in}
+use Rattle.archive_port.specs.Replies.{refusal, IsOneOf}
+use Rattle.archive_port.specs.Wanting.{IsWant}
 use Rattle.archive_store.specs.Told.{EndsBy, HasFailed}
 use Rattle.archive_store.specs.declared.store.Store.{Store}
-use Rattle.archive_store.specs.declared.faults.StoreFault.{StoreFault}
-use Rattle.archive_store.specs.declared.faults.StoreFault.TheVariants as faults
+use Rattle.archive_port.specs.declared.faults.StoreFault.{StoreFault}
+use Rattle.archive_port.specs.declared.faults.StoreFault.TheVariants as faults
 use Rattle.archive_store.proofs.CauseLemmas.{by_cause, is_database}
 use Rattle.archive_store.proofs.PassLemmas.{Passes, passed_over, saw_same}
 

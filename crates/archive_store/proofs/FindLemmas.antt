@@ -14,19 +14,21 @@ use Rattle.archive_machine.specs.Commands.{Refusal, no_list, no_person}
 use Rattle.archive_machine.specs.Questions.{has_list, has_person, list_refusal, standing_refusal}
 use Rattle.archive_tables.specs.Tables.{IsHeld, IsKept, archive_in, archive_of}
 use Rattle.archive_tables.specs.Calls.{Asks, AsksRows, StaysOver, AnswersOpen, FailsByFaultOr, IsCaused, Rests}
-use Rattle.archive_database.specs.Messages.{IsReadable}
+use Rattle.archive_port.specs.Messages.{IsReadable}
 use Rattle.archive_database.specs.declared.faults.Fault.{Fault}
 use Rattle.archive_database.specs.declared.faults.Fault.TheVariants as inner
 use Rattle.archive_tables.proofs.CauseLemmas.{answers_none}
 use Rattle.archive_tables.proofs.EndLemmas.{rests_behind}
-use Rattle.archive_store.specs.Replies.{refusal, fault_in, IsOneOf, RefusedFor, Answers}
+use Rattle.archive_port.specs.Replies.{refusal, IsOneOf, RefusedFor}
+use Rattle.archive_database.specs.Faults.{fault_in}
+use Rattle.archive_store.specs.Replies.{Answers}
 use Rattle.archive_store.specs.Told.{EndsAsk, EndsBy, HasFailed}
 use Rattle.archive_store.specs.declared.store.Store.{Store}
-use Rattle.archive_store.specs.declared.faults.StoreFault.{StoreFault}
-use Rattle.archive_store.specs.declared.faults.StoreFault.TheVariants as faults
+use Rattle.archive_port.specs.declared.faults.StoreFault.{StoreFault}
+use Rattle.archive_port.specs.declared.faults.StoreFault.TheVariants as faults
 use Rattle.archive_store.proofs.PassLemmas.{Passes, answer_last}
 use Rattle.archive_store.proofs.CauseLemmas.{by_cause, is_database, passed_on, unread_key}
-use Rattle.archive_store.proofs.WantLemmas.{raises_on}
+use Rattle.archive_port.proofs.WantLemmas.{raises_on}
 
 -- what was done on a database, handed on
 abbrev pub PassesFault : {A : Type 0} → Result A Fault → Result A StoreFault → Type 0

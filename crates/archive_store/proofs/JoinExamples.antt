@@ -7,8 +7,9 @@ use Rattle.archive_machine.specs.Machine.{Outcome}
 use Rattle.archive_machine.specs.Sound.{IsFiledRight}
 use Rattle.archive_store.specs.Held.{held_of}
 use Rattle.archive_store.specs.declared.store.Store.{Store}
-use Rattle.archive_store.specs.declared.faults.StoreFault.{StoreFault}
-use Rattle.archive_store.specs.Replies.{refusal, Answers, Does}
+use Rattle.archive_port.specs.declared.faults.StoreFault.{StoreFault}
+use Rattle.archive_port.specs.Replies.{refusal}
+use Rattle.archive_store.specs.Replies.{Answers, Does}
 use Rattle.archive_store.specs.Told.{Lasts, Goes, GoesIfOpen}
 use Rattle.archive_store.proofs.Joins.{asked, ask_failed, stepped, goes_on, goes_on_if_open, goes_as, goes_as_if_open}
 

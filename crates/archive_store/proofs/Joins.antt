@@ -10,9 +10,10 @@ use Rattle.archive_tables.proofs.EndLemmas.{archive_stays}
 use Rattle.archive_tables.proofs.LastLemmas.{lasts_then, lasts_same}
 use Rattle.archive_store.specs.Held.{held_of}
 use Rattle.archive_store.specs.declared.store.Store.{Store}
-use Rattle.archive_store.specs.declared.faults.StoreFault.{StoreFault}
+use Rattle.archive_port.specs.declared.faults.StoreFault.{StoreFault}
 use Rattle.archive_store.specs.Checking.{Checks}
-use Rattle.archive_store.specs.Replies.{refusal, Answers, Does}
+use Rattle.archive_port.specs.Replies.{refusal}
+use Rattle.archive_store.specs.Replies.{Answers, Does}
 use Rattle.archive_store.specs.Told.{HasReturned, HoldsTables, IsReady, Lasts, archive_in, GoesIn, GoesInIfOpen, CallsIn, AsksIn, Goes, GoesIfOpen, Calls, Asks}
 
 module _ {S : Type 0} (g : Ghosts S) where

@@ -13,7 +13,6 @@ pub mod WalkingLemmas
 pub mod CheckLemmas
 pub mod FollowLemmas
 pub mod CauseLemmas
-pub mod WantLemmas
 pub mod CrashLemmas
 mod CrashExamples
 mod PutLemmas

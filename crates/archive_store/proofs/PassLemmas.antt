@@ -10,9 +10,10 @@ use Rattle.archive_tables.specs.Tables.{IsKept, archive_of}
 use Rattle.archive_tables.specs.Calls.{Asks, Rests, StaysOver, Lasts, AnswersOpen}
 use Rattle.archive_tables.proofs.EndLemmas.{archive_stays}
 use Rattle.archive_machine.specs.Commands.{Refusal}
-use Rattle.archive_store.specs.Replies.{fault_of, refusal, Stays, RefusedFor}
-use Rattle.archive_store.specs.declared.faults.StoreFault.{StoreFault}
-use Rattle.archive_store.specs.declared.faults.StoreFault.TheVariants as faults
+use Rattle.archive_store.specs.Replies.{fault_of, Stays}
+use Rattle.archive_port.specs.Replies.{refusal, RefusedFor}
+use Rattle.archive_port.specs.declared.faults.StoreFault.{StoreFault}
+use Rattle.archive_port.specs.declared.faults.StoreFault.TheVariants as faults
 use Rattle.archive_store.proofs.AskLemmas.{answered, unanswered}
 
 -- ---- what was told of a value, or of an error

@@ -17,15 +17,15 @@ use Rattle.archive_tables.proofs.EndLemmas.{archive_stays}
 use Rattle.archive_store.specs.Held.{held_of, wants_of}
 use Rattle.archive_store.specs.Replies.{Steps}
 use Rattle.archive_store.specs.Refusals.{IsCommandRefused, StopsRun}
-use Rattle.archive_store.specs.Carrying.{command_of}
+use Rattle.archive_port.specs.Commands.{command_of}
 use Rattle.archive_machine.specs.declared.found.Found.{Found}
 use Rattle.archive_store.specs.Running.{answer_of, EndsCommand, RanAll}
 use Rattle.archive_store.specs.Told.{EndsOr, HasFailed}
 use Rattle.archive_store.specs.declared.store.Store.{Store}
-use Rattle.archive_store.specs.declared.faults.StoreFault.{StoreFault}
-use Rattle.archive_store.specs.declared.faults.StoreFault.TheVariants as faults
-use Rattle.archive_store.proofs.WantLemmas.{raises_carried}
-use Rattle.archive_store.specs.declared.commands.Command.{Command as Given}
+use Rattle.archive_port.specs.declared.faults.StoreFault.{StoreFault}
+use Rattle.archive_port.specs.declared.faults.StoreFault.TheVariants as faults
+use Rattle.archive_port.proofs.WantLemmas.{raises_carried}
+use Rattle.archive_port.specs.declared.commands.Command.{Command as Given}
 use Rattle.archive_store.specs.declared.running.Outcome.{Outcome}
 
 -- one command more

@@ -16,8 +16,8 @@ use Rattle.archive_tables.specs.Tables.{archive_in}
 use Rattle.archive_tables.specs.Calls.{Asks, AsksAnywhere, IsCaused, Lasts}
 use Rattle.archive_store.specs.Replies.{fault_of}
 use Rattle.archive_store.specs.Refusals.{IsCarried, IsCommandRefused, MakeRows, StopsAmong, WritesFor}
-use Rattle.archive_store.specs.declared.faults.StoreFault.{StoreFault}
-use Rattle.archive_store.specs.declared.faults.StoreFault.TheVariants as faults
+use Rattle.archive_port.specs.declared.faults.StoreFault.{StoreFault}
+use Rattle.archive_port.specs.declared.faults.StoreFault.TheVariants as faults
 use Rattle.archive_store.proofs.CauseLemmas.{by_cause}
 
 -- ---- a question

@@ -1,7 +1,7 @@
 -- Walks over the messages of a list.
 use Rattle.std.proofs.Common.{arith, zero, suc, ◌≡◌, ℕ, ℤ, ◌+◌, ◌<◌, ◌≤◌, true, List, [], ◌∷◌, ◌++◌, length, get_or, drop, map, bytes_eq, refl}
 use Rattle.std.proofs.Common.{ap, sym, subst, append_assoc, ◌∙◌, Option, Some, None, Result, Ok, Err, IfErr, ◌⊎◌, inl, inr}
-use Rattle.std.specs.Prelude.{option_map, slice_get, Vec, ◌&&◌, Bool, false, filter}
+use Rattle.std.specs.Prelude.{option_map, slice_get, pos, Vec, ◌&&◌, Bool, false, filter}
 use Rattle.std.specs.declared.alloc.Global.{Global}
 use Rattle.std.proofs.lemmas.Option.{slice_get_cases, slice_get_within, get_or_from_slice_get}
 use Rattle.std.specs.List.{All, AllByRecursion}
@@ -20,24 +20,29 @@ use Rattle.sqlite.specs.Effect.{Database}
 use Rattle.sqlite.specs.Tree.{Trees}
 use Rattle.sqlite.specs.Store.{Ghosts}
 use Rattle.sqlite.specs.Held.{state}
-use Rattle.archive_database.specs.Messages.{AreMarksOf, IsReadable}
-use Rattle.archive_database.specs.declared.reading.DatedMarks.{DatedMarks}
+use Rattle.archive_port.specs.Messages.{AreMarksOf, IsReadable}
+use Rattle.archive_port.specs.declared.marks.DatedMarks.{DatedMarks}
 use Rattle.archive_tables.specs.Rows.{dated_marks_of, message_at}
 use Rattle.archive_tables.specs.declared.rows.DatedMarksRow.{DatedMarksRow}
 use Rattle.archive_tables.specs.Tables.{AreTables, archive_in}
 use Rattle.archive_tables.proofs.LastLemmas.{lasts_then}
-use Rattle.archive_store.specs.Replies.{refusal, Answers}
+use Rattle.archive_tables.proofs.WalkLemmas.{walked}
+use Rattle.archive_tables.proofs.FiledLemmas.{walked_month, walked_author}
+use Rattle.archive_port.specs.Replies.{refusal}
+use Rattle.archive_store.specs.Replies.{Answers}
 use Rattle.archive_store.specs.Held.{held_of}
 use Rattle.archive_store.specs.Told.{HoldsTables, HasReturned, HadReturned, CausedOr, EndsAsk, EndsAskOr, EndsUnrefused, archive_in as now_holds}
-use Rattle.archive_store.specs.Wanting.{IsWant}
+use Rattle.archive_port.specs.Wanting.{IsWant}
 use Rattle.archive_store.proofs.CauseLemmas.{more_since}
 use Rattle.archive_store.proofs.FollowLemmas.{when_ok}
 use Rattle.archive_store.proofs.PassLemmas.{kind_last}
-use Rattle.archive_store.proofs.WantLemmas.{raises_after}
-use Rattle.archive_store.specs.Walking.{Walk, WalksOn, WalksOver, BeginsOver, GivesAll, StopsAll, ahead_of, now_in, over, rows_of}
+use Rattle.archive_port.proofs.WantLemmas.{raises_after}
+use Rattle.archive_store.specs.Walking.{Walk, WalksOn, WalksOver, BeginsOver, GivesAll, StopsAll, ahead_of, now_in, over, rows_of, selected, selected_places}
+use Rattle.archive_store.specs.declared.walking.Selection.{Selection}
+use Rattle.archive_store.specs.declared.walking.Selection.TheVariants.{Every, InMonth, ByAuthor}
 use Rattle.archive_store.specs.declared.walking.EachRow.{EachRow}
 use Rattle.archive_store.specs.declared.store.Store.{Store}
-use Rattle.archive_store.specs.declared.faults.StoreFault.{StoreFault}
+use Rattle.archive_port.specs.declared.faults.StoreFault.{StoreFault}
 
 some_is : {A : Type 0} {x y : A} → Some x ≡ Some y → x ≡ y
 some_is e = cc
@@ -126,7 +131,7 @@ kept_of_list list (m ∷ ms) = elim (cases_Bool (bytes_eq m.list list)) [
   | inr dropped ↦ rw dropped (kept_of_list list ms)
 ]
 
-pub mailbox_of_list : (list : List ℕ) (a : Archive) → AreOfList list (messages_in a list)
+mailbox_of_list : (list : List ℕ) (a : Archive) → AreOfList list (messages_in a list)
 mailbox_of_list list a = kept_of_list list a.messages
 
 -- the same of what is filed
@@ -160,15 +165,27 @@ messages_of_list : (list : List ℕ) (fs : List Filed) → AreFiledOf list fs �
 messages_of_list list [] all = tt
 messages_of_list list (f ∷ fs) all = (all.0, messages_of_list list fs all.1)
 
-pub month_of_list : (list : List ℕ) (month : ℤ) (a : Archive) → AreOfList list (in_month a list month)
+month_of_list : (list : List ℕ) (month : ℤ) (a : Archive) → AreOfList list (in_month a list month)
 month_of_list list month a =
     messages_of_list list (by_filed_date (filter (is_filed_in_month list month) (filed a)))
     (sorted_of_list list (filter (is_filed_in_month list month) (filed a)) (wanted_of_list list (λ (f : Filed). int_eq f.1.month month) (filed a)))
 
-pub author_of_list : (list key : List ℕ) (a : Archive) → AreOfList list (by_author a list key)
+author_of_list : (list key : List ℕ) (a : Archive) → AreOfList list (by_author a list key)
 author_of_list list key a =
     messages_of_list list (by_filed_date (filter (is_filed_by_author list key) (filed a)))
     (sorted_of_list list (filter (is_filed_by_author list key) (filed a)) (wanted_of_list list (λ (f : Filed). bytes_eq f.1.author key) (filed a)))
+
+-- whichever they are
+pub selected_of_list : (list : List ℕ) (which : Selection) (a : Archive) → AreOfList list (selected a list which)
+selected_of_list list Every a = mailbox_of_list list a
+selected_of_list list (InMonth month) a = month_of_list list (pos month) a
+selected_of_list list (ByAuthor key) a = author_of_list list key.now a
+
+pub selected_shown : (list : List ℕ) (which : Selection) (trees : Trees) → AreTables trees
+    → map (message_at trees) (selected_places trees list which) ≡ map Some (selected (archive_in trees) list which)
+selected_shown list Every trees k = walked trees list k
+selected_shown list (InMonth month) trees k = walked_month trees list (pos month) k
+selected_shown list (ByAuthor key) trees k = walked_author trees list key.now k
 
 pub past_end : {A : Type 0} (xs : List A) (i : ℕ) → slice_get xs i ≡ None → length xs ≤ i
 past_end xs i none = elim ((slice_get_cases xs i).1) [ inl found ↦ absurd (let bad = sym none ∙ found.2 in cc) | inr past ↦ past.0 ]

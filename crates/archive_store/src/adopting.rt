@@ -9,10 +9,10 @@ ghost use Rattle.archive_store.specs.Adopting.{IsAdopted, IsLeft};
 ghost use Rattle.archive_store.specs.Held.{held_of};
 ghost use Rattle.archive_store.specs.Told.{HasNoLimit};
 
-use crate::faults::StoreFault;
 use crate::store::Store;
 use crate::wants::Wants;
 use archive_database::making::{has_nothing, make_tables, take_over};
+use archive_port::StoreFault;
 use sqlite::{Alter, Connection, MemStore};
 use std::alloc::Global;
 

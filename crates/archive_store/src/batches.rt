@@ -5,16 +5,17 @@ ghost use Rattle.archive_store.specs.Held.{held_of};
 ghost use Rattle.sqlite.specs.Held.{state};
 ghost use Rattle.archive_store.specs.Told.{EndsBehind, EndsPart, EndsUnrefused};
 ghost use Rattle.archive_store.specs.Refusals.{StopsAmong};
-ghost use Rattle.archive_store.specs.Replies.{with_fault, done_in};
+ghost use Rattle.archive_port.specs.Replies.{with_fault, done_in};
 ghost use Rattle.archive_machine.specs.Commands.{no_list, list_full};
 ghost use Rattle.archive_store.specs.Crashes.{AddsSomeQuietly, CrashAddsOver, CrashAll, CrashBatch};
-ghost use Rattle.archive_store.specs.Batches.{AddsOne, AddsSome, AddsBatch, AddsAll, BeginsAt, EndsAt, FailsFrom, WritesOne, told_in, text_bytes};
+ghost use Rattle.archive_store.specs.Batches.{AddsOne, AddsSome, AddsBatch, AddsAll, BeginsAt, EndsAt, FailsFrom, WritesOne};
+ghost use Rattle.archive_port.specs.Adding.{told_in, text_bytes};
 
-use crate::faults::StoreFault;
 use crate::limits::MESSAGES;
 use crate::store::Store;
 use archive_database::taking::{is_too_large, take_in};
 use archive_machine::Key;
+use archive_port::{AddReport, AddStop, StoreFault};
 use archive_tables::texts;
 use mbox_items::Item;
 use sqlite::Alter;
@@ -25,27 +26,6 @@ const MESSAGES_AT_ONCE: usize = 500;
 
 /// Bytes of the texts of one transaction, at most, unless its one text is longer.
 const BYTES_AT_ONCE: usize = 8_388_608;
-
-/// What became of messages that were added: how many were new on the list, how many it held, and how many are too large.
-#[derive(Clone, Copy, Debug, PartialEq, Eq)]
-pub struct AddReport {
-    /// Messages that the list did not hold.
-    pub new: usize,
-    /// Messages that it held.
-    pub known: usize,
-    /// Messages that no list takes.
-    pub too_large: usize,
-}
-
-/// Where messages ceased to be added, for E4, E12, E14 or E15: the first `done` were taken in, known or too large, and no
-/// other was taken in; after E14 and E15 that is so if the connection is still open.
-#[derive(Clone, Copy, Debug, PartialEq, Eq)]
-pub struct AddStop {
-    /// How many of the messages were seen to.
-    pub done: usize,
-    /// Why no more were.
-    pub fault: StoreFault,
-}
 
 /// Messages for a list, with the allocator that serves while they are added.
 #[derive(Clone, Copy)]

@@ -3,41 +3,21 @@ ghost use Rattle.archive_tables.specs.Calls.{AnswersOpen};
 ghost use Rattle.archive_store.specs.Held.{held_of};
 ghost use Rattle.archive_store.specs.Told.{Caused, EndsUnrefused};
 ghost use Rattle.archive_store.specs.Checking.{FindsAllPlaces, LooksAt, StopsLooking};
-ghost use Rattle.archive_store.specs.declared.checking.CheckStop.TheVariants.{Failed};
+ghost use Rattle.archive_port.specs.declared.checking.CheckStop.TheVariants.{Failed};
 
-use crate::faults::StoreFault;
 use crate::store::Store;
 use archive_database::checking::{Damage, find_damage};
 use archive_database::reading::read_places;
+use archive_port::{CheckStop, StoreFault};
 use archive_tables::texts;
 use sqlite::Alter;
 use std::alloc::Global;
 
-/// Why a store is not found whole.
-#[derive(Debug, Drop)]
-pub enum CheckStop {
-    /// E16: the list and the key of the first message that is not sound, lists by name and then in mailbox order. They are as the
-    /// row has them, and need not be UTF-8.
-    Damaged { list: Vec<u8>, key: Vec<u8> },
-    /// E14 or E15.
-    Failed(StoreFault),
-}
-
-impl From<StoreFault> for CheckStop {
-    ghost use Rattle.std.specs.Prelude.{◌≡◌};
-
-    ghost from_gives = { λ fault stop. stop ≡ Failed fault };
-
-    fn from(fault: StoreFault) -> CheckStop {
-        CheckStop::Failed(fault)
-    }
-}
-
 impl<S: Alter> Store<S> {
     ghost use Rattle.std.specs.Prelude.{◌≡◌, None, IfErr};
-    ghost use Rattle.archive_store.specs.Replies.{refusal};
+    ghost use Rattle.archive_port.specs.Replies.{refusal};
     ghost use Rattle.archive_store.specs.Checking.{Checks};
-    ghost use Rattle.archive_store.specs.declared.checking.CheckStop.TheVariants.{Failed};
+    ghost use Rattle.archive_port.specs.declared.checking.CheckStop.TheVariants.{Failed};
     ghost use Rattle.archive_tables.specs.Calls.{AnswersOpen};
     ghost use Rattle.archive_store.specs.Held.{held_of};
     ghost use Rattle.archive_store.specs.Told.{Counts, HoldsTables, HasReturned, HasNoLimit, HasFailed};

@@ -1,75 +1,17 @@
 //! Commands: what the tables hold of their names is looked up, that decides, and one text is written.
 ghost use Rattle.std.specs.Prelude.{◌≡◌};
-ghost use Rattle.archive_store.specs.Carrying.{Carries, CarriesWithin, command_of, said};
-ghost use Rattle.archive_store.specs.Words.{added_if};
+ghost use Rattle.archive_machine.specs.Machine.{message_limit};
+ghost use Rattle.archive_store.specs.Carrying.{Carries, CarriesWithin, Commands, SaysDone, said};
+ghost use Rattle.archive_port.specs.Commands.{command_of};
+ghost use Rattle.archive_port.specs.Replies.{says_done};
+ghost use Rattle.archive_port.specs.Words.{added_if};
 
 use crate::deciding::{Settled, refused_unseen, settle};
-use crate::faults::StoreFault;
 use crate::limits::MESSAGES;
 use crate::store::Store;
-use crate::words::Added;
-use archive_machine::{Found, Key};
-use civil_time::Day;
-use mbox_items::Item;
-use policy_core::{Kind, Party};
+use archive_machine::Found;
+use archive_port::{Added, Command, StoreFault};
 use sqlite::Alter;
-use std::alloc::Global;
-
-/// A command with its arguments: each is the call of `Store` of that name.
-#[derive(Clone, Copy)]
-pub enum Command<'a> {
-    ListAdd {
-        name: &'a str,
-    },
-    MergeSet {
-        list: &'a str,
-        merge: bool,
-    },
-    PersonAdd {
-        name: &'a str,
-        token: &'a str,
-    },
-    AddressSet {
-        alloc: Global,
-        person: &'a str,
-        address: &'a str,
-    },
-    Grant {
-        person: &'a str,
-        list: &'a str,
-        kind: Kind,
-        from: Day,
-        until: Day,
-    },
-    Revoke {
-        person: &'a str,
-        list: &'a str,
-        kind: Kind,
-    },
-    Add {
-        alloc: Global,
-        list: &'a str,
-        item: &'a Item<'a>,
-    },
-    Withdraw {
-        list: &'a str,
-        key: &'a Key,
-        by: Party,
-    },
-    Restore {
-        list: &'a str,
-        key: &'a Key,
-    },
-    Embargo {
-        list: &'a str,
-        key: &'a Key,
-        until: Day,
-    },
-    Lift {
-        list: &'a str,
-        key: &'a Key,
-    },
-}
 
 impl<S: Alter> Store<S> {
     /// Carries a command out: one step of the archive's machine. What was found of its names before says what it answers: whether
@@ -102,10 +44,18 @@ impl<S: Alter> Store<S> {
             }
         }
     }
+
+    /// Carries out a command that has nothing to say but that it is done.
+    pub(crate) fn carry_done(&mut self, command: &Command<'_>) -> Result<(), StoreFault>
+        requires { SaysDone (command_of command.now) }
+        ensures { Commands S.Store self.old self.new message_limit (command_of command.now) says_done result }
+    {
+        done(self.carry(command))
+    }
 }
 
 /// It is done.
-pub(crate) fn done(told: Result<Found, StoreFault>) -> Result<(), StoreFault>
+fn done(told: Result<Found, StoreFault>) -> Result<(), StoreFault>
     ensures { result ≡ said (λ _. tt) told }
 {
     match told {

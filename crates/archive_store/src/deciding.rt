@@ -6,17 +6,18 @@ ghost use Rattle.archive_machine.specs.Addresses.{is_address};
 ghost use Rattle.archive_machine.specs.Commands.{refused};
 ghost use Rattle.archive_machine.specs.Machine.{tests_of};
 ghost use Rattle.archive_machine.specs.Tokens.{is_token};
-ghost use Rattle.archive_store.specs.Carrying.{command_of, first_so, reply_settled};
-ghost use Rattle.archive_store.specs.Replies.{refusal};
+ghost use Rattle.archive_port.specs.Commands.{command_of};
+ghost use Rattle.archive_store.specs.Carrying.{first_so, reply_settled};
+ghost use Rattle.archive_port.specs.Replies.{refusal};
 
-use crate::commands::Command;
 use crate::deciding::Settled::{Known, Refused};
-use crate::faults::StoreFault::{
+use archive_database::taking::is_too_large;
+use archive_machine::Found;
+use archive_port::Command;
+use archive_port::StoreFault::{
     self, AlreadyWithdrawn, BadDays, BadName, BadText, ListExists, ListFull, NoList, NoMessage,
     NoPerson, NotWithdrawn, PersonExists, TokenTaken, TooLarge,
 };
-use archive_database::taking::is_too_large;
-use archive_machine::Found;
 use policy_core::is_name;
 
 /// What answers a command that changes nothing.

@@ -1,7 +1,7 @@
 //! Commands on grants.
-use crate::commands::{Command, done, had_grant};
-use crate::faults::StoreFault;
+use crate::commands::had_grant;
 use crate::store::Store;
+use archive_port::{Command, StoreFault};
 use civil_time::Day;
 use policy_core::Kind;
 use sqlite::Alter;
@@ -14,7 +14,8 @@ impl<S: Alter> Store<S> {
     ghost use Rattle.policy_core.specs.Numbers.{kind_rank};
     ghost use Rattle.archive_machine.specs.Commands.{grant, revoke, no_person, no_list, bad_days};
     ghost use Rattle.archive_store.specs.Crashes.{CrashSteps};
-    ghost use Rattle.archive_store.specs.Replies.{Does, says_done, says_whether};
+    ghost use Rattle.archive_store.specs.Replies.{Does};
+    ghost use Rattle.archive_port.specs.Replies.{says_done, says_whether};
     ghost use Rattle.std.specs.Prelude.{[], ◌∷◌};
 
     /// Grants a kind from one day to another, both within; a grant of that kind is replaced. E6 where there is no such
@@ -34,13 +35,13 @@ impl<S: Alter> Store<S> {
         ensures ends { EndsOr S.Store self.old self.new result (no_person ∷ no_list ∷ bad_days ∷ [])
             (IsCommandRefused (grant person.now list.now (kind_rank kind) from until)) }
     {
-        done(self.carry(&Command::Grant {
+        self.carry_done(&Command::Grant {
             person,
             list,
             kind,
             from,
             until,
-        }))
+        })
     }
 
     /// Takes a grant away, and says whether it was there. E6 where there is no such person, E4 where there is no such

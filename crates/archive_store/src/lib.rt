@@ -26,15 +26,13 @@ mod words;
 mod writing;
 
 pub use adopting::AdoptStop;
-pub use archive_database::reading::DatedMarks;
 pub use archive_machine::{Found, Key, Message};
-pub use batches::{AddReport, AddStop};
-pub use checking::CheckStop;
-pub use commands::Command;
-pub use faults::StoreFault;
+pub use archive_port::{
+    AddReport, AddStop, Added, CheckStop, Command, DatedMarks, Refused, StoreFault,
+};
+pub use faults::database_fault;
 pub use keys::key_of;
 pub use running::{Outcome, RunStop};
 pub use store::Store;
-pub use walking::EachRow;
-pub use wants::{Refused, Wants};
-pub use words::Added;
+pub use walking::{EachRow, Selection};
+pub use wants::Wants;

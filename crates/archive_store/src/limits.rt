@@ -6,12 +6,12 @@ ghost use Rattle.archive_store.specs.Held.{held_of};
 ghost use Rattle.archive_store.specs.Told.{EndsOr};
 ghost use Rattle.archive_store.specs.Refusals.{IsRefusedWithin};
 ghost use Rattle.archive_store.specs.Crashes.{CrashSteps};
-ghost use Rattle.archive_store.specs.Replies.{Does, says_added};
+ghost use Rattle.archive_store.specs.Replies.{Does};
+ghost use Rattle.archive_port.specs.Replies.{says_added};
 
-use crate::commands::{Command, added};
-use crate::faults::StoreFault;
+use crate::commands::added;
 use crate::store::Store;
-use crate::words::Added;
+use archive_port::{Added, Command, StoreFault};
 use mbox_items::Item;
 use sqlite::Alter;
 use std::alloc::Global;

@@ -4,14 +4,14 @@ ghost use Rattle.archive_machine.specs.Questions.{has_list, has_person, has_toke
 ghost use Rattle.archive_machine.specs.Commands.{add};
 ghost use Rattle.archive_tables.specs.Rows.{marks_of};
 ghost use Rattle.archive_machine.specs.Machine.{found_within, found_grant, found_message, nothing};
-ghost use Rattle.archive_store.specs.Carrying.{Looks, command_of, found_marks};
+ghost use Rattle.archive_store.specs.Carrying.{Looks, found_marks};
+ghost use Rattle.archive_port.specs.Commands.{command_of};
 ghost use Rattle.policy_core.specs.Numbers.{kind_rank};
 
-use crate::commands::Command;
-use crate::faults::StoreFault;
 use crate::store::Store;
 use archive_database::taking::is_full;
 use archive_machine::{Found, Key, NOTHING};
+use archive_port::{Command, StoreFault};
 use archive_tables::rows::MarksRow;
 use archive_tables::texts;
 use mbox_items::Item;

@@ -1,9 +1,9 @@
 //! Commands on messages.
-use crate::commands::{Command, added, done, had_embargo};
-use crate::faults::StoreFault;
+use crate::commands::had_embargo;
+use crate::limits::{MESSAGES, add_limited};
 use crate::store::Store;
-use crate::words::Added;
 use archive_machine::Key;
+use archive_port::{Added, Command, StoreFault};
 use civil_time::Day;
 use mbox_items::Item;
 use policy_core::Party;
@@ -19,7 +19,8 @@ impl<S: Alter> Store<S> {
     ghost use Rattle.policy_core.specs.Numbers.{party_number};
     ghost use Rattle.archive_machine.specs.Commands.{add, withdraw, restore, embargo, lift, no_list, no_message, already_withdrawn, not_withdrawn, too_large, list_full};
     ghost use Rattle.archive_store.specs.Crashes.{CrashSteps};
-    ghost use Rattle.archive_store.specs.Replies.{Does, says_added, says_done, says_whether};
+    ghost use Rattle.archive_store.specs.Replies.{Does};
+    ghost use Rattle.archive_port.specs.Replies.{says_added, says_done, says_whether};
 
     /// Adds a message. A message whose key the list holds is known, and nothing changes: the first sender and arrival
     /// stay. E4 where there is no such list, E13 where the whole text has more than 16,777,216 bytes, E12 where the list
@@ -34,7 +35,7 @@ impl<S: Alter> Store<S> {
             (no_list ∷ too_large ∷ list_full ∷ [])
             (IsCommandRefused (add list.now item.now)) }
     {
-        added(self.carry(&Command::Add { alloc, list, item }))
+        add_limited(self, alloc, list, item, MESSAGES)
     }
 
     /// Withdraws a message. E4 where there is no such list, E8 where it holds no such message, E9 where the message is
@@ -48,7 +49,7 @@ impl<S: Alter> Store<S> {
             (no_list ∷ no_message ∷ already_withdrawn ∷ [])
             (IsCommandRefused (withdraw list.now key.now (party_number by))) }
     {
-        done(self.carry(&Command::Withdraw { list, key, by }))
+        self.carry_done(&Command::Withdraw { list, key, by })
     }
 
     /// Takes the withdrawal of a message back. E4 where there is no such list, E8 where it holds no such message, E10
@@ -62,7 +63,7 @@ impl<S: Alter> Store<S> {
             (no_list ∷ no_message ∷ not_withdrawn ∷ [])
             (IsCommandRefused (restore list.now key.now)) }
     {
-        done(self.carry(&Command::Restore { list, key }))
+        self.carry_done(&Command::Restore { list, key })
     }
 
     /// Holds a message back on the days before this one; an earlier embargo is replaced. E4 where there is no such list,
@@ -75,7 +76,7 @@ impl<S: Alter> Store<S> {
         ensures ends { EndsOr S.Store self.old self.new result (no_list ∷ no_message ∷ [])
             (IsCommandRefused (embargo list.now key.now until)) }
     {
-        done(self.carry(&Command::Embargo { list, key, until }))
+        self.carry_done(&Command::Embargo { list, key, until })
     }
 
     /// Takes the embargo of a message away, and says whether it had one. E4 where there is no such list, E8 where it

@@ -2,9 +2,8 @@
 ghost use Rattle.std.specs.Prelude.{◌≡◌, true};
 ghost use Rattle.std.specs.Option.{option_map_or};
 
-use crate::commands::{Command, done};
-use crate::faults::StoreFault;
 use crate::store::Store;
+use archive_port::{Command, StoreFault};
 use archive_tables::texts;
 use sqlite::Alter;
 use std::alloc::Global;
@@ -19,7 +18,8 @@ impl<S: Alter> Store<S> {
     ghost use Rattle.archive_store.specs.Refusals.{IsCommandRefused};
     ghost use Rattle.archive_machine.specs.Commands.{merge_set, address_set, no_list, no_person, bad_text};
     ghost use Rattle.archive_store.specs.Crashes.{CrashSteps};
-    ghost use Rattle.archive_store.specs.Replies.{Does, Answers, says_done};
+    ghost use Rattle.archive_store.specs.Replies.{Does, Answers};
+    ghost use Rattle.archive_port.specs.Replies.{says_done};
 
     /// Says whether the threads of a list are gathered by subject. E4 where there is no such list.
     pub fn merge_set(&mut self, list: &str, merge: bool) -> Result<(), StoreFault>
@@ -30,7 +30,7 @@ impl<S: Alter> Store<S> {
         ensures ends { EndsOr S.Store self.old self.new result (no_list ∷ [])
             (IsCommandRefused (merge_set list.now merge)) }
     {
-        done(self.carry(&Command::MergeSet { list, merge }))
+        self.carry_done(&Command::MergeSet { list, merge })
     }
 
     /// Whether the threads of a list are gathered by subject. E4 where there is no such list.
@@ -62,11 +62,11 @@ impl<S: Alter> Store<S> {
         ensures ends { EndsOr S.Store self.old self.new result (no_person ∷ bad_text ∷ [])
             (IsCommandRefused (address_set person.now address.now)) }
     {
-        done(self.carry(&Command::AddressSet {
+        self.carry_done(&Command::AddressSet {
             alloc,
             person,
             address,
-        }))
+        })
     }
 
     /// The address of a person, who may have none. E6 where there is no such person.

@@ -1,7 +1,6 @@
 //! Commands on lists and persons.
-use crate::commands::{Command, done};
-use crate::faults::StoreFault;
 use crate::store::Store;
+use archive_port::{Command, StoreFault};
 use sqlite::Alter;
 
 impl<S: Alter> Store<S> {
@@ -11,7 +10,8 @@ impl<S: Alter> Store<S> {
     ghost use Rattle.archive_store.specs.Refusals.{IsCommandRefused};
     ghost use Rattle.archive_machine.specs.Commands.{list_add, person_add, bad_name, bad_text, list_exists, person_exists, token_taken};
     ghost use Rattle.archive_store.specs.Crashes.{CrashSteps};
-    ghost use Rattle.archive_store.specs.Replies.{Does, says_done};
+    ghost use Rattle.archive_store.specs.Replies.{Does};
+    ghost use Rattle.archive_port.specs.Replies.{says_done};
     ghost use Rattle.std.specs.Prelude.{[], ◌∷◌};
 
     /// Adds a list, whose threads are gathered by subject. E1 where the name is none, E3 where the list is there.
@@ -23,7 +23,7 @@ impl<S: Alter> Store<S> {
         ensures ends { EndsOr S.Store self.old self.new result (bad_name ∷ list_exists ∷ [])
             (IsCommandRefused (list_add name.now)) }
     {
-        done(self.carry(&Command::ListAdd { name }))
+        self.carry_done(&Command::ListAdd { name })
     }
 
     /// Adds a person. E1 where the name is none, E2 where the token is none, E5 where the person is there, E7 where the
@@ -37,6 +37,6 @@ impl<S: Alter> Store<S> {
             (bad_name ∷ bad_text ∷ person_exists ∷ token_taken ∷ [])
             (IsCommandRefused (person_add name.now token.now)) }
     {
-        done(self.carry(&Command::PersonAdd { name, token }))
+        self.carry_done(&Command::PersonAdd { name, token })
     }
 }

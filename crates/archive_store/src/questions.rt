@@ -1,11 +1,11 @@
 //! Questions of the store: whose a token is, what a person may do, what a list holds. They change nothing.
 ghost use Rattle.std.specs.Prelude.{◌≡◌, ◌≢◌, None, IfSome};
-ghost use Rattle.archive_store.specs.Words.{standing_rank};
+ghost use Rattle.archive_port.specs.Words.{standing_rank};
 
-use crate::faults::StoreFault;
 use crate::store::Store;
 use crate::words::day_number;
 use archive_database::ranks::highest_rank;
+use archive_port::StoreFault;
 use archive_tables::texts;
 use civil_time::Day;
 use policy_core::Standing;
@@ -19,7 +19,7 @@ impl<S: Alter> Store<S> {
     ghost use Rattle.archive_store.specs.Told.{EndsAskOr};
     ghost use Rattle.archive_store.specs.Replies.{Answers};
     ghost use Rattle.archive_machine.specs.Commands.{no_list, no_person};
-    ghost use Rattle.archive_store.specs.Words.{standing_rank};
+    ghost use Rattle.archive_port.specs.Words.{standing_rank};
 
     /// The name of the person who has this token, if somebody has it.
     pub fn person_of_token(&mut self, token: &str) -> Result<Option<String>, StoreFault>

@@ -1,9 +1,9 @@
 //! Questions on lists and their messages.
 
-use crate::faults::StoreFault;
 use crate::store::Store;
 use archive_database::reading::{read_names, read_or_fail};
 use archive_machine::{Key, Message};
+use archive_port::StoreFault;
 use archive_tables::texts;
 use sqlite::Alter;
 use std::alloc::Global;
@@ -16,8 +16,9 @@ impl<S: Alter> Store<S> {
     ghost use Rattle.archive_tables.specs.Crashes.{AddsNothing};
     ghost use Rattle.archive_store.specs.Held.{held_of};
     ghost use Rattle.archive_store.specs.Told.{EndsAsk, EndsAskOr, SeesTheSame, WasOpen};
-    ghost use Rattle.archive_database.specs.Messages.{IsReadable};
-    ghost use Rattle.archive_store.specs.Replies.{refusal, Answers};
+    ghost use Rattle.archive_port.specs.Messages.{IsReadable};
+    ghost use Rattle.archive_port.specs.Replies.{refusal};
+    ghost use Rattle.archive_store.specs.Replies.{Answers};
     ghost use Rattle.archive_machine.specs.Commands.{no_list};
     ghost use Rattle.archive_machine.specs.Messages.{remembered};
 

@@ -5,16 +5,15 @@ ghost use Rattle.sqlite.specs.Held.{state};
 ghost use Rattle.archive_store.specs.Held.{held_of};
 ghost use Rattle.archive_store.specs.Told.{EndsUnrefusedBy, HasFailed};
 ghost use Rattle.archive_store.specs.Refusals.{StopsRun};
-ghost use Rattle.archive_store.specs.Replies.{Does, done_in, reply_of, says_done, with_fault};
+ghost use Rattle.archive_store.specs.Replies.{Does};
+ghost use Rattle.archive_port.specs.Replies.{done_in, reply_of, says_done, with_fault};
 ghost use Rattle.archive_store.specs.Crashes.{CrashRuns, CrashSteps};
-ghost use Rattle.archive_store.specs.Carrying.{answer_by, command_of};
+ghost use Rattle.archive_port.specs.Commands.{answer_by, command_of};
 ghost use Rattle.archive_store.specs.Running.{EndsCommand, IsTold, Runs, answer_of, carried};
 
-use crate::commands::Command;
-use crate::faults::StoreFault;
 use crate::store::Store;
-use crate::words::Added;
 use archive_machine::Found;
+use archive_port::{Added, Command, StoreFault};
 use sqlite::Alter;
 use std::alloc::Global;
 
@@ -37,38 +36,23 @@ pub struct RunStop {
     pub fault: StoreFault,
 }
 
-/// A refusal, or a stop.
-fn refused(fault: StoreFault) -> Result<Outcome, StoreFault>
-    ensures value { carried result ≡ says_done (Err fault) }
-    ensures told { IsTold result }
-    ensures passed { IfErr result (λ told. told ≡ fault) }
-{
-    match fault {
-        StoreFault::Memory | StoreFault::Store => Err(fault),
-        _ => Ok(Outcome::Refused(fault)),
-    }
-}
-
-/// The outcome of a command, by what was found of its names.
+/// The outcome of a command, by what was found of its names; its refusal, or that memory or the database was at fault.
 fn outcome_of(command: &Command<'_>, told: Result<Found, StoreFault>) -> Result<Outcome, StoreFault>
     ensures value { carried result ≡ reply_of (answer_by (command_of command.now)) told }
     ensures told { IsTold result }
     ensures passed { IfErr result (λ fault. told ≡ Err fault) }
 {
     match told {
-        Ok(found) => Ok(outcome_by(command, &found)),
-        Err(fault) => refused(fault),
-    }
-}
-
-fn outcome_by(command: &Command<'_>, found: &Found) -> Outcome
-    ensures { answer_of result ≡ Some (answer_by (command_of command.now) found.now) }
-{
-    match command {
-        Command::Revoke { .. } => Outcome::WasThere(found.grant),
-        Command::Lift { .. } => Outcome::WasThere(found.embargo),
-        Command::Add { .. } => Outcome::Added(Added::of(found.message)),
-        _ => Outcome::Done,
+        Ok(found) => Ok(match command {
+            Command::Revoke { .. } => Outcome::WasThere(found.grant),
+            Command::Lift { .. } => Outcome::WasThere(found.embargo),
+            Command::Add { .. } => Outcome::Added(Added::of(found.message)),
+            _ => Outcome::Done,
+        }),
+        Err(fault) => match fault {
+            StoreFault::Memory | StoreFault::Store => Err(fault),
+            _ => Ok(Outcome::Refused(fault)),
+        },
     }
 }
 

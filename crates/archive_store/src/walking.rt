@@ -6,17 +6,17 @@ ghost use Rattle.archive_tables.specs.Calls.{AsksRows};
 ghost use Rattle.archive_tables.specs.Rows.{place_shown};
 ghost use Rattle.archive_store.specs.Held.{held_of};
 ghost use Rattle.archive_machine.specs.Commands.{no_list};
-ghost use Rattle.archive_store.specs.Replies.{RefusedFor};
+ghost use Rattle.archive_port.specs.Replies.{RefusedFor};
 ghost use Rattle.archive_store.specs.Told.{EndsAsk, EndsAskOr, EndsUnrefused};
-ghost use Rattle.archive_database.specs.Messages.{IsReadable};
+ghost use Rattle.archive_port.specs.Messages.{IsReadable};
 ghost use Rattle.archive_store.specs.Walking.{GivesNext, GivesAll, StopsNext, StopsAll, ShowsMessage, ShowsMarks, ShowsNext, StopsShowing};
 ghost use Rattle.archive_store.specs.Walking.{FindsPlaces, IsNotBegun, ahead_of, left_of, over, selected_places};
 
-use crate::faults::StoreFault;
 use crate::store::Store;
 use crate::words::month_number;
-use archive_database::reading::{DatedMarks, marks_or_fail, read_or_fail, read_places};
+use archive_database::reading::{marks_or_fail, read_or_fail, read_places};
 use archive_machine::Message;
+use archive_port::{DatedMarks, StoreFault};
 use archive_tables::texts;
 use civil_time::Month;
 use sqlite::{Alter, Connection, Error, Row};
@@ -30,11 +30,15 @@ pub struct EachRow {
     at: usize,
 }
 
-/// Which messages of a list are walked over: all, those of a month, or those of an author key.
+/// Which messages of a list are walked over: all, in mailbox order; or those that are filed under a month or an author key, by
+/// the sent date that is filed and then in mailbox order.
 #[derive(Clone, Copy)]
-enum Selection<'a> {
+pub enum Selection<'a> {
+    /// All.
     Every,
+    /// Those of a month.
     InMonth(Month),
+    /// Those of an author key.
     ByAuthor(&'a [u8]),
 }
 
@@ -42,10 +46,10 @@ impl<S: Alter> Store<S> {
     ghost use Rattle.archive_store.specs.Replies.{Answers};
     ghost use Rattle.std.specs.Prelude.{pos};
     ghost use Rattle.std.specs.List.{All};
-    ghost use Rattle.archive_database.specs.Messages.{IsReadable};
+    ghost use Rattle.archive_port.specs.Messages.{IsReadable};
     ghost use Rattle.archive_store.specs.Told.{CausedOr};
     ghost use Rattle.archive_machine.specs.Filing.{in_month, by_author};
-    ghost use Rattle.archive_store.specs.Walking.{Begins, BeginsOver, DoesNotBegin, over};
+    ghost use Rattle.archive_store.specs.Walking.{Begins, BeginsOver, DoesNotBegin, over, selected};
 
     /// The messages of a list in mailbox order. E4 where there is no such list.
     pub fn rows(&mut self, alloc: Global, list: &str) -> Result<Vec<Message>, StoreFault>
@@ -55,18 +59,7 @@ impl<S: Alter> Store<S> {
         ensures ends { EndsAskOr S.Store self.old self.new result (no_list ∷ [])
             (λ a. ¬ All IsReadable (messages_in a list.now)) }
     {
-        let mut walk = self.each_row(alloc, list)?;
-        read_rows(self, alloc, &mut walk)
-    }
-
-    /// Begins a walk over the messages of a list, in mailbox order. E4 where there is no such list.
-    pub fn each_row(&mut self, alloc: Global, list: &str) -> Result<EachRow, StoreFault>
-        ensures refused { DoesNotBegin S.Store self.old list.now result self.new }
-        ensures begun { IfOk result (λ walk. Begins S.Store self.old list.now (over self.new walk)) }
-        ensures kind { RefusedFor result (no_list ∷ []) }
-    {
-        let places = find_places(self, alloc, list, &Selection::Every)?;
-        Ok(EachRow { places, at: 0 })
+        self.read_selected(alloc, list, &Selection::Every)
     }
 
     /// The messages of a list that are filed under a month, by the sent date that is filed and then in mailbox order. E4 where
@@ -83,8 +76,7 @@ impl<S: Alter> Store<S> {
         ensures ends { EndsAskOr S.Store self.old self.new result (no_list ∷ [])
             (λ a. ¬ All IsReadable (in_month a list.now (pos month))) }
     {
-        let mut walk = self.each_in_month(alloc, list, month)?;
-        read_rows(self, alloc, &mut walk)
+        self.read_selected(alloc, list, &Selection::InMonth(month))
     }
 
     /// The messages of a list that are filed under an author key, in the same order. E4 where there is no such list.
@@ -100,39 +92,48 @@ impl<S: Alter> Store<S> {
         ensures ends { EndsAskOr S.Store self.old self.new result (no_list ∷ [])
             (λ a. ¬ All IsReadable (by_author a list.now key.now)) }
     {
-        let mut walk = self.each_by_author(alloc, list, key)?;
+        self.read_selected(alloc, list, &Selection::ByAuthor(key))
+    }
+
+    /// These of a list's messages. E4 where there is no such list.
+    fn read_selected(
+        &mut self,
+        alloc: Global,
+        list: &str,
+        which: &Selection<'_>,
+    ) -> Result<Vec<Message>, StoreFault>
+        ensures answer { Answers S.Store (held_of self.old) (held_of self.new) result
+            (λ a. list_refusal a list.now)
+            (λ a found. map (remembered list.now) found.items ≡ selected a list.now which.now) }
+        ensures ends { EndsAskOr S.Store self.old self.new result (no_list ∷ [])
+            (λ a. ¬ All IsReadable (selected a list.now which.now)) }
+    {
+        let mut walk = self.each_selected(alloc, list, which)?;
         read_rows(self, alloc, &mut walk)
     }
 
-    /// Begins a walk over the messages of `in_month`. E4 where there is no such list.
-    pub fn each_in_month(
-        &mut self,
-        alloc: Global,
-        list: &str,
-        month: Month,
-    ) -> Result<EachRow, StoreFault>
+    /// Begins a walk over the messages of a list, in mailbox order. E4 where there is no such list.
+    pub fn each_row(&mut self, alloc: Global, list: &str) -> Result<EachRow, StoreFault>
         ensures refused { DoesNotBegin S.Store self.old list.now result self.new }
-        ensures begun { IfOk result (λ walk. BeginsOver S.Store self.old list.now
-            (λ a. in_month a list.now (pos month)) (over self.new walk)) }
+        ensures begun { IfOk result (λ walk. Begins S.Store self.old list.now (over self.new walk)) }
         ensures kind { RefusedFor result (no_list ∷ []) }
     {
-        let places = find_places(self, alloc, list, &Selection::InMonth(month))?;
-        Ok(EachRow { places, at: 0 })
+        self.each_selected(alloc, list, &Selection::Every)
     }
 
-    /// Begins a walk over the messages of `by_author`. E4 where there is no such list.
-    pub fn each_by_author(
+    /// Begins a walk over these of a list's messages. E4 where there is no such list.
+    pub fn each_selected(
         &mut self,
         alloc: Global,
         list: &str,
-        key: &[u8],
+        which: &Selection<'_>,
     ) -> Result<EachRow, StoreFault>
         ensures refused { DoesNotBegin S.Store self.old list.now result self.new }
         ensures begun { IfOk result (λ walk. BeginsOver S.Store self.old list.now
-            (λ a. by_author a list.now key.now) (over self.new walk)) }
+            (λ a. selected a list.now which.now) (over self.new walk)) }
         ensures kind { RefusedFor result (no_list ∷ []) }
     {
-        let places = find_places(self, alloc, list, &Selection::ByAuthor(key))?;
+        let places = find_places(self, alloc, list, which)?;
         Ok(EachRow { places, at: 0 })
     }
 }

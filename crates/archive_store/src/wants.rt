@@ -1,38 +1,17 @@
 //! How often memory was refused.
-ghost use Rattle.std.specs.Prelude.{◌≡◌, ◌+◌, ◌<◌, ◌≤◌, None, Ok, IfErr, IsErrAnd, MatchResult};
-ghost use Rattle.archive_store.specs.Replies.{fault_of, fault_in, refusal};
-ghost use Rattle.archive_store.specs.Wanting.{IsWant, RaisesFor};
-ghost use Rattle.archive_store.specs.declared.faults.StoreFault.TheVariants.{Memory};
+ghost use Rattle.std.specs.Prelude.{◌≡◌, ◌+◌, ◌<◌, None, Ok, IfErr, IsErrAnd, MatchResult};
+ghost use Rattle.archive_store.specs.Replies.{fault_of};
+ghost use Rattle.archive_database.specs.Faults.{fault_in};
+ghost use Rattle.archive_port.specs.Replies.{refusal};
+ghost use Rattle.archive_port.specs.Wanting.{IsWant, RaisesFor};
+ghost use Rattle.archive_port.specs.declared.faults.StoreFault.TheVariants.{Memory};
 
-use crate::faults::StoreFault;
+use crate::faults::database_fault;
 use archive_database::Fault;
+use archive_port::{Refused, StoreFault};
 use byte_device::Told;
 use sqlite::{Error, ErrorCode};
-use std::alloc::{AllocError, AllocFailed};
 use std::marker::Model;
-
-/// A refusal of memory that a call gave. It is made of what that call answered, and of nothing else: whoever counts a want of memory
-/// holds one.
-#[derive(Debug, Drop)]
-pub struct Refused(());
-
-impl From<AllocError> for Refused {
-    fn from(_refused: AllocError) -> Refused {
-        Refused(())
-    }
-}
-
-impl<T: Drop> From<AllocFailed<T>> for Refused {
-    fn from(_refused: AllocFailed<T>) -> Refused {
-        Refused(())
-    }
-}
-
-impl From<civil_time::Memory> for Refused {
-    fn from(_refused: civil_time::Memory) -> Refused {
-        Refused(())
-    }
-}
 
 /// How often memory was refused in the calls of a store and of the layers above it, as devices count their failures. Only clauses
 /// read it: it takes no room, and its calls do nothing when they run.
@@ -69,8 +48,16 @@ impl Wants {
         ensures fault { result ≡ Memory }
         ensures raised { self.new ≡ self.old + 1 }
     {
+        self.counted(StoreFault::from(why))
+    }
+
+    /// One more, and this fault.
+    fn counted(&mut self, fault: StoreFault) -> StoreFault
+        ensures same { result ≡ fault }
+        ensures raised { self.new ≡ self.old + 1 }
+    {
         self.told.note(&[0]);
-        StoreFault::from(why)
+        fault
     }
 
     /// Hands on what the database told: an error as its fault, E14 where memory was wanted, which is counted, or else E15.
@@ -82,8 +69,10 @@ impl Wants {
     {
         match told {
             Ok(found) => Ok(found),
-            Err(Error::SqliteFailure(ErrorCode::OutOfMemory)) => Err(self.refuse(Refused(()))),
-            Err(error) => Err(StoreFault::from(error)),
+            Err(Error::SqliteFailure(ErrorCode::OutOfMemory)) => Err(self.counted(
+                StoreFault::Memory,
+            )),
+            Err(error) => Err(database_fault(error)),
         }
     }
 
@@ -96,7 +85,7 @@ impl Wants {
     {
         match told {
             Ok(found) => Ok(found),
-            Err(Fault::Memory) => Err(self.refuse(Refused(()))),
+            Err(Fault::Memory) => Err(self.counted(StoreFault::Memory)),
             Err(Fault::Database) => Err(StoreFault::Store),
         }
     }

@@ -2,13 +2,12 @@
 ghost use Rattle.std.specs.Prelude.{◌≡◌};
 ghost use Rattle.archive_store.specs.Carrying.{PutsDown, said};
 
-use crate::commands::Command;
-use crate::faults::StoreFault;
 use crate::store::Store;
 use crate::words::day_number;
 use archive_database::lists::add_list;
 use archive_database::taking::take_in;
 use archive_machine::{Found, Key, kept_address};
+use archive_port::{Command, StoreFault};
 use archive_tables::texts;
 use sqlite::Alter;
 

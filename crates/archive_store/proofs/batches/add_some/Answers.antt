@@ -3,9 +3,9 @@ use Rattle.sqlite.specs.Held.{state}
 use Rattle.archive_machine.specs.Commands.{taken_in, already_known, refused, too_large}
 use Rattle.archive_machine.specs.Runs.{taken}
 use Rattle.archive_tables.proofs.RunLemmas.{on_fault}
-use Rattle.archive_store.specs.Wanting.{IsWant}
-use Rattle.archive_store.proofs.WantLemmas.{raises_after, raises_on}
-use Rattle.archive_store.specs.Batches.{told_in, tally_of}
+use Rattle.archive_port.specs.Wanting.{IsWant}
+use Rattle.archive_port.proofs.WantLemmas.{raises_after, raises_on}
+use Rattle.archive_port.specs.Adding.{told_in, tally_of}
 use Rattle.archive_store.proofs.BatchLemmas.{one_taken, none_taken, held_or_back, told_new, told_known, told_too_large}
 use Rattle.archive_tables.specs.Tables.{archive_of}
 use Rattle.archive_store.specs.Refusals.{MakeRows}

@@ -4,7 +4,8 @@ use Rattle.sqlite.specs.Tree.{Trees}
 use Rattle.sqlite.specs.Held.{state}
 use Rattle.sqlite.specs.State.{HasCleanDisk}
 use Rattle.archive_machine.specs.Records.{Archive}
-use Rattle.archive_store.specs.Batches.{HasTaken, told_in}
+use Rattle.archive_store.specs.Batches.{HasTaken}
+use Rattle.archive_port.specs.Adding.{told_in}
 use Rattle.archive_store.specs.Refusals.{MakeRows}
 use Rattle.archive_tables.specs.Calls.{Lasts}
 use Rattle.archive_store.specs.Held.{wants_of}

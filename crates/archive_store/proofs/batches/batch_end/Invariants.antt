@@ -1,5 +1,5 @@
 use Rattle.std.proofs.Common.{◌≡◌, ◌+◌, ◌-◌, ◌<◌, ◌≤◌, ◌⊎◌, length, take}
-use Rattle.archive_store.specs.Batches.{text_bytes}
+use Rattle.archive_port.specs.Adding.{text_bytes}
 use Rattle.archive_store.specs.declared.batches.TheConstants.{MESSAGES_AT_ONCE, BYTES_AT_ONCE}
 use Rattle.archive_store.proofs.batches.batch_end.Given as goal
 

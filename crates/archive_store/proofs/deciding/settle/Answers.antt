@@ -2,9 +2,10 @@ use Rattle.std.proofs.Common.{◌∙◌, ◌∷◌, [], ap, sym, refl, Some}
 use Rattle.std.specs.Prelude.{not, option_map}
 use Rattle.archive_machine.specs.Commands.{person_add}
 use Rattle.archive_machine.specs.Machine.{tests_of}
-use Rattle.archive_store.specs.Carrying.{command_of, first_so, reply_settled}
+use Rattle.archive_port.specs.Commands.{command_of}
+use Rattle.archive_store.specs.Carrying.{first_so, reply_settled}
 use Rattle.archive_store.specs.declared.deciding.Settled.TheVariants.{Refused}
-use Rattle.archive_store.specs.declared.faults.StoreFault.TheVariants.{BadName, BadText, PersonExists, TokenTaken}
+use Rattle.archive_port.specs.declared.faults.StoreFault.TheVariants.{BadName, BadText, PersonExists, TokenTaken}
 use Rattle.archive_store.proofs.CarryLemmas.{rows_alike}
 use Rattle.archive_store.proofs.deciding.settle.Goals as goal
 

@@ -1,5 +1,5 @@
 use Rattle.archive_machine.specs.Commands.{add}
-use Rattle.archive_store.specs.Words.{added_if, added_reply}
+use Rattle.archive_port.specs.Words.{added_if, added_reply}
 use Rattle.archive_store.proofs.CarryLemmas.{called, added_is}
 use Rattle.archive_store.proofs.limits.add_limited.Goals as goal
 

@@ -4,7 +4,7 @@ use Rattle.std.specs.Option.{IsSomeAnd}
 use Rattle.sqlite.specs.Held.{state}
 use Rattle.archive_tables.specs.Rows.{message_at}
 use Rattle.archive_tables.proofs.RunLemmas.{on_fault}
-use Rattle.archive_database.specs.Messages.{IsReadable}
+use Rattle.archive_port.specs.Messages.{IsReadable}
 use Rattle.archive_store.proofs.CauseLemmas.{passed_on}
 use Rattle.archive_store.proofs.FindLemmas.{blames_disk, blames_read, finds_read, passed_rows, passed_no_rows}
 use Rattle.archive_store.proofs.WalkingLemmas.{marks_held, no_marks_held}

@@ -6,8 +6,8 @@ use Rattle.archive_store.proofs.WalkingLemmas.{given_more}
 use Rattle.archive_tables.proofs.LastLemmas.{lasts_then}
 use Rattle.archive_store.proofs.CauseLemmas.{passed_on, stops_later}
 use Rattle.sqlite.specs.Held.{state}
-use Rattle.archive_store.specs.Wanting.{IsWant}
-use Rattle.archive_store.proofs.WantLemmas.{raises_after, raises_on}
+use Rattle.archive_port.specs.Wanting.{IsWant}
+use Rattle.archive_port.proofs.WantLemmas.{raises_after, raises_on}
 use Rattle.archive_store.proofs.walking.read_rows.Goals as goal
 
 pub returns-in_err-message-clause-given : goal.returns-in_err-message-clause-given

@@ -1,7 +1,7 @@
 use Rattle.std.proofs.Common.{rules, arith, refl, sym, ◌∙◌, None}
 use Rattle.sqlite.specs.Held.{state}
 use Rattle.archive_tables.specs.Tables.{archive_of}
-use Rattle.archive_store.specs.Replies.{refusal}
+use Rattle.archive_port.specs.Replies.{refusal}
 use Rattle.archive_store.proofs.BatchLemmas.{counted_at, none_added, first_taken}
 use Rattle.archive_store.proofs.FindLemmas.{is_listed, not_counted}
 use Rattle.archive_tables.proofs.LastLemmas.{lasts_then}
@@ -9,7 +9,7 @@ use Rattle.std.proofs.Common.{inl, inr, take}
 use Rattle.archive_machine.specs.Runs.{taken}
 use Rattle.archive_store.proofs.RunLemmas.{run_nothing}
 use Rattle.archive_store.proofs.CrashLemmas.{added_crash, asked_safe, broken_crash, stays_safe}
-use Rattle.archive_store.specs.declared.faults.StoreFault.TheVariants as faults
+use Rattle.archive_port.specs.declared.faults.StoreFault.TheVariants as faults
 use Rattle.archive_store.proofs.CauseLemmas.{more_since}
 use Rattle.archive_store.proofs.store.Store.add_all.Goals as goal
 

@@ -3,7 +3,8 @@ use Rattle.std.specs.Prelude.{IsTrue}
 use Rattle.sqlite.specs.Held.{state}
 use Rattle.sqlite.specs.State.{HasCleanDisk}
 use Rattle.archive_tables.specs.Tables.{IsKept, archive_of}
-use Rattle.archive_store.specs.Batches.{HasTaken, told_in}
+use Rattle.archive_store.specs.Batches.{HasTaken}
+use Rattle.archive_port.specs.Adding.{told_in}
 use Rattle.archive_tables.specs.Calls.{Lasts}
 use Rattle.archive_tables.specs.Crashes.{IsSafe}
 use Rattle.archive_store.specs.Held.{wants_of}

@@ -7,8 +7,8 @@ use Rattle.archive_machine.specs.Commands.{no_person}
 use Rattle.archive_machine.specs.Questions.{is_address_of, address_of, person_refusal}
 use Rattle.archive_tables.specs.Tables.{archive_of}
 use Rattle.archive_tables.specs.Calls.{IsCaused}
-use Rattle.archive_store.specs.Wanting.{IsWant}
-use Rattle.archive_store.proofs.WantLemmas.{raises_after}
+use Rattle.archive_port.specs.Wanting.{IsWant}
+use Rattle.archive_port.proofs.WantLemmas.{raises_after}
 use Rattle.archive_store.proofs.ReadingLemmas.{is_person}
 use Rattle.archive_store.proofs.CauseLemmas.{by_error, by_address}
 use Rattle.archive_store.proofs.PassLemmas.{passed_answer, passed_over, passed_unanswered, blamed_on, answer_last, open_last, kind_last, blamed_last}

@@ -2,7 +2,7 @@ use Rattle.std.proofs.Common.{subst, sym}
 use Rattle.archive_machine.specs.Machine.{step}
 use Rattle.archive_store.specs.Held.{held_of}
 use Rattle.archive_store.specs.Replies.{Does}
-use Rattle.archive_store.specs.Carrying.{command_of}
+use Rattle.archive_port.specs.Commands.{command_of}
 use Rattle.archive_store.proofs.RunLemmas.{ends_told}
 use Rattle.archive_store.proofs.store.Store.carry_out.Goals as goal
 

@@ -1,6 +1,7 @@
 use Rattle.std.proofs.Common.{Some, sym, ap, ◌∙◌}
 use Rattle.std.specs.Prelude.{option_map}
-use Rattle.archive_store.specs.Carrying.{command_of, reply_settled}
+use Rattle.archive_port.specs.Commands.{command_of}
+use Rattle.archive_store.specs.Carrying.{reply_settled}
 use Rattle.archive_store.proofs.CarryLemmas.{unlooked, refused_at_once, refused_by, already_there, carried_out, unwritten, none_of}
 use Rattle.archive_store.proofs.store.Store.carry_within.Goals as goal
 

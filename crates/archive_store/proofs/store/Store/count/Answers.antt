@@ -4,10 +4,10 @@ use Rattle.archive_machine.specs.Commands.{no_list}
 use Rattle.archive_machine.specs.Questions.{list_refusal, messages_in}
 use Rattle.archive_tables.specs.Tables.{archive_of}
 use Rattle.archive_tables.proofs.RunLemmas.{on_fault}
-use Rattle.archive_store.specs.Wanting.{IsWant}
+use Rattle.archive_port.specs.Wanting.{IsWant}
 use Rattle.archive_store.proofs.ReadingLemmas.{is_there}
 use Rattle.archive_store.proofs.CauseLemmas.{more_since}
-use Rattle.archive_store.proofs.WantLemmas.{raises_after}
+use Rattle.archive_port.proofs.WantLemmas.{raises_after}
 use Rattle.archive_store.proofs.PassLemmas.{answer_last}
 use Rattle.archive_store.proofs.FindLemmas.{ends_first, blames, blames_disk, no_reason_of, not_there, rests_of, stops}
 use Rattle.archive_store.proofs.EndLemmas.{passes_same, rows_asked}

@@ -6,7 +6,7 @@ use Rattle.archive_machine.specs.Commands.{no_list}
 use Rattle.archive_machine.specs.Questions.{message_of}
 use Rattle.archive_tables.specs.Rows.{message_in}
 use Rattle.archive_tables.specs.Tables.{archive_of}
-use Rattle.archive_database.specs.Messages.{IsReadable}
+use Rattle.archive_port.specs.Messages.{IsReadable}
 use Rattle.archive_store.proofs.ReadingLemmas.{is_there}
 use Rattle.archive_store.proofs.CauseLemmas.{passed_on, more_since}
 use Rattle.archive_store.proofs.PassLemmas.{passed_answer, passed_unanswered}

@@ -3,7 +3,7 @@ use Rattle.std.proofs.lemmas.List.{length-map, take_all}
 use Rattle.sqlite.specs.Held.{state}
 use Rattle.archive_machine.specs.Runs.{run}
 use Rattle.archive_tables.specs.Tables.{archive_of}
-use Rattle.archive_store.specs.Carrying.{command_of}
+use Rattle.archive_port.specs.Commands.{command_of}
 use Rattle.archive_store.specs.Running.{answer_of, RanAll}
 use Rattle.archive_store.proofs.RunLemmas.{run_nothing, ran_none, ran_next, ran_stop, first_commands, stops_run}
 use Rattle.archive_tables.proofs.LastLemmas.{lasts_then, lasts_same}
@@ -16,7 +16,7 @@ use Rattle.archive_store.proofs.StopLemmas.{left_or_failed}
 use Rattle.archive_machine.specs.Machine.{step}
 use Rattle.archive_store.proofs.RunLemmas.{next_archive}
 use Rattle.archive_store.proofs.CrashLemmas.{answered_safe, broken_run, ran_crash}
-use Rattle.archive_store.specs.declared.faults.StoreFault.TheVariants as faults
+use Rattle.archive_port.specs.declared.faults.StoreFault.TheVariants as faults
 use Rattle.archive_store.proofs.store.Store.run.Goals as goal
 
 pub returns-in-Err-clause-step : goal.returns-in-Err-clause-step

@@ -1,0 +1,19 @@
+//! What an archive is asked and answers, whatever stores it. A command is one step of the archive's machine. It is refused for one of the
+//! machine's reasons (E1 to E13), or because memory (E14) or what stores the archive (E15) failed.
+#![tactic(auto)]
+
+mod checking;
+mod commands;
+mod faults;
+mod marks;
+mod reports;
+mod wants;
+mod words;
+
+pub use checking::CheckStop;
+pub use commands::Command;
+pub use faults::StoreFault;
+pub use marks::DatedMarks;
+pub use reports::{AddReport, AddStop};
+pub use wants::Refused;
+pub use words::Added;

@@ -1,0 +1,12 @@
+use Rattle.std.proofs.Common.{refl}
+use Rattle.archive_store.specs.Walking.{selected, selected_places}
+use Rattle.archive_store.proofs.WalkingLemmas.{begins_walk, selected_of_list, selected_shown}
+use Rattle.archive_store.proofs.store.Store.each_selected.Goals as goal
+
+pub returns-clause-begun : goal.returns-clause-begun
+returns-clause-begun g c =
+    let list = c.args.list.now in
+    let which = c.args.which.now in
+    begins_walk g.S.Store c.args.self.now c.find_places.new.store list (λ trees. selected_places trees list which) (λ a. selected a list which)
+    (selected_shown list which) (selected_of_list list which)
+    (record { places = c.in_ok-places.places; at = 0 }) refl c.in_ok-places.ensures.ends c.in_ok-places.ensures.found
