@@ -5,7 +5,7 @@ use Rattle.sqlite.specs.Held.{state}
 use Rattle.mbox_core.specs.Division.{Item, Divides}
 use Rattle.archive_machine.specs.Records.{Archive}
 use Rattle.archive_tables.specs.Crashes.{CrashLeaves, IsSafe}
-use Rattle.archive_store.specs.Crashes.{HasAddedAtLeast}
+use Rattle.archive_port.specs.Adding.{HasAddedAtLeast}
 use Rattle.archive_store.specs.Held.{held_of}
 use Rattle.archive_store.specs.Told.{HasReturned, HoldsTables, archive_in}
 use Rattle.archive_store.specs.declared.store.Store.{Store}

@@ -3,9 +3,9 @@ use Rattle.std.specs.Prelude.{◌≡◌, Option, Some, None, option_map}
 use Rattle.archive_machine.specs.Records.{Archive}
 use Rattle.archive_machine.specs.Commands.{Refusal as Declined, no_list as unknown_list, no_person as unknown_person}
 use Rattle.archive_machine.specs.Questions.{list_refusal}
-use Rattle.archive_store.specs.Replies.{refusal}
-use Rattle.archive_store.specs.declared.faults.StoreFault.{StoreFault}
-use Rattle.archive_store.specs.declared.faults.StoreFault.TheVariants.{NoList as UnknownList, NoPerson as UnknownPerson}
+use Rattle.archive_port.specs.Replies.{refusal}
+use Rattle.archive_port.specs.declared.faults.StoreFault.{StoreFault}
+use Rattle.archive_port.specs.declared.faults.StoreFault.TheVariants.{NoList as UnknownList, NoPerson as UnknownPerson}
 use Rattle.archive_results.specs.Access.{Ask, Refusal, no_list, no_person, ask_refusal}
 use Rattle.archive_desk.specs.declared.faults.DeskFault.{DeskFault}
 use Rattle.archive_desk.specs.declared.faults.DeskFault.TheVariants.{NoList, NoPerson, NotInView, Store, Memory, Write}

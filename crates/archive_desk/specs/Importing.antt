@@ -8,10 +8,10 @@ use Rattle.archive_machine.specs.Records.{Archive}
 use Rattle.archive_machine.specs.Commands.{Refusal, no_list, list_full}
 use Rattle.archive_machine.specs.Questions.{has_list}
 use Rattle.archive_machine.specs.Runs.{taken, Tally, tally}
-use Rattle.archive_store.specs.Batches.{HasAddedFirst, IsFullAt, IsRefusedAt}
+use Rattle.archive_port.specs.Adding.{HasAddedFirst, IsFullAt, IsRefusedAt}
 use Rattle.archive_store.specs.Refusals.{StopsAmong}
-use Rattle.archive_store.specs.Replies.{refusal}
-use Rattle.archive_store.specs.declared.faults.StoreFault.TheVariants.{Memory as NoMemory, Store as Broken}
+use Rattle.archive_port.specs.Replies.{refusal}
+use Rattle.archive_port.specs.declared.faults.StoreFault.TheVariants.{Memory as NoMemory, Store as Broken}
 use Rattle.archive_desk.specs.declared.importing.Report.{Report}
 use Rattle.archive_desk.specs.declared.importing.ImportStop.{ImportStop}
 use Rattle.archive_desk.specs.declared.importing.ImportFault.{ImportFault}

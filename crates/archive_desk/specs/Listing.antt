@@ -1,14 +1,20 @@
 -- The lines of messages, and why a thread is not shown.
-use Rattle.std.specs.Prelude.{◌≡◌, ℕ, List, map, Option, Some, None}
+use Rattle.std.specs.Prelude.{◌≡◌, ℕ, List, filter, map, Option, Some, None}
 use Rattle.archive_machine.specs.Records.{Archive, Message as Remembered}
 use Rattle.archive_machine.specs.Questions.{merge_of}
-use Rattle.archive_store.specs.Replies.{refusal}
-use Rattle.archive_results.specs.Access.{Ask, view_of}
+use Rattle.archive_port.specs.Replies.{refusal}
+use Rattle.archive_store.specs.Walking.{selected}
+use Rattle.archive_store.specs.declared.walking.Selection.{Selection}
+use Rattle.archive_results.specs.Access.{Ask, is_shown, reader_marks, view_of}
 use Rattle.archive_results.specs.Results.{lines_of, thread_lines}
 use Rattle.archive_results.specs.Shown.{Line, shown_of}
 use Rattle.archive_desk.specs.Faults.{Reason, not_in_view, ask_reason}
 use Rattle.archive_desk.specs.declared.faults.DeskFault.{DeskFault}
 use Rattle.archive_desk.specs.declared.faults.DeskFault.TheVariants.{Store as Stored, Write}
+
+-- those of the messages of a selection that the policy shows the asker, in their order: the view, if all are selected
+abbrev pub view_in : Archive → Ask → Selection → List Remembered
+view_in a ask which = filter (is_shown ask (reader_marks a ask)) (selected a ask.list which)
 
 -- the line of each message
 abbrev pub lines_shown : List Remembered → List Line

@@ -10,12 +10,12 @@ use Rattle.archive_machine.specs.Records.{Address, Archive, Grant, Person}
 use Rattle.archive_machine.specs.Commands.{Command, grant, add, withdraw, embargo}
 use Rattle.archive_machine.specs.Filing.{in_month, by_author}
 use Rattle.archive_machine.specs.Questions.{messages_in, person_of_token}
-use Rattle.archive_database.specs.Messages.{IsReadable}
+use Rattle.archive_port.specs.Messages.{IsReadable}
 use Rattle.archive_store.specs.Told.{CausedOr as StoreCausedOr, HasFailed, HasNoLimit, HasReturned, HoldsTables, archive_in}
-use Rattle.archive_store.specs.Words.{standing_rank}
+use Rattle.archive_port.specs.Words.{standing_rank}
 use Rattle.policy_core.specs.Numbers.{party_number, kind_rank}
-use Rattle.archive_store.specs.declared.faults.StoreFault.{StoreFault}
-use Rattle.archive_store.specs.declared.faults.StoreFault.TheVariants as faults
+use Rattle.archive_port.specs.declared.faults.StoreFault.{StoreFault}
+use Rattle.archive_port.specs.declared.faults.StoreFault.TheVariants as faults
 use Rattle.archive_store.specs.declared.store.Store.{Store}
 use Rattle.policy_core.specs.declared.access.Kind.{Kind}
 use Rattle.policy_core.specs.declared.access.Party.{Party}

@@ -4,11 +4,11 @@ use Rattle.std.specs.declared.alloc.Global.{Global}
 use Rattle.sqlite.specs.Store.{Ghosts}
 use Rattle.mbox_core.specs.Written.{IsCutShort}
 use Rattle.archive_machine.specs.Records.{Archive, Message as Remembered}
-use Rattle.archive_store.specs.Replies.{refusal}
+use Rattle.archive_port.specs.Replies.{refusal}
 use Rattle.archive_store.specs.Told.{HasFailed, HasNoLimit, HasReturned, HoldsTables, IsOpen, archive_in}
 use Rattle.archive_store.specs.Walking.{Walk, WalksOver, left_of}
-use Rattle.archive_store.specs.declared.faults.StoreFault.{StoreFault}
-use Rattle.archive_store.specs.declared.faults.StoreFault.TheVariants as faults
+use Rattle.archive_port.specs.declared.faults.StoreFault.{StoreFault}
+use Rattle.archive_port.specs.declared.faults.StoreFault.TheVariants as faults
 use Rattle.archive_results.specs.Access.{Ask, ReaderMarks, is_shown}
 use Rattle.archive_desk.specs.Causes.{AreUnreadable}
 use Rattle.archive_desk.specs.Exporting.{HasWritten, shown_text}

@@ -2,6 +2,5 @@ pub mod Access
 pub mod Shown
 pub mod Results
 pub mod Index
-pub mod Slots
 pub mod Filed
 pub mod Promise
