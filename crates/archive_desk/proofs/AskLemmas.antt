@@ -12,13 +12,14 @@ use Rattle.archive_machine.specs.Commands.{Refusal as Declined}
 use Rattle.archive_machine.specs.Questions.{has_list, has_person, list_refusal, message_of, messages_in}
 use Rattle.archive_machine.specs.Messages.{remembered}
 use Rattle.archive_machine.specs.declared.messages.Message.{Message}
-use Rattle.archive_store.specs.Replies.{IsOneOf, refusal, Answers}
+use Rattle.archive_port.specs.Replies.{IsOneOf, refusal}
+use Rattle.archive_store.specs.Replies.{Answers}
 use Rattle.archive_store.specs.Held.{held_of}
 use Rattle.archive_store.specs.Told.{HoldsTables, Lasts, GoesIn, GoesInIfOpen, AsksIn}
 use Rattle.archive_store.specs.declared.store.Store.{Store}
-use Rattle.archive_store.specs.declared.faults.StoreFault.{StoreFault}
-use Rattle.archive_store.specs.declared.faults.StoreFault.TheVariants.{BadName, BadText, ListExists, NoList, PersonExists, NoPerson, TokenTaken, NoMessage}
-use Rattle.archive_store.specs.declared.faults.StoreFault.TheVariants.{AlreadyWithdrawn, NotWithdrawn, BadDays, ListFull, TooLarge, Memory, Store as Failed}
+use Rattle.archive_port.specs.declared.faults.StoreFault.{StoreFault}
+use Rattle.archive_port.specs.declared.faults.StoreFault.TheVariants.{BadName, BadText, ListExists, NoList, PersonExists, NoPerson, TokenTaken, NoMessage}
+use Rattle.archive_port.specs.declared.faults.StoreFault.TheVariants.{AlreadyWithdrawn, NotWithdrawn, BadDays, ListFull, TooLarge, Memory, Store as Failed}
 use Rattle.archive_store.proofs.Joins.{goes_in_as}
 use Rattle.archive_results.specs.Access.{Ask, ReaderMarks, Refusal, no_list, no_person, is_shown, reader_marks, view_of}
 use Rattle.archive_results.specs.Access.{Asked, asked_on, asked_of}

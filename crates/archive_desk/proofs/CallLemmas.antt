@@ -7,8 +7,9 @@ use Rattle.archive_machine.specs.Commands.{Refusal}
 use Rattle.archive_machine.specs.Sound.{IsFiledRight}
 use Rattle.archive_store.specs.Held.{held_of}
 use Rattle.archive_store.specs.declared.store.Store.{Store}
-use Rattle.archive_store.specs.declared.faults.StoreFault.{StoreFault}
-use Rattle.archive_store.specs.Replies.{refusal, Answers}
+use Rattle.archive_port.specs.declared.faults.StoreFault.{StoreFault}
+use Rattle.archive_port.specs.Replies.{refusal}
+use Rattle.archive_store.specs.Replies.{Answers}
 use Rattle.archive_store.specs.Told.{HoldsTables, HasReturned, IsOpen, Lasts, WasOpen, GoesIn, GoesInIfOpen, CallsIn, AsksIn, Goes, GoesIfOpen, Calls, Asks}
 use Rattle.archive_store.proofs.Joins.{asked_in, ask_refused_in, ask_failed_in, goes_on_in, goes_on_in_if_open, goes_in_as}
 use Rattle.archive_store.proofs.Joins.{goes_in_as_if_open, right_too, right_too_if_open, sound_too, sound_too_if_open}

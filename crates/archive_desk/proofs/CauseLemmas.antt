@@ -8,8 +8,8 @@ use Rattle.archive_store.specs.Held.{held_of}
 use Rattle.archive_store.specs.Told.{Caused as StoreCaused, CausedOr as StoreCausedOr, GoesIn, HasFailed, HasReturned, HoldsTables, Lasts, archive_in}
 use Rattle.archive_store.specs.Walking.{BeginsOver, StopsNext, Walk, WalksOver}
 use Rattle.archive_store.specs.declared.store.Store.{Store}
-use Rattle.archive_store.specs.declared.faults.StoreFault.{StoreFault}
-use Rattle.archive_store.specs.declared.faults.StoreFault.TheVariants as faults
+use Rattle.archive_port.specs.declared.faults.StoreFault.{StoreFault}
+use Rattle.archive_port.specs.declared.faults.StoreFault.TheVariants as faults
 use Rattle.archive_store.proofs.CauseLemmas.{more_since, stops_later}
 use Rattle.archive_results.specs.Access.{Ask}
 use Rattle.archive_desk.specs.Causes.{AreUnreadable, HasCause, HasDiskCause, IsBroken}

@@ -7,10 +7,11 @@ use Rattle.archive_machine.specs.Records.{Archive}
 use Rattle.archive_machine.specs.Questions.{has_list, list_refusal}
 use Rattle.archive_tables.specs.Crashes.{AddsNothing}
 use Rattle.archive_machine.specs.Runs.{taken}
-use Rattle.archive_store.specs.Crashes.{CrashAll, Crashes, HasAddedAtLeast}
+use Rattle.archive_store.specs.Crashes.{CrashAll, Crashes}
+use Rattle.archive_port.specs.Adding.{HasAddedAtLeast}
 use Rattle.archive_store.specs.Held.{held_of}
 use Rattle.archive_store.specs.Told.{GoesIn, HasReturned, HoldsTables, Lasts, archive_in}
-use Rattle.archive_store.specs.declared.batches.AddStop.{AddStop}
+use Rattle.archive_port.specs.declared.reports.AddStop.{AddStop}
 use Rattle.archive_store.specs.declared.store.Store.{Store}
 use Rattle.archive_store.proofs.CrashLemmas.{asked_safe, leaves_as, leaves_now}
 use Rattle.archive_desk.specs.Crashes.{CrashesIn, CrashesHeld, HasImportedAtLeast, IsSafeStore}

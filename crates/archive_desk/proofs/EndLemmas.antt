@@ -6,14 +6,14 @@ use Rattle.archive_machine.specs.Commands.{no_list}
 use Rattle.archive_machine.specs.Questions.{list_refusal, messages_in}
 use Rattle.archive_tables.proofs.LastLemmas.{lasts_then}
 use Rattle.archive_store.specs.Held.{wants_of}
-use Rattle.archive_store.specs.Replies.{RefusedFor, refusal}
+use Rattle.archive_port.specs.Replies.{RefusedFor, refusal}
 use Rattle.archive_store.specs.Told.{Counts, EndsAsk as StoreEndsAsk, GoesIn, HasReturned, HoldsTables, IsOpen, Lasts, WasOpen}
 use Rattle.archive_store.specs.Walking.{BeginsOver, DoesNotBegin, Walk}
 use Rattle.archive_desk.proofs.Counted.{CountsOne}
-use Rattle.archive_store.specs.Wanting.{IsWant, Raises}
+use Rattle.archive_port.specs.Wanting.{IsWant, Raises}
 use Rattle.archive_store.specs.declared.store.Store.{Store}
-use Rattle.archive_store.specs.declared.faults.StoreFault.{StoreFault}
-use Rattle.archive_store.proofs.WantLemmas.{raises_after}
+use Rattle.archive_port.specs.declared.faults.StoreFault.{StoreFault}
+use Rattle.archive_port.proofs.WantLemmas.{raises_after}
 use Rattle.archive_results.specs.Access.{Ask}
 use Rattle.archive_desk.specs.Causes.{AreUnreadable, HasCause, IsBroken, IsUnreadable, IsWanting}
 use Rattle.archive_desk.specs.Ending.{Ends, EndsAsk, EndsExport, EndsWalk}

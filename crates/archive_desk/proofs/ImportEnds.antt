@@ -7,12 +7,12 @@ use Rattle.archive_machine.specs.Records.{Archive}
 use Rattle.archive_machine.specs.Commands.{Refusal}
 use Rattle.archive_store.specs.Held.{held_of, wants_of}
 use Rattle.archive_store.specs.Told.{Counts, EndsBy, GoesIn, HasFailed, HoldsTables, Lasts}
-use Rattle.archive_store.specs.Wanting.{IsWant}
+use Rattle.archive_port.specs.Wanting.{IsWant}
 use Rattle.archive_store.specs.declared.store.Store.{Store}
-use Rattle.archive_store.specs.declared.faults.StoreFault.{StoreFault}
-use Rattle.archive_store.specs.declared.faults.StoreFault.TheVariants as faults
+use Rattle.archive_port.specs.declared.faults.StoreFault.{StoreFault}
+use Rattle.archive_port.specs.declared.faults.StoreFault.TheVariants as faults
 use Rattle.archive_store.proofs.CauseLemmas.{more_since}
-use Rattle.archive_store.proofs.WantLemmas.{raises_after}
+use Rattle.archive_port.proofs.WantLemmas.{raises_after}
 use Rattle.archive_desk.specs.Causes.{HasCauseBehind}
 use Rattle.archive_desk.specs.Ending.{EndsImport}
 use Rattle.archive_desk.specs.Importing.{IsImportBroken, IsImportWant}

@@ -15,15 +15,16 @@ use Rattle.sqlite.specs.State.{HasCleanDisk}
 use Rattle.archive_machine.specs.Runs.{taken}
 use Rattle.archive_machine.specs.Sound.{IsFiledRight}
 use Rattle.archive_tables.specs.Tables.{IsKept, archive_of}
-use Rattle.archive_store.specs.Batches.{AddsAll, IsAfter, IsRefusedAt, tally_of as store_tally}
+use Rattle.archive_store.specs.Batches.{AddsAll, IsAfter}
+use Rattle.archive_port.specs.Adding.{IsRefusedAt, tally_of as store_tally}
 use Rattle.archive_store.specs.Held.{held_of}
-use Rattle.archive_store.specs.Replies.{refusal}
-use Rattle.archive_store.specs.declared.batches.AddStop.{AddStop}
-use Rattle.archive_store.specs.declared.batches.AddReport.{AddReport}
+use Rattle.archive_port.specs.Replies.{refusal}
+use Rattle.archive_port.specs.declared.reports.AddStop.{AddStop}
+use Rattle.archive_port.specs.declared.reports.AddReport.{AddReport}
 use Rattle.archive_store.specs.Told.{Lasts, HoldsTables, archive_in, GoesIn, GoesInIfOpen, Calls}
 use Rattle.archive_store.specs.declared.store.Store.{Store}
-use Rattle.archive_store.specs.declared.faults.StoreFault.{StoreFault}
-use Rattle.archive_store.specs.declared.faults.StoreFault.TheVariants.{Memory as NoMemory}
+use Rattle.archive_port.specs.declared.faults.StoreFault.{StoreFault}
+use Rattle.archive_port.specs.declared.faults.StoreFault.TheVariants.{Memory as NoMemory}
 use Rattle.archive_store.proofs.Joins.{goes_in_as, goes_in_as_if_open}
 use Rattle.archive_store.proofs.RightLemmas.{taken_right}
 use Rattle.archive_desk.proofs.CallLemmas.{calls_after, calls_right}

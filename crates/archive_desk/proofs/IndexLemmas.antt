@@ -1,4 +1,4 @@
--- The headers of a view, and the lines of its messages, as a walk lists them.
+-- The headers of a view as a walk lists them.
 use Rattle.std.proofs.Common.{◌≡◌, refl, Result, sym, ap, ◌∙◌, subst, Bool, true, false, cond, List, [], ◌∷◌, ◌++◌, filter, map, Some, None, Ok, Err}
 use Rattle.std.specs.Prelude.{⊤, IfErr, MatchOption, Vec, option_map}
 use Rattle.std.specs.declared.alloc.Global.{Global}
@@ -10,20 +10,18 @@ use Rattle.archive_machine.specs.Records.{Archive, Message as Remembered}
 use Rattle.archive_machine.specs.Messages.{remembered}
 use Rattle.archive_machine.specs.Questions.{list_refusal}
 use Rattle.archive_machine.specs.declared.messages.Message.{Message}
-use Rattle.archive_store.specs.Replies.{refusal}
+use Rattle.archive_port.specs.Replies.{refusal}
 use Rattle.archive_store.specs.Told.{AsksIn, GoesIn, GoesInIfOpen, Lasts, HasReturned, HoldsTables, IsOpen, archive_in}
 use Rattle.archive_store.specs.Walking.{BeginsOver, Walk, WalksOver}
 use Rattle.archive_desk.proofs.Counted.{CountsOne}
 use Rattle.archive_store.specs.declared.store.Store.{Store}
 use Rattle.archive_results.specs.Access.{Ask, ReaderMarks, is_shown, reader_marks}
-use Rattle.archive_results.specs.Shown.{line_of, shown_of}
 use Rattle.archive_desk.specs.Asking.{IsEnough}
 use Rattle.archive_desk.specs.Faults.{ask_reason, declined, desk_fault, reason}
-use Rattle.archive_desk.specs.Listing.{lines_shown}
 use Rattle.archive_desk.specs.Walking.{IsUnlisted, ListsRows, PassesWithheld}
 use Rattle.archive_desk.specs.declared.faults.DeskFault.{DeskFault}
 use Rattle.archive_desk.specs.declared.faults.DeskFault.TheVariants.{NoList, NoPerson, NotInView, Store as Stored, Memory, Write}
-use Rattle.archive_store.specs.declared.faults.StoreFault.{StoreFault}
+use Rattle.archive_port.specs.declared.faults.StoreFault.{StoreFault}
 use Rattle.archive_desk.proofs.AskLemmas.{list_declined}
 use Rattle.archive_desk.proofs.CallLemmas.{calls_after}
 use Rattle.archive_desk.proofs.MarkLemmas.{view_alike}
@@ -36,9 +34,6 @@ IsMadeApart made = (xs ys : List Remembered) → made (xs ++ ys) ≡ made xs ++ 
 
 pub each_apart : {X : Type 0} (of : Remembered → X) → IsMadeApart (map of)
 each_apart of xs ys = map-append of xs ys
-
-pub lines_apart : IsMadeApart lines_shown
-lines_apart xs ys = ap (map line_of) (map-append shown_of xs ys) ∙ map-append line_of (map shown_of xs) (map shown_of ys)
 
 module _ {X : Type 0} (made : List Remembered → List X) (apart : IsMadeApart made) (ask : Ask) (reader : ReaderMarks) where
   -- of those of these messages that the policy shows

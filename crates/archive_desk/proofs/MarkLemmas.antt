@@ -13,7 +13,7 @@ use Rattle.archive_machine.specs.Records.{Archive, Message}
 use Rattle.archive_machine.specs.Commands.{no_list as unknown_list, no_person as unknown_person}
 use Rattle.archive_machine.specs.Questions.{address_of, has_list, has_person, standing_of, standing_refusal}
 use Rattle.archive_store.specs.Told.{HoldsTables, GoesIn, AsksIn}
-use Rattle.archive_store.specs.Words.{standing_rank}
+use Rattle.archive_port.specs.Words.{standing_rank}
 use Rattle.archive_store.specs.declared.store.Store.{Store}
 use Rattle.archive_store.proofs.Joins.{goes_in_as, stays_there_in}
 use Rattle.archive_results.specs.Access.{Ask, ReaderMarks, facts_of, is_allowance, is_shown, marks_of, reader_marks, reader_standing, ruling_on, standing_ranked}

@@ -12,14 +12,14 @@ use Rattle.sqlite.specs.Store.{Ghosts}
 use Rattle.archive_tables.specs.Calls.{Lasts}
 use Rattle.archive_machine.specs.Records.{Archive, Message as Remembered}
 use Rattle.archive_machine.specs.Messages.{number_of}
-use Rattle.archive_database.specs.Messages.{AreMarksOf, IsReadable}
-use Rattle.archive_database.specs.declared.reading.DatedMarks.{DatedMarks}
+use Rattle.archive_port.specs.Messages.{AreMarksOf, IsReadable}
+use Rattle.archive_port.specs.declared.marks.DatedMarks.{DatedMarks}
 use Rattle.archive_store.specs.Told.{HasReturned}
-use Rattle.archive_store.specs.Replies.{refusal}
+use Rattle.archive_port.specs.Replies.{refusal}
 use Rattle.archive_store.specs.Walking.{ShowsNext, Walk, WalksOver, ahead_of, left_of, over}
 use Rattle.archive_store.specs.declared.walking.EachRow.{EachRow}
 use Rattle.archive_store.proofs.WalkingLemmas.{passed_next}
-use Rattle.archive_store.specs.declared.faults.StoreFault.{StoreFault}
+use Rattle.archive_port.specs.declared.faults.StoreFault.{StoreFault}
 use Rattle.archive_store.proofs.CauseLemmas.{more_since, not_all}
 use Rattle.archive_results.specs.Access.{Ask, ReaderMarks, Marks, asks_author, is_shown, is_withheld, marks_of, withdrawal_numbered}
 use Rattle.archive_desk.specs.Walking.{HasPassed, PassesOne, PassesWithheld}

@@ -31,7 +31,7 @@ use Rattle.archive_machine.specs.Machine.{Outcome, readdressed, with_address, wi
 use Rattle.archive_machine.specs.Machine.{longest_text, message_limit, changed, with_change, withdrawn_by, embargoed, step}
 use Rattle.archive_machine.specs.Runs.{run, taken}
 use Rattle.archive_machine.proofs.KeyLemmas.{is_key-encode_lower}
-use Rattle.archive_database.specs.Messages.{IsReadable}
+use Rattle.archive_port.specs.Messages.{IsReadable}
 use Rattle.policy_core.specs.Numbers.{party_number, kind_rank}
 use Rattle.policy_core.specs.declared.access.Kind.{Kind}
 use Rattle.policy_core.specs.declared.access.Kind.TheVariants.{Member, Subscriber, Moderator}

@@ -16,7 +16,7 @@ use Rattle.archive_machine.specs.Questions.{has_list, has_message, is_message, m
 use Rattle.archive_machine.specs.Machine.{Outcome, keyed_message, longest_text, message_limit, step, with_message}
 use Rattle.archive_machine.specs.Runs.{run, taken}
 use Rattle.archive_machine.proofs.RunLemmas.{archive_of_both}
-use Rattle.archive_store.specs.Crashes.{HasAddedAtLeast}
+use Rattle.archive_port.specs.Adding.{HasAddedAtLeast}
 use Rattle.archive_desk.specs.Crashes.{HasImportedAtLeast}
 use Rattle.archive_desk.specs.Importing.{IsImported}
 use Rattle.archive_desk.specs.declared.importing.Report.{Report}

@@ -15,12 +15,12 @@ use Rattle.policy_core.specs.declared.access.Standing.TheVariants.{Public}
 use Rattle.archive_machine.specs.Records.{Address, Archive, Filing, Grant, Message, Person}
 use Rattle.archive_machine.specs.Filing.{Filed, filed, by_author, by_filed_date, in_month, is_filed_by_author, is_filed_in_month, is_sent_before, with_filed}
 use Rattle.archive_machine.specs.Questions.{address_of, highest, holds_on, is_address_of, is_grant_of, is_message, message_of, messages_in, person_of_token, standing_of}
-use Rattle.archive_database.specs.Messages.{IsReadable}
+use Rattle.archive_port.specs.Messages.{IsReadable}
 use Rattle.archive_store.specs.Held.{held_of}
 use Rattle.archive_store.specs.Told.{CausedOr as StoreCausedOr, HasFailed, archive_in}
-use Rattle.archive_store.specs.Words.{standing_rank}
-use Rattle.archive_store.specs.declared.faults.StoreFault.{StoreFault}
-use Rattle.archive_store.specs.declared.faults.StoreFault.TheVariants as faults
+use Rattle.archive_port.specs.Words.{standing_rank}
+use Rattle.archive_port.specs.declared.faults.StoreFault.{StoreFault}
+use Rattle.archive_port.specs.declared.faults.StoreFault.TheVariants as faults
 use Rattle.archive_store.specs.declared.store.Store.{Store}
 use Rattle.archive_results.specs.Access.{Ask}
 use Rattle.archive_desk.specs.Causes.{CausedOr, HasCause, IsBroken, IsMessageUnreadable, IsPersonUnreadable, IsReaderUnreadable, IsUnreadable}

@@ -18,7 +18,7 @@ use Rattle.archive_results.specs.Shown.{shown_of}
 use Rattle.archive_desk.specs.Exporting.{shown_text}
 use Rattle.archive_desk.specs.Faults.{Reason, reason}
 use Rattle.archive_desk.specs.Walking.{IsRowsStop, PassesWithheld, StandsOn, WritesRows, WritesWalk}
-use Rattle.archive_store.specs.declared.faults.StoreFault.{StoreFault}
+use Rattle.archive_port.specs.declared.faults.StoreFault.{StoreFault}
 use Rattle.archive_desk.specs.declared.faults.DeskFault.{DeskFault}
 use Rattle.archive_desk.specs.declared.faults.DeskFault.TheVariants.{Memory, Write}
 

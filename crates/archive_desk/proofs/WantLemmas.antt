@@ -1,9 +1,9 @@
 -- Want of memory, counted from call to call.
 use Rattle.std.proofs.Common.{inl, inr, refl, ℕ, Err}
-use Rattle.archive_store.specs.Wanting.{IsWant, Raises}
-use Rattle.archive_store.specs.declared.faults.StoreFault.{StoreFault}
-use Rattle.archive_store.specs.declared.faults.StoreFault.TheVariants as faults
-use Rattle.archive_store.proofs.WantLemmas.{raises_as}
+use Rattle.archive_port.specs.Wanting.{IsWant, Raises}
+use Rattle.archive_port.specs.declared.faults.StoreFault.{StoreFault}
+use Rattle.archive_port.specs.declared.faults.StoreFault.TheVariants as faults
+use Rattle.archive_port.proofs.WantLemmas.{raises_as}
 use Rattle.archive_desk.specs.Causes.{IsWanting}
 use Rattle.archive_desk.specs.Faults.{desk_fault}
 

@@ -1,44 +1,44 @@
-//! The index of a view, the headers of its messages, read by one walk; and the lines of messages that a walk gives.
+//! The index of a view, the headers of its messages, read by one walk.
 ghost use Rattle.std.specs.Prelude.{◌≡◌, ◌∷◌, [], ◌++◌, filter, map, IfErr, OnOk};
 ghost use Rattle.archive_machine.specs.Messages.{remembered};
-ghost use Rattle.archive_machine.specs.Questions.{messages_in};
-ghost use Rattle.archive_results.specs.Access.{is_shown, view_of};
+ghost use Rattle.archive_results.specs.Access.{is_shown};
 ghost use Rattle.archive_results.specs.Index.{IsIndexOf, header_of};
 ghost use Rattle.archive_store.specs.Told.{AsksIn, HoldsTables};
-ghost use Rattle.archive_store.specs.Walking.{over};
+ghost use Rattle.archive_store.specs.Walking.{over, selected};
 ghost use Rattle.archive_desk.specs.Causes.{IsUnreadable};
 ghost use Rattle.archive_desk.specs.Ending.{EndsAsk, EndsWalk};
 ghost use Rattle.archive_desk.specs.Faults.{IsAskFault, ask_reason, reason};
-ghost use Rattle.archive_desk.specs.Listing.{lines_shown};
+ghost use Rattle.archive_desk.specs.Listing.{view_in};
 ghost use Rattle.archive_desk.specs.Walking.{IsUnlisted, ListsRows};
 
 use crate::faults::DeskFault;
 use crate::passing::pass_withheld;
 use crate::viewing::find_reader;
-use archive_results::{Ask, Header, Line, ReaderMarks, header_of, is_shown, line_of};
-use archive_store::{EachRow, Message, Store};
+use archive_results::{Ask, Header, ReaderMarks, header_of, is_shown};
+use archive_store::{EachRow, Message, Selection, Store};
 use mail_core::Memory;
 use sqlite::Alter;
 use std::alloc::Global;
 
-/// The headers of the messages of the view, in mailbox order. The list is walked once: it holds one message at a time, and
-/// reads the headers of those that the policy shows.
+/// The headers of these of a list's messages, as far as the policy shows them, in their order. They are walked over once: it
+/// holds one message at a time, and reads the headers of those that the policy shows.
 pub(crate) fn read_headers<S: Alter>(
     store: &mut Store<S>,
     alloc: Global,
     ask: &Ask<'_>,
+    which: &Selection<'_>,
 ) -> Result<Vec<Header>, DeskFault>
     ensures held { AsksIn S.Store (HoldsTables S.Store) store.old store.new reason result
         (λ a. ask_reason a ask.now)
-        (λ a headers. IsIndexOf (view_of a ask.now) headers.items) }
+        (λ a headers. IsIndexOf (view_in a ask.now which.now) headers.items) }
     ensures ends { EndsAsk S.Store store.old store.new IsAskFault result
-        (λ a. IsUnreadable a ask.now (messages_in a ask.now.list)) }
+        (λ a. IsUnreadable a ask.now (selected a ask.now.list which.now)) }
 {
     let reader = match find_reader(store, ask) {
         Ok(reader) => reader,
         Err(fault) => return Err(fault),
     };
-    match store.each_row(alloc, ask.list) {
+    match store.each_selected(alloc, ask.list, which) {
         Ok(mut walk) => walk_headers(store, alloc, ask, &reader, &mut walk),
         Err(fault) => Err(DeskFault::from(fault)),
     }
@@ -72,34 +72,6 @@ fn walk_headers<S: Alter>(
     }
 }
 
-/// The lines of the messages that a walk has not given yet, as far as the policy shows them.
-pub(crate) fn walk_lines<S: Alter>(
-    store: &mut Store<S>,
-    alloc: Global,
-    ask: &Ask<'_>,
-    reader: &ReaderMarks,
-    walk: &mut EachRow,
-) -> Result<Vec<Line>, DeskFault>
-    ensures listed { ListsRows S.Store (over store.old walk.old) (over store.new walk.new) ask.now reader.now lines_shown result }
-    ensures fault { IfErr result (λ fault. IsUnlisted fault) }
-    ensures ends { EndsWalk S.Store (over store.old walk.old) (over store.new walk.new) ask.now (λ fault. fault) result }
-{
-    let mut lines = Vec::new(alloc);
-    loop {
-        pass_withheld(store, ask, reader, walk)?;
-        let Some(message) = walk.next(store)? else {
-            return Ok(lines);
-        };
-        match push_line(alloc, ask, reader, &message, &mut lines) {
-            Ok(()) => {}
-            Err(refused) => {
-                store.wants.raise(refused.into());
-                return Err(DeskFault::Memory);
-            }
-        }
-    }
-}
-
 /// The header of a message more, if the policy shows it.
 fn push_header(
     alloc: Global,
@@ -114,24 +86,6 @@ fn push_header(
 {
     if is_shown(alloc, ask, reader, message)? {
         headers.push(header_of(alloc, message)?)?;
-    }
-    Ok(())
-}
-
-/// The line of a message more, if the policy shows it.
-fn push_line(
-    alloc: Global,
-    ask: &Ask<'_>,
-    reader: &ReaderMarks,
-    message: &Message,
-    lines: &mut Vec<Line>,
-) -> Result<(), Memory>
-    ensures { OnOk result (lines.new.items ≡ lines.old.items
-        ++ lines_shown (filter (is_shown ask.now reader.now)
-        (remembered ask.now.list message.now ∷ []))) }
-{
-    if is_shown(alloc, ask, reader, message)? {
-        lines.push(line_of(alloc, message.key, &message.item.as_item())?)?;
     }
     Ok(())
 }

@@ -12,13 +12,13 @@ ghost use Rattle.archive_desk.specs.Causes.{IsUnreadable};
 ghost use Rattle.archive_desk.specs.Ending.{Ends, EndsAsk};
 ghost use Rattle.archive_desk.specs.Faults.{IsAskFault, ask_reason, list_reason, reason};
 ghost use Rattle.archive_desk.specs.Holding.{AsksHeld};
-ghost use Rattle.archive_desk.specs.Listing.{IsThreadFault, thread_reason};
+ghost use Rattle.archive_store.specs.Walking.{selected};
+ghost use Rattle.archive_desk.specs.Listing.{IsThreadFault, lines_shown, thread_reason, view_in};
 
 use crate::faults::DeskFault;
-use crate::index::{read_headers, walk_lines};
-use crate::viewing::find_reader;
-use archive_results::{Ask, Header, Line, TreeLine, thread_lines, tree_lines};
-use archive_store::{Key, Store};
+use crate::index::read_headers;
+use archive_results::{Ask, Header, Line, TreeLine, columns_of, thread_lines, tree_lines};
+use archive_store::{Key, Selection, Store};
 use civil_time::Month;
 use sqlite::Alter;
 use std::alloc::Global;
@@ -27,7 +27,7 @@ use thread_core::Threader;
 /// The messages of the view whose sent date lies in a month, by sent date and then in mailbox order: those that are filed under
 /// it, by the sent date that is filed, also where another program filed them otherwise. G1 where there is no such list, G2
 /// where there is no such person; G5 where no memory is left, G4 where the store has none or fails. No other message of the list
-/// is read, and what a message refers to is not kept.
+/// is read.
 pub fn month<S: Alter>(
     store: &mut Store<S>,
     alloc: Global,
@@ -42,14 +42,7 @@ pub fn month<S: Alter>(
     ensures ends { EndsAsk S.Store store.old store.new IsAskFault result
         (λ a. IsUnreadable a ask.now (in_month a ask.now.list (pos month))) }
 {
-    let reader = match find_reader(store, ask) {
-        Ok(reader) => reader,
-        Err(fault) => return Err(fault),
-    };
-    match store.each_in_month(alloc, ask.list, month) {
-        Ok(mut walk) => walk_lines(store, alloc, ask, &reader, &mut walk),
-        Err(fault) => Err(DeskFault::from(fault)),
-    }
+    read_lines(store, alloc, ask, &Selection::InMonth(month))
 }
 
 /// The messages of the view that have an author key, by sent date and then in mailbox order: those that are filed under it, as
@@ -69,13 +62,32 @@ pub fn author<S: Alter>(
     ensures ends { EndsAsk S.Store store.old store.new IsAskFault result
         (λ a. IsUnreadable a ask.now (by_author a ask.now.list key.now)) }
 {
-    let reader = match find_reader(store, ask) {
-        Ok(reader) => reader,
+    read_lines(store, alloc, ask, &Selection::ByAuthor(key))
+}
+
+/// The lines of these of a list's messages, as far as the policy shows them, in their order.
+fn read_lines<S: Alter>(
+    store: &mut Store<S>,
+    alloc: Global,
+    ask: &Ask<'_>,
+    which: &Selection<'_>,
+) -> Result<Vec<Line>, DeskFault>
+    ensures held { AsksIn S.Store (HoldsTables S.Store) store.old store.new reason result
+        (λ a. ask_reason a ask.now)
+        (λ a lines. lines.items ≡ lines_shown (view_in a ask.now which.now)) }
+    ensures ends { EndsAsk S.Store store.old store.new IsAskFault result
+        (λ a. IsUnreadable a ask.now (selected a ask.now.list which.now)) }
+{
+    let headers = match read_headers(store, alloc, ask, which) {
+        Ok(headers) => headers,
         Err(fault) => return Err(fault),
     };
-    match store.each_by_author(alloc, ask.list, key) {
-        Ok(mut walk) => walk_lines(store, alloc, ask, &reader, &mut walk),
-        Err(fault) => Err(DeskFault::from(fault)),
+    match columns_of(alloc, headers) {
+        Ok(columns) => Ok(columns.lines),
+        Err(refused) => {
+            store.wants.raise(refused.into());
+            Err(DeskFault::Memory)
+        }
     }
 }
 
@@ -161,7 +173,7 @@ pub fn read_index<S: Alter>(
     ensures ends { EndsAsk S.Store store.old store.new IsAskFault result
         (λ a. IsUnreadable a ask.now (messages_in a ask.now.list)) }
 {
-    let headers = match read_headers(store, alloc, ask) {
+    let headers = match read_headers(store, alloc, ask, &Selection::Every) {
         Ok(headers) => headers,
         Err(fault) => return Err(fault),
     };

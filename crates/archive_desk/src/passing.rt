@@ -1,11 +1,11 @@
 //! Messages that a walk passes by: those that the policy withholds whatever their texts are. Their texts are not read.
 ghost use Rattle.std.specs.Prelude.{◌≡◌, None, false};
 ghost use Rattle.archive_machine.specs.Records.{Message as Remembered};
-ghost use Rattle.archive_database.specs.Messages.{AreMarksOf};
+ghost use Rattle.archive_port.specs.Messages.{AreMarksOf};
 ghost use Rattle.archive_results.specs.Access.{marks_of};
 ghost use Rattle.archive_store.specs.Told.{Counts, Lasts};
 ghost use Rattle.archive_store.specs.Walking.{over};
-ghost use Rattle.archive_store.specs.Wanting.{IsWant};
+ghost use Rattle.archive_port.specs.Wanting.{IsWant};
 ghost use Rattle.archive_desk.specs.Walking.{PassesOne, PassesWithheld, StopsPassing};
 
 use archive_results::{Ask, Marks, ReaderMarks, asks_author, is_withheld};

@@ -1,5 +1,5 @@
 //! Pages of threads, and the texts of their rows, which stand apart from the pages so that each is written once.
-ghost use Rattle.std.specs.Prelude.{◌≡◌, ◌++◌, ◌-◌, ℕ, List, IfOk, OnOk, codes, drop, length, option_copied, slice_index_or, take};
+ghost use Rattle.std.specs.Prelude.{◌≡◌, ◌++◌, ℕ, List, IfOk, OnOk, codes, length, slice_index_or};
 ghost use Rattle.thread_core.specs.declared.row.Row.{Row as Placed};
 ghost use Rattle.archive_html.specs.Pages.{page, titled};
 ghost use Rattle.archive_html.specs.Rows.{AreRowTexts, rows_text, tree_row};
@@ -8,7 +8,7 @@ ghost use Rattle.archive_results.specs.Shown.{Line as Shown};
 
 use crate::pages::{push_foot, started, titled};
 use crate::rows::{push_message, push_missing};
-use archive_results::Line;
+use archive_results::{Line, line_at, within};
 use mail_core::Memory;
 use std::alloc::{AllocError, Global};
 use thread_core::Row;
@@ -19,16 +19,6 @@ const ROW_BYTES: usize = 384;
 /// How many bytes stand behind the rows, or some more: so a page is not copied for them.
 const FOOT_BYTES: usize = 64;
 
-/// The line at the place of a row. `None` where it has no place, or no line is there.
-fn line_at<'a>(lines: &'a [Line], row: &Row) -> Option<&'a Line>
-    ensures { option_copied result ≡ (tree_line lines.entry.now row.entry.now).line }
-{
-    match row.place {
-        Some(place) => lines.get(place),
-        None => None,
-    }
-}
-
 /// Adds a row of a thread with the line at its place, or the row of a message that is not there.
 fn push_row(page: &mut Vec<u8>, list: &str, lines: &[Line], row: &Row) -> Result<(), AllocError>
     ensures { OnOk result (page.new.items ≡ page.old.items
@@ -38,15 +28,6 @@ fn push_row(page: &mut Vec<u8>, list: &str, lines: &[Line], row: &Row) -> Result
         Some(line) => push_message(page, list, row.depth, line),
         None => push_missing(page),
     }
-}
-
-/// The bytes from one up to another.
-fn between(bytes: &[u8], from: usize, to: usize) -> &[u8]
-    ensures { result.now ≡ take (to - from) (drop from bytes.entry.now) }
-{
-    let (_, rest) = bytes.split_at(from.min(bytes.len()));
-    let (part, _) = rest.split_at(to.saturating_sub(from).min(rest.len()));
-    part
 }
 
 /// The rows of threads as a page of their list has them, one after the other, and where each begins.
@@ -96,7 +77,7 @@ impl RowTexts {
     {
         let from = self.start(first);
         let to = self.start(end.max(first));
-        between(&self.bytes, from, to)
+        within(&self.bytes, from, to)
     }
 }
 

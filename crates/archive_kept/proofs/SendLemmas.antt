@@ -19,15 +19,16 @@ use Rattle.archive_machine.specs.Messages.{remembered}
 use Rattle.archive_machine.specs.declared.messages.Message.{Message}
 use Rattle.archive_tables.specs.Tables.{AreApart, same_message}
 use Rattle.archive_tables.proofs.LastLemmas.{lasts_then, lasts_same}
-use Rattle.archive_database.specs.Messages.{IsReadable}
+use Rattle.archive_port.specs.Messages.{IsReadable}
 use Rattle.archive_store.specs.Held.{held_of, wants_of}
-use Rattle.archive_store.specs.Replies.{Answers, IsOneOf, RefusedFor, refusal}
+use Rattle.archive_store.specs.Replies.{Answers}
+use Rattle.archive_port.specs.Replies.{IsOneOf, RefusedFor, refusal}
 use Rattle.archive_store.specs.Told.{CausedOr as StoreCausedOr, Counts, GoesIn, GoesInIfOpen, HasReturned, HoldsTables, IsOpen, Lasts, archive_in}
-use Rattle.archive_store.specs.Wanting.{IsWant}
+use Rattle.archive_port.specs.Wanting.{IsWant}
 use Rattle.archive_store.specs.declared.store.Store.{Store}
-use Rattle.archive_store.specs.declared.faults.StoreFault.{StoreFault}
-use Rattle.archive_store.specs.declared.faults.StoreFault.TheVariants as faults
-use Rattle.archive_store.proofs.WantLemmas.{raises_after}
+use Rattle.archive_port.specs.declared.faults.StoreFault.{StoreFault}
+use Rattle.archive_port.specs.declared.faults.StoreFault.TheVariants as faults
+use Rattle.archive_port.proofs.WantLemmas.{raises_after}
 use Rattle.archive_results.specs.Results.{export_text, lines_of}
 use Rattle.archive_results.specs.Shown.{Line, Shown, line_of, shown_of}
 use Rattle.archive_desk.specs.Causes.{AreUnreadable, HasCause, IsBroken, IsWanting}

@@ -20,18 +20,6 @@ fn is_in(line: &Line, part: &Part<'_>) -> bool
     }
 }
 
-/// A line once more.
-fn copied(alloc: Global, line: &Line) -> Result<Line, Memory>
-    ensures { IfOk result (λ own. own ≡ line.now) }
-{
-    Ok(Line {
-        key: line.key,
-        sent: line.sent,
-        author: line.author.to_vec(alloc)?,
-        subject: line.subject.to_vec(alloc)?,
-    })
-}
-
 /// The lines that stand under a part, in their order.
 fn picked(alloc: Global, lines: &[Line], part: &Part<'_>) -> Result<Vec<Line>, Memory>
     ensures { IfOk result (λ found. found.items ≡ filter (is_in (part_named part.now)) lines.now) }
@@ -39,7 +27,7 @@ fn picked(alloc: Global, lines: &[Line], part: &Part<'_>) -> Result<Vec<Line>, M
     let mut found = Vec::new(alloc);
     for line in lines {
         if is_in(line, part) {
-            found.push(copied(alloc, line)?)?;
+            found.push(line.try_copy(alloc)?)?;
         }
     }
     Ok(found)

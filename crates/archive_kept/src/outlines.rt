@@ -1,7 +1,7 @@
 //! Views without the texts of their messages.
 ghost use Rattle.std.specs.Prelude.{◌≡◌, ℕ, List, Bool, IfOk, flat_map, map, option_map};
 ghost use Rattle.archive_html.specs.Rows.{tree_row};
-ghost use Rattle.archive_results.specs.Index.{OfEachView, entries_in, lines_in};
+ghost use Rattle.archive_results.specs.Index.{OfEachView};
 ghost use Rattle.archive_results.specs.Results.{thread_lines};
 ghost use Rattle.archive_results.specs.Shown.{Shown as Seen, shown_of};
 ghost use Rattle.archive_kept.specs.Outlines.{outline_by, outline_of, text_of, thread_in};
@@ -10,11 +10,11 @@ use crate::keyed::KeyedLines;
 use crate::threaded::ThreadedRows;
 use archive_html::RowTexts;
 use archive_machine::Key;
-use archive_results::{Header, Line};
+use archive_results::{Header, Line, columns_of};
 use mail_core::Memory;
 use std::alloc::Global;
 use std::marker::Model;
-use thread_core::{Entry, Row, Threader, threads};
+use thread_core::{Row, Threader, threads};
 
 /// A view without the texts of its messages: the line of each message, in mailbox order, and the rows of the threads, each with the
 /// place of its message and its text, as the pages of the list have it. A message is found by its key, and its thread by its place,
@@ -81,26 +81,6 @@ impl Outline {
         let (first, end) = self.rows.thread_at(place)?;
         Some(self.texts.run(first, end))
     }
-}
-
-/// The lines of some headers, and what the headers say about threads.
-#[derive(Drop)]
-struct Columns {
-    lines: Vec<Line>,
-    entries: Vec<Entry>,
-}
-
-fn columns_of(alloc: Global, headers: Vec<Header>) -> Result<Columns, Memory>
-    ensures lines { IfOk result (λ columns. columns.lines.items ≡ lines_in headers.items) }
-    ensures entries { IfOk result (λ columns. columns.entries.items ≡ entries_in headers.items) }
-{
-    let mut lines = Vec::with_capacity(alloc, headers.len())?;
-    let mut entries = Vec::with_capacity(alloc, headers.len())?;
-    for header in headers {
-        lines.push(header.line)?;
-        entries.push(header.entry)?;
-    }
-    Ok(Columns { lines, entries })
 }
 
 /// The outline of lines and of the rows of their threads. `Memory` where no memory is left.

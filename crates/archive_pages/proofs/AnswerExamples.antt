@@ -2,7 +2,7 @@
 use Rattle.std.proofs.Common.{◌≡◌, ℕ, pos, List, [], ◌∷◌, Some, None, false, refl, codes}
 use Rattle.std.specs.Fmt.{digits}
 use Rattle.httparse.specs.Grammar.{RequestHead, Field, crlf, trim_ows}
-use Rattle.policy_core.specs.Rules.{Rule, open_rule}
+use Rattle.policy_core.specs.Rules.{standings, withdrawn, Rule, open_rule}
 use Rattle.policy_core.specs.declared.access.Standing.TheVariants.{Public}
 use Rattle.policy_core.specs.declared.access.Withdrawn.TheVariants.{Author, Board}
 use Rattle.archive_machine.specs.Records.{Archive}
@@ -121,7 +121,7 @@ moderated = record two { grants = record { person = codes "mo"; list = codes "so
 
 -- the public sees no withdrawn message
 abbrev example : List Rule
-example = record open_rule { name = codes "withdrawn"; allows = false; standings = Some (Public ∷ []); withdrawn = Some (Author ∷ Board ∷ []) }
+example = record open_rule { name = codes "withdrawn"; allows = false; conditions = standings (Public ∷ []) ∷ withdrawn (Author ∷ Board ∷ []) ∷ [] }
     ∷ record open_rule { name = codes "all" } ∷ []
 
 a_withdrawn_message : reply_bytes (reply_of two example (pos 12131) (asks (codes "GET") (codes "/l/soc/m/1111111111111111111111111111111111111111111111111111111111111111") []))
@@ -159,7 +159,7 @@ its_mbox = refl
 -- ---- what is withheld leaves no trace: the first of the two, under a policy that names authors alone
 
 abbrev of_authors : List Rule
-of_authors = record open_rule { name = codes "author"; allows = false; withdrawn = Some (Author ∷ []) } ∷ record open_rule { name = codes "all" } ∷ []
+of_authors = record open_rule { name = codes "author"; allows = false; conditions = withdrawn (Author ∷ []) ∷ [] } ∷ record open_rule { name = codes "all" } ∷ []
 
 abbrev mbox_of : Archive → Reply
 mbox_of archive = reply_of archive of_authors (pos 12131) (asks (codes "GET") (codes "/l/soc/mbox") [])

@@ -16,13 +16,13 @@ use Rattle.archive_machine.specs.Questions.{has_list, has_person, person_of_toke
 use Rattle.sqlite.specs.Held.{state}
 use Rattle.archive_store.specs.Held.{held_of, wants_of}
 use Rattle.archive_store.proofs.CauseLemmas.{more_since}
-use Rattle.archive_store.specs.Replies.{RefusedFor, refusal}
+use Rattle.archive_port.specs.Replies.{RefusedFor, refusal}
 use Rattle.archive_store.specs.Told.{CausedOr as StoreCausedOr, Counts, HasFailed, HasNoLimit, HoldsTables, Lasts, WasRefused, archive_in}
 use Rattle.archive_desk.specs.Holding.{GoesHeld, GoesHeldIfOpen}
-use Rattle.archive_store.specs.Wanting.{IsWant}
+use Rattle.archive_port.specs.Wanting.{IsWant}
 use Rattle.archive_store.specs.declared.store.Store.{Store}
-use Rattle.archive_store.specs.declared.faults.StoreFault.{StoreFault}
-use Rattle.archive_store.specs.declared.faults.StoreFault.TheVariants as faults
+use Rattle.archive_port.specs.declared.faults.StoreFault.{StoreFault}
+use Rattle.archive_port.specs.declared.faults.StoreFault.TheVariants as faults
 use Rattle.archive_results.specs.Access.{Ask, no_list, no_person}
 use Rattle.archive_desk.specs.Causes.{HasCause, IsBroken, IsWanting}
 use Rattle.archive_desk.specs.Walking.{IsWalkStop}

@@ -6,11 +6,12 @@ use Rattle.archive_machine.specs.Records.{Archive}
 use Rattle.archive_machine.specs.Commands.{Refusal}
 use Rattle.archive_tables.proofs.LastLemmas.{lasts_then}
 use Rattle.archive_store.specs.Held.{held_of}
-use Rattle.archive_store.specs.Replies.{refusal, Answers}
+use Rattle.archive_port.specs.Replies.{refusal}
+use Rattle.archive_store.specs.Replies.{Answers}
 use Rattle.archive_store.specs.Told.{HasReturned, IsOpen, HoldsTables, Lasts, archive_in}
 use Rattle.archive_desk.specs.Holding.{GoesHeld, GoesHeldIfOpen}
 use Rattle.archive_store.specs.declared.store.Store.{Store}
-use Rattle.archive_store.specs.declared.faults.StoreFault.{StoreFault}
+use Rattle.archive_port.specs.declared.faults.StoreFault.{StoreFault}
 use Rattle.archive_store.proofs.Joins.{asked_in, ask_refused_in, ask_failed_in, stays_there_in, goes_on_in, goes_on_in_if_open, goes_in_as, goes_in_as_if_open}
 use Rattle.archive_pages.specs.Replies.{Reply, Sends, Breaks, Is, IsBroken, mbox_reply, unavailable}
 use Rattle.archive_pages.specs.Serving.{OfEvery, Sent, Serves, Stays}

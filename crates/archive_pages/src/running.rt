@@ -3,8 +3,8 @@
 ghost use Rattle.std.specs.Prelude.{◌≡◌, None, map, IfOk, IfErr, OnOk};
 ghost use Rattle.archive_machine.specs.Runs.{run};
 ghost use Rattle.archive_tables.specs.Making.{empty_archive};
-ghost use Rattle.archive_store.specs.Replies.{refusal};
-ghost use Rattle.archive_store.specs.Carrying.{command_of};
+ghost use Rattle.archive_port.specs.Replies.{refusal};
+ghost use Rattle.archive_port.specs.Commands.{command_of};
 ghost use Rattle.archive_store.specs.Told.{HoldsTables, archive_in, HasReturned};
 ghost use Rattle.archive_pages.specs.Calls.{AnswersPeer, QuietPeer, StopsPeer};
 

@@ -5,7 +5,7 @@ use anyhow::bail;
 use archive_desk::{Report, author, export, import, message, month, thread, threads};
 use archive_html::{RowTexts, threads_page};
 use archive_pages::answer;
-use archive_results::{Ask, Asked, Line, Reader, TreeLine, header_of, line_of};
+use archive_results::{Ask, Asked, Line, Reader, TreeLine, header_of};
 use archive_store::{Key, Store, StoreFault};
 use civil_time::{Day, Month};
 use mbox_core::device::Counted;
@@ -93,7 +93,7 @@ impl Given {
         let Some(message) = messages.get(messages.len() / 2) else {
             bail!("the list is empty");
         };
-        let Ok(line) = line_of(rt.alloc(), message.key, &message.item.as_item()) else {
+        let Ok(header) = header_of(rt.alloc(), message) else {
             bail!("no memory");
         };
         Ok(Self {
@@ -101,8 +101,8 @@ impl Given {
             policy: Policy::open(),
             day,
             key: message.key,
-            month: line.sent.month(),
-            author: line.author,
+            month: header.line.sent.month(),
+            author: header.line.author,
         })
     }
 

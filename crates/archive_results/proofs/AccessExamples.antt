@@ -3,7 +3,7 @@ use Rattle.std.proofs.Common.{◌≡◌, ℕ, ℤ, pos, List, [], ◌∷◌, map
 use Rattle.policy_core.specs.declared.access.Standing.TheVariants.{Public, Member, Moderator}
 use Rattle.policy_core.specs.declared.access.Withdrawn.{Withdrawn}
 use Rattle.policy_core.specs.declared.access.Withdrawn.TheVariants.{No, Author, Board}
-use Rattle.policy_core.specs.Rules.{Rule, open_rule}
+use Rattle.policy_core.specs.Rules.{standings, withdrawn, embargo, age_min, own, Rule, open_rule}
 use Rattle.mail_core.specs.Fields.{fields_of, header_blocks, unfolded}
 use Rattle.mail_core.specs.Lines.{lines, is_empty_line, content}
 use Rattle.archive_machine.specs.Records.{Message, Archive}
@@ -45,10 +45,10 @@ archive = record {
 }
 
 abbrev withdrawn_rule : Rule
-withdrawn_rule = record open_rule { name = codes "withdrawn"; allows = false; standings = Some (Public ∷ Member ∷ []); withdrawn = Some (Author ∷ Board ∷ []) }
+withdrawn_rule = record open_rule { name = codes "withdrawn"; allows = false; conditions = standings (Public ∷ Member ∷ []) ∷ withdrawn (Author ∷ Board ∷ []) ∷ [] }
 
 abbrev embargo_rule : Rule
-embargo_rule = record open_rule { name = codes "embargo"; allows = false; embargo = Some true }
+embargo_rule = record open_rule { name = codes "embargo"; allows = false; conditions = embargo true ∷ [] }
 
 abbrev all_rule : Rule
 all_rule = record open_rule { name = codes "all" }
@@ -117,11 +117,11 @@ unfolding marks_of ruling_on
 on_its_until_day = refl
 
 -- a message is younger than no days where it comes after the reading day
-before_it_came : keys_seen (by (record all_rule { age_min = Some 0 } ∷ []) None (pos 12114)) ≡ []
+before_it_came : keys_seen (by (record all_rule { conditions = age_min 0 ∷ [] } ∷ []) None (pos 12114)) ≡ []
 unfolding marks_of ruling_on
 before_it_came = refl
 
-on_the_day_it_came : keys_seen (by (record all_rule { age_min = Some 0 } ∷ []) None (pos 12115)) ≡ codes "k1" ∷ codes "k2" ∷ []
+on_the_day_it_came : keys_seen (by (record all_rule { conditions = age_min 0 ∷ [] } ∷ []) None (pos 12115)) ≡ codes "k1" ∷ codes "k2" ∷ []
 unfolding marks_of ruling_on
 on_the_day_it_came = refl
 
@@ -145,7 +145,7 @@ with_annas = record archive {
 }
 
 abbrev mine_rule : Rule
-mine_rule = record open_rule { name = codes "mine"; own = Some true }
+mine_rule = record open_rule { name = codes "mine"; conditions = own true ∷ [] }
 
 abbrev own_rules : List Rule
 own_rules = mine_rule ∷ withdrawn_rule ∷ all_rule ∷ []
@@ -222,8 +222,8 @@ nobody_is_no_unknown_person = refl
 
 -- the rules of `samples/seeds.toml`
 abbrev seeds_rules : List Rule
-seeds_rules = record open_rule { name = codes "moderators"; standings = Some (Moderator ∷ []) }
-    ∷ record open_rule { name = codes "withdrawn"; allows = false; withdrawn = Some (Author ∷ Board ∷ []) }
+seeds_rules = record open_rule { name = codes "moderators"; conditions = standings (Moderator ∷ []) ∷ [] }
+    ∷ record open_rule { name = codes "withdrawn"; allows = false; conditions = withdrawn (Author ∷ Board ∷ []) ∷ [] }
     ∷ embargo_rule ∷ record open_rule { name = codes "open" } ∷ []
 
 -- they deny each withdrawn message to the public, whoever withdrew it, and whenever it came

@@ -1,5 +1,8 @@
 -- What the headers of a view give is what the view gives.
-use Rattle.std.proofs.Common.{◌≡◌, ℕ, Bool, List, [], ◌∷◌, map, Option, Some, None, option_map, refl, ap, ◌∙◌}
+use Rattle.std.proofs.Common.{◌≡◌, ℕ, Bool, List, [], ◌∷◌, map, Option, Some, None, Result, Ok, Err, option_map, refl, ap, ◌∙◌}
+use Rattle.std.specs.Prelude.{IfOk, Vec}
+use Rattle.std.specs.declared.alloc.Global.{Global}
+use Rattle.civil_time.specs.declared.refusal.Memory.{Memory}
 use Rattle.std.specs.Option.{option_and_then}
 use Rattle.thread_core.specs.Threads.{threads_of}
 use Rattle.thread_core.specs.TopThread.{top_thread_of}
@@ -27,10 +30,14 @@ rows_are merge view headers entries rows e h r = r ∙ ap (λ (es : List Entry).
 
 -- ---- threads
 
-pub trees_are : (merge : Bool) (view : List Message) (lines : List Line) (rows : List Row) (shown : List TreeLine) → lines ≡ lines_of (map shown_of view)
-    → rows ≡ rows_of merge (map shown_of view) → shown ≡ map (tree_line lines) rows
-    → shown ≡ tree_lines merge (map shown_of view)
-trees_are merge view lines rows shown l r s = s ∙ ap (map (tree_line lines)) r ∙ ap (λ (ls : List Line). map (tree_line ls) (rows_of merge (map shown_of view))) l
+-- however the lines and the rows are handed on
+pub trees_are : (merge : Bool) (view : List Message) (lines : List Line) (rows : List Row) (result : Result (Vec TreeLine Global) Memory)
+    → lines ≡ lines_of (map shown_of view) → rows ≡ rows_of merge (map shown_of view)
+    → (lent : List Line) (walked : List Row) → lent ≡ lines → walked ≡ rows → IfOk result (λ shown. shown.items ≡ map (tree_line lent) walked)
+    → IfOk result (λ shown. shown.items ≡ tree_lines merge (map shown_of view))
+trees_are merge view lines rows (Ok shown) l r lent walked ls rs s =
+    s ∙ ap (map (tree_line lent)) (rs ∙ r) ∙ ap (λ (ls : List Line). map (tree_line ls) (rows_of merge (map shown_of view))) (ls ∙ l)
+trees_are merge view lines rows (Err why) l r lent walked ls rs s = tt
 
 abbrev thread_from : List ℕ → List Line → List Row → Option (List TreeLine)
 thread_from key lines rows = option_map (λ range. map (tree_line lines) (within range rows)) (option_and_then (top_thread_of rows) (place_of key lines))

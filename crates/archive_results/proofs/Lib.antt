@@ -4,7 +4,6 @@ pub mod HoldLemmas
 pub mod IndexLemmas
 pub mod ResultExamples
 pub mod ShownExamples
-pub mod SlotLemmas
 pub mod SortLemmas
 pub mod FiledLemmas
 pub mod OwnLemmas

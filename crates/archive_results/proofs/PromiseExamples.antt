@@ -3,7 +3,7 @@ use Rattle.std.proofs.Common.{◌≡◌, ◌≢◌, ℕ, ℤ, pos, List, [], ◌
 use Rattle.std.proofs.lemmas.List.Elements.{All-nil, All-cons}
 use Rattle.policy_core.specs.declared.access.Standing.TheVariants.{Public}
 use Rattle.policy_core.specs.declared.access.Withdrawn.TheVariants.{No, Author, Board}
-use Rattle.policy_core.specs.Rules.{Rule, open_rule}
+use Rattle.policy_core.specs.Rules.{withdrawn as if_withdrawn, embargo as if_embargo, Rule, open_rule}
 use Rattle.archive_machine.specs.Records.{Message, Filing, Archive}
 use Rattle.archive_machine.specs.Commands.{Command, withdraw, restore, embargo, lift, list_full, done, refused}
 use Rattle.archive_machine.specs.Machine.{step}
@@ -35,8 +35,8 @@ archive = record { lists = soc ∷ []; persons = []; grants = []; messages = fir
 
 -- what its author withdrew is denied, and what the board withdrew is not
 abbrev rules : List Rule
-rules = record open_rule { name = codes "author"; allows = false; withdrawn = Some (Author ∷ []) }
-    ∷ record open_rule { name = codes "embargo"; allows = false; embargo = Some true }
+rules = record open_rule { name = codes "author"; allows = false; conditions = if_withdrawn (Author ∷ []) ∷ [] }
+    ∷ record open_rule { name = codes "embargo"; allows = false; conditions = if_embargo true ∷ [] }
     ∷ record open_rule { name = codes "all" } ∷ []
 
 abbrev on : ℤ → Ask

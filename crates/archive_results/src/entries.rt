@@ -3,13 +3,11 @@ ghost use Rattle.std.specs.Prelude.{◌≡◌, IfOk};
 ghost use Rattle.mail_core.specs.Author.{key_of_body, trimmed};
 ghost use Rattle.mail_core.specs.Headers.{own_id_in, references_in};
 ghost use Rattle.subject_core.specs.BaseSubject.{base_of, is_reply};
-ghost use Rattle.archive_results.specs.Shown.{line_of};
 
 use crate::lines::Line;
 use archive_machine::Key;
 use civil_time::Instant;
 use mail_core::{Header as Fields, Memory, trimmed};
-use mbox_items::Item;
 use std::alloc::Global;
 use subject_core::base;
 use thread_core::Entry;
@@ -64,14 +62,4 @@ pub(crate) fn line_in(
         author,
         subject,
     })
-}
-
-/// The line of a message of this key. `Memory` where no memory is left. No byte behind the header is read.
-pub fn line_of(alloc: Global, key: Key, item: &Item<'_>) -> Result<Line, Memory>
-    ensures { IfOk result (λ line. line ≡ line_of (record { key = key; item = item.now })) }
-{
-    let fields = Fields::of(item.text);
-    let subject = fields.unfolded_subject(alloc)?;
-    let sent = fields.sent(item.envelope.arrival);
-    line_in(alloc, key, &fields, sent, &subject)
 }

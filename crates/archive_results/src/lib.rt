@@ -14,7 +14,6 @@ pub use access::{
     Marks, ReaderMarks, asked, asks_author, is_shown, is_withheld, marks_of, verdict,
 };
 pub use asking::{Ask, Asked, Reader};
-pub use entries::line_of;
 pub use headers::{Header, header_of};
 pub use lines::{Line, TreeLine};
-pub use threads::{thread_lines, tree_lines};
+pub use threads::{Columns, columns_of, line_at, thread_lines, tree_lines, within};

@@ -1,6 +1,10 @@
 //! What a list shows of one message, and a row of a thread.
+ghost use Rattle.std.specs.Prelude.{◌≡◌, IfOk};
+
 use archive_machine::Key;
 use civil_time::Instant;
+use mail_core::Memory;
+use std::alloc::Global;
 use std::marker::Model;
 
 /// A message in a list.
@@ -22,6 +26,20 @@ impl Model for Line {
     ghost Value = { Shown };
 
     ghost view = { λ l. record { key = l.key; sent = l.sent; author = l.author.items; subject = l.subject.items } };
+}
+
+impl Line {
+    /// The same line once more. `Memory` where no memory is left.
+    pub fn try_copy(&self, alloc: Global) -> Result<Line, Memory>
+        ensures { IfOk result (λ own. own ≡ self.now) }
+    {
+        Ok(Line {
+            key: self.key,
+            sent: self.sent,
+            author: self.author.to_vec(alloc)?,
+            subject: self.subject.to_vec(alloc)?,
+        })
+    }
 }
 
 /// A row of a thread: how deep it stands, 0 at the top, and its message's line. `None` stands for a message that is missing.

@@ -1,106 +1,81 @@
 //! The threads of a view (RFC 5256, section 3, THREAD=REFERENCES).
-ghost use Rattle.std.specs.Prelude.{◌≡◌, ◌≢◌, ℕ, IfOk, false, map, position, bytes_eq, option_map};
-ghost use Rattle.thread_core.specs.TopThread.{is_row_of};
+ghost use Rattle.std.specs.Prelude.{◌≡◌, IfOk, map, option_copied, option_map};
 ghost use Rattle.archive_results.specs.Shown.{shown_of};
-ghost use Rattle.archive_results.specs.Results.{within, tree_lines, thread_lines};
-ghost use Rattle.archive_results.specs.Index.{OfEachView, entries_in};
-ghost use Rattle.archive_results.specs.Slots.{slots_in, held_at, row_held, HasNoPlaceTwice};
+ghost use Rattle.archive_results.specs.Results.{place_of, within, tree_line, tree_lines, thread_lines};
+ghost use Rattle.archive_results.specs.Index.{OfEachView, entries_in, lines_in};
 
 use crate::headers::Header;
 use crate::lines::{Line, TreeLine};
 use archive_machine::Key;
 use mail_core::Memory;
 use std::alloc::Global;
-use thread_core::laws::each_place_stands_in_one_row;
 use thread_core::{Entry, Row, Threader, thread_of, threads};
 
-/// The line of each of some headers, in a slot of its own, and what the headers say about threads.
+/// The lines of some headers, and what the headers say about threads.
 #[derive(Drop)]
-struct Parts {
-    slots: Vec<Option<Line>>,
-    entries: Vec<Entry>,
+pub struct Columns {
+    /// What a list shows of each message.
+    pub lines: Vec<Line>,
+    /// What a threader asks of each message.
+    pub entries: Vec<Entry>,
 }
 
-fn split(alloc: Global, headers: Vec<Header>) -> Result<Parts, Memory>
-    ensures slots { IfOk result (λ parts. parts.slots.items ≡ slots_in headers.items) }
-    ensures entries { IfOk result (λ parts. parts.entries.items ≡ entries_in headers.items) }
+/// The columns of some headers, in their order. `Memory` where no memory is left.
+pub fn columns_of(alloc: Global, headers: Vec<Header>) -> Result<Columns, Memory>
+    ensures lines { IfOk result (λ columns. columns.lines.items ≡ lines_in headers.items) }
+    ensures entries { IfOk result (λ columns. columns.entries.items ≡ entries_in headers.items) }
 {
-    let mut slots = Vec::with_capacity(alloc, headers.len())?;
+    let mut lines = Vec::with_capacity(alloc, headers.len())?;
     let mut entries = Vec::with_capacity(alloc, headers.len())?;
     for header in headers {
-        slots.push(Some(header.line))?;
+        lines.push(header.line)?;
         entries.push(header.entry)?;
     }
-    Ok(Parts { slots, entries })
+    Ok(Columns { lines, entries })
 }
 
-/// The line in the slot at a place, taken out of it. `None` where there is no slot, or its line was taken before.
-fn take_line(slots: &mut [Option<Line>], place: usize) -> Option<Line>
-    ensures taken { result ≡ held_at slots.old place }
-    ensures others { (other : ℕ) → other ≢ place
-        → held_at slots.new other ≡ held_at slots.old other }
+/// The line at the place of a row. `None` where it has no place, or no line is there.
+pub fn line_at<'a>(lines: &'a [Line], row: &Row) -> Option<&'a Line>
+    ensures { option_copied result ≡ (tree_line lines.entry.now row.entry.now).line }
 {
-    if place < slots.len() {
-        slots[place].take()
-    } else {
-        None
-    }
-}
-
-/// A row with the line at its place, taken out of its slot.
-fn tree_line(slots: &mut [Option<Line>], row: &Row) -> TreeLine
-    ensures shown { result ≡ row_held slots.old row.now }
-    ensures others { (place : ℕ) → is_row_of place row.now ≡ false
-        → held_at slots.new place ≡ held_at slots.old place }
-{
-    let line = match row.place {
-        Some(place) => take_line(slots, place),
+    match row.place {
+        Some(place) => lines.get(place),
         None => None,
-    };
-    TreeLine {
-        depth: row.depth,
-        line,
     }
 }
 
-/// Rows with the lines at their places, each taken out of its slot.
-fn lines_at(
-    alloc: Global,
-    slots: &mut [Option<Line>],
-    rows: &[Row],
-) -> Result<Vec<TreeLine>, Memory>
-    requires { HasNoPlaceTwice rows.now }
-    ensures { IfOk result (λ shown. shown.items ≡ map (row_held slots.old) rows.now) }
+/// The elements of a range: from its first, up to the one before its end.
+pub fn within<T>(items: &[T], first: usize, end: usize) -> &[T]
+    ensures { result.now ≡ within (first, end) items.entry.now }
 {
-    let mut shown = Vec::with_capacity(alloc, rows.len())?;
-    for row in rows {
-        shown.push(tree_line(slots, row))?;
-    }
-    Ok(shown)
-}
-
-/// Whether a header is that of the message of this key.
-fn has_key(header: &Header, key: &Key) -> bool
-    ensures { result ≡ bytes_eq header.now.line.key key.now }
-{
-    header.line.key.as_str() == key.as_str()
+    let (_, rest) = items.split_at(first.min(items.len()));
+    let (part, _) = rest.split_at(end.saturating_sub(first).min(rest.len()));
+    part
 }
 
 /// The place of the message of a key.
-fn place_of(headers: &[Header], key: &Key) -> Option<usize>
-    ensures { result ≡ position (λ h. bytes_eq h.line.key key.now) headers.now }
+fn place_of(lines: &[Line], key: &Key) -> Option<usize>
+    ensures { result ≡ place_of key.now lines.now }
 {
-    headers.iter().position(|header| has_key(header, key))
+    lines.iter().position(|line| line.key == *key)
 }
 
-/// The rows of a range. Where no place stands in two rows, none does in two of these.
-fn within<'a>(rows: &'a [Row], first: usize, end: usize) -> &'a [Row]
-    ensures part { result.now ≡ within (first, end) rows.entry.now }
-    ensures once { HasNoPlaceTwice rows.entry.now → HasNoPlaceTwice result.now }
+/// Rows, each with the line at its place.
+fn lines_at(alloc: Global, lines: &[Line], rows: &[Row]) -> Result<Vec<TreeLine>, Memory>
+    ensures { IfOk result (λ shown. shown.items ≡ map (tree_line lines.now) rows.now) }
 {
-    let (_, behind) = rows.split_at(first.min(rows.len()));
-    let (part, _) = behind.split_at(end.saturating_sub(first).min(behind.len()));
-    part
+    let mut shown = Vec::with_capacity(alloc, rows.len())?;
+    for row in rows {
+        let line = match line_at(lines, row) {
+            Some(line) => Some(line.try_copy(alloc)?),
+            None => None,
+        };
+        shown.push(TreeLine {
+            depth: row.depth,
+            line,
+        })?;
+    }
+    Ok(shown)
 }
 
 /// All threads of a view whose headers these are: a row for each message, and one for a message that is missing and has two
@@ -114,11 +89,9 @@ pub fn tree_lines<T: Threader>(
     ensures { OfEachView headers.items (λ view.
         IfOk result (λ rows. rows.items ≡ tree_lines merge (map shown_of view))) }
 {
-    each_place_stands_in_one_row();
-    let mut parts = split(alloc, headers)?;
-    let rows = threads(alloc, threader, &parts.entries, merge)?;
-    let shown = lines_at(alloc, &mut parts.slots, &rows)?;
-    Ok(shown)
+    let columns = columns_of(alloc, headers)?;
+    let rows = threads(alloc, threader, &columns.entries, merge)?;
+    lines_at(alloc, &columns.lines, &rows)
 }
 
 /// Of a view whose headers these are, the rows of the top thread that holds the message of a key. `None` where the view does
@@ -133,15 +106,14 @@ pub fn thread_lines<T: Threader>(
     ensures { OfEachView headers.items (λ view. IfOk result (λ found.
         option_map (λ rows. rows.items) found ≡ thread_lines merge key.now (map shown_of view))) }
 {
-    each_place_stands_in_one_row();
-    let Some(place) = place_of(&headers, key) else {
+    let columns = columns_of(alloc, headers)?;
+    let Some(place) = place_of(&columns.lines, key) else {
         return Ok(None);
     };
-    let mut parts = split(alloc, headers)?;
-    let all = threads(alloc, threader, &parts.entries, merge)?;
+    let all = threads(alloc, threader, &columns.entries, merge)?;
     let Some((first, end)) = thread_of(&all, place) else {
         return Ok(None);
     };
-    let shown = lines_at(alloc, &mut parts.slots, within(&all, first, end))?;
+    let shown = lines_at(alloc, &columns.lines, within(&all, first, end))?;
     Ok(Some(shown))
 }

@@ -1,7 +1,7 @@
 -- Why three calls stopped, worked.
 use Rattle.std.proofs.Common.{◌≡◌, refl, Some, None}
 use Rattle.archive_machine.specs.Commands.{no_list as unknown_list}
-use Rattle.archive_store.specs.declared.faults.StoreFault.TheVariants.{NoList as UnknownList, Memory as NoMemory}
+use Rattle.archive_port.specs.declared.faults.StoreFault.TheVariants.{NoList as UnknownList, Memory as NoMemory}
 use Rattle.archive_results.specs.Access.{no_person}
 use Rattle.archive_desk.specs.Faults.{refused, not_written}
 use Rattle.archive_desk.specs.Importing.{not_taken}

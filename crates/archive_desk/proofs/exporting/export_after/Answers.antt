@@ -2,7 +2,7 @@ use Rattle.std.proofs.Common.{◌≡◌, ◌++◌, ℕ, Some, Err, rules, sym, s
 use Rattle.std.specs.Prelude.{MatchOption}
 use Rattle.archive_machine.specs.Questions.{list_refusal, messages_in}
 use Rattle.archive_results.specs.Access.{ReaderMarks}
-use Rattle.archive_store.specs.Replies.{refusal}
+use Rattle.archive_port.specs.Replies.{refusal}
 use Rattle.archive_store.specs.Told.{HoldsTables, GoesIn, GoesInIfOpen}
 use Rattle.archive_store.specs.Walking.{Begins, over}
 use Rattle.archive_desk.specs.Asking.{IsEnough}

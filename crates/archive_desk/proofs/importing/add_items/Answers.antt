@@ -4,7 +4,7 @@ use Rattle.archive_machine.specs.Commands.{list_full, no_list}
 use Rattle.archive_store.specs.Held.{held_of}
 use Rattle.archive_store.specs.Refusals.{StopsAmong}
 use Rattle.archive_store.specs.Told.{HasFailed, HoldsTables}
-use Rattle.archive_store.specs.declared.batches.AddReport.{AddReport}
+use Rattle.archive_port.specs.declared.reports.AddReport.{AddReport}
 use Rattle.archive_desk.specs.Importing.{IsImportWant}
 use Rattle.archive_desk.specs.declared.importing.ImportFault.TheVariants.{Store as Stored}
 use Rattle.archive_desk.specs.declared.importing.Report.{Report}

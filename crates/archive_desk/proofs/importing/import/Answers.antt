@@ -2,7 +2,7 @@ use Rattle.std.proofs.Common.{[], ◌∷◌, arith, drop, inl, refl, sym, subst}
 use Rattle.archive_machine.specs.Commands.{no_list}
 use Rattle.archive_store.specs.Refusals.{StopsAmong}
 use Rattle.archive_store.specs.Told.{HasFailed, HoldsTables}
-use Rattle.archive_store.specs.declared.faults.StoreFault.TheVariants.{Memory}
+use Rattle.archive_port.specs.declared.faults.StoreFault.TheVariants.{Memory}
 use Rattle.archive_desk.specs.Importing.{IsImportWant, StopsImport}
 use Rattle.archive_desk.specs.declared.importing.ImportFault.TheVariants.{Mbox, Store as Stored}
 use Rattle.archive_desk.specs.declared.importing.Report.{Report}

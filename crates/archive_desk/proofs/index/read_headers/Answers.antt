@@ -2,12 +2,12 @@ use Rattle.std.proofs.Common.{◌≡◌, List, filter, map, Some, Err, rules, sy
 use Rattle.std.specs.Prelude.{MatchOption, Vec}
 use Rattle.std.specs.declared.alloc.Global.{Global}
 use Rattle.archive_machine.specs.Records.{Archive, Message as Remembered}
-use Rattle.archive_machine.specs.Questions.{list_refusal, messages_in}
+use Rattle.archive_machine.specs.Questions.{list_refusal}
 use Rattle.archive_results.specs.Access.{ReaderMarks, is_shown, reader_marks}
 use Rattle.archive_results.specs.Index.{Header, IsIndexOf, header_of}
-use Rattle.archive_store.specs.Replies.{refusal}
+use Rattle.archive_port.specs.Replies.{refusal}
 use Rattle.archive_store.specs.Told.{HoldsTables, GoesIn, GoesInIfOpen, AsksIn}
-use Rattle.archive_store.specs.Walking.{BeginsOver, over}
+use Rattle.archive_store.specs.Walking.{BeginsOver, over, selected}
 use Rattle.archive_desk.specs.Asking.{IsEnough}
 use Rattle.archive_desk.specs.Causes.{IsReaderUnreadable, IsUnreadable}
 use Rattle.archive_desk.specs.Ending.{EndsAsk}
@@ -21,29 +21,29 @@ returns-clause-held g c =
     let ask = c.args.ask.now in
     let old = c.args.store.now in
     let mid = c.find_reader.new.store in
-    let last = c.each_row.new.self in
-    let fault = c.in-Err-each_row.fault in
-    let which : Archive → List Remembered = λ a. messages_in a ask.list in
+    let last = c.each_selected.new.self in
+    let fault = c.in-Err-each_selected.fault in
+    let which : Archive → List Remembered = λ a. selected a ask.list c.args.which.now in
     let is : c.ask.inside.list.now ≡ ask.list = search rules in
     let refused =
     subst (λ l. MatchOption (refusal fault) (GoesInIfOpen g.S.Store (HoldsTables g.S.Store) mid last (λ a b. b ≡ a))
     (λ why. GoesIn g.S.Store (HoldsTables g.S.Store) mid last (λ a b. (b ≡ a) × (list_refusal a l ≡ Some why)))) is
-    c.in-Err-each_row.ensures.refused.0 in
+    c.in-Err-each_selected.ensures.refused.0 in
     subst (λ f. AsksIn g.S.Store (HoldsTables g.S.Store) old last reason (Err f) (λ a. ask_reason a ask)
     (λ a (headers : Vec Header Global). IsIndexOf (filter (is_shown ask (reader_marks a ask)) (which a)) headers.items)) (sym c.from.ensures)
     (not_listed (map header_of) g.S.Store old mid ask which (λ a. IsEnough a ask c.in-Ok.reader) c.in-Ok.ensures.found last fault refused)
 
-pub returns-in-Ok-each_row-clause-held : goal.returns-in-Ok-each_row-clause-held
-returns-in-Ok-each_row-clause-held g c =
+pub returns-in-Ok-each_selected-clause-held : goal.returns-in-Ok-each_selected-clause-held
+returns-in-Ok-each_selected-clause-held g c =
     let ask = c.args.ask.now in
     let old = c.args.store.now in
     let mid = c.find_reader.new.store in
     let last = c.walk_headers.new.store in
-    let walk = over c.each_row.new.self c.in-Ok-each_row.walk in
+    let walk = over c.each_selected.new.self c.in-Ok-each_selected.walk in
     let new = over c.walk_headers.new.store c.walk_headers.new.walk in
-    let which : Archive → List Remembered = λ a. messages_in a ask.list in
+    let which : Archive → List Remembered = λ a. selected a ask.list c.args.which.now in
     let list : c.ask.inside.list.now ≡ ask.list = search rules in
-    let begun = subst (λ l. BeginsOver g.S.Store mid l (λ a. messages_in a l) walk) list c.in-Ok-each_row.ensures.begun in
+    let begun = subst (λ l. BeginsOver g.S.Store mid l (λ a. selected a l c.args.which.now) walk) list c.in-Ok-each_selected.ensures.begun in
     walk_ended (map header_of) g.S.Store old mid ask which last walk new c.in-Ok.reader refl c.in-Ok.ensures.found begun c.walk_headers.ensures.ends.lasts
     c.walk_headers.result c.walk_headers.ensures.fault c.walk_headers.ensures.listed
 
@@ -51,32 +51,32 @@ pub returns-in-Err-clause-ends : goal.returns-in-Err-clause-ends
 returns-in-Err-clause-ends g c =
     let ask = c.args.ask.now in
     ask_stops_as g.S.Store c.args.store.now c.find_reader.new.store IsAskFault ReaderMarks (Vec Header Global) c.in-Err.fault
-    (λ a. IsReaderUnreadable a ask) (λ a. IsUnreadable a ask (messages_in a ask.list)) (λ a bad. inr bad) c.in-Err.ensures.ends
+    (λ a. IsReaderUnreadable a ask) (λ a. IsUnreadable a ask (selected a ask.list c.args.which.now)) (λ a bad. inr bad) c.in-Err.ensures.ends
 
 pub returns-clause-ends : goal.returns-clause-ends
 returns-clause-ends g c =
     let ask = c.args.ask.now in
     let old = c.args.store.now in
     let mid = c.find_reader.new.store in
-    let last = c.each_row.new.self in
-    let fault = c.in-Err-each_row.fault in
+    let last = c.each_selected.new.self in
+    let fault = c.in-Err-each_selected.fault in
     let found = c.in-Ok.ensures.found in
-    let Unread : _ = λ a. IsUnreadable a ask (messages_in a ask.list) in
+    let Unread : _ = λ a. IsUnreadable a ask (selected a ask.list c.args.which.now) in
     subst (λ f. EndsAsk g.S.Store old last IsAskFault {A = Vec Header Global} (Err f) Unread) (sym c.from.ensures)
     (unbegun_ends g.S.Store old mid last (found.0, λ returned held. let there = found.1 returned held in (there.0, there.1.0)) c.in-Ok.ensures.ends.counted.0
-    c.in-Ok.ensures.ends.was_open (Vec Header Global) c.ask.inside.list.now fault Unread c.in-Err-each_row.ensures.refused c.in-Err-each_row.ensures.kind)
+    c.in-Ok.ensures.ends.was_open (Vec Header Global) c.ask.inside.list.now fault Unread c.in-Err-each_selected.ensures.refused c.in-Err-each_selected.ensures.kind)
 
-pub returns-in-Ok-each_row-clause-ends : goal.returns-in-Ok-each_row-clause-ends
-returns-in-Ok-each_row-clause-ends g c =
+pub returns-in-Ok-each_selected-clause-ends : goal.returns-in-Ok-each_selected-clause-ends
+returns-in-Ok-each_selected-clause-ends g c =
     let ask = c.args.ask.now in
     let old = c.args.store.now in
     let mid = c.find_reader.new.store in
     let last = c.walk_headers.new.store in
-    let walk = over c.each_row.new.self c.in-Ok-each_row.walk in
+    let walk = over c.each_selected.new.self c.in-Ok-each_selected.walk in
     let new = over c.walk_headers.new.store c.walk_headers.new.walk in
-    let which : Archive → List Remembered = λ a. messages_in a ask.list in
+    let which : Archive → List Remembered = λ a. selected a ask.list c.args.which.now in
     let list : c.ask.inside.list.now ≡ ask.list = search rules in
-    let begun = subst (λ l. BeginsOver g.S.Store mid l (λ a. messages_in a l) walk) list c.in-Ok-each_row.ensures.begun in
+    let begun = subst (λ l. BeginsOver g.S.Store mid l (λ a. selected a l c.args.which.now) walk) list c.in-Ok-each_selected.ensures.begun in
     let found = c.in-Ok.ensures.found in
     walk_ends g.S.Store ask which old mid last walk new refl (found.0, λ returned held. let there = found.1 returned held in (there.0, there.1.0)) begun
     c.in-Ok.ensures.ends.counted.0 c.in-Ok.ensures.ends.was_open c.walk_headers.result c.walk_headers.ensures.fault c.walk_headers.ensures.ends

@@ -2,8 +2,8 @@ use Rattle.std.proofs.Common.{subst}
 use Rattle.std.specs.List.{All}
 use Rattle.std.proofs.lemmas.List.{take_all}
 use Rattle.std.proofs.lemmas.List.Elements.{All-map, All-more}
-use Rattle.archive_store.specs.Carrying.{command_of}
-use Rattle.archive_store.specs.declared.commands.Command.{Command}
+use Rattle.archive_port.specs.Commands.{command_of}
+use Rattle.archive_port.specs.declared.commands.Command.{Command}
 use Rattle.archive_desk.specs.Readable.{IsSaid}
 use Rattle.archive_desk.proofs.laws.the_commands_of_a_run_are_said.Goals as goal
 

@@ -1,6 +1,6 @@
 use Rattle.std.proofs.Common.{take}
 use Rattle.std.specs.List.{All}
-use Rattle.archive_store.specs.Carrying.{command_of}
+use Rattle.archive_port.specs.Commands.{command_of}
 use Rattle.archive_desk.specs.Readable.{IsSaid}
 use Rattle.archive_desk.proofs.laws.the_commands_of_a_run_are_said.Given as goal
 

@@ -1,7 +1,7 @@
 use Rattle.std.specs.Prelude.{IsUtf8}
 use Rattle.std.proofs.lemmas.List.Elements.{All-nil}
 use Rattle.archive_machine.specs.Records.{Address, Person}
-use Rattle.archive_database.specs.Messages.{IsReadable}
+use Rattle.archive_port.specs.Messages.{IsReadable}
 use Rattle.archive_desk.specs.Readable.{IsRanked}
 use Rattle.archive_desk.proofs.ReadableLemmas.{kept_by_steps, kept_by_runs, kept_by_items}
 use Rattle.archive_desk.proofs.laws.what_commands_write_can_be_read.Goals as goal

@@ -2,7 +2,7 @@ use Rattle.std.proofs.Common.{◌≡◌, true, None, Some, Err, rules, sym, subs
 use Rattle.std.specs.Prelude.{MatchOption}
 use Rattle.archive_machine.specs.Questions.{has_list, list_refusal}
 use Rattle.archive_results.specs.Access.{ReaderMarks}
-use Rattle.archive_store.specs.Replies.{refusal}
+use Rattle.archive_port.specs.Replies.{refusal}
 use Rattle.archive_store.specs.Told.{HoldsTables, AsksIn, GoesIn, GoesInIfOpen}
 use Rattle.archive_desk.specs.Asking.{IsEnough, standing_reason}
 use Rattle.archive_desk.specs.Faults.{IsAskFault, ask_reason, reason}

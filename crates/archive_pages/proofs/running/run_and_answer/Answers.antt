@@ -1,6 +1,6 @@
 use Rattle.std.proofs.Common.{map}
 use Rattle.archive_machine.specs.Runs.{run}
-use Rattle.archive_store.specs.Carrying.{command_of}
+use Rattle.archive_port.specs.Commands.{command_of}
 use Rattle.archive_store.specs.Told.{archive_in}
 use Rattle.archive_pages.proofs.RunningLemmas.{answers_from}
 use Rattle.archive_pages.proofs.running.run_and_answer.Goals as goal

@@ -2,7 +2,7 @@ use Rattle.std.proofs.Common.{map, subst}
 use Rattle.sqlite.proofs.Callers.{memory_is_clean}
 use Rattle.archive_machine.specs.Runs.{run}
 use Rattle.archive_store.specs.Held.{held_of}
-use Rattle.archive_store.specs.Carrying.{command_of}
+use Rattle.archive_port.specs.Commands.{command_of}
 use Rattle.archive_pages.specs.Running.{AnswersFrom}
 use Rattle.archive_pages.proofs.running.run_and_answer_in_memory.Goals as goal
 

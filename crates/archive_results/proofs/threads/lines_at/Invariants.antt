@@ -1,11 +1,7 @@
-use Rattle.std.proofs.Common.{◌≡◌, map, take, drop}
-use Rattle.archive_results.specs.Slots.{row_held}
-use Rattle.archive_results.proofs.SlotLemmas.{IsLeft}
+use Rattle.std.proofs.Common.{◌≡◌, map, take}
+use Rattle.archive_results.specs.Results.{tree_line}
 use Rattle.archive_results.proofs.threads.lines_at.Given as goal
 
--- the rows so far, and the slots of those to come
+-- the rows so far
 abbrev pub invariant-loop-row : goal.invariant-loop-row
-invariant-loop-row l = record {
-  shown : l.shown.items ≡ map (row_held l.fn.slots) (take l.row-index l.rows);
-  left : IsLeft l.fn.slots l.slots (drop l.row-index l.rows);
-}
+invariant-loop-row l = l.shown.items ≡ map (tree_line l.fn.lines) (take l.row-index l.rows)
