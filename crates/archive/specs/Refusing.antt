@@ -19,8 +19,8 @@ use Rattle.sqlite.specs.declared.file.Leftover.{Leftover}
 use Rattle.archive_store.specs.Adopting.{IsLeft}
 use Rattle.archive_store.specs.Replies.{fault_of}
 use Rattle.archive_store.specs.declared.adopting.AdoptStop.{AdoptStop}
-use Rattle.archive_store.specs.declared.faults.StoreFault.{StoreFault}
-use Rattle.archive_store.specs.declared.faults.StoreFault.TheVariants.{Memory, Store}
+use Rattle.archive_port.specs.declared.faults.StoreFault.{StoreFault}
+use Rattle.archive_port.specs.declared.faults.StoreFault.TheVariants.{Memory, Store}
 
 -- the names that stand for a database in memory, or for a URI
 abbrev pub is_in_memory : List ℕ → Bool

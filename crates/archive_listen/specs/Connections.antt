@@ -1,5 +1,5 @@
 -- What goes over a connection, and what becomes of it.
-use Rattle.std.specs.Prelude.{◌≡◌, ℕ, Bool, true, false, List, [], ◌++◌, codes, flat_map, Result, Ok, Err}
+use Rattle.std.specs.Prelude.{◌≡◌, ◌<◌, ◌⊎◌, ℕ, Bool, true, false, List, [], ◌∷◌, ◌++◌, codes, Result, Ok, Err}
 use Rattle.byte_device.specs.declared.devices.Sink.{Ghosts as Takes}
 use Rattle.archive_listen.specs.declared.faults.ConnectionFault.{ConnectionFault}
 use Rattle.archive_listen.specs.declared.faults.ConnectionFault.TheVariants.{Read, Write, Broken}
@@ -83,6 +83,17 @@ pub record Noted : Type 0 where
 abbrev pub noted : {E : Type 0} → Takes E → E → Noted
 noted takes faults = record { written = takes.told faults; failures = takes.failures faults }
 
--- each fault of these connections was told in its line, unless the stream failed meanwhile
+-- A text was written, whole; or the stream failed at it, and a beginning of it stands there.
+abbrev pub IsWritten : (text : List ℕ) → (before after : Noted) → Type 0
+IsWritten text before after =
+    ((after.failures ≡ before.failures) × (after.written ≡ before.written ++ text))
+    ⊎ ((before.failures < after.failures) × (some : List ℕ) × Begins some text × (after.written ≡ before.written ++ some))
+
+-- the line of an outcome was
+abbrev pub IsTold : Outcome → (before after : Noted) → Type 0
+IsTold outcome = IsWritten (outcome_line outcome)
+
+-- Each fault of these connections was told in its turn: a line at which the stream fails takes no other with it.
 abbrev pub AreTold : List Outcome → (before after : Noted) → Type 0
-AreTold outcomes before after = after.failures ≡ before.failures → after.written ≡ before.written ++ flat_map outcome_line outcomes
+AreTold [] before after = after ≡ before
+AreTold (outcome ∷ outcomes) before after = (between : Noted) × IsTold outcome before between × AreTold outcomes between after

@@ -3,4 +3,6 @@ pub mod Serving
 pub mod Gathering
 pub mod Streams
 pub mod Waits
+pub mod Asking
 pub mod Sockets
+pub mod Given

@@ -1,32 +1,35 @@
 -- Sockets of the loopback interface, and the times that a peer has.
 use Rattle.std.proofs.Common.{ap}
-use Rattle.std.specs.Prelude.{◌≡◌, ◌<◌, ◌+◌, ◌*◌, ◌/◌, ◌⊎◌, ◌≤◌, ◌++◌, ℕ, length, Bool, true, false, List, [], ◌∷◌, Option}
+use Rattle.std.specs.Prelude.{◌≡◌, ◌<◌, ◌+◌, ◌*◌, ◌/◌, ◌⊎◌, ◌≤◌, ◌++◌, ℕ, length, Bool, true, false, List, [], ◌∷◌, Option, Some, Result}
 use Rattle.std.specs.Duration.{as_nanos}
 use Rattle.std.specs.Net.Addr.{ipv4_octets}
 use Rattle.std.specs.Net.Socket.{socket_ip, socket_port}
 use Rattle.std.specs.declared.net.ip_addr.IpAddr.{IpAddr}
+use Rattle.std.specs.declared.time.Instant.{Instant}
+use Rattle.std_io.specs.declared.io.kind.ErrorKind.{ErrorKind}
 use Rattle.std.specs.declared.net.ip_addr.IpAddr.TheVariants.{V4, V6}
 use Rattle.std.specs.declared.net.socket_addr.SocketAddr.{SocketAddr}
-use Rattle.std_io.specs.declared.io.kind.ErrorKind.{ErrorKind}
-use Rattle.std_io.specs.declared.io.kind.ErrorKind.TheVariants.{ConnectionAborted, ConnectionReset, HostUnreachable, Interrupted, NetworkDown, NetworkUnreachable, TimedOut}
+use Rattle.archive_listen.specs.Asking.{AskedState, asked_on, fault_by}
 use Rattle.archive_listen.specs.Connections.{Exchange}
 use Rattle.archive_listen.specs.declared.connections.Listening.{Listening}
 use Rattle.archive_listen.specs.declared.faults.AcceptFault.{AcceptFault}
-use Rattle.archive_listen.specs.declared.faults.AcceptFault.TheVariants.{Peer, Listener}
 use Rattle.archive_listen.specs.declared.waiting.Span.{Span}
 use Rattle.archive_listen.specs.declared.waiting.Waited.{Waited}
 
 -- ---- what is read of a socket, and what is written to it
 
--- the bytes that it told, how often a read failed or met the end, and how long after the beginning the last wait could end, in nanoseconds
+-- The bytes that it told, how often a read failed or met the end, when its time began, and how long after it the last wait could end, in
+-- nanoseconds.
 pub record InputState : Type 0 where
+  pub since : Option Instant
   pub told : List ℕ
   pub failures : ℕ
   pub ends : ℕ
   pub latest : ℕ
 
-abbrev pub nothing_read : InputState
-nothing_read = record { told = []; failures = 0; ends = 0; latest = 0 }
+-- its time began, and nothing was read of it
+abbrev pub nothing_read : Instant → InputState
+nothing_read at = record { since = Some at; told = []; failures = 0; ends = 0; latest = 0 }
 
 -- the bytes that it took, how often a write failed, and how long after the first one the last wait could end, in nanoseconds
 pub record OutputState : Type 0 where
@@ -50,12 +53,12 @@ pub record IsHad (asked had : SocketAddr) : Type 0 where
   pub port : (socket_port asked ≡ 0) ⊎ (socket_port had ≡ socket_port asked)
   pub some : 0 < socket_port had
 
--- What listens: its address, as the system tells it, and what went over the connections that it took back, in their order. How often it asked
--- the system for a connection, how many it ended in order, and how long it could wait for the peer of the last one.
+-- What listens: its address, as the system tells it, what went over the connections that it took back, in their order, and what it asked the
+-- system for. How many it ended in order, and how long it could wait for the peer of the last one.
 pub record LoopbackState : Type 0 where
   pub address : SocketAddr
   pub exchanges : List Exchange
-  pub asked : ℕ
+  pub asked : AskedState
   pub ended : ℕ
   pub waited : Waited
 
@@ -72,13 +75,15 @@ pub record ListensOn (asked : ℕ) (listening : Listening LoopbackState) : Type 
   pub listens : Listens asked listening.listener
   pub told : listening.port ≡ socket_port listening.listener.address
 
--- It asked once, and gives a connection, or none for this fault.
-abbrev pub Accepted : (before after : LoopbackState) → Option AcceptFault → Type 0
-Accepted before after fault = after ≡ record before { asked = before.asked + 1 }
+-- It asked the system once. It gives the connection that the system gave, or none, for what the error of the system stands for.
+pub record Accepted (before after : LoopbackState) (fault : Option AcceptFault) : Type 0 where
+  pub answer : Result Instant ErrorKind
+  pub asked : after ≡ record before { asked = asked_on answer before.asked }
+  pub given : fault ≡ fault_by answer
 
 -- what stood written down stands
 pub accepted_none : (before after : LoopbackState) (fault : Option AcceptFault) → Accepted before after fault → after.exchanges ≡ before.exchanges
-accepted_none before after fault accepted = ap (λ (l : LoopbackState). l.exchanges) accepted
+accepted_none before after fault accepted = ap (λ (l : LoopbackState). l.exchanges) accepted.asked
 
 -- one more that is ended in order, unless its reply broke off
 abbrev pub ended_after : (broke_off : Bool) → ℕ → ℕ
@@ -107,19 +112,7 @@ pub closed_one : (before after : LoopbackState) (over : Exchange) (broke_off : B
     → after.exchanges ≡ before.exchanges ++ over ∷ []
 closed_one before after over broke_off closed = ap (λ (l : LoopbackState). l.exchanges) closed.noted
 
--- ---- who is at fault, and how long a peer is waited for
-
--- What an `accept` that failed stands for (accept(2)): these are of one connection, whose peer or network was gone, or of a signal, and the
--- next call may give another; after all others it could fail for ever.
-abbrev pub accept_fault : ErrorKind → AcceptFault
-accept_fault ConnectionAborted = Peer
-accept_fault ConnectionReset = Peer
-accept_fault HostUnreachable = Peer
-accept_fault Interrupted = Peer
-accept_fault NetworkDown = Peer
-accept_fault NetworkUnreachable = Peer
-accept_fault TimedOut = Peer
-accept_fault _ = Listener
+-- ---- how long a peer is waited for
 
 -- how many seconds the next bytes of a request may take: the first ones, and those behind them (profile)
 abbrev pub wait_seconds : (begun : Bool) → ℕ

@@ -6,5 +6,5 @@ pub mod Files
 pub mod Working
 pub mod Orders
 pub mod Serving
-pub mod Runs
 pub mod Holding
+pub mod Runs

@@ -1,6 +1,6 @@
 -- What refusals print.
 use Rattle.std.specs.Prelude.{◌&&◌, ◌++◌, nat_le, ℕ, List, map, codes, decimal, string_bytes, if◌then◌else◌}
-use Rattle.archive_store.specs.Names.{store_text}
+use Rattle.archive_port.specs.Names.{store_text}
 use Rattle.archive_desk.specs.Names.{desk_text}
 use Rattle.archive_desk.specs.declared.importing.ImportFault.{ImportFault}
 use Rattle.archive_desk.specs.declared.importing.ImportFault.TheVariants as taking

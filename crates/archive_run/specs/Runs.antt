@@ -6,6 +6,7 @@ use Rattle.archive_words.specs.declared.orders.OrderStop.{OrderStop}
 use Rattle.sift_run.specs.Refusals.{SaysStop, Tells}
 use Rattle.archive_listen.specs.Connections.{noted}
 use Rattle.sift_run.specs.declared.faults.RunFault.TheVariants.{Memory}
+use Rattle.archive_run.specs.Holding.{EndsOver}
 use Rattle.archive_run.specs.World.{Devices}
 use Rattle.archive_run.specs.Orders.{RunsCheck, RunsExport, RunsGet, RunsImport, RunsSift, RunsTable}
 use Rattle.archive_run.specs.Refusals.{refusal_text}
@@ -38,6 +39,8 @@ module _ {Y S F D C P T R O E I L K A B M : Type 0} (dev : Devices S F I D C P L
     pub stopped : World Y S F D C P T R O E I L K A B M
     pub cause : ((refusal ≡ Run Memory) × (stopped ≡ old)) ⊎ Runs old stopped order (Err refusal)
     pub told : TellsLast stopped new refusal
+    -- of a server whose listener gave no more: what it served before
+    pub ends : EndsOver dev old stopped order refusal
 
   -- What is said where the words order nothing, by why they do not; and nothing else was touched.
   abbrev pub RunSaysStop : (old new : World Y S F D C P T R O E I L K A B M) → OrderStop → (status : ℕ) → Type 0

@@ -4,12 +4,12 @@ use Rattle.sqlite.specs.Store.{Ghosts}
 use Rattle.byte_device.specs.declared.devices.Source.{Ghosts as Reads}
 use Rattle.archive_machine.specs.Questions.{messages_in}
 use Rattle.archive_store.specs.declared.store.Store.{Store as Open}
-use Rattle.archive_store.specs.declared.faults.StoreFault.{StoreFault}
-use Rattle.archive_store.specs.declared.faults.StoreFault.TheVariants as store
+use Rattle.archive_port.specs.declared.faults.StoreFault.{StoreFault}
+use Rattle.archive_port.specs.declared.faults.StoreFault.TheVariants as store
 use Rattle.archive_store.specs.Checking.{Checks}
 use Rattle.archive_store.specs.Told.{HoldsTables, WasRefused}
-use Rattle.archive_store.specs.Wanting.{IsWant}
-use Rattle.archive_store.specs.declared.checking.CheckStop.TheVariants as check
+use Rattle.archive_port.specs.Wanting.{IsWant}
+use Rattle.archive_port.specs.declared.checking.CheckStop.TheVariants as check
 use Rattle.archive_results.specs.Access.{Ask}
 use Rattle.archive_desk.specs.Causes.{HasCause, HasCauseBehind, HasDiskCause, IsBroken, IsUnreadable, IsWanting}
 use Rattle.archive_desk.specs.Exporting.{ExportsPart, IsExportStop, exported}

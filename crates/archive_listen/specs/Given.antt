@@ -1,0 +1,19 @@
+-- What becomes of the connections that the system gives.
+use Rattle.std.specs.Prelude.{◌≡◌, ◌+◌, ℕ, List, length}
+use Rattle.archive_listen.specs.Connections.{Telling, Outcome}
+use Rattle.archive_listen.specs.Serving.{Served, ServesEach}
+use Rattle.archive_listen.specs.Sockets.{Accepted, Closed, LoopbackState}
+
+-- Each time that a listener asked the system between these states, it was given a connection, whose exchange it wrote down when it took it back, or
+-- an error.
+pub record AnswersGiven (before after : LoopbackState) : Type 0 where
+  pub answered : ℕ
+  pub errors : ℕ
+  pub asked : after.asked.times ≡ before.asked.times + answered + errors
+  pub written : length after.exchanges ≡ length before.exchanges + answered
+  pub refused : length after.asked.errors ≡ length before.asked.errors + errors
+
+-- so it is in each run of connections, whatever answers them: no connection that the system gave is dropped unanswered
+abbrev pub EachGivenIsAnswered : {St : Type 0} → (answers : St → St → Telling → Telling → Outcome → Type 0) → Type 0
+EachGivenIsAnswered {St} answers = (outcomes : List Outcome) (first last : Served LoopbackState St)
+    → ServesEach answers Accepted Closed outcomes first last → AnswersGiven first.listener last.listener
