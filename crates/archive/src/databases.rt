@@ -4,14 +4,14 @@ ghost use Rattle.sqlite_wal.specs.Files.{image_at};
 ghost use Rattle.sqlite.specs.Files.{file_state, IsOpened};
 ghost use Rattle.sqlite.specs.Start.{FindsIn};
 ghost use Rattle.sqlite.specs.State.{HasCleanDisk};
-ghost use Rattle.archive_store.specs.Replies.{refusal};
+ghost use Rattle.archive_port.specs.Replies.{refusal};
 ghost use Rattle.archive.specs.Opening.{WasTakenOver};
 ghost use Rattle.archive.specs.Closing.{FailedToClose, IsLeftBy};
 ghost use Rattle.archive.specs.Refusing.{is_in_memory, open_fault, IsUnconnected, IsUnopened};
 
 use crate::system::HasPairs;
 use archive_run::Databases;
-use archive_store::{Store, StoreFault};
+use archive_store::{Store, StoreFault, database_fault};
 use sqlite::{Connection, Error, FileFrom, FileStore, Files, Options, Start};
 use sqlite_disk::Disk;
 use sqlite_std_file::OpenError;
@@ -81,7 +81,7 @@ fn connect<R: HasPairs, S: Start>(
     };
     match Connection::open_files(alloc, files, options) {
         Ok(connection) => Ok(connection),
-        Err((error, _left)) => Err(error.into()),
+        Err((error, _left)) => Err(database_fault(error)),
     }
 }
 
@@ -141,7 +141,7 @@ impl<'a, R: HasPairs, S: Start> Databases<Store<FileStore<FileFrom<S>>>>
     for SystemDatabases<'a, R, S> {
     ghost use Rattle.std.specs.Prelude.{◌≡◌, ◌⊎◌, None, IfErr, IfOk};
     ghost use Rattle.sqlite_wal.specs.Files.{image_at};
-    ghost use Rattle.archive_store.specs.declared.faults.StoreFault.TheVariants.{Store as NoStore};
+    ghost use Rattle.archive_port.specs.declared.faults.StoreFault.TheVariants.{Store as NoStore};
     ghost use Rattle.archive.specs.Opening.{HoldsRows, Until, WasTakenOver};
     ghost use Rattle.archive.specs.Closing.{IsClosedAs, StillHolds};
     ghost use Rattle.archive.specs.Refusing.{IsUnopened};

@@ -1,9 +1,13 @@
 -- How many connections were served so far.
-use Rattle.std.proofs.Common.{◌≡◌, ◌≤◌, ℕ, List, [], ◌∷◌, ◌++◌, Bool, Option, flat_map, refl, sym, ap, subst, ◌∙◌, arith}
-use Rattle.std.proofs.lemmas.List.{append-nil, flat_map_more}
-use Rattle.archive_listen.specs.Connections.{Telling, Exchange, Outcome, outcome_line}
+use Rattle.std.proofs.Common.{◌≡◌, ◌≤◌, ◌<◌, ℕ, List, [], ◌∷◌, ◌++◌, Bool, Option, Result, Ok, Err, length, take, drop, inl, inr, refl, sym, ap, subst, ◌∙◌}
+use Rattle.std.specs.Prelude.{IfErr, OnErr, OnOk, ⊤}
+use Rattle.std.proofs.lemmas.List.{take-append-drop}
+use Rattle.byte_device.specs.declared.devices.Sink.{Ghosts as Takes}
+use Rattle.byte_device.specs.declared.writing.WriteFault.{WriteFault}
+use Rattle.archive_listen.specs.Connections.{AreTold, Exchange, IsTold, IsWritten, Noted, Outcome, Telling, fault_line, noted, outcome_line}
 use Rattle.archive_listen.specs.Serving.{Served, ServesOne, ServesEach}
 use Rattle.archive_listen.specs.declared.faults.AcceptFault.{AcceptFault}
+use Rattle.archive_listen.specs.declared.faults.ConnectionFault.{ConnectionFault}
 
 module _ {St L : Type 0} (answers : St → St → Telling → Telling → Outcome → Type 0)
     (accepts : L → L → Option AcceptFault → Type 0) (closes : L → L → Exchange → Bool → Type 0) where
@@ -16,16 +20,30 @@ module _ {St L : Type 0} (answers : St → St → Telling → Telling → Outcom
   serves_more (o ∷ outcomes) outcome first between last each one =
       (each.0, each.1, serves_more outcomes outcome each.0 between last each.2 one)
 
--- lines on a stream of faults that did not fail
-pub lines_none : (told : List ℕ) → told ≡ told ++ flat_map outcome_line []
-lines_none told = sym (append-nil told)
+-- one line more
+pub told_more : (outcomes : List Outcome) (outcome : Outcome) (first between last : Noted) → AreTold outcomes first between → IsTold outcome between last
+    → AreTold (outcomes ++ outcome ∷ []) first last
+told_more [] outcome first between last told one = (last, subst (λ s. IsTold outcome s last) told one, refl)
+told_more (o ∷ outcomes) outcome first between last told one =
+    (told.0, told.1, told_more outcomes outcome told.0 between last told.2 one)
 
-pub lines_more : (outcomes : List Outcome) (outcome : Outcome) (first between last : ℕ) (told so_far now : List ℕ)
-    → first ≤ between → between ≤ last
-    → (between ≡ first → so_far ≡ told ++ flat_map outcome_line outcomes)
-    → (last ≡ between → now ≡ so_far ++ outcome_line outcome)
-    → last ≡ first → now ≡ told ++ flat_map outcome_line (outcomes ++ outcome ∷ [])
-lines_more outcomes outcome first between last told so_far now low high lines line quiet =
-    let before : between ≡ first = omega (arith, low, high, quiet) in
-    let after : last ≡ between = omega (arith, low, high, quiet) in
-    line after ∙ ap (λ (t : List ℕ). t ++ outcome_line outcome) (lines before) ∙ flat_map_more outcome_line told outcomes outcome
+-- a text, by how its write ended
+written_by : {E : Type 0} (result : Result ⊤ WriteFault) (takes : Takes E) (text : List ℕ) (old new : E)
+    → OnOk result (takes.told new ≡ takes.told old ++ text)
+    → IfErr result (λ e. (e.written ≤ length text) × (takes.told new ≡ takes.told old ++ take e.written text))
+    → OnOk result (takes.failures new ≡ takes.failures old) → OnErr result (takes.failures old < takes.failures new)
+    → IsWritten text (noted takes old) (noted takes new)
+written_by (Ok done) takes text old new ok part quiet cause = inl (quiet, ok)
+written_by (Err e) takes text old new ok part quiet cause =
+    inr (cause, take e.written text, (drop e.written text, sym (take-append-drop e.written text)), part.1)
+
+-- the line of a fault
+pub told_line : {E : Type 0} (result : Result ⊤ WriteFault) (takes : Takes E) (outcome : Outcome) (fault : ConnectionFault) (line : List ℕ) (old new : E)
+    → outcome ≡ Err fault → line ≡ fault_line fault
+    → OnOk result (takes.told new ≡ takes.told old ++ line)
+    → IfErr result (λ e. (e.written ≤ length line) × (takes.told new ≡ takes.told old ++ take e.written line))
+    → OnOk result (takes.failures new ≡ takes.failures old) → OnErr result (takes.failures old < takes.failures new)
+    → IsTold outcome (noted takes old) (noted takes new)
+told_line result takes outcome fault line old new is of_fault ok part quiet cause =
+    subst (λ text. IsWritten text (noted takes old) (noted takes new)) (of_fault ∙ ap outcome_line (sym is))
+    (written_by result takes line old new ok part quiet cause)

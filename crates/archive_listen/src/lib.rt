@@ -1,10 +1,13 @@
 //! Connections one after the other: what listens, what answers, and the loop between them.
 #![tactic(auto)]
 
+mod asking;
 mod connections;
+mod errors;
 mod exchanges;
 mod faults;
 mod gathered;
+pub mod laws;
 mod open;
 mod peeked;
 mod serving;

@@ -1,10 +1,10 @@
 //! A socket in which the bytes that were read last stay until they are taken.
 ghost use Rattle.std.specs.Prelude.{◌≡◌, ◌≤◌, ◌+◌, length, take, IfOk, OnOk, MatchResult};
 ghost use Rattle.std.specs.Duration.{as_nanos};
-ghost use Rattle.archive_listen.specs.Streams.{seen_by};
+ghost use Rattle.archive_listen.specs.Streams.{TakesSeen, seen_by};
 ghost use Rattle.archive_listen.specs.Waits.{WaitsWithin};
 
-use crate::streams::Reading;
+use crate::streams::{Ends, Reading, Taken};
 use crate::waiting::{Span, Timed};
 use byte_device::{DeviceFailure, Told};
 use std::io::Read;
@@ -20,7 +20,7 @@ const TAKEN: usize = 8192;
 pub(crate) struct Peeked<'a, R, S> {
     stream: Timed<'a, R, S>,
     unread: usize,
-    taken: Told,
+    taken: Taken,
 }
 
 impl<'a, R: Clock, S: Read + OpenStream> Peeked<'a, R, S> {
@@ -31,7 +31,7 @@ impl<'a, R: Clock, S: Read + OpenStream> Peeked<'a, R, S> {
         Peeked {
             stream,
             unread: 0,
-            taken: Told::new(),
+            taken: Taken::new(),
         }
     }
 
@@ -40,7 +40,7 @@ impl<'a, R: Clock, S: Read + OpenStream> Peeked<'a, R, S> {
     pub(crate) fn look_on(&mut self, span: Span, buffer: &mut [u8]) -> Result<usize, DeviceFailure>
         ensures count { IfOk result (λ n. n ≤ length buffer.old) }
         ensures waits { WaitsWithin (as_nanos span.whole) self.old.stream self.new.stream }
-        ensures taken { OnOk result (length self.new.taken.bytes ≡ length self.old.taken.bytes + self.old.unread) }
+        ensures taken { OnOk result (self.new.taken.bytes ≡ self.old.taken.bytes + self.old.unread) }
         ensures unread { IfOk result (λ n. self.new.unread ≡ n) }
         ensures given { MatchResult result (λ n. self.new.stream.stream ≡ seen_by (take n buffer.new) self.old.stream.stream)
             (λ _. self.new.stream.stream ≡ self.old.stream.stream) }
@@ -54,35 +54,31 @@ impl<'a, R: Clock, S: Read + OpenStream> Peeked<'a, R, S> {
     /// Takes what was seen, and nothing behind it. No wait: it has come.
     fn take_seen(&mut self) -> Result<(), DeviceFailure>
         ensures same { self.new.stream ≡ self.old.stream }
-        ensures taken { OnOk result (length self.new.taken.bytes ≡ length self.old.taken.bytes + self.old.unread) }
+        ensures taken { OnOk result (self.new.taken.bytes ≡ self.old.taken.bytes + self.old.unread) }
     {
         let mut taken = [0; TAKEN];
         while self.unread > 0 {
             let most = self.unread.min(TAKEN);
-            match self.stream.take(&mut taken[..most]) {
-                Ok(count) if count > 0 => {
-                    self.taken.note(&taken[..count]);
-                    self.unread -= count;
-                }
-                _ => return Err(DeviceFailure),
-            }
+            self.unread -= self.stream.take(&mut taken[..most], &mut self.taken)?;
         }
         Ok(())
     }
 
     /// Ends what is written, and takes what was seen. Whether more came behind it, of which some is taken too. None: the
     /// socket failed. No wait.
-    pub(crate) fn end(&mut self) -> Option<bool> {
-        self.stream.end()?;
+    pub(crate) fn end(&mut self, ended: &mut Ends) -> Option<bool>
+        ensures counted { ended.new ≡ ended.old + 1 }
+        ensures taken { TakesSeen self.old.unread self.old.taken self.new.taken }
+    {
+        let shut = self.stream.end(ended);
         let mut taken = [0; TAKEN];
+        let mut more = false;
         while self.unread > 0 {
-            match self.stream.take(&mut taken) {
-                Ok(count) if count > self.unread => return Some(true),
-                Ok(count) if count > 0 => self.unread -= count,
-                _ => return None,
-            }
+            let count = self.stream.take(&mut taken, &mut self.taken).ok()?;
+            more = count > self.unread;
+            self.unread = self.unread.saturating_sub(count);
         }
-        Some(false)
+        shut.map(|()| more)
     }
 
     /// How long after its beginning the last wait could end.

@@ -1,7 +1,7 @@
 //! Answering connections one after the other.
-ghost use Rattle.std.specs.Prelude.{◌≡◌, ◌≤◌, ◌++◌, Some, IfOk, OnOk, OnErr};
+ghost use Rattle.std.specs.Prelude.{◌≡◌, ◌≤◌, Some, IfOk, OnOk, OnErr};
 ghost use Rattle.archive_listen.specs.declared.faults.AcceptFault.TheVariants as accepting;
-ghost use Rattle.archive_listen.specs.Connections.{telling, breaks_off, noted, outcome_line};
+ghost use Rattle.archive_listen.specs.Connections.{IsTold, telling, breaks_off, noted};
 ghost use Rattle.archive_listen.specs.Serving.{Answers, ServesAll, ServesFewer, ServesOne, at_work, law_of, served};
 
 use crate::connections::{Connection, Listener, Outgoing, Service};
@@ -66,8 +66,7 @@ fn serve_next<St, V: Service<St>, L: Listener>(
 
 /// Tells a fault in one line, and a reply in none.
 fn tell_outcome<E: Sink>(faults: &mut E, outcome: &Result<u16, ConnectionFault>)
-    ensures told { E.failures faults.new ≡ E.failures faults.old
-        → E.told faults.new ≡ E.told faults.old ++ outcome_line outcome.now }
+    ensures told { IsTold outcome.now (noted E.Sink faults.old) (noted E.Sink faults.new) }
     ensures failures { E.failures faults.old ≤ E.failures faults.new }
 {
     if let Err(fault) = outcome {

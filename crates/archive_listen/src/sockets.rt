@@ -1,18 +1,21 @@
 //! Connections over the loopback interface.
-ghost use Rattle.std.specs.Prelude.{◌≡◌, ◌≤◌, ◌+◌, ◌++◌, [], ◌∷◌, length, take, true, IfOk, MatchResult};
+ghost use Rattle.std.specs.Prelude.{◌≡◌, ◌≤◌, ◌+◌, ◌++◌, [], ◌∷◌, length, take, true, Some, None, IfOk, IfSome, IsNone, MatchResult};
 ghost use Rattle.std.specs.Net.Socket.{socket_port};
 ghost use Rattle.byte_device.specs.Device.{read_ends, read_faults, written_faults};
 ghost use Rattle.std.specs.Duration.{as_nanos};
-ghost use Rattle.archive_listen.specs.Connections.{exchange};
-ghost use Rattle.archive_listen.specs.Sockets.{IsHad, IsHeadSpan, IsReplySpan, Listens, accept_fault, ended_after, nothing_read, nothing_written};
+ghost use Rattle.archive_listen.specs.Asking.{accept_fault};
+ghost use Rattle.archive_listen.specs.Connections.{exchange, telling, untold};
+ghost use Rattle.archive_listen.specs.Streams.{EndsOver};
+ghost use Rattle.archive_listen.specs.Sockets.{IsHad, IsHeadSpan, IsReplySpan, Listens, ended_after, nothing_read, nothing_written};
 
+use crate::asking::{Asked, Given};
 use crate::connections::{Connection, Listener, Listening, Ports};
 use crate::exchanges::Exchanges;
 use crate::faults::{AcceptFault, ListenFault};
 use crate::gathered::{Gathered, ROOM};
 use crate::open::StillOpen;
 use crate::peeked::Peeked;
-use crate::streams::Reading;
+use crate::streams::{Ends, Reading};
 use crate::waiting::{Span, Timed, Waited};
 use byte_device::{DeviceFailure, Sink, Source, Told};
 use std::alloc::Global;
@@ -63,6 +66,7 @@ impl<'a, R, S> Model for SocketInput<'a, R, S> {
     ghost Value = { InputState };
 
     ghost view = { λ i. record {
+      since = i.stream.stream.since;
       told = i.stream.stream.stream.given;
       failures = length i.faults.bytes;
       ends = length i.ends.bytes;
@@ -75,7 +79,7 @@ impl<'a, R, S> Model for SocketInput<'a, R, S> {
 impl<'a, R: Clock, S: Read + OpenStream> SocketInput<'a, R, S> {
     /// Nothing was read yet. The time that a request may take begins.
     fn new(clock: &'a R, stream: S, since: Instant) -> SocketInput<'a, R, S>
-        ensures { result ≡ nothing_read }
+        ensures { result ≡ nothing_read since }
     {
         SocketInput {
             stream: Peeked::new(Timed::new(clock, stream, Some(since))),
@@ -104,7 +108,14 @@ impl<'a, R: Clock, S: Read + OpenStream> Source for SocketInput<'a, R, S> {
 
     ghost ends = { λ i. i.ends };
 
-    fn read(&mut self, buffer: &mut [u8]) -> Result<usize, DeviceFailure> {
+    fn read(&mut self, buffer: &mut [u8]) -> Result<usize, DeviceFailure>
+        ensures count { IfOk result (λ n. n ≤ length buffer.old) }
+        ensures bytes { MatchResult result (λ n. self.new.told ≡ self.old.told ++ take n buffer.new)
+            (λ _. self.new.told ≡ self.old.told) }
+        ensures faults { self.new.failures ≡ self.old.failures + read_faults result }
+        ensures end { self.new.ends ≡ self.old.ends + read_ends buffer.old result }
+        ensures since { IfSome self.old.since (λ at. self.new.since ≡ Some at) }
+    {
         match self.stream.look_on(head_span(self.begun), buffer) {
             Ok(count) => {
                 self.begun = true;
@@ -209,7 +220,7 @@ fn read_on<R: Clock, S: Read + OpenStream + Drop>(clock: &R, stream: S) -> Durat
     stream.latest()
 }
 
-/// What an `accept` that failed stands for.
+/// What an error in place of a connection stands for.
 fn accept_fault(kind: ErrorKind) -> AcceptFault
     ensures { result ≡ accept_fault kind }
 {
@@ -250,17 +261,15 @@ fn listen_at<R: Net>(rt: &R, asked: SocketAddr) -> Result<(R::Listener, SocketAd
 #[derive(Drop)]
 pub struct Loopback<'a, R: Net> {
     rt: &'a R,
-    listener: R::Listener,
+    listener: Asked<R::Listener>,
     address: SocketAddr,
     still_open: StillOpen<R::Stream>,
     exchanges: Exchanges,
-    asked: Told,
-    ended: Told,
+    ended: Ends,
     waited: Waited,
 }
 
 impl<'a, R: Net> Model for Loopback<'a, R> {
-    ghost use Rattle.std.specs.Prelude.{length};
     ghost use Rattle.archive_listen.specs.Sockets.{LoopbackState};
 
     ghost Value = { LoopbackState };
@@ -268,8 +277,8 @@ impl<'a, R: Net> Model for Loopback<'a, R> {
     ghost view = { λ l. record {
       address = l.address;
       exchanges = l.exchanges.all;
-      asked = length l.asked.bytes;
-      ended = length l.ended.bytes;
+      asked = l.listener;
+      ended = l.ended;
       waited = l.waited;
     } };
 }
@@ -283,12 +292,11 @@ impl<'a, R: Net> Loopback<'a, R> {
         let (listener, address) = listen_at(rt, asked)?;
         Ok(Loopback {
             rt,
-            listener,
+            listener: Asked::new(listener),
             address,
             still_open: StillOpen::new(alloc),
             exchanges: Exchanges::new(),
-            asked: Told::new(),
-            ended: Told::new(),
+            ended: Ends::new(),
             waited: Waited {
                 head: Duration::ZERO,
                 reply: Duration::ZERO,
@@ -358,62 +366,54 @@ impl<'a, R: Net + Clock> Ports for LoopbackPorts<'a, R> {
     }
 }
 
-/// Both directions of a stream, over which nothing went yet. A second descriptor of the same socket is written to.
+/// Both directions of a connection that the system gave, over which nothing went yet. Its time began when it was given.
 fn connection_of<'a, R: Clock, S: Read + Write + OpenStream + Drop>(
     clock: &'a R,
-    stream: S,
-) -> Result<Connection<SocketInput<'a, R, S>, Gathered<SocketOutput<'a, R, S>, ROOM>>, AcceptFault>
-    ensures input { IfOk result (λ c. c.input ≡ nothing_read) }
-    ensures output { IfOk result (λ c. c.output ≡ record
-        { inner = nothing_written; held = []; free = 16_384; failures = 0 }) }
+    given: Given<S>,
+) -> Connection<SocketInput<'a, R, S>, Gathered<SocketOutput<'a, R, S>, ROOM>>
+    ensures input { result.input ≡ nothing_read given.at }
+    ensures output { result.output ≡ record { inner = nothing_written; held = []; free = 16_384; failures = 0 } }
 {
-    let Ok(since) = Instant::now(clock) else {
-        return Err(AcceptFault::Listener);
-    };
-    let Ok(written) = stream.try_clone() else {
-        return Err(AcceptFault::Listener);
-    };
-    Ok(Connection {
-        input: SocketInput::new(clock, stream, since),
-        output: Gathered::new(SocketOutput::new(clock, written)),
-    })
+    Connection {
+        input: SocketInput::new(clock, given.read, given.at),
+        output: Gathered::new(SocketOutput::new(clock, given.written)),
+    }
 }
 
-/// Ends a connection, and counts it where that is in order: what came of its peer is taken, and one that sends more is read on for a
-/// while. Where its reply broke off, what came stays unread. How long the waits for what its peer sends could take.
-fn end<R: Clock, S: Read + OpenStream + Drop>(
-    clock: &R,
-    still_open: &mut StillOpen<S>,
-    ended: &mut Told,
-    peeked: Peeked<'_, R, S>,
+/// Ends a connection in order, and takes what was seen of its peer. Whether more came. None: it is dropped as it is, since its reply
+/// broke off, or its socket failed.
+fn finish<R: Clock, S: Read + OpenStream>(
+    peeked: &mut Peeked<'_, R, S>,
+    ended: &mut Ends,
     breaks_off: bool,
-) -> Duration
-    ensures counted { length ended.new.bytes ≡ ended_after breaks_off (length ended.old.bytes) }
-    ensures rest { as_nanos result ≤ 1_000_000_000 }
+) -> Option<bool>
+    ensures counted { ended.new ≡ ended_after breaks_off ended.old }
+    ensures taken { EndsOver breaks_off peeked.old.unread peeked.old.taken peeked.new.taken }
+    ensures dropped { breaks_off ≡ true → IsNone result }
 {
     if breaks_off {
-        return Duration::ZERO;
+        return None;
     }
-    ended.note(&[0]);
-    let mut peeked = peeked;
-    match peeked.end() {
-        Some(true) => read_on(clock, peeked.into_stream()),
+    peeked.end(ended)
+}
+
+/// Lets go of a socket that was ended: one of whose peer more came is read on for a while, and another stays open. How long the waits
+/// for what its peer sends could take.
+fn let_go<R: Clock, S: Read + OpenStream + Drop>(
+    clock: &R,
+    still_open: &mut StillOpen<S>,
+    stream: S,
+    more: Option<bool>,
+) -> Duration
+    ensures { as_nanos result ≤ 1_000_000_000 }
+{
+    match more {
+        Some(true) => read_on(clock, stream),
         Some(false) => {
-            still_open.keep(clock, peeked.into_stream());
+            still_open.keep(clock, stream);
             Duration::ZERO
         }
         None => Duration::ZERO,
-    }
-}
-
-/// Asks the system for a connection, and counts it.
-fn ask<L: OpenListener>(listener: &L, asked: &mut Told) -> Result<L::Stream, AcceptFault>
-    ensures { length asked.new.bytes ≡ length asked.old.bytes + 1 }
-{
-    asked.note(&[0]);
-    match listener.accept() {
-        Ok((stream, _)) => Ok(stream),
-        Err(error) => Err(accept_fault(error.kind())),
     }
 }
 
@@ -439,9 +439,18 @@ impl<'a, R: Net + Clock> Listener for Loopback<'a, R> {
     ) -> Result<
         Connection<SocketInput<'a, R, R::Stream>, Gathered<SocketOutput<'a, R, R::Stream>, ROOM>>,
         AcceptFault,
-    > {
-        let stream = ask(&self.listener, &mut self.asked)?;
-        connection_of(self.rt, stream)
+    >
+        ensures untold { IfOk result (λ c. telling c.input.told c.input.ends c.input.failures
+            (c.output.inner.told ++ c.output.held) c.output.failures ≡ untold) }
+        ensures accepts { MatchResult result (λ _. Accepted self.old self.new None)
+            (λ fault. Accepted self.old self.new (Some fault)) }
+        ensures since { IfOk result (λ c. c.input.since ≡ self.new.asked.at) }
+    {
+        let given = match self.listener.next(self.rt) {
+            Ok(given) => given,
+            Err(kind) => return Err(accept_fault(kind)),
+        };
+        Ok(connection_of(self.rt, given))
     }
 
     fn close(
@@ -466,13 +475,9 @@ impl<'a, R: Net + Clock> Listener for Loopback<'a, R> {
         );
         let head = input.stream.latest();
         let reply = output.stream.latest();
-        let rest = end(
-            self.rt,
-            &mut self.still_open,
-            &mut self.ended,
-            input.stream,
-            breaks_off,
-        );
+        let mut peeked = input.stream;
+        let more = finish(&mut peeked, &mut self.ended, breaks_off);
+        let rest = let_go(self.rt, &mut self.still_open, peeked.into_stream(), more);
         self.waited = Waited { head, reply, rest };
     }
 }

@@ -1,9 +1,9 @@
 //! A stream of the system, and what its calls gave. No clause says what the toolchain's own calls give, so the bodies here only call them
 //! and write down what came of it.
-ghost use Rattle.std.specs.Prelude.{◌≡◌, ◌≤◌, length, take, IfOk, MatchResult};
-ghost use Rattle.archive_listen.specs.Streams.{nothing_went, read_by, written_by};
+ghost use Rattle.std.specs.Prelude.{◌≡◌, ◌≤◌, ◌<◌, ◌+◌, length, take, IfOk, MatchResult};
+ghost use Rattle.archive_listen.specs.Streams.{nothing_taken, nothing_went, read_by, taken_by, taken_not, written_by};
 
-use byte_device::Told;
+use byte_device::{DeviceFailure, Told};
 use std::io::{self, Read, Write};
 use std::marker::Model;
 use std::net::{OpenStream, Shutdown};
@@ -16,6 +16,57 @@ pub(crate) enum Reading {
     Takes,
     /// It stays, and the next read gives it again.
     Looks,
+}
+
+/// How often the system was asked to end a connection in order. Only `Stream::end` counts.
+#[derive(Drop)]
+pub(crate) struct Ends {
+    told: Told,
+}
+
+impl Model for Ends {
+    ghost use Rattle.std.specs.Prelude.{ℕ, length};
+
+    ghost Value = { ℕ };
+
+    ghost view = { λ e. length e.told.bytes };
+}
+
+impl Ends {
+    /// Never yet.
+    pub(crate) fn new() -> Ends
+        ensures { result ≡ 0 }
+    {
+        Ends { told: Told::new() }
+    }
+}
+
+/// How many bytes left a socket, and how often none could be taken. Only `Stream::take` counts.
+#[derive(Drop)]
+pub(crate) struct Taken {
+    bytes: Told,
+    failed: Told,
+}
+
+impl Model for Taken {
+    ghost use Rattle.std.specs.Prelude.{length};
+    ghost use Rattle.archive_listen.specs.Streams.{TakenState};
+
+    ghost Value = { TakenState };
+
+    ghost view = { λ t. record { bytes = length t.bytes.bytes; failures = length t.failed.bytes } };
+}
+
+impl Taken {
+    /// None yet.
+    pub(crate) fn new() -> Taken
+        ensures { result ≡ nothing_taken }
+    {
+        Taken {
+            bytes: Told::new(),
+            failed: Told::new(),
+        }
+    }
 }
 
 /// A stream of the system. Contracts see the bytes that looks at it gave, and those that it took.
@@ -89,12 +140,27 @@ impl<S: Read + OpenStream> Stream<S> {
         }
     }
 
-    /// Takes what has come. No wait.
-    pub(crate) fn take(&mut self, buffer: &mut [u8]) -> io::Result<usize>
-        ensures count { IfOk result (λ n. n ≤ length buffer.old) }
+    /// Takes what has come, of which there is some. No wait.
+    pub(crate) fn take(
+        &mut self,
+        buffer: &mut [u8],
+        taken: &mut Taken,
+    ) -> Result<usize, DeviceFailure>
+        ensures count { IfOk result (λ n. (0 < n) × (n ≤ length buffer.old)) }
         ensures same { self.new ≡ self.old }
+        ensures taken { MatchResult result (λ n. taken.new ≡ taken_by n taken.old)
+            (λ _. taken.new ≡ taken_not taken.old) }
     {
-        self.inner.read(buffer)
+        match self.inner.read(buffer) {
+            Ok(count) if count > 0 => {
+                taken.bytes.note(&buffer[..count]);
+                Ok(count)
+            }
+            _ => {
+                taken.failed.note(&[0]);
+                Err(DeviceFailure)
+            }
+        }
     }
 }
 
@@ -114,7 +180,10 @@ impl<S: Write + OpenStream> Stream<S> {
 
 impl<S: OpenStream> Stream<S> {
     /// Ends what is written.
-    pub(crate) fn end(&self) -> io::Result<()> {
+    pub(crate) fn end(&self, ended: &mut Ends) -> io::Result<()>
+        ensures { ended.new ≡ ended.old + 1 }
+    {
+        ended.told.note(&[0]);
         self.inner.shutdown(Shutdown::Write)
     }
 }

@@ -1,12 +1,12 @@
 //! How long reads may wait.
-ghost use Rattle.std.specs.Prelude.{◌≡◌, ◌≤◌, ◌+◌, ◌-◌, max, min, length, take, Some, IfOk, IfSome, IsNone, MatchResult, ◌↔◌};
-ghost use Rattle.archive_listen.specs.Streams.{nothing_went, read_by, written_by};
+ghost use Rattle.std.specs.Prelude.{◌≡◌, ◌≤◌, ◌<◌, ◌+◌, ◌-◌, max, min, length, take, Some, IfOk, IfSome, IsNone, MatchResult, ◌↔◌};
+ghost use Rattle.archive_listen.specs.Streams.{nothing_went, read_by, taken_by, taken_not, written_by};
 ghost use Rattle.archive_listen.specs.Waits.{WaitsWithin};
 ghost use Rattle.std.specs.Duration.{as_nanos};
 
-use crate::streams::{Reading, Stream};
+use crate::streams::{Ends, Reading, Stream, Taken};
 use byte_device::{DeviceFailure, Told};
-use std::io::{self, ErrorKind, Read, Write};
+use std::io::{ErrorKind, Read, Write};
 use std::marker::Model;
 use std::net::OpenStream;
 use std::rt::Clock;
@@ -179,17 +179,25 @@ impl<'a, R: Clock, S: Read + OpenStream> Timed<'a, R, S> {
         Err(DeviceFailure)
     }
 
-    /// Takes what has come. No wait.
-    pub(crate) fn take(&mut self, buffer: &mut [u8]) -> io::Result<usize>
-        ensures count { IfOk result (λ n. n ≤ length buffer.old) }
+    /// Takes what has come, of which there is some. No wait.
+    pub(crate) fn take(
+        &mut self,
+        buffer: &mut [u8],
+        taken: &mut Taken,
+    ) -> Result<usize, DeviceFailure>
+        ensures count { IfOk result (λ n. (0 < n) × (n ≤ length buffer.old)) }
         ensures same { self.new ≡ self.old }
+        ensures taken { MatchResult result (λ n. taken.new ≡ taken_by n taken.old)
+            (λ _. taken.new ≡ taken_not taken.old) }
     {
-        self.stream.take(buffer)
+        self.stream.take(buffer, taken)
     }
 
     /// Ends what is written. None: the stream failed.
-    pub(crate) fn end(&self) -> Option<()> {
-        self.stream.end().ok()
+    pub(crate) fn end(&self, ended: &mut Ends) -> Option<()>
+        ensures { ended.new ≡ ended.old + 1 }
+    {
+        self.stream.end(ended).ok()
     }
 }
 

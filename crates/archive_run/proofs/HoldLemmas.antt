@@ -3,7 +3,6 @@ use Rattle.std.proofs.Common.{◌≡◌, ◌∙◌, inl, inr, ap, subst, sym, re
 use Rattle.sqlite.specs.Store.{Ghosts}
 use Rattle.policy_core.specs.Rules.{Rule}
 use Rattle.archive_machine.specs.Records.{Archive}
-use Rattle.archive_machine.specs.Sound.{IsFiledRight}
 use Rattle.archive_store.specs.Told.{Goes, HasReturned, HoldsTables, IsOpen, archive_in}
 use Rattle.archive_desk.specs.Holding.{GoesHeld}
 use Rattle.archive_store.specs.declared.store.Store.{Store as Open}
@@ -13,7 +12,7 @@ use Rattle.archive_listen.specs.Serving.{Served, ServesEach, ServesOne}
 use Rattle.archive_listen.specs.declared.faults.AcceptFault.{AcceptFault}
 use Rattle.archive_serve.specs.Runs.{AnswersIn, AreReplied, CanServe, EachGetsItsReply, RunLaw}
 use Rattle.archive_run.specs.Databases.{Works}
-use Rattle.archive_run.specs.Holding.{Leads}
+use Rattle.archive_run.specs.Holding.{Leads, LeadsHeld}
 use Rattle.archive_run.specs.Remembering.{ClosesHeld, OpensHeld}
 use Rattle.archive_run.specs.declared.databases.Databases.{Ghosts as Keeps}
 
@@ -21,6 +20,7 @@ use Rattle.archive_run.specs.declared.databases.Databases.{Ghosts as Keeps}
 
 module _ {S D : Type 0} (g : Ghosts S) (keeps : Keeps D (Open S)) (opens : OpensHeld g keeps) (closes : ClosesHeld g keeps)
     (old new : D) (file : List ℕ) where
+  -- a call that is promised of a store which is ready
   pub leads_by : (Becomes : Open S → Open S → Type 0) (R : Archive → Archive → Type 0) → ((o c : Open S) → Becomes o c → Goes g o c R)
       → Works keeps old new file Becomes → Leads g keeps old new file R
   leads_by Becomes R goes works =
@@ -31,7 +31,7 @@ module _ {S D : Type 0} (g : Ghosts S) (keeps : Keeps D (Open S)) (opens : Opens
         after = works.after;
         opened = works.opened;
         closed = works.closed;
-        leads = λ returned first held right.
+        becomes = λ returned first held right.
             let was = opens old works.device file works.before first held works.opened (it.0.returned returned) in
             let there = it.1 returned (ready_with g works.before first was.0 was.1 right) in (
               archive_in g works.after,
@@ -41,10 +41,10 @@ module _ {S D : Type 0} (g : Ghosts S) (keeps : Keeps D (Open S)) (opens : Opens
             );
       }
 
-  -- the same of a call that is promised of tables, whatever is filed of a message, and leaves the archive
-  pub leads_held : (Becomes : Open S → Open S → Type 0) (R : Archive → Archive → Type 0)
-      → ((o c : Open S) → Becomes o c → GoesHeld g o c (λ a b. (b ≡ a) × R a b)) → Works keeps old new file Becomes → Leads g keeps old new file (λ a b. (b ≡ a) × R a b)
-  leads_held Becomes R goes works =
+  -- a call that is promised of tables, whatever is filed of a message, and leaves the archive
+  pub leads_held : (Becomes : Open S → Open S → Type 0) (Says : Archive → Type 0)
+      → ((o c : Open S) → Becomes o c → GoesHeld g o c (λ a b. (b ≡ a) × Says a)) → Works keeps old new file Becomes → LeadsHeld g keeps old new file Says
+  leads_held Becomes Says goes works =
       let it = goes works.before works.after works.becomes in
       record {
         device = works.device;
@@ -52,13 +52,12 @@ module _ {S D : Type 0} (g : Ghosts S) (keeps : Keeps D (Open S)) (opens : Opens
         after = works.after;
         opened = works.opened;
         closed = works.closed;
-        leads = λ returned first held right.
-            let was = opens old works.device file works.before first held works.opened (it.0.returned returned) in
+        becomes = λ returned archive held.
+            let was = opens old works.device file works.before archive held works.opened (it.0.returned returned) in
             let there = it.1 returned was.0 in (
-              archive_in g works.after,
-              subst (λ a. (archive_in g works.after ≡ a) × R a (archive_in g works.after)) was.1 there.1,
-              subst IsFiledRight (sym (there.1.0 ∙ was.1)) right,
-              closes old works.device new file works.before works.after first held works.opened works.closed returned there.0,
+              subst Says was.1 there.1.1,
+              subst (λ a. keeps.holds new file a) (there.1.0 ∙ was.1)
+                  (closes old works.device new file works.before works.after archive held works.opened works.closed returned there.0),
             );
       }
 

@@ -1,30 +1,40 @@
 -- From an order that was carried out to what becomes of the archive that its database holds.
-use Rattle.std.proofs.Common.{◌≡◌, ◌∙◌, ◌++◌, ap, inl, inr, ℕ, Bool, List, [], ◌∷◌, Option, Some, Ok}
+use Rattle.std.proofs.Common.{◌≡◌, ◌∙◌, ◌++◌, ◌<◌, ap, inl, inr, refl, subst, sym, ℕ, ℤ, Bool, true, List, [], ◌∷◌, length, Option, Some, Ok, Err}
+use Rattle.policy_core.specs.Rules.{Rule}
 use Rattle.archive_machine.specs.Runs.{taken}
-use Rattle.archive_store.proofs.Joins.{ready_with, sound_too}
+use Rattle.archive_store.proofs.Joins.{ready_with}
 use Rattle.archive_store.proofs.RightLemmas.{taken_right}
 use Rattle.archive_store.specs.Told.{archive_in}
-use Rattle.archive_store.specs.Checking.{Checks, IsFoundWhole}
+use Rattle.archive_store.specs.Checking.{Checks}
+use Rattle.archive_port.specs.Checking.{IsFoundWhole}
+use Rattle.archive_store.specs.declared.store.Store.{Store as Open}
 use Rattle.archive_desk.specs.Exporting.{exported}
 use Rattle.archive_desk.specs.Importing.{IsImported}
-use Rattle.archive_listen.specs.Connections.{Exchange}
-use Rattle.archive_listen.specs.Serving.{served}
+use Rattle.archive_listen.specs.Connections.{Exchange, Outcome, noted}
+use Rattle.archive_listen.specs.Serving.{ServesRun, served}
 use Rattle.archive_listen.specs.declared.connections.Listening.{Listening}
 use Rattle.archive_listen.specs.declared.faults.AcceptFault.{AcceptFault}
+use Rattle.archive_serve.specs.Announced.{IsAnnounced}
+use Rattle.archive_serve.specs.Runs.{RunLaw}
 use Rattle.archive_serve.proofs.PeerLemmas.{each_gets}
+use Rattle.archive_words.specs.Values.{ServeValues}
 use Rattle.archive_words.specs.declared.orders.Order.{Order}
 use Rattle.archive_words.specs.declared.orders.Order.TheVariants.{Sift, Table, Import, Get, Export, Check, Serve}
 use Rattle.archive_work.specs.Commands.{answer_to, stepped}
 use Rattle.archive_work.specs.Getting.{got_of}
 use Rattle.archive_work.specs.Working.{Carries, Gets}
 use Rattle.archive_run.specs.Files.{FileTells}
-use Rattle.archive_run.specs.Holding.{RunsOver, after as told_after, before as told_before}
+use Rattle.archive_run.specs.Holding.{EndsOver, HasServed, RunsOver, after as told_after, before as told_before}
 use Rattle.archive_run.specs.Orders.{ask_by}
 use Rattle.archive_run.specs.Remembering.{ClosesHeld, OpensHeld}
 use Rattle.archive_run.specs.Runs.{Runs}
 use Rattle.archive_run.specs.Working.{ImportsFile, IsExported}
 use Rattle.archive_run.specs.World.{Devices}
+use Rattle.archive_run.specs.declared.faults.Refusal.{Refusal}
+use Rattle.archive_run.specs.declared.faults.Refusal.TheVariants.{Run, Store, Desk, Import as Importing, Damaged, Denied, Net}
 use Rattle.archive_run.specs.declared.world.World.{World}
+use Rattle.sift_run.specs.Running.{IsDayBy, IsPolicyOf}
+use Rattle.sift_run.specs.declared.faults.RunFault.TheVariants.{Memory}
 use Rattle.archive_run.proofs.HoldLemmas.{leads_by, leads_held, serves_held}
 
 module _ {Y S F D C P T R O E I L K A B M : Type 0} (dev : Devices S F I D C P L T R O E) (opens : OpensHeld dev.pages dev.databases)
@@ -34,6 +44,45 @@ module _ {Y S F D C P T R O E I L K A B M : Type 0} (dev : Devices S F I D C P L
     (listens_none : (before after : P) (port : ℕ) (listening : Listening L) → dev.listens before after port (Ok listening)
     → (dev.went after ≡ dev.went before) × (dev.over listening.listener ≡ []))
     (old new : World Y S F D C P T R O E I L K A B M) where
+  -- an order to serve that was carried out, or whose listener gave no more, by what it comes to of an open store
+  has_served : (order : ServeValues) (Count : ℕ → Type 0) (rules : List Rule) → IsPolicyOf dev.gives old.files (Some order.policy) rules → (clock : C) (day : ℤ)
+      → IsDayBy dev.clock order.day true old.clock clock (Some day)
+      → (device : D) (store later : Open S) → dev.databases.opens old.databases device order.file (Ok store) → dev.databases.closes device new.databases later
+      → (listening : Listening L) (ports : P) → dev.listens old.ports ports order.port (Ok listening)
+      → IsAnnounced listening.port (told_before dev old new).written (told_after dev old new).written (told_after dev old new).passed
+      → (end last : L) → dev.went new.ports ≡ dev.went ports ++ dev.over end → dev.over end ≡ dev.over last
+      → (outcomes : List Outcome) → Count (length outcomes)
+      → ServesRun (RunLaw dev.pages rules day store later) dev.accepts dev.shuts (served listening.listener store) (noted dev.notes old.faults) (noted dev.notes new.faults)
+      outcomes (served last later)
+      → HasServed dev old new order Count
+  has_served order Count rules is clock day given device store later opened closed listening ports had said end last ended same outcomes count run =
+      let none = listens_none old.ports ports order.port listening had in
+      let gets = each_gets dev.pages dev.over dev.accepts dev.shuts accepts_none shuts_one in
+      record {
+        rules = rules;
+        is_policy = is;
+        clock = clock;
+        day = day;
+        is_day = given;
+        listening = listening;
+        ports = ports;
+        had = had;
+        said = said;
+        outcomes = outcomes;
+        count = count;
+        told = run.told;
+        device = device;
+        store = store;
+        later = later;
+        opened = opened;
+        closed = closed;
+        all = dev.over last;
+        went = ended ∙ (ap (λ (before : List Exchange). before ++ dev.over end) none.0 ∙ ap (λ (all : List Exchange). dev.went old.ports ++ all) same);
+        of_held = λ returned archive held.
+            serves_held dev.pages dev.over dev.accepts dev.shuts gets dev.databases opens closes old.databases device new.databases order.file rules day outcomes
+            (served listening.listener store) (served last later) archive none.1 opened closed run.each returned held;
+      }
+
   pub runs_over : (order : Order) → Runs dev old new order (Ok tt) → RunsOver dev old new order
   runs_over (Sift order) it = tt
   runs_over (Table order) (answer, works, sends) = (
@@ -86,7 +135,7 @@ module _ {Y S F D C P T R O E I L K A B M : Type 0} (dev : Devices S F I D C P L
         sends.0,
         leads_held dev.pages dev.databases opens closes old.databases new.databases order.asked.file
             (λ o c. Gets dev.pages o c (ask_by order.asked rules day) order.key (Ok text))
-            (λ a b. got_of a (ask_by order.asked rules day) order.key ≡ Ok text.items)
+            (λ a. got_of a (ask_by order.asked rules day) order.key ≡ Ok text.items)
             (λ o c goes. goes) works,
       ),
     ),
@@ -102,43 +151,60 @@ module _ {Y S F D C P T R O E I L K A B M : Type 0} (dev : Devices S F I D C P L
           given,
           leads_held dev.pages dev.databases opens closes old.databases new.databases order.file
               (λ o c. IsExported dev.pages o c (ask_by order rules day) before after)
-              (λ a b. after.written ≡ before.written ++ exported a (ask_by order rules day))
+              (λ a. after.written ≡ before.written ++ exported a (ask_by order rules day))
               (λ o c it. (it.1.0, λ returned held. let there = it.1.1 returned held in (there.0, (there.1.0, there.1.2)))) works,
         ),
       )
   runs_over (Check order) (works, sends) =
-      leads_by dev.pages dev.databases opens closes old.databases new.databases order.file
-      (λ o c. Checks dev.pages o c (Ok tt)) (λ a b. (b ≡ a) × IsFoundWhole a)
-      (λ o c goes. sound_too dev.pages o c (λ a b. (b ≡ a) × IsFoundWhole a) (λ a b it. it.0) goes) works
+      leads_held dev.pages dev.databases opens closes old.databases new.databases order.file (λ o c. Checks dev.pages o c (Ok tt)) IsFoundWhole (λ o c goes. goes) works
   runs_over (Serve order) (inr (made, e, same)) = cc
   runs_over (Serve order) (inl (made, (rules, is, (clock, day, given, (works, same))), more)) =
       let it = works.becomes in
       let all = it.3 in
-      let end = all.1 in
       let run = all.3 in
-      let none = listens_none old.ports it.1 order.port it.0 it.2 in
-      let gets = each_gets dev.pages dev.over dev.accepts dev.shuts accepts_none shuts_one in
-      record {
-        rules = rules;
-        is_policy = is;
-        clock = clock;
-        day = day;
-        is_day = given;
-        listening = it.0;
-        ports = it.1;
-        had = it.2;
-        said = all.0;
-        outcomes = run.0;
-        count = run.1;
-        told = run.2.told;
-        device = works.device;
-        store = works.before;
-        later = works.after;
-        opened = works.opened;
-        closed = works.closed;
-        all = dev.over end;
-        went = all.2 ∙ ap (λ (before : List Exchange). before ++ dev.over end) none.0;
-        of_held = λ returned archive held.
-            serves_held dev.pages dev.over dev.accepts dev.shuts gets dev.databases opens closes old.databases works.device new.databases order.file rules day run.0
-            (served it.0.listener works.before) (served end works.after) archive none.1 works.opened works.closed run.2.each returned held;
-      }
+      has_served order (λ n. n ≡ order.count) rules is clock day given works.device works.before works.after works.opened works.closed it.0 it.1 it.2 all.0 all.1 all.1 all.2 refl
+      run.0 run.1 run.2
+
+  -- a server that was refused
+  fewer : (order : ServeValues) → Runs dev old new (Serve order) (Err Net) → EndsOver dev old new (Serve order) Net
+  fewer order (inr (made, e, same)) = cc
+  fewer order (inl (made, (inl (never, same)), more)) = absurd never
+  fewer order (inl (made, (inr (rules, is, (inl (e, none, same)))), more)) = cc
+  fewer order (inl (made, (inr (rules, is, (inr (clock, day, given, (inl (never, same)))))), more)) = absurd never
+  fewer order (inl (made, (inr (rules, is, (inr (clock, day, given, (inr (works, same)))))), more)) = elim works.becomes [
+    | inl none ↦ inl (none.1, none.2)
+    | inr it ↦
+        let all = it.3 in
+        let run = all.3 in
+        let end = all.1 in
+        let last = run.1 in
+        inr (has_served order (λ n. n < order.count) rules is clock day given works.device works.before works.after works.opened works.closed it.0 it.1 it.2 all.0 end last.listener
+        all.2 (accepts_none last.listener end _ run.5) run.0 run.2
+        (subst (λ (s : Open S). ServesRun (RunLaw dev.pages rules day works.before works.after) dev.accepts dev.shuts (served it.0.listener works.before)
+        (noted dev.notes old.faults) (noted dev.notes new.faults) run.0 (served last.listener s)) (sym run.4) run.3))
+  ]
+
+  pub ends_over : (order : Order) (refusal : Refusal) → Runs dev old new order (Err refusal) → EndsOver dev old new order refusal
+  ends_over (Serve order) Net it = fewer order it
+  ends_over (Serve order) (Run fault) it = tt
+  ends_over (Serve order) (Store fault) it = tt
+  ends_over (Serve order) (Desk fault) it = tt
+  ends_over (Serve order) (Importing stop) it = tt
+  ends_over (Serve order) (Damaged list key) it = tt
+  ends_over (Serve order) (Denied rule) it = tt
+  ends_over (Sift order) refusal it = tt
+  ends_over (Table order) refusal it = tt
+  ends_over (Import order) refusal it = tt
+  ends_over (Get order) refusal it = tt
+  ends_over (Export order) refusal it = tt
+  ends_over (Check order) refusal it = tt
+
+  -- where there was no memory to read the words
+  pub ends_unread : (order : Order) → EndsOver dev old new order (Run Memory)
+  ends_unread (Sift order) = tt
+  ends_unread (Table order) = tt
+  ends_unread (Import order) = tt
+  ends_unread (Get order) = tt
+  ends_unread (Export order) = tt
+  ends_unread (Check order) = tt
+  ends_unread (Serve order) = tt

@@ -2,7 +2,7 @@
 use Rattle.std.proofs.Common.{◌⊎◌, inr, ℕ, List, Result, Ok, Err}
 use Rattle.std.specs.Prelude.{MatchResult}
 use Rattle.sqlite.specs.Store.{Ghosts as Pages}
-use Rattle.archive_store.specs.declared.faults.StoreFault.{StoreFault}
+use Rattle.archive_port.specs.declared.faults.StoreFault.{StoreFault}
 use Rattle.archive_store.specs.declared.store.Store.{Store}
 use Rattle.archive_words.specs.Values.{TableCommand}
 use Rattle.archive_work.specs.Working.{Carries, EndsCarry}

@@ -6,8 +6,8 @@ use std::alloc::Global;
 pub trait Databases<T> {
     ghost use Rattle.std.specs.Prelude.{◌≡◌, ℕ, List, Result, None, IfErr, ⊤};
     ghost use Rattle.archive_machine.specs.Records.{Archive};
-    ghost use Rattle.archive_store.specs.Replies.{refusal};
-    ghost use Rattle.archive_store.specs.declared.faults.StoreFault.{StoreFault};
+    ghost use Rattle.archive_port.specs.Replies.{refusal};
+    ghost use Rattle.archive_port.specs.declared.faults.StoreFault.{StoreFault};
 
     // The database of this name holds this archive, while it is closed. What a device says of it keeps the laws of `System`.
     ghost holds: { Self → List ℕ → Archive → Type 0 } = { λ _ _ _. ⊥ };

@@ -29,5 +29,5 @@ returns-in-Err-open_files-clause-cause g c =
       left = c.in-Err-open_files._left;
       error = c.in-Err-open_files.error;
       cause = c.in-Err-open_files.ensures.cause;
-      told = c.into.ensures.0;
+      told = c.database_fault.ensures.value;
     })))

@@ -1,10 +1,10 @@
 use Rattle.std.proofs.Common.{arith, ◌+◌, [], ◌∷◌, ◌++◌, ◌∙◌, ap, refl, length-append}
 use Rattle.archive_listen.specs.Serving.{at_work, served}
-use Rattle.archive_listen.proofs.ServingLemmas.{serves_more, lines_none, lines_more}
+use Rattle.archive_listen.proofs.ServingLemmas.{serves_more, told_more}
 use Rattle.archive_listen.proofs.serving.serve_each.Goals as goal
 
 pub loop-taken-init : goal.loop-taken-init
-loop-taken-init g c = ([], refl, omega arith, record { each = refl; told = λ _. lines_none _ }, omega arith)
+loop-taken-init g c = ([], refl, omega arith, record { each = refl; told = refl }, omega arith)
 
 pub loop-taken-preserved : goal.loop-taken-preserved
 loop-taken-preserved g c =
@@ -14,7 +14,7 @@ loop-taken-preserved g c =
       omega (arith, c.loop-taken-test.true),
       record {
         each = serves_more _ _ _ i.0 c.in-Ok.outcome _ _ _ i.3.each c.in-Ok.ensures.served;
-        told = lines_more i.0 c.in-Ok.outcome _ _ _ _ _ _ i.4 c.tell_outcome.ensures.failures i.3.told c.tell_outcome.ensures.told;
+        told = told_more i.0 c.in-Ok.outcome _ _ _ i.3.told c.tell_outcome.ensures.told;
       },
       omega (arith, i.4, c.tell_outcome.ensures.failures),
     )

@@ -1,5 +1,5 @@
 use Rattle.std.proofs.Common.{◌∙◌}
-use Rattle.archive_store.specs.Names.{store_text}
+use Rattle.archive_port.specs.Names.{store_text}
 use Rattle.sift_run.proofs.TellLemmas.{said_as}
 use Rattle.archive_run.proofs.faults.say_taking.Goals as goal
 

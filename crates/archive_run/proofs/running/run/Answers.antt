@@ -6,7 +6,7 @@ use Rattle.archive_run.specs.World.{devices}
 use Rattle.archive_run.specs.declared.faults.Refusal.TheVariants.{Run}
 use Rattle.sift_run.specs.declared.faults.RunFault.TheVariants.{Memory}
 use Rattle.sift_run.proofs.StatusLemmas.{at_most_one, at_one, at_zero, memory_alone, memory_said, same_order, words_bad}
-use Rattle.archive_run.proofs.OverLemmas.{runs_over}
+use Rattle.archive_run.proofs.OverLemmas.{ends_over, ends_unread, runs_over}
 use Rattle.archive_run.proofs.running.run.Goals as goal
 
 pub returns-in-Ok-clause-done : goal.returns-in-Ok-clause-done
@@ -32,7 +32,15 @@ returns-in-Ok-clause-refused g c =
     let mid = c.run_order-done.new.world in
     let it = at_one _ _ (Runs dev old mid c.in-Ok.asked) c.run_order-done.result c.finish.result c.finish.ensures c.run_order-done.ensures one in
     let P : Order → Type 0 = λ o. Runs dev old mid o (Err it.0) in
-    record { refusal = it.0; stopped = mid; cause = inr (subst P (same_order _ _ _ c.in-Ok.ensures.ok given.1) it.1); told = (it.2, refl) }
+    let cause = subst P (same_order _ _ _ c.in-Ok.ensures.ok given.1) it.1 in
+    record {
+      refusal = it.0;
+      stopped = mid;
+      cause = inr cause;
+      told = (it.2, refl);
+      ends = ends_over dev g.met.Y.System.opens_held g.met.Y.System.closes_held
+          g.met.Y.Ports.Listener.Listener.accepts_none g.met.Y.Ports.Listener.Listener.closes_one g.met.Y.Ports.Ports.listens_none old mid order it.0 cause;
+    }
 
 pub returns-in-Ok-clause-holds : goal.returns-in-Ok-clause-holds
 returns-in-Ok-clause-holds g c =
@@ -68,10 +76,20 @@ pub returns-in-Err-clause-refused : goal.returns-in-Err-clause-refused
 returns-in-Err-clause-refused g c =
     λ order given one.
     let old = c.args.world.now in
+    let dev = devices g.Y.Storage.Store g.Y.Files.ReadFiles g.Y.Files.OpenFiles g.Y.Files.Input.Source g.Y-Databases-Databases g.Y.Clock.DayClock
+    g.Y.Ports.Ports.listens g.Y.Ports.Listener.Listener.accepts g.Y.Ports.Listener.Listener.closes g.Y.Ports.Listener.Listener.over g.Y.Ports.Ports.went
+    g.Y.Threaders.Threaders.makes g.Y.Input.Source g.Y.Output.Sink g.Y.Output.Outgoing g.Y.Faults.Sink in
     let faults = c.say_stop.new.faults in
     let said = memory_said g.Y.Output.Sink g.Y.Output.Outgoing g.Y.Faults.Sink old.output c.say_stop.new.output old.faults faults c.say_stop.result _
     (memory_alone _ _ _ c.in-Err.ensures.refused c.in-Err.ensures.stopped given) c.say_stop.ensures in
-    record { refusal = Run Memory; stopped = old; cause = inl (refl, refl); told = (said.2, ap (λ o. record old { output = o; faults = faults }) said.1) }
+    record {
+      refusal = Run Memory;
+      stopped = old;
+      cause = inl (refl, refl);
+      told = (said.2, ap (λ o. record old { output = o; faults = faults }) said.1);
+      ends = ends_unread dev g.met.Y.System.opens_held g.met.Y.System.closes_held
+          g.met.Y.Ports.Listener.Listener.accepts_none g.met.Y.Ports.Listener.Listener.closes_one g.met.Y.Ports.Ports.listens_none old old order;
+    }
 
 pub returns-in-Err-clause-holds : goal.returns-in-Err-clause-holds
 returns-in-Err-clause-holds g c =

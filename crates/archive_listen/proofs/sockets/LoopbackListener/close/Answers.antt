@@ -10,6 +10,6 @@ returns-clause-closes g c =
       waited = record {
         head = omega (arith, c.latest-head.ensures, c.input.invariant);
         reply = omega (arith, c.latest-reply.ensures, c.output.invariant.0, c.output.invariant.1, sent);
-        rest = c.end-rest.ensures.rest;
+        rest = c.let_go-rest.ensures;
       };
     }

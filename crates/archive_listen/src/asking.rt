@@ -1,0 +1,92 @@
+//! What listens for the system, and what its calls gave. No clause says what the toolchain's own calls give, so the bodies here only call
+//! them and write down what came of it.
+ghost use Rattle.std.specs.Prelude.{◌≡◌, Ok, Err, MatchResult};
+ghost use Rattle.archive_listen.specs.Asking.{asked_on, never_asked};
+
+use crate::errors::Errors;
+use byte_device::Told;
+use std::io::{self, ErrorKind};
+use std::marker::Model;
+use std::net::{OpenListener, OpenStream};
+use std::rt::Clock;
+use std::time::Instant;
+
+/// A connection that the system gave.
+#[derive(Drop)]
+pub(crate) struct Given<S> {
+    /// The socket that is read.
+    pub read: S,
+    /// A second descriptor of the same socket, which is written to.
+    pub written: S,
+    /// When it was given.
+    pub at: Instant,
+}
+
+/// Asks for a connection, for the time, and for a second descriptor of its socket.
+fn ask<R: Clock, S: OpenStream + Drop, L: OpenListener<Stream = S>>(
+    listener: &L,
+    clock: &R,
+) -> io::Result<Given<S>> {
+    let (read, _) = listener.accept()?;
+    let at = Instant::now(clock)?;
+    let written = read.try_clone()?;
+    Ok(Given { read, written, at })
+}
+
+/// What listens for the system. Contracts see how often it was asked for a connection, what errors it gave, and when it last gave one.
+#[derive(Drop)]
+pub(crate) struct Asked<L> {
+    inner: L,
+    times: Told,
+    errors: Errors,
+    at: Option<Instant>,
+}
+
+impl<L> Model for Asked<L> {
+    ghost use Rattle.std.specs.Prelude.{length};
+    ghost use Rattle.archive_listen.specs.Asking.{AskedState};
+
+    ghost Value = { AskedState };
+
+    ghost view = { λ a. record { times = length a.times.bytes; errors = a.errors.kinds; at = a.at } };
+}
+
+impl<L> Asked<L> {
+    /// It was not asked yet.
+    pub(crate) fn new(inner: L) -> Asked<L>
+        ensures { result ≡ never_asked }
+    {
+        Asked {
+            inner,
+            times: Told::new(),
+            errors: Errors::new(),
+            at: None,
+        }
+    }
+}
+
+impl<L> Asked<L> {
+    /// The next connection, or why the system gave none.
+    pub(crate) fn next<R: Clock, S: OpenStream + Drop>(
+        &mut self,
+        clock: &R,
+    ) -> Result<Given<S>, ErrorKind>
+    where
+        L: OpenListener<Stream = S>,
+        ensures { MatchResult result (λ given. self.new ≡ asked_on (Ok given.at) self.old)
+            (λ kind. self.new ≡ asked_on (Err kind) self.old) }
+    {
+        self.times.note(&[0]);
+        match ask(&self.inner, clock) {
+            Ok(given) => {
+                self.at = Some(given.at);
+                Ok(given)
+            }
+            Err(error) => {
+                let kind = error.kind();
+                self.errors = Errors::with(&self.errors, &kind);
+                Err(kind)
+            }
+        }
+    }
+}
