@@ -1,0 +1,11 @@
+mod SeenExamples
+mod SeenLemmas
+mod ByteLemmas
+mod AskingLemmas
+mod SentLemmas
+mod NamesLemmas
+mod MailsLemmas
+mod LineLemmas
+mod RowsLemmas
+mod ApartLemmas
+mod TellLemmas

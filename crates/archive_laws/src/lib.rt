@@ -1,0 +1,4 @@
+//! What the replies tell: laws over the definitions of the archive's pages.
+#![tactic(auto)]
+
+pub mod laws;
