@@ -10,14 +10,16 @@ use Rattle.mbox_stream.specs.Stream.{settled_items}
 use Rattle.archive_machine.specs.Records.{Archive}
 use Rattle.archive_machine.specs.Runs.{taken}
 use Rattle.archive_tables.specs.Crashes.{AddsNothing}
-use Rattle.archive_store.specs.Batches.{AddsAll, HasAddedFirst}
-use Rattle.archive_store.specs.Crashes.{CrashAll, HasAddedAtLeast}
+use Rattle.archive_store.specs.Batches.{AddsAll}
+use Rattle.archive_port.specs.Adding.{HasAddedFirst}
+use Rattle.archive_store.specs.Crashes.{CrashAll}
+use Rattle.archive_port.specs.Adding.{HasAddedAtLeast}
 use Rattle.archive_store.specs.Held.{held_of}
 use Rattle.archive_store.specs.Told.{GoesIn, HoldsTables, Lasts, archive_in}
 use Rattle.archive_desk.specs.Holding.{CallsHeld, GoesHeld}
-use Rattle.archive_store.specs.declared.batches.AddReport.{AddReport}
-use Rattle.archive_store.specs.declared.batches.AddStop.{AddStop}
-use Rattle.archive_store.specs.declared.faults.StoreFault.{StoreFault}
+use Rattle.archive_port.specs.declared.reports.AddReport.{AddReport}
+use Rattle.archive_port.specs.declared.reports.AddStop.{AddStop}
+use Rattle.archive_port.specs.declared.faults.StoreFault.{StoreFault}
 use Rattle.archive_store.specs.declared.store.Store.{Store}
 use Rattle.archive_store.proofs.CrashLemmas.{KeepsCommit, all_safe, leaves_as, leaves_now}
 use Rattle.archive_store.proofs.RunLemmas.{run_nothing}

@@ -15,8 +15,8 @@ use Rattle.archive_store.specs.Held.{held_of, wants_of}
 use Rattle.archive_store.specs.Refusals.{StopsAmong}
 use Rattle.archive_store.specs.Told.{Counts, EndsBehind, HasFailed, HoldsTables, Lasts}
 use Rattle.archive_desk.specs.Holding.{GoesHeld}
-use Rattle.archive_store.specs.declared.batches.AddReport.{AddReport}
-use Rattle.archive_store.specs.declared.batches.AddStop.{AddStop}
+use Rattle.archive_port.specs.declared.reports.AddReport.{AddReport}
+use Rattle.archive_port.specs.declared.reports.AddStop.{AddStop}
 use Rattle.archive_store.specs.declared.store.Store.{Store}
 use Rattle.archive_desk.specs.declared.importing.ImportFault.TheVariants.{Mbox, Store as Stored}
 use Rattle.archive_desk.specs.declared.importing.ImportStop.{ImportStop}

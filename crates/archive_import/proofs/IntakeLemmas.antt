@@ -14,7 +14,7 @@ use Rattle.archive_machine.specs.Questions.{has_list, messages_in}
 use Rattle.archive_machine.specs.Machine.{Outcome, step}
 use Rattle.archive_machine.specs.Runs.{run, taken, Tally, tally, is_new, is_known, is_too_large}
 use Rattle.archive_machine.proofs.RunLemmas.{archive_of_both, replies_of_both}
-use Rattle.archive_store.specs.Batches.{HasAddedFirst, IsFullAt, text_bytes}
+use Rattle.archive_port.specs.Adding.{HasAddedFirst, IsFullAt, text_bytes}
 use Rattle.archive_store.proofs.RunLemmas.{run_nothing}
 use Rattle.archive_desk.specs.Importing.{tally_of}
 use Rattle.archive_import.specs.declared.intake.TheConstants.{MESSAGES_HELD, BYTES_HELD}

@@ -15,12 +15,12 @@ use Rattle.archive_machine.specs.Records.{Archive}
 use Rattle.archive_machine.specs.Commands.{Refusal}
 use Rattle.archive_machine.specs.Questions.{has_list, list_refusal}
 use Rattle.archive_machine.specs.Runs.{taken}
-use Rattle.archive_store.specs.Batches.{HasAddedFirst}
-use Rattle.archive_store.specs.Replies.{refusal}
+use Rattle.archive_port.specs.Adding.{HasAddedFirst}
+use Rattle.archive_port.specs.Replies.{refusal}
 use Rattle.archive_store.specs.Told.{HoldsTables}
 use Rattle.archive_desk.specs.Holding.{CallsHeld, GoesHeld, GoesHeldIfOpen}
 use Rattle.archive_store.specs.declared.store.Store.{Store}
-use Rattle.archive_store.specs.declared.faults.StoreFault.{StoreFault}
+use Rattle.archive_port.specs.declared.faults.StoreFault.{StoreFault}
 use Rattle.archive_store.proofs.Joins.{goes_on_in, goes_in_as, goes_in_as_if_open, stays_there_in}
 use Rattle.archive_store.proofs.RunLemmas.{run_nothing}
 use Rattle.archive_desk.specs.Importing.{IsBrokenAdd}

@@ -5,7 +5,7 @@ use Rattle.mbox_core.proofs.DivisionLaws.{one_division}
 use Rattle.mbox_stream.specs.Stream.{IsBeginning}
 use Rattle.mbox_stream.proofs.StreamLaws.{settled_divide}
 use Rattle.archive_machine.specs.Records.{Archive}
-use Rattle.archive_store.specs.Crashes.{HasAddedAtLeast}
+use Rattle.archive_port.specs.Adding.{HasAddedAtLeast}
 use Rattle.archive_desk.specs.Importing.{IsImported}
 use Rattle.archive_desk.specs.declared.importing.Report.{Report}
 use Rattle.archive_desk.proofs.RepeatLemmas.{again_imported}

@@ -11,13 +11,14 @@ use Rattle.archive_machine.specs.Commands.{Refusal, no_list, bad_name, bad_text,
 use Rattle.archive_machine.specs.Commands.{no_message, already_withdrawn, not_withdrawn, bad_days, list_full, too_large}
 use Rattle.archive_machine.specs.Runs.{taken}
 use Rattle.archive_tables.specs.Tables.{IsKept, archive_of}
-use Rattle.archive_store.specs.Batches.{AddsAll, IsAfter, IsRefusedAt, tally_of}
+use Rattle.archive_store.specs.Batches.{AddsAll, IsAfter}
+use Rattle.archive_port.specs.Adding.{IsRefusedAt, tally_of}
 use Rattle.archive_store.specs.Held.{held_of}
-use Rattle.archive_store.specs.Replies.{refusal}
+use Rattle.archive_port.specs.Replies.{refusal}
 use Rattle.archive_store.specs.Told.{Lasts, HoldsTables}
 use Rattle.archive_store.specs.declared.store.Store.{Store}
-use Rattle.archive_store.specs.declared.batches.AddStop.{AddStop}
-use Rattle.archive_store.specs.declared.batches.AddReport.{AddReport}
+use Rattle.archive_port.specs.declared.reports.AddStop.{AddStop}
+use Rattle.archive_port.specs.declared.reports.AddReport.{AddReport}
 use Rattle.archive_store.proofs.Joins.{goes_on_in, goes_on_in_if_open, goes_in_as, goes_in_as_if_open, stays_there_in}
 use Rattle.archive_desk.specs.Holding.{CallsHeld, GoesHeld, GoesHeldIfOpen}
 use Rattle.archive_desk.specs.Importing.{IsBrokenAdd}

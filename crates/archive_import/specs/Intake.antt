@@ -5,10 +5,10 @@ use Rattle.mbox_core.specs.Division.{Item}
 use Rattle.archive_machine.specs.Records.{Archive}
 use Rattle.archive_machine.specs.Questions.{has_list}
 use Rattle.archive_machine.specs.Runs.{taken, Tally, tally}
-use Rattle.archive_store.specs.Batches.{HasAddedFirst, text_bytes, told_in, IsFullAt}
+use Rattle.archive_port.specs.Adding.{HasAddedFirst, text_bytes, told_in, IsFullAt}
 use Rattle.archive_store.specs.Refusals.{StopsAmong}
-use Rattle.archive_store.specs.declared.batches.AddReport.{AddReport}
-use Rattle.archive_store.specs.declared.batches.AddStop.{AddStop}
+use Rattle.archive_port.specs.declared.reports.AddReport.{AddReport}
+use Rattle.archive_port.specs.declared.reports.AddStop.{AddStop}
 use Rattle.archive_desk.specs.Importing.{tally_of}
 use Rattle.archive_desk.specs.declared.importing.Report.{Report}
 use Rattle.archive_desk.specs.declared.importing.ImportFault.{ImportFault}

@@ -11,11 +11,12 @@ use Rattle.archive_machine.specs.Records.{Archive}
 use Rattle.archive_machine.specs.Commands.{Refusal, no_list, list_full}
 use Rattle.archive_machine.specs.Questions.{has_list}
 use Rattle.archive_machine.specs.Runs.{taken}
-use Rattle.archive_store.specs.Batches.{HasAddedFirst, IsFullAt}
-use Rattle.archive_store.specs.Crashes.{HasAddedAtLeast, LeavesOne}
+use Rattle.archive_port.specs.Adding.{HasAddedFirst, IsFullAt}
+use Rattle.archive_port.specs.Adding.{HasAddedAtLeast}
+use Rattle.archive_store.specs.Crashes.{LeavesOne}
 use Rattle.archive_store.specs.Held.{held_of}
 use Rattle.archive_store.specs.Refusals.{StopsAmong}
-use Rattle.archive_store.specs.Replies.{refusal}
+use Rattle.archive_port.specs.Replies.{refusal}
 use Rattle.archive_store.specs.Told.{HoldsTables}
 use Rattle.archive_desk.specs.Holding.{CallsHeld}
 use Rattle.archive_store.specs.declared.store.Store.{Store as Open}

@@ -2,8 +2,8 @@
 ghost use Rattle.std.specs.Prelude.{◌≡◌, ◌+◌, ◌≤◌, ◌<◌, ◌^◌, ◌∷◌, ◌++◌, [], IsTrue, length, IfErr, IfOk, OnOk, Err};
 ghost use Rattle.archive_desk.specs.declared.importing.ImportFault.TheVariants.{Mbox as NotCut, Store as Stored};
 ghost use Rattle.mbox_core.specs.declared.faults.MboxFault.TheVariants.{Memory as NoRoom};
-ghost use Rattle.archive_store.specs.Batches.{told_in, tally_of as store_tally};
-ghost use Rattle.archive_store.specs.Wanting.{Raises};
+ghost use Rattle.archive_port.specs.Adding.{told_in, tally_of as store_tally};
+ghost use Rattle.archive_port.specs.Wanting.{Raises};
 ghost use Rattle.archive_import.specs.Intake.{IsSmall, is_more};
 ghost use Rattle.archive_import.specs.Streaming.{IsWanting};
 
@@ -31,7 +31,7 @@ pub(crate) struct Intake {
 
 impl Model for Intake {
     ghost use Rattle.std.specs.Prelude.{◌≡◌};
-    ghost use Rattle.archive_store.specs.Batches.{text_bytes};
+    ghost use Rattle.archive_port.specs.Adding.{text_bytes};
     ghost use Rattle.archive_import.specs.Intake.{IntakeState, IsSmall, sum_of};
 
     ghost Value = { IntakeState };

@@ -250,7 +250,7 @@ Opens FILE, and creates it if it is missing or empty.
 
 Checks that the sender, arrival and text of every message make a complete
 message, that its key is the digest of its text, and that its sent date, month
-and author are those of its text. Prints `ok` if all are in order. It changes
+and author are those of its text. Prints `ok` if all are in order. It repairs
 nothing.
 
 Status: 0 done; 1 refused, with one line on standard error; 2 usage error.

@@ -7,7 +7,8 @@ use Rattle.archive_machine.specs.Commands as machine
 use Rattle.archive_machine.specs.Commands.{Reply, refused, no_message}
 use Rattle.archive_machine.specs.Machine.{Outcome, Test, found_of, tests_of, changed_by, reply_to, unless_so, step, refuse}
 use Rattle.archive_machine.specs.declared.found.Found.{Found}
-use Rattle.archive_store.specs.Carrying.{answer_by, Carries as StoreCarries}
+use Rattle.archive_port.specs.Commands.{answer_by}
+use Rattle.archive_store.specs.Carrying.{Carries as StoreCarries}
 use Rattle.archive_store.proofs.CarryLemmas.{is_carried}
 use Rattle.archive_machine.specs.Sound.{IsFiledRight}
 use Rattle.sqlite.specs.Effect.{Database}
@@ -16,10 +17,11 @@ use Rattle.archive_tables.specs.Tables.{archive_in, archive_of}
 use Rattle.archive_store.specs.Held.{held_of}
 use Rattle.archive_store.specs.Refusals.{IsCarried, IsCommandRefused}
 use Rattle.archive_store.specs.Told.{Lasts}
-use Rattle.archive_store.specs.Replies.{refusal, Does}
+use Rattle.archive_port.specs.Replies.{refusal}
+use Rattle.archive_store.specs.Replies.{Does}
 use Rattle.archive_store.specs.declared.store.Store.{Store}
-use Rattle.archive_store.specs.declared.faults.StoreFault.{StoreFault}
-use Rattle.archive_store.specs.declared.faults.StoreFault.TheVariants.{NoMessage}
+use Rattle.archive_port.specs.declared.faults.StoreFault.{StoreFault}
+use Rattle.archive_port.specs.declared.faults.StoreFault.TheVariants.{NoMessage}
 use Rattle.archive_store.proofs.Joins.{stepped as store_stepped, step_failed, stays_there, goes_as, calls_refused, calls_failed}
 use Rattle.archive_store.proofs.RightLemmas.{step_right}
 use Rattle.archive_words.specs.Values.{TableCommand}

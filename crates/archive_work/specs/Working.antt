@@ -5,12 +5,12 @@ use Rattle.sqlite.specs.Store.{Ghosts}
 use Rattle.sqlite.specs.Held.{state}
 use Rattle.archive_machine.specs.Commands.{refused}
 use Rattle.archive_store.specs.Held.{held_of}
-use Rattle.archive_store.specs.Replies.{refusal}
+use Rattle.archive_port.specs.Replies.{refusal}
 use Rattle.archive_store.specs.Told.{Calls, Counts, HasFailed, HasNoLimit, HasReturned, HoldsTables}
-use Rattle.archive_store.specs.Wanting.{IsWant}
+use Rattle.archive_port.specs.Wanting.{IsWant}
 use Rattle.archive_store.specs.declared.store.Store.{Store}
-use Rattle.archive_store.specs.declared.faults.StoreFault.{StoreFault}
-use Rattle.archive_store.specs.declared.faults.StoreFault.TheVariants as faults
+use Rattle.archive_port.specs.declared.faults.StoreFault.{StoreFault}
+use Rattle.archive_port.specs.declared.faults.StoreFault.TheVariants as faults
 use Rattle.archive_results.specs.Access.{Ask}
 use Rattle.archive_desk.specs.Causes.{HasCause}
 use Rattle.archive_desk.specs.Exporting.{IsExportRefused, exported, stop_reason as export_reason}

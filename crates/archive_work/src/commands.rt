@@ -1,6 +1,6 @@
 //! The commands over the tables.
 ghost use Rattle.std.specs.Prelude.{◌≡◌, Some, option_map};
-ghost use Rattle.archive_store.specs.Carrying.{answer_by, command_of as stored};
+ghost use Rattle.archive_port.specs.Commands.{answer_by, command_of as stored};
 ghost use Rattle.archive_words.specs.Values.{command_of};
 ghost use Rattle.archive_work.specs.Commands.{StandsFor, answer_to, told, valid_key};
 ghost use Rattle.archive_work.specs.Working.{Carries, EndsCarry};

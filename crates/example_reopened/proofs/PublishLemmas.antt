@@ -11,7 +11,7 @@ use Rattle.policy_core.specs.Rules.{Rule}
 use Rattle.archive_machine.specs.Records.{Archive}
 use Rattle.archive_machine.specs.Commands.{Refusal, refused}
 use Rattle.archive_machine.specs.Machine.{step}
-use Rattle.archive_store.specs.Replies.{refusal}
+use Rattle.archive_port.specs.Replies.{refusal}
 use Rattle.archive_store.specs.Told.{Goes, GoesIfOpen, HasNoLimit, archive_in}
 use Rattle.archive_store.specs.declared.store.Store.{Store}
 use Rattle.archive_desk.specs.Importing.{Cause, IsImported, IsRefusedImport, IsBrokenImport, stop_reason}

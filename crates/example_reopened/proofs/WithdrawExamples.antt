@@ -7,7 +7,7 @@ use Rattle.civil_time.specs.Dates.{year_after, month_after, date_after}
 use Rattle.civil_time.specs.Names.{month_of, is_weekday}
 use Rattle.sha2.specs.Sha256.{sha256, digest_bytes, hash_after, compress, rounds, schedule, first_words}
 use Rattle.hex.proofs.OnLiterals.{hex_on_literals}
-use Rattle.policy_core.specs.Rules.{Rule, open_rule}
+use Rattle.policy_core.specs.Rules.{standings, withdrawn as if_withdrawn, Rule, open_rule}
 use Rattle.policy_core.specs.declared.access.Party.TheVariants as party
 use Rattle.policy_core.specs.declared.access.Standing.TheVariants.{Public}
 use Rattle.policy_core.specs.declared.access.Withdrawn.TheVariants.{Author, Board}
@@ -87,7 +87,7 @@ by_its_author = refl
 -- ---- two requests, under a policy that denies the public what is withdrawn
 
 abbrev example : List Rule
-example = record open_rule { name = codes "withdrawn"; allows = false; standings = Some (Public ∷ []); withdrawn = Some (Author ∷ Board ∷ []) }
+example = record open_rule { name = codes "withdrawn"; allows = false; conditions = standings (Public ∷ []) ∷ if_withdrawn (Author ∷ Board ∷ []) ∷ [] }
     ∷ record open_rule { name = codes "all" } ∷ []
 
 abbrev gets : (target : List ℕ) → RequestHead

@@ -16,10 +16,11 @@ use Rattle.archive_machine.specs.Machine.{Outcome, step}
 use Rattle.archive_machine.specs.Messages.{number_of}
 use Rattle.archive_machine.specs.Questions.{is_message}
 use Rattle.archive_store.specs.Held.{held_of}
-use Rattle.archive_store.specs.Replies.{Does, refusal}
+use Rattle.archive_store.specs.Replies.{Does}
+use Rattle.archive_port.specs.Replies.{refusal}
 use Rattle.archive_store.specs.Told.{Goes, GoesIfOpen, Lasts}
 use Rattle.archive_store.specs.declared.store.Store.{Store}
-use Rattle.archive_store.specs.declared.faults.StoreFault.{StoreFault}
+use Rattle.archive_port.specs.declared.faults.StoreFault.{StoreFault}
 use Rattle.archive_store.proofs.Joins.{goes_as, goes_as_if_open, goes_on, goes_on_if_open, step_failed, stepped}
 use Rattle.archive_store.proofs.RightLemmas.{step_right}
 use Rattle.archive_results.specs.Access.{own_of, reader_marks}

@@ -4,9 +4,9 @@ use Rattle.sqlite_trees.specs.declared.memory.MemStore.{MemStore}
 use Rattle.sqlite.specs.Steps.{over_memory}
 use Rattle.archive_machine.specs.Runs.{run}
 use Rattle.archive_tables.specs.Making.{empty_archive}
-use Rattle.archive_store.specs.Carrying.{command_of}
+use Rattle.archive_port.specs.Commands.{command_of}
 use Rattle.archive_store.specs.Told.{HasNoLimit, IsReady, archive_in}
-use Rattle.archive_store.specs.declared.commands.Command.{Command}
+use Rattle.archive_port.specs.declared.commands.Command.{Command}
 use Rattle.archive_store.specs.declared.store.Store.{Store}
 
 -- It is ready, and remembers what the commands made of an empty archive; no limit is set on the steps of a query.

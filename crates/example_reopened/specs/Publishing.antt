@@ -6,7 +6,7 @@ use Rattle.sqlite_store.specs.declared.store.FileStore.{FileStore}
 use Rattle.archive_machine.specs.Records.{Archive}
 use Rattle.archive_machine.specs.Commands.{refused}
 use Rattle.archive_machine.specs.Machine.{step}
-use Rattle.archive_store.specs.Replies.{refusal}
+use Rattle.archive_port.specs.Replies.{refusal}
 use Rattle.archive_store.specs.declared.store.Store.{Store}
 use Rattle.archive_desk.specs.Importing.{IsImported, IsRefusedImport, IsBrokenImport, stop_reason}
 use Rattle.example_reopened.specs.Reopening.{LeadsTo, LeadsToIfOpen}

@@ -14,9 +14,9 @@ use Rattle.policy_core.specs.declared.access.Withdrawn.TheVariants as marks
 use Rattle.archive_machine.specs.Records.{Archive}
 use Rattle.archive_machine.specs.Commands.{Command, withdraw, done, refused}
 use Rattle.archive_machine.specs.Machine.{step}
-use Rattle.archive_store.specs.Replies.{refusal}
+use Rattle.archive_port.specs.Replies.{refusal}
 use Rattle.archive_store.specs.Told.{Goes, GoesIfOpen}
-use Rattle.archive_store.specs.Wanting.{IsWant}
+use Rattle.archive_port.specs.Wanting.{IsWant}
 use Rattle.archive_store.specs.declared.store.Store.{Store}
 use Rattle.archive_results.specs.Promise.{DeniesWithdrawnBy, without}
 use Rattle.archive_desk.specs.Importing.{IsImported, IsImportWant, IsRefusedImport, IsBrokenImport, stop_reason}

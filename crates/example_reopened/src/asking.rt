@@ -1,6 +1,6 @@
 //! Two questions of a reader, and the same of a store that was closed and opened again.
 ghost use Rattle.std.specs.Prelude.{◌≡◌, None, IfOk, IfErr};
-ghost use Rattle.archive_store.specs.Replies.{refusal};
+ghost use Rattle.archive_port.specs.Replies.{refusal};
 ghost use Rattle.archive_store.specs.Told.{Asks};
 ghost use Rattle.archive_desk.specs.Faults.{IsAskFault, ask_reason, reason};
 ghost use Rattle.example_reopened.specs.Reopening.{AsksAgain, ShowsBoth};

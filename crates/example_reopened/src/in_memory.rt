@@ -3,7 +3,7 @@ ghost use Rattle.std.specs.Prelude.{◌≡◌, ◌⊎◌, ◌<◌, map, IfOk, If
 ghost use Rattle.archive_machine.specs.Runs.{run};
 ghost use Rattle.archive_pages.specs.Causes.{IsUnserved};
 ghost use Rattle.archive_store.specs.Held.{wants_of};
-ghost use Rattle.archive_store.specs.Carrying.{command_of};
+ghost use Rattle.archive_port.specs.Commands.{command_of};
 ghost use Rattle.archive_tables.specs.Making.{empty_archive};
 ghost use Rattle.example_reopened.specs.Memory.{HoldsRun};
 ghost use Rattle.example_reopened.specs.Withdrawing.{AnswersBehind};

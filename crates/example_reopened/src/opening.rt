@@ -1,7 +1,7 @@
 //! Opening files of whatever version, and a request to them.
 ghost use Rattle.std.specs.Prelude.{◌≡◌, None, IfOk, IfErr, IsTrue};
 ghost use Rattle.archive_pages.specs.Calls.{AnswersPeer};
-ghost use Rattle.archive_store.specs.Replies.{refusal};
+ghost use Rattle.archive_port.specs.Replies.{refusal};
 ghost use Rattle.example_reopened.specs.Opening.{EndsOpened, OfHeld, OfRun};
 
 use crate::reopening::open;

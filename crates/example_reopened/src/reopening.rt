@@ -5,12 +5,12 @@ ghost use Rattle.sqlite.specs.Closing.{IsCopied};
 ghost use Rattle.sqlite.specs.Files.{over_files, file_state, Finds, IsOpened};
 ghost use Rattle.sqlite.specs.State.{HasCleanDisk, IsLive};
 ghost use Rattle.archive_store.specs.Held.{held_of};
-ghost use Rattle.archive_store.specs.Replies.{refusal};
+ghost use Rattle.archive_port.specs.Replies.{refusal};
 ghost use Rattle.archive_store.specs.Told.{HasNoLimit};
 ghost use Rattle.example_reopened.specs.Reopening.{RemembersTheSame, TakesOver, WasReopened};
 
 use archive_store::laws::a_file_opened_again_holds_the_same_archive;
-use archive_store::{AdoptStop, Store, StoreFault};
+use archive_store::{AdoptStop, Store, StoreFault, database_fault};
 use sqlite::{Connection, FileStore, Files, Options};
 use sqlite_disk::Disk;
 use std::alloc::Global;
@@ -29,7 +29,7 @@ fn close<D: Disk + Drop>(store: Store<FileStore<D>>) -> Result<Files<D>, StoreFa
     let _schema = connection.schema();
     match connection.close_files() {
         Ok(files) => Ok(files),
-        Err((error, _left)) => Err(StoreFault::from(error)),
+        Err((error, _left)) => Err(database_fault(error)),
     }
 }
 
@@ -47,7 +47,7 @@ fn connect<D: Disk + Drop>(
 {
     match Connection::open_files(alloc, files, options) {
         Ok(connection) => Ok(connection),
-        Err((error, _left)) => Err(StoreFault::from(error)),
+        Err((error, _left)) => Err(database_fault(error)),
     }
 }
 

@@ -18,7 +18,7 @@ use Rattle.archive_run.specs.Holding.{RunsOver}
 use Rattle.archive_run.specs.Runs.{IsRefused, Runs, RunSaysStop}
 use Rattle.archive_run.specs.World.{Devices}
 use Rattle.archive_run.specs.declared.world.World.{World}
-use Rattle.example_served.specs.Publishing.{IsNotDone, IsPublished, Publishing, import_of, service_of, withdrawal_of}
+use Rattle.example_served.specs.Publishing.{IsDone, IsNotDone, IsPublished, Publishing, import_of, service_of, withdrawal_of}
 
 -- ---- a withdrawal that was answered
 
@@ -66,8 +66,8 @@ module _ {Y S F D C P T R O E I L K A B M : Type 0} (dev : Devices S F I D C P L
         by_policy = subst (λ (f : F). IsPolicyOf dev.gives f (Some it.policy) served.rules) files served.is_policy;
         on_day = subst (λ (c : C). IsDayBy dev.clock it.day true c served.clock (Some served.day)) clock served.is_day;
         of_one = λ returned_first returned_second returned before held right.
-            let one = taken.2.leads returned_first before held right in
-            let two = stepped.2.leads returned_second one.0 one.3 one.2 in
+            let one = taken.2.becomes returned_first before held right in
+            let two = stepped.2.becomes returned_second one.0 one.3 one.2 in
             let last = served.of_held returned two.0 two.3 in (
               two.0,
               record {
@@ -90,3 +90,12 @@ module _ {Y S F D C P T R O E I L K A B M : Type 0} (dev : Devices S F I D C P L
   not_done old new words status some refuses (inl (order, given, most)) =
       let one : status ≡ 1 = omega (arith, some, most) in inl (order, given, one, refuses order given one)
   not_done old new words status some refuses (inr stop) = inr stop
+
+  -- ---- and one that was
+
+  pub is_done : (old new : World Y S F D C P T R O E I L K A B M) (words : List (List ℕ)) (status : ℕ) → status ≡ 0
+      → ((order : Order) → GiveOrder words order → status ≡ 0 → Runs dev old new order (Ok tt))
+      → ((order : Order) × GiveOrder words order × (status ≤ 1)) ⊎ ((stop : OrderStop) × IsStopOf words stop × RunSaysStop dev old new stop status)
+      → IsDone dev old new words
+  is_done old new words status zero does (inl (order, given, most)) = inl (order, given, does order given zero)
+  is_done old new words status zero does (inr (stop, is, says)) = inr (stop, is, subst (λ s. RunSaysStop dev old new stop s) zero says)

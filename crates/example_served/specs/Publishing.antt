@@ -88,9 +88,10 @@ module _ {Y S F D C P T R O E I L K A B M : Type 0} (dev : Devices S F I D C P L
 
   -- ---- where one of them was not carried out
 
-  -- what these words order was carried out
+  -- What these words order was carried out; or they order nothing, which ends with 0 where they ask for help, or for the version.
   abbrev pub IsDone : (old new : World Y S F D C P T R O E I L K A B M) → (words : List (List ℕ)) → Type 0
-  IsDone old new words = (order : Order) → GiveOrder words order → Runs dev old new order (Ok tt)
+  IsDone old new words = ((order : Order) × GiveOrder words order × Runs dev old new order (Ok tt))
+      ⊎ ((stop : OrderStop) × IsStopOf words stop × RunSaysStop dev old new stop 0)
 
   -- What these words order was refused, at 1, for a reason that holds; or they order nothing, which has a cause.
   abbrev pub IsNotDone : (old new : World Y S F D C P T R O E I L K A B M) → (words : List (List ℕ)) → (status : ℕ) → Type 0

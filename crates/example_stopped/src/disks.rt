@@ -1,6 +1,6 @@
 //! Disks in memory: files that hold an archive, and copies of them that stop.
 use crate::stopping::open;
-use archive_store::StoreFault;
+use archive_store::{StoreFault, database_fault};
 use mbox_core::Item;
 use sqlite::{Files, Options};
 use sqlite_disk::{Disk, Fuse, Memory};
@@ -20,7 +20,7 @@ pub fn filed(alloc: Global, list: &str, item: &Item<'_>) -> Result<Files<Memory>
     store.add(alloc, list, item)?;
     match store.into_connection().close_files() {
         Ok(files) => Ok(files),
-        Err((error, _left)) => Err(StoreFault::from(error)),
+        Err((error, _left)) => Err(database_fault(error)),
     }
 }
 

@@ -2,11 +2,11 @@
 ghost use Rattle.std.specs.Prelude.{◌≡◌, None, IfOk, IfErr, IsTrue};
 ghost use Rattle.archive_machine.specs.Commands.{withdraw};
 ghost use Rattle.archive_machine.specs.Machine.{step};
-ghost use Rattle.archive_store.specs.Replies.{refusal, says_done};
+ghost use Rattle.archive_port.specs.Replies.{refusal, says_done};
 ghost use Rattle.policy_core.specs.Numbers.{party_number};
 ghost use Rattle.example_stopped.specs.Stopping.{IsFoundBehind, IsLeftOf, IsOpenedFrom, IsStoppedIn};
 
-use archive_store::{AdoptStop, Key, Store, StoreFault};
+use archive_store::{AdoptStop, Key, Store, StoreFault, database_fault};
 use policy_core::Party;
 use sqlite::{Connection, FileStore, Files, Options};
 use sqlite_disk::{Crash, Disk};
@@ -25,7 +25,7 @@ pub fn open<D: Disk + Drop>(
 {
     let connection = match Connection::open_files(alloc, files, options) {
         Ok(connection) => connection,
-        Err((error, _left)) => return Err(StoreFault::from(error)),
+        Err((error, _left)) => return Err(database_fault(error)),
     };
     match Store::adopt(connection) {
         Ok(store) => Ok(store),

@@ -1,10 +1,10 @@
 //! Databases in memory, by their names: files of `sqlite_disk` that are opened and closed as those of a system are.
 ghost use Rattle.std.specs.Prelude.{◌≡◌, None, IfErr};
-ghost use Rattle.archive_store.specs.Replies.{refusal};
+ghost use Rattle.archive_port.specs.Replies.{refusal};
 
 use anyhow::bail;
 use archive_run::Databases;
-use archive_store::{AdoptStop, Store, StoreFault};
+use archive_store::{AdoptStop, Store, StoreFault, database_fault};
 use sqlite::{Connection, FileStore, Files, Options};
 use sqlite_disk::Memory;
 use std::alloc::Global;
@@ -110,7 +110,7 @@ fn adopt(alloc: Global, files: Files<Memory>) -> Result<Store<FileStore<Memory>>
         Err((error, left)) => {
             return Err(Unopened {
                 files: left.into_files(),
-                fault: StoreFault::from(error),
+                fault: database_fault(error),
             });
         }
     };

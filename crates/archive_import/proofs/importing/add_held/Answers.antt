@@ -5,8 +5,8 @@ use Rattle.archive_store.specs.Crashes.{CrashAll}
 use Rattle.archive_store.specs.Held.{held_of}
 use Rattle.archive_store.specs.Refusals.{StopsAmong}
 use Rattle.archive_store.specs.Told.{EndsBehind, HoldsTables}
-use Rattle.archive_store.specs.declared.batches.AddReport.{AddReport}
-use Rattle.archive_store.specs.declared.faults.StoreFault.TheVariants.{Memory}
+use Rattle.archive_port.specs.declared.reports.AddReport.{AddReport}
+use Rattle.archive_port.specs.declared.faults.StoreFault.TheVariants.{Memory}
 use Rattle.archive_desk.specs.declared.importing.ImportStop.{ImportStop}
 use Rattle.archive_desk.specs.declared.importing.ImportFault.TheVariants.{Store as Stored}
 use Rattle.archive_desk.proofs.ImportEnds.{import_unbroken}

@@ -4,9 +4,9 @@ use Rattle.archive_machine.specs.Commands.{list_full, no_list}
 use Rattle.archive_tables.specs.Tables.{archive_of}
 use Rattle.archive_tables.proofs.LastLemmas.{lasts_same}
 use Rattle.archive_store.specs.Refusals.{StopsAmong}
-use Rattle.archive_store.specs.Replies.{done_in, with_fault}
+use Rattle.archive_port.specs.Replies.{done_in, with_fault}
 use Rattle.archive_store.specs.Told.{EndsBehind}
-use Rattle.archive_store.specs.declared.batches.AddStop.{AddStop}
+use Rattle.archive_port.specs.declared.reports.AddStop.{AddStop}
 use Rattle.archive_store.proofs.CrashLemmas.{broken_crash}
 use Rattle.archive_store.proofs.RunLemmas.{run_nothing}
 use Rattle.archive_import.proofs.importing.add_owned.Goals as goal

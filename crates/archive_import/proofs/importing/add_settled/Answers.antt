@@ -6,7 +6,7 @@ use Rattle.archive_import.proofs.EndLemmas.{last_ends, uncut_ends, waiting_ends}
 use Rattle.archive_import.proofs.ReadLemmas.{Begun, begun_more, settled_taken, settled_given, preamble_stopped, memory_stopped, waiting_stopped, unread_stopped_read}
 use Rattle.archive_import.proofs.CrashLemmas.{last_crash, more_lasts, read_crash, safe_then, unread_lasts, waiting_crash}
 use Rattle.archive_store.specs.Held.{wants_of}
-use Rattle.archive_store.proofs.WantLemmas.{raises_after}
+use Rattle.archive_port.proofs.WantLemmas.{raises_after}
 use Rattle.archive_import.proofs.WantLemmas.{IsStopWanting}
 use Rattle.archive_import.proofs.importing.add_settled.Goals as goal
 

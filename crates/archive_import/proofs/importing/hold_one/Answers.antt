@@ -2,7 +2,7 @@ use Rattle.std.proofs.Common.{[], ◌∷◌}
 use Rattle.archive_store.specs.Held.{wants_of}
 use Rattle.archive_import.proofs.StopLemmas.{hold_says, held_not_added, keeps_all}
 use Rattle.archive_import.proofs.CrashLemmas.{amid_more, hold_crash, safe_still}
-use Rattle.archive_store.proofs.WantLemmas.{raises_after}
+use Rattle.archive_port.proofs.WantLemmas.{raises_after}
 use Rattle.archive_import.specs.Intake.{StopsMore}
 use Rattle.archive_import.proofs.EndLemmas.{amid_ends, hold_ends}
 use Rattle.archive_import.proofs.WantLemmas.{IsStopWanting}

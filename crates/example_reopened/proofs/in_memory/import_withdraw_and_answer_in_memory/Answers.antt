@@ -3,7 +3,7 @@ use Rattle.sqlite.proofs.Callers.{memory_is_clean}
 use Rattle.archive_machine.specs.Runs.{run}
 use Rattle.archive_tables.specs.Making.{empty_archive}
 use Rattle.archive_store.specs.Held.{held_of}
-use Rattle.archive_store.specs.Carrying.{command_of}
+use Rattle.archive_port.specs.Commands.{command_of}
 use Rattle.archive_desk.specs.Readable.{CanBeRead}
 use Rattle.example_reopened.specs.Withdrawing.{AnswersBehind}
 use Rattle.example_reopened.proofs.MemoryLemmas.{wanting}

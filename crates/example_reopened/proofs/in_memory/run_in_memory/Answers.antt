@@ -4,7 +4,7 @@ use Rattle.sqlite.proofs.Callers.{memory_is_clean}
 use Rattle.archive_machine.specs.Runs.{run}
 use Rattle.archive_tables.specs.Making.{empty_archive}
 use Rattle.archive_store.specs.Held.{held_of}
-use Rattle.archive_store.specs.Carrying.{command_of}
+use Rattle.archive_port.specs.Commands.{command_of}
 use Rattle.archive_store.proofs.Joins.{ready_with}
 use Rattle.archive_store.proofs.RightLemmas.{empty_right, run_right}
 use Rattle.example_reopened.proofs.in_memory.run_in_memory.Goals as goal

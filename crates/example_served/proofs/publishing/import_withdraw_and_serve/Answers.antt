@@ -2,7 +2,7 @@ use Rattle.std.proofs.Common.{inl, inr}
 use Rattle.archive_run.specs.World.{devices}
 use Rattle.archive_words.specs.declared.orders.Order.TheVariants.{Table, Import, Serve}
 use Rattle.example_served.specs.Publishing.{import_of, service_of, withdrawal_of}
-use Rattle.example_served.proofs.PublishLemmas.{not_done, published}
+use Rattle.example_served.proofs.PublishLemmas.{is_done, not_done, published}
 use Rattle.example_served.proofs.publishing.import_withdraw_and_serve.Goals as goal
 
 pub returns-clause-published : goal.returns-clause-published
@@ -30,7 +30,7 @@ returns-then-withdrawn-ne0-clause-stopped g c =
     let two = c.run-withdrawn.ensures in
     inr (
       first,
-      (λ order given. one.done order given c.if-imported-ne0.false),
+      is_done dev c.args.world.now first _ c.run-imported.result c.if-imported-ne0.false one.done one.stopped,
       inl (not_done dev first c.run-withdrawn.new.world _ c.run-withdrawn.result some two.refused two.stopped),
     )
 
@@ -47,10 +47,10 @@ returns-clause-stopped g c =
     let three = c.run.ensures in
     inr (
       first,
-      (λ order given. one.done order given c.if-imported-ne0.false),
+      is_done dev c.args.world.now first _ c.run-imported.result c.if-imported-ne0.false one.done one.stopped,
       inr (
         second,
-        (λ order given. two.done order given c.if-withdrawn-ne0.false),
+        is_done dev first second _ c.run-withdrawn.result c.if-withdrawn-ne0.false two.done two.stopped,
         inl (not_done dev second c.run.new.world _ c.run.result some three.refused three.stopped),
       ),
     )

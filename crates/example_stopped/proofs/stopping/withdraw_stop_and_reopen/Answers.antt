@@ -1,7 +1,7 @@
 use Rattle.policy_core.specs.Numbers.{party_number}
 use Rattle.archive_machine.specs.Commands.{withdraw}
 use Rattle.archive_machine.specs.Machine.{step}
-use Rattle.archive_store.specs.Replies.{says_done}
+use Rattle.archive_port.specs.Replies.{says_done}
 use Rattle.archive_store.proofs.RightLemmas.{step_right}
 use Rattle.example_stopped.proofs.StopLemmas.{stopped_in}
 use Rattle.example_stopped.proofs.stopping.withdraw_stop_and_reopen.Goals as goal
