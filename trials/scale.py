@@ -706,6 +706,7 @@ case $1 in
   start) . "$folder/env"; setsid "$ARCHIVE" serve --db "$folder/archive.db" --policy "$folder/policy.toml" --day "$DAY" --port "$PORT" --count 1000000 > /dev/null 2>&1 &
     echo $! > "$folder/unit" ;;
   is-active) kill -0 "$(cat "$folder/unit")" 2> /dev/null ;;
+  show) echo nobody ;;
   stop) kill "$(cat "$folder/unit" 2> /dev/null)" 2> /dev/null; sleep 0.5 ;;
 esac
 """
@@ -722,6 +723,7 @@ def by_units(s):
     step = lambda *words: farm.told("copy-here.sh", *words, **env)[0]
     s.t.check("a copy as a unit: brought, begun and asked", (step("bring", "one", "elm-a", f"127.0.0.1:{port}", farm.root / ALONE),
               step("begin", "one", "elm-a", f"127.0.0.1:{port}", DAY), asked(int(port), f"/l/{ALONE}-list/threads")[0]), (0, 0, 200))
+    s.t.check("what root brings is the unit's user's", (room / "elm-a" / "archive.db").owner() in ("nobody", *[pathlib.Path(room).owner()] * (os.geteuid() > 0)), True)
     s.t.check("what the unit is told", (room / "elm-a" / "env").read_text(), f"PORT={port}\nDAY={DAY}\n")
     s.t.check("not begun twice, and stopped", (step("begin", "one", "elm-a", f"127.0.0.1:{port}", DAY), step("stop", "one", "elm-a"), asked(int(port), "/")[0]), (1, 0, 0))
     (room / "elm-a" / "policy.toml").write_text("no policy\n")

@@ -60,6 +60,8 @@ bring() {
   rm -f -- "$folder"/archive.db*
   cp --reflink=auto -- "$1"/archive.db* "$1/policy.toml" "$folder/"
   cmp -s -- "$1/archive.db" "$folder/archive.db" || die 1 "$folder: the file is not the one that was brought"
+  # (the unit's user reads it)
+  if [ "$units" = yes ] && [ "$(id -u)" = 0 ]; then chown -R -- "$(systemctl show --property=User --value "archive-copy@$colour"):" "$folder"; fi
 }
 
 begin_server() {
